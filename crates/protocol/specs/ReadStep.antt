@@ -1,5 +1,5 @@
 -- A session reads a key: its own cell, or else the one of greatest version whose commit is below its start.
-use Rattle.std.specs.Prelude.{ℕ, ◌==◌, nat_lt, Bool, ◌||◌, if◌then◌else◌, List, [], ◌∷◌, Option, None, Some}
+use Rattle.std.specs.Prelude.{ℕ, ◌==◌, nat_lt, Bool, false, ◌||◌, if◌then◌else◌, List, [], ◌∷◌, Option, None, Some}
 use Rattle.history_book.specs.declared.cause.Cause.TheVariants.{NoTransaction}
 use Rattle.history_book.specs.declared.item.Actor.TheVariants.{Session}
 use Rattle.history_book.specs.declared.item.Found.{Found}
