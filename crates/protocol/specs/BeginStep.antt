@@ -1,5 +1,5 @@
 -- A session begins a transaction: it gets the next stamp as its start.
-use Rattle.std.specs.Prelude.{ℕ, ◌+◌, ◌==◌, Bool, true, false, List, [], ◌∷◌, Option, None, Some}
+use Rattle.std.specs.Prelude.{ℕ, ◌+◌, ◌==◌, Bool, true, false, [], ◌∷◌, Option, None, Some}
 use Rattle.history_book.specs.declared.cause.Cause.TheVariants.{Busy, NoOracle}
 use Rattle.history_book.specs.declared.item.Actor.TheVariants.{Session}
 use Rattle.history_book.specs.declared.item.Item.TheVariants.{AskBegin, Draw, Begin}
