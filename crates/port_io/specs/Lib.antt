@@ -1,2 +1,4 @@
 pub mod Faults
 pub mod Fates
+pub mod Ports
+pub mod Memory

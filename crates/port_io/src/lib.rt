@@ -1,6 +1,16 @@
 // The outside, as contracts can name it: bytes that come and go, and what becomes of a store call.
 #![tactic(auto)]
 
+mod memory;
+mod sink;
+mod source;
 mod weather;
 
+pub use memory::{MemSink, MemSource};
+pub use sink::{Sink, SinkStop, SinkWhy, write_all_of};
+pub use source::{ReadStop, Source, read_up_to};
 pub use weather::{CalmWeather, Fate, Store, Weather};
+
+/// A read or a write that the outside did not carry out.
+#[derive(Clone, Copy, Debug, PartialEq, Eq)]
+pub struct Failed;
