@@ -2,3 +2,4 @@ pub mod Faults
 pub mod Fates
 pub mod Ports
 pub mod Memory
+pub mod Planned

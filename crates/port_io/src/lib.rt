@@ -2,11 +2,13 @@
 #![tactic(auto)]
 
 mod memory;
+mod planned;
 mod sink;
 mod source;
 mod weather;
 
 pub use memory::{MemSink, MemSource};
+pub use planned::PlannedWeather;
 pub use sink::{Sink, SinkStop, SinkWhy, write_all_of};
 pub use source::{ReadStop, Source, read_up_to};
 pub use weather::{CalmWeather, Fate, Store, Weather};

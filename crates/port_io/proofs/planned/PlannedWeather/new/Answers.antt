@@ -1,0 +1,5 @@
+use Rattle.port_io.proofs.Plans.{named_fate}
+use Rattle.port_io.proofs.planned.PlannedWeather.new.Goals as goal
+
+pub returns-clause-named : goal.returns-clause-named
+returns-clause-named c = λ fault n (k, within, here) number. named_fate c.args.faults.items fault k _ within here number c.requires
