@@ -1,8 +1,8 @@
 -- What a plan has ahead after one call, and what it has for a fault that it names.
-use Rattle.std.proofs.Common.{◌≡◌, ◌≢◌, ℕ, zero, suc, ◌+◌, ◌-◌, ◌<◌, Bool, true, false, List, [], ◌∷◌, length, get_or, map, inl, inr, eqb, if◌then◌else◌, refl, sym, ap, ◌∙◌, arith}
+use Rattle.std.proofs.Common.{◌≡◌, ◌≢◌, ℕ, zero, suc, ◌+◌, ◌-◌, ◌<◌, Bool, true, false, List, [], ◌∷◌, length, get_or, map, All, inl, inr, eqb, if◌then◌else◌, refl, sym, ap, ◌∙◌, arith}
 use Rattle.std.proofs.lemmas.Bool.Decides.{nat_tests}
 use Rattle.std.proofs.lemmas.Bool.{cases_Bool}
-use Rattle.port_io.specs.Fates.{Store, Cells, Table, Master, Fate}
+use Rattle.port_io.specs.Fates.{Store, Cells, Table, Master, Fate, Works}
 use Rattle.port_io.specs.Planned.{PlannedFault, OneEach, same_store, is_of, planned_fate, one_call_later}
 
 same_store-is : (a b : Store) → same_store a b ≡ true → a ≡ b
@@ -45,10 +45,10 @@ same_store-self Table = refl
 same_store-self Master = refl
 
 -- a fault of another call is not of this one
-is_of-other : (other fault : PlannedFault) (number : ℕ) → fault.1 ≡ number → (other.0 ≡ fault.0 → other.1 ≢ fault.1) → is_of fault.0 number other ≡ false
-is_of-other other fault number is apart = elim (cases_Bool (same_store other.0 fault.0)) [
+is_of-other : (other : PlannedFault) (store : Store) (number : ℕ) → (other.0 ≡ store → other.1 ≢ number) → is_of store number other ≡ false
+is_of-other other store number apart = elim (cases_Bool (same_store other.0 store)) [
   | inl same ↦
-      let ne : other.1 ≢ number = λ e. apart (same_store-is other.0 fault.0 same) (e ∙ sym is) in
+      let ne : other.1 ≢ number = apart (same_store-is other.0 store same) in
       rw same (grind (arith, nat_tests))
   | inr not ↦ rw not refl
 ]
@@ -62,5 +62,13 @@ named_fate (first ∷ plan) fault zero number within here is each =
     rw (here, itself) refl
 named_fate (first ∷ plan) fault (suc k) number within here is each =
     let apart : first.0 ≡ fault.0 → first.1 ≢ fault.1 = rw here at (each 0 (suc k) fault (omega arith) within) in
-    rw (is_of-other first fault number is apart)
+    rw (is_of-other first fault.0 number (λ same e. apart same (e ∙ sym is)))
     (named_fate plan fault k number (omega arith) here is (λ i j d before inside. each (suc i) (suc j) d (omega arith) (omega arith)))
+
+-- a call that no planned fault is of works
+pub unnamed_fate : (plan : List PlannedFault) (store : Store) (number : ℕ) → All (λ (fault : PlannedFault). fault.0 ≡ store → fault.1 ≢ number) plan → planned_fate plan store number ≡ Works
+unfolding planned_fate
+unnamed_fate [] store number none = refl
+unnamed_fate (first ∷ plan) store number none =
+    rw (is_of-other first store number (none 0 first (omega arith)))
+    (unnamed_fate plan store number (λ k d within. none (suc k) d (omega arith)))

@@ -5,12 +5,14 @@ mod memory;
 mod planned;
 mod sink;
 mod source;
+mod standard;
 mod weather;
 
 pub use memory::{MemSink, MemSource};
 pub use planned::PlannedWeather;
 pub use sink::{Sink, SinkStop, SinkWhy, write_all_of};
 pub use source::{ReadStop, Source, read_up_to};
+pub use standard::{StdSink, StdSource};
 pub use weather::{CalmWeather, Fate, Store, Weather};
 
 /// A read or a write that the outside did not carry out.

@@ -1,5 +1,5 @@
 // The weather of a plan.
-ghost use Rattle.std.specs.Prelude.{◌≡◌, ◌≢◌, ℕ, ◌+◌, ◌-◌, ◌<◌, ◌≤◌, ◌^◌, Contains, map};
+ghost use Rattle.std.specs.Prelude.{◌≡◌, ◌≢◌, ℕ, ◌+◌, ◌-◌, ◌<◌, ◌≤◌, ◌^◌, All, Contains, map};
 ghost use Rattle.port_io.specs.Fates.{Counts};
 ghost use Rattle.port_io.specs.Planned.{PlannedFault, OneEach, planned_fate, one_call_later};
 
@@ -21,6 +21,7 @@ impl PlannedWeather {
         requires { OneEach faults.items }
         ensures ahead { (store : Store) (n : ℕ) → ⟦<PlannedWeather as Weather>⟧.ahead result store n ≡ planned_fate faults.items store (n + 1) }
         ensures named { (fault : PlannedFault) (n : ℕ) → Contains faults.items fault → fault.1 ≡ n + 1 → ⟦<PlannedWeather as Weather>⟧.ahead result fault.0 n ≡ fault.2 }
+        ensures others { (store : Store) (n : ℕ) → All (λ fault. fault.0 ≡ store → fault.1 ≢ n + 1) faults.items → ⟦<PlannedWeather as Weather>⟧.ahead result store n ≡ Fate.Works }
         ensures faults { ⟦<PlannedWeather as Weather>⟧.faults result ≡ 0 }
     {
         PlannedWeather {
