@@ -18,3 +18,6 @@ pub use weather::{CalmWeather, Fate, Store, Weather};
 /// A read or a write that the outside did not carry out.
 #[derive(Clone, Copy, Debug, PartialEq, Eq)]
 pub struct Failed;
+
+#[cfg(test)]
+mod tests;

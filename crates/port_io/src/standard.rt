@@ -1,6 +1,7 @@
 // Standard input and output. That the system read and wrote what it says is trusted.
 ghost use Rattle.std.specs.Prelude.{◌≡◌, ◌≤◌, None, OnOk, OnErr};
 ghost use Rattle.port_io.specs.Ports.{Risen};
+ghost use Rattle.port_io.specs.declared.standard.TheConstants.{ROOM};
 
 use crate::{Failed, Sink, Source};
 use std::io::{Read, Stdin, Stdout, Write};
@@ -46,7 +47,7 @@ pub struct StdSink {
     kept: [u8; ROOM],
     used: usize,
     faults: u64,
-    ghost within: { used ≤ 16384 },
+    ghost within: { used ≤ ROOM },
 }
 
 impl StdSink {
