@@ -3,6 +3,10 @@
 
 mod cause;
 mod item;
+mod line;
+mod printing;
 
 pub use cause::Cause;
 pub use item::{Actor, Ending, Found, Item, Note, Seen, StoreStep};
+pub use line::LineBuf;
+pub use printing::print_item;
