@@ -1,0 +1,2 @@
+pub mod BucketPairs
+pub mod BucketSteps
