@@ -1,2 +1,3 @@
 pub mod BucketPairs
 pub mod BucketSteps
+pub mod BucketLaws
