@@ -1,0 +1,3 @@
+pub mod BucketPairs
+pub mod BucketSteps
+pub mod BucketLaws

@@ -1,0 +1,6 @@
+-- When readings of clocks are steady.
+use Rattle.std.specs.Prelude.{ℕ, ◌+◌, ◌≤◌, List, AllPairs}
+
+-- of any two readings the earlier is above the later by the skew at most
+abbrev pub IsSteady : ℕ → List ℕ → Type 0
+IsSteady skew readings = AllPairs (λ earlier later. earlier ≤ later + skew) readings

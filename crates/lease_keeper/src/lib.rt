@@ -1,0 +1,114 @@
+// The lease of an oracle's instance, and the test that clock readings are steady.
+#![tactic(auto)]
+
+ghost use Rattle.std.specs.Prelude.{◌≡◌, ◌+◌, ◌<◌, ◌≤◌, ◌↔◌, List, ◌++◌, ◌∷◌, [], ℕ, All, max, IsTrue, IsOk, OnOk, IfErr};
+ghost use Rattle.lease_keeper.specs.Steady.{IsSteady};
+
+use std::marker::Model;
+
+/// Why a lease refuses: the reading is at or past its end.
+#[derive(Clone, Copy, Debug, PartialEq, Eq)]
+pub struct Expired {
+    /// The reading that was asked about.
+    pub reading: u64,
+    /// The end of the lease.
+    pub until: u64,
+}
+
+/// The right to accept requests at readings below a number.
+#[derive(Clone, Copy, Debug, PartialEq, Eq)]
+pub struct Lease {
+    until: u64,
+}
+
+impl Model for Lease {
+    ghost Value = { ℕ };
+
+    ghost view = { λ lease. lease.until };
+
+    ghost inverse = { λ n. record { until = n } };
+}
+
+impl Lease {
+    /// A lease up to `until`.
+    pub fn new(until: u64) -> Lease
+        ensures { result ≡ until }
+    {
+        Lease { until }
+    }
+
+    /// Ok exactly where the reading is below the end of the lease.
+    pub fn check(&self, reading: u64) -> Result<(), Expired>
+        ensures holds { IsOk result ↔ (reading < self.now) }
+        ensures expired { IfErr result (λ e. (self.now ≤ reading) × (e.reading ≡ reading) × (e.until ≡ self.now)) }
+    {
+        if reading < self.until {
+            Ok(())
+        } else {
+            Err(Expired {
+                reading,
+                until: self.until,
+            })
+        }
+    }
+
+    /// Keeps the later of the two ends.
+    pub fn renewed(&mut self, until: u64)
+        ensures { self.new ≡ max self.old until }
+    {
+        self.until = self.until.max(until);
+    }
+}
+
+/// Whether a reading may come after one of `seen`, of clocks that differ by at most `skew`.
+pub fn is_steady(seen: u64, reading: u64, skew: u64) -> bool
+    ensures value { IsTrue result ↔ (seen ≤ reading + skew) }
+    ensures pair { IsTrue result ↔ IsSteady skew (seen ∷ reading ∷ []) }
+{
+    // A difference that stops at 0 stands for the sum, which may pass the type's range.
+    seen.saturating_sub(skew) <= reading
+}
+
+/// Readings stay steady under one more, where it is steady after the greatest of them.
+pub fn steady_readings_go_on()
+    ensures { (skew : ℕ) (readings : List ℕ) (seen reading : ℕ) →
+        IsSteady skew readings → All (λ earlier. earlier ≤ seen) readings → seen ≤ reading + skew →
+        IsSteady skew (readings ++ reading ∷ []) }
+{}
+
+#[cfg(test)]
+mod tests {
+    use super::*;
+
+    #[test]
+    fn leases(rt: HostRuntime) {
+        let mut lease = Lease::new(10);
+        assert_eq!(rt; lease.check(9), Ok(()));
+        assert_eq!(rt;
+            lease.check(10),
+            Err(Expired {
+                reading: 10,
+                until: 10
+            })
+        );
+        lease.renewed(8);
+        assert_eq!(rt; lease.check(9), Ok(()));
+        lease.renewed(12);
+        assert_eq!(rt; lease.check(11), Ok(()));
+        assert_eq!(rt;
+            lease.check(13),
+            Err(Expired {
+                reading: 13,
+                until: 12
+            })
+        );
+    }
+
+    #[test]
+    fn readings(rt: HostRuntime) {
+        assert!(rt; is_steady(7, 5, 2));
+        assert!(rt; !is_steady(8, 5, 2));
+        assert!(rt; is_steady(u64::MAX, u64::MAX, u64::MAX));
+        steady_readings_go_on();
+    }
+}
