@@ -1,3 +1,5 @@
 pub mod BucketPairs
 pub mod BucketSteps
 pub mod BucketLaws
+pub mod CompletionLemmas
+pub mod KeyReadLemmas

@@ -1,8 +1,22 @@
-// What the stores, the oracle, the sessions and the step machines stand for: plain data and definitions.
+// What the stores, the oracle, the sessions and the step machines stand for: plain data and definitions, with laws.
 #![tactic(auto)]
 
 mod buckets;
+mod completion;
+mod key_read;
+mod resolve;
 mod rows;
+mod sweep;
 
 pub use buckets::{Recorded, Verdict};
+pub use completion::{completions_end, removal_comes_last};
+pub use key_read::{
+    Answer, Next, answers_own_or_below, answers_resolved, passed_are_late, passes_dead_or_late,
+    reads_end,
+};
+pub use resolve::{
+    Outcome, SettlePoint, committed_is_told, dead_by_last_look, mark_never_decides,
+    marks_where_allowed, settles_end,
+};
 pub use rows::Cell;
+pub use sweep::{sweep_erases_marked, sweep_marks_old_alone, sweeps_end, undecided_only_above};
