@@ -2,5 +2,7 @@
 #![tactic(auto)]
 
 mod rows;
+mod store_errors;
 
 pub use rows::Cell;
+pub use store_errors::{StoreError, StoreFault};
