@@ -7,6 +7,7 @@ mod key_read;
 mod resolve;
 mod rows;
 mod sweep;
+mod store_errors;
 
 pub use buckets::{Recorded, Verdict};
 pub use completion::{completions_end, removal_comes_last};
@@ -20,3 +21,4 @@ pub use resolve::{
 };
 pub use rows::Cell;
 pub use sweep::{sweep_erases_marked, sweep_marks_old_alone, sweeps_end, undecided_only_above};
+pub use store_errors::{StoreError, StoreFault};
