@@ -18,9 +18,6 @@ pub use weather::{CalmWeather, Fate, Store, Weather};
 /// A read or a write that the outside did not carry out.
 #[derive(Clone, Copy, Debug, PartialEq, Eq)]
 pub struct Failed;
-<<<<<<< HEAD
-=======
 
 #[cfg(test)]
 mod tests;
->>>>>>> 8020fdc9eb64288d23d6317309968bab873fcd3b

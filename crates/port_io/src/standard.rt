@@ -1,10 +1,7 @@
 // Standard input and output. That the system read and wrote what it says is trusted.
 ghost use Rattle.std.specs.Prelude.{◌≡◌, ◌≤◌, None, OnOk, OnErr};
 ghost use Rattle.port_io.specs.Ports.{Risen};
-<<<<<<< HEAD
-=======
 ghost use Rattle.port_io.specs.declared.standard.TheConstants.{ROOM};
->>>>>>> 8020fdc9eb64288d23d6317309968bab873fcd3b
 
 use crate::{Failed, Sink, Source};
 use std::io::{Read, Stdin, Stdout, Write};
@@ -50,11 +47,7 @@ pub struct StdSink {
     kept: [u8; ROOM],
     used: usize,
     faults: u64,
-<<<<<<< HEAD
-    ghost within: { used ≤ 16384 },
-=======
     ghost within: { used ≤ ROOM },
->>>>>>> 8020fdc9eb64288d23d6317309968bab873fcd3b
 }
 
 impl StdSink {
