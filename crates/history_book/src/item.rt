@@ -43,11 +43,20 @@ pub enum Seen {
 #[derive(Clone, Copy, Debug, PartialEq, Eq)]
 pub enum StoreStep {
     /// The cells of the key up to a start were fetched; so many there are.
-    Fetch { key: KeyNo, cells: u64 },
+    Fetch {
+        key: KeyNo,
+        cells: u64,
+    },
     /// The commit table was asked for the transaction. None where it has no entry.
-    Get { txn: TxnId, answer: Option<Mark> },
+    Get {
+        txn: TxnId,
+        answer: Option<Mark>,
+    },
     /// A mark was to be placed, and this entry was there.
-    MarkFound { txn: TxnId, mark: Mark },
+    MarkFound {
+        txn: TxnId,
+        mark: Mark,
+    },
     /// A cell was looked at.
     Look {
         key: KeyNo,
@@ -61,13 +70,23 @@ pub enum StoreStep {
         commit: Stamp,
     },
     /// The transaction's commit was removed from the commit table.
-    Remove { txn: TxnId },
+    Remove {
+        txn: TxnId,
+    },
     /// A cell without a shadow was removed.
-    Erase { key: KeyNo, txn: TxnId },
+    Erase {
+        key: KeyNo,
+        txn: TxnId,
+    },
     /// The keys of the transaction's cells were listed; so many there are.
-    Keys { txn: TxnId, count: u64 },
+    Keys {
+        txn: TxnId,
+        count: u64,
+    },
     /// A commit was to be placed, and an invalid mark was there.
-    PutFound { txn: TxnId },
+    PutFound {
+        txn: TxnId,
+    },
 }
 
 /// How a transaction ended without a commit.
@@ -82,8 +101,13 @@ pub enum Ending {
 #[derive(Clone, Copy, Debug, PartialEq, Eq)]
 pub enum Item {
     /// The base clock stands at `to`.
-    Tick { to: u64 },
-    Note { actor: Actor, note: Note },
+    Tick {
+        to: u64,
+    },
+    Note {
+        actor: Actor,
+        note: Note,
+    },
     /// The node took the master record at a reading of its clock.
     Take {
         node: NodeNo,
@@ -106,7 +130,10 @@ pub enum Item {
         term: Term,
         ceiling: u64,
     },
-    AskBegin { session: SessionNo, node: NodeNo },
+    AskBegin {
+        session: SessionNo,
+        node: NodeNo,
+    },
     AskCommit {
         session: SessionNo,
         node: NodeNo,
@@ -126,7 +153,10 @@ pub enum Item {
         start: Stamp,
         commit: Option<Stamp>,
     },
-    Begin { session: SessionNo, start: Stamp },
+    Begin {
+        session: SessionNo,
+        start: Stamp,
+    },
     Write {
         session: SessionNo,
         start: Stamp,
@@ -141,23 +171,43 @@ pub enum Item {
         answer: Option<Found>,
     },
     /// The commit stands in the commit table.
-    Placed { start: Stamp, commit: Stamp },
+    Placed {
+        start: Stamp,
+        commit: Stamp,
+    },
     Committed {
         session: SessionNo,
         start: Stamp,
         commit: Stamp,
     },
     /// An invalid mark was placed.
-    Mark { actor: Actor, start: Stamp },
-    Step { actor: Actor, what: StoreStep },
+    Mark {
+        actor: Actor,
+        start: Stamp,
+    },
+    Step {
+        actor: Actor,
+        what: StoreStep,
+    },
     End {
         session: SessionNo,
         start: Stamp,
         how: Ending,
     },
-    Refused { actor: Actor, cause: Cause },
+    Refused {
+        actor: Actor,
+        cause: Cause,
+    },
     /// A call on the store failed.
-    Fault { actor: Actor, store: Store },
-    Crash { node: NodeNo, term: Term },
-    Vanish { session: SessionNo },
+    Fault {
+        actor: Actor,
+        store: Store,
+    },
+    Crash {
+        node: NodeNo,
+        term: Term,
+    },
+    Vanish {
+        session: SessionNo,
+    },
 }

@@ -1,11 +1,13 @@
 // The items of a history, their texts, and what isolation means over a list of them.
 #![tactic(auto)]
 
+mod book;
 mod cause;
 mod item;
 mod line;
 mod printing;
 
+pub use book::Book;
 pub use cause::Cause;
 pub use item::{Actor, Ending, Found, Item, Note, Seen, StoreStep};
 pub use line::LineBuf;
