@@ -47,12 +47,22 @@ loses_front (Some left) (Some rest) xs given =
     let front : length (xs ++ rest) - length rest ≡ length xs = omega (arith, length-append xs rest) in
     rw (whole, front, drop-append_seam xs rest) refl
 
--- one piece went out after another
+-- nothing went out
+pub gains_nothing : (a : Option (List ℕ)) → Gains a a []
+gains_nothing None = refl
+gains_nothing (Some held) = ap Some (sym (append-nil held))
+
+-- some bytes went out after others
+pub gains_more : (a b c : Option (List ℕ)) (xs ys : List ℕ) → Gains a b xs → Gains b c ys → Gains a c (xs ++ ys)
+gains_more None b c xs ys first then = subst (λ (o : Option (List ℕ)). Gains o c ys) first then
+gains_more (Some held) b c xs ys first then =
+    let second : c ≡ Some ((held ++ xs) ++ ys) = subst (λ (o : Option (List ℕ)). Gains o c ys) first then in
+    second ∙ ap Some (append_assoc held xs ys)
+
+-- one piece of the bytes went out after another
 pub gains_both : (a b c : Option (List ℕ)) (bytes : List ℕ) (s n : ℕ) → Gains a b (take s bytes) → Gains b c (take n (drop s bytes)) → Gains a c (take (s + n) bytes)
-gains_both None b c bytes s n first then = subst (λ (o : Option (List ℕ)). Gains o c (take n (drop s bytes))) first then
-gains_both (Some held) b c bytes s n first then =
-    let second : c ≡ Some ((held ++ take s bytes) ++ take n (drop s bytes)) = subst (λ (o : Option (List ℕ)). Gains o c (take n (drop s bytes))) first then in
-    second ∙ ap Some (append_assoc held (take s bytes) (take n (drop s bytes)) ∙ ap (λ t. held ++ t) (sym (take-add s n bytes)))
+gains_both a b c bytes s n first then =
+    subst (λ (xs : List ℕ). Gains a c xs) (sym (take-add s n bytes)) (gains_more a b c (take s bytes) (take n (drop s bytes)) first then)
 
 -- the rest of a list is all of it that remains
 pub take_rest : (s : ℕ) (bytes : List ℕ) → take (length bytes - s) (drop s bytes) ≡ drop s bytes

@@ -1,8 +1,8 @@
 -- What a plan has ahead after one call, and what it has for a fault that it names.
-use Rattle.std.proofs.Common.{◌≡◌, ◌≢◌, ℕ, zero, suc, ◌+◌, ◌-◌, ◌<◌, Bool, true, false, List, [], ◌∷◌, length, get_or, map, All, inl, inr, eqb, if◌then◌else◌, refl, sym, ap, ◌∙◌, arith}
+use Rattle.std.proofs.Common.{◌≡◌, ◌≢◌, ℕ, zero, suc, ◌+◌, ◌-◌, ◌<◌, true, false, List, [], ◌∷◌, length, get_or, map, All, inl, inr, eqb, if◌then◌else◌, refl, sym, ap, ◌∙◌, arith}
 use Rattle.std.proofs.lemmas.Bool.Decides.{nat_tests}
 use Rattle.std.proofs.lemmas.Bool.{cases_Bool}
-use Rattle.port_io.specs.Fates.{Store, Cells, Table, Master, Fate, Works}
+use Rattle.port_io.specs.Fates.{Store, Cells, Table, Master, Works}
 use Rattle.port_io.specs.Planned.{PlannedFault, OneEach, same_store, is_of, planned_fate, one_call_later}
 
 same_store-is : (a b : Store) → same_store a b ≡ true → a ≡ b

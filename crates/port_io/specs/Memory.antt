@@ -1,5 +1,5 @@
 -- A source and a sink in memory, and what each call makes of them.
-use Rattle.std.specs.Prelude.{ℕ, ◌+◌, ◌-◌, ◌^◌, List, [], ◌∷◌, ◌++◌, drop, take, min, zero}
+use Rattle.std.specs.Prelude.{ℕ, ◌+◌, ◌-◌, ◌^◌, List, ◌∷◌, ◌++◌, drop, take, min, zero}
 
 -- what is left, the numbers of the reads that fail, counted from 1, and how many reads were made and failed
 pub record SourceState : Type 0 where

@@ -1,5 +1,5 @@
 -- What a source has left and what a sink holds, where they tell it.
-use Rattle.std.specs.Prelude.{◌≡◌, ℕ, ◌≤◌, ◌-◌, List, [], ◌++◌, Option, None, Some, IfSome, IsSomeAnd, MatchOption, length, drop}
+use Rattle.std.specs.Prelude.{◌≡◌, ℕ, ◌-◌, List, [], ◌++◌, Option, None, Some, IfSome, IsSomeAnd, MatchOption, length, drop}
 pub use Rattle.port_io.specs.Faults.{Risen}
 
 -- the bytes were the first that the source had left, and the rest is left now;

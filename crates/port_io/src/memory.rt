@@ -101,7 +101,8 @@ impl MemSink {
     /// Room for `room` bytes. Writes are counted from 1. Those whose numbers stand in `failing` fail, take nothing and
     /// raise the count of faults.
     pub fn open(alloc: Global, room: usize, failing: Vec<u64>) -> Result<MemSink, NoMemory>
-        ensures { IfOk result (λ sink. sink ≡ record { held = []; room = room; failing = failing.items; writes = 0; faults = 0 }) }
+        ensures { IfOk result (λ sink.
+            sink ≡ record { held = []; room = room; failing = failing.items; writes = 0; faults = 0 }) }
     {
         let bytes = Vec::with_capacity(alloc, room)?;
         Ok(MemSink {

@@ -19,9 +19,12 @@ impl PlannedWeather {
     /// The calls on each store are counted from 1. The call of a number that is named for its store gets that fate.
     pub fn new(faults: Vec<(Store, u64, Fate)>) -> PlannedWeather
         requires { OneEach faults.items }
-        ensures ahead { (store : Store) (n : ℕ) → ⟦<PlannedWeather as Weather>⟧.ahead result store n ≡ planned_fate faults.items store (n + 1) }
-        ensures named { (fault : PlannedFault) (n : ℕ) → Contains faults.items fault → fault.1 ≡ n + 1 → ⟦<PlannedWeather as Weather>⟧.ahead result fault.0 n ≡ fault.2 }
-        ensures others { (store : Store) (n : ℕ) → All (λ fault. fault.0 ≡ store → fault.1 ≢ n + 1) faults.items → ⟦<PlannedWeather as Weather>⟧.ahead result store n ≡ Fate.Works }
+        ensures ahead { (store : Store) (n : ℕ) →
+            ⟦<PlannedWeather as Weather>⟧.ahead result store n ≡ planned_fate faults.items store (n + 1) }
+        ensures named { (fault : PlannedFault) (n : ℕ) → Contains faults.items fault → fault.1 ≡ n + 1 →
+            ⟦<PlannedWeather as Weather>⟧.ahead result fault.0 n ≡ fault.2 }
+        ensures others { (store : Store) (n : ℕ) → All (λ fault. fault.0 ≡ store → fault.1 ≢ n + 1) faults.items →
+            ⟦<PlannedWeather as Weather>⟧.ahead result store n ≡ Fate.Works }
         ensures faults { ⟦<PlannedWeather as Weather>⟧.faults result ≡ 0 }
     {
         PlannedWeather {
