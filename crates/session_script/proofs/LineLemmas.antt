@@ -1,7 +1,8 @@
 -- How the lines of some bytes follow from their front.
-use Rattle.std.proofs.Common.{◌≡◌, ℕ, ◌+◌, ◌<◌, ◌≤◌, ◌==◌, false, List, [], ◌∷◌, length, take, drop, refl, sym, ap, ◌∙◌, subst, arith}
-use Rattle.std.specs.List.{slice_split, position_or_len, All}
+use Rattle.std.proofs.Common.{◌≡◌, ℕ, ◌+◌, ◌<◌, ◌≤◌, ◌==◌, List, [], ◌∷◌, length, take, drop, refl, sym, ap, ◌∙◌, subst, arith}
+use Rattle.std.specs.List.{slice_split, position_or_len}
 use Rattle.std.specs.Str.Lines.{lines, lines_of_parts, strip_carriage_return}
+use Rattle.std.proofs.Math.Dec.{eqb-suc-zero}
 use Rattle.std.proofs.Math.Seq.{drop-length}
 use Rattle.std.proofs.lemmas.List.Sums.{fails_before_first}
 use Rattle.std.proofs.lemmas.List.Splits.{slice_split_first, slice_split_none, length-slice_split}
@@ -15,11 +16,12 @@ pub lines-front : (bytes : List ℕ) (n : ℕ) → n ≡ position_or_len (λ b. 
 lines-front bytes n is within =
     subst (λ (m : ℕ). lines bytes ≡ strip_carriage_return (take m bytes) ∷ lines (drop (m + 1) bytes)) (sym is)
     (ap lines_of_parts (slice_split_first (λ b. b == 10) bytes 0 (omega arith))
-    ∙ lines_of_parts-cons _ _ (omega (arith, length-slice_split (λ b. b == 10) (drop (position_or_len (λ b. b == 10) bytes + 1) bytes))))
+    ∙ lines_of_parts-cons (take (position_or_len (λ b. b == 10) bytes) bytes) (slice_split (λ b. b == 10) (drop (position_or_len (λ b. b == 10) bytes + 1) bytes))
+    (omega (arith, length-slice_split (λ b. b == 10) (drop (position_or_len (λ b. b == 10) bytes + 1) bytes))))
 
 last_line : (bytes : List ℕ) → 0 < length bytes → lines_of_parts (bytes ∷ []) ≡ bytes ∷ []
 last_line [] h = absurd (omega arith)
-last_line (b ∷ bs) h = refl
+last_line (b ∷ bs) h = rw (eqb-suc-zero (length bs)) refl
 
 pub lines-last : (bytes : List ℕ) (n : ℕ) → n ≡ position_or_len (λ b. b == 10) bytes → length bytes ≤ n → n ≤ length bytes → 0 < length bytes → lines bytes ≡ bytes ∷ lines (drop n bytes)
 lines-last bytes n is past within some =

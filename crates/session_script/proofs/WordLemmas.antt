@@ -1,6 +1,6 @@
 -- How the words of a text follow from its front.
-use Rattle.std.proofs.Common.{◌≡◌, ℕ, ◌+◌, ◌-◌, ◌<◌, ◌≤◌, ◌⊎◌, inl, inr, Bool, true, false, cond, List, [], ◌∷◌, ◌++◌, length, take, drop, get_or, refl, sym, ap, ◌∙◌, subst, arith, filter, add-one, nat_lt, length-drop}
-use Rattle.std.specs.List.{slice_split, position_or_len, All}
+use Rattle.std.proofs.Common.{◌≡◌, ℕ, ◌+◌, ◌-◌, ◌<◌, ◌≤◌, inl, inr, true, false, List, [], ◌∷◌, length, take, drop, get_or, refl, sym, ap, ◌∙◌, subst, arith, filter, add-one, length-drop}
+use Rattle.std.specs.List.{position_or_len, All}
 use Rattle.std.proofs.Math.Seq.{drop-cons, take-length, drop-length}
 use Rattle.std.proofs.lemmas.Bool.{cases_Bool}
 use Rattle.std.proofs.lemmas.Bool.{cases_lt}
@@ -18,26 +18,26 @@ words_of-after_blanks : (text : List ℕ) → words_of (after_blanks text) ≡ w
 unfolding after_blanks
 words_of-after_blanks [] = refl
 words_of-after_blanks (b ∷ bs) = elim (cases_Bool (is_blank b)) [
-    | inl e ↦ rw e (words_of-after_blanks bs ∙ sym (words_of-blank b bs e))
-    | inr e ↦ rw e refl
-  ]
+  | inl e ↦ rw e (words_of-after_blanks bs ∙ sym (words_of-blank b bs e))
+  | inr e ↦ rw e refl
+]
 
 length-after_blanks : (text : List ℕ) → length (after_blanks text) ≤ length text
 unfolding after_blanks
 length-after_blanks [] = omega arith
 length-after_blanks (b ∷ bs) = elim (cases_Bool (is_blank b)) [
-    | inl e ↦ rw e (let deeper : length (after_blanks bs) ≤ length bs = length-after_blanks bs in omega arith)
-    | inr e ↦ rw e (omega arith)
-  ]
+  | inl e ↦ rw e (let deeper : length (after_blanks bs) ≤ length bs = length-after_blanks bs in omega arith)
+  | inr e ↦ rw e (omega arith)
+]
 
 -- no blank is left in front
 plain_after_blanks : (text : List ℕ) (n : ℕ) → n ≡ position_or_len is_blank (after_blanks text) → n ≡ 0 → after_blanks text ≡ []
 unfolding after_blanks
 plain_after_blanks [] n is none = refl
 plain_after_blanks (b ∷ bs) n is none = elim (cases_Bool (is_blank b)) [
-    | inl e ↦ rw e (plain_after_blanks bs n (rw e at is) none)
-    | inr e ↦ absurd (let one : n ≡ 1 + position_or_len is_blank bs = rw e at (rw e at is) in omega arith)
-  ]
+  | inl e ↦ rw e (plain_after_blanks bs n (rw e at is) none)
+  | inr e ↦ absurd (let one : n ≡ 1 + position_or_len is_blank bs = rw e at (rw e at is) in omega arith)
+]
 
 nothing_left : (text plain : List ℕ) (n : ℕ) → plain ≡ after_blanks text → n ≡ position_or_len is_blank plain → n ≡ 0 → words_of (drop n plain) ≡ []
 unfolding words_of
@@ -62,9 +62,9 @@ words_of-whole text n all none = ap (filter is_word) (slice_split_none is_blank 
 
 words_of-split : (text : List ℕ) (n : ℕ) → n ≡ position_or_len is_blank text → n ≤ length text → words_of text ≡ with_word (take n text) (words_of (drop n text))
 words_of-split text n is within = elim (cases_lt n (length text)) [
-    | inl below ↦ subst (λ (m : ℕ). words_of text ≡ with_word (take m text) (words_of (drop m text))) (sym is) (words_of-front text (omega arith))
-    | inr above ↦ words_of-whole text n (omega arith) (λ k d h. fails_before_first is_blank text k d (omega arith))
-  ]
+  | inl below ↦ subst (λ (m : ℕ). words_of text ≡ with_word (take m text) (words_of (drop m text))) (sym is) (words_of-front text (omega arith))
+  | inr above ↦ words_of-whole text n (omega arith) (λ k d h. fails_before_first is_blank text k d (omega arith))
+]
 
 pub takes_word : (text plain : List ℕ) (n : ℕ) → plain ≡ after_blanks text → n ≡ position_or_len is_blank plain → n ≤ length plain → TakesWord text (take n plain) (take (length plain - n) (drop n plain))
 takes_word text plain n e is within =

@@ -5,8 +5,8 @@ use Rattle.std.specs.Str.Lines.{lines}
 use Rattle.port_io.specs.declared.weather.Store.{Store}
 use Rattle.port_io.specs.declared.weather.Fate.{Fate}
 use Rattle.stamp_base.specs.declared.setup.Setup.{Setup}
-use Rattle.session_script.specs.declared.actor.Actor.{Actor}
-use Rattle.session_script.specs.declared.actor.Actor.TheVariants as actors
+use Rattle.history_book.specs.declared.item.Actor.{Actor}
+use Rattle.history_book.specs.declared.item.Actor.TheVariants as actors
 use Rattle.session_script.specs.declared.form.Form.{Form}
 use Rattle.session_script.specs.declared.form.Form.TheVariants as forms
 use Rattle.session_script.specs.declared.script.Mode.{Mode}

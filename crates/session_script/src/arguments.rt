@@ -2,7 +2,7 @@
 ghost use Rattle.std.specs.Prelude.{◌≡◌, ◌≤◌, length};
 ghost use Rattle.session_script.specs.Arguments.{is_digit, leads_well, spelled_from, number_of, number_behind, session_of, key_of, node_of, value_of, actor_of};
 
-use crate::actor::Actor;
+use history_book::Actor;
 use stamp_base::{KeyNo, NodeNo, SessionNo, Value};
 
 /// The actor that begins a line, where there are so many nodes.

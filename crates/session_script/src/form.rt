@@ -77,7 +77,10 @@ impl Form {
     pub fn is_built(self) -> bool
         ensures { result ≡ is_built self }
     {
-        matches!(self, Form::Take | Form::Begin | Form::Commit | Form::Write | Form::Read)
+        matches!(
+            self,
+            Form::Take | Form::Begin | Form::Commit | Form::Write | Form::Read
+        )
     }
 
     /// Whether only a replay takes lines of the form.

@@ -1,7 +1,6 @@
 // Scripts: what a session's bytes ask for, or the first bad line and why it is bad.
 #![tactic(auto)]
 
-mod actor;
 mod arguments;
 mod cause;
 mod cutting;
@@ -14,7 +13,6 @@ mod script;
 mod tables;
 mod words;
 
-pub use actor::Actor;
 pub use cause::{ScriptCause, ScriptFault};
 pub use reading::{BYTE_LIMIT, LINE_LIMIT, read_script};
 pub use script::{Line, Mode, Script, Target, Verb};

@@ -3,13 +3,13 @@ ghost use Rattle.std.specs.Prelude.{◌≡◌, ◌≤◌};
 ghost use Rattle.session_script.specs.Script.{form_of, form_at, target_of, key_at, value_at, begin_at, commit_at, write_at, read_at, verb_of, actor_line, setup_line, line_of, is_served, is_run};
 ghost use Rattle.session_script.specs.Words.{seen};
 
-use crate::actor::Actor;
 use crate::arguments::{actor_of, key_of, node_of, value_of};
 use crate::cause::ScriptCause;
 use crate::form::Form;
 use crate::script::{Line, Mode, Target, Verb};
 use crate::tables::{setup_form, verb_form};
 use crate::words::Words;
+use history_book::Actor;
 use stamp_base::{KeyNo, Value};
 
 /// What the words of a line say, where there are so many nodes.
@@ -73,12 +73,7 @@ fn form_of(mode: Mode, actor: &Actor, words: &Words) -> Result<Form, ScriptCause
 }
 
 /// The form, unless a test before the arguments fails.
-fn tested_form(
-    mode: Mode,
-    actor: &Actor,
-    words: &Words,
-    form: Form,
-) -> Result<Form, ScriptCause>
+fn tested_form(mode: Mode, actor: &Actor, words: &Words, form: Form) -> Result<Form, ScriptCause>
     ensures { result ≡ form_at mode actor.now (seen words.now) (Some form) }
 {
     if words.count != form.words() {

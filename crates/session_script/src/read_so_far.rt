@@ -1,9 +1,9 @@
 // What was read of a script so far.
-ghost use Rattle.std.specs.Prelude.{◌≡◌, ◌+◌, ◌<◌, ◌≤◌, OnOk, vec_len};
+ghost use Rattle.std.specs.Prelude.{◌≡◌, ◌+◌, ◌<◌, ◌≤◌, IfOk, OnOk, vec_len};
 
 use crate::script::{Line, Script};
-use std::alloc::{AllocError, AllocFailed, Global};
 use stamp_base::Setup;
+use std::alloc::{AllocError, Global};
 
 #[derive(Drop)]
 pub struct ReadSoFar {
@@ -36,11 +36,11 @@ impl ReadSoFar {
     }
 
     /// Adds a line that counts.
-    pub fn add(&mut self, line: Line) -> Result<(), AllocFailed<Line>>
+    pub fn add(&mut self, line: Line) -> Result<(), AllocError>
         requires { self.old.counted < 131072 }
         ensures { OnOk result (so_far self.new ≡ with_line (so_far self.old) line) }
     {
-        self.script.lines.push(line)?;
+        self.script.lines.extend_from_slice(&[line])?;
         self.counted += 1;
         Ok(())
     }

@@ -1,4 +1,4 @@
-use crate::actor::Actor;
+use history_book::Actor;
 use port_io::{Fate, Store};
 use stamp_base::{KeyNo, Name, NodeNo, SessionNo, Setup, Stage, TxnId, Value};
 

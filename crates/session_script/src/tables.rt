@@ -2,8 +2,8 @@
 ghost use Rattle.std.specs.Prelude.{◌≡◌, map};
 ghost use Rattle.session_script.specs.Grammar.{named_form, setup_forms, clock_forms, janitor_forms, node_forms, session_forms, verb_forms};
 
-use crate::actor::Actor;
 use crate::form::Form;
+use history_book::Actor;
 
 const SETUP_FORMS: [(&str, Form); 13] = [
     ("nodes", Form::Nodes),
