@@ -1,0 +1,7 @@
+use Rattle.std.proofs.Common.{arith, sym, length, ◌==◌}
+use Rattle.std.proofs.lemmas.List.Sums.{position_or_len_is}
+use Rattle.session_script.proofs.lines.line_end.Goals as goal
+
+pub returns-clause-place : goal.returns-clause-place
+returns-clause-place c =
+    sym (position_or_len_is (λ b. b == 10) c.args.bytes.now (length c.args.bytes.now) 0 (omega arith) (λ k h. c.loop-i.invariant k (omega arith)) (λ h. absurd (omega arith)))
