@@ -1,0 +1,2 @@
+pub mod StableReads
+pub mod Quiet
