@@ -36,10 +36,10 @@ pub record IsPlain (x : Item) : Type 0 where
   pub no_commit : (t c : ℕ) → Placed t c ≡ x → ⊥
   pub no_write : WritesNothing x
 
-pub opened-plain : (sessions : List (Option Transaction)) (h : List Item) (x : Item) → IsPlain x → AreOpen sessions h → AreOpen sessions (h ++ x ∷ [])
-opened-plain sessions h x plain all = record {
+pub opened-push : (sessions : List (Option Transaction)) (h : List Item) (x : Item) → ((t c : ℕ) → Placed t c ≡ x → ⊥) → AreOpen sessions h → AreOpen sessions (h ++ x ∷ [])
+opened-push sessions h x no_commit all = record {
   began = λ i t o. ((all.began i t o).0, in_front _ h (x ∷ []) (all.began i t o).1);
-  unplaced = λ i c t o m. all.unplaced i c t o (in_old _ x h (plain.no_commit t.start c) m);
+  unplaced = λ i c t o m. all.unplaced i c t o (in_old _ x h (no_commit t.start c) m);
   once = all.once;
 }
 
@@ -66,9 +66,9 @@ cells-push last rows h x all = record {
   placed = λ k t c cell e q. in_front _ h (x ∷ []) (all.placed k t c cell e q);
 }
 
-pub latest-plain : (latest : List Latest) (h : List Item) (x : Item) → IsPlain x → AreLatest latest h → AreLatest latest (h ++ x ∷ [])
-latest-plain latest h x plain all = record {
-  covered = λ t c k v m e. all.covered t c k v (in_old _ x h (plain.no_commit t c) m) (sym (last_write-same h x plain.no_write t k) ∙ e);
+pub latest-push : (latest : List Latest) (h : List Item) (x : Item) → Suits h x → AreLatest latest h → AreLatest latest (h ++ x ∷ [])
+latest-push latest h x fit all = record {
+  covered = λ t c k v m e. let before : Committed h t c = in_old _ x h (fit.no_commit t c) m in all.covered t c k v before (sym (fit.values t c k before) ∙ e);
   drawn = λ k c e. DrawnFor-push h x 1 k c (all.drawn k c e);
 }
 
@@ -76,12 +76,12 @@ latest-plain latest h x plain all = record {
 pub plain_holds : (w : State) (h : List Item) (x : Item) → IsPlain x → IsUpTo w.last x → Suits h x → Shown h x → Holds w h → Holds w (h ++ x ∷ [])
 plain_holds w h x plain low fit shown all = record {
   stamps = drawn-push w.last h x low all.stamps;
-  opened = opened-plain w.sessions h x plain all.opened;
+  opened = opened-push w.sessions h x plain.no_commit all.opened;
   keys = keys-plain w.sessions h x plain all.keys;
   open_cells = open_cells-plain w.sessions w.rows h x plain all.open_cells;
   placed_cells = placed_cells-plain w.rows h x plain all.placed_cells;
   cells = cells-push w.last w.rows h x all.cells;
-  latest = latest-plain w.latest h x plain all.latest;
+  latest = latest-push w.latest h x fit all.latest;
   isolated = suits-isolated w.last h x fit all.stamps all.isolated;
   explained = AtEach-push Shown h x all.explained shown;
 }

@@ -248,3 +248,10 @@ ordered-without (r ∷ rs) k t order = elim (is_row-cases k t r) [
   | inl a ↦ rw a.0 (ordered-unless r rs r.shadow (order.0, order.1))
   | inr a ↦ rw a.0 (below-without r rs k t order.0, ordered-without rs k t order.1)
 ]
+
+pub looked-version : (rs : List Row) (k t : ℕ) (cell : Cell) → looked rs k t ≡ Some cell → cell.version ≡ t
+looked-version [] k t cell e = absurd (none_looked k t cell e)
+looked-version (r ∷ rs) k t cell e = elim (is_row-cases k t r) [
+  | inl a ↦ let is : cell_of r ≡ cell = same_Some _ _ (sym (looked-here r rs k t a.1 a.2) ∙ e) in ap (λ (c : Cell). c.version) (sym is) ∙ a.2
+  | inr a ↦ looked-version rs k t cell (sym (looked-past r rs k t a.1) ∙ e)
+]
