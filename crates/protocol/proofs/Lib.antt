@@ -6,3 +6,7 @@ pub mod BeginKeeps
 pub mod WriteKeeps
 pub mod NewestCell
 pub mod ReadKeeps
+pub mod AllKeys
+pub mod PlacedIsolated
+pub mod CommitKeeps
+pub mod Always

@@ -43,15 +43,15 @@ opened-push sessions h x no_commit all = record {
   once = all.once;
 }
 
-pub keys-plain : (sessions : List (Option Transaction)) (h : List Item) (x : Item) → IsPlain x → AreKeys sessions h → AreKeys sessions (h ++ x ∷ [])
-keys-plain sessions h x plain all = record {
-  listed = λ i k t v o e. all.listed i k t v o (sym (last_write-same h x plain.no_write t.start k) ∙ e);
-  written = λ i k t o m. ((all.written i k t o m).0, last_write-same h x plain.no_write t.start k ∙ (all.written i k t o m).1);
+pub keys-push : (sessions : List (Option Transaction)) (h : List Item) (x : Item) → WritesNothing x → AreKeys sessions h → AreKeys sessions (h ++ x ∷ [])
+keys-push sessions h x none all = record {
+  listed = λ i k t v o e. all.listed i k t v o (sym (last_write-same h x none t.start k) ∙ e);
+  written = λ i k t o m. ((all.written i k t o m).0, last_write-same h x none t.start k ∙ (all.written i k t o m).1);
 }
 
-pub open_cells-plain : (sessions : List (Option Transaction)) (rows : List Row) (h : List Item) (x : Item) → IsPlain x → AreOpenCells sessions rows h → AreOpenCells sessions rows (h ++ x ∷ [])
-open_cells-plain sessions rows h x plain all = record {
-  bare = λ i k t o. all.bare i k t o ∙ ap (cell_with t.start None) (sym (last_write-same h x plain.no_write t.start k));
+pub open_cells-push : (sessions : List (Option Transaction)) (rows : List Row) (h : List Item) (x : Item) → WritesNothing x → AreOpenCells sessions rows h → AreOpenCells sessions rows (h ++ x ∷ [])
+open_cells-push sessions rows h x none all = record {
+  bare = λ i k t o. all.bare i k t o ∙ ap (cell_with t.start None) (sym (last_write-same h x none t.start k));
 }
 
 pub placed_cells-plain : (rows : List Row) (h : List Item) (x : Item) → IsPlain x → ArePlacedCells rows h → ArePlacedCells rows (h ++ x ∷ [])
@@ -77,8 +77,8 @@ pub plain_holds : (w : State) (h : List Item) (x : Item) → IsPlain x → IsUpT
 plain_holds w h x plain low fit shown all = record {
   stamps = drawn-push w.last h x low all.stamps;
   opened = opened-push w.sessions h x plain.no_commit all.opened;
-  keys = keys-plain w.sessions h x plain all.keys;
-  open_cells = open_cells-plain w.sessions w.rows h x plain all.open_cells;
+  keys = keys-push w.sessions h x plain.no_write all.keys;
+  open_cells = open_cells-push w.sessions w.rows h x plain.no_write all.open_cells;
   placed_cells = placed_cells-plain w.rows h x plain all.placed_cells;
   cells = cells-push w.last w.rows h x all.cells;
   latest = latest-push w.latest h x fit all.latest;
