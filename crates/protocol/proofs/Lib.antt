@@ -1,0 +1,12 @@
+pub mod StableReads
+pub mod Quiet
+pub mod Sessions
+pub mod Writers
+pub mod BeginKeeps
+pub mod WriteKeeps
+pub mod NewestCell
+pub mod ReadKeeps
+pub mod AllKeys
+pub mod PlacedIsolated
+pub mod CommitKeeps
+pub mod Always

@@ -5,3 +5,5 @@ pub mod WriteStep
 pub mod ReadStep
 pub mod CommitStep
 pub mod Machine
+pub mod Explained
+pub mod Invariant
