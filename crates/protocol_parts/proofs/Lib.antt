@@ -3,3 +3,4 @@ pub mod BucketSteps
 pub mod BucketLaws
 pub mod CompletionLemmas
 pub mod KeyReadLemmas
+pub mod BucketVerdicts
