@@ -148,14 +148,14 @@ unfolding fed
 held-fed count key bucket [] top last h r rise held = held
 held-fed count key bucket (pair ∷ later) top last h r rise held =
     held-fed count key (fed_one count (place_of count key) bucket pair) later pair.commit (later_commit key last pair)
-      (ordered-fed_one count (place_of count key) bucket pair h) (risen-fed_one count (place_of count key) bucket pair top h r rise.0) rise.1 (held-fed_one count bucket pair key top last h r held)
+    (ordered-fed_one count (place_of count key) bucket pair h) (risen-fed_one count (place_of count key) bucket pair top h r rise.0) rise.1 (held-fed_one count bucket pair key top last h r held)
 
 -- the last commit of a key is kept, or is at most the water
 pub last_commit_held : (count width : ℕ) (pairs : List Recorded) (key commit : ℕ) → 1 ≤ count → 1 ≤ width → CommitsRise pairs → last_commit pairs key ≡ Some commit → IsRemembered (bucket_of (contents count width pairs) key) key commit
 last_commit_held count width pairs key commit some wide rise e =
     subst (λ (b : Bucket). IsRemembered b key commit) (sym (bucket_of-contents count width pairs key some))
-      (held-fed count key (empty_bucket width) pairs 0 None (ordered-empty width wide) (record { above = tt; below = tt; water = omega arith }) (rise_from 0 pairs (λ j d lt. omega arith) rise) (λ c none. absurd (none-some c none)) commit
-        (last_from-last_commit key None pairs ∙ (option_or-none (last_commit pairs key) ∙ e)))
+    (held-fed count key (empty_bucket width) pairs 0 None (ordered-empty width wide) (record { above = tt; below = tt; water = omega arith }) (rise_from 0 pairs (λ j d lt. omega arith) rise) (λ c none. absurd (none-some c none)) commit
+    (last_from-last_commit key None pairs ∙ (option_or-none (last_commit pairs key) ∙ e)))
 
 abbrev KeptLast : Bucket → ℕ → Option ℕ → Type 0
 KeptLast bucket key last = (commit : ℕ) → kept_commit bucket.kept key ≡ Some commit → last ≡ Some commit
@@ -202,12 +202,12 @@ record Holds (Q : ℕ → Type 0) (bucket : Bucket) : Type 0 where
 
 holds-recorded : (Q : ℕ → Type 0) (bucket : Bucket) (pair : Recorded) → IsOrdered bucket → Holds Q bucket → Q pair.commit → Holds Q (recorded bucket pair)
 holds-recorded Q bucket pair h held here = recorded_cases bucket pair (Holds Q) h.wide
-  (λ commit e. record { kept = every-replaced (λ old. Q old.commit) bucket.kept pair here held.kept; water = held.water })
-  (λ e room. record { kept = every-added (λ old. Q old.commit) bucket.kept pair here held.kept; water = held.water })
-  (λ e out o. record {
-    kept = every-added (λ old. Q old.commit) (without bucket.kept out.key) pair here (every-without (λ old. Q old.commit) bucket.kept out.key held.kept);
-    water = inr (every-among (λ old. Q old.commit) out bucket.kept held.kept o.there);
-  })
+    (λ commit e. record { kept = every-replaced (λ old. Q old.commit) bucket.kept pair here held.kept; water = held.water })
+    (λ e room. record { kept = every-added (λ old. Q old.commit) bucket.kept pair here held.kept; water = held.water })
+    (λ e out o. record {
+      kept = every-added (λ old. Q old.commit) (without bucket.kept out.key) pair here (every-without (λ old. Q old.commit) bucket.kept out.key held.kept);
+      water = inr (every-among (λ old. Q old.commit) out bucket.kept held.kept o.there);
+    })
 
 -- the pairs of a place pass the test
 abbrev AtPlace : (ℕ → Type 0) → ℕ → ℕ → List Recorded → Type 0
@@ -218,11 +218,11 @@ unfolding fed
 holds-fed Q count place bucket [] h held all = held
 holds-fed Q count place bucket (pair ∷ later) h held all =
     holds-fed Q count place (fed_one count place bucket pair) later (ordered-fed_one count place bucket pair h)
-      (elim (cases_Bool (place_of count pair.key == place)) [
-        | inl q ↦ rw q (holds-recorded Q bucket pair h held (all.0 (eqb-true (place_of count pair.key) place q)))
-        | inr q ↦ rw q held
-      ])
-      all.1
+    (elim (cases_Bool (place_of count pair.key == place)) [
+      | inl q ↦ rw q (holds-recorded Q bucket pair h held (all.0 (eqb-true (place_of count pair.key) place q)))
+      | inr q ↦ rw q held
+    ])
+    all.1
 
 recorded_at : (count place : ℕ) (pairs : List Recorded) → AtPlace (IsRecordedAt count place pairs) count place pairs
 unfolding IsRecordedAt
@@ -234,9 +234,9 @@ recorded_at count place (pair ∷ later) = (
 
 -- the water is 0, or a commit that was recorded for a key of the bucket
 pub water_recorded : (count width : ℕ) (pairs : List Recorded) (key : ℕ) → 1 ≤ count → 1 ≤ width →
-  ((bucket_of (contents count width pairs) key).water ≡ 0) ⊎ IsRecordedAt count (place_of count key) pairs (bucket_of (contents count width pairs) key).water
+    ((bucket_of (contents count width pairs) key).water ≡ 0) ⊎ IsRecordedAt count (place_of count key) pairs (bucket_of (contents count width pairs) key).water
 water_recorded count width pairs key some wide =
     let Q : ℕ → Type 0 = IsRecordedAt count (place_of count key) pairs in
     let held : Holds Q (fed count (place_of count key) (empty_bucket width) pairs) =
-      holds-fed Q count (place_of count key) (empty_bucket width) pairs (ordered-empty width wide) (record { kept = tt; water = inl refl }) (recorded_at count (place_of count key) pairs) in
+    holds-fed Q count (place_of count key) (empty_bucket width) pairs (ordered-empty width wide) (record { kept = tt; water = inl refl }) (recorded_at count (place_of count key) pairs) in
     subst (λ (b : Bucket). (b.water ≡ 0) ⊎ Q b.water) (sym (bucket_of-contents count width pairs key some)) held.water

@@ -4,3 +4,4 @@ pub mod BucketLaws
 pub mod CompletionLemmas
 pub mod KeyReadLemmas
 pub mod RowLaws
+pub mod BucketVerdicts

@@ -1,5 +1,5 @@
 -- The bounded memory of conflicts: buckets that keep the latest commits of their keys, and forget the oldest.
-use Rattle.std.specs.Prelude.{◌≡◌, ◌≤◌, ◌⊎◌, AllPairs, ℕ, ◌==◌, ◌%◌, nat_lt, ◌&&◌, ◌||◌, if◌then◌else◌, List, [], ◌∷◌, length, map, replicate, slice_index_or, slice_set, Option, None, Some}
+use Rattle.std.specs.Prelude.{◌≡◌, ◌≤◌, ◌⊎◌, AllPairs, Contains, ◌<◌, ℕ, ◌==◌, ◌%◌, nat_lt, ◌&&◌, ◌||◌, if◌then◌else◌, List, [], ◌∷◌, length, map, replicate, slice_index_or, slice_set, Option, None, Some}
 use Rattle.std.specs.Option.{option_or}
 use Rattle.protocol_parts.specs.declared.buckets.Recorded.{Recorded}
 use Rattle.protocol_parts.specs.declared.buckets.Verdict.{Verdict}
@@ -123,3 +123,16 @@ IsRemembered bucket key commit = (kept_commit bucket.kept key ≡ Some commit) �
 unfoldable pub IsRecordedAt : ℕ → ℕ → List Recorded → ℕ → Type 0
 IsRecordedAt count place [] commit = ⊥
 IsRecordedAt count place (pair ∷ later) commit = ((place_of count pair.key ≡ place) × (pair.commit ≡ commit)) ⊎ IsRecordedAt count place later commit
+
+-- what a verdict tells of the commits that were recorded
+abbrev pub IsShown : ℕ → ℕ → List Recorded → ℕ → List ℕ → Verdict → Type 0
+IsShown count width pairs start keys Free = (key commit : ℕ) → Contains keys key → last_commit pairs key ≡ Some commit → commit ≤ start
+IsShown count width pairs start keys (Conflict key by) = Contains keys key × (last_commit pairs key ≡ Some by) × (start < by)
+IsShown count width pairs start keys (Hidden key water) =
+    Contains keys key × (kept_commit (bucket_of (contents count width pairs) key).kept key ≡ None) × IsRecordedAt count (place_of count key) pairs water × (start < water)
+
+-- a bucket keeps its keys in ascending order, each once, and no more of them than it may
+pub record IsInOrder (width : ℕ) (bucket : Bucket) : Type 0 where
+  pub same : bucket.width ≡ width
+  pub fits : length bucket.kept ≤ width
+  pub ascends : AllPairs (λ earlier later. earlier.key < later.key) bucket.kept

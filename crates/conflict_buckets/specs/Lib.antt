@@ -1,0 +1,2 @@
+pub mod Oldest
+pub use Rattle.protocol_parts.specs.Buckets

@@ -1,0 +1,9 @@
+-- How a full bucket makes room.
+use Rattle.std.specs.Prelude.{◌≡◌, ℕ, List, [], ◌∷◌}
+use Rattle.protocol_parts.specs.declared.buckets.Recorded.{Recorded}
+use Rattle.protocol_parts.specs.Buckets.{oldest, without}
+
+-- the oldest pair went out, which had this commit
+abbrev pub ForgetsOldest : List Recorded → List Recorded → ℕ → Type 0
+ForgetsOldest [] after commit = ⊥
+ForgetsOldest (first ∷ others) after commit = (after ≡ without (first ∷ others) (oldest first others).key) × (commit ≡ (oldest first others).commit)

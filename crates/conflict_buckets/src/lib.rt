@@ -1,0 +1,9 @@
+// The bounded conflict memory of an oracle's instance.
+#![tactic(auto)]
+
+mod bucket;
+mod buckets;
+mod pairs;
+
+pub use buckets::Buckets;
+pub use protocol_parts::{Recorded, Verdict};
