@@ -6,6 +6,7 @@ mod completion;
 mod key_read;
 mod resolve;
 mod rows;
+mod session;
 mod sweep;
 mod store_errors;
 
@@ -20,5 +21,6 @@ pub use resolve::{
     marks_where_allowed, settles_end,
 };
 pub use rows::Cell;
+pub use session::{State, sessions_keep_sense};
 pub use sweep::{sweep_erases_marked, sweep_marks_old_alone, sweeps_end, undecided_only_above};
 pub use store_errors::{StoreError, StoreFault};
