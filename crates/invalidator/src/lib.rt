@@ -9,5 +9,3 @@ pub use protocol_parts::Outcome;
 pub use settle::Settle;
 pub use sweep::Sweep;
 
-#[cfg(test)]
-mod tests;
