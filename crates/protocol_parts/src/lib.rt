@@ -2,6 +2,7 @@
 #![tactic(auto)]
 
 mod buckets;
+mod asks;
 mod completion;
 mod key_read;
 mod resolve;
@@ -11,10 +12,11 @@ mod sweep;
 mod store_errors;
 
 pub use buckets::{Recorded, Verdict};
+pub use asks::fits;
 pub use completion::{completions_end, removal_comes_last};
 pub use key_read::{
     Answer, Next, answers_own_or_below, answers_resolved, passed_are_late, passes_dead_or_late,
-    reads_end,
+    reads_end, reads_mark_old_alone,
 };
 pub use resolve::{
     Outcome, SettlePoint, committed_is_told, dead_by_last_look, mark_never_decides,
