@@ -5,7 +5,7 @@ use Rattle.stamp_base.specs.declared.steps.Ask.{Ask}
 use Rattle.stamp_base.specs.declared.steps.Told.{Told}
 use Rattle.protocol_parts.specs.declared.rows.Cell.{Cell}
 use Rattle.protocol_parts.specs.declared.resolve.SettlePoint.{SettlePoint}
-use Rattle.protocol_parts.specs.declared.resolve.SettlePoint.TheVariants.{Table}
+use Rattle.protocol_parts.specs.declared.resolve.SettlePoint.TheVariants.{Table, Marking}
 use Rattle.protocol_parts.specs.declared.resolve.Outcome.{Outcome}
 use Rattle.protocol_parts.specs.declared.resolve.Outcome.TheVariants.{Committed, Dead}
 use Rattle.protocol_parts.specs.declared.key_read.Answer.{Answer}
@@ -148,6 +148,10 @@ AnswersResolved =
 abbrev pub PassesDeadOrLate : Type 0
 PassesDeadOrLate =
     (r s : Reading) (told : Told) → read_told r told ≡ Asks s → (s ≡ record r { point = s.point }) ⊎ (LetsPass r.start (verdict (settling_of r) told) × (s.cell ∷ s.older ≡ after_passed r.start r.older))
+
+-- a mark is asked only of a version that is at most the epoch
+abbrev pub ReadsMarkOldAlone : Type 0
+ReadsMarkOldAlone = (r s : Reading) (told : Told) → read_told r told ≡ Asks s → s.point ≡ Marking → s.cell.version ≤ s.epoch
 
 -- the steps that there may be
 abbrev pub read_left : Reading → ℕ

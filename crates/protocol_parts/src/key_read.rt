@@ -1,4 +1,4 @@
-ghost use Rattle.protocol_parts.specs.KeyRead.{PassedAreLate, AnswersOwnOrBelow, AnswersResolved, PassesDeadOrLate, ReadsEnd};
+ghost use Rattle.protocol_parts.specs.KeyRead.{PassedAreLate, AnswersOwnOrBelow, AnswersResolved, PassesDeadOrLate, ReadsMarkOldAlone, ReadsEnd};
 
 use stamp_base::{Ask, KeyNo, Stamp, TxnId, Value};
 
@@ -36,6 +36,11 @@ pub fn answers_resolved()
 /// A read passes over a cell that it resolved only where the cell is dead or its commit is not below the start.
 pub fn passes_dead_or_late()
     ensures { PassesDeadOrLate }
+{}
+
+/// A read marks a version only at the epoch or below.
+pub fn reads_mark_old_alone()
+    ensures { ReadsMarkOldAlone }
 {}
 
 /// A read ends within three steps for each cell.

@@ -1,0 +1,7 @@
+// Client sessions: what a session is about, and what it has written.
+#![tactic(auto)]
+
+mod session;
+
+pub use protocol_parts::State;
+pub use session::Session;

@@ -1,0 +1,2 @@
+pub mod Ways
+pub use Rattle.protocol_parts.specs.Completion

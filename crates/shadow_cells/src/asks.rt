@@ -1,0 +1,28 @@
+ghost use Rattle.std.specs.Prelude.{◌≡◌, drop};
+ghost use Rattle.protocol_parts.specs.Completion.{finish_asks, undo_asks, first_ask};
+
+use stamp_base::{Ask, KeyNo, Stamp, TxnId};
+
+/// The step after `done` steps of finishing a transaction that wrote these keys; None where no step is left.
+pub fn finish_ask(txn: TxnId, commit: Stamp, keys: &[KeyNo], done: usize) -> Option<Ask>
+    ensures { result ≡ first_ask (drop done (finish_asks txn commit keys.now)) }
+{
+    if done < keys.len() {
+        Some(Ask::Shadow(keys[done], txn, commit))
+    } else if done == keys.len() {
+        Some(Ask::Remove(txn))
+    } else {
+        None
+    }
+}
+
+/// The step after `done` steps of undoing a transaction that wrote these keys; None where no step is left.
+pub fn undo_ask(txn: TxnId, keys: &[KeyNo], done: usize) -> Option<Ask>
+    ensures { result ≡ first_ask (drop done (undo_asks txn keys.now)) }
+{
+    if done < keys.len() {
+        Some(Ask::Erase(keys[done], txn))
+    } else {
+        None
+    }
+}
