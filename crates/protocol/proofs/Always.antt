@@ -1,27 +1,27 @@
 -- Each event keeps what holds, so each history is isolated and explained.
-use Rattle.std.proofs.Common.{◌≡◌, ℕ, zero, suc, ◌+◌, ◌<◌, ◌≤◌, ◌==◌, if◌then◌else◌, Bool, true, false, List, [], ◌∷◌, ◌++◌, append_assoc, Option, Some, None, refl, sym, subst, ap, ◌∙◌, arith, slice_get, replicate}
+use Rattle.std.proofs.Common.{◌≡◌, ℕ, ◌+◌, Bool, true, false, List, [], ◌∷◌, ◌++◌, append_assoc, Option, Some, None, refl, ap, ◌∙◌, slice_get}
 use Rattle.std.specs.Option.{option_or}
 use Rattle.std.proofs.lemmas.Bool.{eq-eqb}
 use Rattle.std.proofs.lemmas.List.{append-nil}
 use Rattle.std.proofs.lemmas.Option.{none-some}
-use Rattle.history_book.specs.Members.{◌∈◌, AtEach}
+use Rattle.history_book.specs.Members.{◌∈◌}
 use Rattle.history_book.specs.Isolation.{last_write, Isolated}
 use Rattle.history_book.specs.declared.cause.Cause.TheVariants.{Conflict}
 use Rattle.history_book.specs.declared.item.Actor.TheVariants.{Session}
 use Rattle.history_book.specs.declared.item.Item.{Item}
-use Rattle.history_book.specs.declared.item.Item.TheVariants.{AskBegin, AskCommit, Draw, Placed, Committed, Refused}
+use Rattle.history_book.specs.declared.item.Item.TheVariants.{AskCommit, Draw, Placed, Committed, Refused}
 use Rattle.history_book.proofs.MemberLemmas.{in_last}
 use Rattle.protocol_parts.specs.Rows.{looked, AreOrdered}
 use Rattle.protocol.specs.declared.state.Transaction.{Transaction}
 use Rattle.protocol.specs.declared.state.Latest.{Latest}
-use Rattle.protocol.specs.State.{State, Step, opening, with_session}
+use Rattle.protocol.specs.State.{State, Step, opening}
 use Rattle.protocol.specs.TakeStep.{take_at}
 use Rattle.protocol.specs.BeginStep.{has_oracle, begin_asked, begin_at}
 use Rattle.protocol.specs.WriteStep.{with_key, write_key, write_at}
 use Rattle.protocol.specs.ReadStep.{read_at}
 use Rattle.protocol.specs.CommitStep.{latest_of, conflict, commit_decided, commit_asked, commit_open, commit_at}
 use Rattle.protocol.specs.Machine.{Event, Takes, Begins, Writes, Reads, Commits, stepped, items_from, history_after}
-use Rattle.protocol.specs.Explained.{Ask, ask_of, last_ask, ShownConflict, Shown, Explained}
+use Rattle.protocol.specs.Explained.{Ask, ask_of, last_ask, ShownConflict, Explained}
 use Rattle.protocol.specs.Invariant.{IsOpen, Holds}
 use Rattle.protocol.proofs.Quiet.{quiet_holds}
 use Rattle.protocol.proofs.Sessions.{none_open, freed_holds}
@@ -93,10 +93,12 @@ asked_now : (s n start : ℕ) → ask_of s (AskCommit s n start) ≡ Some (recor
 asked_now s n start = rw (eq-eqb s s refl) refl
 
 -- the conflict that was found is shown after the ask
-shown_conflict : (w : State) (h : List Item) (s n : ℕ) (t : Transaction) (found : Latest) → conflict w.latest t.start t.keys ≡ Some found → Holds w (h ++ AskCommit s n t.start ∷ []) → ShownConflict (h ++ AskCommit s n t.start ∷ []) s found.key found.commit
+shown_conflict : (w : State) (h : List Item) (s n : ℕ) (t : Transaction) (found : Latest) → conflict w.latest t.start t.keys ≡ Some found → Holds w (h ++ AskCommit s n t.start ∷ []) → ShownConflict (h ++ AskCommit s n t.start ∷ []) (Session s) found.key found.commit
 shown_conflict w h s n t found e all =
     let is : IsAbove w.latest t.start found = conflict_found w.latest t.start t.keys found e in
     record {
+      session = s;
+      refused = refl;
       node = n;
       start = t.start;
       asked = last_ask-push h (AskCommit s n t.start) s ∙ ap (λ o. option_or o (last_ask h s)) (asked_now s n t.start);

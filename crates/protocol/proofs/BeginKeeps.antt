@@ -1,18 +1,17 @@
 -- A begin keeps what holds.
-use Rattle.std.proofs.Common.{◌≡◌, ℕ, ◌+◌, ◌<◌, ◌≤◌, List, [], ◌∷◌, ◌++◌, append_assoc, Option, Some, None, ◌⊎◌, inl, inr, refl, sym, subst, ap, ◌∙◌, arith, slice_get, slice_set}
+use Rattle.std.proofs.Common.{◌≡◌, ℕ, ◌+◌, ◌<◌, ◌≤◌, List, [], ◌∷◌, ◌++◌, append_assoc, Option, Some, None, inl, inr, refl, sym, subst, ap, ◌∙◌, arith, slice_set}
 use Rattle.history_book.specs.Members.{◌∈◌}
-use Rattle.history_book.specs.Isolation.{last_write, Wrote, Committed, NewStamps, StartsAbove, before_ask, written_by}
+use Rattle.history_book.specs.Isolation.{last_write, Committed}
 use Rattle.history_book.specs.declared.item.Item.{Item}
 use Rattle.history_book.specs.declared.item.Item.TheVariants.{AskBegin, Draw, Begin, Write, Read, Placed}
-use Rattle.history_book.proofs.MemberLemmas.{in_front, in_last}
+use Rattle.history_book.proofs.MemberLemmas.{in_last}
 use Rattle.history_book.proofs.HistoryLemmas.{before_ask-in}
-use Rattle.protocol_parts.specs.declared.rows.Cell.{Cell}
 use Rattle.protocol_parts.specs.Rows.{Row, looked}
 use Rattle.protocol.specs.declared.state.Transaction.{Transaction}
 use Rattle.protocol.specs.State.{State, with_session}
 use Rattle.protocol.specs.BeginStep.{begun}
 use Rattle.protocol.specs.Invariant.{IsOpen, IsUpTo, AreDrawn, AreOpen, AreKeys, cell_with, AreOpenCells, AreCells, Holds}
-use Rattle.protocol.proofs.StableReads.{Suits, WritesNothing, last_write-same}
+use Rattle.protocol.proofs.StableReads.{Suits, last_write-same}
 use Rattle.protocol.proofs.Quiet.{IsPlain, plain_holds, quiet_holds}
 use Rattle.protocol.proofs.Sessions.{open-set}
 use Rattle.protocol.proofs.Writers.{written_low}
@@ -143,8 +142,8 @@ begin_pushed w h s all =
     let unwritten : (k : ℕ) → last_write g n k ≡ None = λ k. last_write-same h x plain.no_write n k ∙ new.unwritten k in
     let starts : (i : ℕ) (t : Transaction) → IsOpen w.sessions i t → t.start < n = λ i t o. let b = all.opened.began i t o in let up : t.start ≤ w.last = all.stamps.up_to (Begin b.0 t.start) b.1 in omega arith in
     let commits : (t c : ℕ) → Committed g t c → t < n = λ t c m.
-        let up : c ≤ n = pushed.stamps.up_to (Placed t c) m in
-        let below : t < c = pushed.isolated.stamped.start_below_commit t c m in omega arith in
+    let up : c ≤ n = pushed.stamps.up_to (Placed t c) m in
+    let below : t < c = pushed.isolated.stamped.start_below_commit t c m in omega arith in
     record {
       stamps = pushed.stamps;
       opened = opened-begun w.sessions s n w.rows g (in_last x h) commits starts pushed.opened;

@@ -1,26 +1,24 @@
 -- A commit keeps what holds, whether it is placed or refused.
-use Rattle.std.proofs.Common.{◌≡◌, ◌≢◌, ℕ, ◌+◌, ◌<◌, ◌≤◌, List, [], ◌∷◌, ◌++◌, append_assoc, Option, Some, None, ◌⊎◌, inl, inr, refl, sym, subst, ap, ◌∙◌, arith, slice_get, slice_set, if◌then◌else◌, ◌==◌}
-use Rattle.std.specs.Option.{option_or}
-use Rattle.std.proofs.lemmas.Bool.{cases_eq, eq-eqb}
+use Rattle.std.proofs.Common.{◌≡◌, ℕ, ◌+◌, ◌≤◌, List, [], ◌∷◌, ◌++◌, Option, Some, None, inl, inr, refl, sym, subst, ap, ◌∙◌, arith, slice_set}
+use Rattle.std.proofs.lemmas.Bool.{cases_eq}
 use Rattle.std.proofs.lemmas.Option.{none-some, same_Some}
 use Rattle.history_book.specs.Members.{◌∈◌}
 use Rattle.history_book.specs.Isolation.{last_write, Wrote, Committed}
 use Rattle.history_book.specs.declared.item.Item.{Item}
 use Rattle.history_book.specs.declared.item.Item.TheVariants.{Draw, Begin, Placed}
-use Rattle.history_book.proofs.MemberLemmas.{in_front, in_last, in_old, AtEach-push}
+use Rattle.history_book.proofs.MemberLemmas.{in_front, in_last, AtEach-push}
 use Rattle.protocol_parts.specs.declared.rows.Cell.{Cell}
-use Rattle.protocol_parts.specs.Rows.{Row, looked}
+use Rattle.protocol_parts.specs.Rows.{looked}
 use Rattle.protocol_parts.proofs.RowLaws.{shadowed}
 use Rattle.protocol.specs.declared.state.Transaction.{Transaction}
-use Rattle.protocol.specs.declared.state.Latest.{Latest}
 use Rattle.protocol.specs.State.{State, with_session}
-use Rattle.protocol.specs.CommitStep.{latest_of, all_latest, conflict, all_shadowed, all_erased}
+use Rattle.protocol.specs.CommitStep.{all_latest, conflict, all_shadowed, all_erased}
 use Rattle.protocol.specs.Explained.{DrawnFor, Shown}
-use Rattle.protocol.specs.Invariant.{IsOpen, AreDrawn, AreOpen, AreKeys, cell_with, AreOpenCells, ArePlacedCells, AreCells, Covers, AreLatest, Holds}
+use Rattle.protocol.specs.Invariant.{IsOpen, AreOpen, cell_with, AreCells, Covers, AreLatest, Holds}
 use Rattle.protocol.proofs.StableReads.{WritesNothing}
 use Rattle.protocol.proofs.Quiet.{drawn-push, keys-push, open_cells-push, DrawnFor-push}
 use Rattle.protocol.proofs.Sessions.{open-freed, opened-freed, keys-freed, another}
-use Rattle.protocol.proofs.BeginKeeps.{none_where, drawn-higher}
+use Rattle.protocol.proofs.BeginKeeps.{drawn-higher}
 use Rattle.protocol.proofs.AllKeys.{all_erased-other, all_erased-there, ordered-all_erased, all_shadowed-other, all_shadowed-kept, all_shadowed-in, ordered-all_shadowed, all_latest-in, all_latest-cases, no_conflict}
 use Rattle.protocol.proofs.PlacedIsolated.{MayCommit, placed_cases, placed_writes, placed_isolated}
 

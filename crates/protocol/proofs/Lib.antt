@@ -10,3 +10,4 @@ pub mod AllKeys
 pub mod PlacedIsolated
 pub mod CommitKeeps
 pub mod Always
+pub mod Conditions

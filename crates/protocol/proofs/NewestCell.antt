@@ -1,8 +1,7 @@
 -- What the first of the fetched cells that may answer is.
-use Rattle.std.proofs.Common.{◌≡◌, ℕ, ◌<◌, ◌≤◌, ◌==◌, nat_lt, nat_le, Bool, true, false, ◌&&◌, ◌||◌, if◌then◌else◌, List, [], ◌∷◌, ◌++◌, Option, Some, None, ◌⊎◌, inl, inr, refl, sym, subst, ap, ◌∙◌, arith}
+use Rattle.std.proofs.Common.{◌≡◌, ℕ, ◌≤◌, ◌==◌, nat_le, Bool, true, false, ◌&&◌, if◌then◌else◌, List, [], ◌∷◌, ◌++◌, Option, Some, None, ◌⊎◌, inl, inr, refl, sym, subst, ap, ◌∙◌, arith}
 use Rattle.std.specs.Option.{option_or}
 use Rattle.std.proofs.lemmas.Bool.{cases_Bool, both_ways, and_parts, eqb-true, eq-eqb, leb-true, le-leb}
-use Rattle.std.proofs.lemmas.Bool.Decides.{nat_tests}
 use Rattle.std.proofs.lemmas.Option.{none-some, same_Some}
 use Rattle.history_book.specs.declared.item.Found.{Found}
 use Rattle.protocol_parts.specs.declared.rows.Cell.{Cell}
@@ -44,7 +43,7 @@ answer_of-last : (s : ℕ) (cs : List Cell) (c : Cell) → answer_of s (cs ++ c 
 unfolding answer_of
 answer_of-last s [] c = refl
 answer_of-last s (x ∷ cs) c = ap (λ (o : Option Found). if answers s x then Some (record { from = x.version; value = x.value }) else o) (answer_of-last s cs c)
-  ∙ sym (first_or (answers s x) (record { from = x.version; value = x.value }) (answer_of s cs) (if answers s c then Some (record { from = c.version; value = c.value }) else None))
+    ∙ sym (first_or (answers s x) (record { from = x.version; value = x.value }) (answer_of s cs) (if answers s c then Some (record { from = c.version; value = c.value }) else None))
 
 -- a row adds its answer behind those of the greater versions
 answer_of-row : (r : Row) (rs : List Row) (s k : ℕ) → answer_of s (fetched (r ∷ rs) k s) ≡ option_or (answer_of s (fetched rs k s)) (row_answer s k r)

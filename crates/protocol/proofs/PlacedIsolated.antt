@@ -1,12 +1,12 @@
 -- A commit that is placed keeps isolation.
-use Rattle.std.proofs.Common.{◌≡◌, ◌≢◌, ℕ, ◌+◌, ◌<◌, ◌≤◌, List, [], ◌∷◌, ◌++◌, Option, Some, None, ◌⊎◌, inl, inr, refl, sym, subst, ap, ◌∙◌, arith}
+use Rattle.std.proofs.Common.{◌≡◌, ℕ, ◌+◌, ◌<◌, ◌≤◌, List, [], ◌∷◌, ◌++◌, ◌⊎◌, inl, inr, refl, sym, subst, ap, ◌∙◌, arith}
 use Rattle.history_book.specs.Members.{◌∈◌}
 use Rattle.history_book.specs.Isolation.{last_write, Wrote, Committed, Apart, RightRead, NewStamps, Stamped, StartsAbove, Isolated}
 use Rattle.history_book.specs.declared.item.Item.{Item}
 use Rattle.history_book.specs.declared.item.Item.TheVariants.{Begin, Placed}
 use Rattle.history_book.proofs.MemberLemmas.{in_front, in_push, in_old, AtEach-push}
 use Rattle.protocol.specs.Invariant.{AreDrawn}
-use Rattle.protocol.proofs.StableReads.{SameBelow, reads-same, WritesNothing, last_write-same}
+use Rattle.protocol.proofs.StableReads.{SameBelow, reads-same, last_write-same}
 
 -- what isolation asks of a commit at the stamp after the last one
 pub record MayCommit (last : ℕ) (h : List Item) (t : ℕ) : Type 0 where
@@ -48,7 +48,8 @@ placed_stamped last h t may drawn all =
     record {
       distinct = AtEach-push NewStamps h x all.distinct (λ u c m. (
         λ e. may.unplaced c (subst (λ (y : ℕ). Committed h y c) e m),
-        λ e. let low : c ≤ last = drawn.up_to (Placed u c) m in omega arith));
+        λ e. let low : c ≤ last = drawn.up_to (Placed u c) m in omega arith,
+      ));
       no_start_commits = λ i u y m m'.
           let was : Begin i u ∈ h = in_old _ x h (λ e. cc) m in
           elim (placed_cases h t n y u m') [

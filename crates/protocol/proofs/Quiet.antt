@@ -1,7 +1,6 @@
 -- Items that tell isolation nothing, and what the groups of facts keep under one more item.
-use Rattle.std.proofs.Common.{◌≡◌, ℕ, ◌≤◌, List, [], ◌∷◌, ◌++◌, Option, Some, None, ◌⊎◌, inl, inr, refl, sym, subst, ap, ◌∙◌, arith}
-use Rattle.history_book.specs.Members.{◌∈◌, AtEach}
-use Rattle.history_book.specs.Isolation.{last_write, written_by, Wrote, Committed, RightRead, NewStamps, StartsAbove}
+use Rattle.std.proofs.Common.{◌≡◌, ℕ, List, [], ◌∷◌, ◌++◌, Option, Some, None, inl, inr, refl, sym, subst, ap, ◌∙◌}
+use Rattle.history_book.specs.Isolation.{written_by, Committed, RightRead, NewStamps, StartsAbove}
 use Rattle.history_book.specs.declared.item.Item.{Item}
 use Rattle.history_book.specs.declared.item.Item.TheVariants.{Begin, Write, Read, Placed}
 use Rattle.history_book.proofs.MemberLemmas.{in_front, in_push, in_old, AtEach-push}
@@ -9,8 +8,8 @@ use Rattle.protocol_parts.specs.Rows.{Row}
 use Rattle.protocol.specs.declared.state.Transaction.{Transaction}
 use Rattle.protocol.specs.declared.state.Latest.{Latest}
 use Rattle.protocol.specs.State.{State}
-use Rattle.protocol.specs.Explained.{DrawnFor, Shown, Explained}
-use Rattle.protocol.specs.Invariant.{IsUpTo, AreDrawn, AreOpen, AreKeys, cell_with, AreOpenCells, ArePlacedCells, AreCells, Covers, AreLatest, Holds}
+use Rattle.protocol.specs.Explained.{DrawnFor, Shown}
+use Rattle.protocol.specs.Invariant.{IsUpTo, AreDrawn, AreOpen, AreKeys, cell_with, AreOpenCells, ArePlacedCells, AreCells, AreLatest, Holds}
 use Rattle.protocol.proofs.StableReads.{Suits, suits-isolated, WritesNothing, last_write-same, Wrote-push}
 
 -- one more item, none of whose stamps is above the last

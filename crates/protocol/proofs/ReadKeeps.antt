@@ -1,12 +1,11 @@
 -- A read keeps what holds: it answers with what is visible in the whole history, or with its own write.
-use Rattle.std.proofs.Common.{◌≡◌, ◌≢◌, ℕ, ◌<◌, ◌≤◌, ◌==◌, nat_lt, Bool, true, false, ◌||◌, List, [], ◌∷◌, ◌++◌, Option, Some, None, ◌⊎◌, inl, inr, refl, sym, subst, ap, ◌∙◌, arith}
-use Rattle.std.proofs.lemmas.Bool.{cases_eq, cases_order, cases_Bool, ltb-true, lt-ltb, eq-eqb, ne_eqb}
+use Rattle.std.proofs.Common.{◌≡◌, ℕ, ◌<◌, ◌≤◌, ◌==◌, Bool, true, false, ◌||◌, List, [], ◌∷◌, ◌++◌, Option, Some, None, inl, inr, refl, sym, subst, ap, ◌∙◌, arith}
+use Rattle.std.proofs.lemmas.Bool.{cases_eq, ltb-true, lt-ltb, eq-eqb, ne_eqb}
 use Rattle.std.proofs.lemmas.Option.{none-some, same_Some}
-use Rattle.history_book.specs.Members.{◌∈◌}
-use Rattle.history_book.specs.Isolation.{last_write, Wrote, Committed, Candidate, Newest, Visible, RightAnswer, Isolated}
+use Rattle.history_book.specs.Isolation.{last_write, Wrote, Committed, Candidate, Visible, RightAnswer, Isolated}
 use Rattle.history_book.specs.declared.item.Found.{Found}
 use Rattle.history_book.specs.declared.item.Item.{Item}
-use Rattle.history_book.specs.declared.item.Item.TheVariants.{Read, Begin, Placed}
+use Rattle.history_book.specs.declared.item.Item.TheVariants.{Read, Begin}
 use Rattle.history_book.proofs.MemberLemmas.{in_front, in_old}
 use Rattle.protocol_parts.specs.declared.rows.Cell.{Cell}
 use Rattle.protocol_parts.specs.Rows.{Row, fetched, looked}
@@ -15,9 +14,9 @@ use Rattle.protocol.specs.declared.state.Transaction.{Transaction}
 use Rattle.protocol.specs.State.{State}
 use Rattle.protocol.specs.ReadStep.{is_below, answers, answer_of}
 use Rattle.protocol.specs.Invariant.{IsOpen, cell_with, ArePlacedCells, AreCells, Holds}
-use Rattle.protocol.proofs.StableReads.{SameBelow, Visible-same, Suits, suits-same, WritesNothing, last_write-same}
+use Rattle.protocol.proofs.StableReads.{SameBelow, Visible-same, WritesNothing, last_write-same}
 use Rattle.protocol.proofs.Quiet.{plain_holds}
-use Rattle.protocol.proofs.NewestCell.{MayAnswer, IsNewest, Tells, newest_tells}
+use Rattle.protocol.proofs.NewestCell.{MayAnswer, Tells, newest_tells}
 
 -- what a cell with a written value has
 cell_value : (t : ℕ) (shadow : Option ℕ) (o : Option (List ℕ)) (cell : Cell) → cell_with t shadow o ≡ Some cell → o ≡ Some cell.value
@@ -131,8 +130,8 @@ read_keeps w h s t k opened all =
     let tells : Tells w.rows t.start k answer = newest_tells w.rows t.start k all.cells.ordered in
     let cell : looked w.rows k t.start ≡ cell_with t.start None (last_write h t.start k) = all.open_cells.bare s k t opened in
     let right : RightAnswer g h t.start k answer (last_write h t.start k) = right_from g h t.start k answer (last_write h t.start k)
-      (λ e. Visible-same w.last h g same t.start k low answer (visible_from w.last w.rows h all.placed_cells all.cells all.isolated t.start k (cell ∙ ap (cell_with t.start None) e) answer tells))
-      (λ v e. own_answer w.rows t.start k v (cell ∙ ap (cell_with t.start None) e) answer tells) in
+    (λ e. Visible-same w.last h g same t.start k low answer (visible_from w.last w.rows h all.placed_cells all.cells all.isolated t.start k (cell ∙ ap (cell_with t.start None) e) answer tells))
+    (λ v e. own_answer w.rows t.start k v (cell ∙ ap (cell_with t.start None) e) answer tells) in
     plain_holds w h x (record { no_commit = λ u c e. cc; no_write = none }) low (record {
       no_commit = λ u c e. cc;
       values = same.values;

@@ -1,8 +1,8 @@
 -- Reads that were right stay right: nothing that a read below a bound looks at changes any more.
-use Rattle.std.proofs.Common.{◌≡◌, ◌≢◌, ℕ, ◌<◌, ◌≤◌, List, [], ◌∷◌, ◌++◌, Option, Some, None, ◌⊎◌, inl, inr, refl, sym, ap, ◌∙◌, arith}
+use Rattle.std.proofs.Common.{◌≡◌, ℕ, ◌<◌, ◌≤◌, List, [], ◌∷◌, ◌++◌, Option, Some, None, inl, inr, refl, sym, ap, ◌∙◌, arith}
 use Rattle.std.specs.Option.{option_or}
 use Rattle.history_book.specs.Members.{◌∈◌, AtEach}
-use Rattle.history_book.specs.Isolation.{last_write, written_by, Wrote, Committed, Candidate, Newest, Visible, WasListed, RightAnswer, RightRead, Apart, NewStamps, Stamped, StartsAbove, Isolated}
+use Rattle.history_book.specs.Isolation.{last_write, written_by, Wrote, Committed, Candidate, Visible, RightAnswer, RightRead, NewStamps, StartsAbove, Isolated}
 use Rattle.history_book.specs.declared.item.Found.{Found}
 use Rattle.history_book.specs.declared.item.Item.{Item}
 use Rattle.history_book.specs.declared.item.Item.TheVariants.{Begin, Read, Placed}

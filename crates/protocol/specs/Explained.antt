@@ -33,26 +33,24 @@ pub record DrawnFor (h : List Item) (term key commit : ℕ) : Type 0 where
   pub drawn : Draw session node term writer (Some commit) ∈ h
   pub wrote : (value : List ℕ) × Wrote h writer key value
 
--- The session asked for the commit of a transaction, and a commit above its start was drawn for one that
--- wrote the key. The one oracle has the term 1.
-pub record ShownConflict (before : List Item) (session key by : ℕ) : Type 0 where
+-- The refused actor is a session that asked for the commit of a transaction, and a commit above its start was
+-- drawn for one that wrote the key. The one oracle has the term 1.
+pub record ShownConflict (before : List Item) (actor : Actor) (key by : ℕ) : Type 0 where
+  pub session : ℕ
+  pub refused : actor ≡ Session session
   pub node : ℕ
   pub start : ℕ
   pub asked : last_ask before session ≡ Some (record { node = node; start = Some start })
   pub above : start < by
   pub drawn : DrawnFor before 1 key by
 
--- what shows a session's refusal with the cause
-abbrev pub ShownCause : List Item → ℕ → Cause → Type 0
-ShownCause before s (Conflict key by) = ShownConflict before s key by
-ShownCause before s _ = Unit {0}
-
-abbrev pub ShownTo : List Item → Actor → Cause → Type 0
-ShownTo before (Session s) cause = ShownCause before s cause
-ShownTo before _ cause = Unit {0}
+-- what shows the actor's refusal with the cause
+abbrev pub ShownCause : List Item → Actor → Cause → Type 0
+ShownCause before actor (Conflict key by) = ShownConflict before actor key by
+ShownCause before actor _ = Unit {0}
 
 abbrev pub Shown : List Item → Item → Type 0
-Shown before (Refused actor cause) = ShownTo before actor cause
+Shown before (Refused actor cause) = ShownCause before actor cause
 Shown before _ = Unit {0}
 
 -- each refusal of the history is shown by what stands before it

@@ -7,3 +7,4 @@ pub mod CommitStep
 pub mod Machine
 pub mod Explained
 pub mod Invariant
+pub mod Laws

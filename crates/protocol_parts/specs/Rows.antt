@@ -26,15 +26,15 @@ is_before r k t = if r.key == k then nat_lt r.version t else nat_lt r.key k
 unfoldable pub put_row : List Row → ℕ → ℕ → List ℕ → List Row
 put_row [] k t v = bare_row k t v ∷ []
 put_row (r ∷ rs) k t v =
-  if is_row k t r then record r { value = v } ∷ rs
-  else if is_before r k t then r ∷ put_row rs k t v
-  else bare_row k t v ∷ r ∷ rs
+    if is_row k t r then record r { value = v } ∷ rs
+    else if is_before r k t then r ∷ put_row rs k t v
+    else bare_row k t v ∷ r ∷ rs
 
 -- a fetch gives the key's cells of version at most upto, the greatest version first
 unfoldable pub fetched : List Row → ℕ → ℕ → List Cell
 fetched [] k upto = []
 fetched (r ∷ rs) k upto =
-  if (r.key == k) && nat_le r.version upto then fetched rs k upto ++ cell_of r ∷ [] else fetched rs k upto
+    if (r.key == k) && nat_le r.version upto then fetched rs k upto ++ cell_of r ∷ [] else fetched rs k upto
 
 -- a look gives the cell of the key and the version, where there is one
 unfoldable pub looked : List Row → ℕ → ℕ → Option Cell
