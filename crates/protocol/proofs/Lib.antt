@@ -11,3 +11,4 @@ pub mod PlacedIsolated
 pub mod CommitKeeps
 pub mod Always
 pub mod Conditions
+pub mod WorkedHistories

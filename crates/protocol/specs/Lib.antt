@@ -8,3 +8,4 @@ pub mod Machine
 pub mod Explained
 pub mod Invariant
 pub mod Laws
+pub mod WorkedHistories

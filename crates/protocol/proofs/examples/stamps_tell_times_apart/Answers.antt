@@ -1,0 +1,11 @@
+use Rattle.protocol.proofs.WorkedHistories.{stale_not_fresh, asked_fresh, one_commit_wrong, one_start_wrong, start_as_commit_wrong}
+use Rattle.protocol.proofs.examples.stamps_tell_times_apart.Goals as goal
+
+pub returns : goal.returns
+returns c = record {
+  stale = stale_not_fresh;
+  asked_before = asked_fresh;
+  commits = one_commit_wrong;
+  starts = one_start_wrong;
+  start_and_commit = start_as_commit_wrong;
+}

@@ -1,0 +1,61 @@
+-- Small histories that are, and that are not, what isolation asks for.
+use Rattle.std.specs.Prelude.{ℕ, List, [], ◌∷◌, Option, None, Some}
+use Rattle.history_book.specs.declared.cause.Cause.TheVariants.{Conflict}
+use Rattle.history_book.specs.declared.item.Actor.TheVariants.{Session}
+use Rattle.history_book.specs.declared.item.Found.{Found}
+use Rattle.history_book.specs.declared.item.Item.{Item}
+use Rattle.history_book.specs.declared.item.Item.TheVariants.{Take, AskBegin, Draw, Begin, Write, Read, AskCommit, Placed, Committed, Refused}
+use Rattle.protocol.specs.Machine.{Event, Takes, Begins, Writes, Commits}
+
+-- two values of one letter
+abbrev pub p : List ℕ
+p = 112 ∷ []
+
+abbrev pub q : List ℕ
+q = 113 ∷ []
+
+-- two sessions write one key, and the second to commit is refused
+abbrev pub conflict_events : List Event
+conflict_events = Takes 0 ∷ Begins 0 0 ∷ Begins 1 0 ∷ Writes 0 0 p ∷ Writes 1 0 q ∷ Commits 0 0 ∷ Commits 1 0 ∷ []
+
+abbrev pub conflict_history : List Item
+conflict_history =
+    Take 0 0 1 0 10 100
+    ∷ AskBegin 0 0 ∷ Draw 0 0 1 1 None ∷ Begin 0 1
+    ∷ AskBegin 1 0 ∷ Draw 1 0 1 2 None ∷ Begin 1 2
+    ∷ Write 0 1 0 p ∷ Write 1 2 0 q
+    ∷ AskCommit 0 0 1 ∷ Draw 0 0 1 1 (Some 3) ∷ Placed 1 3 ∷ Committed 0 1 3
+    ∷ AskCommit 1 0 2 ∷ Refused (Session 1) (Conflict 0 3)
+    ∷ []
+
+-- both writers of the key committed, though neither committed below the other's start
+abbrev pub both_committed : List Item
+both_committed = Write 0 1 0 p ∷ Write 1 2 0 q ∷ Placed 1 3 ∷ Placed 2 4 ∷ []
+
+-- the transaction with the start 4 reads the key, and a commit below its start is placed later
+abbrev pub read_of : Option Found → List Item
+read_of answer = Write 0 1 0 p ∷ Read 1 4 0 answer ∷ Placed 1 3 ∷ []
+
+abbrev pub from_first : Found
+from_first = record { from = 1; value = p }
+
+-- a transaction reads the key that it wrote, and the answer is another's version
+abbrev pub own_write_missed : List Item
+own_write_missed = Write 0 1 0 p ∷ Placed 1 2 ∷ Write 1 3 0 q ∷ Read 1 3 0 (Some from_first) ∷ []
+
+-- a begin below a commit that was placed before its ask, and one whose ask came first
+abbrev pub stale_begin : List Item
+stale_begin = Placed 1 3 ∷ AskBegin 1 0 ∷ Begin 1 2 ∷ []
+
+abbrev pub asked_before : List Item
+asked_before = AskBegin 1 0 ∷ Placed 1 3 ∷ Begin 1 2 ∷ []
+
+-- stamps that stand for two things
+abbrev pub one_commit_of_two : List Item
+one_commit_of_two = Placed 1 3 ∷ Placed 2 3 ∷ []
+
+abbrev pub one_start_of_two : List Item
+one_start_of_two = Begin 0 1 ∷ Begin 1 1 ∷ []
+
+abbrev pub start_as_commit : List Item
+start_as_commit = Begin 0 3 ∷ Placed 1 3 ∷ []
