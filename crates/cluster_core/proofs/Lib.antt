@@ -1,0 +1,3 @@
+pub mod LatestLemmas
+pub mod ShadowLemmas
+pub mod WriteListLemmas
