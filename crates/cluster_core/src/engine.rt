@@ -1,5 +1,5 @@
 // The engine of one oracle: each event leaves the state of the protocol's step, and appends its items.
-ghost use Rattle.std.specs.Prelude.{◌≡◌, ◌+◌, ◌<◌, ◌≤◌, ◌^◌, ◌∷◌, [], IfOk, ℕ};
+ghost use Rattle.std.specs.Prelude.{◌≡◌, ℕ, ◌+◌, ◌*◌, ◌<◌, ◌≤◌, [], length};
 ghost use Rattle.protocol.specs.State.{opening, refusal};
 ghost use Rattle.protocol.specs.BeginStep.{begin_asked};
 ghost use Rattle.protocol.specs.WriteStep.{write_key};
@@ -13,7 +13,7 @@ use crate::{calm, cells, latest, write_list, Stopped};
 use cell_store::Cells;
 use history_book::{Actor, Book, Cause, Ending, Item};
 use protocol::{Latest, Transaction};
-use stamp_base::{KeyList, KeyNo, NoMemory, NodeNo, SessionNo, Stamp, Term, Value};
+use stamp_base::{KeyList, KeyNo, NodeNo, SessionNo, Stamp, Term, Value};
 use std::alloc::Global;
 use std::marker::Model;
 
@@ -38,9 +38,10 @@ impl Model for Engine {
 
     ghost view = { whole_of };
 
-    ghost use Rattle.std.specs.Prelude.{◌≤◌, ◌^◌};
+    ghost use Rattle.std.specs.Prelude.{◌≤◌, ◌*◌, length};
 
-    ghost invariant = { λ e. e.last ≤ 2 ^ 62 };
+    // Each stamp has three items at least: a begin's or a commit's.
+    ghost invariant = { λ e. 3 * e.last ≤ length e.book.items };
 }
 
 impl Engine {
@@ -108,7 +109,7 @@ impl Engine {
         if !has_oracle(self.oracle, node) {
             return self.refuse(Actor::Session(session), Cause::NoOracle { node });
         }
-        let start = next_stamp(self.last)?;
+        let start = next_stamp(self.last, &self.book);
         self.book.append_all(&[
             Item::AskBegin { session, node },
             Item::Draw {
@@ -259,7 +260,7 @@ impl Engine {
     {
         let start = txn.start;
         let keys = txn.keys.as_slice();
-        let commit = next_stamp(self.last)?;
+        let commit = next_stamp(self.last, &self.book);
         self.latest.reserve(keys.len())?;
         self.book.append_all(&[
             Item::AskCommit {
@@ -327,13 +328,14 @@ fn first_term() -> Term
     }
 }
 
-/// The stamp after the last one. No memory holds the history of so many stamps that there is none.
-fn next_stamp(last: u64) -> Result<Stamp, NoMemory>
-    requires { last ≤ 2 ^ 62 }
-    ensures { IfOk result (λ stamp. stamp ≡ last + 1) }
+/// The stamp after the last one. There is one, since the book has three items for each stamp.
+fn next_stamp(last: u64, book: &Book) -> Stamp
+    requires { 3 * last ≤ length book.now.items }
+    ensures { result ≡ last + 1 }
 {
+    let _items = book.items();
     match Stamp::new(last + 1) {
-        Some(stamp) => Ok(stamp),
-        None => Err(NoMemory),
+        Some(stamp) => stamp,
+        None => unreachable!(),
     }
 }
