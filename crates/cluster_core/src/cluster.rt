@@ -1,8 +1,8 @@
 ghost use Rattle.std.specs.Prelude.{◌≡◌, [], IfOk};
 ghost use Rattle.cluster_core.specs.Events.{opening, stepped, Takes, Begins, Writes, Reads, Commits, Isolated, Explained};
 
-use crate::engine::Engine;
 use crate::Stopped;
+use crate::engine::Engine;
 use history_book::Item;
 use stamp_base::{KeyNo, NoMemory, NodeNo, SessionNo, Setup, Value};
 use std::alloc::Global;
@@ -68,7 +68,12 @@ impl Cluster {
 
     /// The session's transaction writes the value at the key. Refused as NoTransaction where it has none open, else
     /// as TooManyKeys where it wrote 64 other keys.
-    pub fn write_whole(&mut self, session: SessionNo, key: KeyNo, value: Value) -> Result<(), Stopped>
+    pub fn write_whole(
+        &mut self,
+        session: SessionNo,
+        key: KeyNo,
+        value: Value,
+    ) -> Result<(), Stopped>
         ensures { Makes self.old (stepped self.old.state (Writes session key value)) self.new result }
     {
         self.engine.write_whole(session, key, value)

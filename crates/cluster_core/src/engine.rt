@@ -9,7 +9,7 @@ ghost use Rattle.protocol.specs.CommitStep as commit_step;
 ghost use Rattle.protocol.specs.WriteStep as write_step;
 ghost use Rattle.protocol.specs.Machine.{stepped, Takes, Begins, Writes, Reads, Commits};
 
-use crate::{calm, cells, latest, write_list, Stopped};
+use crate::{Stopped, calm, cells, latest, write_list};
 use cell_store::Cells;
 use history_book::{Actor, Book, Cause, Ending, Item};
 use protocol::{Latest, Transaction};
@@ -130,7 +130,12 @@ impl Engine {
     }
 
     /// Writes a value at a key, in the session's transaction.
-    pub fn write_whole(&mut self, session: SessionNo, key: KeyNo, value: Value) -> Result<(), Stopped>
+    pub fn write_whole(
+        &mut self,
+        session: SessionNo,
+        key: KeyNo,
+        value: Value,
+    ) -> Result<(), Stopped>
         requires { OpenRowsAreBare self.old.state }
         ensures { Makes self.old (stepped self.old.state (Writes session key value)) self.new result }
     {
@@ -140,7 +145,13 @@ impl Engine {
         }
     }
 
-    fn write_open(&mut self, session: SessionNo, txn: Transaction, key: KeyNo, value: Value) -> Result<(), Stopped>
+    fn write_open(
+        &mut self,
+        session: SessionNo,
+        txn: Transaction,
+        key: KeyNo,
+        value: Value,
+    ) -> Result<(), Stopped>
         requires { IsBare self.old.state.rows key txn.start }
         ensures { Makes self.old
             (write_key self.old.state session txn key value (write_step.with_key txn.keys key)) self.new result }
@@ -196,7 +207,12 @@ impl Engine {
         }
     }
 
-    fn commit_open(&mut self, session: SessionNo, node: NodeNo, txn: Transaction) -> Result<(), Stopped>
+    fn commit_open(
+        &mut self,
+        session: SessionNo,
+        node: NodeNo,
+        txn: Transaction,
+    ) -> Result<(), Stopped>
         requires { (k : ℕ) → IsBare self.old.state.rows k txn.start }
         ensures { Makes self.old (commit_open self.old.state session node txn txn.keys) self.new result }
     {
@@ -214,7 +230,12 @@ impl Engine {
         }
     }
 
-    fn commit_writes(&mut self, session: SessionNo, node: NodeNo, txn: Transaction) -> Result<(), Stopped>
+    fn commit_writes(
+        &mut self,
+        session: SessionNo,
+        node: NodeNo,
+        txn: Transaction,
+    ) -> Result<(), Stopped>
         requires { (k : ℕ) → IsBare self.old.state.rows k txn.start }
         ensures { Makes self.old
             (commit_asked self.old.state session node txn (begin_step.has_oracle self.old.state.oracle node)) self.new result }
@@ -228,7 +249,13 @@ impl Engine {
         }
     }
 
-    fn undo(&mut self, session: SessionNo, node: NodeNo, txn: Transaction, found: Latest) -> Result<(), Stopped>
+    fn undo(
+        &mut self,
+        session: SessionNo,
+        node: NodeNo,
+        txn: Transaction,
+        found: Latest,
+    ) -> Result<(), Stopped>
         ensures { Makes self.old (commit_decided self.old.state session node txn (Some found)) self.new result }
     {
         let cause = Cause::Conflict {
@@ -238,17 +265,16 @@ impl Engine {
         let shown = cause;
         let start = txn.start;
         let keys = txn.keys.as_slice();
-        self.book.append_all(&[
-            Item::AskCommit {
-                session,
-                node,
-                start,
-            },
-            Item::Refused {
-                actor: Actor::Session(session),
-                cause: shown,
-            },
-        ])?;
+        let asked = Item::AskCommit {
+            session,
+            node,
+            start,
+        };
+        let refused = Item::Refused {
+            actor: Actor::Session(session),
+            cause: shown,
+        };
+        self.book.append_all(&[asked, refused])?;
         cells::erase_all(&mut self.cells, keys, start);
         self.sessions[place_of(session)] = None;
         Err(Stopped::Refused(cause))
@@ -262,26 +288,25 @@ impl Engine {
         let keys = txn.keys.as_slice();
         let commit = next_stamp(self.last, &self.book);
         self.latest.reserve(keys.len())?;
-        self.book.append_all(&[
-            Item::AskCommit {
-                session,
-                node,
-                start,
-            },
-            Item::Draw {
-                session,
-                node,
-                term: first_term(),
-                start,
-                commit: Some(commit),
-            },
-            Item::Placed { start, commit },
-            Item::Committed {
-                session,
-                start,
-                commit,
-            },
-        ])?;
+        let asked = Item::AskCommit {
+            session,
+            node,
+            start,
+        };
+        let drawn = Item::Draw {
+            session,
+            node,
+            term: first_term(),
+            start,
+            commit: Some(commit),
+        };
+        let placed = Item::Placed { start, commit };
+        let committed = Item::Committed {
+            session,
+            start,
+            commit,
+        };
+        self.book.append_all(&[asked, drawn, placed, committed])?;
         self.last = commit.value();
         self.sessions[place_of(session)] = None;
         cells::shadow_all(&mut self.cells, keys, start, commit);

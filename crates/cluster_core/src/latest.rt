@@ -36,7 +36,11 @@ fn above(start: Stamp, key: KeyNo, commit: Option<Stamp>) -> Option<Latest>
 {
     match commit {
         None => None,
-        Some(commit) => if start < commit { Some(Latest { key, commit }) } else { None },
+        Some(commit) => if start < commit {
+            Some(Latest { key, commit })
+        } else {
+            None
+        },
     }
 }
 

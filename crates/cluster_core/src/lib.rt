@@ -11,3 +11,6 @@ mod write_list;
 
 pub use cluster::Cluster;
 pub use stopped::Stopped;
+
+#[cfg(test)]
+mod tests;
