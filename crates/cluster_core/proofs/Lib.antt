@@ -1,0 +1,4 @@
+pub mod Kept
+pub mod LatestLemmas
+pub mod ShadowLemmas
+pub mod WriteListLemmas

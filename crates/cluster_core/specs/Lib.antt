@@ -1,0 +1,4 @@
+pub mod Whole
+pub mod Events
+pub mod Fields
+pub mod OpenRows

@@ -1,0 +1,62 @@
+// What a commit does to the rows of its transaction, and what a read takes from the cells that it fetched.
+ghost use Rattle.std.specs.Prelude.{◌≡◌, ℕ};
+ghost use Rattle.protocol.specs.CommitStep.{all_shadowed, all_erased};
+ghost use Rattle.protocol.specs.ReadStep as read_step;
+ghost use Rattle.cluster_core.specs.OpenRows.{HasOnly};
+
+use crate::calm;
+use cell_store::{Cell, Cells};
+use history_book::Found;
+use stamp_base::{KeyNo, Stamp};
+
+/// Gives each of the version's rows of these keys the commit as its shadow.
+#[tactic(auto, unfolding(protocol::specs::CommitStep::all_shadowed))]
+pub fn shadow_all(cells: &mut Cells, keys: &[KeyNo], version: Stamp, commit: Stamp)
+    requires { (k : ℕ) → HasOnly cells.old.rows k version commit }
+    ensures { cells.new.rows ≡ all_shadowed cells.old.rows keys.now version commit }
+{
+    for key in keys {
+        calm::set_shadow(cells, *key, version, commit);
+    }
+}
+
+/// Removes the version's bare rows of these keys.
+#[tactic(auto, unfolding(protocol::specs::CommitStep::all_erased))]
+pub fn erase_all(cells: &mut Cells, keys: &[KeyNo], version: Stamp)
+    ensures { cells.new.rows ≡ all_erased cells.old.rows keys.now version }
+{
+    for key in keys {
+        calm::remove_bare(cells, *key, version);
+    }
+}
+
+/// What the first cell that a reader with this start may answer with has.
+#[tactic(auto, unfolding(protocol::specs::ReadStep::answer_of))]
+pub fn answer_of(start: Stamp, cells: &[Cell]) -> Option<Found>
+    ensures { result ≡ read_step.answer_of start cells.now }
+{
+    for cell in cells {
+        if answers(start, cell) {
+            return Some(Found {
+                from: cell.version,
+                value: cell.value,
+            });
+        }
+    }
+    None
+}
+
+fn answers(start: Stamp, cell: &Cell) -> bool
+    ensures { result ≡ read_step.answers start cell.now }
+{
+    cell.version == start || is_below(cell.shadow, start)
+}
+
+fn is_below(commit: Option<Stamp>, start: Stamp) -> bool
+    ensures { result ≡ read_step.is_below commit start }
+{
+    match commit {
+        None => false,
+        Some(commit) => commit < start,
+    }
+}
