@@ -16,3 +16,6 @@ mod words;
 pub use cause::{ScriptCause, ScriptFault};
 pub use reading::{BYTE_LIMIT, LINE_LIMIT, read_script};
 pub use script::{Line, Mode, Script, Target, Verb};
+
+#[cfg(test)]
+mod tests;
