@@ -1,5 +1,6 @@
 ghost use Rattle.std.specs.Prelude.{◌≡◌, ◌+◌, ◌≤◌, ◌++◌, length};
 ghost use Rattle.history_book.specs.Text.{body_of, text_of};
+ghost use Rattle.history_book.specs.Fits.{FitsItem};
 
 mod causes;
 mod kinds;
@@ -19,6 +20,7 @@ use steps::print_step;
 /// Leaves the item's line in the buffer, and nothing else.
 pub fn print_item(item: &Item, line: &mut LineBuf)
     ensures text { line.new ≡ text_of item.now }
+    ensures fits { FitsItem item.now }
     ensures room { length (text_of item.now) ≤ 256 }
 {
     print_body(item, line);
@@ -26,8 +28,9 @@ pub fn print_item(item: &Item, line: &mut LineBuf)
 }
 
 /// Leaves the item's line without its line feed in the buffer.
-fn print_body(item: &Item, line: &mut LineBuf)
+pub fn print_body(item: &Item, line: &mut LineBuf)
     ensures text { line.new ≡ body_of item.now }
+    ensures fits { FitsItem item.now }
     ensures len { length line.new ≤ 200 }
 {
     match *item {

@@ -2,6 +2,7 @@ ghost use Rattle.std.specs.Prelude.{◌≡◌, ◌+◌, ◌≤◌, ◌++◌, len
 ghost use Rattle.history_book.specs.Text.{body_of};
 ghost use Rattle.history_book.specs.CauseText.{cause_text};
 ghost use Rattle.history_book.specs.declared.item.Item.TheVariants.{Refused};
+ghost use Rattle.history_book.specs.Fits.{FitsCause, FitsItem};
 
 use super::words::{print_actor, print_node, print_one, print_two};
 use crate::cause::Cause;
@@ -11,6 +12,7 @@ use stamp_base::{NodeNo, Term};
 
 pub fn print_refused(actor: Actor, cause: Cause, line: &mut LineBuf)
     ensures text { line.new ≡ body_of (Refused actor cause) }
+    ensures fits { FitsItem (Refused actor cause) }
     ensures len { length line.new ≤ 200 }
 {
     line.set_text(b"refused ");
@@ -23,6 +25,7 @@ pub fn print_refused(actor: Actor, cause: Cause, line: &mut LineBuf)
 fn print_cause(cause: Cause, line: &mut LineBuf)
     requires { length line.old + 100 ≤ 256 }
     ensures text { line.new ≡ line.old ++ cause_text cause }
+    ensures fits { FitsCause cause }
     ensures len { length line.new ≤ length line.old + 100 }
 {
     match cause {
@@ -66,6 +69,7 @@ fn print_cause(cause: Cause, line: &mut LineBuf)
 fn print_crashed(node: NodeNo, term: Term, line: &mut LineBuf)
     requires { length line.old + 40 ≤ 256 }
     ensures text { line.new ≡ line.old ++ cause_text (Cause.Crashed node term) }
+    ensures fits { FitsCause (Cause.Crashed node term) }
     ensures len { length line.new ≤ length line.old + 40 }
 {
     line.push_text(b"crashed node=");
@@ -76,6 +80,7 @@ fn print_crashed(node: NodeNo, term: Term, line: &mut LineBuf)
 fn print_no_oracle(node: NodeNo, line: &mut LineBuf)
     requires { length line.old + 16 ≤ 256 }
     ensures text { line.new ≡ line.old ++ cause_text (Cause.NoOracle node) }
+    ensures fits { FitsCause (Cause.NoOracle node) }
     ensures len { length line.new ≤ length line.old + 16 }
 {
     line.push_text(b"no-oracle node=");

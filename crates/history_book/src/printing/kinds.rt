@@ -1,6 +1,7 @@
 ghost use Rattle.std.specs.Prelude.{◌≡◌, ◌+◌, ◌≤◌, ◌++◌, length};
 ghost use Rattle.history_book.specs.Text.{body_of, note_text, answer_text, commit_text, ending_text};
 ghost use Rattle.history_book.specs.declared.item.Item.TheVariants as item;
+ghost use Rattle.history_book.specs.Fits.{FitsAnswer, FitsCommit, FitsItem, FitsNote};
 
 // A function for each kind of item: it leaves the item's words in the line, and nothing else.
 use super::words::{
@@ -13,6 +14,7 @@ use stamp_base::{KeyNo, NodeNo, SessionNo, Stamp, Term, Value};
 
 pub fn print_note(actor: Actor, note: Note, line: &mut LineBuf)
     ensures text { line.new ≡ body_of (item.Note actor note) }
+    ensures fits { FitsItem (item.Note actor note) }
     ensures len { length line.new ≤ 200 }
 {
     line.set_text(b"note ");
@@ -24,6 +26,7 @@ pub fn print_note(actor: Actor, note: Note, line: &mut LineBuf)
 fn print_note_text(note: Note, line: &mut LineBuf)
     requires { length line.old + 30 ≤ 256 }
     ensures text { line.new ≡ line.old ++ note_text note }
+    ensures fits { FitsNote note }
     ensures len { length line.new ≤ length line.old + 30 }
 {
     match note {
@@ -56,6 +59,7 @@ pub fn print_take(
     line: &mut LineBuf,
 )
     ensures text { line.new ≡ body_of (item.Take node reading term epoch until ceiling) }
+    ensures fits { FitsItem (item.Take node reading term epoch until ceiling) }
     ensures len { length line.new ≤ 200 }
 {
     line.set_text(b"take ");
@@ -69,6 +73,7 @@ pub fn print_take(
 
 pub fn print_renew(node: NodeNo, reading: u64, term: Term, until: u64, line: &mut LineBuf)
     ensures text { line.new ≡ body_of (item.Renew node reading term until) }
+    ensures fits { FitsItem (item.Renew node reading term until) }
     ensures len { length line.new ≤ 200 }
 {
     line.set_text(b"renew ");
@@ -80,6 +85,7 @@ pub fn print_renew(node: NodeNo, reading: u64, term: Term, until: u64, line: &mu
 
 pub fn print_extend(node: NodeNo, term: Term, ceiling: u64, line: &mut LineBuf)
     ensures text { line.new ≡ body_of (item.Extend node term ceiling) }
+    ensures fits { FitsItem (item.Extend node term ceiling) }
     ensures len { length line.new ≤ 200 }
 {
     line.set_text(b"extend ");
@@ -90,6 +96,7 @@ pub fn print_extend(node: NodeNo, term: Term, ceiling: u64, line: &mut LineBuf)
 
 pub fn print_ask_begin(session: SessionNo, node: NodeNo, line: &mut LineBuf)
     ensures text { line.new ≡ body_of (item.AskBegin session node) }
+    ensures fits { FitsItem (item.AskBegin session node) }
     ensures len { length line.new ≤ 200 }
 {
     line.set_text(b"ask-begin ");
@@ -100,6 +107,7 @@ pub fn print_ask_begin(session: SessionNo, node: NodeNo, line: &mut LineBuf)
 
 pub fn print_ask_commit(session: SessionNo, node: NodeNo, start: Stamp, line: &mut LineBuf)
     ensures text { line.new ≡ body_of (item.AskCommit session node start) }
+    ensures fits { FitsItem (item.AskCommit session node start) }
     ensures len { length line.new ≤ 200 }
 {
     line.set_text(b"ask-commit ");
@@ -111,6 +119,7 @@ pub fn print_ask_commit(session: SessionNo, node: NodeNo, start: Stamp, line: &m
 
 pub fn print_accept(session: SessionNo, node: NodeNo, term: Term, reading: u64, line: &mut LineBuf)
     ensures text { line.new ≡ body_of (item.Accept session node term reading) }
+    ensures fits { FitsItem (item.Accept session node term reading) }
     ensures len { length line.new ≤ 200 }
 {
     line.set_text(b"accept ");
@@ -130,6 +139,7 @@ pub fn print_draw(
     line: &mut LineBuf,
 )
     ensures text { line.new ≡ body_of (item.Draw session node term start commit) }
+    ensures fits { FitsItem (item.Draw session node term start commit) }
     ensures len { length line.new ≤ 200 }
 {
     line.set_text(b"draw ");
@@ -144,6 +154,7 @@ pub fn print_draw(
 fn print_commit(commit: Option<Stamp>, line: &mut LineBuf)
     requires { length line.old + 30 ≤ 256 }
     ensures text { line.new ≡ line.old ++ commit_text commit }
+    ensures fits { FitsCommit commit }
     ensures len { length line.new ≤ length line.old + 30 }
 {
     match commit {
@@ -154,6 +165,7 @@ fn print_commit(commit: Option<Stamp>, line: &mut LineBuf)
 
 pub fn print_begin(session: SessionNo, start: Stamp, line: &mut LineBuf)
     ensures text { line.new ≡ body_of (item.Begin session start) }
+    ensures fits { FitsItem (item.Begin session start) }
     ensures len { length line.new ≤ 200 }
 {
     line.set_text(b"begin ");
@@ -163,6 +175,7 @@ pub fn print_begin(session: SessionNo, start: Stamp, line: &mut LineBuf)
 
 pub fn print_write(session: SessionNo, start: Stamp, key: KeyNo, value: Value, line: &mut LineBuf)
     ensures text { line.new ≡ body_of (item.Write session start key value) }
+    ensures fits { FitsItem (item.Write session start key value) }
     ensures len { length line.new ≤ 200 }
 {
     line.set_text(b"write ");
@@ -182,6 +195,7 @@ pub fn print_read(
     line: &mut LineBuf,
 )
     ensures text { line.new ≡ body_of (item.Read session start key answer) }
+    ensures fits { FitsItem (item.Read session start key answer) }
     ensures len { length line.new ≤ 200 }
 {
     line.set_text(b"read ");
@@ -196,6 +210,7 @@ pub fn print_read(
 fn print_answer(answer: Option<Found>, line: &mut LineBuf)
     requires { length line.old + 100 ≤ 256 }
     ensures text { line.new ≡ line.old ++ answer_text answer }
+    ensures fits { FitsAnswer answer }
     ensures len { length line.new ≤ length line.old + 100 }
 {
     match answer {
@@ -207,6 +222,7 @@ fn print_answer(answer: Option<Found>, line: &mut LineBuf)
 fn print_found(found: Found, line: &mut LineBuf)
     requires { length line.old + 100 ≤ 256 }
     ensures text { line.new ≡ line.old ++ answer_text (Some found) }
+    ensures fits { FitsAnswer (Some found) }
     ensures len { length line.new ≤ length line.old + 100 }
 {
     line.push_field(b"from=", found.from.value());
@@ -216,6 +232,7 @@ fn print_found(found: Found, line: &mut LineBuf)
 
 pub fn print_placed(start: Stamp, commit: Stamp, line: &mut LineBuf)
     ensures text { line.new ≡ body_of (item.Placed start commit) }
+    ensures fits { FitsItem (item.Placed start commit) }
     ensures len { length line.new ≤ 200 }
 {
     line.set_text(b"placed start=");
@@ -225,6 +242,7 @@ pub fn print_placed(start: Stamp, commit: Stamp, line: &mut LineBuf)
 
 pub fn print_committed(session: SessionNo, start: Stamp, commit: Stamp, line: &mut LineBuf)
     ensures text { line.new ≡ body_of (item.Committed session start commit) }
+    ensures fits { FitsItem (item.Committed session start commit) }
     ensures len { length line.new ≤ 200 }
 {
     line.set_text(b"committed ");
@@ -235,6 +253,7 @@ pub fn print_committed(session: SessionNo, start: Stamp, commit: Stamp, line: &m
 
 pub fn print_mark(actor: Actor, start: Stamp, line: &mut LineBuf)
     ensures text { line.new ≡ body_of (item.Mark actor start) }
+    ensures fits { FitsItem (item.Mark actor start) }
     ensures len { length line.new ≤ 200 }
 {
     line.set_text(b"mark ");
@@ -244,6 +263,7 @@ pub fn print_mark(actor: Actor, start: Stamp, line: &mut LineBuf)
 
 pub fn print_end(session: SessionNo, start: Stamp, how: Ending, line: &mut LineBuf)
     ensures text { line.new ≡ body_of (item.End session start how) }
+    ensures fits { FitsItem (item.End session start how) }
     ensures len { length line.new ≤ 200 }
 {
     line.set_text(b"end ");
@@ -267,6 +287,7 @@ fn print_ending(how: Ending, line: &mut LineBuf)
 
 pub fn print_fault(actor: Actor, store: Store, line: &mut LineBuf)
     ensures text { line.new ≡ body_of (item.Fault actor store) }
+    ensures fits { FitsItem (item.Fault actor store) }
     ensures len { length line.new ≤ 200 }
 {
     line.set_text(b"fault ");
@@ -277,6 +298,7 @@ pub fn print_fault(actor: Actor, store: Store, line: &mut LineBuf)
 
 pub fn print_crash(node: NodeNo, term: Term, line: &mut LineBuf)
     ensures text { line.new ≡ body_of (item.Crash node term) }
+    ensures fits { FitsItem (item.Crash node term) }
     ensures len { length line.new ≤ 200 }
 {
     line.set_text(b"crash ");
@@ -286,6 +308,7 @@ pub fn print_crash(node: NodeNo, term: Term, line: &mut LineBuf)
 
 pub fn print_vanish(session: SessionNo, line: &mut LineBuf)
     ensures text { line.new ≡ body_of (item.Vanish session) }
+    ensures fits { FitsItem (item.Vanish session) }
     ensures len { length line.new ≤ 200 }
 {
     line.set_text(b"vanish ");

@@ -3,6 +3,7 @@ ghost use Rattle.history_book.specs.Text.{body_of};
 ghost use Rattle.history_book.specs.StepText.{mark_text, entry_text, seen_text, step_text};
 ghost use Rattle.history_book.specs.declared.item.Item.TheVariants.{Step};
 ghost use Rattle.history_book.specs.declared.item.StoreStep.TheVariants.{Get, MarkFound, Look, Shadow, PutFound};
+ghost use Rattle.history_book.specs.Fits.{FitsEntry, FitsItem, FitsMark, FitsSeen, FitsStep};
 
 use super::words::{print_actor, print_key, print_one, print_two};
 use crate::item::{Actor, Seen, StoreStep};
@@ -11,6 +12,7 @@ use stamp_base::{KeyNo, Mark, Stamp, TxnId};
 
 pub fn print_step(actor: Actor, what: StoreStep, line: &mut LineBuf)
     ensures text { line.new ≡ body_of (Step actor what) }
+    ensures fits { FitsItem (Step actor what) }
     ensures len { length line.new ≤ 200 }
 {
     line.set_text(b"step ");
@@ -23,6 +25,7 @@ pub fn print_step(actor: Actor, what: StoreStep, line: &mut LineBuf)
 fn print_what(what: StoreStep, line: &mut LineBuf)
     requires { length line.old + 100 ≤ 256 }
     ensures text { line.new ≡ line.old ++ step_text what }
+    ensures fits { FitsStep what }
     ensures len { length line.new ≤ length line.old + 100 }
 {
     match what {
@@ -47,6 +50,7 @@ fn print_what(what: StoreStep, line: &mut LineBuf)
 fn print_get(txn: TxnId, answer: Option<Mark>, line: &mut LineBuf)
     requires { length line.old + 60 ≤ 256 }
     ensures text { line.new ≡ line.old ++ step_text (Get txn answer) }
+    ensures fits { FitsStep (Get txn answer) }
     ensures len { length line.new ≤ length line.old + 60 }
 {
     line.push_field(b"get ", txn.value());
@@ -57,6 +61,7 @@ fn print_get(txn: TxnId, answer: Option<Mark>, line: &mut LineBuf)
 fn print_mark_found(txn: TxnId, mark: Mark, line: &mut LineBuf)
     requires { length line.old + 60 ≤ 256 }
     ensures text { line.new ≡ line.old ++ step_text (MarkFound txn mark) }
+    ensures fits { FitsStep (MarkFound txn mark) }
     ensures len { length line.new ≤ length line.old + 60 }
 {
     line.push_field(b"mark ", txn.value());
@@ -67,6 +72,7 @@ fn print_mark_found(txn: TxnId, mark: Mark, line: &mut LineBuf)
 fn print_look(key: KeyNo, txn: TxnId, answer: Seen, line: &mut LineBuf)
     requires { length line.old + 80 ≤ 256 }
     ensures text { line.new ≡ line.old ++ step_text (Look key txn answer) }
+    ensures fits { FitsStep (Look key txn answer) }
     ensures len { length line.new ≤ length line.old + 80 }
 {
     line.push_field(b"look k", key.value());
@@ -78,6 +84,7 @@ fn print_look(key: KeyNo, txn: TxnId, answer: Seen, line: &mut LineBuf)
 fn print_shadow(key: KeyNo, txn: TxnId, commit: Stamp, line: &mut LineBuf)
     requires { length line.old + 80 ≤ 256 }
     ensures text { line.new ≡ line.old ++ step_text (Shadow key txn commit) }
+    ensures fits { FitsStep (Shadow key txn commit) }
     ensures len { length line.new ≤ length line.old + 80 }
 {
     line.push_field(b"shadow k", key.value());
@@ -88,6 +95,7 @@ fn print_shadow(key: KeyNo, txn: TxnId, commit: Stamp, line: &mut LineBuf)
 fn print_put_found(txn: TxnId, line: &mut LineBuf)
     requires { length line.old + 60 ≤ 256 }
     ensures text { line.new ≡ line.old ++ step_text (PutFound txn) }
+    ensures fits { FitsStep (PutFound txn) }
     ensures len { length line.new ≤ length line.old + 60 }
 {
     line.push_field(b"put ", txn.value());
@@ -97,6 +105,7 @@ fn print_put_found(txn: TxnId, line: &mut LineBuf)
 fn print_mark_text(mark: Mark, line: &mut LineBuf)
     requires { length line.old + 30 ≤ 256 }
     ensures text { line.new ≡ line.old ++ mark_text mark }
+    ensures fits { FitsMark mark }
     ensures len { length line.new ≤ length line.old + 30 }
 {
     match mark {
@@ -108,6 +117,7 @@ fn print_mark_text(mark: Mark, line: &mut LineBuf)
 fn print_entry(answer: Option<Mark>, line: &mut LineBuf)
     requires { length line.old + 30 ≤ 256 }
     ensures text { line.new ≡ line.old ++ entry_text answer }
+    ensures fits { FitsEntry answer }
     ensures len { length line.new ≤ length line.old + 30 }
 {
     match answer {
@@ -119,6 +129,7 @@ fn print_entry(answer: Option<Mark>, line: &mut LineBuf)
 fn print_seen(answer: Seen, line: &mut LineBuf)
     requires { length line.old + 30 ≤ 256 }
     ensures text { line.new ≡ line.old ++ seen_text answer }
+    ensures fits { FitsSeen answer }
     ensures len { length line.new ≤ length line.old + 30 }
 {
     match answer {

@@ -1,5 +1,6 @@
 ghost use Rattle.std.specs.Prelude.{◌≡◌, ◌+◌, ◌≤◌, ◌++◌, length, decimal};
 ghost use Rattle.history_book.specs.Words.{node_text, session_text, key_text, actor_text, stage_text, store_text};
+ghost use Rattle.history_book.specs.Fits.{FitsActor, IsKey, IsNode, IsSession};
 
 // The parts that items share. Each adds its text at the end of the line.
 use crate::item::Actor;
@@ -29,6 +30,7 @@ pub fn print_two(name: &[u8], number: u64, next_name: &[u8], next: u64, line: &m
 pub fn print_node(node: NodeNo, line: &mut LineBuf)
     requires { length line.old + 1 ≤ 256 }
     ensures text { line.new ≡ line.old ++ node_text node }
+    ensures fits { IsNode node }
     ensures len { length line.new ≡ length line.old + 1 }
 {
     line.push_text(&[b'a' + node.value() as u8]);
@@ -37,6 +39,7 @@ pub fn print_node(node: NodeNo, line: &mut LineBuf)
 pub fn print_session(session: SessionNo, line: &mut LineBuf)
     requires { length line.old + 21 ≤ 256 }
     ensures text { line.new ≡ line.old ++ session_text session }
+    ensures fits { IsSession session }
     ensures len { length line.new ≤ length line.old + 21 }
 {
     print_one(b"s", session.value(), line);
@@ -45,6 +48,7 @@ pub fn print_session(session: SessionNo, line: &mut LineBuf)
 pub fn print_key(key: KeyNo, line: &mut LineBuf)
     requires { length line.old + 21 ≤ 256 }
     ensures text { line.new ≡ line.old ++ key_text key }
+    ensures fits { IsKey key }
     ensures len { length line.new ≤ length line.old + 21 }
 {
     print_one(b"k", key.value(), line);
@@ -53,6 +57,7 @@ pub fn print_key(key: KeyNo, line: &mut LineBuf)
 pub fn print_actor(actor: Actor, line: &mut LineBuf)
     requires { length line.old + 21 ≤ 256 }
     ensures text { line.new ≡ line.old ++ actor_text actor }
+    ensures fits { FitsActor actor }
     ensures len { length line.new ≤ length line.old + 21 }
 {
     match actor {
