@@ -1,23 +1,21 @@
 // What the stores, the oracle, the sessions and the step machines stand for: plain data and definitions, with laws.
 #![tactic(auto)]
 
-mod buckets;
 mod asks;
+mod buckets;
 mod completion;
 mod key_read;
 mod resolve;
 mod rows;
 mod session;
-mod sweep;
 mod store_errors;
 mod sweep;
 
+pub use asks::fits;
 pub use buckets::{
     Recorded, Verdict, buckets_stay_in_order, kept_commits_are_the_last,
     last_commits_are_remembered, recordings_go_on, verdicts_are_shown, waters_were_recorded,
 };
-pub use buckets::{Recorded, Verdict};
-pub use asks::fits;
 pub use completion::{completions_end, removal_comes_last};
 pub use key_read::{
     Answer, Next, answers_own_or_below, answers_resolved, passed_are_late, passes_dead_or_late,
@@ -29,6 +27,5 @@ pub use resolve::{
 };
 pub use rows::Cell;
 pub use session::{State, sessions_keep_sense};
-pub use sweep::{sweep_erases_marked, sweep_marks_old_alone, sweeps_end, undecided_only_above};
 pub use store_errors::{StoreError, StoreFault};
 pub use sweep::{sweep_erases_marked, sweep_marks_old_alone, sweeps_end, undecided_only_above};
