@@ -1,5 +1,5 @@
 -- What a turn of the code leaves and asks is what the read's turn leaves and asks.
-use Rattle.std.proofs.Common.{◌≡◌, ℕ, ◌<◌, ◌≤◌, List, [], ◌∷◌, Option, None, Some, IfSome, length, drop, refl, sym, ap, ◌∙◌, arith, length-drop}
+use Rattle.std.proofs.Common.{◌≡◌, ℕ, ◌<◌, List, [], ◌∷◌, Option, None, Some, IfSome, length, drop, refl, sym, ap, ◌∙◌, arith, length-drop}
 use Rattle.stamp_base.specs.declared.steps.Ask.{Ask}
 use Rattle.stamp_base.specs.declared.steps.Told.{Told}
 use Rattle.protocol_parts.specs.declared.rows.Cell.{Cell}
@@ -54,11 +54,3 @@ asked_first r (c ∷ cs) s l h = rw (h.0, h.1) refl
 -- the ask of a read that has no answer yet
 pub asked : (r : Reader) (cells : List Cell) (passed : ℕ) (s : Settling) (ask : Ask) (now : Option Reading) → passed < length cells → Resolves r (drop passed cells) s → ask ≡ settle_ask s → reading_at r (drop passed cells) s.point ≡ now → Some ask ≡ next_ask now
 asked r cells passed s ask now l h e v = ap (λ (a : Ask). Some a) e ∙ asked_first r (drop passed cells) s (omega (arith, length-drop passed cells)) h ∙ ap next_ask v
-
-none_first : (r : Reader) (xs : List Cell) (s : Settling) → length xs ≡ 0 → None ≡ next_ask (reading_at r xs s.point)
-none_first r [] s l = refl
-none_first r (c ∷ cs) s l = absurd (omega arith)
-
--- a read that has its answer asks nothing
-pub asked_none : (r : Reader) (cells : List Cell) (passed : ℕ) (s : Settling) (now : Option Reading) → length cells ≤ passed → reading_at r (drop passed cells) s.point ≡ now → None ≡ next_ask now
-asked_none r cells passed s now l v = none_first r (drop passed cells) s (omega (arith, length-drop passed cells)) ∙ ap next_ask v
