@@ -4,6 +4,7 @@ ghost use Rattle.protocol_parts.specs.declared.session.State.{State};
 use super::*;
 use history_book::Cause;
 use stamp_base::{KeyNo, Stamp};
+use std::process::Abort;
 use std::test::Fail;
 
 fn stamp(n: u64) -> Result<Stamp, &'static str> {
