@@ -5,3 +5,6 @@ mod session;
 
 pub use protocol_parts::State;
 pub use session::Session;
+
+#[cfg(test)]
+mod tests;

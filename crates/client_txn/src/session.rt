@@ -80,6 +80,42 @@ impl Session {
         self.commit
     }
 
+    /// Whether a begin may be asked: refused as gone, or busy.
+    pub fn check_begin(&self) -> Result<(), Cause>
+        ensures { MatchResult result (λ _. step.begin_refusal self.now.state ≡ None) (λ cause. step.begin_refusal self.now.state ≡ Some cause) }
+    {
+        match self.state {
+            State::Gone => Err(Cause::Gone),
+            State::Free => Ok(()),
+            _ => Err(Cause::Busy),
+        }
+    }
+
+    /// Whether the transaction may write, fetch, ask for its commit or abort, where `reading` tells whether a read is
+    /// under way: refused as gone, without a transaction, or busy.
+    pub fn check_work(&self, reading: bool) -> Result<(), Cause>
+        ensures { MatchResult result (λ _. step.work_refusal self.now.state reading ≡ None) (λ cause. step.work_refusal self.now.state reading ≡ Some cause) }
+    {
+        match self.state {
+            State::Gone => Err(Cause::Gone),
+            State::Free => Err(Cause::NoTransaction),
+            State::Open if !reading => Ok(()),
+            _ => Err(Cause::Busy),
+        }
+    }
+
+    /// Whether there is a step to make, where `reading` tells whether a read is under way: refused as gone, or idle.
+    pub fn check_step(&self, reading: bool) -> Result<(), Cause>
+        ensures { MatchResult result (λ _. step.step_refusal self.now.state reading ≡ None) (λ cause. step.step_refusal self.now.state reading ≡ Some cause) }
+    {
+        match self.state {
+            State::Gone => Err(Cause::Gone),
+            State::OpenOutcome | State::Completing { .. } => Ok(()),
+            _ if reading => Ok(()),
+            _ => Err(Cause::Idle),
+        }
+    }
+
     /// A begin was answered.
     pub fn begun(&mut self, start: Stamp, epoch: u64)
         requires { step.CanBegin self.old }

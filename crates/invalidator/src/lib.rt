@@ -9,3 +9,5 @@ pub use protocol_parts::Outcome;
 pub use settle::Settle;
 pub use sweep::Sweep;
 
+#[cfg(test)]
+mod tests;

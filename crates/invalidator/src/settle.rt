@@ -1,6 +1,6 @@
 ghost use Rattle.std.specs.Prelude.{◌≡◌, true, false};
 ghost use Rattle.protocol_parts.specs.Asks.{Fits};
-ghost use Rattle.protocol_parts.specs.Resolve.{settle_open, settle_ask, verdict, settle_by, outcome_of};
+ghost use Rattle.protocol_parts.specs.Resolve.{settle_open, settle_ask, settle_turn, settle_by, outcome_of};
 
 use protocol_parts::{Outcome, SettlePoint};
 use stamp_base::{Ask, KeyNo, Stamp, Told, TxnId};
@@ -58,8 +58,8 @@ impl Settle {
     /// Takes the answer to the next step. Some where it decides; the resolve then stays where it is.
     pub fn told(&mut self, answer: Told) -> Option<Outcome>
         requires { Fits (settle_ask self.old) answer }
-        ensures state { self.new ≡ settle_by self.old (verdict self.old answer) }
-        ensures outcome { result ≡ outcome_of (verdict self.old answer) }
+        ensures state { self.new ≡ settle_by self.old (settle_turn self.old answer) }
+        ensures outcome { result ≡ outcome_of (settle_turn self.old answer) }
     {
         match self.point {
             SettlePoint::FirstLook => match answer {

@@ -11,7 +11,7 @@ use Rattle.protocol_parts.specs.declared.resolve.SettlePoint.{SettlePoint}
 use Rattle.protocol_parts.specs.declared.resolve.SettlePoint.TheVariants.{FirstLook, Table, Marking, LastLook}
 use Rattle.protocol_parts.specs.declared.resolve.Outcome.TheVariants.{Committed, Dead}
 use Rattle.stamp_base.specs.declared.steps.Told.{Told}
-use Rattle.protocol_parts.specs.Resolve.{Verdict, Goes, Decides, verdict, settle_left, SettlesEnd}
+use Rattle.protocol_parts.specs.Resolve.{SettleTurn, Goes, Decides, settle_turn, settle_left, SettlesEnd}
 use Rattle.protocol_parts.specs.KeyRead.{Reading, is_late, is_passed, after_passed, PassesUnasked, PassedAreLate, AnswersBy, AnswersOwnOrBelow, turn_at, read_over, ReadTurn, Asks, Answers, IfBelow, found_none, found_cell, found_by, settling_of, read_by, read_left, ReadsEnd}
 
 late_by : (start : ℕ) (shadow : Option ℕ) → is_late start shadow ≡ true → ((commit : ℕ) → shadow ≡ Some commit → start ≤ commit) × (shadow ≡ None → ⊥)
@@ -94,7 +94,7 @@ left_some LastLook = omega arith
 settle_falls : SettlesEnd
 settle_falls = search rules
 
-goes_falls : (r s : Reading) (told : Told) (p : SettlePoint) → verdict (settling_of r) told ≡ Goes p → read_by r (Goes p) ≡ Asks s → read_left s < read_left r
+goes_falls : (r s : Reading) (told : Told) (p : SettlePoint) → settle_turn (settling_of r) told ≡ Goes p → read_by r (Goes p) ≡ Asks s → read_left s < read_left r
 goes_falls r s told p v e =
     let same : (let gone : Reading = record r { point = p } in gone) ≡ s = cc in
     let falls : settle_left p < settle_left r.point = (settle_falls (settling_of r)).1 told p v in
@@ -107,10 +107,10 @@ late_falls : (r s : Reading) (c : ℕ) (by_table below : Bool) → cond below (A
 late_falls r s c by_table true e = absurd cc
 late_falls r s c by_table false e = over_falls r s e
 
-told_falls : (r s : Reading) (told : Told) (v : Verdict) → verdict (settling_of r) told ≡ v → read_by r v ≡ Asks s → read_left s < read_left r
+told_falls : (r s : Reading) (told : Told) (v : SettleTurn) → settle_turn (settling_of r) told ≡ v → read_by r v ≡ Asks s → read_left s < read_left r
 told_falls r s told (Goes p) v e = goes_falls r s told p v e
 told_falls r s told (Decides Dead) v e = over_falls r s e
 told_falls r s told (Decides (Committed c by_table)) v e = late_falls r s c by_table (nat_lt c r.start) e
 
 pub reads_end : ReadsEnd
-reads_end = (read_left_over, λ r s told e. told_falls r s told (verdict (settling_of r) told) refl e)
+reads_end = (read_left_over, λ r s told e. told_falls r s told (settle_turn (settling_of r) told) refl e)

@@ -12,7 +12,7 @@ use Rattle.protocol_parts.specs.declared.key_read.Answer.{Answer}
 use Rattle.protocol_parts.specs.declared.key_read.Next.{Next}
 use Rattle.protocol_parts.specs.declared.key_read.Next.TheVariants.{Ask as NextAsk, Done as NextDone}
 use Rattle.protocol_parts.specs.Asks.{FitsNext}
-use Rattle.protocol_parts.specs.Resolve.{Settling, settle_open, settle_ask, settle_left, Verdict, Goes, Decides, verdict}
+use Rattle.protocol_parts.specs.Resolve.{Settling, settle_open, settle_ask, settle_left, SettleTurn, Goes, Decides, settle_turn}
 
 -- a read under way: the cell that is being resolved, and the older ones behind it
 pub record Reading : Type 0 where
@@ -72,13 +72,13 @@ abbrev pub read_over : ℕ → ℕ → ℕ → List Cell → ReadTurn
 read_over key start epoch cells = turn_at key start epoch (after_passed start cells)
 
 -- a commit below the start answers, and any other cell is passed over
-abbrev pub read_by : Reading → Verdict → ReadTurn
+abbrev pub read_by : Reading → SettleTurn → ReadTurn
 read_by r (Goes p) = Asks (record r { point = p })
 read_by r (Decides Dead) = read_over r.key r.start r.epoch r.older
 read_by r (Decides (Committed c by_table)) = if nat_lt c r.start then Answers (found_by r.key r.cell c by_table) else read_over r.key r.start r.epoch r.older
 
 abbrev pub read_told : Reading → Told → ReadTurn
-read_told r told = read_by r (verdict (settling_of r) told)
+read_told r told = read_by r (settle_turn (settling_of r) told)
 
 abbrev pub read_ask : Reading → Ask
 read_ask r = settle_ask (settling_of r)
@@ -108,7 +108,7 @@ pub record PassesUnasked (start : ℕ) (c : Cell) : Type 0 where
   pub shadowed : c.shadow ≡ None → ⊥
 
 -- the cell is dead, or its commit is not below the start
-abbrev pub LetsPass : ℕ → Verdict → Type 0
+abbrev pub LetsPass : ℕ → SettleTurn → Type 0
 LetsPass start (Goes p) = ⊥
 LetsPass start (Decides Dead) = Unit {0}
 LetsPass start (Decides (Committed c by_table)) = start ≤ c
@@ -119,7 +119,7 @@ IfBelow start None = ⊥
 IfBelow start (Some commit) = commit < start
 
 -- a commit below the start answers by its cell, and otherwise the cells behind it answer
-abbrev pub AnsweredBy : Reading → Verdict → Answer → Type 0
+abbrev pub AnsweredBy : Reading → SettleTurn → Answer → Type 0
 AnsweredBy r (Goes p) a = ⊥
 AnsweredBy r (Decides Dead) a = read_over r.key r.start r.epoch r.older ≡ Answers a
 AnsweredBy r (Decides (Committed c by_table)) a = ((c < r.start) × (a ≡ found_by r.key r.cell c by_table)) ⊎ ((r.start ≤ c) × (read_over r.key r.start r.epoch r.older ≡ Answers a))
@@ -142,12 +142,12 @@ AnswersOwnOrBelow =
 -- a cell that was resolved answers where its commit is below the start, and otherwise those behind it answer unasked
 abbrev pub AnswersResolved : Type 0
 AnswersResolved =
-    (r : Reading) (told : Told) (a : Answer) → read_told r told ≡ Answers a → AnsweredBy r (verdict (settling_of r) told) a
+    (r : Reading) (told : Told) (a : Answer) → read_told r told ≡ Answers a → AnsweredBy r (settle_turn (settling_of r) told) a
 
 -- a read that goes on stays at its cell, or passes it over where it is dead or its commit is not below the start
 abbrev pub PassesDeadOrLate : Type 0
 PassesDeadOrLate =
-    (r s : Reading) (told : Told) → read_told r told ≡ Asks s → (s ≡ record r { point = s.point }) ⊎ (LetsPass r.start (verdict (settling_of r) told) × (s.cell ∷ s.older ≡ after_passed r.start r.older))
+    (r s : Reading) (told : Told) → read_told r told ≡ Asks s → (s ≡ record r { point = s.point }) ⊎ (LetsPass r.start (settle_turn (settling_of r) told) × (s.cell ∷ s.older ≡ after_passed r.start r.older))
 
 -- a mark is asked only of a version that is at most the epoch
 abbrev pub ReadsMarkOldAlone : Type 0

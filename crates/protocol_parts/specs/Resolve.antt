@@ -34,45 +34,45 @@ abbrev pub settle_ask : Settling → Ask
 settle_ask s = ask_at s.key s.txn s.point
 
 -- an answer leads on, or decides
-pub data Verdict : Type 0 where
-  Goes : SettlePoint → Verdict
-  Decides : Outcome → Verdict
+pub data SettleTurn : Type 0 where
+  Goes : SettlePoint → SettleTurn
+  Decides : Outcome → SettleTurn
 
 -- a shadow decides, and otherwise the table is asked
-abbrev pub after_first_look : Told → Verdict
+abbrev pub after_first_look : Told → SettleTurn
 after_first_look (Shadowed c) = Decides (CommittedAt c false)
 after_first_look _ = Goes Table
 
 -- a commit decides; where there is no entry a mark is placed if one is allowed; an invalid mark does not decide
-abbrev pub after_table : Bool → Told → Verdict
+abbrev pub after_table : Bool → Told → SettleTurn
 after_table may_mark (Committed c) = Decides (CommittedAt c true)
 after_table may_mark Absent = Goes (if may_mark then Marking else LastLook)
 after_table may_mark _ = Goes LastLook
 
 -- a commit that was found decides; a mark, placed or found, does not
-abbrev pub after_marking : Told → Verdict
+abbrev pub after_marking : Told → SettleTurn
 after_marking (Committed c) = Decides (CommittedAt c true)
 after_marking _ = Goes LastLook
 
-abbrev pub after_last_look : Told → Verdict
+abbrev pub after_last_look : Told → SettleTurn
 after_last_look (Shadowed c) = Decides (CommittedAt c false)
 after_last_look _ = Decides Dead
 
-abbrev pub verdict_at : Bool → SettlePoint → Told → Verdict
-verdict_at may_mark FirstLook told = after_first_look told
-verdict_at may_mark Table told = after_table may_mark told
-verdict_at may_mark Marking told = after_marking told
-verdict_at may_mark LastLook told = after_last_look told
+abbrev pub settle_turn_at : Bool → SettlePoint → Told → SettleTurn
+settle_turn_at may_mark FirstLook told = after_first_look told
+settle_turn_at may_mark Table told = after_table may_mark told
+settle_turn_at may_mark Marking told = after_marking told
+settle_turn_at may_mark LastLook told = after_last_look told
 
-abbrev pub verdict : Settling → Told → Verdict
-verdict s told = verdict_at s.may_mark s.point told
+abbrev pub settle_turn : Settling → Told → SettleTurn
+settle_turn s told = settle_turn_at s.may_mark s.point told
 
 -- a resolve that is decided stays where it is
-abbrev pub settle_by : Settling → Verdict → Settling
+abbrev pub settle_by : Settling → SettleTurn → Settling
 settle_by s (Goes p) = record s { point = p }
 settle_by s (Decides o) = s
 
-abbrev pub outcome_of : Verdict → Option Outcome
+abbrev pub outcome_of : SettleTurn → Option Outcome
 outcome_of (Goes p) = None
 outcome_of (Decides o) = Some o
 
@@ -86,24 +86,24 @@ settle_left LastLook = 1
 -- a mark, placed or found, leads on to the last look
 abbrev pub MarkNeverDecides : Type 0
 MarkNeverDecides =
-    (s : Settling) → (s.point ≡ Marking → verdict s Marked ≡ Goes LastLook) × (s.point ≡ Marking → verdict s Invalid ≡ Goes LastLook) × (s.point ≡ Table → verdict s Invalid ≡ Goes LastLook)
+    (s : Settling) → (s.point ≡ Marking → settle_turn s Marked ≡ Goes LastLook) × (s.point ≡ Marking → settle_turn s Invalid ≡ Goes LastLook) × (s.point ≡ Table → settle_turn s Invalid ≡ Goes LastLook)
 
 -- the last look showed no shadow
 abbrev pub DeadByLastLook : Type 0
 DeadByLastLook =
-    (s : Settling) (told : Told) → Fits (settle_ask s) told → verdict s told ≡ Decides Dead → (s.point ≡ LastLook) × ((told ≡ Bare) ⊎ (told ≡ Gone))
+    (s : Settling) (told : Told) → Fits (settle_ask s) told → settle_turn s told ≡ Decides Dead → (s.point ≡ LastLook) × ((told ≡ Bare) ⊎ (told ≡ Gone))
 
 -- the commit was the table's, one that the mark found, or a shadow's
 abbrev pub CommittedIsTold : Type 0
 CommittedIsTold =
-    (s : Settling) (told : Told) (c : ℕ) (by_table : Bool) → verdict s told ≡ Decides (CommittedAt c by_table) → ((told ≡ Committed c) × (by_table ≡ true) × ((settle_ask s ≡ Get s.txn) ⊎ (settle_ask s ≡ Mark s.txn))) ⊎ ((told ≡ Shadowed c) × (by_table ≡ false) × (settle_ask s ≡ Look s.key s.txn))
+    (s : Settling) (told : Told) (c : ℕ) (by_table : Bool) → settle_turn s told ≡ Decides (CommittedAt c by_table) → ((told ≡ Committed c) × (by_table ≡ true) × ((settle_ask s ≡ Get s.txn) ⊎ (settle_ask s ≡ Mark s.txn))) ⊎ ((told ≡ Shadowed c) × (by_table ≡ false) × (settle_ask s ≡ Look s.key s.txn))
 
 -- only the empty table leads to a mark, and only where one is allowed
 abbrev pub MarksWhereAllowed : Type 0
 MarksWhereAllowed =
-    (s : Settling) (told : Told) → verdict s told ≡ Goes Marking → IsTrue s.may_mark × (s.point ≡ Table) × (told ≡ Absent)
+    (s : Settling) (told : Told) → settle_turn s told ≡ Goes Marking → IsTrue s.may_mark × (s.point ≡ Table) × (told ≡ Absent)
 
 -- at most four steps, and each answer that leads on leaves fewer
 abbrev pub SettlesEnd : Type 0
 SettlesEnd =
-    (s : Settling) → (settle_left s.point ≤ 4) × ((told : Told) (p : SettlePoint) → verdict s told ≡ Goes p → settle_left p < settle_left s.point)
+    (s : Settling) → (settle_left s.point ≤ 4) × ((told : Told) (p : SettlePoint) → settle_turn s told ≡ Goes p → settle_left p < settle_left s.point)

@@ -1,5 +1,5 @@
 -- The sweep of a transaction whose session has vanished: what it asks, and what an answer leaves.
-use Rattle.std.specs.Prelude.{◌≡◌, ℕ, ◌+◌, ◌<◌, ◌≤◌, ◌⊎◌, nat_lt, Bool, true, false, IsTrue, List, [], ◌∷◌, Option, None, Some, if◌then◌else◌, length, drop}
+use Rattle.std.specs.Prelude.{◌≡◌, ℕ, ◌+◌, ◌<◌, ◌≤◌, ◌⊎◌, nat_lt, Bool, true, false, IsTrue, List, [], ◌∷◌, Option, None, Some, IsSomeAnd, if◌then◌else◌, length, drop}
 use Rattle.stamp_base.specs.declared.steps.Mark.{Mark}
 use Rattle.stamp_base.specs.declared.steps.Mark.TheVariants.{Committed as CommittedMark, Invalid as InvalidMark}
 use Rattle.stamp_base.specs.declared.steps.Ask.{Ask}
@@ -86,9 +86,13 @@ is_undecided_at _ = false
 abbrev pub is_undecided : Sweeping → Bool
 is_undecided s = is_undecided_at s.point
 
+abbrev pub IsKeys : Ask → Type 0
+IsKeys (Keys txn) = Unit {0}
+IsKeys _ = ⊥
+
 -- the keys are asked next
 abbrev pub IsListing : Sweeping → Type 0
-IsListing s = sweep_ask s ≡ Some (Keys s.txn)
+IsListing s = IsSomeAnd (sweep_ask s) IsKeys
 
 -- how many steps there may be until the keys are asked, that one included
 abbrev pub sweep_left : SweepPoint → ℕ

@@ -6,7 +6,7 @@ use Rattle.protocol_parts.specs.declared.rows.Cell.{Cell}
 use Rattle.protocol_parts.specs.declared.key_read.Answer.{Answer}
 use Rattle.protocol_parts.specs.declared.key_read.Next.TheVariants.{Ask as NextAsk, Done as NextDone}
 use Rattle.protocol_parts.specs.Resolve.{Settling, settle_ask}
-use Rattle.protocol_parts.specs.KeyRead.{Reading, ReadTurn, Answers, read_told, reading_left, next_of}
+use Rattle.protocol_parts.specs.KeyRead.{Reading, ReadTurn, Answers, read_told, reading_left, next_of, next_ask}
 use Rattle.reader_resolve.specs.declared.turn.Reader.{Reader}
 use Rattle.reader_resolve.specs.Turns.{reading_at, asks_at, told_of, Resolves}
 
@@ -46,3 +46,11 @@ steps_ask r xs cells passed s t told ask now e turn l h a =
 pub steps_answer : (r : Reader) (xs : List Cell) (s : Settling) (told : Told) (found : Answer) (now : Option Reading) → reading_at r xs s.point ≡ now → Answers found ≡ told_of r xs s told → IfSome now (λ (q : Reading). NextDone found ≡ next_of (read_told q told))
 steps_answer r xs s told found now e turn =
     turn_said (λ (made : ReadTurn). NextDone found ≡ next_of made) now told (Answers found) refl (told_some r xs s told now _ e turn)
+
+asked_first : (r : Reader) (xs : List Cell) (s : Settling) → 0 < length xs → Resolves r xs s → Some (settle_ask s) ≡ next_ask (reading_at r xs s.point)
+asked_first r [] s l h = absurd (omega arith)
+asked_first r (c ∷ cs) s l h = rw (h.0, h.1) refl
+
+-- the ask of a read that has no answer yet
+pub asked : (r : Reader) (cells : List Cell) (passed : ℕ) (s : Settling) (ask : Ask) (now : Option Reading) → passed < length cells → Resolves r (drop passed cells) s → ask ≡ settle_ask s → reading_at r (drop passed cells) s.point ≡ now → Some ask ≡ next_ask now
+asked r cells passed s ask now l h e v = ap (λ (a : Ask). Some a) e ∙ asked_first r (drop passed cells) s (omega (arith, length-drop passed cells)) h ∙ ap next_ask v

@@ -8,3 +8,5 @@ mod turn;
 pub use protocol_parts::{Answer, Cell, Next};
 pub use run::ReadRun;
 
+#[cfg(test)]
+mod tests;

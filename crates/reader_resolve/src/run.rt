@@ -5,7 +5,7 @@ ghost use Rattle.protocol_parts.specs.KeyRead.{AreFetched, read_over, read_told,
 use crate::turn::{Reader, Turn};
 use invalidator::Settle;
 use protocol_parts::{Cell, Next};
-use stamp_base::{KeyNo, Stamp, Told};
+use stamp_base::{Ask, KeyNo, Stamp, Told};
 use std::marker::Model;
 
 /// A read of a key under way, seen as None once it has its answer.
@@ -62,6 +62,17 @@ impl ReadRun {
                 };
                 (run, Next::Done(answer))
             }
+        }
+    }
+
+    /// The step that was asked last; None once the read has its answer.
+    pub fn next(&self) -> Option<Ask>
+        ensures { result ≡ next_ask self.now }
+    {
+        if self.passed < self.cells.len() {
+            Some(self.settle.next())
+        } else {
+            None
         }
     }
 

@@ -1,0 +1,147 @@
+ghost use Rattle.std.specs.Prelude.{IfOk};
+ghost use Rattle.protocol_parts.specs.KeyRead.{AreFetched};
+
+use super::*;
+use protocol_parts::fits;
+use stamp_base::{Ask, KeyNo, Stamp, Told, Value};
+use std::alloc::Global;
+use std::test::Fail;
+
+fn stamp(n: u64) -> Result<Stamp, &'static str> {
+    Stamp::new(n).ok_or("no stamp")
+}
+
+fn key(n: u64) -> Result<KeyNo, &'static str> {
+    KeyNo::new(n).ok_or("no key")
+}
+
+fn value(bytes: &[u8]) -> Result<Value, &'static str> {
+    Value::new(bytes).ok_or("no value")
+}
+
+/// What a fetch up to the start gives, where one version is there.
+fn one(alloc: Global, start: Stamp, cell: Cell) -> Result<Vec<Cell>, Fail>
+    ensures { IfOk result (λ cells. AreFetched start cells.items) }
+{
+    if cell.version.value() > start.value() {
+        return Err("above the start".into());
+    }
+    Ok(vec![in alloc; cell]?)
+}
+
+/// What a fetch up to the start gives, where two versions are there.
+fn two(alloc: Global, start: Stamp, newer: Cell, older: Cell) -> Result<Vec<Cell>, Fail>
+    ensures { IfOk result (λ cells. AreFetched start cells.items) }
+{
+    let (first, second) = (newer.version.value(), older.version.value());
+    if second >= first || first > start.value() {
+        return Err("not as a fetch gives them".into());
+    }
+    Ok(vec![in alloc; newer, older]?)
+}
+
+/// Tells an answer, whose ask must be next.
+fn tell(run: &mut ReadRun, ask: Ask, told: Told) -> Result<Next, &'static str> {
+    let answer = told;
+    let next = run.next().ok_or("the end")?;
+    if next != ask || !fits(next, told) {
+        return Err("another ask");
+    }
+    Ok(run.step(answer))
+}
+
+fn bare(version: u64, text: &[u8]) -> Result<Cell, &'static str> {
+    Ok(Cell {
+        version: stamp(version)?,
+        value: value(text)?,
+        shadow: None,
+    })
+}
+
+#[test]
+fn late_put(rt: HostRuntime) -> Result<(), Fail> {
+    let (k0, writer, start) = (key(0)?, stamp(1)?, stamp(101)?);
+    let cells = one(rt.alloc(), start, bare(1, b"v")?)?;
+    let (mut run, first) = ReadRun::start(k0, start, 100, cells);
+    assert_eq!(rt; first, Next::Ask(Ask::Get(writer)));
+    let second = tell(&mut run, Ask::Get(writer), Told::Absent)?;
+    assert_eq!(rt; second, Next::Ask(Ask::Mark(writer)));
+    let third = tell(&mut run, Ask::Mark(writer), Told::Marked)?;
+    assert_eq!(rt; third, Next::Ask(Ask::Look(k0, writer)));
+    let last = tell(&mut run, Ask::Look(k0, writer), Told::Bare)?;
+    let none = Answer {
+        found: None,
+        heal: None,
+    };
+    assert_eq!(rt; last, Next::Done(none));
+    assert_eq!(rt; run.next(), None);
+    Ok(())
+}
+
+#[test]
+fn put_before_read(rt: HostRuntime) -> Result<(), Fail> {
+    let (k0, writer, start, commit) = (key(0)?, stamp(1)?, stamp(101)?, stamp(2)?);
+    let cells = one(rt.alloc(), start, bare(1, b"v")?)?;
+    let (mut run, _) = ReadRun::start(k0, start, 100, cells);
+    let last = tell(&mut run, Ask::Get(writer), Told::Committed(commit))?;
+    let answer = Answer {
+        found: Some((writer, value(b"v")?)),
+        heal: Some((k0, writer, commit)),
+    };
+    assert_eq!(rt; last, Next::Done(answer));
+    Ok(())
+}
+
+#[test]
+fn stray_mark(rt: HostRuntime) -> Result<(), Fail> {
+    let (k0, writer, start, commit) = (key(0)?, stamp(1)?, stamp(101)?, stamp(2)?);
+    let cells = one(rt.alloc(), start, bare(1, b"v")?)?;
+    let (mut run, _) = ReadRun::start(k0, start, 100, cells);
+    tell(&mut run, Ask::Get(writer), Told::Absent)?;
+    tell(&mut run, Ask::Mark(writer), Told::Marked)?;
+    let last = tell(&mut run, Ask::Look(k0, writer), Told::Shadowed(commit))?;
+    let answer = Answer {
+        found: Some((writer, value(b"v")?)),
+        heal: None,
+    };
+    assert_eq!(rt; last, Next::Done(answer));
+    Ok(())
+}
+
+#[test]
+fn own_writes_and_shadows(rt: HostRuntime) -> Result<(), Fail> {
+    let (k0, writer) = (key(0)?, stamp(1)?);
+    let answer = Answer {
+        found: Some((writer, value(b"p")?)),
+        heal: None,
+    };
+    let own = one(rt.alloc(), writer, bare(1, b"p")?)?;
+    let (_, next) = ReadRun::start(k0, writer, 0, own);
+    assert_eq!(rt; next, Next::Done(answer));
+    let shadow = Some(stamp(2)?);
+    let start = stamp(3)?;
+    let shadowed = one(rt.alloc(), start, Cell { shadow, ..bare(1, b"p")? })?;
+    let (_, next) = ReadRun::start(k0, start, 0, shadowed);
+    assert_eq!(rt; next, Next::Done(answer));
+    Ok(())
+}
+
+#[test]
+fn ordinary_use(rt: HostRuntime) -> Result<(), Fail> {
+    let (k1, older, newer, start) = (key(1)?, stamp(1)?, stamp(3)?, stamp(4)?);
+    let committed = Cell {
+        shadow: Some(stamp(2)?),
+        ..bare(1, b"100")?
+    };
+    let cells = two(rt.alloc(), start, bare(3, b"90")?, committed)?;
+    let (mut run, _) = ReadRun::start(k1, start, 0, cells);
+    let second = tell(&mut run, Ask::Get(newer), Told::Absent)?;
+    assert_eq!(rt; second, Next::Ask(Ask::Look(k1, newer)));
+    let last = tell(&mut run, Ask::Look(k1, newer), Told::Bare)?;
+    let answer = Answer {
+        found: Some((older, value(b"100")?)),
+        heal: None,
+    };
+    assert_eq!(rt; last, Next::Done(answer));
+    Ok(())
+}
