@@ -1,5 +1,5 @@
 -- The laws of the bounded memory, over the bucket of one key.
-use Rattle.std.proofs.Common.{◌≡◌, ℕ, zero, suc, ◌+◌, ◌<◌, ◌≤◌, ◌%◌, ◌==◌, Bool, true, false, List, [], ◌∷◌, ◌++◌, length, replicate, Option, Some, None, ◌⊎◌, inl, inr, refl, sym, subst, ap, ◌∙◌, arith, if◌then◌else◌, AllPairs}
+use Rattle.std.proofs.Common.{◌≡◌, ℕ, suc, ◌<◌, ◌≤◌, ◌%◌, ◌==◌, true, List, [], ◌∷◌, length, replicate, Option, Some, None, ◌⊎◌, inl, inr, refl, sym, subst, ap, ◌∙◌, arith, if◌then◌else◌}
 use Rattle.std.specs.Option.{option_or}
 use Rattle.std.specs.Prelude.{slice_index_or, slice_set}
 use Rattle.std.proofs.lemmas.Bool.{cases_Bool, cases_eq, eqb-true, eqb-false, eq-eqb, ne_eqb}
@@ -8,7 +8,7 @@ use Rattle.std.proofs.lemmas.Option.{same_Some, none-some}
 use Rattle.protocol_parts.specs.declared.buckets.Recorded.{Recorded}
 use Rattle.protocol_parts.specs.Buckets.{Bucket, empty_bucket, kept_commit, without, recorded, place_of, bucket_of, record_pair, record_pairs, contents, CommitsRise, last_commit, IsRemembered, IsRecordedAt}
 use Rattle.protocol_parts.proofs.BucketPairs.{Every, every-more, every-replaced, every-added, every-without, every-among}
-use Rattle.protocol_parts.proofs.BucketSteps.{IsOut, recorded_cases, IsOrdered, ordered-recorded, IsRisen, risen-recorded, water-recorded, width-recorded, kept_commit-recorded, other_key-recorded}
+use Rattle.protocol_parts.proofs.BucketSteps.{recorded_cases, IsOrdered, ordered-recorded, IsRisen, risen-recorded, water-recorded, width-recorded, kept_commit-recorded, other_key-recorded}
 
 -- what a pair makes of the bucket at a place, which it may pass by
 abbrev pub fed_one : ℕ → ℕ → Bucket → Recorded → Bucket

@@ -1,7 +1,7 @@
 -- What a recorded pair makes of a bucket.
-use Rattle.std.proofs.Common.{◌≡◌, ℕ, zero, suc, ◌+◌, ◌<◌, ◌≤◌, ◌==◌, nat_lt, ◌&&◌, ◌||◌, Bool, true, false, List, [], ◌∷◌, length, Option, Some, None, ◌⊎◌, inl, inr, refl, sym, subst, ap, ◌∙◌, arith, if◌then◌else◌}
-use Rattle.std.proofs.lemmas.Bool.{cases_Bool, cases_eq, eqb-true, eqb-false, eq-eqb, ne_eqb, ltb-true, ltb-false, or_cases, or_parts, and_parts}
-use Rattle.std.proofs.lemmas.Option.{same_Some, none-some}
+use Rattle.std.proofs.Common.{◌≡◌, ℕ, ◌<◌, ◌≤◌, ◌==◌, nat_lt, ◌&&◌, ◌||◌, List, [], ◌∷◌, length, Option, Some, None, ◌⊎◌, inl, inr, refl, sym, subst, ap, ◌∙◌, arith}
+use Rattle.std.proofs.lemmas.Bool.{cases_Bool, cases_eq, eqb-true, eq-eqb, ne_eqb, ltb-true, ltb-false, or_cases, or_parts, and_parts}
+use Rattle.std.proofs.lemmas.Option.{none-some}
 use Rattle.protocol_parts.specs.declared.buckets.Recorded.{Recorded}
 use Rattle.protocol_parts.specs.Buckets.{Bucket, kept_commit, replaced, added, without, older, oldest, exchanged, evicting, placed, recorded}
 use Rattle.protocol_parts.proofs.BucketPairs.{Every, IsAmong, Ascends, every-among, every-more, every-replaced, every-added, every-without, ascends-replaced, ascends-added, ascends-without, kept_commit-replaced, kept_commit-replaced_other, kept_commit-added, kept_commit-added_other, kept_commit-without, kept_commit-without_other, length-replaced, length-added, length-without}

@@ -1,5 +1,5 @@
 -- What the buckets tell a start, by the commits that were recorded.
-use Rattle.std.proofs.Common.{◌≡◌, ℕ, zero, suc, ◌+◌, ◌<◌, ◌≤◌, nat_lt, List, [], ◌∷◌, ◌++◌, length, replicate, Option, Some, None, ◌⊎◌, inl, inr, refl, sym, subst, ap, ◌∙◌, arith, if◌then◌else◌, AllPairs, Contains}
+use Rattle.std.proofs.Common.{◌≡◌, ℕ, zero, suc, ◌+◌, ◌<◌, ◌≤◌, nat_lt, List, [], ◌∷◌, ◌++◌, length, replicate, Option, Some, None, ◌⊎◌, inl, inr, refl, sym, subst, ◌∙◌, arith, AllPairs, Contains}
 use Rattle.std.specs.Prelude.{slice_index_or}
 use Rattle.std.proofs.lemmas.Bool.{cases_Bool, ltb-true, ltb-false}
 use Rattle.std.proofs.lemmas.List.{length-replicate}
@@ -7,7 +7,7 @@ use Rattle.std.proofs.lemmas.Option.{same_Some, none-some}
 use Rattle.protocol_parts.specs.declared.buckets.Recorded.{Recorded}
 use Rattle.protocol_parts.specs.declared.buckets.Verdict.{Verdict}
 use Rattle.protocol_parts.specs.declared.buckets.Verdict.TheVariants.{Free, Conflict, Hidden}
-use Rattle.protocol_parts.specs.Buckets.{Bucket, empty_bucket, kept_commit, place_of, bucket_of, record_pair, record_pairs, contents, judged, key_verdict, first_refusal, verdict, CommitsRise, last_commit, IsRemembered, IsRecordedAt, IsShown, IsInOrder}
+use Rattle.protocol_parts.specs.Buckets.{Bucket, empty_bucket, kept_commit, place_of, bucket_of, record_pair, record_pairs, contents, judged, key_verdict, first_refusal, verdict, CommitsRise, IsRecordedAt, IsShown, IsInOrder}
 use Rattle.protocol_parts.proofs.BucketPairs.{Every, Ascends}
 use Rattle.protocol_parts.proofs.BucketSteps.{IsOrdered}
 use Rattle.protocol_parts.proofs.BucketLaws.{fed, bucket_of-contents, ordered-empty, ordered-fed, width-fed, length-record_pairs, last_commit_held, kept_commit_last, water_recorded}

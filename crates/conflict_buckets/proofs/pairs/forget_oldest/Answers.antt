@@ -1,4 +1,4 @@
-use Rattle.std.proofs.Common.{◌≡◌, ◌+◌, ◌-◌, ◌<◌, take, drop, length, ap, ◌∙◌, arith}
+use Rattle.std.proofs.Common.{◌≡◌, ◌-◌, ◌<◌, take, drop, length, ap, ◌∙◌, arith}
 use Rattle.protocol_parts.specs.declared.buckets.Recorded.{Recorded}
 use Rattle.protocol_parts.specs.Buckets.{oldest, without}
 use Rattle.conflict_buckets.proofs.PairLemmas.{length-forgotten}
