@@ -6,6 +6,7 @@ mod buckets;
 mod completion;
 mod key_read;
 mod pairs;
+mod record;
 mod resolve;
 mod rows;
 mod session;
@@ -23,6 +24,7 @@ pub use key_read::{
     reads_end, reads_mark_old_alone,
 };
 pub use pairs::Put;
+pub use record::{ExtendRefused, Grant, RenewRefused, TakeRefused};
 pub use resolve::{
     Outcome, SettlePoint, committed_is_told, dead_by_last_look, mark_never_decides,
     marks_where_allowed, settles_end,
