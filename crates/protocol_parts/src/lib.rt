@@ -5,6 +5,8 @@ mod asks;
 mod buckets;
 mod completion;
 mod key_read;
+mod pairs;
+mod record;
 mod resolve;
 mod rows;
 mod session;
@@ -21,6 +23,8 @@ pub use key_read::{
     Answer, Next, answers_own_or_below, answers_resolved, passed_are_late, passes_dead_or_late,
     reads_end, reads_mark_old_alone,
 };
+pub use pairs::Put;
+pub use record::{ExtendRefused, Grant, RenewRefused, TakeRefused};
 pub use resolve::{
     Outcome, SettlePoint, committed_is_told, dead_by_last_look, mark_never_decides,
     marks_where_allowed, settles_end,

@@ -1,0 +1,12 @@
+use Rattle.std.proofs.Common.{sym, ap, ◌∙◌}
+use Rattle.std.specs.FinSet as set
+use Rattle.commit_table.proofs.Marks.{set_from-insert, insert-there}
+use Rattle.commit_table.proofs.Table.reserve.Goals as goal
+
+pub returns-then-contains-clause-places : goal.returns-then-contains-clause-places
+returns-then-contains-clause-places c =
+    let there = rw c.value-number.ensures.value at c.contains.ensures in
+    rw (← c.self.view_is) (insert-there c.self.inside.places.keys c.args.txn (sym there ∙ c.if-contains.true))
+
+pub returns-clause-places : goal.returns-clause-places
+returns-clause-places c = set_from-insert c.self.inside.places c.insert.new.self c.args.txn (rw c.value-number.ensures.value at c.in_ok-insert.ensures.updates) ∙ ap (λ s. set.insert s.places c.args.txn) c.self.view_is

@@ -1,0 +1,226 @@
+// The commit table: the marks of transactions, and places for the marks that must not want memory.
+#![tactic(auto)]
+
+ghost use Rattle.std.specs.Prelude.{◌≡◌, ◌↔◌, None, IfOk, IsOk, IsTrue, OnErr, OnOk};
+ghost use Rattle.std.specs.FinMap as map;
+ghost use Rattle.std.specs.FinSet as set;
+ghost use Rattle.commit_table.specs.Calls.{mark_of, put_answer, put_pair, without_committed, AsksOnce, UnlessNoMemory, OnNoMemory, OnStoreFault, fated, Counts, Risen};
+
+mod held;
+
+use held::{place, remove_where_committed};
+use indexmap::{IndexMap, IndexSet};
+use port_io::{Fate, Store, Weather};
+pub use protocol_parts::{Put, StoreError, StoreFault};
+use stamp_base::{Mark, NoMemory, TxnId};
+use std::alloc::Global;
+use std::marker::Model;
+
+/// The marks of transactions. A call finds, adds and removes in constant time, so the order of the
+/// entries means nothing, and contracts see them as a map.
+#[derive(Drop)]
+pub struct Table {
+    // By the transactions' numbers.
+    pairs: IndexMap<u64, Mark>,
+    places: IndexSet<u64>,
+}
+
+impl Model for Table {
+    ghost use Rattle.commit_table.specs.Seen.{SeenTable, seen_code};
+
+    ghost Value = { SeenTable };
+
+    ghost coded = { seen_code };
+
+    ghost use Rattle.commit_table.specs.Kept.{pairs_of, places_of, HasRoom};
+
+    ghost view = { λ t. record { pairs = pairs_of t; places = places_of t } };
+
+    ghost invariant = { HasRoom };
+}
+
+impl Table {
+    /// No entries and no places.
+    pub fn new(alloc: Global) -> Table
+        ensures pairs { result.pairs ≡ map.empty }
+        ensures places { result.places ≡ set.empty }
+    {
+        Table {
+            pairs: IndexMap::new(alloc),
+            places: IndexSet::new(alloc),
+        }
+    }
+
+    /// The transaction's mark, in one step.
+    pub fn get<W: Weather>(&self, weather: &mut W, txn: TxnId) -> Result<Option<Mark>, StoreFault>
+        ensures value { IfOk result (λ found. found ≡ mark_of self.now.pairs txn) }
+        ensures answer { IsOk result ↔ (W.ahead weather.old Store.Table 0 ≡ Fate.Works) }
+        ensures asked { AsksOnce Store.Table (W.ahead weather.old) (W.ahead weather.new) }
+        ensures counted { Counts (W.ahead weather.old Store.Table 0) (W.faults weather.old) (W.faults weather.new) }
+        ensures fault { OnErr result (Risen (W.faults weather.old) (W.faults weather.new)) }
+    {
+        let found = self.mark(txn);
+        match weather.next(Store::Table) {
+            Fate::Works => Ok(found),
+            Fate::FailsUnchanged => Err(StoreFault),
+            Fate::FailsApplied => Err(StoreFault),
+        }
+    }
+
+    /// Places the mark where the transaction has none. An entry that is there stays, and is the answer.
+    /// After NoMemory the table is as before and the weather was not asked.
+    pub fn put_if_absent<W: Weather>(
+        &mut self,
+        weather: &mut W,
+        txn: TxnId,
+        mark: Mark,
+    ) -> Result<Put, StoreError>
+        ensures value { IfOk result (λ put. put ≡ put_answer (mark_of self.old.pairs txn)) }
+        ensures pairs { UnlessNoMemory result (self.new.pairs ≡ fated (W.ahead weather.old Store.Table 0)
+            self.old.pairs (put_pair self.old.pairs txn mark)) }
+        ensures places { self.new.places ≡ self.old.places }
+        ensures answer { UnlessNoMemory result (IsOk result ↔ (W.ahead weather.old Store.Table 0 ≡ Fate.Works)) }
+        ensures asked { UnlessNoMemory result (AsksOnce Store.Table (W.ahead weather.old) (W.ahead weather.new)) }
+        ensures counted { UnlessNoMemory result
+            (Counts (W.ahead weather.old Store.Table 0) (W.faults weather.old) (W.faults weather.new)) }
+        ensures fault { OnStoreFault result (Risen (W.faults weather.old) (W.faults weather.new)) }
+        ensures memory { OnNoMemory result ((self.new ≡ self.old) × (weather.new ≡ weather.old)) }
+    {
+        match self.mark(txn) {
+            Some(there) => Ok(find(weather, there)?),
+            None => self.put_new(weather, txn, mark),
+        }
+    }
+
+    /// Gives the transaction a place, so that a later `put_reserved` of it takes no memory. The pairs
+    /// stay. A transaction that has a place keeps it.
+    pub fn reserve(&mut self, txn: TxnId) -> Result<(), NoMemory>
+        ensures pairs { self.new.pairs ≡ self.old.pairs }
+        ensures places { OnOk result (self.new.places ≡ set.insert self.old.places txn) }
+        ensures memory { OnErr result (self.new ≡ self.old) }
+    {
+        let number = txn.value();
+        if self.places.contains(&number) {
+            return Ok(());
+        }
+        self.pairs.reserve(self.places.len() + 1)?;
+        self.places.insert(number)?;
+        Ok(())
+    }
+
+    /// Places the mark where the transaction has none, in the place that was reserved for it. The place
+    /// is used up whatever the fate.
+    pub fn put_reserved<W: Weather>(
+        &mut self,
+        weather: &mut W,
+        txn: TxnId,
+        mark: Mark,
+    ) -> Result<Put, StoreFault>
+        requires { IsTrue (set.contains self.old.places txn) }
+        ensures value { IfOk result (λ put. put ≡ put_answer (mark_of self.old.pairs txn)) }
+        ensures pairs { self.new.pairs ≡ fated (W.ahead weather.old Store.Table 0)
+            self.old.pairs (put_pair self.old.pairs txn mark) }
+        ensures places { self.new.places ≡ set.remove self.old.places txn }
+        ensures answer { IsOk result ↔ (W.ahead weather.old Store.Table 0 ≡ Fate.Works) }
+        ensures asked { AsksOnce Store.Table (W.ahead weather.old) (W.ahead weather.new) }
+        ensures counted { Counts (W.ahead weather.old Store.Table 0) (W.faults weather.old) (W.faults weather.new) }
+        ensures fault { OnErr result (Risen (W.faults weather.old) (W.faults weather.new)) }
+    {
+        let put = answer(self.mark(txn));
+        self.places.swap_remove(&txn.value());
+        match weather.next(Store::Table) {
+            Fate::Works => {
+                place(&mut self.pairs, txn, mark);
+                Ok(put)
+            }
+            Fate::FailsUnchanged => Err(StoreFault),
+            Fate::FailsApplied => {
+                place(&mut self.pairs, txn, mark);
+                Err(StoreFault)
+            }
+        }
+    }
+
+    /// Removes a Committed entry. An Invalid one stays, and so does everything where there is none.
+    pub fn remove_committed<W: Weather>(
+        &mut self,
+        weather: &mut W,
+        txn: TxnId,
+    ) -> Result<(), StoreFault>
+        ensures pairs { self.new.pairs ≡ fated (W.ahead weather.old Store.Table 0)
+            self.old.pairs (without_committed self.old.pairs txn) }
+        ensures places { self.new.places ≡ self.old.places }
+        ensures answer { IsOk result ↔ (W.ahead weather.old Store.Table 0 ≡ Fate.Works) }
+        ensures asked { AsksOnce Store.Table (W.ahead weather.old) (W.ahead weather.new) }
+        ensures counted { Counts (W.ahead weather.old Store.Table 0) (W.faults weather.old) (W.faults weather.new) }
+        ensures fault { OnErr result (Risen (W.faults weather.old) (W.faults weather.new)) }
+    {
+        match weather.next(Store::Table) {
+            Fate::Works => {
+                remove_where_committed(&mut self.pairs, txn);
+                Ok(())
+            }
+            Fate::FailsUnchanged => Err(StoreFault),
+            Fate::FailsApplied => {
+                remove_where_committed(&mut self.pairs, txn);
+                Err(StoreFault)
+            }
+        }
+    }
+
+    /// Places the mark of a transaction that has none, beside the room for all transactions with a place.
+    fn put_new<W: Weather>(
+        &mut self,
+        weather: &mut W,
+        txn: TxnId,
+        mark: Mark,
+    ) -> Result<Put, StoreError>
+        requires { mark_of self.old.pairs txn ≡ None }
+        ensures value { IfOk result (λ put. put ≡ Put.Placed) }
+        ensures pairs { UnlessNoMemory result (self.new.pairs ≡ fated (W.ahead weather.old Store.Table 0)
+            self.old.pairs (put_pair self.old.pairs txn mark)) }
+        ensures places { self.new.places ≡ self.old.places }
+        ensures answer { UnlessNoMemory result (IsOk result ↔ (W.ahead weather.old Store.Table 0 ≡ Fate.Works)) }
+        ensures asked { UnlessNoMemory result (AsksOnce Store.Table (W.ahead weather.old) (W.ahead weather.new)) }
+        ensures counted { UnlessNoMemory result
+            (Counts (W.ahead weather.old Store.Table 0) (W.faults weather.old) (W.faults weather.new)) }
+        ensures memory { OnNoMemory result ((self.new ≡ self.old) × (weather.new ≡ weather.old)) }
+    {
+        self.pairs.reserve(self.places.len() + 1)?;
+        match weather.next(Store::Table) {
+            Fate::Works => {
+                place(&mut self.pairs, txn, mark);
+                Ok(Put::Placed)
+            }
+            Fate::FailsUnchanged => Err(StoreError::StoreFault),
+            Fate::FailsApplied => {
+                place(&mut self.pairs, txn, mark);
+                Err(StoreError::StoreFault)
+            }
+        }
+    }
+}
+
+/// A put that meets an entry changes nothing.
+fn find<W: Weather>(weather: &mut W, there: Mark) -> Result<Put, StoreFault>
+    ensures value { IfOk result (λ put. put ≡ Put.Found there) }
+    ensures answer { IsOk result ↔ (W.ahead weather.old Store.Table 0 ≡ Fate.Works) }
+    ensures asked { AsksOnce Store.Table (W.ahead weather.old) (W.ahead weather.new) }
+    ensures counted { Counts (W.ahead weather.old Store.Table 0) (W.faults weather.old) (W.faults weather.new) }
+{
+    match weather.next(Store::Table) {
+        Fate::Works => Ok(Put::Found(there)),
+        Fate::FailsUnchanged => Err(StoreFault),
+        Fate::FailsApplied => Err(StoreFault),
+    }
+}
+
+/// What a put answers where it works.
+fn answer(found: Option<Mark>) -> Put
+    ensures { result ≡ put_answer found }
+{
+    match found {
+        Some(there) => Put::Found(there),
+        None => Put::Placed,
+    }
+}
