@@ -18,7 +18,7 @@ pub enum Fate {
     FailsApplied,
 }
 
-/// The order in which store calls work and fail. A store call asks it once.
+/// Which store calls work and which fail. Each store call asks for one fate.
 pub trait Weather {
     ghost use Rattle.port_io.specs.Fates.{Counts};
     ghost use Rattle.port_io.specs.declared.weather.Store.{Store};
