@@ -1,0 +1,4 @@
+pub mod AnswersLemmas
+pub mod RunLemmas
+pub mod PrintLemmas
+pub mod PromiseLemmas

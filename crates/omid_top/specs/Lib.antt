@@ -1,0 +1,5 @@
+pub mod Replay
+pub mod Answers
+pub mod Texts
+pub mod Promise
+pub mod Runs

@@ -1,0 +1,19 @@
+-- What is promised of the history of a script.
+use Rattle.std.specs.Prelude.{ℕ, ◌≤◌, List, Option, IfSome, Result, Ok, Err, take}
+use Rattle.history_book.specs.Isolation.{Isolated}
+use Rattle.protocol.specs.Explained.{Explained}
+use Rattle.port_io.specs.Ports.{Gains}
+use Rattle.session_script.specs.Script.{ScriptData, BadLine}
+use Rattle.omid_top.specs.Replay.{replayed}
+use Rattle.omid_top.specs.Answers.{Answers}
+
+-- The history of the script, carried out in file order, is snapshot isolated, shows the cause of every
+-- refused commit, and answers every line.
+pub record KeepsPromise (script : ScriptData) : Type 0 where
+  pub isolated : Isolated (replayed script)
+  pub explained : Explained (replayed script)
+  pub answers : Answers script (replayed script)
+
+-- the sink got a front of the text
+abbrev pub GainsFront : Option (List ℕ) → Option (List ℕ) → List ℕ → Type 0
+GainsFront old new text = (n : ℕ) × Gains old new (take n text)

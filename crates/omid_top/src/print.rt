@@ -1,0 +1,66 @@
+// Writing texts and histories. It takes no memory.
+ghost use Rattle.std.specs.Prelude.{◌≡◌, ◌+◌, ◌≤◌, ◌<◌, ◌^◌, OnOk, OnErr, length};
+ghost use Rattle.port_io.specs.Ports.{Risen, Gains};
+ghost use Rattle.history_book.specs.Text.{text_of, printed};
+ghost use Rattle.omid_top.specs.Texts.{usage_text, bad_line_text};
+ghost use Rattle.omid_top.specs.Promise.{GainsFront};
+
+use crate::script::ScriptCause;
+use history_book::{Item, LineBuf, print_item};
+use port_io::{Sink, SinkStop, write_all_of};
+
+/// Writes the items, each by one write of its line.
+pub fn print_history<K: Sink>(sink: &mut K, items: &[Item]) -> Result<(), SinkStop>
+    ensures all { OnOk result (Gains (K.held sink.old) (K.held sink.new) (printed items.now)) }
+    ensures front { OnErr result (GainsFront (K.held sink.old) (K.held sink.new) (printed items.now)) }
+    ensures failed { OnErr result (Risen (K.faults sink.old) (K.faults sink.new)) }
+{
+    let mut line = LineBuf::new();
+    for item in items {
+        print_item(item, &mut line);
+        match write_all_of(sink, line.as_slice()) {
+            Ok(()) => {}
+            Err(stop) => return Err(stop),
+        }
+    }
+    Ok(())
+}
+
+/// Writes the usage line.
+pub fn print_usage<K: Sink>(sink: &mut K) -> Result<(), SinkStop>
+    ensures all { OnOk result (Gains (K.held sink.old) (K.held sink.new) usage_text) }
+    ensures front { OnErr result (GainsFront (K.held sink.old) (K.held sink.new) usage_text) }
+    ensures failed { OnErr result (Risen (K.faults sink.old) (K.faults sink.new)) }
+{
+    print_text(sink, b"usage: omid replay [summary|json] | run | audit | storm N\n")
+}
+
+/// Writes the first bad line of a script and its first cause.
+pub fn print_bad_line<K: Sink>(sink: &mut K, number: u64, cause: ScriptCause) -> Result<(), SinkStop>
+    ensures all { OnOk result (Gains (K.held sink.old) (K.held sink.new) (bad_line_text (record { line = number; cause = cause }))) }
+    ensures front { OnErr result (GainsFront (K.held sink.old) (K.held sink.new) (bad_line_text (record { line = number; cause = cause }))) }
+    ensures failed { OnErr result (Risen (K.faults sink.old) (K.faults sink.new)) }
+{
+    let mut line = LineBuf::new();
+    set_bad_line(&mut line, number, cause);
+    print_text(sink, line.as_slice())
+}
+
+/// Leaves the text in the buffer that names a script's first bad line.
+fn set_bad_line(line: &mut LineBuf, number: u64, cause: ScriptCause)
+    ensures { line.new ≡ bad_line_text (record { line = number; cause = cause }) }
+{
+    line.set_text(b"script line ");
+    line.push_number(number);
+    line.push_text(b": ");
+    line.push_text(cause.text());
+    line.push_text(b"\n");
+}
+
+fn print_text<K: Sink>(sink: &mut K, text: &[u8]) -> Result<(), SinkStop>
+    ensures all { OnOk result (Gains (K.held sink.old) (K.held sink.new) text.now) }
+    ensures front { OnErr result (GainsFront (K.held sink.old) (K.held sink.new) text.now) }
+    ensures failed { OnErr result (Risen (K.faults sink.old) (K.faults sink.new)) }
+{
+    write_all_of(sink, text)
+}
