@@ -1,9 +1,9 @@
 -- What the shadows of a version's rows may be, before and after one of them is set.
-use Rattle.std.proofs.Common.{◌≡◌, ℕ, ◌==◌, ◌&&◌, Bool, true, false, List, [], ◌∷◌, Option, Some, None, inl, inr, refl, sym, subst}
+use Rattle.std.proofs.Common.{◌≡◌, ℕ, List, [], ◌∷◌, Option, Some, None, inl, inr, refl, sym, subst}
 use Rattle.std.specs.Prelude.{IfSome}
 use Rattle.std.proofs.lemmas.Bool.{cases_Bool}
 use Rattle.protocol_parts.specs.declared.rows.Cell.{Cell}
-use Rattle.protocol_parts.specs.Rows.{Row, is_row, cell_of, looked, with_shadow}
+use Rattle.protocol_parts.specs.Rows.{Row, is_row, looked, with_shadow}
 use Rattle.cluster_core.specs.OpenRows.{IsBare, HasOnly}
 
 -- where one row gets the commit, no row of the version gets another one

@@ -1,5 +1,4 @@
 -- What the fields of an engine stand for.
-use Rattle.std.specs.Prelude.{◌≤◌}
 use Rattle.cluster_core.specs.Whole.{Whole}
 use Rattle.cluster_core.specs.declared.engine.Engine.TheInside.{Inside}
 

@@ -1,5 +1,5 @@
 -- A cluster as its contracts see it, and what a method makes of it.
-use Rattle.std.specs.Prelude.{◌≡◌, List, ◌++◌, Option, None, Some, Result, Ok, Err}
+use Rattle.std.specs.Prelude.{◌≡◌, List, ◌++◌, None, Some, Result, Ok, Err}
 use Rattle.history_book.specs.declared.item.Item.{Item}
 use Rattle.protocol.specs.State.{State, Step}
 use Rattle.cluster_core.specs.declared.stopped.Stopped.{Stopped}
