@@ -2,7 +2,7 @@
 #![tactic(auto)]
 
 ghost use Rattle.std.specs.Prelude.{◌≡◌, ◌+◌, ◌<◌, ◌≤◌, ◌↔◌, List, ◌++◌, ◌∷◌, [], ℕ, All, max, IsTrue, IsOk, OnOk, IfErr};
-ghost use Rattle.lease_keeper.specs.Steady.{IsSteady};
+ghost use Rattle.lease_keeper.specs.Steady.{Steady};
 
 use std::marker::Model;
 
@@ -63,7 +63,7 @@ impl Lease {
 /// Whether a reading may come after one of `seen`, of clocks that differ by at most `skew`.
 pub fn is_steady(seen: u64, reading: u64, skew: u64) -> bool
     ensures value { IsTrue result ↔ (seen ≤ reading + skew) }
-    ensures pair { IsTrue result ↔ IsSteady skew (seen ∷ reading ∷ []) }
+    ensures pair { IsTrue result ↔ Steady skew (seen ∷ reading ∷ []) }
 {
     // A difference that stops at 0 stands for the sum, which may pass the type's range.
     seen.saturating_sub(skew) <= reading
@@ -72,8 +72,8 @@ pub fn is_steady(seen: u64, reading: u64, skew: u64) -> bool
 /// Readings stay steady under one more, where it is steady after the greatest of them.
 pub fn steady_readings_go_on()
     ensures { (skew : ℕ) (readings : List ℕ) (seen reading : ℕ) →
-        IsSteady skew readings → All (λ earlier. earlier ≤ seen) readings → seen ≤ reading + skew →
-        IsSteady skew (readings ++ reading ∷ []) }
+        Steady skew readings → All (λ earlier. earlier ≤ seen) readings → seen ≤ reading + skew →
+        Steady skew (readings ++ reading ∷ []) }
 {}
 
 #[cfg(test)]

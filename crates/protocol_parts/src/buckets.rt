@@ -59,7 +59,8 @@ pub fn recordings_go_on()
 {}
 
 /// Where commits never fall: Free says that no key's last commit is above the start, Conflict names a key's last commit,
-/// which is above the start, and Hidden names a commit above the start of another key of that bucket.
+/// which is above the start, and Hidden names a key that is not kept, and a commit above the start that was recorded in its
+/// bucket.
 pub fn verdicts_are_shown()
     ensures { (count width : ℕ) (pairs : List Recorded) (start : ℕ) (keys : List ℕ) →
         1 ≤ count → 1 ≤ width → memory.CommitsRise pairs →
