@@ -247,3 +247,6 @@ impl Cells {
         }
     }
 }
+
+#[cfg(test)]
+mod tests;
