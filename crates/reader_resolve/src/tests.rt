@@ -122,7 +122,14 @@ fn own_writes_and_shadows(rt: HostRuntime) -> Result<(), Fail> {
     assert_eq!(rt; next, Next::Done(answer));
     let shadow = Some(stamp(2)?);
     let start = stamp(3)?;
-    let shadowed = one(rt.alloc(), start, Cell { shadow, ..bare(1, b"p")? })?;
+    let shadowed = one(
+        rt.alloc(),
+        start,
+        Cell {
+            shadow,
+            ..bare(1, b"p")?
+        },
+    )?;
     let (_, next) = ReadRun::start(k0, start, 0, shadowed);
     assert_eq!(rt; next, Next::Done(answer));
     Ok(())
