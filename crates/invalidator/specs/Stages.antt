@@ -1,5 +1,5 @@
 -- A sweep's stage as the definitions see it.
-use Rattle.std.specs.Prelude.{ℕ, ◌+◌, ◌≤◌, List, drop}
+use Rattle.std.specs.Prelude.{ℕ, ◌+◌, ◌≤◌, drop}
 use Rattle.std.specs.Vec.{vec_len}
 use Rattle.invalidator.specs.declared.sweep.Stage.{Stage}
 use Rattle.invalidator.specs.declared.sweep.Stage.TheVariants.{Table as AtTable, Marking as AtMarking, Listing as AtListing, Listed as AtListed, Undecided as AtUndecided}

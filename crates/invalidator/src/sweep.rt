@@ -15,7 +15,9 @@ enum Stage {
     /// A mark is to be placed.
     Marking,
     /// The keys are asked, for what the commit table was found to have.
-    Listing { found: Mark },
+    Listing {
+        found: Mark,
+    },
     /// The cells of these keys are completed or erased; so many steps were done.
     Listed {
         found: Mark,

@@ -16,10 +16,7 @@ fn key(n: u64) -> Result<KeyNo, &'static str> {
 }
 
 /// Tells each answer, whose ask must be next, and gives what the last one decided.
-fn settled(
-    mut settle: Settle,
-    steps: &[(Ask, Told)],
-) -> Result<Option<Outcome>, &'static str> {
+fn settled(mut settle: Settle, steps: &[(Ask, Told)]) -> Result<Option<Outcome>, &'static str> {
     let mut outcome = None;
     for (ask, told) in steps {
         if settle.next() != *ask || !fits(*ask, *told) || outcome.is_some() {

@@ -1,5 +1,5 @@
 -- What a turn of the code leaves and asks is what the read's turn leaves and asks.
-use Rattle.std.proofs.Common.{◌≡◌, ℕ, ◌<◌, List, [], ◌∷◌, Option, None, Some, IfSome, length, drop, refl, sym, ap, ◌∙◌, arith, length-drop}
+use Rattle.std.proofs.Common.{◌≡◌, ℕ, ◌<◌, List, [], ◌∷◌, Option, None, Some, IfSome, length, drop, refl, ap, ◌∙◌, arith, length-drop}
 use Rattle.stamp_base.specs.declared.steps.Ask.{Ask}
 use Rattle.stamp_base.specs.declared.steps.Told.{Told}
 use Rattle.protocol_parts.specs.declared.rows.Cell.{Cell}

@@ -1,5 +1,5 @@
 -- A cell that is decided and does not answer is passed over.
-use Rattle.std.proofs.Common.{◌≡◌, ℕ, zero, suc, ◌+◌, ◌<◌, ◌≤◌, nat_lt, Bool, true, false, List, [], ◌∷◌, length, drop, refl, sym, ap, ◌∙◌, add-one, arith}
+use Rattle.std.proofs.Common.{◌≡◌, ℕ, zero, suc, ◌+◌, ◌<◌, nat_lt, false, List, [], ◌∷◌, length, drop, refl, sym, ap, ◌∙◌, add-one, arith}
 use Rattle.std.proofs.lemmas.Bool.{lt-leb}
 use Rattle.protocol_parts.specs.declared.rows.Cell.{Cell}
 use Rattle.protocol_parts.specs.declared.resolve.Outcome.{Outcome}

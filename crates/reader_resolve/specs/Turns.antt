@@ -1,5 +1,5 @@
 -- A turn of the code as the definitions see it.
-use Rattle.std.specs.Prelude.{◌≡◌, ℕ, ◌<◌, nat_le, List, [], ◌∷◌, Option, None, Some, length, drop}
+use Rattle.std.specs.Prelude.{◌≡◌, ◌<◌, nat_le, List, [], ◌∷◌, Option, None, Some, length, drop}
 use Rattle.stamp_base.specs.declared.steps.Told.{Told}
 use Rattle.protocol_parts.specs.declared.rows.Cell.{Cell}
 use Rattle.protocol_parts.specs.declared.resolve.SettlePoint.{SettlePoint}

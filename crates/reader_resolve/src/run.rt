@@ -83,7 +83,10 @@ impl ReadRun {
         ensures next { IfSome self.old (λ r. result ≡ next_of (read_told r answer)) }
     {
         let cells = self.cells.as_slice();
-        match self.reader.turn_told(cells, self.passed, self.settle, answer) {
+        match self
+            .reader
+            .turn_told(cells, self.passed, self.settle, answer)
+        {
             Turn::Resolves { passed, settle } => {
                 self.passed = passed;
                 self.settle = settle;

@@ -20,6 +20,7 @@ fn value(bytes: &[u8]) -> Result<Value, &'static str> {
 }
 
 /// What a fetch up to the start gives, where one version is there.
+#[tactic(auto, using(crate::proofs::Fetched::fetched_one))]
 fn one(alloc: Global, start: Stamp, cell: Cell) -> Result<Vec<Cell>, Fail>
     ensures { IfOk result (λ cells. AreFetched start cells.items) }
 {
@@ -30,6 +31,7 @@ fn one(alloc: Global, start: Stamp, cell: Cell) -> Result<Vec<Cell>, Fail>
 }
 
 /// What a fetch up to the start gives, where two versions are there.
+#[tactic(auto, using(crate::proofs::Fetched::fetched_two))]
 fn two(alloc: Global, start: Stamp, newer: Cell, older: Cell) -> Result<Vec<Cell>, Fail>
     ensures { IfOk result (λ cells. AreFetched start cells.items) }
 {
@@ -120,7 +122,14 @@ fn own_writes_and_shadows(rt: HostRuntime) -> Result<(), Fail> {
     assert_eq!(rt; next, Next::Done(answer));
     let shadow = Some(stamp(2)?);
     let start = stamp(3)?;
-    let shadowed = one(rt.alloc(), start, Cell { shadow, ..bare(1, b"p")? })?;
+    let shadowed = one(
+        rt.alloc(),
+        start,
+        Cell {
+            shadow,
+            ..bare(1, b"p")?
+        },
+    )?;
     let (_, next) = ReadRun::start(k0, start, 0, shadowed);
     assert_eq!(rt; next, Next::Done(answer));
     Ok(())

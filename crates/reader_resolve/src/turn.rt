@@ -60,10 +60,7 @@ impl Reader {
     {
         let mut settle = settle;
         match settle.told(answer) {
-            None => Turn::Resolves {
-                passed: at,
-                settle,
-            },
+            None => Turn::Resolves { passed: at, settle },
             Some(outcome) => self.turn_by(cells, at, outcome),
         }
     }

@@ -7,7 +7,6 @@ ghost use Rattle.protocol_parts.specs.Completion.{finish_asks, undo_asks, first_
 mod asks;
 
 pub use asks::{finish_ask, undo_ask};
-
 use stamp_base::{Ask, KeyList, Stamp, TxnId};
 use std::marker::Model;
 

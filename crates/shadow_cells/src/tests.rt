@@ -1,4 +1,5 @@
 use super::*;
+use stamp_base::KeyNo;
 use std::alloc::{AllocError, Global};
 use std::test::Fail;
 
@@ -34,7 +35,10 @@ fn drive(alloc: Global, mut completion: Completion) -> Result<Vec<Ask>, AllocErr
 #[test]
 fn vanished_session(rt: HostRuntime) -> Result<(), Fail> {
     let (start, commit) = (stamp(1)?, stamp(2)?);
-    let asks = drive(rt.alloc(), Completion::finish(start, commit, keys_below(2)?))?;
+    let asks = drive(
+        rt.alloc(),
+        Completion::finish(start, commit, keys_below(2)?),
+    )?;
     let want = [
         Ask::Shadow(key(0)?, start, commit),
         Ask::Shadow(key(1)?, start, commit),
@@ -50,7 +54,10 @@ fn vanished_session(rt: HostRuntime) -> Result<(), Fail> {
 #[test]
 fn own_writes(rt: HostRuntime) -> Result<(), Fail> {
     let (start, commit) = (stamp(1)?, stamp(2)?);
-    let asks = drive(rt.alloc(), Completion::finish(start, commit, keys_below(64)?))?;
+    let asks = drive(
+        rt.alloc(),
+        Completion::finish(start, commit, keys_below(64)?),
+    )?;
     assert_eq!(rt; asks.len(), 65);
     assert_eq!(rt; asks[63], Ask::Shadow(key(63)?, start, commit));
     assert_eq!(rt; asks[64], Ask::Remove(start));

@@ -1,6 +1,4 @@
-use Rattle.std.proofs.Common.{◌≡◌, ◌≤◌, sym, ◌∙◌, arith}
-use Rattle.protocol_parts.specs.Resolve.{Decides}
-use Rattle.protocol_parts.specs.KeyRead.{LetsPass}
+use Rattle.std.proofs.Common.{◌≤◌, sym, ◌∙◌, arith}
 use Rattle.reader_resolve.proofs.TurnLemmas.{passed_on}
 use Rattle.reader_resolve.proofs.turn.Reader.turn_by.Goals as goal
 
