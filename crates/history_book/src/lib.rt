@@ -16,3 +16,6 @@ pub use laws::texts_differ;
 pub use line::LineBuf;
 pub use printing::print_item;
 pub use reading::read_item;
+
+#[cfg(test)]
+mod tests;
