@@ -1,11 +1,11 @@
 -- The texts of the items of any actor are read as the items.
-use Rattle.std.proofs.Common.{◌≡◌, ℕ, List, [], ◌∷◌, ◌++◌, append_assoc, Option, None, Some, decimal, codes, refl, ap, ◌∙◌, arith}
+use Rattle.std.proofs.Common.{◌≡◌, ℕ, ◌++◌, append_assoc, Some, decimal, codes, refl, arith}
 use Rattle.history_book.specs.Words.{actor_text, stage_text, store_text}
 use Rattle.history_book.specs.Text.{note_text}
 use Rattle.history_book.specs.CauseText.{cause_text}
 use Rattle.history_book.specs.StepText.{step_text}
 use Rattle.history_book.specs.Fits.{IsStamp, FitsActor, FitsNote, FitsStep, FitsCause}
-use Rattle.history_book.specs.ReadWords.{word_len, first_word, after_word, after_text, field_at}
+use Rattle.history_book.specs.ReadWords.{word_len, first_word, after_word}
 use Rattle.history_book.specs.ReadActors.{stage_at, store_at, post_at, await_at, hold_at, free_at, note_kind_at, note_at, note_item_at, mark_item_at, step_item_at, refused_at, fault_at}
 use Rattle.stamp_base.specs.declared.steps.Stage.{Stage}
 use Rattle.stamp_base.specs.declared.steps.Stage.TheVariants.{Request, Persist, Reply}

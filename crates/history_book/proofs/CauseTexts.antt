@@ -1,13 +1,13 @@
 -- The texts of the causes are read as the causes.
-use Rattle.std.proofs.Common.{◌≡◌, ℕ, List, [], ◌∷◌, ◌++◌, append_assoc, Option, None, Some, decimal, codes, refl, ap, ◌∙◌, arith}
+use Rattle.std.proofs.Common.{◌≡◌, ℕ, [], ◌++◌, append_assoc, Some, decimal, codes, refl, arith}
 use Rattle.history_book.specs.Words.{node_text, session_text, key_text}
 use Rattle.history_book.specs.CauseText.{cause_text}
 use Rattle.history_book.specs.Fits.{IsNumber, IsStamp, IsTerm, IsNode, IsSession, IsKey, FitsCause}
-use Rattle.history_book.specs.ReadWords.{word_len, first_word, after_word, after_text, field_at}
+use Rattle.history_book.specs.ReadWords.{word_len, first_word, after_word, after_text}
 use Rattle.history_book.specs.ReadCauses.{conflict_at, hidden_at, old_epoch_at, expired_at, replaced_at, spent_at, no_stamp_at, invalid_at, open_at, crashed_at, not_yet_at, no_request_at, no_oracle_at, full_at, early_at, holding_at, undecided_at, transaction_cause_at, lease_cause_at, place_cause_at, plain_cause_at, cause_at}
 use Rattle.history_book.specs.declared.cause.Cause.{Cause}
 use Rattle.history_book.specs.declared.cause.Cause.TheVariants.{Conflict, Hidden, OldEpoch, Expired, Replaced, Spent, NoStamp, Invalid, Open, Crashed, NotYet, NoRequest, NoOracle, Full, Early, Holding, Undecided, NoTransaction, Busy, TooManyKeys, Gone, Idle}
-use Rattle.history_book.proofs.NumberLemmas.{number-blank, number-end, field-blank, field-end, letter-in, node-in, session-in, key-in, stamp-in, term-in}
+use Rattle.history_book.proofs.NumberLemmas.{field-blank, field-end, letter-in, node-in, session-in, key-in, stamp-in, term-in}
 
 conflict_again : (key by : ℕ) → IsKey key → IsStamp by
     → conflict_at (codes "key=" ++ key_text key ++ codes " by=" ++ decimal by) ≡ Some (Conflict key by)

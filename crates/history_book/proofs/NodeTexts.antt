@@ -1,8 +1,7 @@
 -- The texts of the items of the clock and of the nodes are read as the items.
-use Rattle.std.proofs.Common.{◌≡◌, ℕ, List, [], ◌++◌, append_assoc, Option, Some, decimal, codes, refl, arith}
+use Rattle.std.proofs.Common.{◌≡◌, ℕ, ◌++◌, append_assoc, Some, decimal, codes, refl}
 use Rattle.history_book.specs.Words.{node_text}
 use Rattle.history_book.specs.Fits.{IsNumber, IsTerm, IsNode}
-use Rattle.history_book.specs.ReadWords.{after_text, field_at}
 use Rattle.history_book.specs.ReadNodes.{tick_at, take_at, renew_at, extend_at, crash_at}
 use Rattle.history_book.specs.declared.item.Item.TheVariants.{Tick, Take, Renew, Extend, Crash}
 use Rattle.history_book.proofs.NumberLemmas.{number-end, field-blank, field-end, letter-in, node-in, term-in}

@@ -1,13 +1,13 @@
 -- The texts of the items of requests, and of placed commits, are read as the items.
-use Rattle.std.proofs.Common.{◌≡◌, ℕ, List, [], ◌∷◌, ◌++◌, append_assoc, Option, None, Some, decimal, codes, refl, ap, ◌∙◌, arith}
+use Rattle.std.proofs.Common.{◌≡◌, ℕ, [], ◌++◌, append_assoc, Option, None, Some, decimal, codes, refl, arith}
 use Rattle.std.proofs.lemmas.List.{append-nil}
-use Rattle.history_book.specs.Words.{node_text, session_text, key_text}
+use Rattle.history_book.specs.Words.{node_text, session_text}
 use Rattle.history_book.specs.Text.{commit_text}
-use Rattle.history_book.specs.Fits.{IsNumber, IsStamp, IsTerm, IsNode, IsSession, IsKey, FitsCommit}
-use Rattle.history_book.specs.ReadWords.{after_text, field_at}
+use Rattle.history_book.specs.Fits.{IsNumber, IsStamp, IsTerm, IsNode, IsSession, FitsCommit}
+use Rattle.history_book.specs.ReadWords.{after_text}
 use Rattle.history_book.specs.ReadRequests.{no_commit_at, commit_at, ask_begin_at, ask_commit_at, accept_at, draw_at, placed_at}
 use Rattle.history_book.specs.declared.item.Item.TheVariants.{AskBegin, AskCommit, Accept, Draw, Placed}
-use Rattle.history_book.proofs.NumberLemmas.{number-blank, number-end, field-blank, field-end, letter-in, node-in, session-in, key-in, stamp-in, term-in}
+use Rattle.history_book.proofs.NumberLemmas.{field-blank, field-end, letter-in, node-in, session-in, stamp-in, term-in}
 
 pub ask_begin_again : (session node : ℕ) → IsSession session → IsNode node
     → ask_begin_at (session_text session ++ codes " " ++ node_text node) ≡ Some (AskBegin session node)

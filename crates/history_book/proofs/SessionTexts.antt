@@ -1,16 +1,16 @@
 -- The texts of the items of sessions are read as the items.
-use Rattle.std.proofs.Common.{◌≡◌, ℕ, List, [], ◌∷◌, ◌++◌, append_assoc, Option, None, Some, decimal, codes, refl, ap, ◌∙◌, arith}
-use Rattle.history_book.specs.Words.{node_text, session_text, key_text}
+use Rattle.std.proofs.Common.{◌≡◌, ℕ, List, ◌++◌, append_assoc, Option, None, Some, decimal, codes, refl, ap, ◌∙◌, arith}
+use Rattle.history_book.specs.Words.{session_text, key_text}
 use Rattle.history_book.specs.Text.{answer_text, ending_text}
 use Rattle.stamp_base.specs.Words.{IsValue}
-use Rattle.history_book.specs.Fits.{IsNumber, IsStamp, IsTerm, IsNode, IsSession, IsKey, FitsAnswer}
-use Rattle.history_book.specs.ReadWords.{after_text, field_at}
+use Rattle.history_book.specs.Fits.{IsStamp, IsSession, IsKey, FitsAnswer}
+use Rattle.history_book.specs.ReadWords.{after_text}
 use Rattle.history_book.specs.ReadSessions.{no_answer_at, found_at, answer_at, ending_at, begin_at, write_at, read_at, committed_at, end_at, vanish_at}
 use Rattle.history_book.specs.declared.item.Found.{Found}
 use Rattle.history_book.specs.declared.item.Ending.{Ending}
 use Rattle.history_book.specs.declared.item.Ending.TheVariants.{ReadOnly, Aborted, Dead}
 use Rattle.history_book.specs.declared.item.Item.TheVariants.{Begin, Write, Read, Committed, End, Vanish}
-use Rattle.history_book.proofs.NumberLemmas.{number-blank, number-end, field-blank, field-end, letter-in, node-in, session-in, key-in, stamp-in, term-in}
+use Rattle.history_book.proofs.NumberLemmas.{field-blank, field-end, session-in, key-in, stamp-in}
 use Rattle.history_book.proofs.ReadingLemmas.{value_at-in}
 
 found_again : (found : Found) → IsStamp found.from → IsValue found.value → found_at (codes "from=" ++ decimal found.from ++ codes " " ++ found.value) ≡ Some (Some found)

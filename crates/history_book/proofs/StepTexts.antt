@@ -1,8 +1,8 @@
 -- The texts of the steps on the stores are read as the steps.
-use Rattle.std.proofs.Common.{◌≡◌, ℕ, List, [], ◌∷◌, ◌++◌, append_assoc, Option, None, Some, decimal, codes, refl, ap, ◌∙◌, arith}
-use Rattle.history_book.specs.Words.{node_text, session_text, key_text}
+use Rattle.std.proofs.Common.{◌≡◌, ℕ, ◌++◌, append_assoc, Option, None, Some, decimal, codes, refl, ap, ◌∙◌, arith}
+use Rattle.history_book.specs.Words.{key_text}
 use Rattle.history_book.specs.StepText.{mark_text, entry_text, seen_text, step_text}
-use Rattle.history_book.specs.Fits.{IsNumber, IsStamp, IsTerm, IsNode, IsSession, IsKey, FitsMark, FitsEntry, FitsSeen, FitsStep}
+use Rattle.history_book.specs.Fits.{IsNumber, IsStamp, IsKey, FitsMark, FitsEntry, FitsSeen, FitsStep}
 use Rattle.history_book.specs.ReadWords.{word_len, first_word, after_word, after_text, field_at}
 use Rattle.history_book.specs.ReadSteps.{committed_at, mark_at, marked_at, entry_at, shadowed_at, seen_at, fetch_at, get_at, mark_found_at, look_at, shadow_at, remove_at, erase_at, keys_at, put_found_at, cell_step_at, table_step_at, step_at}
 use Rattle.stamp_base.specs.declared.steps.Mark.{Mark}
@@ -11,7 +11,7 @@ use Rattle.history_book.specs.declared.item.Seen.{Seen}
 use Rattle.history_book.specs.declared.item.Seen.TheVariants.{Bare, Gone, Commit}
 use Rattle.history_book.specs.declared.item.StoreStep.{StoreStep}
 use Rattle.history_book.specs.declared.item.StoreStep.TheVariants.{Fetch, Get, MarkFound, Look, Shadow, Remove, Erase, Keys, PutFound}
-use Rattle.history_book.proofs.NumberLemmas.{number-blank, number-end, field-blank, field-end, letter-in, node-in, session-in, key-in, stamp-in, term-in}
+use Rattle.history_book.proofs.NumberLemmas.{number-blank, number-end, field-blank, field-end, key-in, stamp-in}
 
 mark_again : (mark : Mark) → FitsMark mark → mark_at (mark_text mark) ≡ Some mark
 unfolding mark_at committed_at after_text field_at

@@ -1,9 +1,9 @@
 -- Words before a blank, and the texts of actors.
-use Rattle.std.proofs.Common.{◌≡◌, ◌≢◌, ℕ, suc, ◌+◌, ◌<◌, ◌≤◌, ◌%◌, ◌==◌, nat_eq, Bool, true, false, ◌&&◌, List, [], ◌∷◌, ◌++◌, Option, Some, decimal, codes, length, take, drop, refl, sym, ap, ◌∙◌, arith}
+use Rattle.std.proofs.Common.{◌≡◌, ◌≢◌, ℕ, ◌+◌, ◌<◌, ◌%◌, ◌==◌, nat_eq, false, List, [], ◌∷◌, ◌++◌, Some, decimal, refl, ap, arith}
 use Rattle.std.proofs.lemmas.Fmt.{decimal_by_steps}
 use Rattle.std.proofs.Math.Bool.{and-false}
 use Rattle.history_book.specs.Words.{actor_text}
-use Rattle.history_book.specs.Fits.{FitsActor, IsNode, IsSession}
+use Rattle.history_book.specs.Fits.{FitsActor}
 use Rattle.history_book.specs.ReadWords.{word_len, first_word, after_word, after_text, field_at, actor_at, session_actor_at, node_actor_at}
 use Rattle.history_book.specs.declared.item.Actor.{Actor}
 use Rattle.history_book.specs.declared.item.Actor.TheVariants.{Clock, Node, Session, Janitor}

@@ -1,5 +1,5 @@
 -- Which items their types have: each number, value and name is in its range.
-use Rattle.std.specs.Prelude.{ℕ, ◌<◌, ◌≤◌, ◌^◌, List, Option, None, Some}
+use Rattle.std.specs.Prelude.{ℕ, ◌<◌, ◌≤◌, ◌^◌, Option, None, Some}
 use Rattle.stamp_base.specs.Words.{IsValue, IsName}
 use Rattle.stamp_base.specs.declared.steps.Mark.{Mark}
 use Rattle.stamp_base.specs.declared.steps.Mark.TheVariants as mark
