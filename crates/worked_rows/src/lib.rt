@@ -1,0 +1,9 @@
+// The worked examples of the whole program, as tables: words, input, output and status. It holds tests alone.
+#![tactic(auto)]
+
+#[cfg(test)]
+mod drips;
+#[cfg(test)]
+mod faults;
+#[cfg(test)]
+mod rows;

@@ -1,0 +1,174 @@
+// What the program writes for a script, byte for byte.
+use omid_top::{OpenGate, omid};
+use port_io::{MemSink, MemSource};
+use std::alloc::{AllocError, Global};
+use std::sync::Wait;
+use std::test::Fail;
+use std::thread::Threads;
+
+/// One call of the program: the words, what stands in its input, what it must write, and its status.
+struct Row {
+    words: &'static [&'static str],
+    input: &'static str,
+    output: &'static str,
+    status: u8,
+}
+
+const PLAIN_PATH: &str =
+    "a take\ns0 begin a\ns0 write k0 v\ns0 commit a\ns1 begin a\ns1 read k0\ns1 commit a\n";
+
+const PLAIN_HISTORY: &str =
+    "take a reading=0 term=1 epoch=0 until=10 ceiling=100\nask-begin s0 a\ndraw s0 a term=1 start=1\nbegin s0 start=1\nwrite s0 start=1 k0 v\nask-commit s0 a start=1\ndraw s0 a term=1 start=1 commit=2\nplaced start=1 commit=2\ncommitted s0 start=1 commit=2\nask-begin s1 a\ndraw s1 a term=1 start=3\nbegin s1 start=3\nread s1 start=3 k0 from=1 v\nend s1 start=3 read-only\n";
+
+const USAGE: &str = "usage: omid replay [summary|json] | run | audit | storm N\n";
+
+static ROWS: [Row; 18] = [
+    // plain_path
+    Row {
+        words: &["replay"],
+        input: PLAIN_PATH,
+        output: PLAIN_HISTORY,
+        status: 0,
+    },
+    // nothing: no line, and none that says anything
+    Row {
+        words: &["replay"],
+        input: "",
+        output: "",
+        status: 0,
+    },
+    Row {
+        words: &["replay"],
+        input: "\n# a comment\n \t\n",
+        output: "",
+        status: 0,
+    },
+    // The last line feed may be missing, and a carriage return may stand before each.
+    Row {
+        words: &["replay"],
+        input: "a take\ns0 begin a\ns0 write k0 v\ns0 commit a\ns1 begin a\ns1 read k0\ns1 commit a",
+        output: PLAIN_HISTORY,
+        status: 0,
+    },
+    Row {
+        words: &["replay"],
+        input: "a take\r\ns0 begin a\r\ns0 write k0 v\r\ns0 commit a\r\ns1 begin a\r\ns1 read k0\r\ns1 commit a\r\n",
+        output: PLAIN_HISTORY,
+        status: 0,
+    },
+    // conflict: the second writer is refused, and commits when it tries again
+    Row {
+        words: &["replay"],
+        input: "a take\ns0 begin a\ns1 begin a\ns0 write k0 p\ns1 write k0 q\ns0 commit a\ns1 commit a\ns1 begin a\ns1 write k0 q\ns1 commit a\n",
+        output: "take a reading=0 term=1 epoch=0 until=10 ceiling=100\nask-begin s0 a\ndraw s0 a term=1 start=1\nbegin s0 start=1\nask-begin s1 a\ndraw s1 a term=1 start=2\nbegin s1 start=2\nwrite s0 start=1 k0 p\nwrite s1 start=2 k0 q\nask-commit s0 a start=1\ndraw s0 a term=1 start=1 commit=3\nplaced start=1 commit=3\ncommitted s0 start=1 commit=3\nask-commit s1 a start=2\nrefused s1 conflict key=k0 by=3\nask-begin s1 a\ndraw s1 a term=1 start=4\nbegin s1 start=4\nwrite s1 start=4 k0 q\nask-commit s1 a start=4\ndraw s1 a term=1 start=4 commit=5\nplaced start=4 commit=5\ncommitted s1 start=4 commit=5\n",
+        status: 0,
+    },
+    // own_writes: the last of its own writes is what a transaction reads
+    Row {
+        words: &["replay"],
+        input: "a take\ns0 begin a\ns0 write k0 p\ns0 read k0\ns0 write k0 q\ns0 read k0\n",
+        output: "take a reading=0 term=1 epoch=0 until=10 ceiling=100\nask-begin s0 a\ndraw s0 a term=1 start=1\nbegin s0 start=1\nwrite s0 start=1 k0 p\nread s0 start=1 k0 from=1 p\nwrite s0 start=1 k0 q\nread s0 start=1 k0 from=1 q\n",
+        status: 0,
+    },
+    // ordinary_use: two accounts, a reader that sees neither new balance, and a conflict
+    Row {
+        words: &["replay"],
+        input: "a take\ns0 begin a\ns0 write k1 100\ns0 write k2 50\ns0 commit a\ns1 begin a\ns1 read k1\ns1 read k2\ns1 write k1 90\ns1 write k2 60\ns2 begin a\ns2 read k1\ns2 write k1 95\ns1 commit a\ns2 commit a\n",
+        output: "take a reading=0 term=1 epoch=0 until=10 ceiling=100\nask-begin s0 a\ndraw s0 a term=1 start=1\nbegin s0 start=1\nwrite s0 start=1 k1 100\nwrite s0 start=1 k2 50\nask-commit s0 a start=1\ndraw s0 a term=1 start=1 commit=2\nplaced start=1 commit=2\ncommitted s0 start=1 commit=2\nask-begin s1 a\ndraw s1 a term=1 start=3\nbegin s1 start=3\nread s1 start=3 k1 from=1 100\nread s1 start=3 k2 from=1 50\nwrite s1 start=3 k1 90\nwrite s1 start=3 k2 60\nask-begin s2 a\ndraw s2 a term=1 start=4\nbegin s2 start=4\nread s2 start=4 k1 from=1 100\nwrite s2 start=4 k1 95\nask-commit s1 a start=3\ndraw s1 a term=1 start=3 commit=5\nplaced start=3 commit=5\ncommitted s1 start=3 commit=5\nask-commit s2 a start=4\nrefused s2 conflict key=k1 by=5\n",
+        status: 0,
+    },
+    // Two sessions write two keys by turns. Each key alone has no conflict, and both commit.
+    Row {
+        words: &["replay"],
+        input: "a take\ns0 begin a\ns1 begin a\ns0 write k0 x\ns1 write k1 y\ns0 read k1\ns1 read k0\ns0 commit a\ns1 commit a\ns2 begin a\ns2 read k0\ns2 read k1\n",
+        output: "take a reading=0 term=1 epoch=0 until=10 ceiling=100\nask-begin s0 a\ndraw s0 a term=1 start=1\nbegin s0 start=1\nask-begin s1 a\ndraw s1 a term=1 start=2\nbegin s1 start=2\nwrite s0 start=1 k0 x\nwrite s1 start=2 k1 y\nread s0 start=1 k1 none\nread s1 start=2 k0 none\nask-commit s0 a start=1\ndraw s0 a term=1 start=1 commit=3\nplaced start=1 commit=3\ncommitted s0 start=1 commit=3\nask-commit s1 a start=2\ndraw s1 a term=1 start=2 commit=4\nplaced start=2 commit=4\ncommitted s1 start=2 commit=4\nask-begin s2 a\ndraw s2 a term=1 start=5\nbegin s2 start=5\nread s2 start=5 k0 from=1 x\nread s2 start=5 k1 from=2 y\n",
+        status: 0,
+    },
+    // Refusals of order, and a node that holds the oracle already.
+    Row {
+        words: &["replay"],
+        input: "s0 read k0\n",
+        output: "refused s0 no-transaction\n",
+        status: 0,
+    },
+    Row {
+        words: &["replay"],
+        input: "s0 begin a\na take\na take\ns0 begin a\ns0 begin a\ns0 commit a\ns0 write k0 v\n",
+        output: "refused s0 no-oracle node=a\ntake a reading=0 term=1 epoch=0 until=10 ceiling=100\nrefused a holding term=1\nask-begin s0 a\ndraw s0 a term=1 start=1\nbegin s0 start=1\nrefused s0 busy\nend s0 start=1 read-only\nrefused s0 no-transaction\n",
+        status: 0,
+    },
+    // program_faults
+    Row {
+        words: &["replay", "now"],
+        input: PLAIN_PATH,
+        output: USAGE,
+        status: 2,
+    },
+    Row {
+        words: &[],
+        input: PLAIN_PATH,
+        output: USAGE,
+        status: 2,
+    },
+    Row {
+        words: &["run"],
+        input: PLAIN_PATH,
+        output: USAGE,
+        status: 2,
+    },
+    Row {
+        words: &["replay"],
+        input: "a take\ns1 begin z\n",
+        output: "script line 2: unknown node\n",
+        status: 3,
+    },
+    Row {
+        words: &["replay"],
+        input: "lease 5\n",
+        output: "script line 1: not yet\n",
+        status: 3,
+    },
+    Row {
+        words: &["replay"],
+        input: "s0 write k4096 v\n",
+        output: "script line 1: bad key\n",
+        status: 3,
+    },
+    Row {
+        words: &["replay"],
+        input: "# one\n\nclock tick 1\n",
+        output: "script line 3: not yet\n",
+        status: 3,
+    },
+];
+
+/// What the program writes for the row, and its status.
+fn answer_of<R: Threads + Wait + Sync>(
+    rt: &R,
+    alloc: Global,
+    row: &Row,
+) -> Result<(Vec<u8>, u8), AllocError> {
+    let mut words = Vec::new(alloc);
+    for word in row.words {
+        words.push(word.to_string(alloc)?)?;
+    }
+    let input = row.input.as_bytes().to_vec(alloc)?;
+    let mut source = MemSource::new(input, Vec::new(alloc));
+    let mut sink = match MemSink::open(alloc, 4096, Vec::new(alloc)) {
+        Ok(sink) => sink,
+        Err(_) => return Err(AllocError),
+    };
+    let status = omid(rt, alloc, &words, &mut source, &mut sink, &OpenGate);
+    let written = sink.bytes().to_vec(alloc)?;
+    Ok((written, status.code))
+}
+
+#[test]
+fn each_row_is_written(rt: HostRuntime) -> Result<(), Fail> {
+    for row in &ROWS {
+        let (written, status) = answer_of(&rt, rt.alloc(), row)?;
+        assert_eq!(rt; status, row.status);
+        assert_eq!(rt; written.as_slice(), row.output.as_bytes());
+    }
+    Ok(())
+}
