@@ -172,7 +172,7 @@ unfolding Answered items_from
 all_answered actor [] w = refl
 all_answered actor (line ∷ lines) w =
     rw (items_from-append w (line_events line) (flat_map line_events lines), filter-cons (is_of actor) line lines (is_of actor line) refl)
-      (Answered-append actor _ _ _ _ (line_answered actor line.number line.actor line.verb w) (all_answered actor lines (state_after w (line_events line))))
+    (Answered-append actor _ _ _ _ (line_answered actor line.number line.actor line.verb w) (all_answered actor lines (state_after w (line_events line))))
 
 -- every line of a script that is carried out in file order is answered
 pub replayed_answers : (script : ScriptData) → Answers script (replayed script)

@@ -28,7 +28,7 @@ opened = record { state = opening; history = [] }
 pub run_opened : (w : Whole) (es : List Event) → w.state ≡ opening → w.history ≡ [] → run w es ≡ run opened es
 run_opened w es is_opening is_empty =
     let same : w ≡ opened = let made : Whole = record { state = w.state; history = w.history } in
-      subst (λ h. made ≡ record { state = opening; history = h }) is_empty (ap (λ s. let v : Whole = record { state = s; history = w.history } in v) is_opening) in
+    subst (λ h. made ≡ record { state = opening; history = h }) is_empty (ap (λ s. let v : Whole = record { state = s; history = w.history } in v) is_opening) in
     ap (λ v. run v es) same
 
 -- one more line was carried out

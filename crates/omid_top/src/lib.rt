@@ -18,7 +18,6 @@ mod print;
 mod words;
 
 pub use gate::{Gate, GatePlace, OpenGate};
-
 use port_io::{ReadStop, Sink, Source, read_up_to};
 use script::{Mode, Script, ScriptFault, read_script};
 use stamp_base::NoMemory;

@@ -32,11 +32,18 @@ pub fn print_usage<K: Sink>(sink: &mut K) -> Result<(), SinkStop>
     ensures front { OnErr result (GainsFront (K.held sink.old) (K.held sink.new) usage_text) }
     ensures failed { OnErr result (Risen (K.faults sink.old) (K.faults sink.new)) }
 {
-    print_text(sink, b"usage: omid replay [summary|json] | run | audit | storm N\n")
+    print_text(
+        sink,
+        b"usage: omid replay [summary|json] | run | audit | storm N\n",
+    )
 }
 
 /// Writes the first bad line of a script and its first cause.
-pub fn print_bad_line<K: Sink>(sink: &mut K, number: u64, cause: ScriptCause) -> Result<(), SinkStop>
+pub fn print_bad_line<K: Sink>(
+    sink: &mut K,
+    number: u64,
+    cause: ScriptCause,
+) -> Result<(), SinkStop>
     ensures all { OnOk result (Gains (K.held sink.old) (K.held sink.new) (bad_line_text (record { line = number; cause = cause }))) }
     ensures front { OnErr result (GainsFront (K.held sink.old) (K.held sink.new) (bad_line_text (record { line = number; cause = cause }))) }
     ensures failed { OnErr result (Risen (K.faults sink.old) (K.faults sink.new)) }
