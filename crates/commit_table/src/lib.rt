@@ -97,6 +97,7 @@ impl Table {
     pub fn reserve(&mut self, txn: TxnId) -> Result<(), NoMemory>
         ensures pairs { self.new.pairs ≡ self.old.pairs }
         ensures places { OnOk result (self.new.places ≡ set.insert self.old.places txn) }
+        ensures reserved { OnOk result (IsTrue (set.contains self.new.places txn)) }
         ensures memory { OnErr result (self.new ≡ self.old) }
     {
         let number = txn.value();

@@ -233,3 +233,6 @@ impl Master {
         Ok(self.ceiling)
     }
 }
+
+#[cfg(test)]
+mod tests;
