@@ -142,18 +142,19 @@ static ROWS: [Row; 18] = [
     },
 ];
 
-/// What the program writes for the row, and its status.
+/// What the program writes for the words and the input, and its status.
 fn answer_of<R: Threads + Wait + Sync>(
     rt: &R,
     alloc: Global,
-    row: &Row,
+    names: &[&str],
+    input: &str,
 ) -> Result<(Vec<u8>, u8), AllocError> {
     let mut words = Vec::new(alloc);
-    for word in row.words {
-        words.push(word.to_string(alloc)?)?;
+    for name in names {
+        words.push(name.to_string(alloc)?)?;
     }
-    let input = row.input.as_bytes().to_vec(alloc)?;
-    let mut source = MemSource::new(input, Vec::new(alloc));
+    let bytes = input.as_bytes().to_vec(alloc)?;
+    let mut source = MemSource::new(bytes, Vec::new(alloc));
     let mut sink = match MemSink::open(alloc, 4096, Vec::new(alloc)) {
         Ok(sink) => sink,
         Err(_) => return Err(AllocError),
@@ -166,9 +167,48 @@ fn answer_of<R: Threads + Wait + Sync>(
 #[test]
 fn each_row_is_written(rt: HostRuntime) -> Result<(), Fail> {
     for row in &ROWS {
-        let (written, status) = answer_of(&rt, rt.alloc(), row)?;
+        let (written, status) = answer_of(&rt, rt.alloc(), row.words, row.input)?;
         assert_eq!(rt; status, row.status);
         assert_eq!(rt; written.as_slice(), row.output.as_bytes());
     }
+    Ok(())
+}
+
+/// A script that writes 65 keys in one transaction.
+fn many_keys(alloc: Global) -> Result<String, AllocError> {
+    let mut script = "a take\ns0 begin a\n".to_string(alloc)?;
+    for key in 0..65 {
+        let line = format!(in alloc; "s0 write k{key} v\n")?;
+        script.push_str(line.as_str())?;
+    }
+    script.push_str("s0 commit a\n")?;
+    Ok(script)
+}
+
+/// What is written for it: the 65th key is refused, and the others are committed.
+fn many_keys_history(alloc: Global) -> Result<String, AllocError> {
+    let mut text =
+        "take a reading=0 term=1 epoch=0 until=10 ceiling=100\nask-begin s0 a\ndraw s0 a term=1 start=1\nbegin s0 start=1\n".to_string(
+            alloc,
+        )?;
+    for key in 0..64 {
+        let line = format!(in alloc; "write s0 start=1 k{key} v\n")?;
+        text.push_str(line.as_str())?;
+    }
+    text.push_str(
+        "refused s0 too-many-keys\nask-commit s0 a start=1\ndraw s0 a term=1 start=1 commit=2\nplaced start=1 commit=2\ncommitted s0 start=1 commit=2\n",
+    )?;
+    Ok(text)
+}
+
+#[test]
+fn a_65th_key_is_refused(rt: HostRuntime) -> Result<(), Fail> {
+    let script = many_keys(rt.alloc())?;
+    let (written, status) = answer_of(&rt, rt.alloc(), &["replay"], script.as_str())?;
+    assert_eq!(rt; status, 0);
+    assert_eq!(rt;
+        written.as_slice(),
+        many_keys_history(rt.alloc())?.as_bytes()
+    );
     Ok(())
 }
