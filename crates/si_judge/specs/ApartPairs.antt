@@ -1,8 +1,9 @@
 -- Two commits that overlap and wrote one key.
-use Rattle.std.specs.Prelude.{◌≡◌, ◌≢◌, ℕ, ◌<◌, ◌≤◌, List, Option, slice_get, IsSomeAnd}
+use Rattle.std.specs.Prelude.{◌≡◌, ◌≢◌, ℕ, ◌<◌, ◌≤◌, ◌==◌, ◌&&◌, Bool, false, List, Option, slice_get, IsSomeAnd}
+use Rattle.std.specs.List.{list_any}
 use Rattle.history_book.specs.Isolation.{Wrote}
 use Rattle.history_book.specs.declared.item.Item.{Item}
-use Rattle.history_book.specs.declared.item.Item.TheVariants.{Placed}
+use Rattle.history_book.specs.declared.item.Item.TheVariants.{Placed, Write}
 
 -- the transactions t and u both wrote some key
 pub record ShareKey (h : List Item) (t u : ℕ) : Type 0 where
@@ -27,3 +28,13 @@ Overlapping h _ other = ⊥
 -- the items at the places i and j are placed, and overlap
 abbrev pub BreaksApart : List Item → ℕ → ℕ → Type 0
 BreaksApart h i j = (i < j) × IsSomeAnd (slice_get h i) (λ x. IsSomeAnd (slice_get h j) (λ y. Overlapping h x y))
+
+-- the item is a write of t at k
+abbrev pub writes : ℕ → ℕ → Item → Bool
+writes t k (Write session start key value) = (start == t) && (key == k)
+writes t k _ = false
+
+-- the item is a write of t at a key that u writes in the history
+abbrev pub writes_shared : List Item → ℕ → ℕ → Item → Bool
+writes_shared h t u (Write session start key value) = (start == t) && list_any (λ x. writes u key x) h
+writes_shared h t u _ = false
