@@ -35,3 +35,28 @@ unfolding before_ask has_ask
 last_ask s [] p x e on none = absurd (cc)
 last_ask s (y ∷ xs) zero x e on none = let same : y ≡ x = same_Some _ _ e in (rw (same, on) refl, rw (none, same, on) refl)
 last_ask s (y ∷ xs) (suc p) x e on none = let deeper = last_ask s xs p x e on none in (or_right (asks s y) (has_ask s xs) deeper.0, rw deeper.0 (ap suc deeper.1))
+
+pub no_ask_past : (s : ℕ) (xs : List Item) → has_ask s (drop (length xs) xs) ≡ false
+unfolding has_ask
+no_ask_past s [] = refl
+no_ask_past s (y ∷ xs) = no_ask_past s xs
+
+length_chosen : (b : Bool) (y : Item) (front xs : List Item) → length front ≤ length xs → length (if b then y ∷ front else []) ≤ length (y ∷ xs)
+length_chosen true y front xs e = omega arith
+length_chosen false y front xs e = omega arith
+
+-- the last ask stands in the list, or is its end
+pub ask_within : (s : ℕ) (xs : List Item) → length (before_ask s xs) ≤ length xs
+unfolding before_ask
+ask_within s [] = omega arith
+ask_within s (y ∷ xs) = length_chosen (has_ask s xs || not (asks s y)) y (before_ask s xs) xs (ask_within s xs)
+
+take_chosen : (b : Bool) (y : Item) (front xs : List Item) → front ≡ take (length front) xs → (if b then y ∷ front else []) ≡ take (length (if b then y ∷ front else [])) (y ∷ xs)
+take_chosen true y front xs e = ap (λ zs. y ∷ zs) e
+take_chosen false y front xs e = refl
+
+-- what stands before the last ask is the front of the list
+pub before_ask-take : (s : ℕ) (xs : List Item) → before_ask s xs ≡ take (length (before_ask s xs)) xs
+unfolding before_ask
+before_ask-take s [] = refl
+before_ask-take s (y ∷ xs) = take_chosen (has_ask s xs || not (asks s y)) y (before_ask s xs) xs (before_ask-take s xs)

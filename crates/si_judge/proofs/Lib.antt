@@ -1,2 +1,6 @@
 pub mod AskLemmas
 pub mod KeyLemmas
+pub mod PlaceLemmas
+pub mod StampedLaw
+pub mod ApartLaw
+pub mod FreshLaw

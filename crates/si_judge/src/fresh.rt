@@ -27,12 +27,15 @@ fn is_stale(items: &[Item], first: usize, item: &Item, second: usize) -> bool
 
 // The cheap tests come first: most commits stand after the begin or below its start.
 fn is_stale_at(items: &[Item], first: usize, commit: Stamp, second: usize, other: &Item) -> bool
-    requires { second < length items.now }
+    requires { second ≤ length items.now }
     ensures { Decides result (fresh.IsStaleAt items.now first commit second other.now) }
 {
     match other {
         Item::Begin { session, start } => {
-            first < second && *start <= commit && first < ask_place(&items[..second], *session)
+            if second <= first || commit < *start {
+                return false;
+            }
+            first < ask_place(&items[..second], *session)
         }
         _ => false,
     }

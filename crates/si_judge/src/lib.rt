@@ -5,5 +5,7 @@ mod apart;
 mod fresh;
 mod stamped;
 mod verdict;
+mod version;
+mod visible;
 
 pub use verdict::{Rule, Verdict};
