@@ -4,3 +4,5 @@ pub mod PlaceLemmas
 pub mod StampedLaw
 pub mod ApartLaw
 pub mod FreshLaw
+pub mod WriteLemmas
+pub mod BestLemmas

@@ -48,9 +48,15 @@ fn written_by(item: &Item, start: Stamp, key: KeyNo) -> Option<Value>
 pub fn visible(items: &[Item], start: Stamp, key: KeyNo) -> Option<Version>
     ensures { Sees items.now start key result }
 {
-    match newest(items, start, key) {
+    version_of(newest(items, start, key))
+}
+
+fn version_of(best: Option<Best>) -> Option<Version>
+    ensures { result ≡ option_map (λ best. best.version) best }
+{
+    match best {
         None => None,
-        Some(best) => Some(best.version),
+        Some(held) => Some(held.version),
     }
 }
 
@@ -59,14 +65,14 @@ fn newest(items: &[Item], start: Stamp, key: KeyNo) -> Option<Best>
 {
     let mut best: Option<Best> = None;
     for item in items {
-        best = better(items, start, key, best, item);
+        best = better(items, start, key, &best, item);
     }
     best
 }
 
 /// Whether a commit is below the start, and above the best so far.
-fn is_later(commit: Stamp, start: Stamp, best: Option<Best>) -> bool
-    ensures { Decides result (IsLater commit start best) }
+fn is_later(commit: Stamp, start: Stamp, best: &Option<Best>) -> bool
+    ensures { Decides result (IsLater commit start best.now) }
 {
     match best {
         None => commit < start,
@@ -75,18 +81,18 @@ fn is_later(commit: Stamp, start: Stamp, best: Option<Best>) -> bool
 }
 
 /// The transaction's version where it wrote the key, and else the best so far.
-fn replaced(items: &[Item], txn: TxnId, commit: Stamp, key: KeyNo, best: Option<Best>) -> Option<Best>
-    ensures { IsReplaced items.now txn commit key best result }
+fn replaced(items: &[Item], txn: TxnId, commit: Stamp, key: KeyNo, best: &Option<Best>) -> Option<Best>
+    ensures { IsReplaced items.now txn commit key best.now result }
 {
     match last_write(items, txn, key) {
-        None => best,
+        None => *best,
         Some(version) => Some(Best { commit, version }),
     }
 }
 
 /// The best so far, and then the item.
-fn better(items: &[Item], start: Stamp, key: KeyNo, best: Option<Best>, item: &Item) -> Option<Best>
-    ensures { (part : List Item) → BestOf items.now start key part best →
+fn better(items: &[Item], start: Stamp, key: KeyNo, best: &Option<Best>, item: &Item) -> Option<Best>
+    ensures { (part : List Item) → BestOf items.now start key part best.now →
         BestOf items.now start key (part ++ item.now ∷ []) result }
 {
     match item {
@@ -94,10 +100,10 @@ fn better(items: &[Item], start: Stamp, key: KeyNo, best: Option<Best>, item: &I
             if is_later(*commit, start, best) {
                 replaced(items, *txn, *commit, key, best)
             } else {
-                best
+                *best
             }
         }
-        _ => best,
+        _ => *best,
     }
 }
 
