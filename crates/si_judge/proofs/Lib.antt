@@ -6,3 +6,4 @@ pub mod ApartLaw
 pub mod FreshLaw
 pub mod WriteLemmas
 pub mod BestLemmas
+pub mod ReadLemmas

@@ -1,12 +1,12 @@
 -- What a walk over placed items knows of the version that a reader sees.
-use Rattle.std.specs.Prelude.{◌≡◌, ◌==◌, ℕ, ◌<◌, ◌≤◌, Bool, false, List, Option, None, Some, ◌⊎◌, IsSomeAnd}
-use Rattle.history_book.specs.Isolation.{last_write, Committed, Wrote, Visible, Newest}
+use Rattle.std.specs.Prelude.{◌≡◌, ◌==◌, ℕ, ◌<◌, ◌≤◌, Bool, false, List, Option, None, Some, ◌⊎◌, IsSomeAnd, MatchOption, take, length}
+use Rattle.history_book.specs.Isolation.{RightAnswer, last_write, Committed, Wrote, Visible, Newest}
 use Rattle.history_book.specs.declared.item.Found.{Found}
 use Rattle.history_book.specs.declared.item.Item.{Item}
 use Rattle.history_book.specs.declared.item.Item.TheVariants.{Step}
 use Rattle.history_book.specs.declared.item.StoreStep.{StoreStep}
 use Rattle.history_book.specs.declared.item.StoreStep.TheVariants.{Keys}
-use Rattle.si_judge.specs.ReadPairs.{IsLastWrite}
+use Rattle.si_judge.specs.ReadPairs.{IsLastWrite, IsRightAt}
 use Rattle.si_judge.specs.declared.version.Version.{Version}
 use Rattle.si_judge.specs.declared.version.Best.{Best}
 
@@ -47,3 +47,15 @@ lists_keys t _ = false
 abbrev pub lists : ℕ → Item → Bool
 lists t (Step actor what) = lists_keys t what
 lists t _ = false
+
+-- where it was written, and the place of the read where nothing is visible
+abbrev pub place_seen : Option Version → ℕ → ℕ
+place_seen None i = i
+place_seen (Some version) i = version.place
+
+-- where the answer to the read at the place i is wrong, the place of the right one; own is the value of
+-- the transaction's own last write before
+abbrev pub IsWrong : List Item → ℕ → ℕ → ℕ → Option Found → Option (List ℕ) → Option ℕ → Type 0
+IsWrong h i s k answer own second = MatchOption second
+  (RightAnswer h (take i h) s k answer own)
+  (λ j. (RightAnswer h (take i h) s k answer own → ⊥) × IsRightAt h i s k own j × (j < length h))

@@ -1,6 +1,6 @@
 -- What a verdict says of a history.
-use Rattle.std.specs.Prelude.{◌≡◌, ℕ, ◌<◌, ◌-◌, List, Option, None, Some, take, slice_get, MatchOption, IfSome}
-use Rattle.history_book.specs.Isolation.{Isolated, RightRead}
+use Rattle.std.specs.Prelude.{◌≡◌, ℕ, ◌<◌, ◌-◌, List, Option, None, Some, length, take, slice_get, MatchOption, IfSome}
+use Rattle.history_book.specs.Isolation.{Isolated, RightRead, Stamped}
 use Rattle.history_book.specs.declared.item.Item.{Item}
 use Rattle.si_judge.specs.declared.verdict.Rule.{Rule}
 use Rattle.si_judge.specs.declared.verdict.Rule.TheVariants as rule
@@ -57,3 +57,16 @@ Passes rule.Fresh h i = (j : ℕ) → BreaksFresh h i j → ⊥
 -- the least place that breaks the rule together with the place i
 abbrev pub IsSecond : Rule → List Item → ℕ → Option ℕ → Type 0
 IsSecond rule h i second = MatchOption second (Passes rule h i) (λ j. Breaks rule h i j × ((q : ℕ) → q < j → Breaks rule h i q → ⊥))
+
+-- reads are judged where the stamps are in order, so that one version is the newest
+abbrev pub Premise : Rule → List Item → Type 0
+Premise rule.Read h = Stamped h
+Premise _ h = Unit {0}
+
+-- no pair breaks a rule that is tried before
+abbrev pub IsEarlierKept : Rule → List Item → Type 0
+IsEarlierKept rule h = (other : Rule) → turn other < turn rule → IsKept other h
+
+-- each read has the right answer
+abbrev pub AllRight : List Item → Type 0
+AllRight h = (i : ℕ) → i < length h → IfSome (slice_get h i) (λ x. RightRead h (take i h) x)
