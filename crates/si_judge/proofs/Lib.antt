@@ -7,3 +7,5 @@ pub mod FreshLaw
 pub mod WriteLemmas
 pub mod BestLemmas
 pub mod ReadLemmas
+pub mod WalkLemmas
+pub mod VerdictLemmas

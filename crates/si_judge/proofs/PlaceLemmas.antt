@@ -44,3 +44,12 @@ pub length_take_within : {X : Type 0} (n : ℕ) (xs : List X) → length (take n
 length_take_within zero xs = omega arith
 length_take_within (suc n) [] = omega arith
 length_take_within (suc n) (y ∷ xs) = let deeper = length_take_within n xs in omega (arith, deeper)
+
+pub one_at : {X : Type 0} (h : List X) (i : ℕ) (P : X → Type 0) → IsSomeAnd (slice_get h i) (λ x. P x) → (x : X) × (slice_get h i ≡ Some x) × P x
+one_at h i P is = some_and (slice_get h i) P is
+
+pub both_at : {X : Type 0} (h : List X) (i j : ℕ) (P : X → X → Type 0) → IsSomeAnd (slice_get h i) (λ x. IsSomeAnd (slice_get h j) (λ y. P x y)) → (x : X) × (y : X) × (slice_get h i ≡ Some x) × (slice_get h j ≡ Some y) × P x y
+both_at h i j P are =
+    let first = some_and (slice_get h i) (λ x. IsSomeAnd (slice_get h j) (λ y. P x y)) are in
+    let second = some_and (slice_get h j) (λ y. P first.0 y) first.2 in
+    (first.0, second.0, first.1, second.1, second.2)

@@ -9,8 +9,10 @@ use Rattle.history_book.specs.declared.item.Item.{Item}
 use Rattle.history_book.specs.declared.item.Item.TheVariants.{Placed, Read}
 use Rattle.si_judge.specs.declared.version.Version.{Version}
 use Rattle.si_judge.specs.ReadPairs.{written_at, IsLastWrite, IsGivenAt, IsVisibleAt, IsRightAt, AnswersAt, BreaksRead}
+use Rattle.si_judge.specs.declared.verdict.Rule.TheVariants as rule
+use Rattle.si_judge.specs.Judged.{IsSecond, Passes}
 use Rattle.si_judge.specs.Best.{IsWritten, Sees, place_seen, IsWrong}
-use Rattle.si_judge.proofs.PlaceLemmas.{some_and, and_some, place_of, in_take, length_take_within}
+use Rattle.si_judge.proofs.PlaceLemmas.{one_at, and_some, place_of, in_take, length_take_within}
 
 start_of : Item → ℕ
 start_of (Placed t c) = t
@@ -112,7 +114,7 @@ right_once h stamped i s k None p q rp rq =
 -- a read with a wrong answer breaks the rule with one place
 pub wrong_least : (h : List Item) → Stamped h → (i session s k : ℕ) (answer : Option Found) (j q : ℕ) → slice_get h i ≡ Some (Read session s k answer) → IsRightAt h i s k (last_write (take i h) s k) j → BreaksRead h i q → j ≡ q
 wrong_least h stamped i session s k answer j q e right broken =
-    let found = some_and _ _ broken in
+    let found = one_at h i (λ x. (RightRead h (take i h) x → ⊥) × AnswersAt h i x q) broken in
     let same : found.0 ≡ Read session s k answer = same_Some _ _ (sym found.1 ∙ e) in
     let there = subst (λ (x : Item). AnswersAt h i x q) same found.2.1 in
     right_once h stamped i s k (last_write (take i h) s k) j q right there
@@ -121,3 +123,16 @@ wrong_least h stamped i session s k answer j q e right broken =
 pub no_read : (h before : List Item) (x : Item) → ((session s k : ℕ) (answer : Option Found) → Read session s k answer ≡ x → ⊥) → RightRead h before x
 no_read h before (Read session s k answer) other = absurd (other session s k answer refl)
 no_read h before _ other = tt
+
+right_second : (h : List Item) (i : ℕ) (x : Item) → slice_get h i ≡ Some x → RightRead h (take i h) x → Passes rule.Read h i
+right_second h i x e right = subst (λ (o : Option Item). IfSome o (λ y. RightRead h (take i h) y)) (sym e) right
+
+-- the place of the right answer is the second of a read
+pub read_second : (h : List Item) → Stamped h → (i session s k : ℕ) (answer : Option Found) (second : Option ℕ) → slice_get h i ≡ Some (Read session s k answer) → IsWrong h i s k answer (last_write (take i h) s k) second → IsSecond rule.Read h i second
+read_second h stamped i session s k answer None e right = right_second h i (Read session s k answer) e right
+read_second h stamped i session s k answer (Some j) e wrong =
+    (and_some (slice_get h i) (λ x. (RightRead h (take i h) x → ⊥) × AnswersAt h i x j) (Read session s k answer) e (wrong.0, wrong.1),
+     λ q less broken. let same = wrong_least h stamped i session s k answer j q e wrong.1 broken in omega (arith, less, same))
+
+pub other_second : (h : List Item) (i : ℕ) (x : Item) → slice_get h i ≡ Some x → ((session s k : ℕ) (answer : Option Found) → Read session s k answer ≡ x → ⊥) → IsSecond rule.Read h i None
+other_second h i x e other = right_second h i x e (no_read h (take i h) x other)

@@ -45,18 +45,18 @@ fn wrong_own(items: &[Item], first: usize, own: Version, key: KeyNo, answer: Opt
     requires written { IsWritten (take first items.now) key own }
     ensures { IsWrong items.now first own.found.from key answer (Some own.found.value) result }
 {
-    if is_own_right(items, &items[..first], own.found, key, answer) {
+    if is_own_right(items, &items[..first], &own.found, key, answer) {
         None
     } else {
         Some(own.place)
     }
 }
 
-fn is_own_right(items: &[Item], before: &[Item], own: Found, key: KeyNo, answer: Option<Found>) -> bool
+fn is_own_right(items: &[Item], before: &[Item], own: &Found, key: KeyNo, answer: Option<Found>) -> bool
     requires { isolation.Stamped items.now }
-    ensures { Decides result (isolation.RightAnswer items.now before.now own.from key answer (Some own.value)) }
+    ensures { Decides result (isolation.RightAnswer items.now before.now own.now.from key answer (Some own.now.value)) }
 {
-    is_found(answer, own) || (was_listed(before, own.from) && sees(items, own.from, key, answer))
+    is_found(&answer, own) || (was_listed(before, own.from) && sees(items, own.from, key, answer))
 }
 
 /// Whether the answer is what a reader with this start sees at the key.
@@ -64,7 +64,7 @@ fn sees(items: &[Item], start: Stamp, key: KeyNo, answer: Option<Found>) -> bool
     requires { isolation.Stamped items.now }
     ensures { Decides result (isolation.Visible items.now start key answer) }
 {
-    is_seen(visible(items, start, key), answer)
+    is_seen(&visible(items, start, key), &answer)
 }
 
 /// The same where the transaction did not write the key before.
@@ -74,33 +74,33 @@ fn wrong_seen(items: &[Item], first: usize, start: Stamp, key: KeyNo, answer: Op
     ensures { IsWrong items.now first start key answer None result }
 {
     let seen = visible(items, start, key);
-    if is_seen(seen, answer) {
+    if is_seen(&seen, &answer) {
         None
     } else {
-        Some(place_seen(seen, first))
+        Some(place_seen(&seen, first))
     }
 }
 
-fn is_seen(seen: Option<Version>, answer: Option<Found>) -> bool
-    ensures { Decides result (answer ≡ option_map (λ version. version.found) seen) }
+fn is_seen(seen: &Option<Version>, answer: &Option<Found>) -> bool
+    ensures { Decides result (answer.now ≡ option_map (λ version. version.found) seen.now) }
 {
     match seen {
         None => answer.is_none(),
-        Some(version) => is_found(answer, version.found),
+        Some(version) => is_found(answer, &version.found),
     }
 }
 
-fn is_found(answer: Option<Found>, found: Found) -> bool
-    ensures { Decides result (answer ≡ Some found) }
+fn is_found(answer: &Option<Found>, found: &Found) -> bool
+    ensures { Decides result (answer.now ≡ Some found.now) }
 {
     match answer {
         None => false,
-        Some(other) => other == found,
+        Some(other) => *other == *found,
     }
 }
 
-fn place_seen(seen: Option<Version>, first: usize) -> usize
-    ensures { result ≡ place_seen seen first }
+fn place_seen(seen: &Option<Version>, first: usize) -> usize
+    ensures { result ≡ place_seen seen.now first }
 {
     match seen {
         None => first,
