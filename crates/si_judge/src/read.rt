@@ -8,7 +8,7 @@ use crate::verdict::Rule;
 use crate::version::Version;
 use crate::visible::{last_write, visible, was_listed};
 use history_book::{Found, Item};
-use stamp_base::{KeyNo, Stamp};
+use stamp_base::{KeyNo, Stamp, Value};
 
 /// The place of the right answer where the item is a read with a wrong one.
 pub fn second_of_read(items: &[Item], first: usize) -> Option<usize>
@@ -95,8 +95,14 @@ fn is_found(answer: &Option<Found>, found: &Found) -> bool
 {
     match answer {
         None => false,
-        Some(other) => *other == *found,
+        Some(other) => other.from == found.from && is_same_value(&other.value, &found.value),
     }
+}
+
+fn is_same_value(value: &Value, other: &Value) -> bool
+    ensures { Decides result (value.now ≡ other.now) }
+{
+    value.as_slice() == other.as_slice()
 }
 
 fn place_seen(seen: &Option<Version>, first: usize) -> usize
