@@ -1,14 +1,12 @@
 -- The best version so far, after one more item, and in the end.
-use Rattle.std.proofs.Common.{◌≡◌, ◌≤◌, ◌<◌, ℕ, List, [], ◌∷◌, ◌++◌, Option, Some, None, option_map, IsSomeAnd, ◌⊎◌, inl, inr, refl, sym, ap, subst, ◌∙◌, arith}
+use Rattle.std.proofs.Common.{◌≡◌, ◌≤◌, ◌<◌, ℕ, List, [], ◌∷◌, ◌++◌, Option, Some, None, option_map, IsSomeAnd, inl, inr, sym, ap, subst, ◌∙◌, arith}
 use Rattle.std.proofs.lemmas.Bool.{cases_lt}
 use Rattle.history_book.specs.Members.{◌∈◌}
-use Rattle.history_book.specs.Isolation.{last_write, Committed, Wrote, Visible, Newest, Candidate}
+use Rattle.history_book.specs.Isolation.{last_write, Committed, Wrote, Visible, Newest}
 use Rattle.history_book.specs.declared.item.Item.{Item}
 use Rattle.history_book.specs.declared.item.Item.TheVariants.{Placed}
 use Rattle.history_book.proofs.MemberLemmas.{in_front, in_last, in_push, in_old}
-use Rattle.si_judge.specs.declared.version.Version.{Version}
 use Rattle.si_judge.specs.declared.version.Best.{Best}
-use Rattle.si_judge.specs.ReadPairs.{IsLastWrite}
 use Rattle.si_judge.specs.Best.{IsWritten, IsBest, BestOf, IsLater, IsReplaced, Sees}
 use Rattle.si_judge.proofs.WriteLemmas.{last_write_at}
 

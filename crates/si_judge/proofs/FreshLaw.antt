@@ -1,8 +1,8 @@
 -- Begins are fresh exactly where no pair of items breaks the rule.
-use Rattle.std.proofs.Common.{◌≡◌, ◌≤◌, ◌<◌, ℕ, zero, suc, List, Option, Some, length, take, slice_get, IsSomeAnd, ◌⊎◌, inl, inr, refl, sym, ap, subst, ◌∙◌, arith}
+use Rattle.std.proofs.Common.{◌≡◌, ◌≤◌, ◌<◌, ℕ, List, Some, length, take, slice_get, inl, inr, sym, subst, arith}
 use Rattle.std.proofs.lemmas.Bool.{cases_lt}
-use Rattle.history_book.specs.Members.{◌∈◌, AtEach}
-use Rattle.history_book.specs.Isolation.{Committed, before_ask, StartsAbove, Fresh}
+use Rattle.history_book.specs.Members.{◌∈◌}
+use Rattle.history_book.specs.Isolation.{before_ask, StartsAbove, Fresh}
 use Rattle.history_book.specs.declared.item.Item.{Item}
 use Rattle.history_book.specs.declared.item.Item.TheVariants.{Begin, Placed}
 use Rattle.si_judge.specs.FreshPairs.{ask_place, IsStaleAt, IsStale, BreaksFresh}
@@ -41,9 +41,9 @@ starts_above : (h : List Item) → ((i j : ℕ) → BreaksFresh h i j → ⊥) �
 starts_above h kept p (Begin session start) e = λ t c m. elim (cases_lt c start) [
   | inl less ↦ less
   | inr more ↦
-    let before : List Item = take p h in
-    let found = place_in_take (Placed t c) _ before (subst (λ (xs : List Item). Placed t c ∈ xs) (before_ask-take session before) m) in
-    absurd (kept found.0 p (and_some _ _ (Placed t c) (slice_get_taken (Placed t c) p h found.0 found.2) (and_some _ _ (Begin session start) e (found.1, more))))
+      let before : List Item = take p h in
+      let found = place_in_take (Placed t c) _ before (subst (λ (xs : List Item). Placed t c ∈ xs) (before_ask-take session before) m) in
+      absurd (kept found.0 p (and_some _ _ (Placed t c) (slice_get_taken (Placed t c) p h found.0 found.2) (and_some _ _ (Begin session start) e (found.1, more))))
 ]
 starts_above h kept p _ e = tt
 

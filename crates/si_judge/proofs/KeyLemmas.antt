@@ -1,9 +1,9 @@
 -- A shared key, as a test of the writes.
-use Rattle.std.proofs.Common.{◌≡◌, ◌==◌, ◌&&◌, ◌||◌, ℕ, Bool, true, false, if◌then◌else◌, List, [], ◌∷◌, Option, Some, None, is_some, refl, sym, ap, subst, ◌∙◌, ◌⊎◌, inl, inr}
+use Rattle.std.proofs.Common.{◌≡◌, ◌==◌, ◌&&◌, ◌||◌, ℕ, Bool, true, false, if◌then◌else◌, List, [], ◌∷◌, Option, Some, None, is_some, refl, sym, ap, subst, ◌∙◌, inl, inr}
 use Rattle.std.specs.List.{list_any}
 use Rattle.std.specs.Option.{option_or}
 use Rattle.std.proofs.lemmas.Bool.{eqb-true, eq-eqb, or_cases}
-use Rattle.history_book.specs.Isolation.{last_write, written_by, Wrote}
+use Rattle.history_book.specs.Isolation.{last_write, written_by}
 use Rattle.history_book.specs.declared.item.Item.{Item}
 use Rattle.history_book.specs.declared.item.Item.TheVariants.{Write}
 use Rattle.si_judge.specs.ApartPairs.{ShareKey, writes, writes_shared}
@@ -67,8 +67,8 @@ any_shared h (x ∷ xs) t u k others some = elim (or_cases (writes t k x) (list_
 
 pub shared_any : (h : List Item) (t u : ℕ) → ShareKey h t u → list_any (λ x. writes_shared h t u x) h ≡ true
 shared_any h t u shared = any_shared h h t u shared.key
-  (any_writes h u shared.key ∙ ap is_some shared.second.1)
-  (any_writes h t shared.key ∙ ap is_some shared.first.1)
+    (any_writes h u shared.key ∙ ap is_some shared.second.1)
+    (any_writes h t shared.key ∙ ap is_some shared.first.1)
 
 record SharedIn (h xs : List Item) (t u : ℕ) : Type 0 where
   key : ℕ

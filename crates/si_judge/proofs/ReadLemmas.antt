@@ -1,14 +1,13 @@
 -- What is visible is one answer, written at one place.
-use Rattle.std.proofs.Common.{◌≡◌, ◌≢◌, ◌≤◌, ◌<◌, ℕ, zero, suc, List, Option, Some, None, option_map, option_and_then, length, take, slice_get, MatchOption, IfSome, ◌⊎◌, inl, inr, refl, sym, ap, subst, ◌∙◌, arith}
+use Rattle.std.proofs.Common.{◌≡◌, ◌<◌, ℕ, List, Option, Some, None, option_map, option_and_then, length, take, slice_get, IfSome, inl, inr, refl, sym, ap, subst, ◌∙◌, arith}
 use Rattle.std.proofs.lemmas.Bool.{cases_lt}
 use Rattle.std.proofs.lemmas.Option.{same_Some, slice_get_within}
-use Rattle.history_book.specs.Members.{◌∈◌}
-use Rattle.history_book.specs.Isolation.{written_by, last_write, Committed, Wrote, Visible, Newest, Candidate, RightAnswer, RightRead, Stamped}
+use Rattle.history_book.specs.Isolation.{written_by, last_write, Committed, Visible, Newest, RightRead, Stamped}
 use Rattle.history_book.specs.declared.item.Found.{Found}
 use Rattle.history_book.specs.declared.item.Item.{Item}
 use Rattle.history_book.specs.declared.item.Item.TheVariants.{Placed, Read}
 use Rattle.si_judge.specs.declared.version.Version.{Version}
-use Rattle.si_judge.specs.ReadPairs.{written_at, IsLastWrite, IsGivenAt, IsVisibleAt, IsRightAt, AnswersAt, BreaksRead}
+use Rattle.si_judge.specs.ReadPairs.{written_at, IsLastWrite, IsGivenAt, IsRightAt, AnswersAt, BreaksRead}
 use Rattle.si_judge.specs.declared.verdict.Rule.TheVariants as rule
 use Rattle.si_judge.specs.Judged.{IsSecond, Passes}
 use Rattle.si_judge.specs.Best.{IsWritten, Sees, place_seen, IsWrong}
@@ -79,10 +78,11 @@ sees_within h i s k (Some version) less sees = written_within h version.found.fr
 
 -- an answer that is not what is seen is wrong
 pub seen_wrong : (h : List Item) → Stamped h → (i s k : ℕ) (answer : Option Found) (seen : Option Version) → i < length h → Sees h s k seen → (answer ≡ option_map (λ version. version.found) seen → ⊥) → IsWrong h i s k answer None (Some (place_seen seen i))
-seen_wrong h stamped i s k answer seen less sees other =
-    (λ right. other (visible_once h stamped s k answer _ right (sees_visible h s k seen sees)),
-     record { answer = option_map (λ version. version.found) seen; visible = sees_visible h s k seen sees; given = sees_given h i s k seen sees },
-     sees_within h i s k seen less sees)
+seen_wrong h stamped i s k answer seen less sees other = (
+  λ right. other (visible_once h stamped s k answer _ right (sees_visible h s k seen sees)),
+  record { answer = option_map (λ version. version.found) seen; visible = sees_visible h s k seen sees; given = sees_given h i s k seen sees },
+  sees_within h i s k seen less sees,
+)
 
 pub seen_right : (h : List Item) (i s k : ℕ) (answer : Option Found) (seen : Option Version) → Sees h s k seen → answer ≡ option_map (λ version. version.found) seen → IsWrong h i s k answer None None
 seen_right h i s k answer seen sees e = subst (λ (a : Option Found). Visible h s k a) (sym e) (sees_visible h s k seen sees)
@@ -130,9 +130,10 @@ right_second h i x e right = subst (λ (o : Option Item). IfSome o (λ y. RightR
 -- the place of the right answer is the second of a read
 pub read_second : (h : List Item) → Stamped h → (i session s k : ℕ) (answer : Option Found) (second : Option ℕ) → slice_get h i ≡ Some (Read session s k answer) → IsWrong h i s k answer (last_write (take i h) s k) second → IsSecond rule.Read h i second
 read_second h stamped i session s k answer None e right = right_second h i (Read session s k answer) e right
-read_second h stamped i session s k answer (Some j) e wrong =
-    (and_some (slice_get h i) (λ x. (RightRead h (take i h) x → ⊥) × AnswersAt h i x j) (Read session s k answer) e (wrong.0, wrong.1),
-     λ q less broken. let same = wrong_least h stamped i session s k answer j q e wrong.1 broken in omega (arith, less, same))
+read_second h stamped i session s k answer (Some j) e wrong = (
+  and_some (slice_get h i) (λ x. (RightRead h (take i h) x → ⊥) × AnswersAt h i x j) (Read session s k answer) e (wrong.0, wrong.1),
+  λ q less broken. let same = wrong_least h stamped i session s k answer j q e wrong.1 broken in omega (arith, less, same),
+)
 
 pub other_second : (h : List Item) (i : ℕ) (x : Item) → slice_get h i ≡ Some x → ((session s k : ℕ) (answer : Option Found) → Read session s k answer ≡ x → ⊥) → IsSecond rule.Read h i None
 other_second h i x e other = right_second h i x e (no_read h (take i h) x other)

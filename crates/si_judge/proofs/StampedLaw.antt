@@ -1,8 +1,8 @@
 -- Stamps are in order exactly where no pair of items breaks the rule.
-use Rattle.std.proofs.Common.{◌≡◌, ◌≤◌, ◌<◌, ◌==◌, ◌||◌, ℕ, zero, suc, Bool, true, false, List, Option, Some, take, slice_get, IsSomeAnd, nat_le, ◌⊎◌, inl, inr, refl, sym, ap, subst, ◌∙◌, arith}
+use Rattle.std.proofs.Common.{◌≡◌, ◌<◌, ◌==◌, ◌||◌, ℕ, Bool, true, false, List, Some, take, slice_get, nat_le, inl, inr, refl, sym, ap, subst, ◌∙◌, arith}
 use Rattle.std.proofs.lemmas.Bool.{eqb-true, eq-eqb, or_cases, cases_lt}
-use Rattle.history_book.specs.Members.{◌∈◌, AtEach}
-use Rattle.history_book.specs.Isolation.{Committed, NewStamps, Stamped}
+use Rattle.history_book.specs.Members.{◌∈◌}
+use Rattle.history_book.specs.Isolation.{NewStamps, Stamped}
 use Rattle.history_book.specs.declared.item.Item.{Item}
 use Rattle.history_book.specs.declared.item.Item.TheVariants.{Begin, Placed}
 use Rattle.history_book.proofs.MemberLemmas.{in_at}
@@ -53,9 +53,10 @@ or_right false b e = e
 new_stamps : (h : List Item) → ((i j : ℕ) → BreaksStamped h i j → ⊥) → (p : ℕ) (x : Item) → slice_get h p ≡ Some x → NewStamps (take p h) x
 new_stamps h kept p (Begin session t) e = λ other m. let found = place_in_take (Begin other t) p h m in
     kept found.0 p (two_break h found.0 p (Begin other t) (Begin session t) found.1 found.2 e (eq-eqb t t refl))
-new_stamps h kept p (Placed t c) e = λ u d m. let found = place_in_take (Placed u d) p h m in
-    (λ same. kept found.0 p (two_break h found.0 p (Placed u d) (Placed t c) found.1 found.2 e (or_left (u == t) (d == c) (eq-eqb u t same))),
-     λ same. kept found.0 p (two_break h found.0 p (Placed u d) (Placed t c) found.1 found.2 e (or_right (u == t) (d == c) (eq-eqb d c same))))
+new_stamps h kept p (Placed t c) e = λ u d m. let found = place_in_take (Placed u d) p h m in (
+  λ same. kept found.0 p (two_break h found.0 p (Placed u d) (Placed t c) found.1 found.2 e (or_left (u == t) (d == c) (eq-eqb u t same))),
+  λ same. kept found.0 p (two_break h found.0 p (Placed u d) (Placed t c) found.1 found.2 e (or_right (u == t) (d == c) (eq-eqb d c same))),
+)
 new_stamps h kept p _ e = tt
 
 begin_and_commit : (h : List Item) → ((i j : ℕ) → BreaksStamped h i j → ⊥) → (i j session t u : ℕ) → slice_get h i ≡ Some (Begin session t) → slice_get h j ≡ Some (Placed u t) → ⊥

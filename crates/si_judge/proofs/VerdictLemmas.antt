@@ -1,5 +1,5 @@
 -- The rules that are kept, and isolation.
-use Rattle.std.proofs.Common.{◌≡◌, ◌≤◌, ◌<◌, ℕ, List, Option, Some, IfSome, length, take, slice_get, refl, sym, ap, subst, ◌∙◌, arith}
+use Rattle.std.proofs.Common.{◌≡◌, ◌<◌, ℕ, List, Option, IfSome, take, refl, subst, arith}
 use Rattle.std.proofs.lemmas.Option.{slice_get_within}
 use Rattle.history_book.specs.Members.{AtEach}
 use Rattle.history_book.specs.Isolation.{RightRead, Isolated}
@@ -9,7 +9,7 @@ use Rattle.si_judge.specs.declared.verdict.Rule.TheVariants as rule
 use Rattle.si_judge.specs.declared.verdict.Verdict.{Verdict}
 use Rattle.si_judge.specs.declared.verdict.Verdict.TheVariants as verdict
 use Rattle.si_judge.specs.ReadPairs.{AnswersAt, BreaksRead}
-use Rattle.si_judge.specs.Judged.{Breaks, IsKept, IsEarlierKept, IsJudged, AllRight, turn}
+use Rattle.si_judge.specs.Judged.{IsKept, IsEarlierKept, IsJudged, AllRight, turn}
 use Rattle.si_judge.proofs.PlaceLemmas.{one_at}
 use Rattle.si_judge.proofs.StampedLaw.{stamped_kept, kept_stamped}
 use Rattle.si_judge.proofs.ApartLaw.{apart_kept, kept_apart}

@@ -1,5 +1,5 @@
 -- The order and range of the pairs that break a rule, and what passing a place means.
-use Rattle.std.proofs.Common.{◌≡◌, ◌≢◌, ◌≤◌, ◌<◌, ℕ, List, Option, Some, None, IfSome, true, length, take, slice_get, ◌⊎◌, inl, inr, refl, sym, ap, subst, ◌∙◌, arith}
+use Rattle.std.proofs.Common.{◌≡◌, ◌≢◌, ◌≤◌, ◌<◌, ℕ, List, Option, Some, IfSome, true, length, take, slice_get, inl, inr, refl, subst, arith}
 use Rattle.std.proofs.lemmas.Option.{slice_get_within}
 use Rattle.history_book.specs.Isolation.{RightRead}
 use Rattle.history_book.specs.declared.item.Item.{Item}
@@ -9,7 +9,7 @@ use Rattle.si_judge.specs.declared.verdict.Rule.TheVariants as rule
 use Rattle.si_judge.specs.StampedPairs.{commits_too_low, stamps_meet, BreaksStamped}
 use Rattle.si_judge.specs.ApartPairs.{Overlapping, BreaksApart}
 use Rattle.si_judge.specs.FreshPairs.{BreaksFresh, IsStale}
-use Rattle.si_judge.specs.ReadPairs.{AnswersAt, BreaksRead}
+use Rattle.si_judge.specs.ReadPairs.{AnswersAt}
 use Rattle.si_judge.specs.Judged.{Breaks, IsKept, Passes}
 use Rattle.si_judge.proofs.PlaceLemmas.{one_at, both_at}
 use Rattle.si_judge.proofs.FreshLaw.{stale_before}
@@ -20,14 +20,14 @@ there h j x e = slice_get_within h j x e
 stamped_order : (h : List Item) (i j : ℕ) → BreaksStamped h i j → (i ≤ j) × (j < length h)
 stamped_order h i j broken = elim broken [
   | inl one ↦
-    let found = one_at h i (λ x. commits_too_low x ≡ true) one.1 in
-    let less = there h i found.0 found.1 in
-    let same = one.0 in
-    (omega (arith, same), omega (arith, same, less))
+      let found = one_at h i (λ x. commits_too_low x ≡ true) one.1 in
+      let less = there h i found.0 found.1 in
+      let same = one.0 in
+      (omega (arith, same), omega (arith, same, less))
   | inr two ↦
-    let found = both_at h i j (λ x y. stamps_meet x y ≡ true) two.1 in
-    let order = two.0 in
-    (omega (arith, order), there h j found.1 found.3)
+      let found = both_at h i j (λ x y. stamps_meet x y ≡ true) two.1 in
+      let order = two.0 in
+      (omega (arith, order), there h j found.1 found.3)
 ]
 
 apart_order : (h : List Item) (i j : ℕ) → BreaksApart h i j → (i ≤ j) × (j < length h)

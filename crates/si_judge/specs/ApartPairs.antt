@@ -1,5 +1,5 @@
 -- Two commits that overlap and wrote one key.
-use Rattle.std.specs.Prelude.{◌≡◌, ◌≢◌, ℕ, ◌<◌, ◌≤◌, ◌==◌, ◌&&◌, Bool, false, List, Option, slice_get, IsSomeAnd}
+use Rattle.std.specs.Prelude.{◌≢◌, ℕ, ◌<◌, ◌≤◌, ◌==◌, ◌&&◌, Bool, false, List, slice_get, IsSomeAnd}
 use Rattle.std.specs.List.{list_any}
 use Rattle.history_book.specs.Isolation.{Wrote}
 use Rattle.history_book.specs.declared.item.Item.{Item}

@@ -57,5 +57,5 @@ place_seen (Some version) i = version.place
 -- the transaction's own last write before
 abbrev pub IsWrong : List Item → ℕ → ℕ → ℕ → Option Found → Option (List ℕ) → Option ℕ → Type 0
 IsWrong h i s k answer own second = MatchOption second
-  (RightAnswer h (take i h) s k answer own)
-  (λ j. (RightAnswer h (take i h) s k answer own → ⊥) × IsRightAt h i s k own j × (j < length h))
+    (RightAnswer h (take i h) s k answer own)
+    (λ j. (RightAnswer h (take i h) s k answer own → ⊥) × IsRightAt h i s k own j × (j < length h))

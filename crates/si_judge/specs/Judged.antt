@@ -1,5 +1,5 @@
 -- What a verdict says of a history.
-use Rattle.std.specs.Prelude.{◌≡◌, ℕ, ◌<◌, ◌-◌, List, Option, None, Some, length, take, slice_get, MatchOption, IfSome}
+use Rattle.std.specs.Prelude.{ℕ, ◌<◌, ◌-◌, List, Option, length, take, slice_get, MatchOption, IfSome}
 use Rattle.history_book.specs.Isolation.{Isolated, RightRead, Stamped}
 use Rattle.history_book.specs.declared.item.Item.{Item}
 use Rattle.si_judge.specs.declared.verdict.Rule.{Rule}

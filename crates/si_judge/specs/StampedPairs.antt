@@ -1,5 +1,5 @@
 -- Two items whose stamps meet, and a commit at or below its start.
-use Rattle.std.specs.Prelude.{◌≡◌, ℕ, ◌<◌, ◌≤◌, ◌==◌, ◌||◌, Bool, true, false, List, ◌⊎◌, slice_get, IsSomeAnd, nat_le}
+use Rattle.std.specs.Prelude.{◌≡◌, ℕ, ◌<◌, ◌==◌, ◌||◌, Bool, true, false, List, ◌⊎◌, slice_get, IsSomeAnd, nat_le}
 use Rattle.history_book.specs.declared.item.Item.{Item}
 use Rattle.history_book.specs.declared.item.Item.TheVariants.{Begin, Placed}
 
@@ -31,5 +31,5 @@ commits_too_low _ = false
 -- below its start. Places in a list count from 0 here; a verdict counts them from 1.
 abbrev pub BreaksStamped : List Item → ℕ → ℕ → Type 0
 BreaksStamped h i j =
-  ((i ≡ j) × IsSomeAnd (slice_get h i) (λ x. commits_too_low x ≡ true))
-  ⊎ ((i < j) × IsSomeAnd (slice_get h i) (λ x. IsSomeAnd (slice_get h j) (λ y. stamps_meet x y ≡ true)))
+    ((i ≡ j) × IsSomeAnd (slice_get h i) (λ x. commits_too_low x ≡ true))
+    ⊎ ((i < j) × IsSomeAnd (slice_get h i) (λ x. IsSomeAnd (slice_get h j) (λ y. stamps_meet x y ≡ true)))

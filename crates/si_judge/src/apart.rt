@@ -36,7 +36,13 @@ fn overlaps_placed(items: &[Item], start: Stamp, commit: Stamp, other: &Item) ->
 }
 
 // The numbers are compared first, since few transactions overlap.
-fn overlap(items: &[Item], start: Stamp, commit: Stamp, other_start: Stamp, other_commit: Stamp) -> bool
+fn overlap(
+    items: &[Item],
+    start: Stamp,
+    commit: Stamp,
+    other_start: Stamp,
+    other_commit: Stamp,
+) -> bool
     ensures { Decides result (apart.Overlap items.now start commit other_start other_commit) }
 {
     start != other_start
@@ -68,7 +74,9 @@ fn writes_shared(items: &[Item], start: Stamp, other: Stamp, item: &Item) -> boo
 {
     match item {
         Item::Write {
-            start: writer, key, ..
+            start: writer,
+            key,
+            ..
         } => *writer == start && wrote(items, other, *key),
         _ => false,
     }

@@ -58,7 +58,8 @@ fn asks(item: &Item, session: SessionNo) -> bool
 {
     match item {
         Item::AskBegin {
-            session: asking, ..
+            session: asking,
+            ..
         } => *asking == session,
         _ => false,
     }

@@ -19,14 +19,23 @@ pub fn second_of_read(items: &[Item], first: usize) -> Option<usize>
 {
     match &items[first] {
         Item::Read {
-            start, key, answer, ..
+            start,
+            key,
+            answer,
+            ..
         } => wrong_answer(items, first, *start, *key, *answer),
         _ => None,
     }
 }
 
 /// The place of the right answer where this one is wrong, at a read by a transaction at the place.
-fn wrong_answer(items: &[Item], first: usize, start: Stamp, key: KeyNo, answer: Option<Found>) -> Option<usize>
+fn wrong_answer(
+    items: &[Item],
+    first: usize,
+    start: Stamp,
+    key: KeyNo,
+    answer: Option<Found>,
+) -> Option<usize>
     requires stamped { isolation.Stamped items.now }
     requires within { first < length items.now }
     ensures { IsWrong items.now first start key answer
@@ -39,7 +48,13 @@ fn wrong_answer(items: &[Item], first: usize, start: Stamp, key: KeyNo, answer: 
 }
 
 /// The same where the transaction wrote the key before.
-fn wrong_own(items: &[Item], first: usize, own: Version, key: KeyNo, answer: Option<Found>) -> Option<usize>
+fn wrong_own(
+    items: &[Item],
+    first: usize,
+    own: Version,
+    key: KeyNo,
+    answer: Option<Found>,
+) -> Option<usize>
     requires stamped { isolation.Stamped items.now }
     requires within { first < length items.now }
     requires written { IsWritten (take first items.now) key own }
@@ -52,7 +67,13 @@ fn wrong_own(items: &[Item], first: usize, own: Version, key: KeyNo, answer: Opt
     }
 }
 
-fn is_own_right(items: &[Item], before: &[Item], own: &Found, key: KeyNo, answer: Option<Found>) -> bool
+fn is_own_right(
+    items: &[Item],
+    before: &[Item],
+    own: &Found,
+    key: KeyNo,
+    answer: Option<Found>,
+) -> bool
     requires { isolation.Stamped items.now }
     ensures { Decides result (isolation.RightAnswer items.now before.now own.now.from key answer (Some own.now.value)) }
 {
@@ -68,7 +89,13 @@ fn sees(items: &[Item], start: Stamp, key: KeyNo, answer: Option<Found>) -> bool
 }
 
 /// The same where the transaction did not write the key before.
-fn wrong_seen(items: &[Item], first: usize, start: Stamp, key: KeyNo, answer: Option<Found>) -> Option<usize>
+fn wrong_seen(
+    items: &[Item],
+    first: usize,
+    start: Stamp,
+    key: KeyNo,
+    answer: Option<Found>,
+) -> Option<usize>
     requires stamped { isolation.Stamped items.now }
     requires within { first < length items.now }
     ensures { IsWrong items.now first start key answer None result }

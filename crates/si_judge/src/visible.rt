@@ -81,7 +81,13 @@ fn is_later(commit: Stamp, start: Stamp, best: &Option<Best>) -> bool
 }
 
 /// The transaction's version where it wrote the key, and else the best so far.
-fn replaced(items: &[Item], txn: TxnId, commit: Stamp, key: KeyNo, best: &Option<Best>) -> Option<Best>
+fn replaced(
+    items: &[Item],
+    txn: TxnId,
+    commit: Stamp,
+    key: KeyNo,
+    best: &Option<Best>,
+) -> Option<Best>
     ensures { IsReplaced items.now txn commit key best.now result }
 {
     match last_write(items, txn, key) {
@@ -91,7 +97,13 @@ fn replaced(items: &[Item], txn: TxnId, commit: Stamp, key: KeyNo, best: &Option
 }
 
 /// The best so far, and then the item.
-fn better(items: &[Item], start: Stamp, key: KeyNo, best: &Option<Best>, item: &Item) -> Option<Best>
+fn better(
+    items: &[Item],
+    start: Stamp,
+    key: KeyNo,
+    best: &Option<Best>,
+    item: &Item,
+) -> Option<Best>
     ensures { (part : List Item) → BestOf items.now start key part best.now →
         BestOf items.now start key (part ++ item.now ∷ []) result }
 {

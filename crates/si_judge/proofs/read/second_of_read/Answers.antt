@@ -1,6 +1,5 @@
-use Rattle.std.proofs.Common.{◌≡◌, ◌∙◌, Option, Some, length, slice_get, refl, sym, ap}
+use Rattle.std.proofs.Common.{◌∙◌, Some, length, refl, sym, ap}
 use Rattle.std.proofs.lemmas.Option.{slice_get_read}
-use Rattle.history_book.specs.declared.item.Item.{Item}
 use Rattle.si_judge.proofs.ReadLemmas.{read_second, other_second}
 use Rattle.si_judge.proofs.read.second_of_read.Goals as goal
 

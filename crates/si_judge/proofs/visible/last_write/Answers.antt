@@ -1,9 +1,9 @@
-use Rattle.std.proofs.Common.{get_or, ◌≡◌, ◌-◌, ◌≤◌, ◌<◌, ℕ, suc, None, Some, List, Option, length, slice_get, option_and_then, ◌⊎◌, inl, inr, refl, sym, subst, ap, ◌∙◌, arith}
+use Rattle.std.proofs.Common.{get_or, ◌≡◌, ◌-◌, ◌<◌, ℕ, None, List, Option, length, option_and_then, inl, inr, refl, sym, subst, ap, ◌∙◌, arith}
 use Rattle.std.proofs.lemmas.Bool.{cases_lt}
 use Rattle.std.proofs.lemmas.Option.{slice_get_read}
 use Rattle.history_book.specs.Isolation.{written_by}
 use Rattle.history_book.specs.declared.item.Item.{Item}
-use Rattle.si_judge.specs.ReadPairs.{written_at, IsLastWrite}
+use Rattle.si_judge.specs.ReadPairs.{written_at}
 use Rattle.si_judge.proofs.WriteLemmas.{no_write, last_write_at}
 use Rattle.si_judge.proofs.visible.last_write.Goals as goal
 
@@ -25,8 +25,8 @@ returns-in-Some-clause-value c = last_write_at c.args.items.now c.args.start c.a
 pub loop-place-preserved : goal.loop-place-preserved
 loop-place-preserved c = λ p le. elim (cases_lt p c.loop-place.place) [
   | inl less ↦
-    let at : c.loop-place.place - 1 ≡ p = omega (arith, le, less, c.loop-place-test.true) in
-    subst (λ (n : ℕ). written_at c.args.items.now c.args.start c.args.key n ≡ None) at (here c.args.items.now c.args.start c.args.key (c.loop-place.place - 1) c.index-items-place.result _ (omega (arith, c.loop-place-test.true, c.loop-place.auto.place)) c.index-items-place.is c.in_default.ensures)
+      let at : c.loop-place.place - 1 ≡ p = omega (arith, le, less, c.loop-place-test.true) in
+      subst (λ (n : ℕ). written_at c.args.items.now c.args.start c.args.key n ≡ None) at (here c.args.items.now c.args.start c.args.key (c.loop-place.place - 1) c.index-items-place.result _ (omega (arith, c.loop-place-test.true, c.loop-place.auto.place)) c.index-items-place.is c.in_default.ensures)
   | inr more ↦ c.loop-place.invariant p more
 ]
 

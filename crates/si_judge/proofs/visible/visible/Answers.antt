@@ -1,4 +1,4 @@
-use Rattle.std.proofs.Common.{Option, option_map, sym, subst}
+use Rattle.std.proofs.Common.{Option, sym, subst}
 use Rattle.si_judge.specs.declared.version.Version.{Version}
 use Rattle.si_judge.specs.Best.{Sees}
 use Rattle.si_judge.proofs.BestLemmas.{best_seen}

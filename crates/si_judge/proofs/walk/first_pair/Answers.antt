@@ -1,4 +1,4 @@
-use Rattle.std.proofs.Common.{◌≡◌, ◌<◌, ℕ, ◌⊎◌, inl, inr, sym, subst, arith}
+use Rattle.std.proofs.Common.{◌≡◌, ℕ, inl, inr, subst, arith}
 use Rattle.std.proofs.lemmas.Bool.{cases_lt}
 use Rattle.si_judge.specs.Judged.{Passes}
 use Rattle.si_judge.proofs.WalkLemmas.{passes_no}
@@ -15,6 +15,6 @@ pub loop-first-preserved : goal.loop-first-preserved
 loop-first-preserved c = λ i less. elim (cases_lt i c.loop-first.first) [
   | inl before ↦ c.loop-first.invariant i before
   | inr more ↦
-    let at : c.loop-first.first ≡ i = omega (arith, less, more) in
-    subst (λ (n : ℕ). Passes c.args.rule c.args.items.now n) at c.in_default.ensures.second
+      let at : c.loop-first.first ≡ i = omega (arith, less, more) in
+      subst (λ (n : ℕ). Passes c.args.rule c.args.items.now n) at c.in_default.ensures.second
 ]
