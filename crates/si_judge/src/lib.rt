@@ -9,6 +9,8 @@ mod apart;
 mod fresh;
 mod read;
 mod stamped;
+#[cfg(test)]
+mod tests;
 mod verdict;
 mod version;
 mod visible;
