@@ -1,0 +1,94 @@
+// The judge of histories: whether the items of a finished history are snapshot isolated.
+#![tactic(auto)]
+
+ghost use Rattle.std.specs.Prelude.{◌≡◌, ◌<◌, length, IfOk, Ok};
+ghost use Rattle.history_book.specs.Isolation.{Isolated};
+ghost use Rattle.si_judge.specs.Judged.{AllRight, IsEarlierKept, IsJudged, IsKept, IsLeastPair};
+
+mod apart;
+mod fresh;
+mod read;
+mod stamped;
+#[cfg(test)]
+mod tests;
+mod verdict;
+mod version;
+mod visible;
+mod walk;
+
+use history_book::Item;
+use stamp_base::NoMemory;
+use std::alloc::Global;
+pub use verdict::{Rule, Verdict};
+use walk::{Pair, first_pair};
+
+/// Judges the items of a finished history. Broken names the first rule that is broken, and of the pairs
+/// of items that break it the one with the least first number and then the least second; items are
+/// numbered from 1.
+///
+/// The walk takes no memory so far, so it never answers NoMemory. Its time grows with the square of
+/// the number of items, and with its cube where most transactions overlap.
+pub fn judge(alloc: Global, items: &[Item]) -> Result<Verdict, NoMemory>
+    ensures judged { IfOk result (λ verdict. IsJudged items.now verdict) }
+    ensures isolated { IfOk result (λ verdict. verdict ≡ Verdict.Isolated → Isolated items.now) }
+    ensures complete { Isolated items.now → result ≡ Ok Verdict.Isolated }
+{
+    let _ = alloc;
+    Ok(judged(items))
+}
+
+fn judged(items: &[Item]) -> Verdict
+    ensures { IsJudged items.now result }
+{
+    match first_pair(Rule::Stamped, items) {
+        Some(pair) => broken(Rule::Stamped, items, pair),
+        None => after_stamped(items),
+    }
+}
+
+fn after_stamped(items: &[Item]) -> Verdict
+    requires { IsKept Rule.Stamped items.now }
+    ensures { IsJudged items.now result }
+{
+    match first_pair(Rule::Apart, items) {
+        Some(pair) => broken(Rule::Apart, items, pair),
+        None => after_apart(items),
+    }
+}
+
+fn after_apart(items: &[Item]) -> Verdict
+    requires stamped { IsKept Rule.Stamped items.now }
+    requires apart { IsKept Rule.Apart items.now }
+    ensures { IsJudged items.now result }
+{
+    match first_pair(Rule::Read, items) {
+        Some(pair) => broken(Rule::Read, items, pair),
+        None => after_reads(items),
+    }
+}
+
+fn after_reads(items: &[Item]) -> Verdict
+    requires stamped { IsKept Rule.Stamped items.now }
+    requires apart { IsKept Rule.Apart items.now }
+    requires reads { AllRight items.now }
+    ensures { IsJudged items.now result }
+{
+    match first_pair(Rule::Fresh, items) {
+        Some(pair) => broken(Rule::Fresh, items, pair),
+        None => Verdict::Isolated,
+    }
+}
+
+/// The verdict on the first pair that breaks the first broken rule.
+fn broken(rule: Rule, items: &[Item], pair: Pair) -> Verdict
+    requires pair { IsLeastPair rule items.now pair.first pair.second }
+    requires earlier { IsEarlierKept rule items.now }
+    requires within { pair.first < length items.now × pair.second < length items.now }
+    ensures { IsJudged items.now result }
+{
+    Verdict::Broken {
+        rule,
+        first: pair.first + 1,
+        second: pair.second + 1,
+    }
+}

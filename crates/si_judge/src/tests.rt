@@ -1,0 +1,300 @@
+// Verdicts on small histories, whose places are found by hand.
+use super::*;
+use history_book::read_item;
+use std::process::Abort;
+use std::test::Fail;
+
+fn items_of(alloc: Global, lines: &[&str]) -> Result<Vec<Item>, Fail> {
+    let mut items = Vec::new(alloc);
+    for line in lines {
+        items.push(read_item(line.as_bytes()).ok_or("an item")?)?;
+    }
+    Ok(items)
+}
+
+fn assert_isolated(rt: &impl Abort, alloc: Global, lines: &[&str]) -> Result<(), Fail> {
+    let items = items_of(alloc, lines)?;
+    assert_eq!(rt; judge(alloc, &items), Ok(Verdict::Isolated), "of {lines:?}");
+    Ok(())
+}
+
+fn assert_broken(
+    rt: &impl Abort,
+    alloc: Global,
+    rule: Rule,
+    table: &[(usize, usize, &[&str])],
+) -> Result<(), Fail> {
+    for (first, second, lines) in table {
+        let items = items_of(alloc, lines)?;
+        let want = Verdict::Broken {
+            rule,
+            first: *first,
+            second: *second,
+        };
+        assert_eq!(rt; judge(alloc, &items), Ok(want), "of {lines:?}");
+    }
+    Ok(())
+}
+
+#[test]
+fn stamps(rt: HostRuntime) -> Result<(), Fail> {
+    let table: &[(usize, usize, &[&str])] = &[
+        (1, 2, &["begin s0 start=1", "begin s1 start=1"]),
+        (
+            1,
+            2,
+            &["placed start=1 commit=3", "placed start=1 commit=4"],
+        ),
+        (
+            1,
+            2,
+            &["placed start=1 commit=3", "placed start=2 commit=3"],
+        ),
+        (1, 2, &["begin s0 start=3", "placed start=1 commit=3"]),
+        (1, 2, &["placed start=1 commit=3", "begin s0 start=3"]),
+        (2, 2, &["tick 1", "placed start=1 commit=1"]),
+        (
+            1,
+            1,
+            &["placed start=2 commit=1", "read s0 start=5 k0 none"],
+        ),
+        (
+            1,
+            4,
+            &[
+                "begin s0 start=1",
+                "begin s1 start=2",
+                "begin s2 start=2",
+                "begin s3 start=1",
+            ],
+        ),
+        (
+            1,
+            2,
+            &["begin s0 start=1", "begin s1 start=1", "begin s2 start=1"],
+        ),
+    ];
+    assert_broken(&rt, rt.alloc(), Rule::Stamped, table)
+}
+
+#[test]
+fn commits_apart(rt: HostRuntime) -> Result<(), Fail> {
+    let table: &[(usize, usize, &[&str])] = &[
+        (
+            7,
+            8,
+            &[
+                "ask-begin s0 a",
+                "begin s0 start=1",
+                "ask-begin s1 a",
+                "begin s1 start=2",
+                "write s0 start=1 k0 p",
+                "write s1 start=2 k0 q",
+                "placed start=1 commit=3",
+                "placed start=2 commit=4",
+            ],
+        ),
+        (
+            1,
+            3,
+            &[
+                "placed start=2 commit=4",
+                "write s0 start=1 k0 p",
+                "placed start=1 commit=3",
+                "write s1 start=2 k1 q",
+                "write s1 start=2 k0 q",
+            ],
+        ),
+        (
+            3,
+            4,
+            &[
+                "write s0 start=1 k0 p",
+                "write s1 start=2 k0 q",
+                "placed start=1 commit=2",
+                "placed start=2 commit=3",
+            ],
+        ),
+    ];
+    assert_broken(&rt, rt.alloc(), Rule::Apart, table)
+}
+
+#[test]
+fn reads(rt: HostRuntime) -> Result<(), Fail> {
+    let table: &[(usize, usize, &[&str])] = &[
+        (
+            4,
+            2,
+            &[
+                "begin s0 start=1",
+                "write s0 start=1 k0 v",
+                "begin s1 start=101",
+                "read s1 start=101 k0 none",
+                "placed start=1 commit=2",
+            ],
+        ),
+        (2, 1, &["write s0 start=5 k0 v", "read s0 start=5 k0 none"]),
+        (
+            3,
+            2,
+            &[
+                "write s0 start=5 k0 v",
+                "write s0 start=5 k0 w",
+                "read s0 start=5 k0 from=5 v",
+            ],
+        ),
+        (
+            1,
+            1,
+            &["read s0 start=5 k0 from=5 v", "write s0 start=5 k0 v"],
+        ),
+        (1, 1, &["read s0 start=5 k0 from=1 v"]),
+        (
+            5,
+            3,
+            &[
+                "write s0 start=1 k0 p",
+                "placed start=1 commit=2",
+                "write s0 start=3 k0 q",
+                "placed start=3 commit=4",
+                "read s1 start=9 k0 from=1 p",
+            ],
+        ),
+        (
+            3,
+            4,
+            &[
+                "write s0 start=1 k0 p",
+                "placed start=1 commit=2",
+                "read s1 start=3 k0 from=1 p",
+                "write s0 start=1 k0 q",
+            ],
+        ),
+        (
+            3,
+            1,
+            &[
+                "write s0 start=5 k0 v",
+                "step janitor keys 5 count=1",
+                "read s0 start=5 k0 from=1 v",
+            ],
+        ),
+        (
+            2,
+            1,
+            &[
+                "write s0 start=5 k0 v",
+                "read s0 start=5 k0 none",
+                "step janitor keys 5 count=1",
+            ],
+        ),
+    ];
+    assert_broken(&rt, rt.alloc(), Rule::Read, table)
+}
+
+#[test]
+fn starts(rt: HostRuntime) -> Result<(), Fail> {
+    let table: &[(usize, usize, &[&str])] = &[
+        (
+            1,
+            3,
+            &[
+                "placed start=1 commit=5",
+                "ask-begin s0 a",
+                "begin s0 start=3",
+            ],
+        ),
+        (1, 2, &["placed start=1 commit=5", "begin s0 start=3"]),
+        (
+            2,
+            4,
+            &[
+                "ask-begin s0 a",
+                "placed start=1 commit=5",
+                "ask-begin s0 a",
+                "begin s0 start=3",
+            ],
+        ),
+    ];
+    assert_broken(&rt, rt.alloc(), Rule::Fresh, table)
+}
+
+#[test]
+fn isolated(rt: HostRuntime) -> Result<(), Fail> {
+    let table: &[&[&str]] = &[
+        &[],
+        &[
+            "write s0 start=1 k0 p",
+            "placed start=1 commit=2",
+            "write s1 start=3 k0 q",
+            "placed start=3 commit=4",
+        ],
+        &["read s0 start=5 k0 none", "write s0 start=5 k0 v"],
+        &[
+            "write s0 start=1 k0 v",
+            "placed start=1 commit=3",
+            "read s1 start=3 k0 none",
+        ],
+        &[
+            "write s0 start=5 k0 v",
+            "step janitor keys 5 count=1",
+            "read s0 start=5 k0 none",
+        ],
+        &[
+            "write s0 start=5 k0 v",
+            "step janitor keys 5 count=1",
+            "read s0 start=5 k0 from=5 v",
+        ],
+        &[
+            "ask-begin s0 a",
+            "placed start=1 commit=5",
+            "begin s0 start=3",
+        ],
+        &[
+            "ask-begin s0 a",
+            "placed start=1 commit=5",
+            "ask-begin s1 a",
+            "begin s0 start=3",
+        ],
+        &[
+            "ask-begin s0 a",
+            "begin s0 start=3",
+            "placed start=4 commit=9",
+            "begin s0 start=6",
+        ],
+    ];
+    for lines in table {
+        assert_isolated(&rt, rt.alloc(), lines)?;
+    }
+    Ok(())
+}
+
+#[test]
+fn plain_path(rt: HostRuntime) -> Result<(), Fail> {
+    assert_isolated(
+        &rt,
+        rt.alloc(),
+        &[
+            "take a reading=0 term=1 epoch=0 until=10 ceiling=100",
+            "ask-begin s0 a",
+            "accept s0 a term=1 reading=0",
+            "draw s0 a term=1 start=1",
+            "begin s0 start=1",
+            "write s0 start=1 k0 v",
+            "ask-commit s0 a start=1",
+            "accept s0 a term=1 reading=0",
+            "draw s0 a term=1 start=1 commit=2",
+            "placed start=1 commit=2",
+            "committed s0 start=1 commit=2",
+            "step s0 shadow k0 1 2",
+            "step s0 remove 1",
+            "ask-begin s1 a",
+            "accept s1 a term=1 reading=0",
+            "draw s1 a term=1 start=3",
+            "begin s1 start=3",
+            "step s1 fetch k0 cells=1",
+            "read s1 start=3 k0 from=1 v",
+            "end s1 start=3 read-only",
+        ],
+    )
+}
