@@ -17,12 +17,15 @@ pair_cmp x y = ordering_then (nat_cmp x.0 y.0) (nat_cmp x.1 y.1)
 abbrev pub row_of : (ℕ × ℕ) × Kept → Row
 row_of e = record { key = e.0.0; version = e.0.1; value = e.1.value; shadow = e.1.shadow }
 
+-- the cell that an entry of the map holds
 abbrev pub cell_of_entry : (ℕ × ℕ) × Kept → Cell
 cell_of_entry e = cell_of (row_of e)
 
+-- the key of a version's entry in the index
 abbrev pub second_of : ℕ × ℕ → ℕ
 second_of p = p.1
 
+-- the rows of the whole map
 abbrev pub rows_of : List ((ℕ × ℕ) × Kept) → List Row
 rows_of entries = map row_of entries
 

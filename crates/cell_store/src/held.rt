@@ -145,11 +145,12 @@ fn cell_at(place: (KeyNo, Stamp), kept: Kept) -> Cell
     }
 }
 
-/// Where a row of the key and the version stands. The look-ups by range rest on what the numbers can be.
+/// Where a row of the key and the version stands.
 fn place_of(key: KeyNo, version: Stamp) -> (KeyNo, Stamp)
     ensures place { result ≡ (key, version) }
     ensures ranged { (key < 4096) × (1 ≤ version) }
 {
+    // The look-ups by range rest on what keys and versions can be, which `value` tells.
     let _ = (key.value(), version.value());
     (key, version)
 }
