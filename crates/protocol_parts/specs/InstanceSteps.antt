@@ -17,7 +17,7 @@ use Rattle.protocol_parts.specs.declared.instance.Decided.TheVariants as decided
 use Rattle.protocol_parts.specs.declared.instance.Reply.{Reply}
 use Rattle.protocol_parts.specs.declared.instance.Reply.TheVariants as reply
 use Rattle.protocol_parts.specs.Buckets.{Bucket, verdict, record_pairs, pairs_of}
-use Rattle.protocol_parts.specs.Instance.{InstanceEntry, held_of, in_flight, with_request, session_of, least_unsettled}
+use Rattle.protocol_parts.specs.Instance.{InstanceEntry, held_of, in_flight, with_request, session_of, unsettled_by, least_unsettled}
 
 -- what a call leaves, and what it answers
 pub record InstanceStep (A : Type 0) : Type 0 where
@@ -118,13 +118,14 @@ abbrev pub instance_decide : InstanceEntry → ℕ → InstanceStep Decided
 instance_decide i session = decide_held i session (held_of i session)
 
 -- ---- settle: the put of a commit has ended
-abbrev pub settle_at : InstanceEntry → ℕ → How → Request → Progress → InstanceStep (Unit {0})
-settle_at i session how (Commit s start keys) (Drawn commit) = record { left = moved i session (Commit s start keys) (Settled commit how); answer = Ok tt }
-settle_at i session how request progress = no_request i session
+abbrev pub settle_by : InstanceEntry → ℕ → How → Request → Option ℕ → InstanceStep (Unit {0})
+settle_by i session how request (Some commit) = record { left = moved i session request (Settled commit how); answer = Ok tt }
+settle_by i session how request None = no_request i session
 
+-- a commit that was drawn and is not settled
 abbrev pub settle_held : InstanceEntry → ℕ → How → Option Held → InstanceStep (Unit {0})
 settle_held i session how None = no_request i session
-settle_held i session how (Some held) = settle_at i session how held.request held.progress
+settle_held i session how (Some held) = settle_by i session how held.request (unsettled_by held.request held.progress)
 
 abbrev pub instance_settle : InstanceEntry → ℕ → How → InstanceStep (Unit {0})
 instance_settle i session how = settle_held i session how (held_of i session)
