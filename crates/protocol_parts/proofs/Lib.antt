@@ -5,3 +5,7 @@ pub mod CompletionLemmas
 pub mod KeyReadLemmas
 pub mod RowLaws
 pub mod BucketVerdicts
+pub mod InstanceMoves
+pub mod InstanceLemmas
+pub mod InstanceBegins
+pub mod InstanceRecords

@@ -4,6 +4,8 @@
 mod asks;
 mod buckets;
 mod completion;
+mod instance;
+mod instance_laws;
 mod key_read;
 mod pairs;
 mod record;
@@ -19,6 +21,11 @@ pub use buckets::{
     last_commits_are_remembered, recordings_go_on, verdicts_are_shown, waters_were_recorded,
 };
 pub use completion::{completions_end, removal_comes_last};
+pub use instance::{Decided, Held, Place, Progress, Reply, Request, Settled};
+pub use instance_laws::{
+    begins_wait_for_commits, drawn_commits_are_free, drawn_stamps_are_next, instances_go_up,
+    last_stamps_stay_in_range, recorded_commits_rise,
+};
 pub use key_read::{
     Answer, Next, answers_own_or_below, answers_resolved, passed_are_late, passes_dead_or_late,
     reads_end, reads_mark_old_alone,

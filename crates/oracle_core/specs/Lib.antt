@@ -1,0 +1,2 @@
+pub use Rattle.protocol_parts.specs.Instance
+pub use Rattle.protocol_parts.specs.InstanceSteps

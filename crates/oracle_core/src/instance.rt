@@ -1,0 +1,402 @@
+ghost use Rattle.std.specs.Prelude.{◌≡◌, ◌≤◌, ◌^◌, IfOk, Ok, None, Some};
+ghost use Rattle.protocol_parts.specs.Instance as entry;
+ghost use Rattle.protocol_parts.specs.InstanceSteps as step;
+
+use crate::waiting;
+use conflict_buckets::Buckets;
+use epoch_clock::Range;
+use history_book::Cause;
+use lease_keeper::Lease;
+use protocol_parts::{Decided, Grant, Held, Place, Progress, Reply, Request, Settled, Verdict};
+use stamp_base::{NoMemory, NodeNo, SessionNo, Setup, Stamp, Term};
+use std::alloc::Global;
+use std::marker::Model;
+
+/// One oracle, made by one grant of the master record. A request goes from place to place by `ask`, `accept`,
+/// `decide`, for a commit `settle`, and `answer`.
+#[derive(Drop)]
+pub struct Instance {
+    node: NodeNo,
+    term: Term,
+    epoch: u64,
+    range: Range,
+    lease: Lease,
+    buckets: Buckets,
+    // The first refusal of the master record that ends requests.
+    stop: Option<Cause>,
+    slots: u64,
+    // One for each of the 16 sessions, by its number.
+    requests: Vec<Option<Held>>,
+}
+
+impl Model for Instance {
+    ghost use Rattle.std.specs.Prelude.{◌≡◌, vec_len};
+    ghost use Rattle.protocol_parts.specs.Instance.{InstanceEntry};
+
+    ghost Value = { InstanceEntry };
+
+    ghost view = { λ i. record { node = i.node; term = i.term; epoch = i.epoch; last = i.range.last; ceiling = i.range.ceiling; until = i.lease; buckets = i.buckets; stop = i.stop; slots = i.slots; requests = i.requests.items } };
+
+    ghost invariant = { λ i. vec_len i.requests ≡ 16 };
+}
+
+impl Instance {
+    /// An instance that holds no request. All its memory is taken here.
+    pub fn open(
+        alloc: Global,
+        grant: Grant,
+        node: NodeNo,
+        setup: &Setup,
+    ) -> Result<Instance, NoMemory>
+        requires range { (grant.epoch ≤ grant.ceiling) × (grant.ceiling ≤ 2 ^ 62) }
+        requires buckets { (1 ≤ setup.now.buckets) × (setup.now.buckets ≤ 4096) }
+        requires width { (1 ≤ setup.now.width) × (setup.now.width ≤ 64) }
+        ensures { IfOk result (λ opened. opened ≡ entry.instance_new grant node setup.now.buckets setup.now.width setup.now.slots) }
+    {
+        Ok(Instance {
+            node,
+            term: grant.term,
+            epoch: grant.epoch,
+            range: Range::new(grant.epoch, grant.ceiling),
+            lease: Lease::new(grant.until),
+            buckets: Buckets::open(alloc, setup.buckets, setup.width)?,
+            stop: None,
+            slots: setup.slots,
+            requests: Vec::from_array(alloc, [None; 16])?,
+        })
+    }
+
+    /// The node that has the instance.
+    pub fn node(&self) -> NodeNo
+        ensures { result ≡ self.now.node }
+    {
+        self.node
+    }
+
+    /// The term of the grant.
+    pub fn term(&self) -> Term
+        ensures { result ≡ self.now.term }
+    {
+        self.term
+    }
+
+    /// The greatest stamp that earlier terms may draw.
+    pub fn epoch(&self) -> u64
+        ensures { result ≡ self.now.epoch }
+    {
+        self.epoch
+    }
+
+    /// The stamp that was drawn last, or the epoch before the first.
+    pub fn last(&self) -> u64
+        ensures value { result ≡ self.now.last }
+        ensures within { self.now.last ≤ self.now.ceiling }
+    {
+        self.range.last()
+    }
+
+    /// The greatest stamp that can be drawn.
+    pub fn ceiling(&self) -> u64
+        ensures value { result ≡ self.now.ceiling }
+        ensures range { self.now.ceiling ≤ 2 ^ 62 }
+    {
+        self.range.ceiling()
+    }
+
+    /// Where the request of a session stands. None exactly where it has none.
+    pub fn place(&self, session: SessionNo) -> Option<Place>
+        ensures { result ≡ entry.place_at self.now session }
+    {
+        waiting::place_of(&self.find(session))
+    }
+
+    /// The start of a session's request and, of a commit, the commit. None exactly where nothing was drawn for it.
+    pub fn drawn(&self, session: SessionNo) -> Option<(Stamp, Option<Stamp>)>
+        ensures { result ≡ entry.stamps_at self.now session }
+    {
+        waiting::stamps_of(&self.find(session))
+    }
+
+    /// Takes a slot for the request. Refused as Full exactly where all slots are taken.
+    pub fn ask(&mut self, request: Request) -> Result<(), Cause>
+        requires { step.CanAskOf self.old request }
+        ensures left { self.new ≡ (step.instance_ask self.old request).left }
+        ensures answer { result ≡ (step.instance_ask self.old request).answer }
+    {
+        let in_flight = self.in_flight();
+        if in_flight == self.slots {
+            return Err(Cause::Full { in_flight });
+        }
+        self.put(waiting::session_of(&request), request, Progress::Asked);
+        Ok(())
+    }
+
+    /// Accepts a request that was asked. Refused as NoRequest unless one was, as Expired exactly where the reading is
+    /// at or past the end of the lease, then as OldEpoch exactly where a commit's start is at most the epoch. The last
+    /// two end the request.
+    pub fn accept(&mut self, session: SessionNo, reading: u64) -> Result<(), Cause>
+        ensures left { self.new ≡ (step.instance_accept self.old session reading).left }
+        ensures answer { result ≡ (step.instance_accept self.old session reading).answer }
+    {
+        match self.find(session) {
+            Some(Held {
+                request,
+                progress: Progress::Asked,
+            }) => self.accept_asked(session, request, reading),
+            _ => Err(Cause::NoRequest { session }),
+        }
+    }
+
+    /// Draws the stamp of a request that was accepted; a commit records its keys. Refused as NoRequest unless one was,
+    /// as Conflict or Hidden exactly by the buckets' verdict on a commit, which ends it. Where the range is used up,
+    /// the refusal of the master record that is kept ends the request, and without one it stays and is refused as
+    /// NoStamp.
+    pub fn decide(&mut self, session: SessionNo) -> Result<Decided, Cause>
+        ensures left { self.new ≡ (step.instance_decide self.old session).left }
+        ensures answer { result ≡ (step.instance_decide self.old session).answer }
+    {
+        match self.find(session) {
+            Some(Held {
+                request,
+                progress: Progress::Accepted,
+            }) => self.decide_accepted(session, request),
+            _ => Err(Cause::NoRequest { session }),
+        }
+    }
+
+    /// Keeps how the placing of a drawn commit ended. Refused as NoRequest unless the session has one.
+    pub fn settle(&mut self, session: SessionNo, how: Settled) -> Result<(), Cause>
+        ensures left { self.new ≡ (step.instance_settle self.old session how).left }
+        ensures answer { result ≡ (step.instance_settle self.old session how).answer }
+    {
+        match self.find(session) {
+            Some(held) => self.settle_held(session, held, how),
+            None => Err(Cause::NoRequest { session }),
+        }
+    }
+
+    /// Answers a begin that was drawn or a commit that was settled, which ends it. Refused as NoRequest unless the
+    /// session has one, and as NotYet exactly where a commit below the begin's start was drawn and is not settled: the
+    /// least is named, and the request stays.
+    pub fn answer(&mut self, session: SessionNo) -> Result<Reply, Cause>
+        ensures left { self.new ≡ (step.instance_answer self.old session).left }
+        ensures answer { result ≡ (step.instance_answer self.old session).answer }
+    {
+        let held = self.find(session);
+        match &held {
+            Some(Held {
+                request: Request::Begin { .. },
+                progress: Progress::Drawn { stamp },
+            }) => self.answer_begin(session, *stamp),
+            Some(Held {
+                request: Request::Commit { .. },
+                progress: Progress::Settled { commit, how },
+            }) => {
+                self.end(session);
+                Ok(reply_of(*commit, *how))
+            }
+            _ => Err(Cause::NoRequest { session }),
+        }
+    }
+
+    /// The range goes up to a new ceiling.
+    pub fn widened(&mut self, ceiling: u64)
+        requires not_below { self.old.ceiling ≤ ceiling }
+        requires in_range { ceiling ≤ 2 ^ 62 }
+        ensures { self.new ≡ step.instance_widened self.old ceiling }
+    {
+        self.range.widen(ceiling);
+    }
+
+    /// The lease was renewed; its end never comes down.
+    pub fn renewed(&mut self, until: u64)
+        ensures { self.new ≡ step.instance_renewed self.old until }
+    {
+        self.lease.renewed(until);
+    }
+
+    /// The master record refused an extension, or a renewal as replaced. The first such refusal is kept.
+    pub fn stopped(&mut self, cause: Cause)
+        requires { step.IsStop cause }
+        ensures { self.new ≡ step.instance_stopped self.old cause }
+    {
+        if self.stop.is_none() {
+            self.stop = Some(cause);
+        }
+    }
+
+    fn accept_asked(
+        &mut self,
+        session: SessionNo,
+        request: Request,
+        reading: u64,
+    ) -> Result<(), Cause>
+        ensures left { self.new ≡ (step.accept_by self.old session request (step.accept_refusal self.old reading request)).left }
+        ensures answer { result ≡ (step.accept_by self.old session request (step.accept_refusal self.old reading request)).answer }
+    {
+        match self.accept_refusal(&request, reading) {
+            None => {
+                self.put(session, request, Progress::Accepted);
+                Ok(())
+            }
+            Some(cause) => {
+                self.end(session);
+                Err(cause)
+            }
+        }
+    }
+
+    /// Why a request that was asked is not accepted.
+    fn accept_refusal(&self, request: &Request, reading: u64) -> Option<Cause>
+        ensures { result ≡ step.accept_refusal self.now reading request.now }
+    {
+        if let Err(expired) = self.lease.check(reading) {
+            return Some(Cause::Expired {
+                reading: expired.reading,
+                until: expired.until,
+            });
+        }
+        match request {
+            Request::Commit { start, .. } if start.value() <= self.epoch => Some(Cause::OldEpoch {
+                start: *start,
+                epoch: self.epoch,
+            }),
+            _ => None,
+        }
+    }
+
+    fn decide_accepted(&mut self, session: SessionNo, request: Request) -> Result<Decided, Cause>
+        ensures left { self.new ≡ (step.decide_by self.old session request (step.request_verdict self.old.buckets request)).left }
+        ensures answer { result ≡ (step.decide_by self.old session request (step.request_verdict self.old.buckets request)).answer }
+    {
+        match self.verdict(&request) {
+            Verdict::Free => self.decide_free(session, request),
+            Verdict::Conflict { key, by } => {
+                self.end(session);
+                Err(Cause::Conflict { key, by })
+            }
+            Verdict::Hidden { key, water } => {
+                self.end(session);
+                Err(Cause::Hidden { key, water })
+            }
+        }
+    }
+
+    fn verdict(&self, request: &Request) -> Verdict
+        ensures { result ≡ step.request_verdict self.now.buckets request.now }
+    {
+        match request {
+            Request::Begin { .. } => Verdict::Free,
+            Request::Commit { start, keys, .. } => self.buckets.check(*start, keys),
+        }
+    }
+
+    fn decide_free(&mut self, session: SessionNo, request: Request) -> Result<Decided, Cause>
+        ensures left { self.new ≡ (step.decide_free self.old session request).left }
+        ensures answer { result ≡ (step.decide_free self.old session request).answer }
+    {
+        match self.range.draw() {
+            Some(stamp) => Ok(self.decide_drawn(session, request, stamp)),
+            None => self.out_of_stamps(session),
+        }
+    }
+
+    fn out_of_stamps(&mut self, session: SessionNo) -> Result<Decided, Cause>
+        ensures left { self.new ≡ (step.out_of_stamps self.old session self.old.stop).left }
+        ensures answer { result ≡ (step.out_of_stamps self.old session self.old.stop).answer }
+    {
+        match self.stop {
+            None => Err(Cause::NoStamp {
+                last: self.range.last(),
+            }),
+            Some(cause) => {
+                self.end(session);
+                Err(cause)
+            }
+        }
+    }
+
+    /// The stamp was drawn for the request.
+    fn decide_drawn(&mut self, session: SessionNo, request: Request, stamp: Stamp) -> Decided
+        requires { self.old.last ≡ stamp }
+        ensures left { self.new ≡ (step.decide_drawn self.old session request stamp).left }
+        ensures answer { Ok result ≡ (step.decide_drawn self.old session request stamp).answer }
+    {
+        let decided = match &request {
+            Request::Begin { .. } => Decided::Started(stamp),
+            Request::Commit { keys, .. } => {
+                self.buckets.keep(keys, stamp);
+                Decided::Drawn(stamp)
+            }
+        };
+        self.put(session, request, Progress::Drawn { stamp });
+        decided
+    }
+
+    fn settle_held(&mut self, session: SessionNo, held: Held, how: Settled) -> Result<(), Cause>
+        ensures left { self.new ≡ (step.settle_by self.old session how held.request (entry.unsettled_by held.request held.progress)).left }
+        ensures answer { result ≡ (step.settle_by self.old session how held.request (entry.unsettled_by held.request held.progress)).answer }
+    {
+        match waiting::unsettled_commit(&held) {
+            Some(commit) => {
+                self.put(session, held.request, Progress::Settled { commit, how });
+                Ok(())
+            }
+            None => Err(Cause::NoRequest { session }),
+        }
+    }
+
+    fn answer_begin(&mut self, session: SessionNo, start: Stamp) -> Result<Reply, Cause>
+        ensures left { self.new ≡ (step.answer_begin self.old session start (entry.least_unsettled self.old.requests start)).left }
+        ensures answer { result ≡ (step.answer_begin self.old session start (entry.least_unsettled self.old.requests start)).answer }
+    {
+        match waiting::least_unsettled(&self.requests, start) {
+            None => {
+                self.end(session);
+                Ok(Reply::Begun {
+                    start,
+                    epoch: self.epoch,
+                })
+            }
+            Some(commit) => Err(Cause::NotYet { commit }),
+        }
+    }
+
+    /// How many requests are held.
+    fn in_flight(&self) -> u64
+        ensures { result ≡ entry.in_flight self.now }
+    {
+        self.requests.iter().filter(|held| held.is_some()).count() as u64
+    }
+
+    /// The request of a session.
+    fn find(&self, session: SessionNo) -> Option<Held>
+        ensures { result ≡ entry.held_of self.now session }
+    {
+        self.requests[session.value() as usize]
+    }
+
+    /// The session has this request from now on.
+    fn put(&mut self, session: SessionNo, request: Request, progress: Progress)
+        ensures { self.new ≡ step.moved self.old session request progress }
+    {
+        self.requests[session.value() as usize] = Some(Held { request, progress });
+    }
+
+    /// The request of the session is over, and its slot is free.
+    fn end(&mut self, session: SessionNo)
+        ensures { self.new ≡ step.without_request self.old session }
+    {
+        self.requests[session.value() as usize] = None;
+    }
+}
+
+fn reply_of(commit: Stamp, how: Settled) -> Reply
+    ensures { result ≡ step.reply_of commit how }
+{
+    match how {
+        Settled::Placed => Reply::Committed { commit },
+        Settled::Invalid => Reply::Invalid,
+        Settled::Faulted => Reply::Open,
+    }
+}

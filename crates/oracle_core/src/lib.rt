@@ -1,0 +1,8 @@
+// An oracle's instance: the requests that it holds, taken step by step from the ask to the answer.
+#![tactic(auto)]
+
+mod instance;
+mod waiting;
+
+pub use instance::Instance;
+pub use protocol_parts::{Decided, Place, Reply, Request, Settled};

@@ -1,0 +1,108 @@
+// What a held request tells by how far it has come.
+ghost use Rattle.std.specs.Prelude.{◌≡◌, ℕ, List};
+ghost use Rattle.protocol_parts.specs.Instance as entry;
+
+use protocol_parts::{Held, Place, Progress, Request};
+use stamp_base::{SessionNo, Stamp};
+
+pub fn session_of(request: &Request) -> SessionNo
+    ensures { result ≡ entry.session_of request.now }
+{
+    match request {
+        Request::Begin { session } => *session,
+        Request::Commit { session, .. } => *session,
+    }
+}
+
+pub fn place_of(held: &Option<Held>) -> Option<Place>
+    ensures { result ≡ entry.place_of_held held.now }
+{
+    match held {
+        None => None,
+        Some(held) => Some(match held.progress {
+            Progress::Asked => Place::Asked,
+            Progress::Accepted => Place::Accepted,
+            Progress::Drawn { .. } => Place::Drawn,
+            Progress::Settled { .. } => Place::Settled,
+        }),
+    }
+}
+
+/// The start, and of a commit the commit, once it was drawn.
+pub fn stamps_of(held: &Option<Held>) -> Option<(Stamp, Option<Stamp>)>
+    ensures { result ≡ entry.stamps_of_held held.now }
+{
+    match held {
+        None => None,
+        Some(held) => match &held.request {
+            Request::Begin { .. } => begin_stamps(&held.progress),
+            Request::Commit { start, .. } => commit_stamps(*start, &held.progress),
+        },
+    }
+}
+
+fn begin_stamps(progress: &Progress) -> Option<(Stamp, Option<Stamp>)>
+    ensures { (session : ℕ) → result ≡ entry.stamps_by (Request.Begin session) progress.now }
+{
+    match progress {
+        Progress::Drawn { stamp } => Some((*stamp, None)),
+        _ => None,
+    }
+}
+
+fn commit_stamps(start: Stamp, progress: &Progress) -> Option<(Stamp, Option<Stamp>)>
+    ensures { (session : ℕ) (keys : List ℕ) → result ≡ entry.stamps_by (Request.Commit session start keys) progress.now }
+{
+    match progress {
+        Progress::Drawn { stamp } => Some((start, Some(*stamp))),
+        Progress::Settled { commit, .. } => Some((start, Some(*commit))),
+        _ => None,
+    }
+}
+
+/// The commit of a request that is drawn and is not settled.
+pub fn unsettled_commit(held: &Held) -> Option<Stamp>
+    ensures { result ≡ entry.unsettled_by held.now.request held.now.progress }
+{
+    match held {
+        Held {
+            request: Request::Commit { .. },
+            progress: Progress::Drawn { stamp },
+        } => Some(*stamp),
+        _ => None,
+    }
+}
+
+/// The least commit below a start that was drawn and is not settled.
+#[tactic(auto, unfolding(protocol_parts::specs::Instance::least_unsettled))]
+pub fn least_unsettled(requests: &[Option<Held>], start: Stamp) -> Option<Stamp>
+    ensures { result ≡ entry.least_unsettled requests.now start }
+{
+    let mut least = None;
+    for held in requests {
+        least = lesser(least, unsettled_below(held, start));
+    }
+    least
+}
+
+fn unsettled_below(held: &Option<Held>, start: Stamp) -> Option<Stamp>
+    ensures { result ≡ entry.only_below start (entry.unsettled_commit held.now) }
+{
+    match held {
+        Some(Held {
+            request: Request::Commit { .. },
+            progress: Progress::Drawn { stamp },
+        }) if *stamp < start => Some(*stamp),
+        _ => None,
+    }
+}
+
+fn lesser(a: Option<Stamp>, b: Option<Stamp>) -> Option<Stamp>
+    ensures { result ≡ entry.lesser a b }
+{
+    match (a, b) {
+        (None, other) => other,
+        (some, None) => some,
+        (Some(a), Some(b)) => Some(if b < a { b } else { a }),
+    }
+}

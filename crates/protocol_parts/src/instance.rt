@@ -1,0 +1,82 @@
+use stamp_base::{KeyList, SessionNo, Stamp};
+
+/// What a session asks of an oracle's instance.
+#[derive(Clone, Copy, Debug, PartialEq, Eq)]
+pub enum Request {
+    /// A start is wanted.
+    Begin { session: SessionNo },
+    /// The transaction of that start is to commit what it wrote.
+    Commit {
+        session: SessionNo,
+        start: Stamp,
+        keys: KeyList,
+    },
+}
+
+/// Where a request stands.
+#[derive(Clone, Copy, Debug, PartialEq, Eq)]
+pub enum Place {
+    /// It waits for a reading below the end of the lease.
+    Asked,
+    /// It waits for its stamp.
+    Accepted,
+    /// It has its stamp. A commit waits for its record.
+    Drawn,
+    /// A commit waits for its answer.
+    Settled,
+}
+
+/// How the placing of a commit's record ended.
+#[derive(Clone, Copy, Debug, PartialEq, Eq)]
+pub enum Settled {
+    /// The record stands.
+    Placed,
+    /// A mark stood in its place.
+    Invalid,
+    /// The store failed. The record was placed at its own step, or never will be.
+    Faulted,
+}
+
+/// How far a request has come, with what was drawn for it.
+#[derive(Clone, Copy, Debug, PartialEq, Eq)]
+pub enum Progress {
+    Asked,
+    Accepted,
+    /// The stamp is the start of a begin, or the commit.
+    Drawn {
+        stamp: Stamp,
+    },
+    Settled {
+        commit: Stamp,
+        how: Settled,
+    },
+}
+
+/// A request that an instance holds.
+#[derive(Clone, Copy, Debug, PartialEq, Eq)]
+pub struct Held {
+    pub request: Request,
+    pub progress: Progress,
+}
+
+/// The stamp that a decision drew.
+#[derive(Clone, Copy, Debug, PartialEq, Eq)]
+pub enum Decided {
+    /// The start of a begin.
+    Started(Stamp),
+    /// The commit of a commit.
+    Drawn(Stamp),
+}
+
+/// What a session is told at the end of its request.
+#[derive(Clone, Copy, Debug, PartialEq, Eq)]
+pub enum Reply {
+    /// The transaction has this start, and reads by this epoch.
+    Begun { start: Stamp, epoch: u64 },
+    /// The commit is placed.
+    Committed { commit: Stamp },
+    /// The transaction was marked, and cannot commit.
+    Invalid,
+    /// It is not known whether the commit was placed.
+    Open,
+}

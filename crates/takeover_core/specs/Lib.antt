@@ -1,0 +1,1 @@
+pub use Rattle.protocol_parts.specs.PostSteps
