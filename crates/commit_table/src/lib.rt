@@ -225,3 +225,6 @@ fn answer(found: Option<Mark>) -> Put
         None => Put::Placed,
     }
 }
+
+#[cfg(test)]
+mod tests;
