@@ -6,3 +6,6 @@ mod waiting;
 
 pub use instance::Instance;
 pub use protocol_parts::{Decided, Place, Reply, Request, Settled};
+
+#[cfg(test)]
+mod tests;

@@ -9,3 +9,4 @@ pub mod InstanceMoves
 pub mod InstanceLemmas
 pub mod InstanceBegins
 pub mod InstanceRecords
+pub mod InstanceStamps

@@ -5,6 +5,8 @@ use Rattle.history_book.specs.declared.cause.Cause.TheVariants.{NotYet}
 use Rattle.protocol_parts.specs.declared.buckets.Recorded.{Recorded}
 use Rattle.protocol_parts.specs.declared.instance.Request.{Request}
 use Rattle.protocol_parts.specs.declared.instance.Request.TheVariants.{Begin, Commit}
+use Rattle.protocol_parts.specs.declared.instance.Progress.{Progress}
+use Rattle.protocol_parts.specs.declared.instance.Progress.TheVariants.{Drawn, Settled}
 use Rattle.protocol_parts.specs.declared.instance.Held.{Held}
 use Rattle.protocol_parts.specs.declared.instance.Settled.{Settled as How}
 use Rattle.protocol_parts.specs.declared.instance.Decided.{Decided}
@@ -72,6 +74,26 @@ pub record DrawsNext (i : InstanceEntry) (stamp : ℕ) (left : InstanceEntry) : 
 -- a commit that was drawn and is not settled is not below the start
 abbrev pub IsNotBelow : ℕ → Option Held → Type 0
 IsNotBelow start held = IfSome (unsettled_commit held) (λ commit. start ≤ commit)
+
+-- the commit is the least below the start that was drawn and is not settled
+pub record IsLeastUnsettled (start commit : ℕ) (requests : List (Option Held)) : Type 0 where
+  pub below : commit < start
+  pub there : Any (λ held. unsettled_commit held ≡ Some commit) requests
+  pub least : All (λ held. IfSome (unsettled_commit held) (λ other. other < start → commit ≤ other)) requests
+
+-- ---- the stamps of requests
+abbrev pub progress_stamp : Progress → Option ℕ
+progress_stamp (Drawn stamp) = Some stamp
+progress_stamp (Settled commit how) = Some commit
+progress_stamp _ = None
+
+-- what was drawn for a request lies above the epoch, and is at most the last stamp
+abbrev pub IsDrawnWithin : ℕ → ℕ → Option Held → Type 0
+IsDrawnWithin epoch last None = Unit {0}
+IsDrawnWithin epoch last (Some held) = IfSome (progress_stamp held.progress) (λ stamp. (epoch < stamp) × (stamp ≤ last))
+
+abbrev pub AreDrawnWithin : InstanceEntry → Type 0
+AreDrawnWithin i = All (IsDrawnWithin i.epoch i.last) i.requests
 
 -- ---- commits
 -- the buckets hold what was recorded by commits that rise, up to the last stamp

@@ -1,10 +1,11 @@
 // The laws of an oracle's instance, over every state and every call.
-ghost use Rattle.std.specs.Prelude.{◌≡◌, ◌≤◌, ◌++◌, ℕ, List, [], All, Ok};
+ghost use Rattle.std.specs.Prelude.{◌≡◌, ◌≤◌, ◌++◌, ℕ, List, [], All, Option, None, Some, Ok};
+ghost use Rattle.protocol_parts.specs.declared.instance.Held.{Held};
 ghost use Rattle.protocol_parts.specs.declared.buckets.Recorded.{Recorded};
 ghost use Rattle.protocol_parts.specs.declared.record.Grant.{Grant};
 ghost use Rattle.protocol_parts.specs.declared.instance.Decided.{Decided};
 ghost use Rattle.protocol_parts.specs.declared.instance.Reply.TheVariants.{Begun};
-ghost use Rattle.protocol_parts.specs.Instance.{InstanceEntry, instance_new, held_of};
+ghost use Rattle.protocol_parts.specs.Instance.{InstanceEntry, instance_new, held_of, least_unsettled};
 ghost use Rattle.protocol_parts.specs.InstanceSteps.{instance_decide, instance_answer};
 ghost use Rattle.protocol_parts.specs.InstanceLaws as law;
 
@@ -23,6 +24,18 @@ pub fn last_stamps_stay_in_range()
 pub fn drawn_stamps_are_next()
     ensures { (i : InstanceEntry) (session : ℕ) (drawn : Decided) → law.IsInRange i → (instance_decide i session).answer ≡ Ok drawn →
         law.DrawsNext i (law.stamp_of drawn) (instance_decide i session).left }
+{}
+
+/// What was drawn for a request that is held lies above the epoch, and is at most the last stamp.
+pub fn stamps_of_requests_stay_between()
+    ensures granted { (grant : Grant) (node count width slots : ℕ) → law.AreDrawnWithin (instance_new grant node count width slots) }
+    ensures kept { (i : InstanceEntry) (call : law.InstanceCall) → i.epoch ≤ i.last → law.AreDrawnWithin i → law.AreDrawnWithin (law.after_call i call) }
+{}
+
+/// The commit that a begin is told to wait for is the least below its start that was drawn and is not settled.
+pub fn least_unsettled_is_the_least()
+    ensures none { (requests : List (Option Held)) (start : ℕ) → least_unsettled requests start ≡ None → All (law.IsNotBelow start) requests }
+    ensures some { (requests : List (Option Held)) (start commit : ℕ) → least_unsettled requests start ≡ Some commit → law.IsLeastUnsettled start commit requests }
 {}
 
 /// A begin is answered with the instance's epoch, and only where each commit that was drawn below its start is settled.

@@ -24,7 +24,8 @@ pub use completion::{completions_end, removal_comes_last};
 pub use instance::{Decided, Held, Place, Progress, Reply, Request, Settled};
 pub use instance_laws::{
     begins_wait_for_commits, drawn_commits_are_free, drawn_stamps_are_next, instances_go_up,
-    last_stamps_stay_in_range, recorded_commits_rise,
+    last_stamps_stay_in_range, least_unsettled_is_the_least, recorded_commits_rise,
+    stamps_of_requests_stay_between,
 };
 pub use key_read::{
     Answer, Next, answers_own_or_below, answers_resolved, passed_are_late, passes_dead_or_late,
