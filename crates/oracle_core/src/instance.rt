@@ -139,10 +139,12 @@ impl Instance {
         ensures answer { result ≡ (step.instance_accept self.old session reading).answer }
     {
         match self.find(session) {
-            Some(Held {
-                request,
-                progress: Progress::Asked,
-            }) => self.accept_asked(session, request, reading),
+            Some(
+                Held {
+                    request,
+                    progress: Progress::Asked,
+                },
+            ) => self.accept_asked(session, request, reading),
             _ => Err(Cause::NoRequest { session }),
         }
     }
@@ -156,10 +158,12 @@ impl Instance {
         ensures answer { result ≡ (step.instance_decide self.old session).answer }
     {
         match self.find(session) {
-            Some(Held {
-                request,
-                progress: Progress::Accepted,
-            }) => self.decide_accepted(session, request),
+            Some(
+                Held {
+                    request,
+                    progress: Progress::Accepted,
+                },
+            ) => self.decide_accepted(session, request),
             _ => Err(Cause::NoRequest { session }),
         }
     }
@@ -184,14 +188,18 @@ impl Instance {
     {
         let held = self.find(session);
         match &held {
-            Some(Held {
-                request: Request::Begin { .. },
-                progress: Progress::Drawn { stamp },
-            }) => self.answer_begin(session, *stamp),
-            Some(Held {
-                request: Request::Commit { .. },
-                progress: Progress::Settled { commit, how },
-            }) => {
+            Some(
+                Held {
+                    request: Request::Begin { .. },
+                    progress: Progress::Drawn { stamp },
+                },
+            ) => self.answer_begin(session, *stamp),
+            Some(
+                Held {
+                    request: Request::Commit { .. },
+                    progress: Progress::Settled { commit, how },
+                },
+            ) => {
                 self.end(session);
                 Ok(reply_of(*commit, *how))
             }

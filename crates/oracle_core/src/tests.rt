@@ -47,7 +47,9 @@ fn ask(instance: &mut Instance, request: Request) -> Result<(), Cause> {
 
 fn asks_begin(instance: &mut Instance, n: u64) -> Result<SessionNo, &'static str> {
     let session = session(n)?;
-    ask(instance, Request::Begin { session }).ok().ok_or("not asked")?;
+    ask(instance, Request::Begin { session })
+        .ok()
+        .ok_or("not asked")?;
     Ok(session)
 }
 
@@ -92,15 +94,13 @@ fn decides(
 }
 
 /// The whole way of a commit whose record is placed.
-fn commits(
-    instance: &mut Instance,
-    n: u64,
-    start: u64,
-    key: u64,
-) -> Result<Reply, &'static str> {
+fn commits(instance: &mut Instance, n: u64, start: u64, key: u64) -> Result<Reply, &'static str> {
     decides(instance, n, start, key)?.ok().ok_or("not decided")?;
     let session = session(n)?;
-    instance.settle(session, Settled::Placed).ok().ok_or("not settled")?;
+    instance
+        .settle(session, Settled::Placed)
+        .ok()
+        .ok_or("not settled")?;
     instance.answer(session).ok().ok_or("not answered")
 }
 
@@ -128,7 +128,10 @@ fn boundaries(rt: HostRuntime) -> Result<(), Fail> {
         until: 10,
     };
     assert_eq!(rt; master.take(&mut weather, b, 11), Err(early));
-    assert_eq!(rt; master.take(&mut weather, b, 12), Ok(grant(2, 100, 22, 200)?));
+    assert_eq!(rt;
+        master.take(&mut weather, b, 12),
+        Ok(grant(2, 100, 22, 200)?)
+    );
     Ok(())
 }
 
@@ -173,7 +176,11 @@ fn hidden(rt: HostRuntime) -> Result<(), Fail> {
     for number in [0, 12] {
         let key = KeyNo::new(number).ok_or("a key")?;
         let told = decides(&mut instance, 0, 1, number)?;
-        assert_eq!(rt; told, Err(Cause::Hidden { key, water: 3 }), "of key {number}");
+        assert_eq!(rt;
+            told,
+            Err(Cause::Hidden { key, water: 3 }),
+            "of key {number}"
+        );
     }
     let key = KeyNo::new(4).ok_or("a key")?;
     let conflict = Cause::Conflict { key, by: stamp(5)? };
@@ -186,8 +193,14 @@ fn not_yet(rt: HostRuntime) -> Result<(), Fail> {
     let mut instance = opened(rt.alloc(), grant(1, 0, 10, 100)?, &Setup::DEFAULT)?;
     begins(&mut instance, 0)?;
     let committing = session(0)?;
-    assert_eq!(rt; decides(&mut instance, 0, 1, 0)?, Ok(Decided::Drawn(stamp(2)?)));
-    assert_eq!(rt; instance.drawn(committing), Some((stamp(1)?, Some(stamp(2)?))));
+    assert_eq!(rt;
+        decides(&mut instance, 0, 1, 0)?,
+        Ok(Decided::Drawn(stamp(2)?))
+    );
+    assert_eq!(rt;
+        instance.drawn(committing),
+        Some((stamp(1)?, Some(stamp(2)?)))
+    );
     let beginning = asks_begin(&mut instance, 1)?;
     assert_eq!(rt; instance.accept(beginning, 0), Ok(()));
     assert_eq!(rt; instance.decide(beginning), Ok(Decided::Started(stamp(3)?)));
@@ -223,7 +236,10 @@ fn ranges(rt: HostRuntime) -> Result<(), Fail> {
     assert_eq!(rt; instance.decide(first), Ok(Decided::Started(stamp(3)?)));
     instance.answer(first).ok().ok_or("not answered")?;
     begins(&mut instance, 2)?;
-    assert_eq!(rt; decides(&mut instance, 1, 3, 1)?, Err(Cause::NoStamp { last: 4 }));
+    assert_eq!(rt;
+        decides(&mut instance, 1, 3, 1)?,
+        Err(Cause::NoStamp { last: 4 })
+    );
     instance.stopped(Cause::Replaced { found: 2 });
     instance.stopped(Cause::Spent { ceiling: 6 });
     assert_eq!(rt; instance.decide(first), Err(Cause::Replaced { found: 2 }));
@@ -251,7 +267,10 @@ fn end_of_stamps(rt: HostRuntime) -> Result<(), Fail> {
     instance.stopped(Cause::Spent { ceiling: last });
     let session = asks_begin(&mut instance, 1)?;
     assert_eq!(rt; instance.accept(session, 0), Ok(()));
-    assert_eq!(rt; instance.decide(session), Err(Cause::Spent { ceiling: last }));
+    assert_eq!(rt;
+        instance.decide(session),
+        Err(Cause::Spent { ceiling: last })
+    );
     assert_eq!(rt; instance.place(session), None);
     Ok(())
 }
@@ -266,12 +285,18 @@ fn refusals_of_order(rt: HostRuntime) -> Result<(), Fail> {
     let first = asks_begin(&mut instance, 0)?;
     let other = session(1)?;
     let full = Cause::Full { in_flight: 1 };
-    assert_eq!(rt; ask(&mut instance, Request::Begin { session: other }), Err(full));
+    assert_eq!(rt;
+        ask(&mut instance, Request::Begin { session: other }),
+        Err(full)
+    );
     let none = Cause::NoRequest { session: first };
     assert_eq!(rt; instance.settle(first, Settled::Placed), Err(none));
     assert_eq!(rt; instance.decide(first), Err(none));
     assert_eq!(rt; instance.answer(first), Err(none));
     assert_eq!(rt; instance.accept(first, 10).is_err(), true);
-    assert_eq!(rt; ask(&mut instance, Request::Begin { session: other }), Ok(()));
+    assert_eq!(rt;
+        ask(&mut instance, Request::Begin { session: other }),
+        Ok(())
+    );
     Ok(())
 }

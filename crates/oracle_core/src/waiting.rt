@@ -89,10 +89,12 @@ fn unsettled_below(held: &Option<Held>, start: Stamp) -> Option<Stamp>
     ensures { result ≡ entry.only_below start (entry.unsettled_commit held.now) }
 {
     match held {
-        Some(Held {
-            request: Request::Commit { .. },
-            progress: Progress::Drawn { stamp },
-        }) if *stamp < start => Some(*stamp),
+        Some(
+            Held {
+                request: Request::Commit { .. },
+                progress: Progress::Drawn { stamp },
+            },
+        ) if *stamp < start => Some(*stamp),
         _ => None,
     }
 }

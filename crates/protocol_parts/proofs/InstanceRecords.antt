@@ -36,15 +36,15 @@ rise_append top (pair ∷ pairs) later rise below rest above =
     let under = All-head (λ (p : Recorded). p.commit ≤ top) pair pairs below in
     let over : All (NotAfter pair) later = λ k d within. (let a = above k d within in omega (arith, a, under)) in
     AllPairs-cons NotAfter pair (pairs ++ later)
-        (All-append (NotAfter pair) pairs later (rise_head pair pairs rise) over)
-        (rise_append top pairs later (rise_tail pair pairs rise) (All-tail (λ (p : Recorded). p.commit ≤ top) pair pairs below) rest above)
+    (All-append (NotAfter pair) pairs later (rise_head pair pairs rise) over)
+    (rise_append top pairs later (rise_tail pair pairs rise) (All-tail (λ (p : Recorded). p.commit ≤ top) pair pairs below) rest above)
 
 rise_same : (commit : ℕ) (keys : List ℕ) → CommitsRise (pairs_of keys commit)
 rise_same commit [] = λ i j d lt within. absurd (omega arith)
 rise_same commit (key ∷ keys) =
     AllPairs-cons NotAfter (pair_of commit key) (pairs_of keys commit)
-        (All-map (NotAfter (pair_of commit key)) (pair_of commit) keys (λ k d within. omega arith))
-        (rise_same commit keys)
+    (All-map (NotAfter (pair_of commit key)) (pair_of commit) keys (λ k d within. omega arith))
+    (rise_same commit keys)
 
 -- ---- recordings
 quiet_records : (count width : ℕ) (pairs : List Recorded) (i j : InstanceEntry) → Quiet i j → IsRecordedIn count width pairs i → IsRecordedIn count width pairs j

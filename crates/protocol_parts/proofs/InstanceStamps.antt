@@ -58,7 +58,7 @@ later_within epoch last (Some held) h = later_stamp epoch last (progress_stamp h
 drawn_within : (i : InstanceEntry) (session : ℕ) (request : Request) → i.epoch ≤ i.last → AreDrawnWithin i → All (IsDrawnWithin i.epoch (i.last + 1)) (slice_set i.requests session (Some (record { request = request; progress = Drawn (i.last + 1) })))
 drawn_within i session request above all =
     All-set (IsDrawnWithin i.epoch (i.last + 1)) i.requests session (Some (record { request = request; progress = Drawn (i.last + 1) })) (omega arith, omega arith)
-        (λ k d within. later_within i.epoch i.last (slice_index_or i.requests k d) (all k d within))
+    (λ k d within. later_within i.epoch i.last (slice_index_or i.requests k d) (all k d within))
 
 decide_drawn_within : (i : InstanceEntry) (session : ℕ) (request : Request) → i.epoch ≤ i.last → AreDrawnWithin i → AreDrawnWithin (decide_drawn i session request (i.last + 1)).left
 decide_drawn_within i session (Begin s) above all = drawn_within i session (Begin s) above all

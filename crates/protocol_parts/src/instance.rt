@@ -4,7 +4,9 @@ use stamp_base::{KeyList, SessionNo, Stamp};
 #[derive(Clone, Copy, Debug, PartialEq, Eq)]
 pub enum Request {
     /// A start is wanted.
-    Begin { session: SessionNo },
+    Begin {
+        session: SessionNo,
+    },
     /// The transaction of that start is to commit what it wrote.
     Commit {
         session: SessionNo,
@@ -43,13 +45,8 @@ pub enum Progress {
     Asked,
     Accepted,
     /// The stamp is the start of a begin, or the commit.
-    Drawn {
-        stamp: Stamp,
-    },
-    Settled {
-        commit: Stamp,
-        how: Settled,
-    },
+    Drawn { stamp: Stamp },
+    Settled { commit: Stamp, how: Settled },
 }
 
 /// A request that an instance holds.
