@@ -3,3 +3,5 @@ pub mod Answers
 pub mod Texts
 pub mod Promise
 pub mod Runs
+pub mod History
+pub mod Audit

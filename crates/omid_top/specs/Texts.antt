@@ -1,13 +1,26 @@
 -- The texts that the program writes besides histories, and the words that it knows.
-use Rattle.std.specs.Prelude.{◌≡◌, ℕ, List, [], ◌∷◌, ◌++◌, Result, Ok, Err, codes, decimal}
+use Rattle.std.specs.Prelude.{◌≡◌, ℕ, List, [], ◌∷◌, ◌++◌, ◌⊎◌, Result, Ok, Err, codes, decimal}
 use Rattle.history_book.specs.Text.{printed}
 use Rattle.session_script.specs.Causes.{cause_text}
 use Rattle.session_script.specs.Script.{ScriptData, BadLine}
 use Rattle.omid_top.specs.Replay.{replayed}
+use Rattle.omid_top.specs.declared.words.Command.{Command}
+use Rattle.omid_top.specs.declared.words.Command.TheVariants as command
 
--- the words that are built: `replay` alone
+-- the words of a command
 abbrev pub IsReplay : List (List ℕ) → Type 0
 IsReplay words = words ≡ codes "replay" ∷ []
+
+abbrev pub IsAudit : List (List ℕ) → Type 0
+IsAudit words = words ≡ codes "audit" ∷ []
+
+-- the words name a command that is built
+abbrev pub IsKnown : List (List ℕ) → Type 0
+IsKnown words = IsReplay words ⊎ IsAudit words
+
+abbrev pub Names : Command → List (List ℕ) → Type 0
+Names command.Replay words = IsReplay words
+Names command.Audit words = IsAudit words
 
 abbrev pub usage_text : List ℕ
 usage_text = codes "usage: omid replay [summary|json] | run | audit | storm N" ++ 10 ∷ []

@@ -1,10 +1,13 @@
 // Writing texts and histories. It takes no memory.
-ghost use Rattle.std.specs.Prelude.{◌≡◌, ◌+◌, ◌≤◌, ◌<◌, ◌^◌, OnOk, OnErr, length};
+ghost use Rattle.std.specs.Prelude.{◌≡◌, ◌+◌, ◌≤◌, ◌<◌, ◌^◌, OnOk, OnErr, IfErr, length};
 ghost use Rattle.port_io.specs.Ports.{Risen, Gains};
 ghost use Rattle.history_book.specs.Text.{text_of, printed};
 ghost use Rattle.omid_top.specs.Texts.{usage_text, bad_line_text};
 ghost use Rattle.omid_top.specs.Promise.{GainsFront};
+ghost use Rattle.omid_top.specs.Audit.{report_text};
 
+use crate::Status;
+use crate::report::Report;
 use crate::script::ScriptCause;
 use history_book::{Item, LineBuf, print_item};
 use port_io::{Sink, SinkStop, write_all_of};
@@ -53,6 +56,17 @@ pub fn print_bad_line<K: Sink>(
     print_text(sink, line.as_slice())
 }
 
+/// Writes what an audit reports.
+pub fn print_report<K: Sink>(sink: &mut K, report: &Report) -> Result<(), SinkStop>
+    ensures all { OnOk result (Gains (K.held sink.old) (K.held sink.new) (report_text report.now)) }
+    ensures front { OnErr result (GainsFront (K.held sink.old) (K.held sink.new) (report_text report.now)) }
+    ensures failed { OnErr result (Risen (K.faults sink.old) (K.faults sink.new)) }
+{
+    let mut line = LineBuf::new();
+    report.print(&mut line);
+    print_text(sink, line.as_slice())
+}
+
 /// Leaves the text in the buffer that names a script's first bad line.
 fn set_bad_line(line: &mut LineBuf, number: u64, cause: ScriptCause)
     ensures { line.new ≡ bad_line_text (record { line = number; cause = cause }) }
@@ -70,4 +84,15 @@ fn print_text<K: Sink>(sink: &mut K, text: &[u8]) -> Result<(), SinkStop>
     ensures failed { OnErr result (Risen (K.faults sink.old) (K.faults sink.new)) }
 {
     write_all_of(sink, text)
+}
+
+/// The status once a text was to be written.
+pub fn written(answer: Result<(), SinkStop>, status: Status) -> Status
+    ensures all { OnOk answer (result ≡ status) }
+    ensures cut { IfErr answer (λ _. result.code ≡ 5) }
+{
+    match answer {
+        Ok(()) => status,
+        Err(_) => Status::SINK_FAILED,
+    }
 }

@@ -21,6 +21,10 @@ const LINES: [&str; 9] = [
     "committed s0 start=1 commit=2\n",
 ];
 
+const HISTORY: &str = "placed start=2 commit=1\n";
+
+const REPORT: &str = "not isolated: stamped 1 1\n";
+
 /// The first lines of the history.
 fn first_lines(alloc: Global, count: usize) -> Result<Vec<u8>, AllocError> {
     let mut text = Vec::new(alloc);
@@ -30,20 +34,21 @@ fn first_lines(alloc: Global, count: usize) -> Result<Vec<u8>, AllocError> {
     Ok(text)
 }
 
-/// Replays the script from this source to this sink.
-fn replay<R: Threads + Wait + Sync, S: Source, K: Sink>(
+/// Calls the program with the word, from this source to this sink.
+fn call<R: Threads + Wait + Sync, S: Source, K: Sink>(
     rt: &R,
     alloc: Global,
+    word: &str,
     source: &mut S,
     sink: &mut K,
 ) -> Result<u8, AllocError> {
     let mut words = Vec::new(alloc);
-    words.push("replay".to_string(alloc)?)?;
+    words.push(word.to_string(alloc)?)?;
     Ok(omid(rt, alloc, &words, source, sink, &OpenGate).code)
 }
 
-fn script_source(alloc: Global, failing: &[u64]) -> Result<MemSource, AllocError> {
-    let bytes = SCRIPT.as_bytes().to_vec(alloc)?;
+fn open_source(alloc: Global, text: &str, failing: &[u64]) -> Result<MemSource, AllocError> {
+    let bytes = text.as_bytes().to_vec(alloc)?;
     Ok(MemSource::new(bytes, failing.to_vec(alloc)?))
 }
 
@@ -56,12 +61,14 @@ fn open_sink(alloc: Global, failing: &[u64]) -> Result<MemSink, AllocError> {
 
 #[test]
 fn a_source_that_fails_gives_nothing(rt: HostRuntime) -> Result<(), Fail> {
-    for number in 1..3 {
-        let mut source = script_source(rt.alloc(), &[number])?;
-        let mut sink = open_sink(rt.alloc(), &[])?;
-        let status = replay(&rt, rt.alloc(), &mut source, &mut sink)?;
-        assert_eq!(rt; status, 4);
-        assert_eq!(rt; sink.bytes().len(), 0);
+    for (word, text) in [("replay", SCRIPT), ("audit", HISTORY)] {
+        for number in 1..3 {
+            let mut source = open_source(rt.alloc(), text, &[number])?;
+            let mut sink = open_sink(rt.alloc(), &[])?;
+            let status = call(&rt, rt.alloc(), word, &mut source, &mut sink)?;
+            assert_eq!(rt; status, 4);
+            assert_eq!(rt; sink.bytes().len(), 0);
+        }
     }
     Ok(())
 }
@@ -69,9 +76,9 @@ fn a_source_that_fails_gives_nothing(rt: HostRuntime) -> Result<(), Fail> {
 #[test]
 fn a_sink_that_fails_keeps_whole_lines(rt: HostRuntime) -> Result<(), Fail> {
     for sent in 0..9 {
-        let mut source = script_source(rt.alloc(), &[])?;
+        let mut source = open_source(rt.alloc(), SCRIPT, &[])?;
         let mut sink = open_sink(rt.alloc(), &[sent as u64 + 1])?;
-        let status = replay(&rt, rt.alloc(), &mut source, &mut sink)?;
+        let status = call(&rt, rt.alloc(), "replay", &mut source, &mut sink)?;
         let lines = first_lines(rt.alloc(), sent)?;
         assert_eq!(rt; status, 5);
         assert_eq!(rt; sink.bytes(), lines.as_slice());
@@ -81,14 +88,32 @@ fn a_sink_that_fails_keeps_whole_lines(rt: HostRuntime) -> Result<(), Fail> {
 
 #[test]
 fn a_byte_at_a_time_is_enough(rt: HostRuntime) -> Result<(), Fail> {
-    let mut source = script_source(rt.alloc(), &[])?;
+    let mut source = open_source(rt.alloc(), SCRIPT, &[])?;
     let mut sink = DripSink {
         bytes: Vec::new(rt.alloc()),
         faults: 0,
     };
-    let status = replay(&rt, rt.alloc(), &mut source, &mut sink)?;
+    let status = call(&rt, rt.alloc(), "replay", &mut source, &mut sink)?;
     let lines = first_lines(rt.alloc(), LINES.len())?;
     assert_eq!(rt; status, 0);
     assert_eq!(rt; sink.bytes.as_slice(), lines.as_slice());
+    Ok(())
+}
+
+#[test]
+fn a_report_goes_out_whole_or_is_cut(rt: HostRuntime) -> Result<(), Fail> {
+    let mut source = open_source(rt.alloc(), HISTORY, &[])?;
+    let mut sink = DripSink {
+        bytes: Vec::new(rt.alloc()),
+        faults: 0,
+    };
+    let status = call(&rt, rt.alloc(), "audit", &mut source, &mut sink)?;
+    assert_eq!(rt; status, 7);
+    assert_eq!(rt; sink.bytes.as_slice(), REPORT.as_bytes());
+    let mut source = open_source(rt.alloc(), HISTORY, &[])?;
+    let mut sink = open_sink(rt.alloc(), &[1])?;
+    let status = call(&rt, rt.alloc(), "audit", &mut source, &mut sink)?;
+    assert_eq!(rt; status, 5);
+    assert_eq!(rt; sink.bytes().len(), 0);
     Ok(())
 }

@@ -2,6 +2,10 @@
 #![tactic(auto)]
 
 #[cfg(test)]
+mod audits;
+#[cfg(test)]
+mod calls;
+#[cfg(test)]
 mod drips;
 #[cfg(test)]
 mod faults;

@@ -1,28 +1,25 @@
 // What the program writes for a script, byte for byte.
-use omid_top::{OpenGate, omid};
-use port_io::{MemSink, MemSource};
+use crate::calls::answer_of;
 use std::alloc::{AllocError, Global};
-use std::sync::Wait;
 use std::test::Fail;
-use std::thread::Threads;
 
 /// One call of the program: the words, what stands in its input, what it must write, and its status.
-struct Row {
-    words: &'static [&'static str],
-    input: &'static str,
-    output: &'static str,
-    status: u8,
+pub struct Row {
+    pub words: &'static [&'static str],
+    pub input: &'static str,
+    pub output: &'static str,
+    pub status: u8,
 }
 
 const PLAIN_PATH: &str =
     "a take\ns0 begin a\ns0 write k0 v\ns0 commit a\ns1 begin a\ns1 read k0\ns1 commit a\n";
 
-const PLAIN_HISTORY: &str =
+pub const PLAIN_HISTORY: &str =
     "take a reading=0 term=1 epoch=0 until=10 ceiling=100\nask-begin s0 a\ndraw s0 a term=1 start=1\nbegin s0 start=1\nwrite s0 start=1 k0 v\nask-commit s0 a start=1\ndraw s0 a term=1 start=1 commit=2\nplaced start=1 commit=2\ncommitted s0 start=1 commit=2\nask-begin s1 a\ndraw s1 a term=1 start=3\nbegin s1 start=3\nread s1 start=3 k0 from=1 v\nend s1 start=3 read-only\n";
 
-const USAGE: &str = "usage: omid replay [summary|json] | run | audit | storm N\n";
+pub const USAGE: &str = "usage: omid replay [summary|json] | run | audit | storm N\n";
 
-static ROWS: [Row; 18] = [
+pub static ROWS: [Row; 18] = [
     // plain_path
     Row {
         words: &["replay"],
@@ -141,28 +138,6 @@ static ROWS: [Row; 18] = [
         status: 3,
     },
 ];
-
-/// What the program writes for the words and the input, and its status.
-fn answer_of<R: Threads + Wait + Sync>(
-    rt: &R,
-    alloc: Global,
-    names: &[&str],
-    input: &str,
-) -> Result<(Vec<u8>, u8), AllocError> {
-    let mut words = Vec::new(alloc);
-    for name in names {
-        words.push(name.to_string(alloc)?)?;
-    }
-    let bytes = input.as_bytes().to_vec(alloc)?;
-    let mut source = MemSource::new(bytes, Vec::new(alloc));
-    let mut sink = match MemSink::open(alloc, 4096, Vec::new(alloc)) {
-        Ok(sink) => sink,
-        Err(_) => return Err(AllocError),
-    };
-    let status = omid(rt, alloc, &words, &mut source, &mut sink, &OpenGate);
-    let written = sink.bytes().to_vec(alloc)?;
-    Ok((written, status.code))
-}
 
 #[test]
 fn each_row_is_written(rt: HostRuntime) -> Result<(), Fail> {

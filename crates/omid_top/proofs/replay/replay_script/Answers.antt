@@ -4,7 +4,7 @@ use Rattle.history_book.specs.Text.{printed}
 use Rattle.port_io.specs.Ports.{Gains}
 use Rattle.session_script.specs.Script.{data_of}
 use Rattle.omid_top.proofs.PromiseLemmas.{promise_kept}
-use Rattle.omid_top.proofs.replay_script.Goals as goal
+use Rattle.omid_top.proofs.replay.replay_script.Goals as goal
 
 pub returns-in-Ok-print_history-clause-replayed : goal.returns-in-Ok-print_history-clause-replayed
 returns-in-Ok-print_history-clause-replayed g c = λ _. (

@@ -1,0 +1,94 @@
+// Auditing a history: reading it, judging it, and reporting what was found.
+ghost use Rattle.std.specs.Prelude.{◌≡◌, ◌≢◌, ◌≤◌, ◌⊎◌, IfOk, IfSome, List};
+ghost use Rattle.port_io.specs.Ports.{Risen, Gains, IsAtEnd};
+ghost use Rattle.history_book.specs.declared.item.Item.{Item};
+ghost use Rattle.omid_top.specs.Promise.{GainsFront};
+ghost use Rattle.omid_top.specs.History.{AreItems};
+ghost use Rattle.omid_top.specs.Audit.{IsReportOn, IsVerdict, Reported, ReportedFront, IsFairTo, report_status, report_text};
+
+use crate::history::{BYTE_LIMIT, HistoryFault, read_history};
+use crate::report::Report;
+use crate::{Status, print};
+use history_book::Item;
+use port_io::{ReadStop, Sink, Source, read_up_to};
+use si_judge::{Verdict, judge};
+use stamp_base::NoMemory;
+use std::alloc::Global;
+
+/// Reads a history, judges it, and writes the report.
+pub fn audit_source<S: Source, K: Sink>(alloc: Global, source: &mut S, sink: &mut K) -> Status
+    ensures read { (result.code ≡ 0) ⊎ (result.code ≡ 7) → IsAtEnd (S.left source.new) }
+    ensures audited { IsVerdict result.code → IfSome (S.left source.old) (λ bytes. Reported bytes result.code (K.held sink.old) (K.held sink.new)) }
+    ensures fair { IfSome (S.left source.old) (λ bytes. (items : List Item) → AreItems bytes items → IsFairTo items result.code) }
+    ensures source_failed { result.code ≡ 4 → Risen (S.faults source.old) (S.faults source.new) × (K.held sink.new ≡ K.held sink.old) }
+    ensures sink_failed { result.code ≡ 5 → Risen (K.faults sink.old) (K.faults sink.new) }
+    ensures cut { result.code ≡ 5 → IfSome (S.left source.old) (λ bytes. ReportedFront bytes (K.held sink.old) (K.held sink.new)) }
+    ensures no_memory { result.code ≡ 6 → K.held sink.new ≡ K.held sink.old }
+    ensures codes { (result.code ≤ 7) × (result.code ≢ 1) × (result.code ≢ 2) }
+{
+    match read_up_to(alloc, source, BYTE_LIMIT) {
+        Ok(bytes) => audit_bytes(alloc, &bytes, sink),
+        Err(ReadStop::TooLong) => reported(sink, &Report::NotAnItem { line: 0 }),
+        Err(ReadStop::Failed) => Status::SOURCE_FAILED,
+        Err(ReadStop::NoMemory) => Status::NO_MEMORY,
+    }
+}
+
+/// Judges the history that the bytes are, and writes the report.
+fn audit_bytes<K: Sink>(alloc: Global, bytes: &[u8], sink: &mut K) -> Status
+    ensures audited { IsVerdict result.code → Reported bytes.now result.code (K.held sink.old) (K.held sink.new) }
+    ensures fair { (items : List Item) → AreItems bytes.now items → IsFairTo items result.code }
+    ensures sink_failed { result.code ≡ 5 → Risen (K.faults sink.old) (K.faults sink.new) }
+    ensures cut { result.code ≡ 5 → ReportedFront bytes.now (K.held sink.old) (K.held sink.new) }
+    ensures no_memory { result.code ≡ 6 → K.held sink.new ≡ K.held sink.old }
+    ensures codes { IsVerdict result.code ⊎ (result.code ≡ 5) ⊎ (result.code ≡ 6) }
+{
+    match report_on(alloc, bytes) {
+        Ok(report) => reported(sink, &report),
+        Err(NoMemory) => Status::NO_MEMORY,
+    }
+}
+
+/// Writes the report's line, and gives its status.
+fn reported<K: Sink>(sink: &mut K, report: &Report) -> Status
+    ensures told { IsVerdict result.code → (report_status report.now ≡ result.code) × Gains (K.held sink.old) (K.held sink.new) (report_text report.now) }
+    ensures sink_failed { result.code ≡ 5 → Risen (K.faults sink.old) (K.faults sink.new) }
+    ensures cut { result.code ≡ 5 → GainsFront (K.held sink.old) (K.held sink.new) (report_text report.now) }
+    ensures codes { IsVerdict result.code ⊎ (result.code ≡ 5) }
+{
+    match print::print_report(sink, report) {
+        Ok(()) => report.status(),
+        Err(_) => Status::SINK_FAILED,
+    }
+}
+
+/// What is found of the history that the bytes are.
+fn report_on(alloc: Global, bytes: &[u8]) -> Result<Report, NoMemory>
+    ensures { IfOk result (λ report. IsReportOn bytes.now report) }
+{
+    match read_history(alloc, bytes) {
+        Ok(items) => judged(alloc, bytes, &items),
+        Err(HistoryFault::At { line }) => Ok(Report::NotAnItem { line }),
+        Err(HistoryFault::NoMemory) => Err(NoMemory),
+    }
+}
+
+/// What is found of the items that the bytes are.
+fn judged(alloc: Global, bytes: &[u8], items: &[Item]) -> Result<Report, NoMemory>
+    requires { AreItems bytes.now items.now }
+    ensures { IfOk result (λ report. IsReportOn bytes.now report) }
+{
+    let _ = bytes;
+    match judge(alloc, items)? {
+        Verdict::Isolated => Ok(Report::Isolated { items: items.len() }),
+        Verdict::Broken {
+            rule,
+            first,
+            second,
+        } => Ok(Report::Broken {
+            rule,
+            first,
+            second,
+        }),
+    }
+}

@@ -1,0 +1,237 @@
+// What the program says of histories that it audits, byte for byte.
+use crate::calls::answer_of;
+use crate::rows::{PLAIN_HISTORY, ROWS, USAGE};
+use omid_top::{OpenGate, omid};
+use port_io::{MemSink, MemSource};
+use std::alloc::{AllocError, Global};
+use std::sync::Wait;
+use std::test::Fail;
+use std::thread::Threads;
+
+/// A history, what an audit of it must write, and its status.
+struct Audit {
+    history: &'static str,
+    report: &'static str,
+    status: u8,
+}
+
+/// The plain path of two sessions as it stands once all kinds of items are printed.
+const WHOLE_PLAIN_HISTORY: &str =
+    "take a reading=0 term=1 epoch=0 until=10 ceiling=100\nask-begin s0 a\naccept s0 a term=1 reading=0\ndraw s0 a term=1 start=1\nbegin s0 start=1\nwrite s0 start=1 k0 v\nask-commit s0 a start=1\naccept s0 a term=1 reading=0\ndraw s0 a term=1 start=1 commit=2\nplaced start=1 commit=2\ncommitted s0 start=1 commit=2\nstep s0 shadow k0 1 2\nstep s0 remove 1\nask-begin s1 a\naccept s1 a term=1 reading=0\ndraw s1 a term=1 start=3\nbegin s1 start=3\nstep s1 fetch k0 cells=1\nread s1 start=3 k0 from=1 v\nend s1 start=3 read-only\n";
+
+/// One item of each kind.
+const EACH_KIND: &str =
+    "tick 12\nnote s1 post p\ntake a reading=0 term=1 epoch=0 until=10 ceiling=100\nrenew a reading=5 term=1 until=15\nextend a term=1 ceiling=200\nask-begin s1 a\naccept s1 a term=1 reading=0\ndraw s1 a term=1 start=1\nbegin s1 start=1\nwrite s1 start=1 k0 v\nread s1 start=1 k0 from=1 v\nask-commit s1 a start=1\nplaced start=1 commit=2\ncommitted s1 start=1 commit=2\nmark janitor start=7\nstep s1 fetch k0 cells=2\nend s1 start=3 read-only\nrefused s1 busy\nfault a table\ncrash a term=1\nvanish s1\n";
+
+static AUDITS: [Audit; 20] = [
+    // nothing: no bytes, and lines that say nothing
+    Audit {
+        history: "",
+        report: "isolated items=0\n",
+        status: 0,
+    },
+    Audit {
+        history: "\n\n",
+        report: "isolated items=0\n",
+        status: 0,
+    },
+    // plain_path, as it is printed today and as it will be; the last line feed may be missing
+    Audit {
+        history: PLAIN_HISTORY,
+        report: "isolated items=14\n",
+        status: 0,
+    },
+    Audit {
+        history: WHOLE_PLAIN_HISTORY,
+        report: "isolated items=20\n",
+        status: 0,
+    },
+    Audit {
+        history: EACH_KIND,
+        report: "isolated items=21\n",
+        status: 0,
+    },
+    Audit {
+        history: "begin s0 start=1\n\nwrite s0 start=1 k0 v\n\n\nplaced start=1 commit=2",
+        report: "isolated items=3\n",
+        status: 0,
+    },
+    // Two writers of one key, both committed.
+    Audit {
+        history: "ask-begin s0 a\nbegin s0 start=1\nask-begin s1 a\nbegin s1 start=2\nwrite s0 start=1 k0 p\nwrite s1 start=2 k0 q\nplaced start=1 commit=3\nplaced start=2 commit=4\n",
+        report: "not isolated: apart 7 8\n",
+        status: 7,
+    },
+    // late_put: a commit that is placed after a read counts, and items are numbered without empty lines
+    Audit {
+        history: "begin s0 start=1\nwrite s0 start=1 k0 v\nbegin s1 start=101\nread s1 start=101 k0 none\nplaced start=1 commit=2\n",
+        report: "not isolated: read 4 2\n",
+        status: 7,
+    },
+    Audit {
+        history: "\n\nbegin s0 start=1\nwrite s0 start=1 k0 v\n\nbegin s1 start=101\nread s1 start=101 k0 none\nplaced start=1 commit=2\n",
+        report: "not isolated: read 4 2\n",
+        status: 7,
+    },
+    // The same cut short; lines are numbered with the empty ones.
+    Audit {
+        history: "begin s0 start=1\nwrite s0 start=1 k0 v\nbegin s1 start=101\nread s1 start=101 k0 none\nplaced start=1 com",
+        report: "history line 5: not an item\n",
+        status: 3,
+    },
+    Audit {
+        history: "\n\nbegin s0 start=1\n\nbegin s0\nbegin s1\n",
+        report: "history line 5: not an item\n",
+        status: 3,
+    },
+    // The rule on stamps is tried first.
+    Audit {
+        history: "placed start=2 commit=1\nread s0 start=5 k0 none\n",
+        report: "not isolated: stamped 1 1\n",
+        status: 7,
+    },
+    Audit {
+        history: "placed start=1 commit=9\nbegin s0 start=9\n",
+        report: "not isolated: stamped 1 2\n",
+        status: 7,
+    },
+    // A commit that was placed before a begin was asked for, and one that was not.
+    Audit {
+        history: "placed start=1 commit=9\nask-begin s0 a\nbegin s0 start=5\n",
+        report: "not isolated: fresh 1 3\n",
+        status: 7,
+    },
+    Audit {
+        history: "ask-begin s0 a\nplaced start=1 commit=9\nbegin s0 start=5\n",
+        report: "isolated items=3\n",
+        status: 0,
+    },
+    // A read of what nobody wrote.
+    Audit {
+        history: "read s0 start=5 k0 from=1 v\n",
+        report: "not isolated: read 1 1\n",
+        status: 7,
+    },
+    // No carriage return is dropped, blanks are no empty line, and no other format is read.
+    Audit {
+        history: "tick 1\r\n",
+        report: "history line 1: not an item\n",
+        status: 3,
+    },
+    Audit {
+        history: "tick 1\n \n",
+        report: "history line 2: not an item\n",
+        status: 3,
+    },
+    Audit {
+        history: "{\"kind\":\"tick\",\"to\":1}\n",
+        report: "history line 1: not an item\n",
+        status: 3,
+    },
+    // A script is no history.
+    Audit {
+        history: "a take\n",
+        report: "history line 1: not an item\n",
+        status: 3,
+    },
+];
+
+#[test]
+fn histories_are_judged(rt: HostRuntime) -> Result<(), Fail> {
+    for audit in &AUDITS {
+        let (written, status) = answer_of(&rt, rt.alloc(), &["audit"], audit.history)?;
+        assert_eq!(rt; status, audit.status);
+        assert_eq!(rt; written.as_slice(), audit.report.as_bytes());
+    }
+    Ok(())
+}
+
+/// For each kind of item a line that is almost one.
+const ALMOST: [&str; 21] = [
+    "tick 012",
+    "note s1 post p q",
+    "take a reading=0 term=0 epoch=0 until=10 ceiling=100",
+    "renew a reading=5 term=1",
+    "extend a term=1  ceiling=200",
+    "ask-begin s16 a",
+    "ask-commit s1 a start=0",
+    "accept s1 i term=1 reading=0",
+    "draw s1 a term=1 start=01",
+    "begin s1 start=4611686018427387905",
+    "write s1 start=1 k4096 v",
+    "read s1 start=3 k0 from=1",
+    "placed start=1 commit=2 ",
+    "committed s1 start=1 commit=2 3",
+    "mark s1  start=1",
+    "step s1 fetch k00 cells=2",
+    "end s1 start=1 read",
+    "refused s1 full in-flight=18446744073709551616",
+    "fault a tables",
+    "crash a term=0",
+    "vanish s1 s2",
+];
+
+#[test]
+fn almost_items_are_none(rt: HostRuntime) -> Result<(), Fail> {
+    for line in ALMOST {
+        let (written, status) = answer_of(&rt, rt.alloc(), &["audit"], line)?;
+        assert_eq!(rt; status, 3);
+        assert_eq!(rt;
+            written.as_slice(),
+            b"history line 1: not an item\n".as_slice()
+        );
+    }
+    Ok(())
+}
+
+#[test]
+fn what_is_replayed_is_isolated(rt: HostRuntime) -> Result<(), Fail> {
+    for row in &ROWS {
+        if row.status == 0 {
+            let (_, status) = answer_of(&rt, rt.alloc(), &["audit"], row.output)?;
+            assert_eq!(rt; status, 0);
+        }
+    }
+    Ok(())
+}
+
+#[test]
+fn audit_takes_no_more_words(rt: HostRuntime) -> Result<(), Fail> {
+    let (written, status) = answer_of(&rt, rt.alloc(), &["audit", "now"], PLAIN_HISTORY)?;
+    assert_eq!(rt; status, 2);
+    assert_eq!(rt; written.as_slice(), USAGE.as_bytes());
+    Ok(())
+}
+
+/// What an audit of so many line feeds writes, and its status.
+fn line_feeds<R: Threads + Wait + Sync>(
+    rt: &R,
+    alloc: Global,
+    count: usize,
+) -> Result<(Vec<u8>, u8), AllocError> {
+    let bytes = vec![in alloc; b'\n'; count]?;
+    let mut words = Vec::new(alloc);
+    words.push("audit".to_string(alloc)?)?;
+    let mut source = MemSource::new(bytes, Vec::new(alloc));
+    let mut sink = match MemSink::open(alloc, 64, Vec::new(alloc)) {
+        Ok(sink) => sink,
+        Err(_) => return Err(AllocError),
+    };
+    let status = omid(rt, alloc, &words, &mut source, &mut sink, &OpenGate);
+    let written = sink.bytes().to_vec(alloc)?;
+    Ok((written, status.code))
+}
+
+#[test]
+fn a_history_has_at_most_16_mib(rt: HostRuntime) -> Result<(), Fail> {
+    let (written, status) = line_feeds(&rt, rt.alloc(), 16_777_216)?;
+    assert_eq!(rt; status, 0);
+    assert_eq!(rt; written.as_slice(), b"isolated items=0\n".as_slice());
+    let (written, status) = line_feeds(&rt, rt.alloc(), 16_777_217)?;
+    assert_eq!(rt; status, 3);
+    assert_eq!(rt;
+        written.as_slice(),
+        b"history line 0: not an item\n".as_slice()
+    );
+    Ok(())
+}

@@ -1,0 +1,28 @@
+// One call of the program over bytes in memory.
+use omid_top::{OpenGate, omid};
+use port_io::{MemSink, MemSource};
+use std::alloc::{AllocError, Global};
+use std::sync::Wait;
+use std::thread::Threads;
+
+/// What the program writes for the words and the input, and its status.
+pub fn answer_of<R: Threads + Wait + Sync>(
+    rt: &R,
+    alloc: Global,
+    names: &[&str],
+    input: &str,
+) -> Result<(Vec<u8>, u8), AllocError> {
+    let mut words = Vec::new(alloc);
+    for name in names {
+        words.push(name.to_string(alloc)?)?;
+    }
+    let bytes = input.as_bytes().to_vec(alloc)?;
+    let mut source = MemSource::new(bytes, Vec::new(alloc));
+    let mut sink = match MemSink::open(alloc, 4096, Vec::new(alloc)) {
+        Ok(sink) => sink,
+        Err(_) => return Err(AllocError),
+    };
+    let status = omid(rt, alloc, &words, &mut source, &mut sink, &OpenGate);
+    let written = sink.bytes().to_vec(alloc)?;
+    Ok((written, status.code))
+}
