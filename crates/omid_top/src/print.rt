@@ -10,10 +10,10 @@ use crate::Status;
 use crate::report::Report;
 use crate::script::ScriptCause;
 use history_book::{Item, LineBuf, print_item};
-use port_io::{Sink, SinkStop, write_all_of};
+use port_io::{Failed, Sink, write_all_of};
 
 /// Writes the items, each by one write of its line.
-pub fn print_history<K: Sink>(sink: &mut K, items: &[Item]) -> Result<(), SinkStop>
+pub fn print_history<K: Sink>(sink: &mut K, items: &[Item]) -> Result<(), Failed>
     ensures all { OnOk result (Gains (K.held sink.old) (K.held sink.new) (printed items.now)) }
     ensures front { OnErr result (GainsFront (K.held sink.old) (K.held sink.new) (printed items.now)) }
     ensures failed { OnErr result (Risen (K.faults sink.old) (K.faults sink.new)) }
@@ -23,14 +23,14 @@ pub fn print_history<K: Sink>(sink: &mut K, items: &[Item]) -> Result<(), SinkSt
         print_item(item, &mut line);
         match write_all_of(sink, line.as_slice()) {
             Ok(()) => {}
-            Err(stop) => return Err(stop),
+            Err(_) => return Err(Failed),
         }
     }
     Ok(())
 }
 
 /// Writes the usage line.
-pub fn print_usage<K: Sink>(sink: &mut K) -> Result<(), SinkStop>
+pub fn print_usage<K: Sink>(sink: &mut K) -> Result<(), Failed>
     ensures all { OnOk result (Gains (K.held sink.old) (K.held sink.new) usage_text) }
     ensures front { OnErr result (GainsFront (K.held sink.old) (K.held sink.new) usage_text) }
     ensures failed { OnErr result (Risen (K.faults sink.old) (K.faults sink.new)) }
@@ -46,7 +46,7 @@ pub fn print_bad_line<K: Sink>(
     sink: &mut K,
     number: u64,
     cause: ScriptCause,
-) -> Result<(), SinkStop>
+) -> Result<(), Failed>
     ensures all { OnOk result (Gains (K.held sink.old) (K.held sink.new) (bad_line_text (record { line = number; cause = cause }))) }
     ensures front { OnErr result (GainsFront (K.held sink.old) (K.held sink.new) (bad_line_text (record { line = number; cause = cause }))) }
     ensures failed { OnErr result (Risen (K.faults sink.old) (K.faults sink.new)) }
@@ -57,7 +57,7 @@ pub fn print_bad_line<K: Sink>(
 }
 
 /// Writes what an audit reports.
-pub fn print_report<K: Sink>(sink: &mut K, report: &Report) -> Result<(), SinkStop>
+pub fn print_report<K: Sink>(sink: &mut K, report: &Report) -> Result<(), Failed>
     ensures all { OnOk result (Gains (K.held sink.old) (K.held sink.new) (report_text report.now)) }
     ensures front { OnErr result (GainsFront (K.held sink.old) (K.held sink.new) (report_text report.now)) }
     ensures failed { OnErr result (Risen (K.faults sink.old) (K.faults sink.new)) }
@@ -78,16 +78,19 @@ fn set_bad_line(line: &mut LineBuf, number: u64, cause: ScriptCause)
     line.push_text(b"\n");
 }
 
-fn print_text<K: Sink>(sink: &mut K, text: &[u8]) -> Result<(), SinkStop>
+fn print_text<K: Sink>(sink: &mut K, text: &[u8]) -> Result<(), Failed>
     ensures all { OnOk result (Gains (K.held sink.old) (K.held sink.new) text.now) }
     ensures front { OnErr result (GainsFront (K.held sink.old) (K.held sink.new) text.now) }
     ensures failed { OnErr result (Risen (K.faults sink.old) (K.faults sink.new)) }
 {
-    write_all_of(sink, text)
+    match write_all_of(sink, text) {
+        Ok(()) => Ok(()),
+        Err(_) => Err(Failed),
+    }
 }
 
 /// The status once a text was to be written.
-pub fn written(answer: Result<(), SinkStop>, status: Status) -> Status
+pub fn written(answer: Result<(), Failed>, status: Status) -> Status
     ensures all { OnOk answer (result ≡ status) }
     ensures cut { IfErr answer (λ _. result.code ≡ 5) }
 {
