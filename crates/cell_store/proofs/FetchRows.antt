@@ -1,5 +1,5 @@
 -- A part of the map of the rows, walked from its end, and what a fetch gives.
-use Rattle.std.proofs.Common.{◌≡◌, ℕ, ◌<◌, ◌≤◌, ◌==◌, nat_le, Bool, true, false, ◌&&◌, List, [], ◌∷◌, ◌++◌, map, reverse, IsSome, arith, refl, sym, ap, ◌∙◌}
+use Rattle.std.proofs.Common.{◌≡◌, ℕ, ◌<◌, ◌≤◌, ◌==◌, nat_le, Bool, true, false, ◌&&◌, List, [], ◌∷◌, ◌++◌, map, reverse, slice_get, Some, IsSome, arith, refl, sym, ap, ◌∙◌}
 use Rattle.std.specs.BTreeMap.{is_at}
 use Rattle.std.specs.BTreeMap.Range.{entries_between, range_contains}
 use Rattle.std.specs.declared.ops.Bound.TheVariants.{Included}
@@ -43,3 +43,16 @@ fetched-between (e ∷ es) k upto ranged =
     by : map cell_of_entry (reverse (entries_between pair_cmp (Included (k, 1)) (Included (k, upto)) es)) ≡ fetched (rows_of es) k upto → range_contains pair_cmp (Included (k, 1)) (Included (k, upto)) e.0 ≡ ((e.0.0 == k) && nat_le e.0.1 upto) → (r : Bool) → ((e.0.0 == k) && nat_le e.0.1 upto) ≡ r → map cell_of_entry (reverse (entries_between pair_cmp (Included (k, 1)) (Included (k, upto)) (e ∷ es))) ≡ fetched (rows_of (e ∷ es)) k upto
     by rest within true h = rw (within, h, reverse-append (e ∷ []) (entries_between pair_cmp (Included (k, 1)) (Included (k, upto)) es), map-append, rest) refl
     by rest within false h = rw (within, h) rest
+
+-- the last entry gives the first cell
+pub first_cell : (left : Entries) (e : (ℕ × ℕ) × Kept) → slice_get (map cell_of_entry (reverse (left ++ e ∷ []))) 0 ≡ Some (cell_of_entry e)
+first_cell left e = rw (reverse-append left (e ∷ [])) refl
+
+-- no version is below 1
+pub fetched-below_all : (es : Entries) (k : ℕ) → ((a b : ℕ) → IsSome (lookup (is_at (pair_cmp (a, b))) es) → (a < 4096) × (1 ≤ b)) → fetched (rows_of es) k 0 ≡ []
+unfolding fetched
+fetched-below_all [] k ranged = refl
+fetched-below_all (e ∷ es) k ranged =
+    let least : 1 ≤ e.0.1 = (ranged e.0.0 e.0.1 (found_first e es)).1 in
+    let out : ((e.0.0 == k) && nat_le e.0.1 0) ≡ false = grind (arith, nat_tests) in
+    rw out (fetched-below_all es k (λ a b h. ranged a b (found_later e es (a, b) h)))

@@ -1,5 +1,5 @@
 // How the map of the rows and its index are read and changed together.
-ghost use Rattle.std.specs.Prelude.{◌≡◌, ◌<◌, ◌≤◌, map, reverse, false, IfOk, IsSome, None, OnErr, OnOk};
+ghost use Rattle.std.specs.Prelude.{◌≡◌, ◌<◌, ◌≤◌, [], map, reverse, slice_get, false, IfOk, IsSome, None, OnErr, OnOk};
 ghost use Rattle.std.specs.Ordering.{is_gt};
 ghost use Rattle.std.specs.BTreeMap.Range.{entries_between};
 ghost use Rattle.std.specs.BTreeSet.{keys_between};
@@ -35,6 +35,16 @@ impl Cells {
     {
         let (first, last) = places_upto(key, upto);
         Ok(cells_between(self.alloc, &self.rows, first, last)?)
+    }
+
+    /// The key's cell of the greatest version that is at most `upto`.
+    pub(crate) fn cell_upto(&self, key: KeyNo, upto: Stamp) -> Option<Cell>
+        ensures value { result ≡ slice_get (fetched self.now.rows key upto) 0 }
+        ensures ordered { AreOrdered self.now.rows }
+        ensures stamped { fetched self.now.rows key 0 ≡ [] }
+    {
+        let (first, last) = places_upto(key, upto);
+        last_between(&self.rows, first, last)
     }
 
     /// The keys of the version's rows, ascending.
@@ -116,6 +126,21 @@ fn cells_between(
         cells.push(cell_at(*place, *kept))?;
     }
     Ok(cells)
+}
+
+/// The cell of the last row from the first place to the last.
+fn last_between(
+    rows: &BTreeMap<(KeyNo, Stamp), Kept>,
+    first: (KeyNo, Stamp),
+    last: (KeyNo, Stamp),
+) -> Option<Cell>
+    requires { is_gt (pair_cmp first last) ≡ false }
+    ensures { result ≡ slice_get (map cell_of_entry (reverse (entries_between pair_cmp (Bound.Included first) (Bound.Included last) rows.now.entries))) 0 }
+{
+    match rows.range(first..=last).next_back() {
+        Some((place, kept)) => Some(cell_at(*place, *kept)),
+        None => None,
+    }
 }
 
 /// The keys from the first place of the index to the last, in order.

@@ -1,7 +1,7 @@
 // The cells: rows of key, version, value and shadow, in an ordered map with an index from version to keys.
 #![tactic(auto)]
 
-ghost use Rattle.std.specs.Prelude.{◌≡◌, ◌↔◌, [], None, IfOk, IfSome, IsOk, IsSome, OnErr, OnOk};
+ghost use Rattle.std.specs.Prelude.{◌≡◌, ◌↔◌, [], slice_get, None, IfOk, IfSome, IsOk, IsSome, OnErr, OnOk};
 ghost use Rattle.cell_store.specs.Calls.{put_row, fetched, looked, with_shadow, without_bare, keys_of_version, AreOrdered, AsksOnce, UnlessNoMemory, OnNoMemory, OnStoreFault, fated, Counts, Risen};
 
 mod held;
@@ -136,6 +136,30 @@ impl Cells {
         let found = self.cell(key, version);
         match weather.next(Store::Cells) {
             Fate::Works => Ok(found),
+            Fate::FailsUnchanged => Err(StoreFault),
+            Fate::FailsApplied => Err(StoreFault),
+        }
+    }
+
+    /// The key's cell of the greatest version that is at most `upto`, in one step. None exactly where
+    /// there is no such row. Versions begin at 1, so that a walk down a key's versions ends there.
+    pub fn newest<W: Weather>(
+        &self,
+        weather: &mut W,
+        key: KeyNo,
+        upto: Stamp,
+    ) -> Result<Option<Cell>, StoreFault>
+        ensures value { IfOk result (λ found. found ≡ slice_get (fetched self.now.rows key upto) 0) }
+        ensures answer { IsOk result ↔ (W.ahead weather.old Store.Cells 0 ≡ Fate.Works) }
+        ensures asked { AsksOnce Store.Cells (W.ahead weather.old) (W.ahead weather.new) }
+        ensures counted { Counts (W.ahead weather.old Store.Cells 0) (W.faults weather.old) (W.faults weather.new) }
+        ensures fault { OnErr result (Risen (W.faults weather.old) (W.faults weather.new)) }
+        ensures ordered { AreOrdered self.now.rows }
+        ensures stamped { fetched self.now.rows key 0 ≡ [] }
+    {
+        let newest = self.cell_upto(key, upto);
+        match weather.next(Store::Cells) {
+            Fate::Works => Ok(newest),
             Fate::FailsUnchanged => Err(StoreFault),
             Fate::FailsApplied => Err(StoreFault),
         }

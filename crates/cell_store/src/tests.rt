@@ -156,6 +156,15 @@ fn answers_under_each_fate(rt: HostRuntime) -> Result<(), Fail> {
                 Err(StoreFault)
             }
         );
+        let newest = cells.newest(&mut weather(rt.alloc(), fate)?, k, stamp(4)?);
+        assert_eq!(rt;
+            newest,
+            if works {
+                Ok(Some(bare))
+            } else {
+                Err(StoreFault)
+            }
+        );
         match cells.fetch(&mut weather(rt.alloc(), fate)?, k, v) {
             Ok(all) => assert_eq!(rt; (all.as_slice(), works), ([bare].as_slice(), true)),
             Err(error) => assert_eq!(rt; (error, works), (StoreError::StoreFault, false)),
@@ -195,6 +204,27 @@ fn thousands_of_rows(rt: HostRuntime) -> Result<(), Fail> {
     }
     assert_eq!(rt; cells.fetch(&mut calm, key(6)?, stamp(5)?)?.len(), 0);
     assert_eq!(rt; cells.fetch(&mut calm, key(6)?, stamp(6)?)?.len(), 1);
+    // Key 0 has the multiples of 7 and of 5, and key 7 nothing.
+    for (at, upto, want) in [
+        (6, 5, None),
+        (6, 6, Some(6)),
+        (6, 12, Some(6)),
+        (6, 2994, Some(2988)),
+        (6, 2995, Some(2995)),
+        (6, Stamp::GREATEST, Some(2995)),
+        (0, 4, None),
+        (0, 1497, Some(1495)),
+        (0, 1499, Some(1498)),
+        (0, 1500, Some(1500)),
+        (7, 3000, None),
+    ] {
+        let newest = cells.newest(&mut calm, key(at)?, stamp(upto)?)?;
+        assert_eq!(rt;
+            newest.map(|cell| cell.version.value()),
+            want,
+            "of {at} up to {upto}"
+        );
+    }
     // 12 is 5 modulo 7 and 2 modulo 5; 35 is 0 of both.
     for (version, want) in [
         (12, [2, 5].as_slice()),

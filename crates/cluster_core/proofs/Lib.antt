@@ -1,4 +1,5 @@
 pub mod Kept
 pub mod LatestLemmas
+pub mod NewestLemmas
 pub mod ShadowLemmas
 pub mod WriteListLemmas

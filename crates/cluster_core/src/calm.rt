@@ -1,6 +1,6 @@
 // The calls on the cells while no call fails.
-ghost use Rattle.std.specs.Prelude.{◌≡◌, ℕ, IfOk, IfSome, OnOk, OnErr};
-ghost use Rattle.protocol_parts.specs.Rows.{put_row, fetched, looked, with_shadow, without_bare};
+ghost use Rattle.std.specs.Prelude.{◌≡◌, ℕ, [], slice_get, IfSome, OnOk, OnErr};
+ghost use Rattle.protocol_parts.specs.Rows.{put_row, fetched, looked, with_shadow, without_bare, AreOrdered};
 ghost use Rattle.cluster_core.specs.OpenRows.{IsBare, HasOnly};
 
 use cell_store::{Cell, Cells, StoreError};
@@ -20,14 +20,15 @@ pub fn put(cells: &mut Cells, key: KeyNo, version: Stamp, value: Value) -> Resul
     }
 }
 
-/// The key's cells of version at most `upto`, the greatest version first.
-pub fn fetch(cells: &Cells, key: KeyNo, upto: Stamp) -> Result<Vec<Cell>, NoMemory>
-    ensures { IfOk result (λ found. found.items ≡ fetched cells.now.rows key upto) }
+/// The key's cell of the greatest version that is at most `upto`.
+pub fn newest(cells: &Cells, key: KeyNo, upto: Stamp) -> Option<Cell>
+    ensures value { result ≡ slice_get (fetched cells.now.rows key upto) 0 }
+    ensures ordered { AreOrdered cells.now.rows }
+    ensures stamped { fetched cells.now.rows key 0 ≡ [] }
 {
-    match cells.fetch(&mut CalmWeather::new(), key, upto) {
-        Ok(found) => Ok(found),
-        Err(StoreError::NoMemory) => Err(NoMemory),
-        Err(StoreError::StoreFault) => unreachable!(),
+    match cells.newest(&mut CalmWeather::new(), key, upto) {
+        Ok(found) => found,
+        Err(_) => unreachable!(),
     }
 }
 

@@ -1,5 +1,6 @@
-// What a commit does to the rows of its transaction, and what a read takes from the cells that it fetched.
+// What a commit does to the rows of its transaction, and what a read finds in the cells.
 ghost use Rattle.std.specs.Prelude.{◌≡◌, ℕ};
+ghost use Rattle.protocol_parts.specs.Rows.{fetched};
 ghost use Rattle.protocol.specs.CommitStep.{all_shadowed, all_erased};
 ghost use Rattle.protocol.specs.ReadStep as read_step;
 ghost use Rattle.cluster_core.specs.OpenRows.{HasOnly};
@@ -30,24 +31,27 @@ pub fn erase_all(cells: &mut Cells, keys: &[KeyNo], version: Stamp)
     }
 }
 
-/// What the first cell that a reader with this start may answer with has.
-#[tactic(auto, unfolding(protocol::specs::ReadStep::answer_of))]
-pub fn answer_of(start: Stamp, cells: &[Cell]) -> Option<Found>
-    ensures { result ≡ read_step.answer_of start cells.now }
+/// What a reader with this start reads at the key: the newest cell that it may answer with. The walk goes
+/// down the key's versions, one look at each.
+#[tactic(auto, using(crate::proofs::NewestLemmas::newest_answers, crate::proofs::NewestLemmas::newest_passed, crate::proofs::NewestLemmas::newest_within, crate::proofs::NewestLemmas::first_passed, crate::proofs::NewestLemmas::no_answer))]
+pub fn answer_at(cells: &Cells, key: KeyNo, start: Stamp) -> Option<Found>
+    ensures { result ≡ read_step.answer_of start (fetched cells.now.rows key start) }
 {
-    for cell in cells {
+    let mut upto = start;
+    while let Some(cell) = calm::newest(cells, key, upto) {
         if answers(start, cell) {
             return Some(Found {
                 from: cell.version,
                 value: cell.value,
             });
         }
+        upto = Stamp::new(cell.version.value() - 1)?;
     }
     None
 }
 
-fn answers(start: Stamp, cell: &Cell) -> bool
-    ensures { result ≡ read_step.answers start cell.now }
+fn answers(start: Stamp, cell: Cell) -> bool
+    ensures { result ≡ read_step.answers start cell }
 {
     cell.version == start || is_below(cell.shadow, start)
 }

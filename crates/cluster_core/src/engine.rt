@@ -182,8 +182,7 @@ impl Engine {
             None => self.refuse(Actor::Session(session), Cause::NoTransaction),
             Some(txn) => {
                 let start = txn.start;
-                let found = calm::fetch(&self.cells, key, start)?;
-                let answer = cells::answer_of(start, found.as_slice());
+                let answer = cells::answer_at(&self.cells, key, start);
                 self.book.append(Item::Read {
                     session,
                     start,
