@@ -12,3 +12,4 @@ pub mod VerdictLemmas
 pub mod SuspectLemmas
 pub mod StampIndexLemmas
 pub mod AskIndexLemmas
+pub mod OverlapIndexLemmas

@@ -5,6 +5,8 @@ pub mod ReadPairs
 pub mod Best
 pub mod Judged
 pub mod Suspects
+pub mod Marks
+pub mod OverlapIndex
 pub mod StampSets
 pub mod StampIndex
 pub mod AskStarts

@@ -8,6 +8,8 @@ ghost use Rattle.si_judge.specs.Judged.{AllRight, IsEarlierKept, IsJudged, IsKep
 mod apart;
 mod ask_index;
 mod fresh;
+mod marks;
+mod overlap_index;
 mod read;
 mod search;
 mod stamp_index;

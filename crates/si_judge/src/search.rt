@@ -4,6 +4,7 @@ ghost use Rattle.si_judge.specs.Judged.{IsLeastPair, IsSecond, Passes, Premise};
 ghost use Rattle.si_judge.specs.Suspects.{AreSuspects};
 
 use crate::ask_index::start_suspects;
+use crate::overlap_index::overlap_suspects;
 use crate::stamp_index::stamp_suspects;
 use crate::verdict::Rule;
 use crate::walk::{Pair, plain_pair, second_of};
@@ -39,7 +40,10 @@ fn indexed_pair(alloc: Global, rule: Rule, items: &[Item]) -> Result<Option<Pair
             let suspects = stamp_suspects(alloc, items)?;
             Ok(first_of(Rule::Stamped, items, &suspects))
         }
-        Rule::Apart => Ok(plain_pair(Rule::Apart, items)),
+        Rule::Apart => {
+            let suspects = overlap_suspects(alloc, items)?;
+            Ok(first_of(Rule::Apart, items, &suspects))
+        }
         // Reads have no index: this is the place for one.
         Rule::Read => Ok(plain_pair(Rule::Read, items)),
         Rule::Fresh => {
