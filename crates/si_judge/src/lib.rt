@@ -32,8 +32,11 @@ use walk::Pair;
 /// of items that break it the one with the least first number and then the least second; items are
 /// numbered from 1.
 ///
-/// The walk takes no memory so far, so it never answers NoMemory. Its time grows with the square of
-/// the number of items, and with its cube where most transactions overlap.
+/// Stamps, commits and starts are judged over ordered sets and maps, in the time of a sort of the items and in
+/// memory for each of them; where many transactions that wrote one key overlap, the time grows with their
+/// pairs. Where that memory is refused, a walk over all pairs is made in its place, in time that grows with the
+/// square of the number of items and more, so the answer is never NoMemory. Reads are judged by a walk alone:
+/// each goes over the history for each commit below its start.
 pub fn judge(alloc: Global, items: &[Item]) -> Result<Verdict, NoMemory>
     ensures judged { IfOk result (λ verdict. IsJudged items.now verdict) }
     ensures isolated { IfOk result (λ verdict. verdict ≡ Verdict.Isolated → Isolated items.now) }
