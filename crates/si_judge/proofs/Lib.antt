@@ -9,3 +9,7 @@ pub mod BestLemmas
 pub mod ReadLemmas
 pub mod WalkLemmas
 pub mod VerdictLemmas
+pub mod SuspectLemmas
+pub mod StampIndexLemmas
+pub mod AskIndexLemmas
+pub mod OverlapIndexLemmas

@@ -58,8 +58,10 @@ Passes rule.Fresh h i = (j : ℕ) → BreaksFresh h i j → ⊥
 abbrev pub IsSecond : Rule → List Item → ℕ → Option ℕ → Type 0
 IsSecond rule h i second = MatchOption second (Passes rule h i) (λ j. Breaks rule h i j × ((q : ℕ) → q < j → Breaks rule h i q → ⊥))
 
--- reads are judged where the stamps are in order, so that one version is the newest
+-- Commits and reads are judged where the stamps are in order, so that a transaction has one commit, and one
+-- version is the newest.
 abbrev pub Premise : Rule → List Item → Type 0
+Premise rule.Apart h = Stamped h
 Premise rule.Read h = Stamped h
 Premise _ h = Unit {0}
 

@@ -4,4 +4,11 @@ pub mod FreshPairs
 pub mod ReadPairs
 pub mod Best
 pub mod Judged
+pub mod Suspects
+pub mod Marks
+pub mod OverlapIndex
+pub mod StampSets
+pub mod StampIndex
+pub mod AskStarts
+pub mod AskIndex
 pub use Rattle.history_book.specs.Isolation.{Isolated}

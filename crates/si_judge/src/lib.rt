@@ -6,8 +6,13 @@ ghost use Rattle.history_book.specs.Isolation.{Isolated};
 ghost use Rattle.si_judge.specs.Judged.{AllRight, IsEarlierKept, IsJudged, IsKept, IsLeastPair};
 
 mod apart;
+mod ask_index;
 mod fresh;
+mod marks;
+mod overlap_index;
 mod read;
+mod search;
+mod stamp_index;
 mod stamped;
 #[cfg(test)]
 mod tests;
@@ -17,63 +22,66 @@ mod visible;
 mod walk;
 
 use history_book::Item;
+use search::first_pair;
 use stamp_base::NoMemory;
 use std::alloc::Global;
 pub use verdict::{Rule, Verdict};
-use walk::{Pair, first_pair};
+use walk::Pair;
 
 /// Judges the items of a finished history. Broken names the first rule that is broken, and of the pairs
 /// of items that break it the one with the least first number and then the least second; items are
 /// numbered from 1.
 ///
-/// The walk takes no memory so far, so it never answers NoMemory. Its time grows with the square of
-/// the number of items, and with its cube where most transactions overlap.
+/// Stamps, commits and starts are judged over ordered sets and maps, in the time of a sort of the items and in
+/// memory for each of them; where many transactions that wrote one key overlap, the time grows with their
+/// pairs. Where that memory is refused, a walk over all pairs is made in its place, in time that grows with the
+/// square of the number of items and more, so the answer is never NoMemory. Reads are judged by a walk alone:
+/// each goes over the history for each commit below its start.
 pub fn judge(alloc: Global, items: &[Item]) -> Result<Verdict, NoMemory>
     ensures judged { IfOk result (λ verdict. IsJudged items.now verdict) }
     ensures isolated { IfOk result (λ verdict. verdict ≡ Verdict.Isolated → Isolated items.now) }
     ensures complete { Isolated items.now → result ≡ Ok Verdict.Isolated }
 {
-    let _ = alloc;
-    Ok(judged(items))
+    Ok(judged(alloc, items))
 }
 
-fn judged(items: &[Item]) -> Verdict
+fn judged(alloc: Global, items: &[Item]) -> Verdict
     ensures { IsJudged items.now result }
 {
-    match first_pair(Rule::Stamped, items) {
+    match first_pair(alloc, Rule::Stamped, items) {
         Some(pair) => broken(Rule::Stamped, items, pair),
-        None => after_stamped(items),
+        None => after_stamped(alloc, items),
     }
 }
 
-fn after_stamped(items: &[Item]) -> Verdict
+fn after_stamped(alloc: Global, items: &[Item]) -> Verdict
     requires { IsKept Rule.Stamped items.now }
     ensures { IsJudged items.now result }
 {
-    match first_pair(Rule::Apart, items) {
+    match first_pair(alloc, Rule::Apart, items) {
         Some(pair) => broken(Rule::Apart, items, pair),
-        None => after_apart(items),
+        None => after_apart(alloc, items),
     }
 }
 
-fn after_apart(items: &[Item]) -> Verdict
+fn after_apart(alloc: Global, items: &[Item]) -> Verdict
     requires stamped { IsKept Rule.Stamped items.now }
     requires apart { IsKept Rule.Apart items.now }
     ensures { IsJudged items.now result }
 {
-    match first_pair(Rule::Read, items) {
+    match first_pair(alloc, Rule::Read, items) {
         Some(pair) => broken(Rule::Read, items, pair),
-        None => after_reads(items),
+        None => after_reads(alloc, items),
     }
 }
 
-fn after_reads(items: &[Item]) -> Verdict
+fn after_reads(alloc: Global, items: &[Item]) -> Verdict
     requires stamped { IsKept Rule.Stamped items.now }
     requires apart { IsKept Rule.Apart items.now }
     requires reads { AllRight items.now }
     ensures { IsJudged items.now result }
 {
-    match first_pair(Rule::Fresh, items) {
+    match first_pair(alloc, Rule::Fresh, items) {
         Some(pair) => broken(Rule::Fresh, items, pair),
         None => Verdict::Isolated,
     }

@@ -17,8 +17,8 @@ pub struct Pair {
     pub second: usize,
 }
 
-/// The first pair of items that breaks the rule.
-pub fn first_pair(rule: Rule, items: &[Item]) -> Option<Pair>
+/// The first pair of items that breaks the rule, by a walk over all places.
+pub fn plain_pair(rule: Rule, items: &[Item]) -> Option<Pair>
     requires { Premise rule items.now }
     ensures pair { MatchOption result ((i : ℕ) → i < length items.now → Passes rule items.now i)
         (λ pair. IsLeastPair rule items.now pair.first pair.second) }
@@ -33,7 +33,7 @@ pub fn first_pair(rule: Rule, items: &[Item]) -> Option<Pair>
 }
 
 /// The first place that breaks the rule together with the place `first`.
-fn second_of(rule: Rule, items: &[Item], first: usize) -> Option<usize>
+pub fn second_of(rule: Rule, items: &[Item], first: usize) -> Option<usize>
     requires premise { Premise rule items.now }
     requires within { first < length items.now }
     ensures second { IsSecond rule items.now first result }

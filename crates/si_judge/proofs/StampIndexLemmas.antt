@@ -1,0 +1,78 @@
+-- Items that share no stamp with those behind.
+use Rattle.std.proofs.Common.{◌≡◌, ◌==◌, ◌||◌, ℕ, Bool, true, false, nat_le, ◌≤◌, suc, List, Some, slice_get, arith, inl, inr, refl, sym, ap, subst, ◌∙◌}
+use Rattle.std.proofs.lemmas.Bool.{eqb-true, cases_lt}
+use Rattle.std.proofs.lemmas.Option.{same_Some}
+use Rattle.std.specs.Ordering.{nat_cmp}
+use Rattle.std.specs.BTreeSet.{BTreeSet, contains}
+use Rattle.history_book.specs.declared.item.Item.{Item}
+use Rattle.history_book.specs.declared.item.Item.TheVariants.{Begin, Placed}
+use Rattle.si_judge.specs.declared.verdict.Rule.TheVariants as rule
+use Rattle.si_judge.specs.declared.stamp_index.Stamps.{Stamps}
+use Rattle.si_judge.specs.StampedPairs.{start_meets, placed_meets, stamps_meet, commits_too_low}
+use Rattle.si_judge.specs.StampSets.{Has}
+use Rattle.si_judge.specs.StampIndex.{HasStamps, KeepsStamps, IsClear}
+use Rattle.si_judge.specs.Judged.{Passes}
+use Rattle.si_judge.proofs.PlaceLemmas.{one_at, both_at}
+
+-- a stamp that a set lacks is none that it has
+stamps_differ : (stamps : BTreeSet ℕ) (t u : ℕ) → contains nat_cmp stamps t ≡ false → Has stamps u → (t == u) ≡ false
+stamps_differ stamps t u lacks has = by (t == u) refl
+  where
+    by : (r : Bool) → (t == u) ≡ r → r ≡ false
+    by true e = let same : contains nat_cmp stamps t ≡ contains nat_cmp stamps u = ap (λ n. contains nat_cmp stamps n) (eqb-true t u e) in absurd (cc)
+    by false e = refl
+
+begin_apart : (index : Stamps) (t : ℕ) → contains nat_cmp index.drawn t ≡ false → (y : Item) → HasStamps index y → start_meets t y ≡ false
+begin_apart index t lacks (Begin session start) has = stamps_differ index.drawn t start lacks has
+begin_apart index t lacks (Placed start commit) has = stamps_differ index.drawn t commit lacks has.1
+begin_apart index t lacks _ has = refl
+
+pub begin_clear : (index : Stamps) (session t : ℕ) → contains nat_cmp index.drawn t ≡ false → IsClear index (Begin session t)
+begin_clear index session t lacks = record { above = refl; apart = λ y has. begin_apart index t lacks y has }
+
+or_neither : (a b : Bool) → a ≡ false → b ≡ false → (a || b) ≡ false
+or_neither true b ea eb = ea
+or_neither false b ea eb = eb
+
+placed_apart : (index : Stamps) (t c : ℕ) → contains nat_cmp index.placed t ≡ false → contains nat_cmp index.drawn c ≡ false → (y : Item) → HasStamps index y → placed_meets t c y ≡ false
+placed_apart index t c start commit (Begin session other) has = stamps_differ index.drawn c other commit has
+placed_apart index t c start commit (Placed u d) has = or_neither (t == u) (c == d) (stamps_differ index.placed t u start has.0) (stamps_differ index.drawn c d commit has.1)
+placed_apart index t c start commit _ has = refl
+
+pub placed_clear : (index : Stamps) (t c : ℕ) → nat_le c t ≡ false → contains nat_cmp index.placed t ≡ false → contains nat_cmp index.drawn c ≡ false → IsClear index (Placed t c)
+placed_clear index t c above start commit = record { above = above; apart = λ y has. placed_apart index t c start commit y has }
+
+-- the index has the stamps of the items behind a place
+pub record HasBehind (h : List Item) (index : Stamps) (place : ℕ) : Type 0 where
+  pub at : (j : ℕ) (y : Item) → place ≤ j → slice_get h j ≡ Some y → HasStamps index y
+
+pub clear_passes : (h : List Item) (index : Stamps) (place : ℕ) (x : Item) → slice_get h place ≡ Some x → HasBehind h index (suc place) → IsClear index x → Passes rule.Stamped h place
+clear_passes h index place x here behind clear = λ j broken. elim broken [
+  | inl one ↦
+      let found = one_at h place (λ x. commits_too_low x ≡ true) one.1 in
+      let low : commits_too_low x ≡ true = ap commits_too_low (same_Some _ _ (sym here ∙ found.1)) ∙ found.2 in
+      let above = clear.above in
+      absurd (cc)
+  | inr two ↦
+      let found = both_at h place j (λ x y. stamps_meet x y ≡ true) two.1 in
+      let meets : stamps_meet x found.1 ≡ true = ap (λ z. stamps_meet z found.1) (same_Some _ _ (sym here ∙ found.2)) ∙ found.4 in
+      let less = two.0 in
+      let apart = clear.apart found.1 (behind.at j found.1 (omega (arith, less)) found.3) in
+      absurd (cc)
+]
+
+kept_stamps : (old new : Stamps) → KeepsStamps old new → (y : Item) → HasStamps old y → HasStamps new y
+kept_stamps old new keeps (Begin session start) has = keeps.drawn start has
+kept_stamps old new keeps (Placed start commit) has = (keeps.placed start has.0, keeps.drawn commit has.1)
+kept_stamps old new keeps _ has = has
+
+-- one more item
+pub behind_more : (h : List Item) (old new : Stamps) (place : ℕ) (x : Item) → slice_get h place ≡ Some x → HasBehind h old (suc place) → KeepsStamps old new → HasStamps new x → HasBehind h new place
+behind_more h old new place x here behind keeps has = record {
+  at = λ j y le there. elim (cases_lt place j) [
+    | inl less ↦ kept_stamps old new keeps y (behind.at j y (omega (arith, less)) there)
+    | inr more ↦
+        let same : place ≡ j = omega (arith, le, more) in
+        subst (λ (z : Item). HasStamps new z) (same_Some _ _ (sym here ∙ ap (λ n. slice_get h n) same ∙ there)) has
+  ];
+}

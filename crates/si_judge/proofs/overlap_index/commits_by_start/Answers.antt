@@ -1,0 +1,12 @@
+use Rattle.std.proofs.Common.{◌≡◌, ◌<◌, Some, length, slice_get, refl, arith}
+use Rattle.std.proofs.lemmas.Option.{slice_get_read}
+use Rattle.si_judge.proofs.OverlapIndexLemmas.{commits_more}
+use Rattle.si_judge.proofs.overlap_index.commits_by_start.Goals as goal
+
+pub loop-place-preserved : goal.loop-place-preserved
+loop-place-preserved c =
+    let items = c.args.items.now in
+    let place = c.loop-place.place in
+    let less : place < length items = omega (arith, c.loop-place-test.true) in
+    let here : slice_get items place ≡ Some c.index-items-place.result = slice_get_read items (length items) place c.index-items-place.result refl less c.index-items-place.is in
+    commits_more items c.requires place c.index-items-place.result c.loop-place.commits c.note_commit.new.commits here c.loop-place.invariant c.in_ok-note_commit.ensures

@@ -1,0 +1,55 @@
+-- What an index of the writes of committed transactions holds.
+pub use Rattle.si_judge.specs.Marks.{IsMarked, KeepsMarks}
+use Rattle.std.specs.Prelude.{◌≡◌, ◌≢◌, ℕ, ◌<◌, ◌≤◌, List, Some, slice_get, IfSome}
+use Rattle.std.specs.Ordering.{nat_cmp, ordering_then}
+use Rattle.std.specs.declared.cmp.Ordering.{Ordering}
+use Rattle.std.specs.BTreeMap.{BTreeMap, get}
+use Rattle.history_book.specs.declared.item.Item.{Item}
+use Rattle.history_book.specs.declared.item.Item.TheVariants.{Placed, Write}
+use Rattle.si_judge.specs.declared.overlap_index.Commit.{Commit}
+use Rattle.si_judge.specs.declared.marks.Marks.{Marks}
+
+-- pairs of numbers in order of the first, then of the second
+abbrev pub pair_cmp : ℕ × ℕ → ℕ × ℕ → Ordering
+pair_cmp x y = ordering_then (nat_cmp x.0 y.0) (nat_cmp x.1 y.1)
+
+-- commits, by their transactions
+abbrev pub Commits : Type 0
+Commits = BTreeMap ℕ Commit
+
+-- commits, by the keys that they wrote and by their transactions
+abbrev pub Written : Type 0
+Written = BTreeMap (ℕ × ℕ) Commit
+
+-- the transaction t committed at c, by the item at the place
+abbrev pub commit_at : ℕ → ℕ → Commit
+commit_at c place = record { stamp = c; place = place }
+
+-- a commit that is placed there is put in, and all others stay
+abbrev pub NotesCommit : Commits → Commits → Item → ℕ → Type 0
+NotesCommit old new (Placed t c) place = (get nat_cmp new t ≡ Some (commit_at c place)) × ((u : ℕ) → u ≢ t → get nat_cmp new u ≡ get nat_cmp old u)
+NotesCommit old new _ place = (u : ℕ) → get nat_cmp new u ≡ get nat_cmp old u
+
+-- the commits that are placed below n are in the map
+pub record HasCommits (h : List Item) (n : ℕ) (commits : Commits) : Type 0 where
+  pub at : (place t c : ℕ) → place < n → slice_get h place ≡ Some (Placed t c) → get nat_cmp commits t ≡ Some (commit_at c place)
+
+-- where the item is a write of a committed transaction, the map has its commit
+abbrev pub HasWrite : Commits → Written → Item → Type 0
+HasWrite commits written (Write session t k value) = IfSome (get nat_cmp commits t) (λ commit. get pair_cmp written (k, t) ≡ Some commit)
+HasWrite commits written _ = Unit {0}
+
+pub record HasWrites (h : List Item) (n : ℕ) (commits : Commits) (written : Written) : Type 0 where
+  pub at : (place : ℕ) (x : Item) → place < n → slice_get h place ≡ Some x → HasWrite commits written x
+
+-- the commits that the old map has the new one has
+pub record KeepsWrites (commits : Commits) (old new : Written) : Type 0 where
+  pub at : (k t : ℕ) (commit : Commit) → get nat_cmp commits t ≡ Some commit → get pair_cmp old (k, t) ≡ Some commit → get pair_cmp new (k, t) ≡ Some commit
+
+-- where another transaction that wrote the key k started after t and up to its commit, both are marked
+abbrev pub MarksOverlaps : Written → ℕ → ℕ → Commit → Marks → Type 0
+MarksOverlaps written k t commit marks = (u : ℕ) (other : Commit) → t < u → u ≤ commit.stamp → get pair_cmp written (k, u) ≡ Some other → IsMarked marks commit.place × IsMarked marks other.place
+
+-- the same for each commit in the map
+pub record MarksAll (written : Written) (marks : Marks) : Type 0 where
+  pub at : (k t : ℕ) (commit : Commit) → get pair_cmp written (k, t) ≡ Some commit → MarksOverlaps written k t commit marks

@@ -1,0 +1,130 @@
+// An index of the writes of committed transactions, which finds the places where the rule on commits may
+// be broken.
+ghost use Rattle.std.specs.Prelude.{◌≡◌, length, IfOk, OnOk};
+ghost use Rattle.history_book.specs.Isolation as isolation;
+ghost use Rattle.si_judge.specs.OverlapIndex.{HasCommits, HasWrite, HasWrites, KeepsMarks, KeepsWrites, MarksAll, MarksOverlaps, NotesCommit};
+ghost use Rattle.si_judge.specs.Suspects.{AreSuspects};
+
+use crate::marks::Marks;
+use crate::verdict::Rule;
+use history_book::Item;
+use stamp_base::{KeyNo, NoMemory, Stamp};
+use std::alloc::Global;
+use std::collections::BTreeMap;
+use std::ops::Bound;
+
+/// A commit, and the place of its item.
+#[derive(Clone, Copy)]
+pub struct Commit {
+    pub stamp: Stamp,
+    pub place: usize,
+}
+
+/// Whether each place is a suspect: those of two commits are where both wrote a key, and one commit is not
+/// below the other's start.
+pub fn overlap_suspects(alloc: Global, items: &[Item]) -> Result<Vec<bool>, NoMemory>
+    requires { isolation.Stamped items.now }
+    ensures { IfOk result (λ suspects. AreSuspects Rule.Apart items.now suspects.items) }
+{
+    let commits = commits_by_start(alloc, items)?;
+    let written = committed_writes(alloc, items, &commits)?;
+    let mut marks = Marks::new(alloc, items.len())?;
+    mark_all_overlaps(&written, &mut marks);
+    Ok(marks.each)
+}
+
+/// The commits, by their transactions.
+fn commits_by_start(alloc: Global, items: &[Item]) -> Result<BTreeMap<Stamp, Commit>, NoMemory>
+    requires { isolation.Stamped items.now }
+    ensures { IfOk result (λ commits. HasCommits items.now (length items.now) commits) }
+{
+    let mut commits = BTreeMap::new(alloc);
+    for place in 0..items.len() {
+        note_commit(&mut commits, &items[place], place)?;
+    }
+    Ok(commits)
+}
+
+fn note_commit(
+    commits: &mut BTreeMap<Stamp, Commit>,
+    item: &Item,
+    place: usize,
+) -> Result<(), NoMemory>
+    ensures { OnOk result (NotesCommit commits.old commits.new item.now place) }
+{
+    match item {
+        Item::Placed { start, commit } => {
+            let stamp = *commit;
+            commits.insert(*start, Commit { stamp, place })?;
+            Ok(())
+        }
+        _ => Ok(()),
+    }
+}
+
+/// The commit of each key and transaction that wrote it, where it committed.
+fn committed_writes(
+    alloc: Global,
+    items: &[Item],
+    commits: &BTreeMap<Stamp, Commit>,
+) -> Result<BTreeMap<(KeyNo, Stamp), Commit>, NoMemory>
+    ensures { IfOk result (λ written. HasWrites items.now (length items.now) commits.now written) }
+{
+    let mut written = BTreeMap::new(alloc);
+    for item in items {
+        note_write(&mut written, commits, item)?;
+    }
+    Ok(written)
+}
+
+fn note_write(
+    written: &mut BTreeMap<(KeyNo, Stamp), Commit>,
+    commits: &BTreeMap<Stamp, Commit>,
+    item: &Item,
+) -> Result<(), NoMemory>
+    ensures noted { OnOk result (HasWrite commits.now written.new item.now) }
+    ensures kept { OnOk result (KeepsWrites commits.now written.old written.new) }
+{
+    match item {
+        Item::Write { start, key, .. } => match commits.get(start) {
+            Some(commit) => {
+                written.insert((*key, *start), *commit)?;
+                Ok(())
+            }
+            None => Ok(()),
+        },
+        _ => Ok(()),
+    }
+}
+
+/// Marks the commits that overlap, of all that wrote one key.
+fn mark_all_overlaps(written: &BTreeMap<(KeyNo, Stamp), Commit>, marks: &mut Marks)
+    ensures marked { MarksAll written.now marks.new }
+    ensures kept { KeepsMarks marks.old marks.new }
+{
+    for (version, commit) in written {
+        mark_overlaps(written, version.0, version.1, *commit, marks);
+    }
+}
+
+/// Marks the commit of a write, and those of the key's later writes that started up to it.
+fn mark_overlaps(
+    written: &BTreeMap<(KeyNo, Stamp), Commit>,
+    key: KeyNo,
+    start: Stamp,
+    commit: Commit,
+    marks: &mut Marks,
+)
+    ensures marked { MarksOverlaps written.now key start commit marks.new }
+    ensures kept { KeepsMarks marks.old marks.new }
+{
+    if commit.stamp <= start {
+        return;
+    }
+    let after = Bound::Excluded((key, start));
+    let upto = Bound::Included((key, commit.stamp));
+    for (_, other) in written.range((after, upto)) {
+        marks.mark(commit.place);
+        marks.mark(other.place);
+    }
+}

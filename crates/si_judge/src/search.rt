@@ -1,0 +1,85 @@
+// The search for the first pair of items that breaks a rule.
+ghost use Rattle.std.specs.Prelude.{◌≡◌, ◌<◌, ℕ, length, IfOk, IfSome, MatchOption};
+ghost use Rattle.si_judge.specs.Judged.{IsLeastPair, IsSecond, Passes, Premise};
+ghost use Rattle.si_judge.specs.Suspects.{AreSuspects};
+
+use crate::ask_index::start_suspects;
+use crate::overlap_index::overlap_suspects;
+use crate::stamp_index::stamp_suspects;
+use crate::verdict::Rule;
+use crate::walk::{Pair, plain_pair, second_of};
+use history_book::Item;
+use stamp_base::NoMemory;
+use std::alloc::Global;
+
+/// The first pair of items that breaks the rule. An index finds it; where its memory is refused the plain
+/// walk does.
+pub fn first_pair(alloc: Global, rule: Rule, items: &[Item]) -> Option<Pair>
+    requires { Premise rule items.now }
+    ensures pair { MatchOption result ((i : ℕ) → i < length items.now → Passes rule items.now i)
+        (λ pair. IsLeastPair rule items.now pair.first pair.second) }
+    ensures within { IfSome result (λ pair. pair.first < length items.now × pair.second < length items.now) }
+{
+    match indexed_pair(alloc, rule, items) {
+        Ok(found) => found,
+        Err(_) => plain_pair(rule, items),
+    }
+}
+
+/// The same by an index.
+fn indexed_pair(alloc: Global, rule: Rule, items: &[Item]) -> Result<Option<Pair>, NoMemory>
+    requires { Premise rule items.now }
+    ensures pair { IfOk result (λ found. MatchOption found
+        ((i : ℕ) → i < length items.now → Passes rule items.now i)
+        (λ pair. IsLeastPair rule items.now pair.first pair.second)) }
+    ensures within { IfOk result (λ found. IfSome found
+        (λ pair. pair.first < length items.now × pair.second < length items.now)) }
+{
+    match rule {
+        Rule::Stamped => {
+            let suspects = stamp_suspects(alloc, items)?;
+            Ok(first_of(Rule::Stamped, items, &suspects))
+        }
+        Rule::Apart => {
+            let suspects = overlap_suspects(alloc, items)?;
+            Ok(first_of(Rule::Apart, items, &suspects))
+        }
+        // Reads have no index: this is the place for one.
+        Rule::Read => Ok(plain_pair(Rule::Read, items)),
+        Rule::Fresh => {
+            let suspects = start_suspects(alloc, items)?;
+            Ok(first_of(Rule::Fresh, items, &suspects))
+        }
+    }
+}
+
+/// The first pair that begins at a suspect.
+fn first_of(rule: Rule, items: &[Item], suspects: &[bool]) -> Option<Pair>
+    requires premise { Premise rule items.now }
+    requires suspects { AreSuspects rule items.now suspects.now }
+    ensures pair { MatchOption result ((i : ℕ) → i < length items.now → Passes rule items.now i)
+        (λ pair. IsLeastPair rule items.now pair.first pair.second) }
+    ensures within { IfSome result (λ pair. pair.first < length items.now × pair.second < length items.now) }
+{
+    for first in 0..items.len() {
+        if let Some(second) = second_at(rule, items, suspects, first) {
+            return Some(Pair { first, second });
+        }
+    }
+    None
+}
+
+/// The first place that breaks the rule together with the place `first`, which is tried only where it is a suspect.
+fn second_at(rule: Rule, items: &[Item], suspects: &[bool], first: usize) -> Option<usize>
+    requires premise { Premise rule items.now }
+    requires suspects { AreSuspects rule items.now suspects.now }
+    requires within { first < length items.now }
+    ensures second { IsSecond rule items.now first result }
+    ensures within { IfSome result (λ place. place < length items.now) }
+{
+    if suspects[first] {
+        second_of(rule, items, first)
+    } else {
+        None
+    }
+}
