@@ -7,5 +7,7 @@ pub mod FreshLaw
 pub mod WriteLemmas
 pub mod BestLemmas
 pub mod ReadLemmas
+pub mod PushLemmas
+pub mod IndexLemmas
 pub mod WalkLemmas
 pub mod VerdictLemmas

@@ -3,5 +3,6 @@ pub mod ApartPairs
 pub mod FreshPairs
 pub mod ReadPairs
 pub mod Best
+pub mod Indexed
 pub mod Judged
 pub use Rattle.history_book.specs.Isolation.{Isolated}

@@ -13,6 +13,7 @@ mod stamped;
 mod tests;
 mod verdict;
 mod version;
+mod versions;
 mod visible;
 mod walk;
 
