@@ -1,5 +1,5 @@
 -- The ordered maps of an indexed walk, after one more item, and what they are asked.
-use Rattle.std.proofs.Common.{◌≡◌, ◌≤◌, ◌<◌, ◌==◌, ◌&&◌, ℕ, Bool, true, false, cond, List, [], ◌∷◌, ◌++◌, Option, Some, None, IsSome, is_some, length, ◌⊎◌, inl, inr, refl, sym, ap, subst, ◌∙◌, arith}
+use Rattle.std.proofs.Common.{◌≡◌, ◌≤◌, ◌<◌, ◌==◌, ◌&&◌, ℕ, Bool, true, false, cond, List, [], ◌∷◌, ◌++◌, Option, Some, None, IsSome, is_some, length, take, ◌⊎◌, inl, inr, refl, sym, ap, subst, ◌∙◌, arith}
 use Rattle.std.specs.Ordering.{nat_cmp, is_lt}
 use Rattle.std.specs.declared.ops.Bound.TheVariants.{Excluded, Unbounded}
 use Rattle.std.specs.BTreeMap.Range.{IsInRange, IsRangeOf}
@@ -10,11 +10,12 @@ use Rattle.std.proofs.lemmas.Bool.Decides.{nat_tests}
 use Rattle.std.proofs.lemmas.Option.{same_Some}
 use Rattle.history_book.specs.Members.{◌∈◌}
 use Rattle.history_book.specs.Isolation.{last_write, written_by, Committed, Wrote, NewStamps, Visible, Newest}
+use Rattle.history_book.specs.declared.item.Found.{Found}
 use Rattle.history_book.specs.declared.item.Item.{Item}
 use Rattle.history_book.specs.declared.item.Item.TheVariants.{Placed, Write}
 use Rattle.history_book.proofs.MemberLemmas.{in_front, in_last, in_push, in_old}
 use Rattle.si_judge.specs.declared.version.Version.{Version}
-use Rattle.si_judge.specs.Best.{IsWritten}
+use Rattle.si_judge.specs.Best.{IsWritten, IsWrong}
 use Rattle.si_judge.specs.Indexed.{pair_cmp, HasCommits, HasVersions, IsOwn, HasLastWrites}
 use Rattle.si_judge.proofs.WriteLemmas.{last_write_at}
 use Rattle.si_judge.proofs.PushLemmas.{write_here, write_stays, last_write_stays, written_is, wrote_or_none}
@@ -226,3 +227,37 @@ lesser_key l c k s d other less e = grind (arith, nat_tests, less, e)
 pub last_other : (h : List Item) (s k l c : ℕ) (version : Version) (m : BTreeMap (ℕ × ℕ) Version) → HasVersions h h m → IsLastBelow m s k l c version → (l ≡ k → ⊥) → Visible h s k None
 last_other h s k l c version m has is other = λ t d candidate.
     lesser_key l c k s d other is.below (is.last (k, d) (pair_below k d s candidate.below) (has.whole t d k candidate.wrote.0 candidate.committed candidate.wrote.1))
+
+-- with no items there is no last write
+pub writes_empty : (m : BTreeMap (ℕ × ℕ) Version) → IsEmpty m → HasLastWrites [] m
+unfolding last_write
+writes_empty m empty = λ t k. rw empty refl
+
+own_stays : (part : List Item) (x : Item) (t k : ℕ) (own : Option Version) → written_by t k x ≡ None → IsOwn part t k own → IsOwn (part ++ x ∷ []) t k own
+own_stays part x t k None none old = last_write_stays part x t k none ∙ old
+own_stays part x t k (Some version) none old =
+    (old.0, write_stays part x version.found.from k version.found.value version.place (ap (λ n. written_by n k x) old.0 ∙ none) old.1)
+
+-- an item that writes nothing leaves the last writes
+pub writes_skip : (part : List Item) (x : Item) (m : BTreeMap (ℕ × ℕ) Version) → ((t k : ℕ) (v : List ℕ) → written_by t k x ≡ Some v → ⊥) → HasLastWrites part m → HasLastWrites (part ++ x ∷ []) m
+writes_skip part x m none old = λ t k. own_stays part x t k _ (wrote_or_none t k x _ (λ n. n) (λ v some. absurd (none t k v some))) (old t k)
+
+-- a write is its transaction's last at its key
+pub writes_entered : (part : List Item) (session t k p : ℕ) (v : List ℕ) (m n : BTreeMap (ℕ × ℕ) Version) → length part ≡ p → Updates pair_cmp m n (t, k) (Some (record { place = p; found = record { from = t; value = v } })) → HasLastWrites part m → HasLastWrites (part ++ Write session t k v ∷ []) n
+unfolding made
+writes_entered part session t k p v m n at put old = λ u l. elim (pair_updated m n t k (made p t v) put u l) [
+  | inl here ↦ subst (λ (o : Option Version). IsOwn (part ++ Write session t k v ∷ []) u l o) (sym here.2)
+      (sym here.0, subst (λ (a : ℕ). IsWritten (part ++ Write session t k v ∷ []) a (made p t v)) (sym here.1) (entered_written part session t k p v at (writes_itself session t k v)))
+  | inr other ↦ subst (λ (o : Option Version). IsOwn (part ++ Write session t k v ∷ []) u l o) (sym other.1)
+      (own_stays part (Write session t k v) u l _ (wrote_or_none u l (Write session t k v) _ (λ none. none) (λ z some.
+      let is = written_is u l (Write session t k v) z some in
+      let same = one_writer session t k v is.0 u l z is.1 in
+      absurd (other.0 (sym same.0) (sym same.1)))) (old u l))
+]
+
+-- an answer that is wrong by the own write is wrong
+pub own_wrong : (h : List Item) (i s k : ℕ) (answer : Option Found) (own : Version) (second : Option ℕ) → IsOwn (take i h) s k (Some own) → IsWrong h i own.found.from k answer (Some own.found.value) second → IsWrong h i s k answer (last_write (take i h) s k) second
+own_wrong h i s k answer own second is wrong =
+    let value : last_write (take i h) s k ≡ Some own.found.value = subst (λ (n : ℕ). last_write (take i h) n k ≡ Some own.found.value) is.0 (last_write_at (take i h) own.found.from k own.found.value own.place is.1) in
+    subst (λ (o : Option (List ℕ)). IsWrong h i s k answer o second) (sym value)
+    (subst (λ (n : ℕ). IsWrong h i n k answer (Some own.found.value) second) is.0 wrong)

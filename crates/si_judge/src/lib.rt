@@ -8,6 +8,7 @@ ghost use Rattle.si_judge.specs.Judged.{AllRight, IsEarlierKept, IsJudged, IsKep
 mod apart;
 mod fresh;
 mod read;
+mod reads;
 mod stamped;
 #[cfg(test)]
 mod tests;
@@ -16,6 +17,7 @@ mod version;
 mod versions;
 mod visible;
 mod walk;
+mod writes;
 
 use history_book::Item;
 use stamp_base::NoMemory;
