@@ -9,5 +9,6 @@ pub mod BestLemmas
 pub mod ReadLemmas
 pub mod PushLemmas
 pub mod IndexLemmas
+pub mod ListedLemmas
 pub mod WalkLemmas
 pub mod VerdictLemmas

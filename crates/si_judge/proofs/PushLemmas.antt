@@ -1,6 +1,7 @@
 -- The last write at a key after one more item.
-use Rattle.std.proofs.Common.{◌≡◌, ◌≤◌, ◌<◌, ◌==◌, ◌&&◌, ℕ, zero, suc, Bool, true, false, if◌then◌else◌, List, [], ◌∷◌, ◌++◌, Option, Some, None, length, inl, inr, refl, sym, ap, ◌∙◌, arith, length-append}
+use Rattle.std.proofs.Common.{◌≡◌, ◌≤◌, ◌<◌, ◌+◌, ◌==◌, ◌&&◌, ℕ, zero, suc, Bool, true, false, if◌then◌else◌, List, [], ◌∷◌, ◌++◌, Option, Some, None, length, take, get_or, inl, inr, refl, sym, ap, ◌∙◌, arith, length-append}
 use Rattle.std.specs.Option.{option_or}
+use Rattle.std.proofs.Math.Seq.{take-suc}
 use Rattle.std.proofs.lemmas.Bool.{eqb-true, cases_lt}
 use Rattle.history_book.specs.Isolation.{last_write, written_by}
 use Rattle.history_book.specs.declared.item.Item.{Item}
@@ -8,6 +9,12 @@ use Rattle.history_book.specs.declared.item.Item.TheVariants.{Write}
 use Rattle.history_book.proofs.HistoryLemmas.{last_write-push}
 use Rattle.si_judge.specs.ReadPairs.{written_at, IsLastWrite}
 use Rattle.si_judge.proofs.ReadLemmas.{written_within}
+
+-- the items passed so far, and the next one
+pub one_more : (xs : List Item) (i : ℕ) (x : Item) → i < length xs → x ≡ get_or xs i x → take i xs ++ x ∷ [] ≡ take (i + 1) xs
+one_more xs i x less e =
+    let next : i + 1 ≡ suc i = omega arith in
+    ap (λ (y : Item). take i xs ++ y ∷ []) e ∙ sym (take-suc xs i x less) ∙ ap (λ n. take n xs) (sym next)
 
 written_in_front : (part : List Item) (x : Item) (t k p : ℕ) → p < length part → written_at (part ++ x ∷ []) t k p ≡ written_at part t k p
 written_in_front [] x t k p less = absurd (omega (arith, less))

@@ -3,10 +3,12 @@ use Rattle.std.specs.Prelude.{◌≡◌, ℕ, List, Option, None, Some, IsSome}
 use Rattle.std.specs.Ordering.{nat_cmp, ordering_then}
 use Rattle.std.specs.declared.cmp.Ordering.{Ordering}
 use Rattle.std.specs.BTreeMap.{BTreeMap, get}
+use Rattle.std.specs.BTreeSet.{BTreeSet, contains}
+use Rattle.std.specs.List.{list_any}
 use Rattle.history_book.specs.Isolation.{last_write, Committed, Wrote}
 use Rattle.history_book.specs.declared.item.Item.{Item}
 use Rattle.si_judge.specs.declared.version.Version.{Version}
-use Rattle.si_judge.specs.Best.{IsWritten}
+use Rattle.si_judge.specs.Best.{IsWritten, lists}
 
 -- pairs of numbers in order of the first, then of the second
 abbrev pub pair_cmp : ℕ × ℕ → ℕ × ℕ → Ordering
@@ -31,3 +33,7 @@ IsOwn part t k (Some version) = (version.found.from ≡ t) × IsWritten part k v
 -- the map has, by transaction and key, each transaction's last write at each key
 abbrev pub HasLastWrites : List Item → BTreeMap (ℕ × ℕ) Version → Type 0
 HasLastWrites part versions = (t k : ℕ) → IsOwn part t k (get pair_cmp versions (t, k))
+
+-- the set has the transactions whose keys were listed
+abbrev pub HasListed : List Item → BTreeSet ℕ → Type 0
+HasListed part txns = (t : ℕ) → contains nat_cmp txns t ≡ list_any (λ x. lists t x) part

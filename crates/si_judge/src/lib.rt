@@ -7,6 +7,7 @@ ghost use Rattle.si_judge.specs.Judged.{AllRight, IsEarlierKept, IsJudged, IsKep
 
 mod apart;
 mod fresh;
+mod listed;
 mod read;
 mod reads;
 mod stamped;
@@ -15,6 +16,7 @@ mod tests;
 mod verdict;
 mod version;
 mod versions;
+mod views;
 mod visible;
 mod walk;
 mod writes;

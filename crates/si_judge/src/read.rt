@@ -1,13 +1,13 @@
 // The rule on reads.
-ghost use Rattle.std.specs.Prelude.{◌≡◌, ◌<◌, length, take, Decides, None, Some, IfSome, option_map};
+ghost use Rattle.std.specs.Prelude.{◌≡◌, ◌<◌, ℕ, List, length, take, Decides, None, Some, IfSome, option_map};
+ghost use Rattle.history_book.specs.declared.item.Item.{Item};
 ghost use Rattle.history_book.specs.Isolation as isolation;
 ghost use Rattle.si_judge.specs.Best.{IsWritten, IsWrong, place_seen};
-ghost use Rattle.si_judge.specs.Indexed.{IsOwn};
 ghost use Rattle.si_judge.specs.Judged.{IsSecond};
 
 use crate::verdict::Rule;
 use crate::version::Version;
-use crate::visible::{Plain, Views, last_write, was_listed};
+use crate::views::{Plain, Views};
 use history_book::{Found, Item};
 use stamp_base::{KeyNo, Stamp, Value};
 
@@ -18,112 +18,94 @@ pub fn second_of_read(items: &[Item], first: usize) -> Option<usize>
     ensures second { IsSecond Rule.Read items.now first result }
     ensures within { IfSome result (λ place. place < length items.now) }
 {
+    let views = Plain {
+        items,
+        before: &items[..first],
+    };
+    second_by_views(items, first, &views)
+}
+
+/// The same by views of the history.
+pub fn second_by_views<V: Views>(items: &[Item], first: usize, views: &V) -> Option<usize>
+    requires stamped { isolation.Stamped items.now }
+    requires within { first < length items.now }
+    requires views { V.tells views.now items.now first }
+    ensures second { IsSecond Rule.Read items.now first result }
+    ensures within { IfSome result (λ place. place < length items.now) }
+{
     match &items[first] {
         Item::Read {
             start,
             key,
             answer,
             ..
-        } => {
-            let own = last_write(&items[..first], *start, *key);
-            let views = Plain { items };
-            wrong_answer(items, first, *start, *key, *answer, &own, &views)
-        }
+        } => wrong_answer(first, *start, *key, *answer, views),
         _ => None,
     }
 }
 
 /// The place of the right answer where this one is wrong, at a read by a transaction at the place.
-pub fn wrong_answer<V: Views>(
-    items: &[Item],
+fn wrong_answer<V: Views>(
     first: usize,
     start: Stamp,
     key: KeyNo,
     answer: Option<Found>,
-    own: &Option<Version>,
     views: &V,
 ) -> Option<usize>
-    requires stamped { isolation.Stamped items.now }
-    requires within { first < length items.now }
-    requires own { IsOwn (take first items.now) start key own.now }
-    requires views { V.tells views.now items.now }
-    ensures { IsWrong items.now first start key answer
-        (isolation.last_write (take first items.now) start key) result }
+    ensures { (h : List Item) → isolation.Stamped h → first < length h → V.tells views.now h first →
+        IsWrong h first start key answer (isolation.last_write (take first h) start key) result }
 {
-    match own {
-        Some(written) => wrong_own(items, first, written, key, answer, views),
-        None => wrong_seen(items, first, start, key, answer, views),
+    match views.own(start, key) {
+        Some(own) => wrong_own(first, own, key, answer, views),
+        None => wrong_seen(first, start, key, answer, views),
     }
 }
 
 /// The same where the transaction wrote the key before.
 fn wrong_own<V: Views>(
-    items: &[Item],
     first: usize,
-    own: &Version,
+    own: Version,
     key: KeyNo,
     answer: Option<Found>,
     views: &V,
 ) -> Option<usize>
-    requires stamped { isolation.Stamped items.now }
-    requires within { first < length items.now }
-    requires written { IsWritten (take first items.now) key own.now }
-    requires views { V.tells views.now items.now }
-    ensures { IsWrong items.now first own.now.found.from key answer (Some own.now.found.value) result }
+    ensures { (h : List Item) → isolation.Stamped h → first < length h → V.tells views.now h first →
+        IsWritten (take first h) key own → IsWrong h first own.found.from key answer (Some own.found.value) result }
 {
-    if is_own_right(items, &items[..first], &own.found, key, answer, views) {
+    if is_own_right(&own.found, key, answer, views) {
         None
     } else {
         Some(own.place)
     }
 }
 
-fn is_own_right<V: Views>(
-    items: &[Item],
-    before: &[Item],
-    own: &Found,
-    key: KeyNo,
-    answer: Option<Found>,
-    views: &V,
-) -> bool
-    requires stamped { isolation.Stamped items.now }
-    requires views { V.tells views.now items.now }
-    ensures { Decides result (isolation.RightAnswer items.now before.now own.now.from key answer (Some own.now.value)) }
+fn is_own_right<V: Views>(own: &Found, key: KeyNo, answer: Option<Found>, views: &V) -> bool
+    ensures { (h : List Item) (i : ℕ) → isolation.Stamped h → V.tells views.now h i →
+        Decides result (isolation.RightAnswer h (take i h) own.now.from key answer (Some own.now.value)) }
 {
-    is_found(&answer, own)
-        || (was_listed(before, own.from) && sees(items, own.from, key, answer, views))
+    is_found(&answer, own) || (views.listed(own.from) && sees(own.from, key, answer, views))
 }
 
 /// Whether the answer is what a reader with this start sees at the key.
-fn sees<V: Views>(
-    items: &[Item],
-    start: Stamp,
-    key: KeyNo,
-    answer: Option<Found>,
-    views: &V,
-) -> bool
-    requires stamped { isolation.Stamped items.now }
-    requires views { V.tells views.now items.now }
-    ensures { Decides result (isolation.Visible items.now start key answer) }
+fn sees<V: Views>(start: Stamp, key: KeyNo, answer: Option<Found>, views: &V) -> bool
+    ensures { (h : List Item) (i : ℕ) → isolation.Stamped h → V.tells views.now h i →
+        Decides result (isolation.Visible h start key answer) }
 {
-    is_seen(&views.visible(start, key), &answer)
+    is_seen(&views.seen(start, key), &answer)
 }
 
 /// The same where the transaction did not write the key before.
 fn wrong_seen<V: Views>(
-    items: &[Item],
     first: usize,
     start: Stamp,
     key: KeyNo,
     answer: Option<Found>,
     views: &V,
 ) -> Option<usize>
-    requires stamped { isolation.Stamped items.now }
-    requires within { first < length items.now }
-    requires views { V.tells views.now items.now }
-    ensures { IsWrong items.now first start key answer None result }
+    ensures { (h : List Item) → isolation.Stamped h → first < length h → V.tells views.now h first →
+        IsWrong h first start key answer None result }
 {
-    let seen = views.visible(start, key);
+    let seen = views.seen(start, key);
     if is_seen(&seen, &answer) {
         None
     } else {

@@ -1,20 +1,23 @@
 // The rule on reads over a whole history, by an index of its versions.
 ghost use Rattle.std.specs.Prelude.{◌≡◌, ◌<◌, ℕ, length, take, IfOk, IfSome, MatchOption};
 ghost use Rattle.history_book.specs.Isolation as isolation;
-ghost use Rattle.si_judge.specs.Indexed.{HasLastWrites, HasVersions};
+ghost use Rattle.si_judge.specs.Indexed.{HasLastWrites, HasListed, HasVersions};
 ghost use Rattle.si_judge.specs.Judged.{IsLeastPair, IsSecond, Passes};
 
-use crate::read::wrong_answer;
+use crate::listed::Listed;
+use crate::read::second_by_views;
 use crate::verdict::Rule;
+use crate::version::Version;
 use crate::versions::VersionIndex;
+use crate::views::Views;
 use crate::walk::Pair;
 use crate::writes::LastWrites;
 use history_book::Item;
-use stamp_base::NoMemory;
+use stamp_base::{KeyNo, NoMemory, Stamp, TxnId};
 use std::alloc::Global;
 
-/// The first read with a wrong answer, and the place of the right one. Its time grows as n log n with the
-/// number of items, and its memory with the number of writes.
+/// The first read with a wrong answer, and the place of the right one. With n items it takes a time in
+/// proportion to n log n, and memory in proportion to the writes and listings.
 pub(crate) fn first_wrong_read(alloc: Global, items: &[Item]) -> Result<Option<Pair>, NoMemory>
     requires { isolation.Stamped items.now }
     ensures pair { IfOk result (λ found. MatchOption found
@@ -23,13 +26,15 @@ pub(crate) fn first_wrong_read(alloc: Global, items: &[Item]) -> Result<Option<P
     ensures within { IfOk result (λ found. IfSome found
         (λ pair. pair.first < length items.now × pair.second < length items.now)) }
 {
-    let index = VersionIndex::new(alloc, items)?;
-    let mut before = LastWrites::new(alloc);
+    let versions = VersionIndex::new(alloc, items)?;
+    let mut writes = LastWrites::new(alloc);
+    let mut listed = Listed::new(alloc);
     for first in 0..items.len() {
-        if let Some(second) = second_by_index(items, first, &index, &before) {
+        if let Some(second) = second_by_index(items, first, &versions, &writes, &listed) {
             return Ok(Some(Pair { first, second }));
         }
-        before.pass(first, &items[first])?;
+        writes.pass(first, &items[first])?;
+        listed.pass(&items[first])?;
     }
     Ok(None)
 }
@@ -38,26 +43,47 @@ pub(crate) fn first_wrong_read(alloc: Global, items: &[Item]) -> Result<Option<P
 fn second_by_index(
     items: &[Item],
     first: usize,
-    index: &VersionIndex,
-    before: &LastWrites,
+    versions: &VersionIndex,
+    writes: &LastWrites,
+    listed: &Listed,
 ) -> Option<usize>
     requires stamped { isolation.Stamped items.now }
     requires within { first < length items.now }
-    requires index { HasVersions items.now items.now index.now.versions }
-    requires before { HasLastWrites (take first items.now) before.now.versions }
+    requires versions { HasVersions items.now items.now versions.now.versions }
+    requires writes { HasLastWrites (take first items.now) writes.now.versions }
+    requires listed { HasListed (take first items.now) listed.now.txns }
     ensures second { IsSecond Rule.Read items.now first result }
     ensures within { IfSome result (λ place. place < length items.now) }
 {
-    match &items[first] {
-        Item::Read {
-            start,
-            key,
-            answer,
-            ..
-        } => {
-            let own = before.last(*start, *key);
-            wrong_answer(items, first, *start, *key, *answer, &own, index)
-        }
-        _ => None,
+    let views = Indexed {
+        versions,
+        writes,
+        listed,
+    };
+    second_by_views(items, first, &views)
+}
+
+/// The versions of the whole history, and what was written and listed before a read.
+#[derive(Clone, Copy)]
+struct Indexed<'a> {
+    versions: &'a VersionIndex,
+    writes: &'a LastWrites,
+    listed: &'a Listed,
+}
+
+impl Views for Indexed<'_> {
+    ghost tells = { λ indexed h i. HasVersions h h indexed.versions.now.versions
+        × HasLastWrites (take i h) indexed.writes.now.versions × HasListed (take i h) indexed.listed.now.txns };
+
+    fn own(&self, start: Stamp, key: KeyNo) -> Option<Version> {
+        self.writes.last(start, key)
+    }
+
+    fn listed(&self, txn: TxnId) -> bool {
+        self.listed.has(txn)
+    }
+
+    fn seen(&self, start: Stamp, key: KeyNo) -> Option<Version> {
+        self.versions.visible(start, key)
     }
 }

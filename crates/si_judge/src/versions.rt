@@ -2,10 +2,10 @@
 ghost use Rattle.std.specs.Prelude.{◌≡◌, ◌∷◌, ◌++◌, [], List, length, IfOk, OnOk};
 ghost use Rattle.history_book.specs.declared.item.Item.{Item};
 ghost use Rattle.history_book.specs.Isolation as isolation;
+ghost use Rattle.si_judge.specs.Best.{Sees};
 ghost use Rattle.si_judge.specs.Indexed.{HasCommits, HasVersions};
 
 use crate::version::Version;
-use crate::visible::Views;
 use history_book::{Found, Item};
 use stamp_base::{KeyNo, NoMemory, Stamp};
 use std::alloc::Global;
@@ -27,12 +27,11 @@ impl VersionIndex {
         let versions = versions_of(alloc, items, &commits)?;
         Ok(VersionIndex { versions })
     }
-}
 
-impl Views for VersionIndex {
-    ghost tells = { λ index h. HasVersions h h index.versions };
-
-    fn visible(&self, start: Stamp, key: KeyNo) -> Option<Version> {
+    /// The newest version that a reader with this start sees at the key.
+    pub fn visible(&self, start: Stamp, key: KeyNo) -> Option<Version>
+        ensures { (h : List Item) → HasVersions h h self.now.versions → Sees h start key result }
+    {
         // Versions of lesser keys lie below the place too.
         match self.versions.range(..(key, start)).next_back() {
             None => None,

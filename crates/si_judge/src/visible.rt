@@ -9,32 +9,6 @@ use crate::version::{Best, Version};
 use history_book::{Found, Item, StoreStep};
 use stamp_base::{KeyNo, Stamp, TxnId, Value};
 
-/// What tells the versions that readers see of a history.
-pub trait Views {
-    ghost use Rattle.std.specs.Prelude.{List};
-    ghost use Rattle.history_book.specs.declared.item.Item.{Item};
-
-    ghost tells: { Self → List Item → Type 0 };
-
-    /// The newest version that a reader with this start sees at the key.
-    fn visible(&self, start: Stamp, key: KeyNo) -> Option<Version>
-        ensures { (h : List Item) → tells self.now h → Sees h start key result };
-}
-
-/// The history itself: each view goes over all of its items.
-#[derive(Clone, Copy)]
-pub struct Plain<'a> {
-    pub items: &'a [Item],
-}
-
-impl Views for Plain<'_> {
-    ghost tells = { λ plain h. plain.items.now ≡ h };
-
-    fn visible(&self, start: Stamp, key: KeyNo) -> Option<Version> {
-        visible(self.items, start, key)
-    }
-}
-
 /// The last write of the transaction at the key.
 pub fn last_write(items: &[Item], start: Stamp, key: KeyNo) -> Option<Version>
     ensures value { isolation.last_write items.now start key ≡ option_map (λ version. version.found.value) result }

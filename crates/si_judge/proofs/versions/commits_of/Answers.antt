@@ -1,15 +1,10 @@
 use Rattle.std.proofs.Common.{◌≡◌, ◌+◌, ◌<◌, ℕ, suc, List, [], ◌∷◌, ◌++◌, length, take, get_or, refl, sym, subst, ap, ◌∙◌, arith}
-use Rattle.std.proofs.Math.Seq.{take-suc}
 use Rattle.std.proofs.lemmas.Option.{slice_get_read}
 use Rattle.history_book.specs.declared.item.Item.{Item}
 use Rattle.si_judge.specs.Indexed.{HasCommits}
 use Rattle.si_judge.proofs.IndexLemmas.{commits_empty}
+use Rattle.si_judge.proofs.PushLemmas.{one_more}
 use Rattle.si_judge.proofs.versions.commits_of.Goals as goal
-
-one_more : (xs : List Item) (i : ℕ) (x : Item) → i < length xs → x ≡ get_or xs i x → take i xs ++ x ∷ [] ≡ take (i + 1) xs
-one_more xs i x less e =
-    let next : i + 1 ≡ suc i = omega arith in
-    ap (λ (y : Item). take i xs ++ y ∷ []) e ∙ sym (take-suc xs i x less) ∙ ap (λ n. take n xs) (sym next)
 
 pub loop-item-init : goal.loop-item-init
 loop-item-init c = commits_empty c.new-commits.result c.new-commits.ensures.empty

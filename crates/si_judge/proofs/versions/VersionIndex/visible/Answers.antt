@@ -1,7 +1,7 @@
 use Rattle.std.proofs.Common.{sym, ◌∙◌}
 use Rattle.std.proofs.lemmas.Bool.{eqb-true, eq-eqb}
 use Rattle.si_judge.proofs.IndexLemmas.{IsLastBelow, none_below, last_newest, last_other}
-use Rattle.si_judge.proofs.versions.VersionIndexViews.visible.Goals as goal
+use Rattle.si_judge.proofs.versions.VersionIndex.visible.Goals as goal
 
 pub returns-in-None : goal.returns-in-None
 returns-in-None c = λ h has. none_below h c.args.start c.args.key c.args.self.now.versions has (λ q within. (c.range.ensures.in_range tt).5 c.in-None.ensures.steps.0 q within)
