@@ -2,14 +2,14 @@
 use Rattle.std.proofs.Common.{◌≡◌, ◌≤◌, ◌<◌, ◌==◌, ◌&&◌, ℕ, Bool, true, false, cond, List, [], ◌∷◌, ◌++◌, Option, Some, None, IsSome, is_some, length, take, ◌⊎◌, inl, inr, refl, sym, ap, subst, ◌∙◌, arith}
 use Rattle.std.specs.Ordering.{nat_cmp, is_lt}
 use Rattle.std.specs.declared.ops.Bound.TheVariants.{Excluded, Unbounded}
-use Rattle.std.specs.BTreeMap.Range.{IsInRange, IsRangeOf}
+use Rattle.std.specs.BTreeMap.Range.{IsInRange}
 use Rattle.std.specs.declared.cmp.Ordering.TheVariants.{Less}
 use Rattle.std.specs.BTreeMap.{BTreeMap, get, is_at, Updates, IsEmpty}
 use Rattle.std.proofs.lemmas.Bool.{eqb-true}
 use Rattle.std.proofs.lemmas.Bool.Decides.{nat_tests}
 use Rattle.std.proofs.lemmas.Option.{same_Some}
 use Rattle.history_book.specs.Members.{◌∈◌}
-use Rattle.history_book.specs.Isolation.{last_write, written_by, Committed, Wrote, NewStamps, Visible, Newest}
+use Rattle.history_book.specs.Isolation.{last_write, written_by, Committed, NewStamps, Visible, Newest}
 use Rattle.history_book.specs.declared.item.Found.{Found}
 use Rattle.history_book.specs.declared.item.Item.{Item}
 use Rattle.history_book.specs.declared.item.Item.TheVariants.{Placed, Write}

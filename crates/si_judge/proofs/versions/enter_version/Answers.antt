@@ -1,6 +1,5 @@
-use Rattle.std.proofs.Common.{◌≡◌, ◌∷◌, ◌++◌, [], List, Some, None, ap, sym, subst, ◌∙◌}
+use Rattle.std.proofs.Common.{◌∷◌, ◌++◌, [], ap, sym, subst, ◌∙◌}
 use Rattle.std.specs.Option.{option_copied}
-use Rattle.history_book.specs.Isolation.{written_by, Committed}
 use Rattle.history_book.specs.declared.item.Item.{Item}
 use Rattle.si_judge.specs.Indexed.{HasVersions}
 use Rattle.si_judge.proofs.IndexLemmas.{versions_skip, no_write_skips, open_write_skips, versions_entered}

@@ -1,6 +1,6 @@
 use Rattle.std.proofs.Common.{sym, ◌∙◌}
 use Rattle.std.proofs.lemmas.Bool.{eqb-true, eq-eqb}
-use Rattle.si_judge.proofs.IndexLemmas.{IsLastBelow, none_below, last_newest, last_other}
+use Rattle.si_judge.proofs.IndexLemmas.{none_below, last_newest, last_other}
 use Rattle.si_judge.proofs.versions.VersionIndex.visible.Goals as goal
 
 pub returns-in-None : goal.returns-in-None
