@@ -7,6 +7,9 @@ pub mod FreshLaw
 pub mod WriteLemmas
 pub mod BestLemmas
 pub mod ReadLemmas
+pub mod PushLemmas
+pub mod IndexLemmas
+pub mod ListedLemmas
 pub mod WalkLemmas
 pub mod VerdictLemmas
 pub mod SuspectLemmas

@@ -21,7 +21,8 @@ use Rattle.si_judge.specs.declared.verdict.Rule.TheVariants as rule
 use Rattle.si_judge.specs.ApartPairs.{OverlapsPlaced, Overlapping, writes}
 use Rattle.si_judge.specs.Judged.{Passes}
 use Rattle.si_judge.specs.Marks.{IsMarked, KeepsMarks}
-use Rattle.si_judge.specs.OverlapIndex.{pair_cmp, Commits, Written, commit_at, NotesCommit, HasCommits, HasWrite, HasWrites, KeepsWrites, MarksOverlaps, MarksAll}
+use Rattle.si_judge.specs.Indexed.{pair_cmp}
+use Rattle.si_judge.specs.OverlapIndex.{Commits, Written, commit_at, NotesCommit, HasCommits, HasWrite, HasWrites, KeepsWrites, MarksOverlaps, MarksAll}
 use Rattle.si_judge.proofs.KeyLemmas.{any_writes, and_parts}
 use Rattle.si_judge.proofs.PlaceLemmas.{both_at, in_take}
 

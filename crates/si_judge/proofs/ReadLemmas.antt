@@ -69,7 +69,7 @@ some_at None t k v e = absurd (cc)
 some_at (Some x) t k v e = (x, refl)
 
 -- a write stands in the list
-written_within : (h : List Item) (t k j : ℕ) (v : List ℕ) → written_at h t k j ≡ Some v → j < length h
+pub written_within : (h : List Item) (t k j : ℕ) (v : List ℕ) → written_at h t k j ≡ Some v → j < length h
 written_within h t k j v e = let found = some_at (slice_get h j) t k v e in slice_get_within h j found.0 found.1
 
 sees_within : (h : List Item) (i s k : ℕ) (seen : Option Version) → i < length h → Sees h s k seen → place_seen seen i < length h

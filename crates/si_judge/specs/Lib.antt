@@ -3,6 +3,7 @@ pub mod ApartPairs
 pub mod FreshPairs
 pub mod ReadPairs
 pub mod Best
+pub mod Indexed
 pub mod Judged
 pub mod Suspects
 pub mod Marks

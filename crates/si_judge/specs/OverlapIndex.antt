@@ -1,17 +1,13 @@
 -- What an index of the writes of committed transactions holds.
 pub use Rattle.si_judge.specs.Marks.{IsMarked, KeepsMarks}
 use Rattle.std.specs.Prelude.{◌≡◌, ◌≢◌, ℕ, ◌<◌, ◌≤◌, List, Some, slice_get, IfSome}
-use Rattle.std.specs.Ordering.{nat_cmp, ordering_then}
-use Rattle.std.specs.declared.cmp.Ordering.{Ordering}
+use Rattle.std.specs.Ordering.{nat_cmp}
 use Rattle.std.specs.BTreeMap.{BTreeMap, get}
 use Rattle.history_book.specs.declared.item.Item.{Item}
 use Rattle.history_book.specs.declared.item.Item.TheVariants.{Placed, Write}
+use Rattle.si_judge.specs.Indexed.{pair_cmp}
 use Rattle.si_judge.specs.declared.overlap_index.Commit.{Commit}
 use Rattle.si_judge.specs.declared.marks.Marks.{Marks}
-
--- pairs of numbers in order of the first, then of the second
-abbrev pub pair_cmp : ℕ × ℕ → ℕ × ℕ → Ordering
-pair_cmp x y = ordering_then (nat_cmp x.0 y.0) (nat_cmp x.1 y.1)
 
 -- commits, by their transactions
 abbrev pub Commits : Type 0

@@ -8,9 +8,11 @@ ghost use Rattle.si_judge.specs.Judged.{AllRight, IsEarlierKept, IsJudged, IsKep
 mod apart;
 mod ask_index;
 mod fresh;
+mod listed;
 mod marks;
 mod overlap_index;
 mod read;
+mod reads;
 mod search;
 mod stamp_index;
 mod stamped;
@@ -18,8 +20,11 @@ mod stamped;
 mod tests;
 mod verdict;
 mod version;
+mod versions;
+mod views;
 mod visible;
 mod walk;
+mod writes;
 
 use history_book::Item;
 use search::first_pair;
@@ -32,11 +37,10 @@ use walk::Pair;
 /// of items that break it the one with the least first number and then the least second; items are
 /// numbered from 1.
 ///
-/// Stamps, commits and starts are judged over ordered sets and maps, in the time of a sort of the items and in
-/// memory for each of them; where many transactions that wrote one key overlap, the time grows with their
-/// pairs. Where that memory is refused, a walk over all pairs is made in its place, in time that grows with the
-/// square of the number of items and more, so the answer is never NoMemory. Reads are judged by a walk alone:
-/// each goes over the history for each commit below its start.
+/// Each rule is judged over ordered sets and maps, in the time of a sort of the items and in memory for each
+/// of them; where many transactions that wrote one key overlap, the time grows with their pairs. Where that
+/// memory is refused, a walk over all pairs is made in its place, in a time that grows with the square of the
+/// number of items and more, so the answer is never NoMemory.
 pub fn judge(alloc: Global, items: &[Item]) -> Result<Verdict, NoMemory>
     ensures judged { IfOk result (λ verdict. IsJudged items.now verdict) }
     ensures isolated { IfOk result (λ verdict. verdict ≡ Verdict.Isolated → Isolated items.now) }

@@ -1,12 +1,13 @@
 // The rule on reads.
-ghost use Rattle.std.specs.Prelude.{◌≡◌, ◌<◌, length, take, Decides, None, Some, IfSome, option_map};
+ghost use Rattle.std.specs.Prelude.{◌≡◌, ◌<◌, ℕ, List, length, take, Decides, None, Some, IfSome, option_map};
+ghost use Rattle.history_book.specs.declared.item.Item.{Item};
 ghost use Rattle.history_book.specs.Isolation as isolation;
-ghost use Rattle.si_judge.specs.Best.{IsWritten, IsWrong, Sees, place_seen};
+ghost use Rattle.si_judge.specs.Best.{IsWritten, IsWrong, place_seen};
 ghost use Rattle.si_judge.specs.Judged.{IsSecond};
 
 use crate::verdict::Rule;
 use crate::version::Version;
-use crate::visible::{last_write, visible, was_listed};
+use crate::views::{Plain, Views};
 use history_book::{Found, Item};
 use stamp_base::{KeyNo, Stamp, Value};
 
@@ -17,90 +18,94 @@ pub fn second_of_read(items: &[Item], first: usize) -> Option<usize>
     ensures second { IsSecond Rule.Read items.now first result }
     ensures within { IfSome result (λ place. place < length items.now) }
 {
+    let views = Plain {
+        items,
+        before: &items[..first],
+    };
+    second_by_views(items, first, &views)
+}
+
+/// The same by views of the history.
+pub fn second_by_views<V: Views>(items: &[Item], first: usize, views: &V) -> Option<usize>
+    requires stamped { isolation.Stamped items.now }
+    requires within { first < length items.now }
+    requires views { V.tells views.now items.now first }
+    ensures second { IsSecond Rule.Read items.now first result }
+    ensures within { IfSome result (λ place. place < length items.now) }
+{
     match &items[first] {
         Item::Read {
             start,
             key,
             answer,
             ..
-        } => wrong_answer(items, first, *start, *key, *answer),
+        } => wrong_answer(first, *start, *key, *answer, views),
         _ => None,
     }
 }
 
 /// The place of the right answer where this one is wrong, at a read by a transaction at the place.
-fn wrong_answer(
-    items: &[Item],
+fn wrong_answer<V: Views>(
     first: usize,
     start: Stamp,
     key: KeyNo,
     answer: Option<Found>,
+    views: &V,
 ) -> Option<usize>
-    requires stamped { isolation.Stamped items.now }
-    requires within { first < length items.now }
-    ensures { IsWrong items.now first start key answer
-        (isolation.last_write (take first items.now) start key) result }
+    ensures { (h : List Item) → isolation.Stamped h → first < length h → V.tells views.now h first →
+        IsWrong h first start key answer (isolation.last_write (take first h) start key) result }
 {
-    match last_write(&items[..first], start, key) {
-        Some(own) => wrong_own(items, first, own, key, answer),
-        None => wrong_seen(items, first, start, key, answer),
+    match views.own(start, key) {
+        Some(own) => wrong_own(first, own, key, answer, views),
+        None => wrong_seen(first, start, key, answer, views),
     }
 }
 
 /// The same where the transaction wrote the key before.
-fn wrong_own(
-    items: &[Item],
+fn wrong_own<V: Views>(
     first: usize,
     own: Version,
     key: KeyNo,
     answer: Option<Found>,
+    views: &V,
 ) -> Option<usize>
-    requires stamped { isolation.Stamped items.now }
-    requires within { first < length items.now }
-    requires written { IsWritten (take first items.now) key own }
-    ensures { IsWrong items.now first own.found.from key answer (Some own.found.value) result }
+    ensures { (h : List Item) → isolation.Stamped h → first < length h → V.tells views.now h first →
+        IsWritten (take first h) key own → IsWrong h first own.found.from key answer (Some own.found.value) result }
 {
-    if is_own_right(items, &items[..first], &own.found, key, answer) {
+    if is_own_right(&own.found, key, answer, views) {
         None
     } else {
         Some(own.place)
     }
 }
 
-fn is_own_right(
-    items: &[Item],
-    before: &[Item],
-    own: &Found,
-    key: KeyNo,
-    answer: Option<Found>,
-) -> bool
-    requires { isolation.Stamped items.now }
-    ensures { Decides result (isolation.RightAnswer items.now before.now own.now.from key answer (Some own.now.value)) }
+fn is_own_right<V: Views>(own: &Found, key: KeyNo, answer: Option<Found>, views: &V) -> bool
+    ensures { (h : List Item) (i : ℕ) → isolation.Stamped h → V.tells views.now h i →
+        Decides result (isolation.RightAnswer h (take i h) own.now.from key answer (Some own.now.value)) }
 {
-    is_found(&answer, own) || (was_listed(before, own.from) && sees(items, own.from, key, answer))
+    is_found(&answer, own) || (views.listed(own.from) && sees(own.from, key, answer, views))
 }
 
 /// Whether the answer is what a reader with this start sees at the key.
-fn sees(items: &[Item], start: Stamp, key: KeyNo, answer: Option<Found>) -> bool
-    requires { isolation.Stamped items.now }
-    ensures { Decides result (isolation.Visible items.now start key answer) }
+fn sees<V: Views>(start: Stamp, key: KeyNo, answer: Option<Found>, views: &V) -> bool
+    ensures { (h : List Item) (i : ℕ) → isolation.Stamped h → V.tells views.now h i →
+        Decides result (isolation.Visible h start key answer) }
 {
-    is_seen(&visible(items, start, key), &answer)
+    is_seen(&views.seen(start, key), &answer)
 }
 
 /// The same where the transaction did not write the key before.
-fn wrong_seen(
-    items: &[Item],
+fn wrong_seen<V: Views>(
     first: usize,
     start: Stamp,
     key: KeyNo,
     answer: Option<Found>,
+    views: &V,
 ) -> Option<usize>
-    requires stamped { isolation.Stamped items.now }
-    requires within { first < length items.now }
-    ensures { IsWrong items.now first start key answer None result }
+    ensures { (h : List Item) → isolation.Stamped h → first < length h → V.tells views.now h first →
+        IsWrong h first start key answer None result }
 {
-    let seen = visible(items, start, key);
+    let seen = views.seen(start, key);
     if is_seen(&seen, &answer) {
         None
     } else {

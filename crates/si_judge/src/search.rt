@@ -5,6 +5,7 @@ ghost use Rattle.si_judge.specs.Suspects.{AreSuspects};
 
 use crate::ask_index::start_suspects;
 use crate::overlap_index::overlap_suspects;
+use crate::reads::first_wrong_read;
 use crate::stamp_index::stamp_suspects;
 use crate::verdict::Rule;
 use crate::walk::{Pair, plain_pair, second_of};
@@ -44,8 +45,7 @@ fn indexed_pair(alloc: Global, rule: Rule, items: &[Item]) -> Result<Option<Pair
             let suspects = overlap_suspects(alloc, items)?;
             Ok(first_of(Rule::Apart, items, &suspects))
         }
-        // Reads have no index: this is the place for one.
-        Rule::Read => Ok(plain_pair(Rule::Read, items)),
+        Rule::Read => first_wrong_read(alloc, items),
         Rule::Fresh => {
             let suspects = start_suspects(alloc, items)?;
             Ok(first_of(Rule::Fresh, items, &suspects))

@@ -194,6 +194,41 @@ fn reads(rt: HostRuntime) -> Result<(), Fail> {
     assert_broken(&rt, rt.alloc(), Rule::Read, table)
 }
 
+// The other tests use one key: here a version of another stands below or above the one that is read.
+#[test]
+fn keys(rt: HostRuntime) -> Result<(), Fail> {
+    let right: &[&[&str]] = &[
+        &[
+            "write s0 start=1 k0 p",
+            "write s0 start=1 k2 q",
+            "placed start=1 commit=2",
+            "read s1 start=3 k1 none",
+            "read s1 start=3 k0 from=1 p",
+            "read s1 start=3 k2 from=1 q",
+        ],
+        &[
+            "write s0 start=5 k0 v",
+            "read s0 start=5 k1 none",
+            "read s1 start=6 k0 none",
+            "read s0 start=5 k0 from=5 v",
+        ],
+    ];
+    for lines in right {
+        assert_isolated(&rt, rt.alloc(), lines)?;
+    }
+    let wrong: &[(usize, usize, &[&str])] = &[(
+        4,
+        1,
+        &[
+            "write s0 start=1 k1 p",
+            "write s0 start=1 k0 q",
+            "placed start=1 commit=2",
+            "read s1 start=3 k1 from=1 q",
+        ],
+    )];
+    assert_broken(&rt, rt.alloc(), Rule::Read, wrong)
+}
+
 #[test]
 fn starts(rt: HostRuntime) -> Result<(), Fail> {
     let table: &[(usize, usize, &[&str])] = &[

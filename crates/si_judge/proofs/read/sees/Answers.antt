@@ -5,9 +5,8 @@ use Rattle.si_judge.proofs.ReadLemmas.{visible_once, sees_visible}
 use Rattle.si_judge.proofs.read.sees.Goals as goal
 
 pub returns : goal.returns
-returns c =
-    let items = c.args.items.now in
-    let seen = sees_visible items c.args.start c.args.key c.visible.result c.visible.ensures in (
-      λ e. subst (λ (a : Option Found). Visible items c.args.start c.args.key a) (sym (c.is_seen.ensures.0 e)) seen,
-      λ right. c.is_seen.ensures.1 (visible_once items c.requires c.args.start c.args.key _ _ right seen),
+returns g c = λ h i stamped tells.
+    let seen = sees_visible h c.args.start c.args.key c.seen.result (c.seen.ensures h i tells) in (
+      λ e. subst (λ (a : Option Found). Visible h c.args.start c.args.key a) (sym (c.is_seen.ensures.0 e)) seen,
+      λ right. c.is_seen.ensures.1 (visible_once h stamped c.args.start c.args.key _ _ right seen),
     )

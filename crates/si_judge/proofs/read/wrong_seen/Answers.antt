@@ -4,7 +4,7 @@ use Rattle.si_judge.proofs.ReadLemmas.{seen_wrong}
 use Rattle.si_judge.proofs.read.wrong_seen.Goals as goal
 
 pub returns-else-is_seen : goal.returns-else-is_seen
-returns-else-is_seen c =
-    subst (λ (n : ℕ). IsWrong c.args.items.now c.args.first c.args.start c.args.key c.args.answer None (Some n)) (sym c.place_seen.ensures)
-    (seen_wrong c.args.items.now c.requires.stamped c.args.first c.args.start c.args.key c.args.answer c.visible-seen.result c.requires.within c.visible-seen.ensures
+returns-else-is_seen g c = λ h stamped less tells.
+    subst (λ (n : ℕ). IsWrong h c.args.first c.args.start c.args.key c.args.answer None (Some n)) (sym c.place_seen.ensures)
+    (seen_wrong h stamped c.args.first c.args.start c.args.key c.args.answer c.seen-seen.result less (c.seen-seen.ensures h c.args.first tells)
     (λ e. let seen = c.is_seen.ensures.1 e in let unseen = c.if-is_seen.false in absurd (cc)))

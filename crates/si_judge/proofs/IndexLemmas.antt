@@ -1,0 +1,263 @@
+-- The ordered maps of an indexed walk, after one more item, and what they are asked.
+use Rattle.std.proofs.Common.{◌≡◌, ◌≤◌, ◌<◌, ◌==◌, ◌&&◌, ℕ, Bool, true, false, cond, List, [], ◌∷◌, ◌++◌, Option, Some, None, IsSome, is_some, length, take, ◌⊎◌, inl, inr, refl, sym, ap, subst, ◌∙◌, arith}
+use Rattle.std.specs.Ordering.{nat_cmp, is_lt}
+use Rattle.std.specs.declared.ops.Bound.TheVariants.{Excluded, Unbounded}
+use Rattle.std.specs.BTreeMap.Range.{IsInRange}
+use Rattle.std.specs.declared.cmp.Ordering.TheVariants.{Less}
+use Rattle.std.specs.BTreeMap.{BTreeMap, get, is_at, Updates, IsEmpty}
+use Rattle.std.proofs.lemmas.Bool.{eqb-true}
+use Rattle.std.proofs.lemmas.Bool.Decides.{nat_tests}
+use Rattle.std.proofs.lemmas.Option.{same_Some}
+use Rattle.history_book.specs.Members.{◌∈◌}
+use Rattle.history_book.specs.Isolation.{last_write, written_by, Committed, NewStamps, Visible, Newest}
+use Rattle.history_book.specs.declared.item.Found.{Found}
+use Rattle.history_book.specs.declared.item.Item.{Item}
+use Rattle.history_book.specs.declared.item.Item.TheVariants.{Placed, Write}
+use Rattle.history_book.proofs.MemberLemmas.{in_front, in_last, in_push, in_old}
+use Rattle.si_judge.specs.declared.version.Version.{Version}
+use Rattle.si_judge.specs.Best.{IsWritten, IsWrong}
+use Rattle.si_judge.specs.Indexed.{pair_cmp, HasCommits, HasVersions, IsOwn, HasLastWrites}
+use Rattle.si_judge.proofs.WriteLemmas.{last_write_at}
+use Rattle.si_judge.proofs.PushLemmas.{write_here, write_stays, last_write_stays, written_is, wrote_or_none}
+
+-- what a map has at a number after an entry
+nat_updated : {X : Type 0} (m n : BTreeMap ℕ X) (t : ℕ) (w : X) → Updates nat_cmp m n t (Some w) → (u : ℕ) → ((u ≡ t) × (get nat_cmp n u ≡ Some w)) ⊎ ((u ≡ t → ⊥) × (get nat_cmp n u ≡ get nat_cmp m u))
+nat_updated {X} m n t w put u = by (is_at (nat_cmp t) u) refl
+  where
+    by : (b : Bool) → is_at (nat_cmp t) u ≡ b → ((u ≡ t) × (get nat_cmp n u ≡ Some w)) ⊎ ((u ≡ t → ⊥) × (get nat_cmp n u ≡ get nat_cmp m u))
+    by true e = inl (grind (arith, nat_tests, e), put.0 u ∙ ap (λ b. cond b (Some w) (get nat_cmp m u)) e)
+    by false e = inr (λ same. grind (arith, nat_tests, e, same), put.0 u ∙ ap (λ b. cond b (Some w) (get nat_cmp m u)) e)
+
+at_pair : (a b p q : ℕ) → is_at (pair_cmp (a, b)) (p, q) ≡ ((p == a) && (q == b))
+at_pair a b p q = grind (arith, nat_tests)
+
+both_true : (a b : Bool) → (a && b) ≡ true → (a ≡ true) × (b ≡ true)
+both_true true b e = (refl, e)
+both_true false b e = absurd (cc)
+
+-- what a map has at a pair after an entry
+pair_updated : {X : Type 0} (m n : BTreeMap (ℕ × ℕ) X) (a b : ℕ) (w : X) → Updates pair_cmp m n (a, b) (Some w) → (p q : ℕ) → ((p ≡ a) × (q ≡ b) × (get pair_cmp n (p, q) ≡ Some w)) ⊎ ((p ≡ a → q ≡ b → ⊥) × (get pair_cmp n (p, q) ≡ get pair_cmp m (p, q)))
+pair_updated {X} m n a b w put p q = by (is_at (pair_cmp (a, b)) (p, q)) refl
+  where
+    by : (r : Bool) → is_at (pair_cmp (a, b)) (p, q) ≡ r → ((p ≡ a) × (q ≡ b) × (get pair_cmp n (p, q) ≡ Some w)) ⊎ ((p ≡ a → q ≡ b → ⊥) × (get pair_cmp n (p, q) ≡ get pair_cmp m (p, q)))
+    by true e =
+        let tests = both_true (p == a) (q == b) (sym (at_pair a b p q) ∙ e) in
+        inl (eqb-true p a tests.0, eqb-true q b tests.1, put.0 (p, q) ∙ ap (λ r. cond r (Some w) (get pair_cmp m (p, q))) e)
+    by false e = inr (λ one two. grind (arith, nat_tests, e, one, two), put.0 (p, q) ∙ ap (λ r. cond r (Some w) (get pair_cmp m (p, q))) e)
+
+pub commits_skip : (part : List Item) (x : Item) (m : BTreeMap ℕ ℕ) → ((t c : ℕ) → Placed t c ≡ x → ⊥) → HasCommits part m → HasCommits (part ++ x ∷ []) m
+commits_skip part x m other old = record {
+  held = λ t c e. in_front (Placed t c) part (x ∷ []) (old.held t c e);
+  whole = λ t c there. old.whole t c (in_old (Placed t c) x part (other t c) there);
+}
+
+start_of : Item → ℕ
+start_of (Placed t c) = t
+start_of _ = 0
+
+commit_of : Item → ℕ
+commit_of (Placed t c) = c
+commit_of _ = 0
+
+one_start : (t c u d : ℕ) → Placed t c ≡ Placed u d → t ≡ u
+unfolding start_of
+one_start t c u d e = ap start_of e
+
+one_commit : (t c u d : ℕ) → Placed t c ≡ Placed u d → c ≡ d
+unfolding commit_of
+one_commit t c u d e = ap commit_of e
+
+-- a transaction with no commit before has the one that is entered
+pub commits_entered : (part : List Item) (t c : ℕ) (m n : BTreeMap ℕ ℕ) → NewStamps part (Placed t c) → Updates nat_cmp m n t (Some c) → HasCommits part m → HasCommits (part ++ Placed t c ∷ []) n
+commits_entered part t c m n new put old = record {
+  held = λ u d e. elim (nat_updated m n t c put u) [
+    | inl here ↦
+        let at = same_Some _ _ (sym here.1 ∙ e) in
+        subst (λ (w : ℕ). Placed w d ∈ (part ++ Placed t c ∷ [])) (sym here.0) (subst (λ (w : ℕ). Placed t w ∈ (part ++ Placed t c ∷ [])) at (in_last (Placed t c) part))
+    | inr other ↦ in_front (Placed u d) part (Placed t c ∷ []) (old.held u d (sym other.1 ∙ e))
+  ];
+  whole = λ u d there. elim (nat_updated m n t c put u) [
+    | inl here ↦ elim (in_push (Placed u d) (Placed t c) part there) [
+      | inl before ↦ absurd ((new u d before).0 here.0)
+      | inr e ↦ here.1 ∙ ap Some (sym (one_commit u d t c e))
+    ]
+    | inr other ↦ elim (in_push (Placed u d) (Placed t c) part there) [
+      | inl before ↦ other.1 ∙ old.whole u d before
+      | inr e ↦ absurd (other.0 (one_start u d t c e))
+    ]
+  ];
+}
+
+-- an item that writes nothing for a committed transaction changes no version
+pub versions_skip : (h part : List Item) (x : Item) (m : BTreeMap (ℕ × ℕ) Version) → ((t c k : ℕ) (v : List ℕ) → Committed h t c → written_by t k x ≡ Some v → ⊥) → HasVersions h part m → HasVersions h (part ++ x ∷ []) m
+versions_skip h part x m none old = record {
+  held = λ k c version e. let was = old.held k c version e in
+      let not_here : written_by version.found.from k x ≡ None = wrote_or_none version.found.from k x _ (λ n. n) (λ v some. absurd (none version.found.from c k v was.0 some)) in
+      (was.0, write_stays part x version.found.from k version.found.value version.place not_here was.1);
+  whole = λ t c k v committed wrote.
+      let not_here : written_by t k x ≡ None = wrote_or_none t k x _ (λ n. n) (λ w some. absurd (none t c k w committed some)) in
+      old.whole t c k v committed (sym (last_write_stays part x t k not_here) ∙ wrote);
+}
+
+pub no_write_skips : (x : Item) → ((session t k : ℕ) (v : List ℕ) → x ≡ Write session t k v → ⊥) → (t k : ℕ) (v : List ℕ) → written_by t k x ≡ Some v → ⊥
+no_write_skips x other t k v some = let is = written_is t k x v some in other is.0 t k v is.1
+
+writer : Item → ℕ
+writer (Write session t k v) = t
+writer _ = 0
+
+written_key : Item → ℕ
+written_key (Write session t k v) = k
+written_key _ = 0
+
+one_writer : (s t k : ℕ) (v : List ℕ) (r u l : ℕ) (w : List ℕ) → Write s t k v ≡ Write r u l w → (t ≡ u) × (k ≡ l)
+unfolding writer written_key
+one_writer s t k v r u l w e = (ap writer e, ap written_key e)
+
+-- a write of a transaction that is not committed is no version
+pub open_write_skips : (h : List Item) (commits : BTreeMap ℕ ℕ) (session u l : ℕ) (w : List ℕ) → HasCommits h commits → get nat_cmp commits u ≡ None → (t c k : ℕ) (v : List ℕ) → Committed h t c → written_by t k (Write session u l w) ≡ Some v → ⊥
+open_write_skips h commits session u l w has none t c k v committed some =
+    let is = written_is t k (Write session u l w) v some in
+    let same = (one_writer session u l w is.0 t k v is.1).0 in
+    let clash : None ≡ Some c = sym none ∙ ap (λ n. get nat_cmp commits n) same ∙ has.whole t c committed in
+    absurd (cc)
+
+-- the commit of a committed transaction is one
+one_of_commits : (h : List Item) (commits : BTreeMap ℕ ℕ) (t c d : ℕ) → HasCommits h commits → get nat_cmp commits t ≡ Some c → Committed h t d → d ≡ c
+one_of_commits h commits t c d has there committed = same_Some _ _ (sym (has.whole t d committed) ∙ there)
+
+some_is : {X : Type 0} (o : Option X) (x : X) → o ≡ Some x → IsSome o
+some_is o x e = ap is_some e
+
+made : ℕ → ℕ → List ℕ → Version
+made p t v = record { place = p; found = record { from = t; value = v } }
+
+entered_written : (part : List Item) (session t k p : ℕ) (v : List ℕ) → length part ≡ p → written_by t k (Write session t k v) ≡ Some v → IsWritten (part ++ Write session t k v ∷ []) k (made p t v)
+unfolding made
+entered_written part session t k p v at wrote = subst (λ (n : ℕ). IsWritten (part ++ Write session t k v ∷ []) k (record { place = n; found = record { from = t; value = v } })) at (write_here part (Write session t k v) t k v wrote)
+
+writes_itself : (session t k : ℕ) (v : List ℕ) → written_by t k (Write session t k v) ≡ Some v
+writes_itself session t k v = grind (arith, nat_tests)
+
+-- a write of a committed transaction takes the place of its earlier write of the key
+pub versions_entered : (h part : List Item) (commits : BTreeMap ℕ ℕ) (session t k c p : ℕ) (v : List ℕ) (m n : BTreeMap (ℕ × ℕ) Version) → HasCommits h commits → get nat_cmp commits t ≡ Some c → length part ≡ p → Updates pair_cmp m n (k, c) (Some (record { place = p; found = record { from = t; value = v } })) → HasVersions h part m → HasVersions h (part ++ Write session t k v ∷ []) n
+unfolding made
+versions_entered h part commits session t k c p v m n has there at put old = record {
+  held = λ l d version e. elim (pair_updated m n k c (made p t v) put l d) [
+    | inl here ↦
+        let same : made p t v ≡ version = same_Some _ _ (sym here.2 ∙ e) in
+        subst (λ (w : Version). Committed h w.found.from d × IsWritten (part ++ Write session t k v ∷ []) l w) same (
+          subst (λ (a : ℕ). Committed h t a) (sym here.1) (has.held t c there),
+          subst (λ (a : ℕ). IsWritten (part ++ Write session t k v ∷ []) a (made p t v)) (sym here.0) (entered_written part session t k p v at (writes_itself session t k v)),
+        )
+    | inr other ↦
+        let was = old.held l d version (sym other.1 ∙ e) in
+        let not_here : written_by version.found.from l (Write session t k v) ≡ None = wrote_or_none version.found.from l (Write session t k v) _ (λ none. none) (λ w some.
+        let is = written_is version.found.from l (Write session t k v) w some in
+        let same = one_writer session t k v is.0 version.found.from l w is.1 in
+        absurd (other.0 (sym same.1) (one_of_commits h commits t c d has there (subst (λ (a : ℕ). Committed h a d) (sym same.0) was.0)))) in
+        (was.0, write_stays part (Write session t k v) version.found.from l version.found.value version.place not_here was.1)
+  ];
+  whole = λ u d l w committed wrote. elim (pair_updated m n k c (made p t v) put l d) [
+    | inl here ↦ some_is _ _ here.2
+    | inr other ↦
+        let not_here : written_by u l (Write session t k v) ≡ None = wrote_or_none u l (Write session t k v) _ (λ none. none) (λ z some.
+        let is = written_is u l (Write session t k v) z some in
+        let same = one_writer session t k v is.0 u l z is.1 in
+        absurd (other.0 (sym same.1) (one_of_commits h commits t c d has there (subst (λ (a : ℕ). Committed h a d) (sym same.0) committed)))) in
+        subst (λ (o : Option Version). IsSome o) (sym other.1) (old.whole u d l w committed (sym (last_write_stays part (Write session t k v) u l not_here) ∙ wrote))
+  ];
+}
+
+pub commits_empty : (m : BTreeMap ℕ ℕ) → IsEmpty m → HasCommits [] m
+unfolding ◌∈◌
+commits_empty m empty = record {
+  held = λ t c e. let none : get nat_cmp m t ≡ None = rw empty refl in let clash : None ≡ Some c = sym none ∙ e in absurd (cc);
+  whole = λ t c there. absurd there;
+}
+
+pub versions_empty : (h : List Item) (m : BTreeMap (ℕ × ℕ) Version) → IsEmpty m → HasVersions h [] m
+unfolding last_write
+versions_empty h m empty = record {
+  held = λ k c version e. let none : get pair_cmp m (k, c) ≡ None = rw empty refl in let clash : None ≡ Some version = sym none ∙ e in absurd (cc);
+  whole = λ t c k v committed wrote. absurd (cc);
+}
+
+none_some : {X : Type 0} (o : Option X) → o ≡ None → IsSome o → ⊥
+none_some o none some = cc
+
+pair_below : (k c s : ℕ) → c < s → pair_cmp (k, c) (k, s) ≡ Less
+pair_below k c s less = grind (arith, nat_tests)
+
+-- with no version below the place nothing is visible
+pub none_below : (h : List Item) (s k : ℕ) (m : BTreeMap (ℕ × ℕ) Version) → HasVersions h h m → ((q : ℕ × ℕ) → IsInRange pair_cmp Unbounded (Excluded (k, s)) q → get pair_cmp m q ≡ None) → Visible h s k None
+none_below h s k m has none = λ t c candidate. none_some _ (none (k, c) (tt, pair_below k c s candidate.below)) (has.whole t c k candidate.wrote.0 candidate.committed candidate.wrote.1)
+
+-- the greatest entry below the place, by key and commit
+pub record IsLastBelow (m : BTreeMap (ℕ × ℕ) Version) (s k l c : ℕ) (version : Version) : Type 0 where
+  pub there : get pair_cmp m (l, c) ≡ Some version
+  pub below : pair_cmp (l, c) (k, s) ≡ Less
+  pub last : (q : ℕ × ℕ) → pair_cmp q (k, s) ≡ Less → IsSome (get pair_cmp m q) → is_lt (pair_cmp (l, c) q) ≡ false
+
+commit_below : (k c s : ℕ) → pair_cmp (k, c) (k, s) ≡ Less → c < s
+commit_below k c s e = grind (arith, nat_tests, e)
+
+not_above : (k c d : ℕ) → is_lt (pair_cmp (k, c) (k, d)) ≡ false → d ≤ c
+not_above k c d e = grind (arith, nat_tests, e)
+
+-- where it is of the key, it is the newest
+pub last_newest : (h : List Item) (s k l c : ℕ) (version : Version) (m : BTreeMap (ℕ × ℕ) Version) → HasVersions h h m → IsLastBelow m s k l c version → l ≡ k → Newest h s k version.found × IsWritten h k version
+last_newest h s k l c version m has is same =
+    let at : IsLastBelow m s k k c version = subst (λ (a : ℕ). IsLastBelow m s k a c version) same is in
+    let was = has.held k c version at.there in
+    let value = last_write_at h version.found.from k version.found.value version.place was.1 in (
+      record {
+        commit = c;
+        candidate = record { committed = was.0; below = commit_below k c s at.below; wrote = (version.found.value, value) };
+        value = value;
+        greatest = λ t d candidate. not_above k c d (at.last (k, d) (pair_below k d s candidate.below) (has.whole t d k candidate.wrote.0 candidate.committed candidate.wrote.1));
+      },
+      was.1,
+    )
+
+lesser_key : (l c k s d : ℕ) → (l ≡ k → ⊥) → pair_cmp (l, c) (k, s) ≡ Less → is_lt (pair_cmp (l, c) (k, d)) ≡ false → ⊥
+lesser_key l c k s d other less e = grind (arith, nat_tests, less, e)
+
+-- where it is of another key, nothing is visible
+pub last_other : (h : List Item) (s k l c : ℕ) (version : Version) (m : BTreeMap (ℕ × ℕ) Version) → HasVersions h h m → IsLastBelow m s k l c version → (l ≡ k → ⊥) → Visible h s k None
+last_other h s k l c version m has is other = λ t d candidate.
+    lesser_key l c k s d other is.below (is.last (k, d) (pair_below k d s candidate.below) (has.whole t d k candidate.wrote.0 candidate.committed candidate.wrote.1))
+
+-- with no items there is no last write
+pub writes_empty : (m : BTreeMap (ℕ × ℕ) Version) → IsEmpty m → HasLastWrites [] m
+unfolding last_write
+writes_empty m empty = λ t k. rw empty refl
+
+own_stays : (part : List Item) (x : Item) (t k : ℕ) (own : Option Version) → written_by t k x ≡ None → IsOwn part t k own → IsOwn (part ++ x ∷ []) t k own
+own_stays part x t k None none old = last_write_stays part x t k none ∙ old
+own_stays part x t k (Some version) none old =
+    (old.0, write_stays part x version.found.from k version.found.value version.place (ap (λ n. written_by n k x) old.0 ∙ none) old.1)
+
+-- an item that writes nothing leaves the last writes
+pub writes_skip : (part : List Item) (x : Item) (m : BTreeMap (ℕ × ℕ) Version) → ((t k : ℕ) (v : List ℕ) → written_by t k x ≡ Some v → ⊥) → HasLastWrites part m → HasLastWrites (part ++ x ∷ []) m
+writes_skip part x m none old = λ t k. own_stays part x t k _ (wrote_or_none t k x _ (λ n. n) (λ v some. absurd (none t k v some))) (old t k)
+
+-- a write is its transaction's last at its key
+pub writes_entered : (part : List Item) (session t k p : ℕ) (v : List ℕ) (m n : BTreeMap (ℕ × ℕ) Version) → length part ≡ p → Updates pair_cmp m n (t, k) (Some (record { place = p; found = record { from = t; value = v } })) → HasLastWrites part m → HasLastWrites (part ++ Write session t k v ∷ []) n
+unfolding made
+writes_entered part session t k p v m n at put old = λ u l. elim (pair_updated m n t k (made p t v) put u l) [
+  | inl here ↦ subst (λ (o : Option Version). IsOwn (part ++ Write session t k v ∷ []) u l o) (sym here.2)
+      (sym here.0, subst (λ (a : ℕ). IsWritten (part ++ Write session t k v ∷ []) a (made p t v)) (sym here.1) (entered_written part session t k p v at (writes_itself session t k v)))
+  | inr other ↦ subst (λ (o : Option Version). IsOwn (part ++ Write session t k v ∷ []) u l o) (sym other.1)
+      (own_stays part (Write session t k v) u l _ (wrote_or_none u l (Write session t k v) _ (λ none. none) (λ z some.
+      let is = written_is u l (Write session t k v) z some in
+      let same = one_writer session t k v is.0 u l z is.1 in
+      absurd (other.0 (sym same.0) (sym same.1)))) (old u l))
+]
+
+-- an answer that is wrong by the own write is wrong
+pub own_wrong : (h : List Item) (i s k : ℕ) (answer : Option Found) (own : Version) (second : Option ℕ) → IsOwn (take i h) s k (Some own) → IsWrong h i own.found.from k answer (Some own.found.value) second → IsWrong h i s k answer (last_write (take i h) s k) second
+own_wrong h i s k answer own second is wrong =
+    let value : last_write (take i h) s k ≡ Some own.found.value = subst (λ (n : ℕ). last_write (take i h) n k ≡ Some own.found.value) is.0 (last_write_at (take i h) own.found.from k own.found.value own.place is.1) in
+    subst (λ (o : Option (List ℕ)). IsWrong h i s k answer o second) (sym value)
+    (subst (λ (n : ℕ). IsWrong h i n k answer (Some own.found.value) second) is.0 wrong)

@@ -1,0 +1,13 @@
+use Rattle.std.proofs.Common.{◌∷◌, ◌++◌, [], sym, subst}
+use Rattle.history_book.specs.declared.item.Item.{Item}
+use Rattle.si_judge.specs.Indexed.{HasLastWrites}
+use Rattle.si_judge.proofs.IndexLemmas.{writes_skip, no_write_skips, writes_entered}
+use Rattle.si_judge.proofs.writes.LastWrites.pass.Goals as goal
+
+pub returns-in_default : goal.returns-in_default
+returns-in_default c = λ part at old. writes_skip part c.args.item.now c.args.self.now.versions (no_write_skips c.args.item.now (λ session u l w e. c.in_default.not-Write session u l w e)) old
+
+pub returns : goal.returns
+returns c = λ part at old.
+    subst (λ (x : Item). HasLastWrites (part ++ x ∷ []) c.insert.new.self) (sym c.in-Write.is)
+    (writes_entered part c.in-Write.session c.in-Write.start c.in-Write.key c.args.place c.in-Write.value c.args.self.now.versions c.insert.new.self at c.in_ok-insert.ensures.updates old)

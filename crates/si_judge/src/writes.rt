@@ -1,0 +1,57 @@
+// The last write of each transaction at each key, as a walk passes the items.
+ghost use Rattle.std.specs.Prelude.{◌≡◌, ◌∷◌, ◌++◌, [], List, length, OnOk};
+ghost use Rattle.history_book.specs.declared.item.Item.{Item};
+ghost use Rattle.si_judge.specs.Indexed.{HasLastWrites, IsOwn};
+
+use crate::version::Version;
+use history_book::{Found, Item};
+use stamp_base::{KeyNo, NoMemory, Stamp};
+use std::alloc::Global;
+use std::collections::BTreeMap;
+
+/// The last write of each transaction at each key, of the items passed so far.
+#[derive(Drop)]
+pub struct LastWrites {
+    versions: BTreeMap<(Stamp, KeyNo), Version>,
+}
+
+impl LastWrites {
+    /// Of no items.
+    pub fn new(alloc: Global) -> LastWrites
+        ensures { HasLastWrites [] result.versions }
+    {
+        LastWrites {
+            versions: BTreeMap::new(alloc),
+        }
+    }
+
+    /// Passes the item, which stands at the place.
+    pub fn pass(&mut self, place: usize, item: &Item) -> Result<(), NoMemory>
+        ensures { OnOk result ((part : List Item) → length part ≡ place →
+            HasLastWrites part self.old.versions → HasLastWrites (part ++ item.now ∷ []) self.new.versions) }
+    {
+        let Item::Write {
+            start,
+            key,
+            value,
+            ..
+        } = item
+        else {
+            return Ok(());
+        };
+        let found = Found {
+            from: *start,
+            value: *value,
+        };
+        self.versions
+            .insert((*start, *key), Version { place, found })?;
+        Ok(())
+    }
+
+    /// The transaction's last write at the key.
+    pub fn last(&self, start: Stamp, key: KeyNo) -> Option<Version>
+        ensures { (part : List Item) → HasLastWrites part self.now.versions → IsOwn part start key result }
+    {
+        self.versions.get(&(start, key)).copied()
+    }
+}
