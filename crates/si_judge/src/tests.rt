@@ -2,6 +2,9 @@
 ghost use Rattle.std.specs.Prelude.{◌<◌};
 
 use super::*;
+use crate::ask_index::start_suspects;
+use crate::marks::Marks;
+use crate::stamp_index::stamp_suspects;
 use history_book::read_item;
 use std::process::Abort;
 use std::test::Fail;
@@ -376,6 +379,21 @@ fn assert_long(
     Ok(())
 }
 
+fn is_unmarked(marks: &[bool]) -> bool {
+    marks.iter().all(|mark| !*mark)
+}
+
+// The indices take their memory, and suspect no place of an isolated history.
+fn assert_unsuspected(rt: &impl Abort, alloc: Global, items: &[Item]) -> Result<(), Fail> {
+    let stamps = stamp_suspects(alloc, items)?;
+    assert!(rt; is_unmarked(&stamps));
+    let starts = start_suspects(alloc, items)?;
+    assert!(rt; is_unmarked(&starts));
+    let marks = Marks::new(alloc, items.len())?;
+    assert!(rt; is_unmarked(&marks.each));
+    Ok(())
+}
+
 // 9,000 items. The last two transactions end with the items 8997 and 9000, at the commits 29985 and 29995.
 #[test]
 fn long(rt: HostRuntime) -> Result<(), Fail> {
@@ -384,6 +402,7 @@ fn long(rt: HostRuntime) -> Result<(), Fail> {
         add_transaction(rt.alloc(), &mut items, number)?;
     }
     assert_long(&rt, rt.alloc(), &items, Verdict::Isolated, &[])?;
+    assert_unsuspected(&rt, rt.alloc(), &items)?;
     let table: &[(Rule, usize, usize, &[&str])] = &[
         (Rule::Stamped, 8997, 9001, &["begin s1 start=29985"]),
         (
