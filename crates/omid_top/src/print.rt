@@ -42,11 +42,7 @@ pub fn print_usage<K: Sink>(sink: &mut K) -> Result<(), Failed>
 }
 
 /// Writes the first bad line of a script and its first cause.
-pub fn print_bad_line<K: Sink>(
-    sink: &mut K,
-    number: u64,
-    cause: ScriptCause,
-) -> Result<(), Failed>
+pub fn print_bad_line<K: Sink>(sink: &mut K, number: u64, cause: ScriptCause) -> Result<(), Failed>
     ensures all { OnOk result (Gains (K.held sink.old) (K.held sink.new) (bad_line_text (record { line = number; cause = cause }))) }
     ensures front { OnErr result (GainsFront (K.held sink.old) (K.held sink.new) (bad_line_text (record { line = number; cause = cause }))) }
     ensures failed { OnErr result (Risen (K.faults sink.old) (K.faults sink.new)) }
