@@ -1,7 +1,7 @@
 -- Each line of a script is answered by the first item of its event.
-use Rattle.std.proofs.Common.{◌≡◌, ℕ, ◌+◌, ◌==◌, Bool, true, false, cond, if◌then◌else◌, List, [], ◌∷◌, ◌++◌, append_assoc, Option, Some, None, ◌⊎◌, inl, inr, refl, sym, subst, ap, ◌∙◌, slice_get, filter}
+use Rattle.std.proofs.Common.{◌≡◌, ℕ, Bool, true, false, List, [], ◌∷◌, ◌++◌, append_assoc, Option, Some, None, ◌⊎◌, inl, inr, refl, sym, subst, ap, ◌∙◌, slice_get, filter}
 use Rattle.std.specs.List.{flat_map}
-use Rattle.std.proofs.lemmas.Bool.{cases_Bool, eq-eqb, true≢false}
+use Rattle.std.proofs.lemmas.Bool.{eq-eqb, true≢false}
 use Rattle.std.proofs.lemmas.Option.{none-some, same_Some}
 use Rattle.std.proofs.lemmas.List.{append-nil}
 use Rattle.history_book.specs.declared.item.Actor.{Actor}
@@ -22,7 +22,7 @@ use Rattle.session_script.specs.declared.script.Verb.{Verb}
 use Rattle.session_script.specs.declared.script.Verb.TheVariants as verb
 use Rattle.session_script.specs.Script.{ScriptData}
 use Rattle.omid_top.specs.Replay.{line_events, events_of, replayed, target_node}
-use Rattle.omid_top.specs.Answers.{opener, Opens, IsOpeningOf, IsRefusalOf, IsAnswer, Answered, same_actor, has_opening, is_of, Answers}
+use Rattle.omid_top.specs.Answers.{opener, Opens, IsOpeningOf, IsRefusalOf, Answered, same_actor, has_opening, is_of, Answers}
 
 -- none of the items opens a line
 abbrev pub AreQuiet : List Item → Type 0

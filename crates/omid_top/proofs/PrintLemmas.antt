@@ -1,7 +1,7 @@
 -- A history that goes out line by line.
-use Rattle.std.proofs.Common.{◌≡◌, ℕ, ◌+◌, ◌≤◌, ◌<◌, List, [], ◌∷◌, ◌++◌, append_assoc, Option, Some, None, take, drop, length, get_or, refl, sym, ap, ◌∙◌, subst, arith, add-one}
+use Rattle.std.proofs.Common.{◌≡◌, ℕ, ◌+◌, ◌≤◌, ◌<◌, List, ◌∷◌, ◌++◌, append_assoc, Option, Some, None, take, drop, length, get_or, refl, sym, ap, ◌∙◌, subst, add-one}
 use Rattle.std.proofs.Math.Seq.{drop-cons, take-append-add}
-use Rattle.std.proofs.lemmas.List.{take-append-drop, take-append-le, append-nil}
+use Rattle.std.proofs.lemmas.List.{take-append-drop, take-append-le}
 use Rattle.std.proofs.lemmas.List.Concat.{flat_map-append}
 use Rattle.history_book.specs.declared.item.Item.{Item}
 use Rattle.history_book.specs.Text.{text_of, printed}

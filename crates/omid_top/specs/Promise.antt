@@ -1,9 +1,9 @@
 -- What is promised of the history of a script.
-use Rattle.std.specs.Prelude.{ℕ, ◌≤◌, List, Option, IfSome, Result, Ok, Err, take}
+use Rattle.std.specs.Prelude.{ℕ, List, Option, take}
 use Rattle.history_book.specs.Isolation.{Isolated}
 use Rattle.protocol.specs.Explained.{Explained}
 use Rattle.port_io.specs.Ports.{Gains}
-use Rattle.session_script.specs.Script.{ScriptData, BadLine}
+use Rattle.session_script.specs.Script.{ScriptData}
 use Rattle.omid_top.specs.Replay.{replayed}
 use Rattle.omid_top.specs.Answers.{Answers}
 

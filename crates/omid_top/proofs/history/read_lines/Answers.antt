@@ -1,4 +1,4 @@
-use Rattle.std.proofs.Common.{◌+◌, ◌∙◌, [], map, arith}
+use Rattle.std.proofs.Common.{◌∙◌, [], map, arith}
 use Rattle.history_book.specs.Text.{body_of}
 use Rattle.omid_top.specs.History.{lines_of, IsFaultOf}
 use Rattle.omid_top.proofs.HistoryLemmas.{bad_line, next_line, none_bad_more, passed_on, told_all, told_more}
