@@ -3,9 +3,9 @@ use Rattle.std.specs.Prelude.{◌≡◌, ◌≢◌, ℕ, List, [], ◌∷◌, �
 use Rattle.history_book.specs.declared.item.Item.{Item}
 use Rattle.history_book.specs.Isolation.{Isolated}
 use Rattle.port_io.specs.Ports.{Gains}
-use Rattle.si_judge.specs.declared.verdict.Rule.{Rule}
-use Rattle.si_judge.specs.declared.verdict.Rule.TheVariants as rule
-use Rattle.si_judge.specs.Judged.{IsFirstBroken}
+use Rattle.isolation_rules.specs.declared.verdict.Rule.{Rule}
+use Rattle.isolation_rules.specs.declared.verdict.Rule.TheVariants as rule
+use Rattle.isolation_rules.specs.Judged.{IsFirstBroken}
 use Rattle.omid_top.specs.declared.report.Report.{Report}
 use Rattle.omid_top.specs.declared.report.Report.TheVariants as report
 use Rattle.omid_top.specs.History.{AreItems, IsFirstBad}

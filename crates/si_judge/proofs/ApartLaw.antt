@@ -6,8 +6,8 @@ use Rattle.history_book.specs.Isolation.{Apart}
 use Rattle.history_book.specs.declared.item.Item.{Item}
 use Rattle.history_book.specs.declared.item.Item.TheVariants.{Placed}
 use Rattle.history_book.proofs.MemberLemmas.{in_at}
-use Rattle.si_judge.specs.ApartPairs.{ShareKey, Overlap, OverlapsPlaced, Overlapping, BreaksApart}
-use Rattle.si_judge.proofs.PlaceLemmas.{some_and, and_some, place_of}
+use Rattle.isolation_rules.specs.ApartPairs.{ShareKey, Overlap, OverlapsPlaced, Overlapping, BreaksApart}
+use Rattle.isolation_rules.proofs.PlaceLemmas.{some_and, and_some, place_of}
 
 placed_apart : (h : List Item) → Apart h → (i j t c : ℕ) (y : Item) → slice_get h i ≡ Some (Placed t c) → slice_get h j ≡ Some y → OverlapsPlaced h t c y → ⊥
 placed_apart h apart i j t c (Placed u d) ex ey o =

@@ -7,12 +7,12 @@ use Rattle.std.proofs.Math.ListN.{set}
 use Rattle.history_book.specs.Isolation.{has_ask, before_ask, asks}
 use Rattle.history_book.specs.declared.item.Item.{Item}
 use Rattle.history_book.specs.declared.item.Item.TheVariants.{AskBegin, Begin, Placed}
-use Rattle.si_judge.specs.declared.verdict.Rule.TheVariants as rule
-use Rattle.si_judge.specs.FreshPairs.{ask_place, IsStaleAt, IsStale}
+use Rattle.isolation_rules.specs.declared.verdict.Rule.TheVariants as rule
+use Rattle.isolation_rules.specs.FreshPairs.{ask_place, IsStaleAt, IsStale}
+use Rattle.isolation_rules.specs.Judged.{Passes}
+use Rattle.isolation_rules.proofs.PlaceLemmas.{one_at, both_at, and_some, length_take_within}
+use Rattle.isolation_rules.proofs.AskLemmas.{before_no_ask, ask_within}
 use Rattle.si_judge.specs.AskStarts.{IsNotAbove, IsBelow, IsLastAsk, AreLastAsks, HoldsStart, HasStarts}
-use Rattle.si_judge.specs.Judged.{Passes}
-use Rattle.si_judge.proofs.PlaceLemmas.{one_at, both_at, and_some, length_take_within}
-use Rattle.si_judge.proofs.AskLemmas.{before_no_ask, ask_within}
 
 -- at no place the new start is above the old one
 pub record FallsOnly (old new : List (Option ℕ)) : Type 0 where

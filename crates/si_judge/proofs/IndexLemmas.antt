@@ -1,5 +1,5 @@
 -- The ordered maps of an indexed walk, after one more item, and what they are asked.
-use Rattle.std.proofs.Common.{◌≡◌, ◌≤◌, ◌<◌, ◌==◌, ◌&&◌, ℕ, Bool, true, false, cond, List, [], ◌∷◌, ◌++◌, Option, Some, None, IsSome, is_some, length, take, ◌⊎◌, inl, inr, refl, sym, ap, subst, ◌∙◌, arith}
+use Rattle.std.proofs.Common.{◌≡◌, ◌≤◌, ◌<◌, ◌==◌, ◌&&◌, ℕ, Bool, true, false, cond, List, [], ◌∷◌, ◌++◌, Option, Some, None, IsSome, is_some, length, ◌⊎◌, inl, inr, refl, sym, ap, subst, ◌∙◌, arith}
 use Rattle.std.specs.Ordering.{nat_cmp, is_lt}
 use Rattle.std.specs.declared.ops.Bound.TheVariants.{Excluded, Unbounded}
 use Rattle.std.specs.BTreeMap.Range.{IsInRange}
@@ -10,14 +10,13 @@ use Rattle.std.proofs.lemmas.Bool.Decides.{nat_tests}
 use Rattle.std.proofs.lemmas.Option.{same_Some}
 use Rattle.history_book.specs.Members.{◌∈◌}
 use Rattle.history_book.specs.Isolation.{last_write, written_by, Committed, NewStamps, Visible, Newest}
-use Rattle.history_book.specs.declared.item.Found.{Found}
 use Rattle.history_book.specs.declared.item.Item.{Item}
 use Rattle.history_book.specs.declared.item.Item.TheVariants.{Placed, Write}
 use Rattle.history_book.proofs.MemberLemmas.{in_front, in_last, in_push, in_old}
-use Rattle.si_judge.specs.declared.version.Version.{Version}
-use Rattle.si_judge.specs.Best.{IsWritten, IsWrong}
-use Rattle.si_judge.specs.Indexed.{pair_cmp, HasCommits, HasVersions, IsOwn, HasLastWrites}
-use Rattle.si_judge.proofs.WriteLemmas.{last_write_at}
+use Rattle.isolation_rules.specs.declared.version.Version.{Version}
+use Rattle.isolation_rules.specs.Best.{IsOwn, IsWritten}
+use Rattle.isolation_rules.proofs.WriteLemmas.{last_write_at}
+use Rattle.si_judge.specs.Indexed.{pair_cmp, HasCommits, HasVersions, HasLastWrites}
 use Rattle.si_judge.proofs.PushLemmas.{write_here, write_stays, last_write_stays, written_is, wrote_or_none}
 
 -- what a map has at a number after an entry
@@ -254,10 +253,3 @@ writes_entered part session t k p v m n at put old = λ u l. elim (pair_updated 
       let same = one_writer session t k v is.0 u l z is.1 in
       absurd (other.0 (sym same.0) (sym same.1)))) (old u l))
 ]
-
--- an answer that is wrong by the own write is wrong
-pub own_wrong : (h : List Item) (i s k : ℕ) (answer : Option Found) (own : Version) (second : Option ℕ) → IsOwn (take i h) s k (Some own) → IsWrong h i own.found.from k answer (Some own.found.value) second → IsWrong h i s k answer (last_write (take i h) s k) second
-own_wrong h i s k answer own second is wrong =
-    let value : last_write (take i h) s k ≡ Some own.found.value = subst (λ (n : ℕ). last_write (take i h) n k ≡ Some own.found.value) is.0 (last_write_at (take i h) own.found.from k own.found.value own.place is.1) in
-    subst (λ (o : Option (List ℕ)). IsWrong h i s k answer o second) (sym value)
-    (subst (λ (n : ℕ). IsWrong h i n k answer (Some own.found.value) second) is.0 wrong)

@@ -1,16 +1,7 @@
-pub mod AskLemmas
-pub mod KeyLemmas
-pub mod PlaceLemmas
-pub mod StampedLaw
 pub mod ApartLaw
-pub mod FreshLaw
-pub mod WriteLemmas
-pub mod BestLemmas
-pub mod ReadLemmas
 pub mod PushLemmas
 pub mod IndexLemmas
 pub mod ListedLemmas
-pub mod WalkLemmas
 pub mod VerdictLemmas
 pub mod SuspectLemmas
 pub mod StampIndexLemmas

@@ -7,7 +7,7 @@ use Rattle.std.specs.BTreeSet.{BTreeSet, contains, Updates}
 use Rattle.std.proofs.lemmas.Bool.Decides.{nat_tests}
 use Rattle.std.proofs.lemmas.List.Folds.{list_any-append}
 use Rattle.history_book.specs.declared.item.Item.{Item}
-use Rattle.si_judge.specs.Best.{lists}
+use Rattle.isolation_rules.specs.Best.{lists}
 use Rattle.si_judge.specs.Indexed.{HasListed}
 
 or_false : (a : Bool) → (a || false) ≡ a

@@ -15,16 +15,16 @@ use Rattle.history_book.specs.Members.{◌∈◌}
 use Rattle.history_book.specs.Isolation.{Stamped, Wrote}
 use Rattle.history_book.specs.declared.item.Item.{Item}
 use Rattle.history_book.specs.declared.item.Item.TheVariants.{Placed, Write}
+use Rattle.isolation_rules.specs.declared.verdict.Rule.TheVariants as rule
+use Rattle.isolation_rules.specs.ApartPairs.{OverlapsPlaced, Overlapping, writes}
+use Rattle.isolation_rules.specs.Judged.{Passes}
+use Rattle.isolation_rules.proofs.KeyLemmas.{any_writes, and_parts}
+use Rattle.isolation_rules.proofs.PlaceLemmas.{both_at, in_take}
 use Rattle.si_judge.specs.declared.marks.Marks.{Marks}
 use Rattle.si_judge.specs.declared.overlap_index.Commit.{Commit}
-use Rattle.si_judge.specs.declared.verdict.Rule.TheVariants as rule
-use Rattle.si_judge.specs.ApartPairs.{OverlapsPlaced, Overlapping, writes}
-use Rattle.si_judge.specs.Judged.{Passes}
 use Rattle.si_judge.specs.Marks.{IsMarked, KeepsMarks}
 use Rattle.si_judge.specs.Indexed.{pair_cmp}
 use Rattle.si_judge.specs.OverlapIndex.{Commits, Written, commit_at, NotesCommit, HasCommits, HasWrite, HasWrites, KeepsWrites, MarksOverlaps, MarksAll}
-use Rattle.si_judge.proofs.KeyLemmas.{any_writes, and_parts}
-use Rattle.si_judge.proofs.PlaceLemmas.{both_at, in_take}
 
 -- ---- the commits
 off_at : (t u : ℕ) → u ≢ t → is_at (nat_cmp t) u ≡ false

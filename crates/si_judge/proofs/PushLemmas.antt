@@ -7,8 +7,8 @@ use Rattle.history_book.specs.Isolation.{last_write, written_by}
 use Rattle.history_book.specs.declared.item.Item.{Item}
 use Rattle.history_book.specs.declared.item.Item.TheVariants.{Write}
 use Rattle.history_book.proofs.HistoryLemmas.{last_write-push}
-use Rattle.si_judge.specs.ReadPairs.{written_at, IsLastWrite}
-use Rattle.si_judge.proofs.ReadLemmas.{written_within}
+use Rattle.isolation_rules.specs.ReadPairs.{written_at, IsLastWrite}
+use Rattle.isolation_rules.proofs.ReadLemmas.{written_within}
 
 -- the items passed so far, and the next one
 pub one_more : (xs : List Item) (i : ℕ) (x : Item) → i < length xs → x ≡ get_or xs i x → take i xs ++ x ∷ [] ≡ take (i + 1) xs

@@ -6,13 +6,13 @@ use Rattle.std.specs.Ordering.{nat_cmp}
 use Rattle.std.specs.BTreeSet.{BTreeSet, contains}
 use Rattle.history_book.specs.declared.item.Item.{Item}
 use Rattle.history_book.specs.declared.item.Item.TheVariants.{Begin, Placed}
-use Rattle.si_judge.specs.declared.verdict.Rule.TheVariants as rule
+use Rattle.isolation_rules.specs.declared.verdict.Rule.TheVariants as rule
+use Rattle.isolation_rules.specs.StampedPairs.{start_meets, placed_meets, stamps_meet, commits_too_low}
+use Rattle.isolation_rules.specs.Judged.{Passes}
+use Rattle.isolation_rules.proofs.PlaceLemmas.{one_at, both_at}
 use Rattle.si_judge.specs.declared.stamp_index.Stamps.{Stamps}
-use Rattle.si_judge.specs.StampedPairs.{start_meets, placed_meets, stamps_meet, commits_too_low}
 use Rattle.si_judge.specs.StampSets.{Has}
 use Rattle.si_judge.specs.StampIndex.{HasStamps, KeepsStamps, IsClear}
-use Rattle.si_judge.specs.Judged.{Passes}
-use Rattle.si_judge.proofs.PlaceLemmas.{one_at, both_at}
 
 -- a stamp that a set lacks is none that it has
 stamps_differ : (stamps : BTreeSet ℕ) (t u : ℕ) → contains nat_cmp stamps t ≡ false → Has stamps u → (t == u) ≡ false

@@ -4,8 +4,8 @@ use Rattle.std.proofs.lemmas.Bool.{cases_eq}
 use Rattle.std.proofs.lemmas.List.{get_or-set_same, get_or-set_other}
 use Rattle.std.proofs.Math.ListN.{set}
 use Rattle.history_book.specs.declared.item.Item.{Item}
-use Rattle.si_judge.specs.declared.verdict.Rule.{Rule}
-use Rattle.si_judge.specs.Judged.{Passes}
+use Rattle.isolation_rules.specs.declared.verdict.Rule.{Rule}
+use Rattle.isolation_rules.specs.Judged.{Passes}
 
 -- each place that is not marked passes
 pub record ArePassed (rule : Rule) (h : List Item) (marks : List Bool) : Type 0 where

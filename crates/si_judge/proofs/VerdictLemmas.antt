@@ -4,17 +4,17 @@ use Rattle.std.proofs.lemmas.Option.{slice_get_within}
 use Rattle.history_book.specs.Members.{AtEach}
 use Rattle.history_book.specs.Isolation.{RightRead, Isolated}
 use Rattle.history_book.specs.declared.item.Item.{Item}
-use Rattle.si_judge.specs.declared.verdict.Rule.{Rule}
-use Rattle.si_judge.specs.declared.verdict.Rule.TheVariants as rule
-use Rattle.si_judge.specs.declared.verdict.Verdict.{Verdict}
-use Rattle.si_judge.specs.declared.verdict.Verdict.TheVariants as verdict
-use Rattle.si_judge.specs.ReadPairs.{AnswersAt, BreaksRead}
-use Rattle.si_judge.specs.Judged.{IsKept, IsEarlierKept, IsJudged, AllRight, turn}
-use Rattle.si_judge.proofs.PlaceLemmas.{one_at}
-use Rattle.si_judge.proofs.StampedLaw.{stamped_kept, kept_stamped}
+use Rattle.isolation_rules.specs.declared.verdict.Rule.{Rule}
+use Rattle.isolation_rules.specs.declared.verdict.Rule.TheVariants as rule
+use Rattle.isolation_rules.specs.declared.verdict.Verdict.{Verdict}
+use Rattle.isolation_rules.specs.declared.verdict.Verdict.TheVariants as verdict
+use Rattle.isolation_rules.specs.ReadPairs.{AnswersAt, BreaksRead}
+use Rattle.isolation_rules.specs.Judged.{IsKept, IsEarlierKept, IsJudged, AllRight, turn}
+use Rattle.isolation_rules.proofs.PlaceLemmas.{one_at}
+use Rattle.isolation_rules.proofs.StampedLaw.{stamped_kept, kept_stamped}
+use Rattle.isolation_rules.proofs.FreshLaw.{fresh_kept, kept_fresh}
+use Rattle.isolation_rules.proofs.WalkLemmas.{all_kept}
 use Rattle.si_judge.proofs.ApartLaw.{apart_kept, kept_apart}
-use Rattle.si_judge.proofs.FreshLaw.{fresh_kept, kept_fresh}
-use Rattle.si_judge.proofs.WalkLemmas.{all_kept}
 
 pub before_stamped : (h : List Item) → IsEarlierKept rule.Stamped h
 before_stamped h = λ other less. absurd (omega (arith, less))

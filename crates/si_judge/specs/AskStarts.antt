@@ -3,7 +3,7 @@ use Rattle.std.specs.Prelude.{◌≡◌, ℕ, ◌<◌, ◌≤◌, true, false, L
 use Rattle.history_book.specs.Isolation.{has_ask, before_ask}
 use Rattle.history_book.specs.declared.item.Item.{Item}
 use Rattle.history_book.specs.declared.item.Item.TheVariants.{Begin, Placed}
-use Rattle.si_judge.specs.FreshPairs.{ask_place}
+use Rattle.isolation_rules.specs.FreshPairs.{ask_place}
 
 -- the bound is there, and not above the stamp
 abbrev pub IsNotAbove : Option ℕ → ℕ → Type 0

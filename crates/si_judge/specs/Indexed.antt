@@ -1,14 +1,14 @@
 -- What the ordered maps of an indexed walk hold.
-use Rattle.std.specs.Prelude.{◌≡◌, ℕ, List, Option, None, Some, IsSome}
+use Rattle.std.specs.Prelude.{◌≡◌, ℕ, List, Some, IsSome}
 use Rattle.std.specs.Ordering.{nat_cmp, ordering_then}
 use Rattle.std.specs.declared.cmp.Ordering.{Ordering}
 use Rattle.std.specs.BTreeMap.{BTreeMap, get}
 use Rattle.std.specs.BTreeSet.{BTreeSet, contains}
 use Rattle.std.specs.List.{list_any}
-use Rattle.history_book.specs.Isolation.{last_write, Committed, Wrote}
+use Rattle.history_book.specs.Isolation.{Committed, Wrote}
 use Rattle.history_book.specs.declared.item.Item.{Item}
-use Rattle.si_judge.specs.declared.version.Version.{Version}
-use Rattle.si_judge.specs.Best.{IsWritten, lists}
+use Rattle.isolation_rules.specs.declared.version.Version.{Version}
+use Rattle.isolation_rules.specs.Best.{IsOwn, IsWritten, lists}
 
 -- pairs of numbers in order of the first, then of the second
 abbrev pub pair_cmp : ℕ × ℕ → ℕ × ℕ → Ordering
@@ -24,11 +24,6 @@ pub record HasCommits (h : List Item) (commits : BTreeMap ℕ ℕ) : Type 0 wher
 pub record HasVersions (h part : List Item) (versions : BTreeMap (ℕ × ℕ) Version) : Type 0 where
   pub held : (k c : ℕ) (version : Version) → get pair_cmp versions (k, c) ≡ Some version → Committed h version.found.from c × IsWritten part k version
   pub whole : (t c k : ℕ) (value : List ℕ) → Committed h t c → Wrote part t k value → IsSome (get pair_cmp versions (k, c))
-
--- the last write of t at k, where there is one
-abbrev pub IsOwn : List Item → ℕ → ℕ → Option Version → Type 0
-IsOwn part t k None = last_write part t k ≡ None
-IsOwn part t k (Some version) = (version.found.from ≡ t) × IsWritten part k version
 
 -- the map has, by transaction and key, each transaction's last write at each key
 abbrev pub HasLastWrites : List Item → BTreeMap (ℕ × ℕ) Version → Type 0

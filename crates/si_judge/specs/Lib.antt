@@ -1,10 +1,4 @@
-pub mod StampedPairs
-pub mod ApartPairs
-pub mod FreshPairs
-pub mod ReadPairs
-pub mod Best
 pub mod Indexed
-pub mod Judged
 pub mod Suspects
 pub mod Marks
 pub mod OverlapIndex
@@ -13,3 +7,4 @@ pub mod StampIndex
 pub mod AskStarts
 pub mod AskIndex
 pub use Rattle.history_book.specs.Isolation.{Isolated}
+pub use Rattle.isolation_rules.specs.Judged.{IsFirstBroken, IsJudged}

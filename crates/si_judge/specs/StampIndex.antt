@@ -2,9 +2,9 @@
 use Rattle.std.specs.Prelude.{◌≡◌, false}
 use Rattle.history_book.specs.declared.item.Item.{Item}
 use Rattle.history_book.specs.declared.item.Item.TheVariants.{Begin, Placed}
+use Rattle.isolation_rules.specs.StampedPairs.{commits_too_low, stamps_meet}
 use Rattle.si_judge.specs.declared.stamp_index.Stamps.{Stamps}
 use Rattle.si_judge.specs.StampSets.{Has, HasAll}
-use Rattle.si_judge.specs.StampedPairs.{commits_too_low, stamps_meet}
 
 -- the index has the item's stamps
 abbrev pub HasStamps : Stamps → Item → Type 0

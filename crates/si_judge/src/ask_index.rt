@@ -3,8 +3,8 @@ ghost use Rattle.std.specs.Prelude.{◌≡◌, ◌<◌, ◌+◌, ℕ, false, len
 ghost use Rattle.si_judge.specs.AskStarts.{HasStarts, IsBelow, IsNotAbove};
 ghost use Rattle.si_judge.specs.Suspects.{AreSuspects};
 
-use crate::verdict::Rule;
 use history_book::Item;
+use isolation_rules::Rule;
 use stamp_base::{NoMemory, SessionNo, Stamp};
 use std::alloc::Global;
 

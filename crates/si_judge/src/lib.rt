@@ -3,35 +3,26 @@
 
 ghost use Rattle.std.specs.Prelude.{◌≡◌, ◌<◌, length, IfOk, Ok};
 ghost use Rattle.history_book.specs.Isolation.{Isolated};
-ghost use Rattle.si_judge.specs.Judged.{AllRight, IsEarlierKept, IsJudged, IsKept, IsLeastPair};
+ghost use Rattle.isolation_rules.specs.Judged.{AllRight, IsEarlierKept, IsJudged, IsKept, IsLeastPair};
 
-mod apart;
 mod ask_index;
-mod fresh;
 mod listed;
 mod marks;
 mod overlap_index;
-mod read;
 mod reads;
 mod search;
 mod stamp_index;
-mod stamped;
 #[cfg(test)]
 mod tests;
-mod verdict;
-mod version;
 mod versions;
-mod views;
-mod visible;
-mod walk;
 mod writes;
 
 use history_book::Item;
+use isolation_rules::Pair;
+pub use isolation_rules::{Rule, Verdict};
 use search::first_pair;
 use stamp_base::NoMemory;
 use std::alloc::Global;
-pub use verdict::{Rule, Verdict};
-use walk::Pair;
 
 /// Judges the items of a finished history. Broken names the first rule that is broken, and of the pairs
 /// of items that break it the one with the least first number and then the least second; items are

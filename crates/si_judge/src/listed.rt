@@ -2,7 +2,7 @@
 ghost use Rattle.std.specs.Prelude.{◌≡◌, ◌==◌, ◌∷◌, ◌++◌, [], ℕ, List, false, Decides, OnOk, MatchOption};
 ghost use Rattle.history_book.specs.declared.item.Item.{Item};
 ghost use Rattle.history_book.specs.Isolation as isolation;
-ghost use Rattle.si_judge.specs.Best.{lists, lists_keys};
+ghost use Rattle.isolation_rules.specs.Best.{lists, lists_keys};
 ghost use Rattle.si_judge.specs.Indexed.{HasListed};
 
 use history_book::{Item, StoreStep};

@@ -6,8 +6,8 @@ ghost use Rattle.si_judge.specs.OverlapIndex.{HasCommits, HasWrite, HasWrites, K
 ghost use Rattle.si_judge.specs.Suspects.{AreSuspects};
 
 use crate::marks::Marks;
-use crate::verdict::Rule;
 use history_book::Item;
+use isolation_rules::Rule;
 use stamp_base::{KeyNo, NoMemory, Stamp};
 use std::alloc::Global;
 use std::collections::BTreeMap;

@@ -1,18 +1,14 @@
 // The rule on reads over a whole history, by an index of its versions.
 ghost use Rattle.std.specs.Prelude.{◌≡◌, ◌<◌, ℕ, length, take, IfOk, IfSome, MatchOption};
 ghost use Rattle.history_book.specs.Isolation as isolation;
+ghost use Rattle.isolation_rules.specs.Judged.{IsLeastPair, IsSecond, Passes};
 ghost use Rattle.si_judge.specs.Indexed.{HasLastWrites, HasListed, HasVersions};
-ghost use Rattle.si_judge.specs.Judged.{IsLeastPair, IsSecond, Passes};
 
 use crate::listed::Listed;
-use crate::read::second_by_views;
-use crate::verdict::Rule;
-use crate::version::Version;
 use crate::versions::VersionIndex;
-use crate::views::Views;
-use crate::walk::Pair;
 use crate::writes::LastWrites;
 use history_book::Item;
+use isolation_rules::{Pair, Rule, Version, Views, second_by_views};
 use stamp_base::{KeyNo, NoMemory, Stamp, TxnId};
 use std::alloc::Global;
 

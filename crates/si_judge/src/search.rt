@@ -1,15 +1,14 @@
 // The search for the first pair of items that breaks a rule.
 ghost use Rattle.std.specs.Prelude.{◌≡◌, ◌<◌, ℕ, length, IfOk, IfSome, MatchOption};
-ghost use Rattle.si_judge.specs.Judged.{IsLeastPair, IsSecond, Passes, Premise};
+ghost use Rattle.isolation_rules.specs.Judged.{IsLeastPair, IsSecond, Passes, Premise};
 ghost use Rattle.si_judge.specs.Suspects.{AreSuspects};
 
 use crate::ask_index::start_suspects;
 use crate::overlap_index::overlap_suspects;
 use crate::reads::first_wrong_read;
 use crate::stamp_index::stamp_suspects;
-use crate::verdict::Rule;
-use crate::walk::{Pair, plain_pair, second_of};
 use history_book::Item;
+use isolation_rules::{Pair, Rule, plain_pair, second_of};
 use stamp_base::NoMemory;
 use std::alloc::Global;
 

@@ -3,8 +3,8 @@ ghost use Rattle.std.specs.Prelude.{◌≡◌, false, IfOk, OnOk};
 ghost use Rattle.si_judge.specs.StampSets.{Has, HasAll};
 ghost use Rattle.si_judge.specs.Suspects.{AreSuspects};
 
-use crate::verdict::Rule;
 use history_book::Item;
+use isolation_rules::Rule;
 use stamp_base::{NoMemory, Stamp};
 use std::alloc::Global;
 use std::collections::BTreeSet;

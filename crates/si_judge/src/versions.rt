@@ -2,11 +2,11 @@
 ghost use Rattle.std.specs.Prelude.{◌≡◌, ◌∷◌, ◌++◌, [], List, length, IfOk, OnOk};
 ghost use Rattle.history_book.specs.declared.item.Item.{Item};
 ghost use Rattle.history_book.specs.Isolation as isolation;
-ghost use Rattle.si_judge.specs.Best.{Sees};
+ghost use Rattle.isolation_rules.specs.Best.{Sees};
 ghost use Rattle.si_judge.specs.Indexed.{HasCommits, HasVersions};
 
-use crate::version::Version;
 use history_book::{Found, Item};
+use isolation_rules::Version;
 use stamp_base::{KeyNo, NoMemory, Stamp};
 use std::alloc::Global;
 use std::collections::BTreeMap;

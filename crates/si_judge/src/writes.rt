@@ -1,10 +1,11 @@
 // The last write of each transaction at each key, as a walk passes the items.
 ghost use Rattle.std.specs.Prelude.{◌≡◌, ◌∷◌, ◌++◌, [], List, length, OnOk};
 ghost use Rattle.history_book.specs.declared.item.Item.{Item};
-ghost use Rattle.si_judge.specs.Indexed.{HasLastWrites, IsOwn};
+ghost use Rattle.isolation_rules.specs.Best.{IsOwn};
+ghost use Rattle.si_judge.specs.Indexed.{HasLastWrites};
 
-use crate::version::Version;
 use history_book::{Found, Item};
+use isolation_rules::Version;
 use stamp_base::{KeyNo, NoMemory, Stamp};
 use std::alloc::Global;
 use std::collections::BTreeMap;

@@ -1,4 +1,4 @@
-use Rattle.si_judge.proofs.StampedLaw.{kept_stamped}
+use Rattle.isolation_rules.proofs.StampedLaw.{kept_stamped}
 use Rattle.si_judge.proofs.VerdictLemmas.{before_reads}
 use Rattle.si_judge.proofs.after_apart.Goals as goal
 

@@ -1,5 +1,5 @@
-use Rattle.si_judge.specs.declared.verdict.Rule.TheVariants as rule
-use Rattle.si_judge.proofs.WalkLemmas.{all_kept}
+use Rattle.isolation_rules.specs.declared.verdict.Rule.TheVariants as rule
+use Rattle.isolation_rules.proofs.WalkLemmas.{all_kept}
 use Rattle.si_judge.proofs.VerdictLemmas.{before_fresh, all_isolated}
 use Rattle.si_judge.proofs.after_reads.Goals as goal
 

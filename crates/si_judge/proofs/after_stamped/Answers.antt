@@ -1,7 +1,7 @@
-use Rattle.si_judge.specs.declared.verdict.Rule.TheVariants as rule
-use Rattle.si_judge.proofs.WalkLemmas.{all_kept}
+use Rattle.isolation_rules.specs.declared.verdict.Rule.TheVariants as rule
+use Rattle.isolation_rules.proofs.WalkLemmas.{all_kept}
+use Rattle.isolation_rules.proofs.StampedLaw.{kept_stamped}
 use Rattle.si_judge.proofs.VerdictLemmas.{before_apart}
-use Rattle.si_judge.proofs.StampedLaw.{kept_stamped}
 use Rattle.si_judge.proofs.after_stamped.Goals as goal
 
 pub first_pair-requires : goal.first_pair-requires

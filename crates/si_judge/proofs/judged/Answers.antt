@@ -1,5 +1,5 @@
-use Rattle.si_judge.specs.declared.verdict.Rule.TheVariants as rule
-use Rattle.si_judge.proofs.WalkLemmas.{all_kept}
+use Rattle.isolation_rules.specs.declared.verdict.Rule.TheVariants as rule
+use Rattle.isolation_rules.proofs.WalkLemmas.{all_kept}
 use Rattle.si_judge.proofs.judged.Goals as goal
 
 pub after_stamped-requires : goal.after_stamped-requires

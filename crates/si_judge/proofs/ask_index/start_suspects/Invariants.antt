@@ -1,5 +1,5 @@
 use Rattle.std.proofs.Common.{◌≡◌, length}
-use Rattle.si_judge.specs.declared.verdict.Rule.TheVariants as rule
+use Rattle.isolation_rules.specs.declared.verdict.Rule.TheVariants as rule
 use Rattle.si_judge.proofs.SuspectLemmas.{ArePassed}
 use Rattle.si_judge.proofs.AskIndexLemmas.{KnowsLeast}
 use Rattle.si_judge.proofs.ask_index.start_suspects.Given as goal

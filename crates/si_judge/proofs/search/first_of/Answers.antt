@@ -1,7 +1,7 @@
 use Rattle.std.proofs.Common.{◌≡◌, ℕ, inl, inr, subst, arith}
 use Rattle.std.proofs.lemmas.Bool.{cases_lt}
-use Rattle.si_judge.specs.Judged.{Passes}
-use Rattle.si_judge.proofs.WalkLemmas.{passes_no}
+use Rattle.isolation_rules.specs.Judged.{Passes}
+use Rattle.isolation_rules.proofs.WalkLemmas.{passes_no}
 use Rattle.si_judge.proofs.search.first_of.Goals as goal
 
 pub returns-in-Some-clause-pair : goal.returns-in-Some-clause-pair

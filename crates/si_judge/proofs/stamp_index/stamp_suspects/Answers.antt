@@ -1,7 +1,7 @@
 use Rattle.std.proofs.Common.{◌≡◌, ◌-◌, ◌<◌, ℕ, suc, Some, length, slice_get, refl, subst, ◌∙◌, arith}
 use Rattle.std.proofs.lemmas.Option.{slice_get_read}
 use Rattle.std.proofs.Math.ListN.{length-set}
-use Rattle.si_judge.specs.declared.verdict.Rule.TheVariants as rule
+use Rattle.isolation_rules.specs.declared.verdict.Rule.TheVariants as rule
 use Rattle.si_judge.proofs.SuspectLemmas.{mark_passes}
 use Rattle.si_judge.proofs.StampIndexLemmas.{HasBehind, clear_passes, behind_more}
 use Rattle.si_judge.proofs.stamp_index.stamp_suspects.Goals as goal

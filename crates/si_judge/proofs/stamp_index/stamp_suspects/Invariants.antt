@@ -1,5 +1,5 @@
 use Rattle.std.proofs.Common.{◌≡◌, length}
-use Rattle.si_judge.specs.declared.verdict.Rule.TheVariants as rule
+use Rattle.isolation_rules.specs.declared.verdict.Rule.TheVariants as rule
 use Rattle.si_judge.proofs.SuspectLemmas.{ArePassed}
 use Rattle.si_judge.proofs.StampIndexLemmas.{HasBehind}
 use Rattle.si_judge.proofs.stamp_index.stamp_suspects.Given as goal

@@ -1,5 +1,5 @@
 use Rattle.std.proofs.Common.{sym, ◌∙◌}
-use Rattle.si_judge.proofs.WriteLemmas.{any_listed, listed_any}
+use Rattle.isolation_rules.proofs.WriteLemmas.{any_listed, listed_any}
 use Rattle.si_judge.proofs.listed.Listed.has.Goals as goal
 
 pub returns : goal.returns

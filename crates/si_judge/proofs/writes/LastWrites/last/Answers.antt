@@ -1,6 +1,6 @@
 use Rattle.std.proofs.Common.{Option, sym, subst, ◌∙◌}
-use Rattle.si_judge.specs.declared.version.Version.{Version}
-use Rattle.si_judge.specs.Indexed.{IsOwn}
+use Rattle.isolation_rules.specs.declared.version.Version.{Version}
+use Rattle.isolation_rules.specs.Best.{IsOwn}
 use Rattle.si_judge.proofs.writes.LastWrites.last.Goals as goal
 
 pub returns : goal.returns

@@ -1,0 +1,9 @@
+pub mod AskLemmas
+pub mod KeyLemmas
+pub mod PlaceLemmas
+pub mod StampedLaw
+pub mod FreshLaw
+pub mod WriteLemmas
+pub mod BestLemmas
+pub mod ReadLemmas
+pub mod WalkLemmas

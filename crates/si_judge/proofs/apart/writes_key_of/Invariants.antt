@@ -1,7 +1,0 @@
-use Rattle.std.proofs.Common.{◌≡◌, drop}
-use Rattle.std.specs.List.{list_any}
-use Rattle.si_judge.specs.ApartPairs.{writes_shared}
-use Rattle.si_judge.proofs.apart.writes_key_of.Given as goal
-
-abbrev pub invariant-loop-item : goal.invariant-loop-item
-invariant-loop-item l = list_any (λ x. writes_shared l.items l.start l.other x) (drop l.item-index l.some) ≡ list_any (λ x. writes_shared l.items l.start l.other x) l.some

@@ -1,7 +1,0 @@
-use Rattle.std.proofs.Common.{◌≡◌, drop}
-use Rattle.std.specs.List.{list_any}
-use Rattle.si_judge.specs.ApartPairs.{writes}
-use Rattle.si_judge.proofs.apart.wrote.Given as goal
-
-abbrev pub invariant-loop-item : goal.invariant-loop-item
-invariant-loop-item l = list_any (λ x. writes l.start l.key x) (drop l.item-index l.items) ≡ list_any (λ x. writes l.start l.key x) l.items

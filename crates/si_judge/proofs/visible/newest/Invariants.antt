@@ -1,6 +1,0 @@
-use Rattle.std.proofs.Common.{take}
-use Rattle.si_judge.specs.Best.{BestOf}
-use Rattle.si_judge.proofs.visible.newest.Given as goal
-
-abbrev pub invariant-loop-item : goal.invariant-loop-item
-invariant-loop-item l = BestOf l.items l.start l.key (take l.item-index l.items) l.best

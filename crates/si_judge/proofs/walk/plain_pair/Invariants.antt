@@ -1,6 +1,0 @@
-use Rattle.std.proofs.Common.{◌<◌, ℕ}
-use Rattle.si_judge.specs.Judged.{Passes}
-use Rattle.si_judge.proofs.walk.plain_pair.Given as goal
-
-abbrev pub invariant-loop-first : goal.invariant-loop-first
-invariant-loop-first l = (i : ℕ) → i < l.first → Passes l.rule l.items i
