@@ -1,5 +1,5 @@
 // What a reader sees of the versions of a key.
-ghost use Rattle.std.specs.Prelude.{◌≡◌, ◌∷◌, ◌++◌, [], List, length, Decides, IfSome, option_map, Some};
+ghost use Rattle.std.specs.Prelude.{◌≡◌, ◌∷◌, ◌++◌, [], List, Decides, IfSome, option_map, Some};
 ghost use Rattle.std.specs.List.{list_any};
 ghost use Rattle.history_book.specs.declared.item.Item.{Item};
 ghost use Rattle.history_book.specs.Isolation as isolation;

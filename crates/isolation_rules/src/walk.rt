@@ -1,6 +1,5 @@
 // The walk over pairs of items, rule by rule.
-ghost use Rattle.std.specs.Prelude.{◌≡◌, ◌≢◌, ◌≤◌, ◌<◌, ℕ, length, Decides, IfSome, MatchOption};
-ghost use Rattle.history_book.specs.Isolation as isolation;
+ghost use Rattle.std.specs.Prelude.{◌≢◌, ◌≤◌, ◌<◌, ℕ, length, Decides, IfSome, MatchOption};
 ghost use Rattle.isolation_rules.specs.Judged.{Breaks, IsLeastPair, IsSecond, Passes, Premise};
 
 use crate::apart::breaks_apart;

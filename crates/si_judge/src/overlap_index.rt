@@ -1,6 +1,6 @@
 // An index of the writes of committed transactions, which finds the places where the rule on commits may
 // be broken.
-ghost use Rattle.std.specs.Prelude.{◌≡◌, length, IfOk, OnOk};
+ghost use Rattle.std.specs.Prelude.{length, IfOk, OnOk};
 ghost use Rattle.history_book.specs.Isolation as isolation;
 ghost use Rattle.si_judge.specs.OverlapIndex.{HasCommits, HasWrite, HasWrites, KeepsMarks, KeepsWrites, MarksAll, MarksOverlaps, NotesCommit};
 ghost use Rattle.si_judge.specs.Suspects.{AreSuspects};

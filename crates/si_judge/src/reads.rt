@@ -1,5 +1,5 @@
 // The rule on reads over a whole history, by an index of its versions.
-ghost use Rattle.std.specs.Prelude.{◌≡◌, ◌<◌, ℕ, length, take, IfOk, IfSome, MatchOption};
+ghost use Rattle.std.specs.Prelude.{◌<◌, ℕ, length, take, IfOk, IfSome, MatchOption};
 ghost use Rattle.history_book.specs.Isolation as isolation;
 ghost use Rattle.isolation_rules.specs.Judged.{IsLeastPair, IsSecond, Passes};
 ghost use Rattle.si_judge.specs.Indexed.{HasLastWrites, HasListed, HasVersions};

@@ -1,5 +1,5 @@
 // The search for the first pair of items that breaks a rule.
-ghost use Rattle.std.specs.Prelude.{◌≡◌, ◌<◌, ℕ, length, IfOk, IfSome, MatchOption};
+ghost use Rattle.std.specs.Prelude.{◌<◌, ℕ, length, IfOk, IfSome, MatchOption};
 ghost use Rattle.isolation_rules.specs.Judged.{IsLeastPair, IsSecond, Passes, Premise};
 ghost use Rattle.si_judge.specs.Suspects.{AreSuspects};
 
