@@ -1,5 +1,5 @@
 // Auditing a history: reading it, judging it, and reporting what was found.
-ghost use Rattle.std.specs.Prelude.{◌≡◌, ◌≢◌, ◌≤◌, ◌⊎◌, IfOk, IfSome, List};
+ghost use Rattle.std.specs.Prelude.{◌≡◌, ◌≢◌, ℕ, ◌≤◌, ◌⊎◌, IfOk, IfSome, List};
 ghost use Rattle.port_io.specs.Ports.{Risen, Gains, IsAtEnd};
 ghost use Rattle.history_book.specs.declared.item.Item.{Item};
 ghost use Rattle.omid_top.specs.Promise.{GainsFront};
@@ -67,18 +67,16 @@ fn report_on(alloc: Global, bytes: &[u8]) -> Result<Report, NoMemory>
     ensures { IfOk result (λ report. IsReportOn bytes.now report) }
 {
     match read_history(alloc, bytes) {
-        Ok(items) => judged(alloc, bytes, &items),
+        Ok(items) => judged(alloc, &items),
         Err(HistoryFault::At { line }) => Ok(Report::NotAnItem { line }),
         Err(HistoryFault::NoMemory) => Err(NoMemory),
     }
 }
 
-/// What is found of the items that the bytes are.
-fn judged(alloc: Global, bytes: &[u8], items: &[Item]) -> Result<Report, NoMemory>
-    requires { AreItems bytes.now items.now }
-    ensures { IfOk result (λ report. IsReportOn bytes.now report) }
+/// What is found of items, whichever bytes they are.
+fn judged(alloc: Global, items: &[Item]) -> Result<Report, NoMemory>
+    ensures { IfOk result (λ report. (bytes : List ℕ) → AreItems bytes items.now → IsReportOn bytes report) }
 {
-    let _ = bytes;
     match judge(alloc, items)? {
         Verdict::Isolated => Ok(Report::Isolated { items: items.len() }),
         Verdict::Broken {

@@ -1,12 +1,7 @@
 // What the program says of histories that it audits, byte for byte.
 use crate::calls::answer_of;
 use crate::rows::{PLAIN_HISTORY, ROWS, USAGE};
-use omid_top::{OpenGate, omid};
-use port_io::{MemSink, MemSource};
-use std::alloc::{AllocError, Global};
-use std::sync::Wait;
 use std::test::Fail;
-use std::thread::Threads;
 
 /// A history, what an audit of it must write, and its status.
 struct Audit {
@@ -139,7 +134,7 @@ static AUDITS: [Audit; 20] = [
 #[test]
 fn histories_are_judged(rt: HostRuntime) -> Result<(), Fail> {
     for audit in &AUDITS {
-        let (written, status) = answer_of(&rt, rt.alloc(), &["audit"], audit.history)?;
+        let (written, status) = answer_of(&rt, rt.alloc(), &["audit"], audit.history.as_bytes())?;
         assert_eq!(rt; status, audit.status);
         assert_eq!(rt; written.as_slice(), audit.report.as_bytes());
     }
@@ -174,7 +169,7 @@ const ALMOST: [&str; 21] = [
 #[test]
 fn almost_items_are_none(rt: HostRuntime) -> Result<(), Fail> {
     for line in ALMOST {
-        let (written, status) = answer_of(&rt, rt.alloc(), &["audit"], line)?;
+        let (written, status) = answer_of(&rt, rt.alloc(), &["audit"], line.as_bytes())?;
         assert_eq!(rt; status, 3);
         assert_eq!(rt;
             written.as_slice(),
@@ -188,7 +183,7 @@ fn almost_items_are_none(rt: HostRuntime) -> Result<(), Fail> {
 fn what_is_replayed_is_isolated(rt: HostRuntime) -> Result<(), Fail> {
     for row in &ROWS {
         if row.status == 0 {
-            let (_, status) = answer_of(&rt, rt.alloc(), &["audit"], row.output)?;
+            let (_, status) = answer_of(&rt, rt.alloc(), &["audit"], row.output.as_bytes())?;
             assert_eq!(rt; status, 0);
         }
     }
@@ -197,37 +192,25 @@ fn what_is_replayed_is_isolated(rt: HostRuntime) -> Result<(), Fail> {
 
 #[test]
 fn audit_takes_no_more_words(rt: HostRuntime) -> Result<(), Fail> {
-    let (written, status) = answer_of(&rt, rt.alloc(), &["audit", "now"], PLAIN_HISTORY)?;
+    let (written, status) = answer_of(
+        &rt,
+        rt.alloc(),
+        &["audit", "now"],
+        PLAIN_HISTORY.as_bytes(),
+    )?;
     assert_eq!(rt; status, 2);
     assert_eq!(rt; written.as_slice(), USAGE.as_bytes());
     Ok(())
 }
 
-/// What an audit of so many line feeds writes, and its status.
-fn line_feeds<R: Threads + Wait + Sync>(
-    rt: &R,
-    alloc: Global,
-    count: usize,
-) -> Result<(Vec<u8>, u8), AllocError> {
-    let bytes = vec![in alloc; b'\n'; count]?;
-    let mut words = Vec::new(alloc);
-    words.push("audit".to_string(alloc)?)?;
-    let mut source = MemSource::new(bytes, Vec::new(alloc));
-    let mut sink = match MemSink::open(alloc, 64, Vec::new(alloc)) {
-        Ok(sink) => sink,
-        Err(_) => return Err(AllocError),
-    };
-    let status = omid(rt, alloc, &words, &mut source, &mut sink, &OpenGate);
-    let written = sink.bytes().to_vec(alloc)?;
-    Ok((written, status.code))
-}
-
 #[test]
 fn a_history_has_at_most_16_mib(rt: HostRuntime) -> Result<(), Fail> {
-    let (written, status) = line_feeds(&rt, rt.alloc(), 16_777_216)?;
+    let mut feeds = vec![in rt.alloc(); b'\n'; 16_777_216]?;
+    let (written, status) = answer_of(&rt, rt.alloc(), &["audit"], &feeds)?;
     assert_eq!(rt; status, 0);
     assert_eq!(rt; written.as_slice(), b"isolated items=0\n".as_slice());
-    let (written, status) = line_feeds(&rt, rt.alloc(), 16_777_217)?;
+    feeds.push(b'\n')?;
+    let (written, status) = answer_of(&rt, rt.alloc(), &["audit"], &feeds)?;
     assert_eq!(rt; status, 3);
     assert_eq!(rt;
         written.as_slice(),

@@ -10,13 +10,13 @@ pub fn answer_of<R: Threads + Wait + Sync>(
     rt: &R,
     alloc: Global,
     names: &[&str],
-    input: &str,
+    input: &[u8],
 ) -> Result<(Vec<u8>, u8), AllocError> {
     let mut words = Vec::new(alloc);
     for name in names {
         words.push(name.to_string(alloc)?)?;
     }
-    let bytes = input.as_bytes().to_vec(alloc)?;
+    let bytes = input.to_vec(alloc)?;
     let mut source = MemSource::new(bytes, Vec::new(alloc));
     let mut sink = match MemSink::open(alloc, 4096, Vec::new(alloc)) {
         Ok(sink) => sink,

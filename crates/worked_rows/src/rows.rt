@@ -142,7 +142,7 @@ pub static ROWS: [Row; 18] = [
 #[test]
 fn each_row_is_written(rt: HostRuntime) -> Result<(), Fail> {
     for row in &ROWS {
-        let (written, status) = answer_of(&rt, rt.alloc(), row.words, row.input)?;
+        let (written, status) = answer_of(&rt, rt.alloc(), row.words, row.input.as_bytes())?;
         assert_eq!(rt; status, row.status);
         assert_eq!(rt; written.as_slice(), row.output.as_bytes());
     }
@@ -179,7 +179,7 @@ fn many_keys_history(alloc: Global) -> Result<String, AllocError> {
 #[test]
 fn a_65th_key_is_refused(rt: HostRuntime) -> Result<(), Fail> {
     let script = many_keys(rt.alloc())?;
-    let (written, status) = answer_of(&rt, rt.alloc(), &["replay"], script.as_str())?;
+    let (written, status) = answer_of(&rt, rt.alloc(), &["replay"], script.as_bytes())?;
     assert_eq!(rt; status, 0);
     assert_eq!(rt;
         written.as_slice(),
