@@ -7,8 +7,8 @@ use Rattle.std.specs.Map.{lookup}
 use Rattle.std.proofs.lemmas.Bool.Decides.{nat_tests}
 use Rattle.std.proofs.lemmas.List.{reverse-append, map-append}
 use Rattle.std.proofs.Common.{append_assoc}
-use Rattle.protocol_parts.specs.declared.rows.Cell.{Cell}
-use Rattle.protocol_parts.specs.Rows.{fetched}
+use Rattle.store_parts.specs.declared.rows.Cell.{Cell}
+use Rattle.store_parts.specs.Rows.{fetched}
 use Rattle.cell_store.specs.declared.Kept.{Kept}
 use Rattle.cell_store.specs.Kept.{pair_cmp, rows_of, cell_of_entry}
 use Rattle.cell_store.proofs.HeldRows.{Entries}

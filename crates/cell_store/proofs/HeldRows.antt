@@ -11,8 +11,8 @@ use Rattle.std.proofs.lemmas.Bool.Decides.{nat_tests}
 use Rattle.std.proofs.lemmas.Map.{lookup-none}
 use Rattle.std.proofs.lemmas.Map.Entries.{none_below_head}
 use Rattle.std.proofs.lemmas.Map.Keys.{sorted_tail}
-use Rattle.protocol_parts.specs.declared.rows.Cell.{Cell}
-use Rattle.protocol_parts.specs.Rows.{put_row, looked, with_shadow, without_bare, AreOrdered, IsBelowAll}
+use Rattle.store_parts.specs.declared.rows.Cell.{Cell}
+use Rattle.store_parts.specs.Rows.{put_row, looked, with_shadow, without_bare, AreOrdered, IsBelowAll}
 use Rattle.cell_store.specs.declared.Kept.{Kept}
 use Rattle.cell_store.specs.Kept.{pair_cmp, row_of, rows_of}
 use Rattle.cell_store.proofs.PairOrder.{pair_total, pair_ranked, at_row, at_itself, placed}

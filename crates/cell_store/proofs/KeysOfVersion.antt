@@ -12,7 +12,7 @@ use Rattle.std.specs.Map.{lookup, keys_of}
 use Rattle.std.proofs.lemmas.Bool.Decides.{nat_tests}
 use Rattle.std.proofs.lemmas.Cmp.{nat_cmp_total}
 use Rattle.std.proofs.lemmas.Map.Lookups.{btree_set_from_contains, exact_unsigned}
-use Rattle.protocol_parts.specs.Rows.{keys_of_version}
+use Rattle.store_parts.specs.Rows.{keys_of_version}
 use Rattle.cell_store.specs.Kept.{pair_cmp, rows_of, second_of}
 use Rattle.cell_store.proofs.HeldRows.{Entries}
 use Rattle.cell_store.proofs.PairOrder.{at_row}

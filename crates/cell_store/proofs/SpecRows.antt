@@ -1,8 +1,8 @@
 -- Laws of the rows themselves.
 use Rattle.std.proofs.Common.{◌≡◌, ℕ, List, [], ◌∷◌, None, Some, arith, refl}
 use Rattle.std.proofs.lemmas.Bool.Decides.{nat_tests}
-use Rattle.protocol_parts.specs.declared.rows.Cell.{Cell}
-use Rattle.protocol_parts.specs.Rows.{Row, put_row, looked, without_bare}
+use Rattle.store_parts.specs.declared.rows.Cell.{Cell}
+use Rattle.store_parts.specs.Rows.{Row, put_row, looked, without_bare}
 
 -- a row that is not there is not removed
 pub without_bare_absent : (rs : List Row) (k t : ℕ) → looked rs k t ≡ None → without_bare rs k t ≡ rs

@@ -7,7 +7,7 @@ ghost use Rattle.cell_store.specs.Calls.{put_row, fetched, looked, with_shadow, 
 mod held;
 
 use port_io::{Fate, Store, Weather};
-pub use protocol_parts::{Cell, StoreError, StoreFault};
+pub use store_parts::{Cell, StoreError, StoreFault};
 use stamp_base::{KeyNo, Stamp, Value};
 use std::alloc::Global;
 use std::collections::{BTreeMap, BTreeSet};

@@ -1,1 +1,1 @@
-pub use Rattle.protocol_parts.specs.SessionSteps
+pub use Rattle.client_parts.specs.SessionSteps

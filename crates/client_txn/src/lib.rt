@@ -3,7 +3,7 @@
 
 mod session;
 
-pub use protocol_parts::State;
+pub use client_parts::State;
 pub use session::Session;
 
 #[cfg(test)]

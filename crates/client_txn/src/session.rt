@@ -1,8 +1,8 @@
 ghost use Rattle.std.specs.Prelude.{◌≡◌, MatchResult, None, Some};
-ghost use Rattle.protocol_parts.specs.SessionSteps as step;
+ghost use Rattle.client_parts.specs.SessionSteps as step;
 
 use history_book::Cause;
-use protocol_parts::State;
+use client_parts::State;
 use stamp_base::{KeyList, KeyNo, Stamp};
 use std::marker::Model;
 
@@ -17,7 +17,7 @@ pub struct Session {
 }
 
 impl Model for Session {
-    ghost use Rattle.protocol_parts.specs.SessionSteps.{SessionEntry};
+    ghost use Rattle.client_parts.specs.SessionSteps.{SessionEntry};
 
     ghost Value = { SessionEntry };
 
@@ -25,7 +25,7 @@ impl Model for Session {
 
     ghost inverse = { λ s. record { state = s.state; start = s.start; epoch = s.epoch; keys = s.keys; commit = s.commit } };
 
-    ghost use Rattle.protocol_parts.specs.SessionSteps.{MakesSense};
+    ghost use Rattle.client_parts.specs.SessionSteps.{MakesSense};
 
     ghost invariant = { λ s. MakesSense (record { state = s.state; start = s.start; epoch = s.epoch; keys = s.keys; commit = s.commit }) };
 }

@@ -1,5 +1,5 @@
 ghost use Rattle.std.specs.Prelude.{◌≡◌, ◌≢◌, [], IfOk};
-ghost use Rattle.protocol_parts.specs.declared.session.State.{State};
+ghost use Rattle.client_parts.specs.declared.session.State.{State};
 
 use super::*;
 use history_book::Cause;

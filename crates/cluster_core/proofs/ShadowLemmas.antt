@@ -2,8 +2,8 @@
 use Rattle.std.proofs.Common.{◌≡◌, ℕ, List, [], ◌∷◌, Option, Some, None, inl, inr, refl, sym, subst}
 use Rattle.std.specs.Prelude.{IfSome}
 use Rattle.std.proofs.lemmas.Bool.{cases_Bool}
-use Rattle.protocol_parts.specs.declared.rows.Cell.{Cell}
-use Rattle.protocol_parts.specs.Rows.{Row, is_row, looked, with_shadow}
+use Rattle.store_parts.specs.declared.rows.Cell.{Cell}
+use Rattle.store_parts.specs.Rows.{Row, is_row, looked, with_shadow}
 use Rattle.cluster_core.specs.OpenRows.{IsBare, HasOnly}
 
 -- where one row gets the commit, no row of the version gets another one

@@ -1,6 +1,6 @@
 -- What the cells owe to the transactions that are open.
 use Rattle.std.specs.Prelude.{◌≡◌, ℕ, List, None, Some, IfSome, slice_get}
-use Rattle.protocol_parts.specs.Rows.{Row, looked}
+use Rattle.store_parts.specs.Rows.{Row, looked}
 use Rattle.protocol.specs.State.{State}
 use Rattle.protocol.specs.declared.state.Transaction.{Transaction}
 

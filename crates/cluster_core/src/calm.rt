@@ -1,6 +1,6 @@
 // The calls on the cells while no call fails.
 ghost use Rattle.std.specs.Prelude.{◌≡◌, ℕ, [], slice_get, IfSome, OnOk, OnErr};
-ghost use Rattle.protocol_parts.specs.Rows.{put_row, fetched, looked, with_shadow, without_bare, AreOrdered};
+ghost use Rattle.store_parts.specs.Rows.{put_row, fetched, looked, with_shadow, without_bare, AreOrdered};
 ghost use Rattle.cluster_core.specs.OpenRows.{IsBare, HasOnly};
 
 use cell_store::{Cell, Cells, StoreError};

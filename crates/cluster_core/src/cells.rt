@@ -1,6 +1,6 @@
 // What a commit does to the rows of its transaction, and what a read finds in the cells.
 ghost use Rattle.std.specs.Prelude.{◌≡◌, ℕ};
-ghost use Rattle.protocol_parts.specs.Rows.{fetched};
+ghost use Rattle.store_parts.specs.Rows.{fetched};
 ghost use Rattle.protocol.specs.CommitStep.{all_shadowed, all_erased};
 ghost use Rattle.protocol.specs.ReadStep as read_step;
 ghost use Rattle.cluster_core.specs.OpenRows.{HasOnly};

@@ -1,6 +1,7 @@
 // The worked path of two sessions, a conflict, and versions that a read passes over, as the lines of their histories.
 use super::*;
-use history_book::{Cause, Item, LineBuf, print_item};
+use history_book::{Cause, Item};
+use history_text::{LineBuf, print_item};
 use stamp_base::{KeyNo, NodeNo, SessionNo, Setup, Stamp, Value};
 use std::process::Abort;
 use std::test::Fail;

@@ -11,8 +11,8 @@ use Rattle.std.specs.Map.{lookup}
 use Rattle.std.proofs.lemmas.Bool.Decides.{nat_tests}
 use Rattle.indexmap.specs.IndexMap as held
 use Rattle.indexmap.specs.IndexSet as kept
-use Rattle.stamp_base.specs.declared.steps.Mark.{Mark}
-use Rattle.protocol_parts.specs.Pairs.{Pairs, Places, put_pair, put_over, mark_of, without_committed, removed_from}
+use Rattle.stamp_base.specs.declared.stores.Mark.{Mark}
+use Rattle.store_parts.specs.Pairs.{Pairs, Places, put_pair, put_over, mark_of, without_committed, removed_from}
 
 abbrev pub map_from : List (ℕ × Mark) → Pairs
 map_from es = map_of.from_entries es

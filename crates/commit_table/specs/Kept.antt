@@ -4,7 +4,7 @@ use Rattle.std.specs.FinMap as map_of
 use Rattle.std.specs.FinSet as set_of
 use Rattle.indexmap.specs.IndexMap as held
 use Rattle.indexmap.specs.IndexSet as kept
-use Rattle.protocol_parts.specs.Pairs.{Pairs, Places}
+use Rattle.store_parts.specs.Pairs.{Pairs, Places}
 use Rattle.commit_table.specs.declared.Table.TheInside.{Inside}
 
 abbrev pub pairs_of : Inside → Pairs

@@ -1,7 +1,7 @@
 -- A commit table as contracts see it.
 use Rattle.std.specs.Prelude.{refl}
 use Rattle.std.specs.Coded.{Coded, code_by, coded×}
-use Rattle.protocol_parts.specs.Pairs.{Pairs, Places, pairs_code, places_code}
+use Rattle.store_parts.specs.Pairs.{Pairs, Places, pairs_code, places_code}
 
 -- the marks of the transactions, and the transactions for which a put takes no memory
 pub record SeenTable : Type 0 where

@@ -11,7 +11,7 @@ mod held;
 use held::{place, remove_where_committed};
 use indexmap::{IndexMap, IndexSet};
 use port_io::{Fate, Store, Weather};
-pub use protocol_parts::{Put, StoreError, StoreFault};
+pub use store_parts::{Put, StoreError, StoreFault};
 use stamp_base::{Mark, NoMemory, TxnId};
 use std::alloc::Global;
 use std::marker::Model;

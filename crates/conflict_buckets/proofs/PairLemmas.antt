@@ -3,10 +3,10 @@ use Rattle.std.proofs.Common.{◌≡◌, ℕ, zero, suc, ◌+◌, ◌-◌, ◌<�
 use Rattle.std.proofs.lemmas.Bool.{eq-eqb}
 use Rattle.std.proofs.lemmas.List.{take_rest}
 use Rattle.std.proofs.lemmas.Option.{same_Some}
-use Rattle.protocol_parts.specs.declared.buckets.Recorded.{Recorded}
-use Rattle.protocol_parts.specs.Buckets.{replaced, oldest, without}
-use Rattle.protocol_parts.proofs.BucketPairs.{length-without}
-use Rattle.protocol_parts.proofs.BucketSteps.{oldest-among}
+use Rattle.oracle_parts.specs.declared.buckets.Recorded.{Recorded}
+use Rattle.oracle_parts.specs.Buckets.{replaced, oldest, without}
+use Rattle.oracle_parts.proofs.BucketPairs.{length-without}
+use Rattle.oracle_parts.proofs.BucketSteps.{oldest-among}
 
 pub replaced-found : (pairs : List Recorded) (i : ℕ) (old pair : Recorded) → slice_get pairs i ≡ Some old → old.key ≡ pair.key → take i pairs ++ replaced (drop i pairs) pair ≡ slice_set pairs i pair
 unfolding replaced

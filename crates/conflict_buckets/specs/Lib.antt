@@ -1,2 +1,2 @@
 pub mod Oldest
-pub use Rattle.protocol_parts.specs.Buckets
+pub use Rattle.oracle_parts.specs.Buckets

@@ -1,7 +1,7 @@
 -- How a full bucket makes room.
 use Rattle.std.specs.Prelude.{◌≡◌, ℕ, List, [], ◌∷◌}
-use Rattle.protocol_parts.specs.declared.buckets.Recorded.{Recorded}
-use Rattle.protocol_parts.specs.Buckets.{oldest, without}
+use Rattle.oracle_parts.specs.declared.buckets.Recorded.{Recorded}
+use Rattle.oracle_parts.specs.Buckets.{oldest, without}
 
 -- the oldest pair went out, which had this commit
 abbrev pub ForgetsOldest : List Recorded → List Recorded → ℕ → Type 0

@@ -1,8 +1,8 @@
 ghost use Rattle.std.specs.Prelude.{◌≡◌, ◌≤◌, IfOk};
-ghost use Rattle.protocol_parts.specs.Buckets as memory;
+ghost use Rattle.oracle_parts.specs.Buckets as memory;
 
 use crate::pairs;
-use protocol_parts::{Recorded, Verdict};
+use oracle_parts::{Recorded, Verdict};
 use stamp_base::{KeyNo, NoMemory, Stamp};
 use std::alloc::Global;
 use std::marker::Model;
@@ -17,7 +17,7 @@ pub struct Bucket {
 
 impl Model for Bucket {
     ghost use Rattle.std.specs.Prelude.{◌≤◌, vec_len, vec_capacity};
-    ghost use Rattle.protocol_parts.specs.Buckets.{Bucket as Held};
+    ghost use Rattle.oracle_parts.specs.Buckets.{Bucket as Held};
 
     ghost Value = { Held };
 

@@ -1,8 +1,8 @@
 ghost use Rattle.std.specs.Prelude.{◌≡◌, ◌<◌, ◌≤◌, [], length, IfOk};
-ghost use Rattle.protocol_parts.specs.Buckets as memory;
+ghost use Rattle.oracle_parts.specs.Buckets as memory;
 
 use crate::bucket::Bucket;
-use protocol_parts::{Recorded, Verdict};
+use oracle_parts::{Recorded, Verdict};
 use stamp_base::{KeyList, KeyNo, NoMemory, Stamp};
 use std::alloc::Global;
 use std::marker::Model;
@@ -16,7 +16,7 @@ pub struct Buckets {
 
 impl Model for Buckets {
     ghost use Rattle.std.specs.Prelude.{◌≤◌, List, vec_len};
-    ghost use Rattle.protocol_parts.specs.Buckets.{Bucket as Held};
+    ghost use Rattle.oracle_parts.specs.Buckets.{Bucket as Held};
 
     ghost Value = { List Held };
 
@@ -27,7 +27,7 @@ impl Model for Buckets {
 
 impl Buckets {
     /// Empty buckets. All their memory is taken here.
-    #[tactic(auto, unfolding(protocol_parts::specs::Buckets::record_pairs))]
+    #[tactic(auto, unfolding(oracle_parts::specs::Buckets::record_pairs))]
     pub fn open(alloc: Global, buckets: u64, width: u64) -> Result<Buckets, NoMemory>
         requires count { (1 ≤ buckets) × (buckets ≤ 4096) }
         requires width { (1 ≤ width) × (width ≤ 64) }
@@ -41,7 +41,7 @@ impl Buckets {
     }
 
     /// The first key, in order, that has a kept commit above the start or is hidden from it.
-    #[tactic(auto, unfolding(protocol_parts::specs::Buckets::verdict))]
+    #[tactic(auto, unfolding(oracle_parts::specs::Buckets::verdict))]
     pub fn check(&self, start: Stamp, keys: &KeyList) -> Verdict
         ensures { result ≡ memory.verdict self.now start keys.now }
     {
@@ -56,7 +56,7 @@ impl Buckets {
 
     /// Records the keys, in order, with a commit. Where commits never fall from one call to the next, the last
     /// commit of each key is kept with it or is at most its bucket's water.
-    #[tactic(auto, unfolding(protocol_parts::specs::Buckets::record_pairs))]
+    #[tactic(auto, unfolding(oracle_parts::specs::Buckets::record_pairs))]
     pub fn keep(&mut self, keys: &KeyList, commit: Stamp)
         ensures { self.new ≡ memory.record_pairs self.old (memory.pairs_of keys.now commit) }
     {

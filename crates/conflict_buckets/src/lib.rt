@@ -6,4 +6,4 @@ mod buckets;
 mod pairs;
 
 pub use buckets::Buckets;
-pub use protocol_parts::{Recorded, Verdict};
+pub use oracle_parts::{Recorded, Verdict};

@@ -1,14 +1,14 @@
 // The work on a bucket's pairs. Each walk goes over one bucket at most.
 ghost use Rattle.std.specs.Prelude.{◌≡◌, ◌+◌, ◌<◌, ◌≤◌, length, vec_len, vec_capacity, insert};
-ghost use Rattle.protocol_parts.specs.declared.buckets.Recorded.{Recorded};
-ghost use Rattle.protocol_parts.specs.Buckets as memory;
+ghost use Rattle.oracle_parts.specs.declared.buckets.Recorded.{Recorded};
+ghost use Rattle.oracle_parts.specs.Buckets as memory;
 ghost use Rattle.conflict_buckets.specs.Oldest.{ForgetsOldest};
 
-use protocol_parts::Recorded;
+use oracle_parts::Recorded;
 use stamp_base::{KeyNo, Stamp};
 
 /// The commit that is kept for a key.
-#[tactic(auto, unfolding(protocol_parts::specs::Buckets::kept_commit))]
+#[tactic(auto, unfolding(oracle_parts::specs::Buckets::kept_commit))]
 pub fn kept_commit(kept: &[Recorded], key: KeyNo) -> Option<Stamp>
     ensures { result ≡ memory.kept_commit kept.now key }
 {
@@ -21,7 +21,7 @@ pub fn kept_commit(kept: &[Recorded], key: KeyNo) -> Option<Stamp>
 }
 
 /// Gives a key that is there a new commit.
-#[tactic(auto, unfolding(protocol_parts::specs::Buckets::replaced))]
+#[tactic(auto, unfolding(oracle_parts::specs::Buckets::replaced))]
 pub fn replace(kept: &mut [Recorded], pair: Recorded)
     ensures { kept.new ≡ memory.replaced kept.old pair }
 {
@@ -34,7 +34,7 @@ pub fn replace(kept: &mut [Recorded], pair: Recorded)
 }
 
 /// Adds a pair before those of greater keys. There is room for it.
-#[tactic(auto, unfolding(protocol_parts::specs::Buckets::added))]
+#[tactic(auto, unfolding(oracle_parts::specs::Buckets::added))]
 pub fn add(kept: &mut Vec<Recorded>, pair: Recorded)
     requires { vec_len kept.old < vec_capacity kept.old }
     ensures added { kept.new.items ≡ memory.added kept.old.items pair }
@@ -49,7 +49,7 @@ pub fn add(kept: &mut Vec<Recorded>, pair: Recorded)
 }
 
 /// The number of pairs before the first of a greater key.
-#[tactic(auto, unfolding(protocol_parts::specs::Buckets::added))]
+#[tactic(auto, unfolding(oracle_parts::specs::Buckets::added))]
 fn place_among(kept: &[Recorded], key: KeyNo) -> usize
     ensures within { result ≤ length kept.now }
     ensures place { (pair : Recorded) → pair.key ≡ key → insert kept.now result pair ≡ memory.added kept.now pair }
@@ -63,7 +63,7 @@ fn place_among(kept: &[Recorded], key: KeyNo) -> usize
 }
 
 /// The oldest of some pairs.
-#[tactic(auto, unfolding(protocol_parts::specs::Buckets::oldest))]
+#[tactic(auto, unfolding(oracle_parts::specs::Buckets::oldest))]
 fn oldest(first: Recorded, others: &[Recorded]) -> Recorded
     ensures { result ≡ memory.oldest first others.now }
 {
@@ -85,7 +85,7 @@ fn older(a: Recorded, b: Recorded) -> Recorded
 }
 
 /// Removes the pair of a key.
-#[tactic(auto, unfolding(protocol_parts::specs::Buckets::without))]
+#[tactic(auto, unfolding(oracle_parts::specs::Buckets::without))]
 fn remove(kept: &mut Vec<Recorded>, key: KeyNo)
     ensures removed { kept.new.items ≡ memory.without kept.old.items key }
     ensures capacity { vec_capacity kept.new ≡ vec_capacity kept.old }

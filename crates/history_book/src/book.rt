@@ -82,6 +82,13 @@ impl Book {
         self.spare -= 1;
     }
 
+    /// How many items can be appended without asking for memory.
+    pub fn spare(&self) -> usize
+        ensures { result ≡ self.now.spare }
+    {
+        self.spare
+    }
+
     /// The items, in the order in which they were appended.
     pub fn items(&self) -> &[Item]
         ensures value { result.now ≡ self.now.items }

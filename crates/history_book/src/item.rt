@@ -1,6 +1,5 @@
 use crate::Cause;
-use port_io::Store;
-use stamp_base::{KeyNo, Mark, Name, NodeNo, SessionNo, Stage, Stamp, Term, TxnId, Value};
+use stamp_base::{KeyNo, Mark, Name, NodeNo, SessionNo, Stage, Stamp, Store, Term, TxnId, Value};
 
 /// Who acts.
 #[derive(Clone, Copy, Debug, PartialEq, Eq)]

@@ -1,5 +1,5 @@
 pub mod Stages
-pub use Rattle.protocol_parts.specs.Asks
-pub use Rattle.protocol_parts.specs.Completion
-pub use Rattle.protocol_parts.specs.Resolve
-pub use Rattle.protocol_parts.specs.Sweep
+pub use Rattle.client_parts.specs.Asks
+pub use Rattle.client_parts.specs.Completion
+pub use Rattle.client_parts.specs.Resolve
+pub use Rattle.client_parts.specs.Sweep

@@ -5,7 +5,7 @@
 mod settle;
 mod sweep;
 
-pub use protocol_parts::Outcome;
+pub use client_parts::Outcome;
 pub use settle::Settle;
 pub use sweep::Sweep;
 

@@ -1,9 +1,10 @@
 ghost use Rattle.std.specs.Prelude.{◌≡◌, true, false};
-ghost use Rattle.protocol_parts.specs.Asks.{Fits};
-ghost use Rattle.protocol_parts.specs.Resolve.{settle_open, settle_ask, settle_turn, settle_by, outcome_of};
+ghost use Rattle.client_parts.specs.Asks.{Fits};
+ghost use Rattle.client_parts.specs.Resolve.{settle_open, settle_ask, settle_turn, settle_by, outcome_of};
 
-use protocol_parts::{Outcome, SettlePoint};
-use stamp_base::{Ask, KeyNo, Stamp, Told, TxnId};
+use client_parts::{Outcome, SettlePoint};
+use client_parts::{Ask, Told};
+use stamp_base::{KeyNo, Stamp, TxnId};
 use std::marker::Model;
 
 /// The resolve of one cell: did its writer commit, and when?
@@ -16,7 +17,7 @@ pub struct Settle {
 }
 
 impl Model for Settle {
-    ghost use Rattle.protocol_parts.specs.Resolve.{Settling};
+    ghost use Rattle.client_parts.specs.Resolve.{Settling};
 
     ghost Value = { Settling };
 

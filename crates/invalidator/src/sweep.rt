@@ -1,10 +1,11 @@
 ghost use Rattle.std.specs.Prelude.{◌≡◌, IsTrue};
 ghost use Rattle.std.specs.List.Sorted.{IsStrictlyIncreasing};
-ghost use Rattle.protocol_parts.specs.Sweep.{sweep_open, sweep_ask, sweep_told, sweep_listed, IsListing, is_undecided};
-ghost use Rattle.protocol_parts.specs.Asks.{FitsNext};
+ghost use Rattle.client_parts.specs.Sweep.{sweep_open, sweep_ask, sweep_told, sweep_listed, IsListing, is_undecided};
+ghost use Rattle.client_parts.specs.Asks.{FitsNext};
 
 use shadow_cells::{finish_ask, undo_ask};
-use stamp_base::{Ask, KeyNo, Mark, Told, TxnId};
+use client_parts::{Ask, Told};
+use stamp_base::{KeyNo, Mark, TxnId};
 use std::marker::Model;
 
 /// Where a sweep stands.
@@ -38,7 +39,7 @@ pub struct Sweep {
 }
 
 impl Model for Sweep {
-    ghost use Rattle.protocol_parts.specs.Sweep.{Sweeping};
+    ghost use Rattle.client_parts.specs.Sweep.{Sweeping};
 
     ghost Value = { Sweeping };
 
@@ -111,8 +112,8 @@ impl Sweep {
 }
 
 ghost use Rattle.std.specs.Prelude.{ℕ, drop};
-ghost use Rattle.protocol_parts.specs.Completion.{first_ask};
-ghost use Rattle.protocol_parts.specs.Sweep.{sweep_asks, sweep_after_table, sweep_after_marking};
+ghost use Rattle.client_parts.specs.Completion.{first_ask};
+ghost use Rattle.client_parts.specs.Sweep.{sweep_asks, sweep_after_table, sweep_after_marking};
 ghost use Rattle.invalidator.specs.Stages.{point_of, IsStage};
 
 fn ask_at(txn: TxnId, found: Mark, keys: &[KeyNo], done: usize) -> Option<Ask>

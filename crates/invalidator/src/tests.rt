@@ -2,8 +2,9 @@ ghost use Rattle.std.specs.Prelude.{IsTrue};
 ghost use Rattle.std.specs.List.Sorted.{IsStrictlyIncreasing};
 
 use super::*;
-use protocol_parts::fits;
-use stamp_base::{Ask, KeyNo, Stamp, Told};
+use client_parts::fits;
+use client_parts::{Ask, Told};
+use stamp_base::{KeyNo, Stamp};
 use std::alloc::Global;
 use std::test::Fail;
 

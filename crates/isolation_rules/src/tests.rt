@@ -1,6 +1,7 @@
 // The least pair that the plain walk finds, on histories whose places are found by hand.
 use super::*;
-use history_book::{Item, read_item};
+use history_book::Item;
+use history_text::read_item;
 use std::alloc::Global;
 use std::process::Abort;
 use std::test::Fail;

@@ -5,7 +5,7 @@ ghost use Rattle.std.specs.Prelude.{◌≡◌, ◌≤◌, ◌<◌, ◌+◌, ◌^
 ghost use Rattle.master_record.specs.Calls.{MasterRecord, Leasing, free_record, take_refused, granted, taken, renew_refused, renewed_until, renewed, extend_refused, extended, unless_some, answered, AsksOnce, fated, Counts, Risen};
 
 use port_io::{Fate, Store, Weather};
-pub use protocol_parts::{ExtendRefused, Grant, RenewRefused, TakeRefused};
+pub use store_parts::{ExtendRefused, Grant, RenewRefused, TakeRefused};
 use stamp_base::{NodeNo, Term};
 use std::marker::Model;
 

@@ -4,7 +4,7 @@ use Rattle.std.proofs.Math.Seq.{drop-cons, take-append-add}
 use Rattle.std.proofs.lemmas.List.{take-append-drop, take-append-le}
 use Rattle.std.proofs.lemmas.List.Concat.{flat_map-append}
 use Rattle.history_book.specs.declared.item.Item.{Item}
-use Rattle.history_book.specs.Text.{text_of, printed}
+use Rattle.history_text.specs.Text.{text_of, printed}
 use Rattle.port_io.specs.Ports.{Gains}
 use Rattle.omid_top.specs.Promise.{GainsFront}
 

@@ -4,15 +4,16 @@ use Rattle.std.specs.Prelude.{slice_get, IfSome, IsSomeAnd}
 use Rattle.std.specs.List.{All}
 use Rattle.std.proofs.lemmas.List.Elements.{All-head, All-tail}
 use Rattle.std.proofs.lemmas.List.{append-nil}
+use Rattle.stamp_base.specs.declared.limits.TheConstants.{BYTE_LIMIT}
 use Rattle.port_io.specs.Ports.{Gives, IsAtEnd}
 use Rattle.history_book.specs.declared.item.Item.{Item}
-use Rattle.history_book.specs.Fits.{FitsItem}
+use Rattle.history_text.specs.Fits.{FitsItem}
 use Rattle.history_book.specs.Isolation.{Isolated}
-use Rattle.history_book.specs.Text.{body_of}
-use Rattle.history_book.proofs.RoundTrip.{one_text}
+use Rattle.history_text.specs.Text.{body_of}
+use Rattle.history_text.proofs.RoundTrip.{one_text}
 use Rattle.omid_top.specs.declared.report.Report.{Report}
 use Rattle.omid_top.specs.declared.report.Report.TheVariants as report
-use Rattle.omid_top.specs.History.{AreItems, IsNoItem, IsFirstBad, lines_of, says_something}
+use Rattle.history_text.specs.History.{AreItems, IsNoItem, IsFirstBad, lines_of, says_something}
 use Rattle.omid_top.specs.Audit.{IsReportOn, IsVerdict, report_status, IsFairTo}
 
 head_of : {X : Type 0} (x y : X) (xs ys : List X) → (x ∷ xs) ≡ (y ∷ ys) → x ≡ y
@@ -69,7 +70,7 @@ silent_is_fair items code silent = record {
 }
 
 -- more bytes than a history may have
-pub too_long_is_bad : (bytes : List ℕ) → 16777216 < length bytes → IsFirstBad bytes 0
+pub too_long_is_bad : (bytes : List ℕ) → BYTE_LIMIT < length bytes → IsFirstBad bytes 0
 too_long_is_bad bytes long = record {
   long = λ _. long;
   short = λ counted. absurd (omega (arith, counted));
@@ -93,6 +94,6 @@ of_all_left old None bytes P given ended holds = rw given tt
 of_all_left old (Some rest) bytes P given ended holds = rw (given, ended, append-nil bytes) holds
 
 -- bytes that were left are reported as too many
-pub of_too_many : (left : Option (List ℕ)) (P : List ℕ → Type 0) → ((bytes : List ℕ) → IsReportOn bytes (report.NotAnItem 0) → P bytes) → IfSome left (λ bytes. 16777216 < length bytes) → IfSome left P
+pub of_too_many : (left : Option (List ℕ)) (P : List ℕ → Type 0) → ((bytes : List ℕ) → IsReportOn bytes (report.NotAnItem 0) → P bytes) → IfSome left (λ bytes. BYTE_LIMIT < length bytes) → IfSome left P
 of_too_many None P holds long = tt
 of_too_many (Some bytes) P holds long = holds bytes (too_long_is_bad bytes long)

@@ -1,6 +1,6 @@
 -- The texts that the program writes besides histories, and the words that it knows.
 use Rattle.std.specs.Prelude.{◌≡◌, ℕ, List, [], ◌∷◌, ◌++◌, ◌⊎◌, Result, Ok, Err, codes, decimal}
-use Rattle.history_book.specs.Text.{printed}
+use Rattle.history_text.specs.Text.{printed}
 use Rattle.session_script.specs.Causes.{cause_text}
 use Rattle.session_script.specs.Script.{ScriptData, BadLine}
 use Rattle.omid_top.specs.Replay.{replayed}

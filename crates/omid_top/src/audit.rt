@@ -3,10 +3,9 @@ ghost use Rattle.std.specs.Prelude.{◌≡◌, ◌≢◌, ℕ, ◌≤◌, ◌⊎
 ghost use Rattle.port_io.specs.Ports.{Risen, Gains, IsAtEnd};
 ghost use Rattle.history_book.specs.declared.item.Item.{Item};
 ghost use Rattle.omid_top.specs.Promise.{GainsFront};
-ghost use Rattle.omid_top.specs.History.{AreItems};
+ghost use Rattle.history_text.specs.History.{AreItems};
 ghost use Rattle.omid_top.specs.Audit.{IsReportOn, IsVerdict, Reported, ReportedFront, IsFairTo, report_status, report_text};
 
-use crate::history::{BYTE_LIMIT, HistoryFault, read_history};
 use crate::report::Report;
 use crate::{Status, print};
 use history_book::Item;

@@ -4,13 +4,13 @@
 ghost use Rattle.std.specs.Prelude.{◌≡◌, ◌≢◌, ℕ, ◌≤◌, ◌⊎◌, List, IfSome, IsErr, IsErrAnd, IsOkAnd, map, string_bytes};
 ghost use Rattle.port_io.specs.Ports.{Risen, Gains, IsAtEnd};
 ghost use Rattle.history_book.specs.declared.item.Item.{Item};
-ghost use Rattle.history_book.specs.Text.{printed};
+ghost use Rattle.history_text.specs.Text.{printed};
 ghost use Rattle.session_script.specs.Script.{script_of};
 ghost use Rattle.session_script.specs.declared.script.Mode.TheVariants.{Replay};
 ghost use Rattle.omid_top.specs.Replay.{replayed};
 ghost use Rattle.omid_top.specs.Texts.{IsReplay, IsAudit, IsKnown, usage_text, bad_line_text, replay_text};
 ghost use Rattle.omid_top.specs.Promise.{KeepsPromise, GainsFront};
-ghost use Rattle.omid_top.specs.History.{AreItems};
+ghost use Rattle.history_text.specs.History.{AreItems};
 ghost use Rattle.omid_top.specs.Audit.{IsVerdict, Reported, ReportedFront, IsFairTo};
 
 pub use session_script as script;

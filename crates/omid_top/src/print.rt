@@ -1,7 +1,7 @@
 // Writing texts and histories. It takes no memory.
 ghost use Rattle.std.specs.Prelude.{◌≡◌, ◌+◌, ◌≤◌, ◌<◌, ◌^◌, OnOk, OnErr, IfErr, length};
 ghost use Rattle.port_io.specs.Ports.{Risen, Gains};
-ghost use Rattle.history_book.specs.Text.{text_of, printed};
+ghost use Rattle.history_text.specs.Text.{text_of, printed};
 ghost use Rattle.omid_top.specs.Texts.{usage_text, bad_line_text};
 ghost use Rattle.omid_top.specs.Promise.{GainsFront};
 ghost use Rattle.omid_top.specs.Audit.{report_text};
@@ -9,7 +9,8 @@ ghost use Rattle.omid_top.specs.Audit.{report_text};
 use crate::Status;
 use crate::report::Report;
 use crate::script::ScriptCause;
-use history_book::{Item, LineBuf, print_item};
+use history_book::Item;
+use history_text::{LineBuf, print_item};
 use port_io::{Failed, Sink, write_all_of};
 
 /// Writes the items, each by one write of its line.

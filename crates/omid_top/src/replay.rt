@@ -1,7 +1,7 @@
 // Replaying a script: reading it, carrying it out in file order, and writing its history.
 ghost use Rattle.std.specs.Prelude.{◌≡◌, ◌≤◌, ◌⊎◌, IfSome, IsErrAnd, IsOkAnd};
 ghost use Rattle.port_io.specs.Ports.{Risen, Gains, IsAtEnd};
-ghost use Rattle.history_book.specs.Text.{printed};
+ghost use Rattle.history_text.specs.Text.{printed};
 ghost use Rattle.session_script.specs.Script.{script_of, data_of};
 ghost use Rattle.session_script.specs.declared.script.Mode.TheVariants.{Replay};
 ghost use Rattle.omid_top.specs.Replay.{replayed};

@@ -3,7 +3,7 @@ ghost use Rattle.std.specs.Prelude.{◌≡◌, ◌≤◌, length};
 ghost use Rattle.omid_top.specs.Audit.{report_status, report_text, rule_text};
 
 use crate::Status;
-use history_book::LineBuf;
+use history_text::LineBuf;
 use si_judge::Rule;
 
 /// What an audit found.

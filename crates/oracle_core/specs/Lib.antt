@@ -1,2 +1,2 @@
-pub use Rattle.protocol_parts.specs.Instance
-pub use Rattle.protocol_parts.specs.InstanceSteps
+pub use Rattle.oracle_parts.specs.Instance
+pub use Rattle.oracle_parts.specs.InstanceSteps

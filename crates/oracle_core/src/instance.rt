@@ -1,13 +1,14 @@
 ghost use Rattle.std.specs.Prelude.{◌≡◌, ◌≤◌, ◌^◌, IfOk, Ok, None, Some};
-ghost use Rattle.protocol_parts.specs.Instance as entry;
-ghost use Rattle.protocol_parts.specs.InstanceSteps as step;
+ghost use Rattle.oracle_parts.specs.Instance as entry;
+ghost use Rattle.oracle_parts.specs.InstanceSteps as step;
 
 use crate::waiting;
 use conflict_buckets::Buckets;
 use epoch_clock::Range;
 use history_book::Cause;
 use lease_keeper::Lease;
-use protocol_parts::{Decided, Grant, Held, Place, Progress, Reply, Request, Settled, Verdict};
+use oracle_parts::{Decided, Held, Place, Progress, Reply, Request, Settled, Verdict};
+use store_parts::Grant;
 use stamp_base::{NoMemory, NodeNo, SessionNo, Setup, Stamp, Term};
 use std::alloc::Global;
 use std::marker::Model;
@@ -31,7 +32,7 @@ pub struct Instance {
 
 impl Model for Instance {
     ghost use Rattle.std.specs.Prelude.{◌≡◌, vec_len};
-    ghost use Rattle.protocol_parts.specs.Instance.{InstanceEntry};
+    ghost use Rattle.oracle_parts.specs.Instance.{InstanceEntry};
 
     ghost Value = { InstanceEntry };
 

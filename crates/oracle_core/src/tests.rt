@@ -3,7 +3,7 @@ use crate::waiting;
 use history_book::Cause;
 use master_record::Master;
 use port_io::CalmWeather;
-use protocol_parts::{ExtendRefused, Grant, TakeRefused};
+use store_parts::{ExtendRefused, Grant, TakeRefused};
 use stamp_base::{KeyList, KeyNo, NodeNo, SessionNo, Setup, Stamp, Term};
 use std::alloc::Global;
 use std::test::Fail;

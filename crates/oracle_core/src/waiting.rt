@@ -1,8 +1,8 @@
 // What a held request tells by how far it has come.
 ghost use Rattle.std.specs.Prelude.{◌≡◌, ℕ, List};
-ghost use Rattle.protocol_parts.specs.Instance as entry;
+ghost use Rattle.oracle_parts.specs.Instance as entry;
 
-use protocol_parts::{Held, Place, Progress, Request};
+use oracle_parts::{Held, Place, Progress, Request};
 use stamp_base::{SessionNo, Stamp};
 
 pub fn session_of(request: &Request) -> SessionNo
@@ -74,7 +74,7 @@ pub fn unsettled_commit(held: &Held) -> Option<Stamp>
 }
 
 /// The least commit below a start that was drawn and is not settled.
-#[tactic(auto, unfolding(protocol_parts::specs::Instance::least_unsettled))]
+#[tactic(auto, unfolding(oracle_parts::specs::Instance::least_unsettled))]
 pub fn least_unsettled(requests: &[Option<Held>], start: Stamp) -> Option<Stamp>
     ensures { result ≡ entry.least_unsettled requests.now start }
 {

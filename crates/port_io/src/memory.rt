@@ -1,5 +1,5 @@
 // A source and a sink in memory, whose reads and writes fail by number.
-ghost use Rattle.std.specs.Prelude.{◌≡◌, ℕ, ◌+◌, ◌-◌, ◌<◌, ◌≤◌, ◌↔◌, List, [], Option, Some, IfOk, IsErr, IsTrue, OnErr, Contains, length, take, min};
+ghost use Rattle.std.specs.Prelude.{◌≡◌, ℕ, ◌+◌, ◌-◌, ◌<◌, ◌≤◌, ◌↔◌, List, [], Option, Some, IfOk, IsErr, IsTrue, OnErr, OnOk, Contains, length, take, min, ◌⊎◌};
 ghost use Rattle.port_io.specs.Ports.{Risen, Gives, IsAtEnd, Gains};
 ghost use Rattle.port_io.specs.Memory.{SourceState, after_read, after_failed_read, SinkState, after_write, after_failed_write};
 
@@ -56,6 +56,7 @@ impl Source for MemSource {
         ensures end { IfOk result (λ n. n ≡ 0 → 0 < length buf.old → IsAtEnd (Some self.old.left)) }
         ensures untaken { OnErr result (Some self.new.left ≡ Some self.old.left) }
         ensures failed { OnErr result (Risen self.old.faults self.new.faults) }
+        ensures worked { OnOk result (self.new.faults ≡ self.old.faults) }
         ensures no_fall { self.old.faults ≤ self.new.faults }
 
         ensures by_number { IsErr result ↔ Contains self.old.failing (self.old.reads + 1) }
@@ -133,6 +134,7 @@ impl Sink for MemSink {
         ensures nothing { IfOk result (λ n. n ≡ 0 → 0 < length bytes.now → Risen self.old.faults self.new.faults) }
         ensures untaken { OnErr result (Some self.new.held ≡ Some self.old.held) }
         ensures failed { OnErr result (Risen self.old.faults self.new.faults) }
+        ensures worked { IfOk result (λ n. (0 < n) ⊎ (length bytes.now ≡ 0) → self.new.faults ≡ self.old.faults) }
         ensures no_fall { self.old.faults ≤ self.new.faults }
 
         ensures by_number { IsErr result ↔ Contains self.old.failing (self.old.writes + 1) }

@@ -3,6 +3,7 @@ ghost use Rattle.std.specs.Prelude.{◌≡◌, ◌≢◌, ℕ, ◌+◌, ◌-◌,
 ghost use Rattle.port_io.specs.Fates.{Counts};
 ghost use Rattle.port_io.specs.Planned.{PlannedFault, OneEach, planned_fate, one_call_later};
 
+use crate::weather::counted;
 use crate::{Fate, Store, Weather};
 
 /// Faults at calls that were named beforehand, each by its store and its number. Every other call works.
@@ -14,7 +15,7 @@ pub struct PlannedWeather {
 }
 
 impl PlannedWeather {
-    ghost use Rattle.port_io.specs.declared.weather.Store.{Store};
+    ghost use Rattle.stamp_base.specs.declared.stores.Store.{Store};
 
     /// The calls on each store are counted from 1. The call of a number that is named for its store gets that fate.
     pub fn new(faults: Vec<(Store, u64, Fate)>) -> PlannedWeather
@@ -75,15 +76,5 @@ fn moved(fault: (Store, u64, Fate), store: Store) -> (Store, u64, Fate)
         (fault.0, fault.1.saturating_sub(1), fault.2)
     } else {
         fault
-    }
-}
-
-fn counted(faults: u64, fate: Fate) -> u64
-    ensures count { Counts fate faults result }
-    ensures no_fall { faults ≤ result }
-{
-    match fate {
-        Fate::Works => faults,
-        Fate::FailsUnchanged | Fate::FailsApplied => faults.saturating_add(1),
     }
 }

@@ -1,5 +1,5 @@
 // Where bytes go.
-ghost use Rattle.std.specs.Prelude.{◌≡◌, ℕ, ◌<◌, ◌≤◌, List, Option, IfOk, IfErr, OnOk, OnErr, length, take};
+ghost use Rattle.std.specs.Prelude.{◌≡◌, ℕ, ◌<◌, ◌≤◌, List, Option, IfOk, IfErr, OnOk, OnErr, length, take, ◌⊎◌};
 ghost use Rattle.port_io.specs.Ports.{Risen, Gains};
 
 use crate::Failed;
@@ -19,6 +19,7 @@ pub trait Sink {
         ensures nothing { IfOk result (λ n. n ≡ 0 → 0 < length bytes.now → Risen (faults self.old) (faults self.new)) }
         ensures untaken { OnErr result (held self.new ≡ held self.old) }
         ensures failed { OnErr result (Risen (faults self.old) (faults self.new)) }
+        ensures worked { IfOk result (λ n. (0 < n) ⊎ (length bytes.now ≡ 0) → faults self.new ≡ faults self.old) }
         ensures no_fall { faults self.old ≤ faults self.new };
 }
 
@@ -45,6 +46,7 @@ pub fn write_all_of<K: Sink>(sink: &mut K, bytes: &[u8]) -> Result<(), SinkStop>
     ensures unsent { IfErr result (λ stop. stop.sent < length bytes.now) }
     ensures sent { IfErr result (λ stop. Gains (K.held sink.old) (K.held sink.new) (take stop.sent bytes.now)) }
     ensures failed { OnErr result (Risen (K.faults sink.old) (K.faults sink.new)) }
+    ensures worked { OnOk result (K.faults sink.new ≡ K.faults sink.old) }
 
     ensures no_fall { K.faults sink.old ≤ K.faults sink.new }
 {

@@ -21,6 +21,7 @@ pub trait Source {
         ensures end { IfOk result (λ n. n ≡ 0 → 0 < length buf.old → IsAtEnd (left self.old)) }
         ensures untaken { OnErr result (left self.new ≡ left self.old) }
         ensures failed { OnErr result (Risen (faults self.old) (faults self.new)) }
+        ensures worked { OnOk result (faults self.new ≡ faults self.old) }
         ensures no_fall { faults self.old ≤ faults self.new };
 }
 
@@ -60,6 +61,8 @@ pub fn read_up_to<S: Source>(
     ensures too_long { IsErrOf result ReadStop.TooLong → IfSome (S.left source.old) (λ left. limit < length left) }
     ensures long { IfSome (S.left source.old) (λ left. limit < length left → IsErr result) }
     ensures failed { IsErrOf result ReadStop.Failed → Risen (S.faults source.old) (S.faults source.new) }
+    // The count of faults rises with Failed alone.
+    ensures worked { (IsErrOf result ReadStop.Failed → ⊥) → S.faults source.new ≡ S.faults source.old }
 
     ensures given_up { OnErr result (LosesFront (S.left source.old) (S.left source.new)) }
     ensures no_fall { S.faults source.old ≤ S.faults source.new }

@@ -1,13 +1,8 @@
 // What becomes of the calls on the stores.
 ghost use Rattle.std.specs.Prelude.{◌≡◌, ◌≢◌, ℕ, ◌+◌, ◌<◌, ◌≤◌, ◌^◌};
+ghost use Rattle.port_io.specs.Fates.{Counts};
 
-/// The three stores, each with calls of its own to count.
-#[derive(Clone, Copy, Debug, PartialEq, Eq)]
-pub enum Store {
-    Cells,
-    Table,
-    Master,
-}
+use stamp_base::Store;
 
 /// What becomes of one store call. Both failures answer a fault, and only the last keeps what the call
 /// would have changed.
@@ -18,10 +13,28 @@ pub enum Fate {
     FailsApplied,
 }
 
+impl Fate {
+    ghost use Rattle.port_io.specs.Fates.{works, applies};
+
+    /// Whether the call is answered.
+    pub fn works(&self) -> bool
+        ensures { result ≡ works self.now }
+    {
+        matches!(self, Fate::Works)
+    }
+
+    /// Whether the call takes effect.
+    pub fn applies(&self) -> bool
+        ensures { result ≡ applies self.now }
+    {
+        matches!(self, Fate::Works | Fate::FailsApplied)
+    }
+}
+
 /// Which store calls work and which fail. Each store call asks for one fate.
 pub trait Weather {
     ghost use Rattle.port_io.specs.Fates.{Counts};
-    ghost use Rattle.port_io.specs.declared.weather.Store.{Store};
+    ghost use Rattle.stamp_base.specs.declared.stores.Store.{Store};
     ghost use Rattle.port_io.specs.declared.weather.Fate.{Fate};
 
     /// The fate that the n-th further call on the store will get, n being 0 for the next one.
@@ -39,12 +52,50 @@ pub trait Weather {
         ensures no_fall { faults self.old ≤ faults self.new };
 }
 
+/// The weather in which every store call has one fate: that of a call which was asked for it before.
+#[derive(Clone, Copy, Debug, PartialEq, Eq)]
+pub struct OneFate {
+    fate: Fate,
+    faults: u64,
+}
+
+impl OneFate {
+    ghost use Rattle.stamp_base.specs.declared.stores.Store.{Store};
+
+    /// Each call has this fate, and none has failed.
+    pub fn new(fate: Fate) -> OneFate
+        ensures ahead { (store : Store) (n : ℕ) → ⟦<OneFate as Weather>⟧.ahead result store n ≡ fate }
+        ensures faults { ⟦<OneFate as Weather>⟧.faults result ≡ 0 }
+    {
+        OneFate { fate, faults: 0 }
+    }
+}
+
+impl Weather for OneFate {
+    ghost ahead = { λ w _ _. w.fate };
+
+    ghost faults = { λ w. w.faults };
+
+    fn next(&mut self, _: Store) -> Fate {
+        self.faults = counted(self.faults, self.fate);
+        self.fate
+    }
+}
+
+/// The count of faults after a call of this fate.
+pub fn counted(faults: u64, fate: Fate) -> u64
+    ensures count { Counts fate faults result }
+    ensures no_fall { faults ≤ result }
+{
+    if fate.works() { faults } else { faults.saturating_add(1) }
+}
+
 /// The weather in which every store call works.
 #[derive(Clone, Copy, Debug, PartialEq, Eq)]
 pub struct CalmWeather;
 
 impl CalmWeather {
-    ghost use Rattle.port_io.specs.declared.weather.Store.{Store};
+    ghost use Rattle.stamp_base.specs.declared.stores.Store.{Store};
 
     /// No call fails, and none has failed.
     pub fn new() -> CalmWeather

@@ -4,9 +4,9 @@ use Rattle.std.specs.Option.{option_or}
 use Rattle.std.proofs.lemmas.Bool.{cases_eq, cases_lt, eq-eqb, ne_eqb, lt-ltb, le-ltb}
 use Rattle.std.proofs.lemmas.Option.{none-some, same_Some}
 use Rattle.history_book.specs.Members.{◌∈◌}
-use Rattle.protocol_parts.specs.declared.rows.Cell.{Cell}
-use Rattle.protocol_parts.specs.Rows.{Row, looked, with_shadow, without_bare, AreOrdered}
-use Rattle.protocol_parts.proofs.RowLaws.{shadowed, looked-shadow_other, looked-shadow_same, ordered-shadow, looked-without, looked-without_other, ordered-without}
+use Rattle.store_parts.specs.declared.rows.Cell.{Cell}
+use Rattle.store_parts.specs.Rows.{Row, looked, with_shadow, without_bare, AreOrdered}
+use Rattle.store_parts.proofs.RowLaws.{shadowed, looked-shadow_other, looked-shadow_same, ordered-shadow, looked-without, looked-without_other, ordered-without}
 use Rattle.protocol.specs.declared.state.Latest.{Latest}
 use Rattle.protocol.specs.CommitStep.{latest_of, with_latest, all_latest, above, conflict, all_shadowed, all_erased}
 

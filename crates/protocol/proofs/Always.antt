@@ -11,7 +11,7 @@ use Rattle.history_book.specs.declared.item.Actor.TheVariants.{Session}
 use Rattle.history_book.specs.declared.item.Item.{Item}
 use Rattle.history_book.specs.declared.item.Item.TheVariants.{AskCommit, Draw, Placed, Committed, Refused}
 use Rattle.history_book.proofs.MemberLemmas.{in_last}
-use Rattle.protocol_parts.specs.Rows.{looked, AreOrdered}
+use Rattle.store_parts.specs.Rows.{looked, AreOrdered}
 use Rattle.protocol.specs.declared.state.Transaction.{Transaction}
 use Rattle.protocol.specs.declared.state.Latest.{Latest}
 use Rattle.protocol.specs.State.{State, Step, opening}

@@ -6,7 +6,7 @@ use Rattle.history_book.specs.declared.item.Item.{Item}
 use Rattle.history_book.specs.declared.item.Item.TheVariants.{AskBegin, Draw, Begin, Write, Read, Placed}
 use Rattle.history_book.proofs.MemberLemmas.{in_last}
 use Rattle.history_book.proofs.HistoryLemmas.{before_ask-in}
-use Rattle.protocol_parts.specs.Rows.{Row, looked}
+use Rattle.store_parts.specs.Rows.{Row, looked}
 use Rattle.protocol.specs.declared.state.Transaction.{Transaction}
 use Rattle.protocol.specs.State.{State, with_session}
 use Rattle.protocol.specs.BeginStep.{begun}

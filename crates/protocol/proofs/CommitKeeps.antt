@@ -7,9 +7,9 @@ use Rattle.history_book.specs.Isolation.{last_write, Wrote, Committed}
 use Rattle.history_book.specs.declared.item.Item.{Item}
 use Rattle.history_book.specs.declared.item.Item.TheVariants.{Draw, Begin, Placed}
 use Rattle.history_book.proofs.MemberLemmas.{in_front, in_last, AtEach-push}
-use Rattle.protocol_parts.specs.declared.rows.Cell.{Cell}
-use Rattle.protocol_parts.specs.Rows.{looked}
-use Rattle.protocol_parts.proofs.RowLaws.{shadowed}
+use Rattle.store_parts.specs.declared.rows.Cell.{Cell}
+use Rattle.store_parts.specs.Rows.{looked}
+use Rattle.store_parts.proofs.RowLaws.{shadowed}
 use Rattle.protocol.specs.declared.state.Transaction.{Transaction}
 use Rattle.protocol.specs.State.{State, with_session}
 use Rattle.protocol.specs.CommitStep.{all_latest, conflict, all_shadowed, all_erased}

@@ -2,8 +2,8 @@
 use Rattle.std.proofs.Common.{◌≡◌, ℕ, List, Option, Some, None, IfSome, refl, sym, subst, slice_get}
 use Rattle.history_book.specs.Isolation.{last_write}
 use Rattle.history_book.specs.declared.item.Item.{Item}
-use Rattle.protocol_parts.specs.declared.rows.Cell.{Cell}
-use Rattle.protocol_parts.specs.Rows.{looked}
+use Rattle.store_parts.specs.declared.rows.Cell.{Cell}
+use Rattle.store_parts.specs.Rows.{looked}
 use Rattle.protocol.specs.declared.state.Transaction.{Transaction}
 use Rattle.protocol.specs.State.{State}
 use Rattle.protocol.specs.Invariant.{cell_with, Holds}

@@ -4,9 +4,9 @@ use Rattle.std.specs.Option.{option_or}
 use Rattle.std.proofs.lemmas.Bool.{cases_Bool, both_ways, and_parts, eqb-true, eq-eqb, leb-true, le-leb}
 use Rattle.std.proofs.lemmas.Option.{none-some, same_Some}
 use Rattle.history_book.specs.declared.item.Found.{Found}
-use Rattle.protocol_parts.specs.declared.rows.Cell.{Cell}
-use Rattle.protocol_parts.specs.Rows.{Row, cell_of, fetched, looked, IsBelowAll, AreOrdered}
-use Rattle.protocol_parts.proofs.RowLaws.{is_row-cases, looked-here, looked-past, below_none, below_version}
+use Rattle.store_parts.specs.declared.rows.Cell.{Cell}
+use Rattle.store_parts.specs.Rows.{Row, cell_of, fetched, looked, IsBelowAll, AreOrdered}
+use Rattle.store_parts.proofs.RowLaws.{is_row-cases, looked-here, looked-past, below_none, below_version}
 use Rattle.protocol.specs.ReadStep.{answers, answer_of}
 
 -- a cell of the key that may answer a reader with the start

@@ -4,7 +4,7 @@ use Rattle.history_book.specs.Isolation.{written_by, Committed, RightRead, NewSt
 use Rattle.history_book.specs.declared.item.Item.{Item}
 use Rattle.history_book.specs.declared.item.Item.TheVariants.{Begin, Write, Read, Placed}
 use Rattle.history_book.proofs.MemberLemmas.{in_front, in_push, in_old, AtEach-push}
-use Rattle.protocol_parts.specs.Rows.{Row}
+use Rattle.store_parts.specs.Rows.{Row}
 use Rattle.protocol.specs.declared.state.Transaction.{Transaction}
 use Rattle.protocol.specs.declared.state.Latest.{Latest}
 use Rattle.protocol.specs.State.{State}

@@ -7,9 +7,9 @@ use Rattle.history_book.specs.declared.item.Found.{Found}
 use Rattle.history_book.specs.declared.item.Item.{Item}
 use Rattle.history_book.specs.declared.item.Item.TheVariants.{Read, Begin}
 use Rattle.history_book.proofs.MemberLemmas.{in_front, in_old}
-use Rattle.protocol_parts.specs.declared.rows.Cell.{Cell}
-use Rattle.protocol_parts.specs.Rows.{Row, fetched, looked}
-use Rattle.protocol_parts.proofs.RowLaws.{looked-version}
+use Rattle.store_parts.specs.declared.rows.Cell.{Cell}
+use Rattle.store_parts.specs.Rows.{Row, fetched, looked}
+use Rattle.store_parts.proofs.RowLaws.{looked-version}
 use Rattle.protocol.specs.declared.state.Transaction.{Transaction}
 use Rattle.protocol.specs.State.{State}
 use Rattle.protocol.specs.ReadStep.{is_below, answers, answer_of}

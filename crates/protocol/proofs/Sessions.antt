@@ -5,7 +5,7 @@ use Rattle.history_book.specs.Members.{◌∈◌}
 use Rattle.history_book.specs.Isolation.{Committed}
 use Rattle.history_book.specs.declared.item.Item.{Item}
 use Rattle.history_book.specs.declared.item.Item.TheVariants.{Begin}
-use Rattle.protocol_parts.specs.Rows.{Row}
+use Rattle.store_parts.specs.Rows.{Row}
 use Rattle.protocol.specs.declared.state.Transaction.{Transaction}
 use Rattle.protocol.specs.State.{State, with_session}
 use Rattle.protocol.specs.Invariant.{IsOpen, AreOpen, AreKeys, AreOpenCells, Holds}

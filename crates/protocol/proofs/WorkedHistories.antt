@@ -7,7 +7,7 @@ use Rattle.history_book.specs.declared.item.Found.{Found}
 use Rattle.history_book.specs.declared.item.Item.{Item}
 use Rattle.history_book.specs.declared.item.Item.TheVariants.{AskBegin, Begin, Write, Read, Placed}
 use Rattle.history_book.proofs.MemberLemmas.{AtEach-push}
-use Rattle.protocol_parts.specs.Rows.{put_row, with_shadow, without_bare}
+use Rattle.store_parts.specs.Rows.{put_row, with_shadow, without_bare}
 use Rattle.protocol.specs.CommitStep.{latest_of, with_latest, all_latest, conflict, all_shadowed, all_erased}
 use Rattle.protocol.specs.Machine.{items_from, history_after}
 use Rattle.protocol.specs.WorkedHistories.{p, q, conflict_events, conflict_history, both_committed, read_of, from_first, own_write_missed, stale_begin, asked_before, one_commit_of_two, one_start_of_two, start_as_commit}

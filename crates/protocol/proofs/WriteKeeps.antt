@@ -9,9 +9,9 @@ use Rattle.history_book.specs.Isolation.{last_write, Wrote, Committed}
 use Rattle.history_book.specs.declared.item.Item.{Item}
 use Rattle.history_book.specs.declared.item.Item.TheVariants.{Begin, Write}
 use Rattle.history_book.proofs.MemberLemmas.{in_front, in_last, in_push, in_old, AtEach-push}
-use Rattle.protocol_parts.specs.declared.rows.Cell.{Cell}
-use Rattle.protocol_parts.specs.Rows.{Row, looked, put_row}
-use Rattle.protocol_parts.proofs.RowLaws.{looked-put_other, looked-put_same, ordered-put}
+use Rattle.store_parts.specs.declared.rows.Cell.{Cell}
+use Rattle.store_parts.specs.Rows.{Row, looked, put_row}
+use Rattle.store_parts.proofs.RowLaws.{looked-put_other, looked-put_same, ordered-put}
 use Rattle.protocol.specs.declared.state.Transaction.{Transaction}
 use Rattle.protocol.specs.State.{State, with_session}
 use Rattle.protocol.specs.WriteStep.{more_keys, added_key, with_key}

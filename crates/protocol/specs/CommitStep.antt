@@ -6,7 +6,7 @@ use Rattle.history_book.specs.declared.cause.Cause.TheVariants.{NoTransaction, N
 use Rattle.history_book.specs.declared.item.Actor.TheVariants.{Session}
 use Rattle.history_book.specs.declared.item.Ending.TheVariants.{ReadOnly}
 use Rattle.history_book.specs.declared.item.Item.TheVariants.{AskCommit, Draw, Placed, Committed, End, Refused}
-use Rattle.protocol_parts.specs.Rows.{Row, with_shadow, without_bare}
+use Rattle.store_parts.specs.Rows.{Row, with_shadow, without_bare}
 use Rattle.protocol.specs.State.{State, Step, refusal, with_session}
 use Rattle.protocol.specs.BeginStep.{has_oracle}
 use Rattle.protocol.specs.declared.state.Transaction.{Transaction}

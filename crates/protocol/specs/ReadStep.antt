@@ -4,8 +4,8 @@ use Rattle.history_book.specs.declared.cause.Cause.TheVariants.{NoTransaction}
 use Rattle.history_book.specs.declared.item.Actor.TheVariants.{Session}
 use Rattle.history_book.specs.declared.item.Found.{Found}
 use Rattle.history_book.specs.declared.item.Item.TheVariants.{Read}
-use Rattle.protocol_parts.specs.declared.rows.Cell.{Cell}
-use Rattle.protocol_parts.specs.Rows.{fetched}
+use Rattle.store_parts.specs.declared.rows.Cell.{Cell}
+use Rattle.store_parts.specs.Rows.{fetched}
 use Rattle.protocol.specs.State.{State, Step, refusal}
 use Rattle.protocol.specs.declared.state.Transaction.{Transaction}
 

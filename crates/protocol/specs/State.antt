@@ -4,7 +4,7 @@ use Rattle.history_book.specs.declared.cause.Cause.{Cause}
 use Rattle.history_book.specs.declared.item.Actor.{Actor}
 use Rattle.history_book.specs.declared.item.Item.{Item}
 use Rattle.history_book.specs.declared.item.Item.TheVariants.{Refused}
-use Rattle.protocol_parts.specs.Rows.{Row}
+use Rattle.store_parts.specs.Rows.{Row}
 use Rattle.protocol.specs.declared.state.Transaction.{Transaction}
 use Rattle.protocol.specs.declared.state.Latest.{Latest}
 

@@ -4,7 +4,7 @@ use Rattle.std.specs.List.{list_any}
 use Rattle.history_book.specs.declared.cause.Cause.TheVariants.{NoTransaction, TooManyKeys}
 use Rattle.history_book.specs.declared.item.Actor.TheVariants.{Session}
 use Rattle.history_book.specs.declared.item.Item.TheVariants.{Write}
-use Rattle.protocol_parts.specs.Rows.{put_row}
+use Rattle.store_parts.specs.Rows.{put_row}
 use Rattle.protocol.specs.State.{State, Step, refusal, with_session}
 use Rattle.protocol.specs.declared.state.Transaction.{Transaction}
 

@@ -1,12 +1,12 @@
 -- What a turn of the code leaves and asks is what the read's turn leaves and asks.
 use Rattle.std.proofs.Common.{◌≡◌, ℕ, ◌<◌, List, [], ◌∷◌, Option, None, Some, IfSome, length, drop, refl, ap, ◌∙◌, arith, length-drop}
-use Rattle.stamp_base.specs.declared.steps.Ask.{Ask}
-use Rattle.stamp_base.specs.declared.steps.Told.{Told}
-use Rattle.protocol_parts.specs.declared.rows.Cell.{Cell}
-use Rattle.protocol_parts.specs.declared.key_read.Answer.{Answer}
-use Rattle.protocol_parts.specs.declared.key_read.Next.TheVariants.{Ask as NextAsk, Done as NextDone}
-use Rattle.protocol_parts.specs.Resolve.{Settling, settle_ask}
-use Rattle.protocol_parts.specs.KeyRead.{Reading, ReadTurn, Answers, read_told, reading_left, next_of, next_ask}
+use Rattle.client_parts.specs.declared.asks.Ask.{Ask}
+use Rattle.client_parts.specs.declared.asks.Told.{Told}
+use Rattle.store_parts.specs.declared.rows.Cell.{Cell}
+use Rattle.client_parts.specs.declared.key_read.Answer.{Answer}
+use Rattle.client_parts.specs.declared.key_read.Next.TheVariants.{Ask as NextAsk, Done as NextDone}
+use Rattle.client_parts.specs.Resolve.{Settling, settle_ask}
+use Rattle.client_parts.specs.KeyRead.{Reading, ReadTurn, Answers, read_told, reading_left, next_of, next_ask}
 use Rattle.reader_resolve.specs.declared.turn.Reader.{Reader}
 use Rattle.reader_resolve.specs.Turns.{reading_at, asks_at, told_of, Resolves}
 

@@ -1,3 +1,3 @@
 pub mod Turns
-pub use Rattle.protocol_parts.specs.Asks
-pub use Rattle.protocol_parts.specs.KeyRead
+pub use Rattle.client_parts.specs.Asks
+pub use Rattle.client_parts.specs.KeyRead

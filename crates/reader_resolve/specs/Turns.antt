@@ -1,12 +1,12 @@
 -- A turn of the code as the definitions see it.
 use Rattle.std.specs.Prelude.{◌≡◌, ◌<◌, nat_le, List, [], ◌∷◌, Option, None, Some, length, drop}
-use Rattle.stamp_base.specs.declared.steps.Told.{Told}
-use Rattle.protocol_parts.specs.declared.rows.Cell.{Cell}
-use Rattle.protocol_parts.specs.declared.resolve.SettlePoint.{SettlePoint}
-use Rattle.protocol_parts.specs.declared.resolve.SettlePoint.TheVariants.{LastLook}
-use Rattle.protocol_parts.specs.declared.resolve.Outcome.{Outcome}
-use Rattle.protocol_parts.specs.Resolve.{Settling, Decides}
-use Rattle.protocol_parts.specs.KeyRead.{Reading, ReadTurn, Asks, Answers, found_none, read_by, read_told}
+use Rattle.client_parts.specs.declared.asks.Told.{Told}
+use Rattle.store_parts.specs.declared.rows.Cell.{Cell}
+use Rattle.client_parts.specs.declared.resolve.SettlePoint.{SettlePoint}
+use Rattle.client_parts.specs.declared.resolve.SettlePoint.TheVariants.{LastLook}
+use Rattle.client_parts.specs.declared.resolve.Outcome.{Outcome}
+use Rattle.client_parts.specs.Resolve.{Settling, Decides}
+use Rattle.client_parts.specs.KeyRead.{Reading, ReadTurn, Asks, Answers, found_none, read_by, read_told}
 use Rattle.reader_resolve.specs.declared.turn.Reader.{Reader}
 use Rattle.reader_resolve.specs.declared.turn.Turn.{Turn}
 use Rattle.reader_resolve.specs.declared.turn.Turn.TheVariants.{Resolves as TurnResolves, Answers as TurnAnswers}

@@ -5,7 +5,8 @@
 mod run;
 mod turn;
 
-pub use protocol_parts::{Answer, Cell, Next};
+pub use client_parts::{Answer, Next};
+pub use store_parts::Cell;
 pub use run::ReadRun;
 
 #[cfg(test)]

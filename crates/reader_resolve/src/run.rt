@@ -1,11 +1,13 @@
 ghost use Rattle.std.specs.Prelude.{◌≡◌, IfSome};
-ghost use Rattle.protocol_parts.specs.Asks.{FitsNext};
-ghost use Rattle.protocol_parts.specs.KeyRead.{AreFetched, read_over, read_told, reading_left, next_of, next_ask};
+ghost use Rattle.client_parts.specs.Asks.{FitsNext};
+ghost use Rattle.client_parts.specs.KeyRead.{AreFetched, read_over, read_told, reading_left, next_of, next_ask};
 
 use crate::turn::{Reader, Turn};
 use invalidator::Settle;
-use protocol_parts::{Cell, Next};
-use stamp_base::{Ask, KeyNo, Stamp, Told};
+use store_parts::Cell;
+use client_parts::Next;
+use client_parts::{Ask, Told};
+use stamp_base::{KeyNo, Stamp};
 use std::marker::Model;
 
 /// A read of a key under way, seen as None once it has its answer.
@@ -22,7 +24,7 @@ pub struct ReadRun {
 impl Model for ReadRun {
     ghost use Rattle.std.specs.Prelude.{Option, drop, ◌≤◌};
     ghost use Rattle.std.specs.Vec.{vec_len};
-    ghost use Rattle.protocol_parts.specs.KeyRead.{Reading};
+    ghost use Rattle.client_parts.specs.KeyRead.{Reading};
 
     ghost Value = { Option Reading };
 

@@ -1,9 +1,10 @@
 ghost use Rattle.std.specs.Prelude.{IfOk};
-ghost use Rattle.protocol_parts.specs.KeyRead.{AreFetched};
+ghost use Rattle.client_parts.specs.KeyRead.{AreFetched};
 
 use super::*;
-use protocol_parts::fits;
-use stamp_base::{Ask, KeyNo, Stamp, Told, Value};
+use client_parts::fits;
+use client_parts::{Ask, Told};
+use stamp_base::{KeyNo, Stamp, Value};
 use std::alloc::Global;
 use std::test::Fail;
 

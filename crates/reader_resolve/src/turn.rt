@@ -1,11 +1,13 @@
 ghost use Rattle.std.specs.Prelude.{◌≡◌, ◌<◌, ◌≤◌, ◌++◌, ◌∷◌, List, drop, length, slice_get, Some, IsTrue};
-ghost use Rattle.protocol_parts.specs.Asks.{Fits};
-ghost use Rattle.protocol_parts.specs.Resolve.{settle_ask};
-ghost use Rattle.protocol_parts.specs.KeyRead.{is_passed, after_passed, read_over, found_cell, found_by, found_none};
+ghost use Rattle.client_parts.specs.Asks.{Fits};
+ghost use Rattle.client_parts.specs.Resolve.{settle_ask};
+ghost use Rattle.client_parts.specs.KeyRead.{is_passed, after_passed, read_over, found_cell, found_by, found_none};
 
 use invalidator::Settle;
-use protocol_parts::{Answer, Cell, Outcome};
-use stamp_base::{KeyNo, Stamp, Told};
+use client_parts::{Answer, Outcome};
+use store_parts::Cell;
+use stamp_base::{KeyNo, Stamp};
+use client_parts::Told;
 
 /// Who reads what: a transaction by its start, with the epoch of its begin.
 #[derive(Clone, Copy, Debug)]
@@ -111,7 +113,7 @@ fn found(cell: &Cell) -> Answer
 }
 
 /// The place of the first cell from here on that is not passed over, or the number of cells.
-#[tactic(auto, unfolding(protocol_parts::specs::KeyRead::after_passed))]
+#[tactic(auto, unfolding(client_parts::specs::KeyRead::after_passed))]
 fn first_left(start: Stamp, cells: &[Cell], from: usize) -> usize
     requires { from ≤ length cells.now }
     ensures rest { drop result cells.now ≡ after_passed start (drop from cells.now) }

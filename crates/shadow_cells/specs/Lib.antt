@@ -1,2 +1,2 @@
 pub mod Ways
-pub use Rattle.protocol_parts.specs.Completion
+pub use Rattle.client_parts.specs.Completion

@@ -1,7 +1,8 @@
 ghost use Rattle.std.specs.Prelude.{◌≡◌, drop};
-ghost use Rattle.protocol_parts.specs.Completion.{finish_asks, undo_asks, first_ask};
+ghost use Rattle.client_parts.specs.Completion.{finish_asks, undo_asks, first_ask};
 
-use stamp_base::{Ask, KeyNo, Stamp, TxnId};
+use client_parts::Ask;
+use stamp_base::{KeyNo, Stamp, TxnId};
 
 /// The step after `done` steps of finishing a transaction that wrote these keys; None where no step is left.
 pub fn finish_ask(txn: TxnId, commit: Stamp, keys: &[KeyNo], done: usize) -> Option<Ask>

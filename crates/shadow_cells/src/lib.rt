@@ -2,12 +2,13 @@
 #![tactic(auto)]
 
 ghost use Rattle.std.specs.Prelude.{◌≡◌, drop, IsSome};
-ghost use Rattle.protocol_parts.specs.Completion.{finish_asks, undo_asks, first_ask};
+ghost use Rattle.client_parts.specs.Completion.{finish_asks, undo_asks, first_ask};
 
 mod asks;
 
 pub use asks::{finish_ask, undo_ask};
-use stamp_base::{Ask, KeyList, Stamp, TxnId};
+use client_parts::Ask;
+use stamp_base::{KeyList, Stamp, TxnId};
 use std::marker::Model;
 
 /// How a completion treats the transaction's cells.
@@ -31,7 +32,7 @@ pub struct Completion {
 
 impl Model for Completion {
     ghost use Rattle.std.specs.Prelude.{List, ◌≤◌, length, drop};
-    ghost use Rattle.stamp_base.specs.declared.steps.Ask.{Ask};
+    ghost use Rattle.client_parts.specs.declared.asks.Ask.{Ask};
 
     ghost Value = { List Ask };
 

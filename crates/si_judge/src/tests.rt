@@ -5,7 +5,7 @@ use super::*;
 use crate::ask_index::start_suspects;
 use crate::marks::Marks;
 use crate::stamp_index::stamp_suspects;
-use history_book::read_item;
+use history_text::read_item;
 use std::process::Abort;
 use std::test::Fail;
 

@@ -1,1 +1,1 @@
-pub use Rattle.protocol_parts.specs.PostSteps
+pub use Rattle.oracle_parts.specs.PostSteps

@@ -2,7 +2,7 @@
 #![tactic(auto)]
 
 ghost use Rattle.std.specs.Prelude.{◌≡◌, ◌<◌, ◌≤◌, MatchResult, None, Some, length};
-ghost use Rattle.protocol_parts.specs.PostSteps as step;
+ghost use Rattle.oracle_parts.specs.PostSteps as step;
 
 use history_book::Cause;
 use stamp_base::{NodeNo, Term};

@@ -2,7 +2,7 @@ use Rattle.std.proofs.Common.{is_some, false, arith}
 use Rattle.cell_store.proofs.HeldIndex.{none-from_is_some}
 use Rattle.cell_store.proofs.SpecRows.{without_bare-put_row}
 use Rattle.std.proofs.Common.{◌≡◌, sym, ap, ◌∙◌}
-use Rattle.protocol_parts.specs.Rows.{without_bare}
+use Rattle.store_parts.specs.Rows.{without_bare}
 use Rattle.cell_store.proofs.Cells.put.Goals as goal
 
 pub returns-in-FailsUnchanged-clause-rows : goal.returns-in-FailsUnchanged-clause-rows

@@ -1,6 +1,6 @@
 use Rattle.std.proofs.Common.{◌≡◌}
 use Rattle.protocol.specs.ReadStep as read_step
-use Rattle.protocol_parts.specs.Rows.{fetched}
+use Rattle.store_parts.specs.Rows.{fetched}
 use Rattle.cluster_core.proofs.cells.answer_at.Given as goal
 
 abbrev pub invariant-loop-cell : goal.invariant-loop-cell

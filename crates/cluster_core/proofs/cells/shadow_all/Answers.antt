@@ -1,7 +1,7 @@
 use Rattle.std.proofs.Common.{List, sym, subst, arith}
 use Rattle.std.proofs.lemmas.Grind.{common_steps}
 use Rattle.protocol.specs.CommitStep.{all_shadowed}
-use Rattle.protocol_parts.specs.Rows.{Row}
+use Rattle.store_parts.specs.Rows.{Row}
 use Rattle.cluster_core.specs.OpenRows.{HasOnly}
 use Rattle.cluster_core.proofs.ShadowLemmas.{only_shadowed}
 use Rattle.cluster_core.proofs.cells.shadow_all.Goals as goal

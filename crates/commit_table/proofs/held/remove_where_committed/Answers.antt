@@ -1,4 +1,4 @@
-use Rattle.stamp_base.specs.declared.steps.Mark.TheVariants.{Committed, Invalid}
+use Rattle.stamp_base.specs.declared.stores.Mark.TheVariants.{Committed, Invalid}
 use Rattle.std.proofs.Common.{Some, None, sym, ap, ◌∙◌}
 use Rattle.commit_table.proofs.Marks.{map_from-remove, without_committed-found}
 use Rattle.commit_table.proofs.held.remove_where_committed.Goals as goal

@@ -1,6 +1,6 @@
 use Rattle.std.proofs.Common.{◌≡◌, ◌-◌, ◌<◌, take, drop, length, ap, ◌∙◌, arith}
-use Rattle.protocol_parts.specs.declared.buckets.Recorded.{Recorded}
-use Rattle.protocol_parts.specs.Buckets.{oldest, without}
+use Rattle.oracle_parts.specs.declared.buckets.Recorded.{Recorded}
+use Rattle.oracle_parts.specs.Buckets.{oldest, without}
 use Rattle.conflict_buckets.proofs.PairLemmas.{length-forgotten}
 use Rattle.conflict_buckets.proofs.pairs.forget_oldest.Goals as goal
 

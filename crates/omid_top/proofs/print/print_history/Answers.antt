@@ -1,5 +1,5 @@
 use Rattle.std.proofs.Common.{arith, ap, ◌∙◌}
-use Rattle.history_book.specs.Text.{text_of}
+use Rattle.history_text.specs.Text.{text_of}
 use Rattle.omid_top.proofs.PrintLemmas.{front_more}
 use Rattle.omid_top.proofs.print.print_history.Goals as goal
 

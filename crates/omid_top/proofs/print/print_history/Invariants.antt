@@ -1,6 +1,6 @@
 use Rattle.std.proofs.Common.{◌≤◌, take}
 use Rattle.port_io.specs.Ports.{Gains}
-use Rattle.history_book.specs.Text.{printed}
+use Rattle.history_text.specs.Text.{printed}
 use Rattle.omid_top.proofs.print.print_history.Given as goal
 
 abbrev pub invariant-loop-item : goal.invariant-loop-item

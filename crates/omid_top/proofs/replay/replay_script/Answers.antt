@@ -1,6 +1,6 @@
 use Rattle.std.proofs.Common.{List, subst, ◌∙◌}
 use Rattle.history_book.specs.declared.item.Item.{Item}
-use Rattle.history_book.specs.Text.{printed}
+use Rattle.history_text.specs.Text.{printed}
 use Rattle.port_io.specs.Ports.{Gains}
 use Rattle.session_script.specs.Script.{data_of}
 use Rattle.omid_top.proofs.PromiseLemmas.{promise_kept}

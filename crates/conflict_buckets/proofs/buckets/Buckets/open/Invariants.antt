@@ -1,5 +1,5 @@
 use Rattle.std.proofs.Common.{◌≡◌, replicate}
-use Rattle.protocol_parts.specs.Buckets as memory
+use Rattle.oracle_parts.specs.Buckets as memory
 use Rattle.conflict_buckets.proofs.buckets.Buckets.open.Given as goal
 
 abbrev pub invariant-loop-i : goal.invariant-loop-i

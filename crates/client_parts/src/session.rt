@@ -1,0 +1,25 @@
+ghost use Rattle.client_parts.specs.SessionSteps.{SessionsKeepSense};
+
+/// What a client session is about.
+#[derive(Clone, Copy, Debug, PartialEq, Eq)]
+pub enum State {
+    /// No transaction.
+    Free,
+    /// A begin was asked.
+    Asking,
+    /// A transaction reads and writes.
+    Open,
+    /// A commit was asked.
+    Committing,
+    /// It is not known whether the commit was placed.
+    OpenOutcome,
+    /// The cells of a transaction that has ended are erased, or those of a committed one get their shadows.
+    Completing { undo: bool },
+    /// The session has vanished for good.
+    Gone,
+}
+
+/// Every call whose condition is met keeps what a state tells of the transaction.
+pub fn sessions_keep_sense()
+    ensures { SessionsKeepSense }
+{}

@@ -1,0 +1,11 @@
+pub mod ReadingLemmas
+pub mod NumberLemmas
+pub mod WordTexts
+pub mod NodeTexts
+pub mod RequestTexts
+pub mod SessionTexts
+pub mod StepTexts
+pub mod CauseTexts
+pub mod ActorTexts
+pub mod RoundTrip
+pub mod LineLemmas

@@ -1,0 +1,9 @@
+pub mod BucketPairs
+pub mod BucketSteps
+pub mod BucketLaws
+pub mod BucketVerdicts
+pub mod InstanceMoves
+pub mod InstanceLemmas
+pub mod InstanceBegins
+pub mod InstanceRecords
+pub mod InstanceStamps

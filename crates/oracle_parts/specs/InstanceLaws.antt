@@ -1,0 +1,129 @@
+-- What is true of an oracle's instance over all its calls.
+use Rattle.std.specs.Prelude.{◌≡◌, ◌≢◌, ℕ, ◌+◌, ◌<◌, ◌≤◌, List, [], All, Any, AllPairs, Contains, IfSome, Option, None, Some, Result, Ok, Err}
+use Rattle.history_book.specs.declared.cause.Cause.{Cause}
+use Rattle.history_book.specs.declared.cause.Cause.TheVariants.{NotYet}
+use Rattle.oracle_parts.specs.declared.buckets.Recorded.{Recorded}
+use Rattle.oracle_parts.specs.declared.instance.Request.{Request}
+use Rattle.oracle_parts.specs.declared.instance.Request.TheVariants.{Begin, Commit}
+use Rattle.oracle_parts.specs.declared.instance.Progress.{Progress}
+use Rattle.oracle_parts.specs.declared.instance.Progress.TheVariants.{Drawn, Settled}
+use Rattle.oracle_parts.specs.declared.instance.Held.{Held}
+use Rattle.oracle_parts.specs.declared.instance.Settled.{Settled as How}
+use Rattle.oracle_parts.specs.declared.instance.Decided.{Decided}
+use Rattle.oracle_parts.specs.declared.instance.Decided.TheVariants as decided
+use Rattle.oracle_parts.specs.declared.instance.Reply.{Reply}
+use Rattle.oracle_parts.specs.declared.instance.Reply.TheVariants.{Begun}
+use Rattle.oracle_parts.specs.Buckets.{Bucket, contents, record_pairs, pairs_of, CommitsRise, last_commit}
+use Rattle.oracle_parts.specs.Instance.{InstanceEntry, held_of, unsettled_commit}
+use Rattle.oracle_parts.specs.InstanceSteps.{InstanceStep, CanAskOf, IsStop, instance_ask, instance_accept, instance_decide, instance_settle, instance_answer, instance_widened, instance_renewed, instance_stopped}
+
+-- the calls that change an instance
+pub data InstanceCall : Type 0 where
+  Asks : (request : Request) → InstanceCall
+  Accepts : (session reading : ℕ) → InstanceCall
+  Decides : (session : ℕ) → InstanceCall
+  Settles : (session : ℕ) (how : How) → InstanceCall
+  Answers : (session : ℕ) → InstanceCall
+  Widens : (ceiling : ℕ) → InstanceCall
+  Renews : (until : ℕ) → InstanceCall
+  Stops : (why : Cause) → InstanceCall
+
+abbrev pub after_call : InstanceEntry → InstanceCall → InstanceEntry
+after_call i (Asks request) = (instance_ask i request).left
+after_call i (Accepts session reading) = (instance_accept i session reading).left
+after_call i (Decides session) = (instance_decide i session).left
+after_call i (Settles session how) = (instance_settle i session how).left
+after_call i (Answers session) = (instance_answer i session).left
+after_call i (Widens ceiling) = instance_widened i ceiling
+after_call i (Renews until) = instance_renewed i until
+after_call i (Stops why) = instance_stopped i why
+
+-- what a range that is widened asks for
+abbrev pub CanCall : InstanceEntry → InstanceCall → Type 0
+CanCall i (Widens ceiling) = i.ceiling ≤ ceiling
+CanCall i _ = Unit {0}
+
+-- ---- stamps
+-- the last stamp is above no other that the range allows
+pub record IsInRange (i : InstanceEntry) : Type 0 where
+  pub above : i.epoch ≤ i.last
+  pub within : i.last ≤ i.ceiling
+
+-- the grant stays, and stamps, range and lease go up
+pub record GoesUp (old new : InstanceEntry) : Type 0 where
+  pub node : new.node ≡ old.node
+  pub term : new.term ≡ old.term
+  pub epoch : new.epoch ≡ old.epoch
+  pub slots : new.slots ≡ old.slots
+  pub last : old.last ≤ new.last
+  pub ceiling : old.ceiling ≤ new.ceiling
+  pub until : old.until ≤ new.until
+
+abbrev pub stamp_of : Decided → ℕ
+stamp_of (decided.Started stamp) = stamp
+stamp_of (decided.Drawn stamp) = stamp
+
+-- the stamp is the next one, above the epoch and in the range
+pub record DrawsNext (i : InstanceEntry) (stamp : ℕ) (left : InstanceEntry) : Type 0 where
+  pub next : stamp ≡ i.last + 1
+  pub above : i.epoch < stamp
+  pub within : stamp ≤ i.ceiling
+  pub last : left.last ≡ stamp
+
+-- ---- begins
+-- a commit that was drawn and is not settled is not below the start
+abbrev pub IsNotBelow : ℕ → Option Held → Type 0
+IsNotBelow start held = IfSome (unsettled_commit held) (λ commit. start ≤ commit)
+
+-- the commit is the least below the start that was drawn and is not settled
+pub record IsLeastUnsettled (start commit : ℕ) (requests : List (Option Held)) : Type 0 where
+  pub below : commit < start
+  pub there : Any (λ held. unsettled_commit held ≡ Some commit) requests
+  pub least : All (λ held. IfSome (unsettled_commit held) (λ other. other < start → commit ≤ other)) requests
+
+-- ---- the stamps of requests
+abbrev pub progress_stamp : Progress → Option ℕ
+progress_stamp (Drawn stamp) = Some stamp
+progress_stamp (Settled commit how) = Some commit
+progress_stamp _ = None
+
+-- what was drawn for a request lies above the epoch, and is at most the last stamp
+abbrev pub IsDrawnWithin : ℕ → ℕ → Option Held → Type 0
+IsDrawnWithin epoch last None = Unit {0}
+IsDrawnWithin epoch last (Some held) = IfSome (progress_stamp held.progress) (λ stamp. (epoch < stamp) × (stamp ≤ last))
+
+abbrev pub AreDrawnWithin : InstanceEntry → Type 0
+AreDrawnWithin i = All (IsDrawnWithin i.epoch i.last) i.requests
+
+-- ---- commits
+-- the buckets hold what was recorded by commits that rise, up to the last stamp
+pub record IsRecordedIn (count width : ℕ) (pairs : List Recorded) (i : InstanceEntry) : Type 0 where
+  pub holds : i.buckets ≡ contents count width pairs
+  pub rise : CommitsRise pairs
+  pub up_to : All (λ pair. pair.commit ≤ i.last) pairs
+
+-- what a decision on a request records
+abbrev pub pairs_by : Request → Result Decided Cause → List Recorded
+pairs_by (Commit session start keys) (Ok (decided.Drawn stamp)) = pairs_of keys stamp
+pairs_by request answer = []
+
+abbrev pub decided_pairs : Option Held → Result Decided Cause → List Recorded
+decided_pairs None answer = []
+decided_pairs (Some held) answer = pairs_by held.request answer
+
+abbrev pub call_pairs : InstanceEntry → InstanceCall → List Recorded
+call_pairs i (Decides session) = decided_pairs (held_of i session) (instance_decide i session).answer
+call_pairs i _ = []
+
+-- no commit was recorded above the start for any of the keys
+abbrev pub IsFreeAt : List Recorded → ℕ → List ℕ → Type 0
+IsFreeAt pairs start keys = (key commit : ℕ) → Contains keys key → last_commit pairs key ≡ Some commit → commit ≤ start
+
+-- the request is no commit, or no commit was recorded above its start for any of its keys
+abbrev pub RequestIsFree : List Recorded → Request → Type 0
+RequestIsFree pairs (Begin session) = Unit {0}
+RequestIsFree pairs (Commit session start keys) = IsFreeAt pairs start keys
+
+abbrev pub HeldIsFree : List Recorded → Option Held → Type 0
+HeldIsFree pairs None = ⊥
+HeldIsFree pairs (Some held) = RequestIsFree pairs held.request

@@ -1,0 +1,5 @@
+pub mod Buckets
+pub mod Instance
+pub mod InstanceSteps
+pub mod PostSteps
+pub mod InstanceLaws

@@ -1,0 +1,61 @@
+// The laws of an oracle's instance, over every state and every call.
+ghost use Rattle.std.specs.Prelude.{◌≡◌, ◌≤◌, ◌++◌, ℕ, List, [], All, Option, None, Some, Ok};
+ghost use Rattle.oracle_parts.specs.declared.instance.Held.{Held};
+ghost use Rattle.oracle_parts.specs.declared.buckets.Recorded.{Recorded};
+ghost use Rattle.store_parts.specs.declared.record.Grant.{Grant};
+ghost use Rattle.oracle_parts.specs.declared.instance.Decided.{Decided};
+ghost use Rattle.oracle_parts.specs.declared.instance.Reply.TheVariants.{Begun};
+ghost use Rattle.oracle_parts.specs.Instance.{InstanceEntry, instance_new, held_of, least_unsettled};
+ghost use Rattle.oracle_parts.specs.InstanceSteps.{instance_decide, instance_answer};
+ghost use Rattle.oracle_parts.specs.InstanceLaws as law;
+
+/// The grant of an instance stays, and its stamps, its range and its lease never go down.
+pub fn instances_go_up()
+    ensures { (i : InstanceEntry) (call : law.InstanceCall) → law.CanCall i call → law.GoesUp i (law.after_call i call) }
+{}
+
+/// The last stamp is at least the epoch, and at most the end of the range.
+pub fn last_stamps_stay_in_range()
+    ensures granted { (grant : Grant) (node count width slots : ℕ) → grant.epoch ≤ grant.ceiling → law.IsInRange (instance_new grant node count width slots) }
+    ensures kept { (i : InstanceEntry) (call : law.InstanceCall) → law.CanCall i call → law.IsInRange i → law.IsInRange (law.after_call i call) }
+{}
+
+/// A stamp that is drawn is one above the last, above the epoch and in the range.
+pub fn drawn_stamps_are_next()
+    ensures { (i : InstanceEntry) (session : ℕ) (drawn : Decided) → law.IsInRange i → (instance_decide i session).answer ≡ Ok drawn →
+        law.DrawsNext i (law.stamp_of drawn) (instance_decide i session).left }
+{}
+
+/// What was drawn for a request that is held lies above the epoch, and is at most the last stamp.
+pub fn stamps_of_requests_stay_between()
+    ensures granted { (grant : Grant) (node count width slots : ℕ) → law.AreDrawnWithin (instance_new grant node count width slots) }
+    ensures kept { (i : InstanceEntry) (call : law.InstanceCall) → i.epoch ≤ i.last → law.AreDrawnWithin i → law.AreDrawnWithin (law.after_call i call) }
+{}
+
+/// The commit that a begin is told to wait for is the least below its start that was drawn and is not settled.
+pub fn least_unsettled_is_the_least()
+    ensures none { (requests : List (Option Held)) (start : ℕ) → least_unsettled requests start ≡ None → All (law.IsNotBelow start) requests }
+    ensures some { (requests : List (Option Held)) (start commit : ℕ) → least_unsettled requests start ≡ Some commit → law.IsLeastUnsettled start commit requests }
+{}
+
+/// A begin is answered with the instance's epoch, and only where each commit that was drawn below its start is settled.
+pub fn begins_wait_for_commits()
+    ensures epoch { (i : InstanceEntry) (session start epoch : ℕ) → (instance_answer i session).answer ≡ Ok (Begun start epoch) → epoch ≡ i.epoch }
+    ensures settled { (i : InstanceEntry) (session start epoch : ℕ) → (instance_answer i session).answer ≡ Ok (Begun start epoch) →
+        All (law.IsNotBelow start) i.requests }
+{}
+
+/// The buckets hold the pairs that decisions recorded, whose commits rise and are at most the last stamp: so what the
+/// buckets tell of such pairs holds of an instance.
+pub fn recorded_commits_rise()
+    ensures granted { (grant : Grant) (node count width slots : ℕ) → law.IsRecordedIn count width [] (instance_new grant node count width slots) }
+    ensures kept { (count width : ℕ) (pairs : List Recorded) (i : InstanceEntry) (call : law.InstanceCall) → law.IsRecordedIn count width pairs i →
+        law.IsRecordedIn count width (pairs ++ law.call_pairs i call) (law.after_call i call) }
+{}
+
+/// A commit that is drawn has, for each of its keys, no recorded commit above its start.
+pub fn drawn_commits_are_free()
+    ensures { (count width : ℕ) (pairs : List Recorded) (i : InstanceEntry) (session : ℕ) (drawn : Decided) →
+        1 ≤ count → 1 ≤ width → law.IsRecordedIn count width pairs i → (instance_decide i session).answer ≡ Ok drawn →
+        law.HeldIsFree pairs (held_of i session) }
+{}

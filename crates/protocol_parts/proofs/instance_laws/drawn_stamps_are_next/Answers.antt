@@ -1,5 +1,0 @@
-use Rattle.protocol_parts.proofs.InstanceLemmas.{stamp_next}
-use Rattle.protocol_parts.proofs.instance_laws.drawn_stamps_are_next.Goals as goal
-
-pub returns : goal.returns
-returns c = stamp_next
