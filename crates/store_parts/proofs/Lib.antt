@@ -1,1 +1,3 @@
 pub mod RowLaws
+pub mod RowFetches
+pub mod RowVersions

@@ -1,10 +1,11 @@
--- What a look finds after a put, a shadow or a removal, and that each keeps the rows' order.
-use Rattle.std.proofs.Common.{◌≡◌, ℕ, ◌<◌, true, false, List, [], ◌∷◌, Option, Some, None, ◌⊎◌, inl, inr, refl, sym, ap, ◌∙◌, arith}
+-- Laws that other crates cite: what a look finds after a put, a shadow or a removal, and that each keeps the rows' order.
+use Rattle.std.proofs.Common.{◌≡◌, ℕ, ◌<◌, true, false, List, [], ◌∷◌, Option, Some, None, IfSome, ◌⊎◌, inl, inr, refl, sym, subst, ap, ◌∙◌, arith}
 use Rattle.std.proofs.lemmas.Bool.{cases_Bool, cases_eq}
 use Rattle.std.proofs.lemmas.Bool.Decides.{nat_tests}
 use Rattle.std.proofs.lemmas.Option.{none-some, same_Some}
 use Rattle.store_parts.specs.declared.rows.Cell.{Cell}
-use Rattle.store_parts.specs.Rows.{Row, is_row, cell_of, bare_row, is_before, put_row, looked, with_shadow, unless_bare, without_bare, IsBelowAll, AreOrdered}
+use Rattle.store_parts.specs.Rows.{Row, is_row, cell_of, bare_row, bare_cell, is_before, put_row, looked, with_shadow, unless_bare, without_bare, IsBare, IsBelowAll, AreOrdered}
+pub use Rattle.store_parts.specs.Rows.{shadowed}
 
 -- the row is, or is not, the one of the key and the version
 pub is_row-cases : (k t : ℕ) (r : Row) → ((is_row k t r ≡ true) × (r.key ≡ k) × (r.version ≡ t)) ⊎ ((is_row k t r ≡ false) × (r.key ≡ k → r.version ≡ t → ⊥))
@@ -60,11 +61,6 @@ looked-put_same (r ∷ rs) k t v bare = elim (is_row-cases k t r) [
   ]
 ]
 
--- the cell with the shadow, where there is one
-abbrev pub shadowed : ℕ → Option Cell → Option Cell
-shadowed c None = None
-shadowed c (Some cell) = Some (record cell { shadow = Some c })
-
 pub looked-shadow_other : (rs : List Row) (k t c j u : ℕ) → (k ≡ j → t ≡ u → ⊥) → looked (with_shadow rs k t c) j u ≡ looked rs j u
 unfolding with_shadow
 looked-shadow_other [] k t c j u ne = refl
@@ -85,11 +81,15 @@ looked-shadow_same (r ∷ rs) k t c = elim (is_row-cases k t r) [
   | inr a ↦ rw a.0 (rw a.0 (looked-shadow_same rs k t c))
 ]
 
+-- the same, as a fact of the rows
+pub looked-put_bare : (rs : List Row) (k t : ℕ) (v : List ℕ) → IsBare rs k t → looked (put_row rs k t v) k t ≡ Some (bare_cell t v)
+looked-put_bare rs k t v bare = looked-put_same rs k t v (λ cell e. subst (λ (found : Option Cell). IfSome found (λ c. c.shadow ≡ None)) e bare)
+
 -- the key and the version stand before all of these
 abbrev pub Precedes : ℕ → ℕ → Row → Type 0
 Precedes k t x = (k < x.key) ⊎ ((k ≡ x.key) × (t < x.version))
 
-none_looked : (k t : ℕ) (cell : Cell) → looked [] k t ≡ Some cell → ⊥
+pub none_looked : (k t : ℕ) (cell : Cell) → looked [] k t ≡ Some cell → ⊥
 unfolding looked
 none_looked k t cell e = none-some _ e
 

@@ -1,5 +1,6 @@
 -- The cells of a store as rows, in ascending order of key and version, and what each call does to them.
-use Rattle.std.specs.Prelude.{◌≡◌, ℕ, ◌<◌, ◌==◌, nat_lt, nat_le, Bool, ◌&&◌, ◌⊎◌, if◌then◌else◌, List, [], ◌∷◌, ◌++◌, Option, None, Some}
+use Rattle.std.specs.Prelude.{◌≡◌, ℕ, ◌<◌, ◌≤◌, ◌==◌, nat_lt, nat_le, Bool, false, ◌&&◌, ◌⊎◌, if◌then◌else◌, List, [], ◌∷◌, ◌++◌, Option, None, Some, IfSome}
+use Rattle.std.specs.List.{All, AllPairs}
 use Rattle.store_parts.specs.declared.rows.Cell.{Cell}
 
 pub record Row : Type 0 where
@@ -36,10 +37,45 @@ fetched [] k upto = []
 fetched (r ∷ rs) k upto =
     if (r.key == k) && nat_le r.version upto then fetched rs k upto ++ cell_of r ∷ [] else fetched rs k upto
 
+-- the greatest version first, each version once
+abbrev pub AreFalling : List Cell → Type 0
+AreFalling = AllPairs (λ (a : Cell) (b : Cell). b.version < a.version)
+
+-- no version is above this one
+abbrev pub AreUpto : ℕ → List Cell → Type 0
+AreUpto upto = All (λ (c : Cell). c.version ≤ upto)
+
+-- there is a shadow, and it is below the start
+abbrev pub is_below : ℕ → Option ℕ → Bool
+is_below start None = false
+is_below start (Some commit) = nat_lt commit start
+
+-- the cells down to the first whose shadow is below the start, with it; all of them where there is none
+unfoldable pub front_of : ℕ → List Cell → List Cell
+front_of start [] = []
+front_of start (c ∷ cs) = if is_below start c.shadow then c ∷ [] else c ∷ front_of start cs
+
 -- a look gives the cell of the key and the version, where there is one
 unfoldable pub looked : List Row → ℕ → ℕ → Option Cell
 looked [] k t = None
 looked (r ∷ rs) k t = if is_row k t r then Some (cell_of r) else looked rs k t
+
+-- the row of the key and the version has no shadow, where it is there
+abbrev pub IsBare : List Row → ℕ → ℕ → Type 0
+IsBare rows k t = IfSome (looked rows k t) (λ cell. cell.shadow ≡ None)
+
+-- a shadow of the row of the key and the version is this commit
+abbrev pub HasOnly : List Row → ℕ → ℕ → ℕ → Type 0
+HasOnly rows k t c = IfSome (looked rows k t) (λ cell. IfSome cell.shadow (λ there. there ≡ c))
+
+-- a cell that a put leaves
+abbrev pub bare_cell : ℕ → List ℕ → Cell
+bare_cell t v = record { version = t; value = v; shadow = None }
+
+-- the cell that a shadow leaves, where there is one
+abbrev pub shadowed : ℕ → Option Cell → Option Cell
+shadowed c None = None
+shadowed c (Some cell) = Some (record cell { shadow = Some c })
 
 -- a shadow is set on the row that is there
 unfoldable pub with_shadow : List Row → ℕ → ℕ → ℕ → List Row
