@@ -10,4 +10,4 @@ mod store_errors;
 pub use pairs::Put;
 pub use record::{ExtendRefused, Grant, RenewRefused, TakeRefused};
 pub use rows::Cell;
-pub use store_errors::{StoreError, StoreFault};
+pub use store_errors::{StoreError, StoreFault, answered_under};
