@@ -1,17 +1,18 @@
-// The commit table: the marks of transactions, and places for the marks that must not want memory.
+//! The commit table: the marks of transactions, and places for the marks that must not want memory.
 #![tactic(auto)]
 
-ghost use Rattle.std.specs.Prelude.{◌≡◌, ◌↔◌, None, IfOk, IsOk, IsTrue, OnErr, OnOk};
+ghost use Rattle.std.specs.Prelude.{◌≡◌, None, IfOk, IsTrue, OnErr, OnOk};
 ghost use Rattle.std.specs.FinMap as map;
 ghost use Rattle.std.specs.FinSet as set;
-ghost use Rattle.commit_table.specs.Calls.{mark_of, put_answer, put_pair, without_committed, AsksOnce, UnlessNoMemory, OnNoMemory, OnStoreFault, fated, Counts, Risen};
+ghost use Rattle.commit_table.specs.Calls.{mark_of, put_answer, put_pair, without_committed, IsOneCall, UnlessNoMemory, OnNoMemory, fated};
 
-mod held;
+mod entries;
 
-use held::{place, remove_where_committed};
+use entries::{place_under, remove_under};
 use indexmap::{IndexMap, IndexSet};
-use port_io::{Fate, Store, Weather};
+use port_io::{Store, Weather};
 pub use store_parts::{Put, StoreError, StoreFault};
+use store_parts::answered_under;
 use stamp_base::{Mark, NoMemory, TxnId};
 use std::alloc::Global;
 use std::marker::Model;
@@ -51,20 +52,20 @@ impl Table {
         }
     }
 
-    /// The transaction's mark, in one step.
+    /// The transaction's mark, without a store call.
+    pub fn mark_of(&self, txn: TxnId) -> Option<Mark>
+        ensures { result ≡ mark_of self.now.pairs txn }
+    {
+        self.pairs.get(&txn.value()).copied()
+    }
+
+    /// The transaction's mark, in one store call.
     pub fn get<W: Weather>(&self, weather: &mut W, txn: TxnId) -> Result<Option<Mark>, StoreFault>
         ensures value { IfOk result (λ found. found ≡ mark_of self.now.pairs txn) }
-        ensures answer { IsOk result ↔ (W.ahead weather.old Store.Table 0 ≡ Fate.Works) }
-        ensures asked { AsksOnce Store.Table (W.ahead weather.old) (W.ahead weather.new) }
-        ensures counted { Counts (W.ahead weather.old Store.Table 0) (W.faults weather.old) (W.faults weather.new) }
-        ensures fault { OnErr result (Risen (W.faults weather.old) (W.faults weather.new)) }
+        ensures call { IsOneCall Store.Table (W.ahead weather.old) (W.ahead weather.new)
+            (W.faults weather.old) (W.faults weather.new) result }
     {
-        let found = self.mark(txn);
-        match weather.next(Store::Table) {
-            Fate::Works => Ok(found),
-            Fate::FailsUnchanged => Err(StoreFault),
-            Fate::FailsApplied => Err(StoreFault),
-        }
+        answered_under(weather.next(Store::Table), self.mark_of(txn))
     }
 
     /// Places the mark where the transaction has none. An entry that is there stays, and is the answer.
@@ -79,15 +80,15 @@ impl Table {
         ensures pairs { UnlessNoMemory result (self.new.pairs ≡ fated (W.ahead weather.old Store.Table 0)
             self.old.pairs (put_pair self.old.pairs txn mark)) }
         ensures places { self.new.places ≡ self.old.places }
-        ensures answer { UnlessNoMemory result (IsOk result ↔ (W.ahead weather.old Store.Table 0 ≡ Fate.Works)) }
-        ensures asked { UnlessNoMemory result (AsksOnce Store.Table (W.ahead weather.old) (W.ahead weather.new)) }
-        ensures counted { UnlessNoMemory result
-            (Counts (W.ahead weather.old Store.Table 0) (W.faults weather.old) (W.faults weather.new)) }
-        ensures fault { OnStoreFault result (Risen (W.faults weather.old) (W.faults weather.new)) }
+        ensures call { UnlessNoMemory result (IsOneCall Store.Table (W.ahead weather.old) (W.ahead weather.new)
+            (W.faults weather.old) (W.faults weather.new) result) }
         ensures memory { OnNoMemory result ((self.new ≡ self.old) × (weather.new ≡ weather.old)) }
     {
-        match self.mark(txn) {
-            Some(there) => Ok(find(weather, there)?),
+        match self.mark_of(txn) {
+            Some(there) => Ok(answered_under(
+                weather.next(Store::Table),
+                Put::Found(there),
+            )?),
             None => self.put_new(weather, txn, mark),
         }
     }
@@ -122,24 +123,14 @@ impl Table {
         ensures pairs { self.new.pairs ≡ fated (W.ahead weather.old Store.Table 0)
             self.old.pairs (put_pair self.old.pairs txn mark) }
         ensures places { self.new.places ≡ set.remove self.old.places txn }
-        ensures answer { IsOk result ↔ (W.ahead weather.old Store.Table 0 ≡ Fate.Works) }
-        ensures asked { AsksOnce Store.Table (W.ahead weather.old) (W.ahead weather.new) }
-        ensures counted { Counts (W.ahead weather.old Store.Table 0) (W.faults weather.old) (W.faults weather.new) }
-        ensures fault { OnErr result (Risen (W.faults weather.old) (W.faults weather.new)) }
+        ensures call { IsOneCall Store.Table (W.ahead weather.old) (W.ahead weather.new)
+            (W.faults weather.old) (W.faults weather.new) result }
     {
-        let put = answer(self.mark(txn));
+        let put = answer(self.mark_of(txn));
         self.places.swap_remove(&txn.value());
-        match weather.next(Store::Table) {
-            Fate::Works => {
-                place(&mut self.pairs, txn, mark);
-                Ok(put)
-            }
-            Fate::FailsUnchanged => Err(StoreFault),
-            Fate::FailsApplied => {
-                place(&mut self.pairs, txn, mark);
-                Err(StoreFault)
-            }
-        }
+        let fate = weather.next(Store::Table);
+        place_under(&mut self.pairs, fate, txn, mark);
+        answered_under(fate, put)
     }
 
     /// Removes a Committed entry. An Invalid one stays, and so does everything where there is none.
@@ -151,22 +142,12 @@ impl Table {
         ensures pairs { self.new.pairs ≡ fated (W.ahead weather.old Store.Table 0)
             self.old.pairs (without_committed self.old.pairs txn) }
         ensures places { self.new.places ≡ self.old.places }
-        ensures answer { IsOk result ↔ (W.ahead weather.old Store.Table 0 ≡ Fate.Works) }
-        ensures asked { AsksOnce Store.Table (W.ahead weather.old) (W.ahead weather.new) }
-        ensures counted { Counts (W.ahead weather.old Store.Table 0) (W.faults weather.old) (W.faults weather.new) }
-        ensures fault { OnErr result (Risen (W.faults weather.old) (W.faults weather.new)) }
+        ensures call { IsOneCall Store.Table (W.ahead weather.old) (W.ahead weather.new)
+            (W.faults weather.old) (W.faults weather.new) result }
     {
-        match weather.next(Store::Table) {
-            Fate::Works => {
-                remove_where_committed(&mut self.pairs, txn);
-                Ok(())
-            }
-            Fate::FailsUnchanged => Err(StoreFault),
-            Fate::FailsApplied => {
-                remove_where_committed(&mut self.pairs, txn);
-                Err(StoreFault)
-            }
-        }
+        let fate = weather.next(Store::Table);
+        remove_under(&mut self.pairs, fate, txn);
+        answered_under(fate, ())
     }
 
     /// Places the mark of a transaction that has none, beside the room for all transactions with a place.
@@ -181,38 +162,14 @@ impl Table {
         ensures pairs { UnlessNoMemory result (self.new.pairs ≡ fated (W.ahead weather.old Store.Table 0)
             self.old.pairs (put_pair self.old.pairs txn mark)) }
         ensures places { self.new.places ≡ self.old.places }
-        ensures answer { UnlessNoMemory result (IsOk result ↔ (W.ahead weather.old Store.Table 0 ≡ Fate.Works)) }
-        ensures asked { UnlessNoMemory result (AsksOnce Store.Table (W.ahead weather.old) (W.ahead weather.new)) }
-        ensures counted { UnlessNoMemory result
-            (Counts (W.ahead weather.old Store.Table 0) (W.faults weather.old) (W.faults weather.new)) }
+        ensures call { UnlessNoMemory result (IsOneCall Store.Table (W.ahead weather.old) (W.ahead weather.new)
+            (W.faults weather.old) (W.faults weather.new) result) }
         ensures memory { OnNoMemory result ((self.new ≡ self.old) × (weather.new ≡ weather.old)) }
     {
         self.pairs.reserve(self.places.len() + 1)?;
-        match weather.next(Store::Table) {
-            Fate::Works => {
-                place(&mut self.pairs, txn, mark);
-                Ok(Put::Placed)
-            }
-            Fate::FailsUnchanged => Err(StoreError::StoreFault),
-            Fate::FailsApplied => {
-                place(&mut self.pairs, txn, mark);
-                Err(StoreError::StoreFault)
-            }
-        }
-    }
-}
-
-/// A put that meets an entry changes nothing.
-fn find<W: Weather>(weather: &mut W, there: Mark) -> Result<Put, StoreFault>
-    ensures value { IfOk result (λ put. put ≡ Put.Found there) }
-    ensures answer { IsOk result ↔ (W.ahead weather.old Store.Table 0 ≡ Fate.Works) }
-    ensures asked { AsksOnce Store.Table (W.ahead weather.old) (W.ahead weather.new) }
-    ensures counted { Counts (W.ahead weather.old Store.Table 0) (W.faults weather.old) (W.faults weather.new) }
-{
-    match weather.next(Store::Table) {
-        Fate::Works => Ok(Put::Found(there)),
-        Fate::FailsUnchanged => Err(StoreFault),
-        Fate::FailsApplied => Err(StoreFault),
+        let fate = weather.next(Store::Table);
+        place_under(&mut self.pairs, fate, txn, mark);
+        Ok(answered_under(fate, Put::Placed)?)
     }
 }
 

@@ -13,4 +13,4 @@ pub use rows::{
     Cell, fetches_give_what_is_looked_up, fronts_fall, keys_of_a_version_are_looked_up,
     puts_change_one_cell, removals_take_bare_cells, shadows_change_one_cell,
 };
-pub use store_errors::{StoreError, StoreFault};
+pub use store_errors::{StoreError, StoreFault, answered_under};

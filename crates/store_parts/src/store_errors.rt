@@ -1,11 +1,24 @@
-ghost use Rattle.std.specs.Prelude.{◌≡◌};
+ghost use Rattle.std.specs.Prelude.{◌≡◌, ◌↔◌, IfOk, IsOk};
 
+use port_io::Fate;
 use stamp_base::NoMemory;
 use std::alloc::{AllocError, AllocFailed};
 
 /// A store call was answered by a failure. It took effect at its own step, or never does.
 #[derive(Clone, Copy, Debug, PartialEq, Eq)]
 pub struct StoreFault;
+
+/// The answer of a store call of this fate. A fault exactly where the call did not work.
+pub fn answered_under<T: Drop>(fate: Fate, value: T) -> Result<T, StoreFault>
+    ensures answer { IsOk result ↔ (fate ≡ Fate.Works) }
+    ensures value { IfOk result (λ given. given ≡ value) }
+{
+    if fate.works() {
+        Ok(value)
+    } else {
+        Err(StoreFault)
+    }
+}
 
 /// Why a store call that takes memory gave no answer.
 #[derive(Clone, Copy, Debug, PartialEq, Eq)]

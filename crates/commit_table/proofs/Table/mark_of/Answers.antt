@@ -1,6 +1,6 @@
 use Rattle.std.proofs.Common.{sym, ◌∙◌}
 use Rattle.commit_table.proofs.Marks.{mark_of-map_from}
-use Rattle.commit_table.proofs.Table.mark.Goals as goal
+use Rattle.commit_table.proofs.Table.mark_of.Goals as goal
 
 pub returns : goal.returns
 returns c =

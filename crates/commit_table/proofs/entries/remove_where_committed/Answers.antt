@@ -1,7 +1,7 @@
 use Rattle.stamp_base.specs.declared.stores.Mark.TheVariants.{Committed, Invalid}
 use Rattle.std.proofs.Common.{Some, None, sym, ap, ◌∙◌}
 use Rattle.commit_table.proofs.Marks.{map_from-remove, without_committed-found}
-use Rattle.commit_table.proofs.held.remove_where_committed.Goals as goal
+use Rattle.commit_table.proofs.entries.remove_where_committed.Goals as goal
 
 pub returns-in-Some-Committed-clause-pairs : goal.returns-in-Some-Committed-clause-pairs
 returns-in-Some-Committed-clause-pairs c =

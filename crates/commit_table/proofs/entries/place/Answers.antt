@@ -1,6 +1,6 @@
 use Rattle.std.proofs.Common.{sym, ◌∙◌}
 use Rattle.commit_table.proofs.Marks.{put_pair-there, put_pair-absent}
-use Rattle.commit_table.proofs.held.place.Goals as goal
+use Rattle.commit_table.proofs.entries.place.Goals as goal
 
 pub returns-then-contains_key-clause-pairs : goal.returns-then-contains_key-clause-pairs
 returns-then-contains_key-clause-pairs c =
