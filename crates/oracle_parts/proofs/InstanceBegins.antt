@@ -16,7 +16,7 @@ use Rattle.oracle_parts.specs.declared.instance.Settled.TheVariants as how
 use Rattle.oracle_parts.specs.declared.instance.Reply.{Reply}
 use Rattle.oracle_parts.specs.declared.instance.Reply.TheVariants.{Begun, Committed, Invalid, Open}
 use Rattle.oracle_parts.specs.Instance.{InstanceEntry, held_of, unsettled_commit, only_below, lesser, least_unsettled}
-use Rattle.oracle_parts.specs.InstanceSteps.{reply_of, answer_begin, answer_at, answer_held, instance_answer}
+use Rattle.oracle_parts.specs.InstanceSteps.{reply_of, answer_begin, answer_if_ready, answer_held, instance_answer}
 use Rattle.oracle_parts.specs.InstanceLaws.{IsNotBelow, IsLeastUnsettled}
 
 abbrev answered : Reply → Result Reply Cause
@@ -57,32 +57,27 @@ none_waits (held ∷ others) start e =
 abbrev Begins : InstanceEntry → ℕ → ℕ → Type 0
 Begins i start epoch = (epoch ≡ i.epoch) × All (IsNotBelow start) i.requests
 
-begin_rests : (i : InstanceEntry) (session drawn start epoch : ℕ) (least : Option ℕ) → least_unsettled i.requests drawn ≡ least → (answer_begin i session drawn least).answer ≡ Ok (Begun start epoch) → Begins i start epoch
-begin_rests i session drawn start epoch None none e =
+begin_rests : (i : InstanceEntry) (session : ℕ) (held : Held) (drawn start epoch : ℕ) (wait : Option ℕ) → least_unsettled i.requests drawn ≡ wait → (answer_begin i session held drawn wait).answer ≡ Ok (Begun start epoch) → Begins i start epoch
+begin_rests i session held drawn start epoch None none e =
     let same = ok_same (Begun drawn i.epoch) (Begun start epoch) e in
     let starts : drawn ≡ start = cc in
     let epochs : epoch ≡ i.epoch = cc in
     (epochs, subst (λ (s : ℕ). All (IsNotBelow s) i.requests) starts (none_waits i.requests drawn none))
-begin_rests i session drawn start epoch (Some commit) some e = absurd (err_ok (cause.NotYet commit) (Begun start epoch) e)
+begin_rests i session held drawn start epoch (Some commit) some e = absurd (err_ok (cause.NotYet commit) (Begun start epoch) e)
 
 no_begun : (commit start epoch : ℕ) (how : How) → answered (reply_of commit how) ≡ Ok (Begun start epoch) → ⊥
 no_begun commit start epoch how.Placed e = let same = ok_same (Committed commit) (Begun start epoch) e in cc
 no_begun commit start epoch how.Invalid e = let same = ok_same Invalid (Begun start epoch) e in cc
 no_begun commit start epoch how.Faulted e = let same = ok_same Open (Begun start epoch) e in cc
 
-at_rests : (i : InstanceEntry) (session start epoch : ℕ) (request : Request) (progress : Progress) → (answer_at i session request progress).answer ≡ Ok (Begun start epoch) → Begins i start epoch
-at_rests i session start epoch (Begin s) Asked e = absurd (err_ok (cause.NoRequest session) (Begun start epoch) e)
-at_rests i session start epoch (Begin s) Accepted e = absurd (err_ok (cause.NoRequest session) (Begun start epoch) e)
-at_rests i session start epoch (Begin s) (Drawn drawn) e = begin_rests i session drawn start epoch (least_unsettled i.requests drawn) refl e
-at_rests i session start epoch (Begin s) (Settled commit how) e = absurd (err_ok (cause.NoRequest session) (Begun start epoch) e)
-at_rests i session start epoch (Commit s from keys) Asked e = absurd (err_ok (cause.NoRequest session) (Begun start epoch) e)
-at_rests i session start epoch (Commit s from keys) Accepted e = absurd (err_ok (cause.NoRequest session) (Begun start epoch) e)
-at_rests i session start epoch (Commit s from keys) (Drawn stamp) e = absurd (err_ok (cause.NoRequest session) (Begun start epoch) e)
-at_rests i session start epoch (Commit s from keys) (Settled commit how) e = absurd (no_begun commit start epoch how e)
+ready_rests : (i : InstanceEntry) (session start epoch : ℕ) (held : Held) (request : Request) (progress : Progress) → (answer_if_ready i session held request progress).answer ≡ Ok (Begun start epoch) → Begins i start epoch
+ready_rests i session start epoch held (Begin s) (Drawn drawn) e = begin_rests i session held drawn start epoch (least_unsettled i.requests drawn) refl e
+ready_rests i session start epoch held (Commit s from keys) (Settled commit how) e = absurd (no_begun commit start epoch how e)
+ready_rests i session start epoch held request progress e = absurd (err_ok (cause.NoRequest session) (Begun start epoch) e)
 
 held_rests : (i : InstanceEntry) (session start epoch : ℕ) (held : Option Held) → (answer_held i session held).answer ≡ Ok (Begun start epoch) → Begins i start epoch
 held_rests i session start epoch None e = absurd (err_ok (cause.NoRequest session) (Begun start epoch) e)
-held_rests i session start epoch (Some held) e = at_rests i session start epoch held.request held.progress e
+held_rests i session start epoch (Some held) e = ready_rests i session start epoch held held.request held.progress e
 
 pub begun_rests : (i : InstanceEntry) (session start epoch : ℕ) → (instance_answer i session).answer ≡ Ok (Begun start epoch) → Begins i start epoch
 begun_rests i session start epoch e = held_rests i session start epoch (held_of i session) e

@@ -9,7 +9,7 @@ use Rattle.oracle_parts.specs.declared.instance.Held.{Held}
 use Rattle.oracle_parts.specs.declared.instance.Decided.{Decided}
 use Rattle.oracle_parts.specs.declared.instance.Decided.TheVariants as decided
 use Rattle.oracle_parts.specs.Instance.{InstanceEntry, instance_new, held_of}
-use Rattle.oracle_parts.specs.InstanceSteps.{InstanceStep, decide_drawn, decide_held, instance_decide}
+use Rattle.oracle_parts.specs.InstanceSteps.{InstanceStep, decided_by, decide_drawn, instance_decide}
 use Rattle.oracle_parts.specs.InstanceLaws.{InstanceCall, Asks, Accepts, Decides, Settles, Answers, Widens, Renews, Stops, after_call, CanCall, IsInRange, GoesUp, stamp_of, DrawsNext}
 use Rattle.oracle_parts.proofs.InstanceMoves.{Quiet, quiet_ask, quiet_accept, quiet_settle, quiet_answer, Refuses, Draws, DrawsFor, held_cases}
 
@@ -28,13 +28,12 @@ quiet_goes_up i j q =
       until = omega arith;
     }
 
-drawn_goes_up : (i : InstanceEntry) (session : ℕ) (request : Request) → GoesUp i (decide_drawn i session request (i.last + 1)).left
-drawn_goes_up i session (Begin s) = record { node = refl; term = refl; epoch = refl; slots = refl; last = omega arith; ceiling = omega arith; until = omega arith }
-drawn_goes_up i session (Commit s start keys) = record { node = refl; term = refl; epoch = refl; slots = refl; last = omega arith; ceiling = omega arith; until = omega arith }
+drawn_goes_up : (i : InstanceEntry) (session : ℕ) (held : Held) → GoesUp i (decide_drawn i session held (i.last + 1)).left
+drawn_goes_up i session held = record { node = refl; term = refl; epoch = refl; slots = refl; last = omega arith; ceiling = omega arith; until = omega arith }
 
 draws_goes_up : (i : InstanceEntry) (session : ℕ) (held : Option Held) (step : InstanceStep Decided) → DrawsFor i session held step → GoesUp i step.left
 draws_goes_up i session None step d = absurd d
-draws_goes_up i session (Some held) step d = rw d.made (drawn_goes_up i session held.request)
+draws_goes_up i session (Some held) step d = rw d.made (drawn_goes_up i session held)
 
 pub goes_up : (i : InstanceEntry) (call : InstanceCall) → CanCall i call → GoesUp i (after_call i call)
 goes_up i (Asks request) can = quiet_goes_up i (after_call i (Asks request)) (quiet_ask i request)
@@ -66,13 +65,18 @@ answered d = Ok d
 same_ok : (a b : Decided) → answered a ≡ answered b → a ≡ b
 same_ok a b e = cc
 
-drawn_next : (i : InstanceEntry) (session : ℕ) (request : Request) (d : Decided) → IsInRange i → i.last ≢ i.ceiling → (decide_drawn i session request (i.last + 1)).answer ≡ Ok d → DrawsNext i (stamp_of d) (decide_drawn i session request (i.last + 1)).left
-drawn_next i session (Begin s) d r room e = rw (← (same_ok (decided.Started (i.last + 1)) d e)) (record { next = refl; above = omega (arith, r.above); within = room_left i.last i.ceiling r.within room; last = refl })
-drawn_next i session (Commit s start keys) d r room e = rw (← (same_ok (decided.Drawn (i.last + 1)) d e)) (record { next = refl; above = omega (arith, r.above); within = room_left i.last i.ceiling r.within room; last = refl })
+pub stamp_of-decided_by : (request : Request) (stamp : ℕ) → stamp_of (decided_by request stamp) ≡ stamp
+stamp_of-decided_by (Begin s) stamp = refl
+stamp_of-decided_by (Commit s start keys) stamp = refl
+
+drawn_next : (i : InstanceEntry) (session : ℕ) (held : Held) (d : Decided) → IsInRange i → i.last ≢ i.ceiling → (decide_drawn i session held (i.last + 1)).answer ≡ Ok d → DrawsNext i (stamp_of d) (decide_drawn i session held (i.last + 1)).left
+drawn_next i session held d r room e =
+    let same : stamp_of d ≡ i.last + 1 = ap stamp_of (sym (same_ok (decided_by held.request (i.last + 1)) d e)) ∙ stamp_of-decided_by held.request (i.last + 1) in
+    record { next = same; above = omega (arith, r.above); within = rw same (room_left i.last i.ceiling r.within room); last = sym same }
 
 draws_next : (i : InstanceEntry) (session : ℕ) (held : Option Held) (step : InstanceStep Decided) (d : Decided) → IsInRange i → DrawsFor i session held step → step.answer ≡ Ok d → DrawsNext i (stamp_of d) step.left
 draws_next i session None step d r drew e = absurd drew
-draws_next i session (Some held) step d r drew e = rw drew.made (drawn_next i session held.request d r drew.room (sym (ap (λ (s : InstanceStep Decided). s.answer) drew.made) ∙ e))
+draws_next i session (Some held) step d r drew e = rw drew.made (drawn_next i session held d r drew.room (sym (ap (λ (s : InstanceStep Decided). s.answer) drew.made) ∙ e))
 
 pub stamp_next : (i : InstanceEntry) (session : ℕ) (d : Decided) → IsInRange i → (instance_decide i session).answer ≡ Ok d → DrawsNext i (stamp_of d) (instance_decide i session).left
 stamp_next i session d r e = elim (held_cases i session (held_of i session)) [
@@ -80,13 +84,12 @@ stamp_next i session d r e = elim (held_cases i session (held_of i session)) [
   | inr drew ↦ draws_next i session (held_of i session) (instance_decide i session) d r drew e
 ]
 
-drawn_in_range : (i : InstanceEntry) (session : ℕ) (request : Request) → IsInRange i → i.last ≢ i.ceiling → IsInRange (decide_drawn i session request (i.last + 1)).left
-drawn_in_range i session (Begin s) r room = record { above = omega (arith, r.above); within = room_left i.last i.ceiling r.within room }
-drawn_in_range i session (Commit s start keys) r room = record { above = omega (arith, r.above); within = room_left i.last i.ceiling r.within room }
+drawn_in_range : (i : InstanceEntry) (session : ℕ) (held : Held) → IsInRange i → i.last ≢ i.ceiling → IsInRange (decide_drawn i session held (i.last + 1)).left
+drawn_in_range i session held r room = record { above = omega (arith, r.above); within = room_left i.last i.ceiling r.within room }
 
 draws_in_range : (i : InstanceEntry) (session : ℕ) (held : Option Held) (step : InstanceStep Decided) → IsInRange i → DrawsFor i session held step → IsInRange step.left
 draws_in_range i session None step r drew = absurd drew
-draws_in_range i session (Some held) step r drew = rw drew.made (drawn_in_range i session held.request r drew.room)
+draws_in_range i session (Some held) step r drew = rw drew.made (drawn_in_range i session held r drew.room)
 
 pub stays_in_range : (i : InstanceEntry) (call : InstanceCall) → CanCall i call → IsInRange i → IsInRange (after_call i call)
 stays_in_range i (Asks request) can r = quiet_in_range i (after_call i (Asks request)) (quiet_ask i request) r

@@ -1,5 +1,5 @@
 -- What the calls of an instance change besides its requests.
-use Rattle.std.proofs.Common.{◌≡◌, ◌≢◌, ℕ, ◌+◌, ◌≤◌, ◌==◌, max, Bool, true, false, Option, Some, None, Result, Ok, Err, ◌⊎◌, inl, inr, refl, if◌then◌else◌}
+use Rattle.std.proofs.Common.{◌≡◌, ◌≢◌, ℕ, ◌+◌, ◌==◌, Bool, true, false, Option, Some, None, Result, Ok, Err, ◌⊎◌, inl, inr, refl, if◌then◌else◌}
 use Rattle.std.proofs.lemmas.Bool.{eqb-false}
 use Rattle.history_book.specs.declared.cause.Cause.{Cause}
 use Rattle.history_book.specs.declared.cause.Cause.TheVariants as cause
@@ -12,16 +12,15 @@ use Rattle.oracle_parts.specs.declared.instance.Progress.TheVariants.{Asked, Acc
 use Rattle.oracle_parts.specs.declared.instance.Held.{Held}
 use Rattle.oracle_parts.specs.declared.instance.Settled.{Settled as How}
 use Rattle.oracle_parts.specs.declared.instance.Decided.{Decided}
-use Rattle.oracle_parts.specs.declared.instance.Decided.TheVariants as decided
-use Rattle.oracle_parts.specs.Instance.{InstanceEntry, held_of, in_flight, session_of, unsettled_by, least_unsettled}
-use Rattle.oracle_parts.specs.InstanceSteps.{InstanceStep, stays, ends, no_request, moved, without_request, instance_ask, accept_refusal, accept_by, accept_at, accept_held, instance_accept, out_of_stamps, decide_drawn, decide_free, decide_by, request_verdict, decide_at, decide_held, instance_decide, settle_by, settle_held, instance_settle, answer_begin, answer_at, answer_held, instance_answer}
+use Rattle.oracle_parts.specs.Instance.{InstanceEntry, held_of, in_flight, with_request, session_of, unsettled_by, least_unsettled}
+use Rattle.oracle_parts.specs.InstanceSteps.{InstanceStep, stays, just_asked, instance_ask, accept_refusal, accept_unless, accept_if_asked, accept_held, instance_accept, out_of_stamps, decide_drawn, decide_by, request_verdict, decide_if_accepted, decide_held, settle_if_drawn, settle_held, instance_settle, answer_begin, answer_if_ready, answer_held, instance_answer}
 
 -- all but the requests is as before
 abbrev pub Quiet : InstanceEntry → InstanceEntry → Type 0
 Quiet i j = j ≡ record i { requests = j.requests }
 
 -- ---- ask
-quiet_ask_by : (i : InstanceEntry) (request : Request) (full : Bool) → Quiet i (if full then stays {A = Unit {0}} i (cause.Full (in_flight i)) else record { left = moved i (session_of request) request Asked; answer = Ok tt }).left
+quiet_ask_by : (i : InstanceEntry) (request : Request) (full : Bool) → Quiet i (if full then stays {A = Unit {0}} i (cause.Full (in_flight i)) else record { left = with_request i (session_of request) (Some (just_asked request)); answer = Ok tt }).left
 quiet_ask_by i request true = refl
 quiet_ask_by i request false = refl
 
@@ -29,53 +28,46 @@ pub quiet_ask : (i : InstanceEntry) (request : Request) → Quiet i (instance_as
 quiet_ask i request = quiet_ask_by i request (in_flight i == i.slots)
 
 -- ---- accept
-quiet_accept_by : (i : InstanceEntry) (session : ℕ) (request : Request) (why : Option Cause) → Quiet i (accept_by i session request why).left
-quiet_accept_by i session request None = refl
-quiet_accept_by i session request (Some why) = refl
+quiet_accept_unless : (i : InstanceEntry) (session : ℕ) (held : Held) (why : Option Cause) → Quiet i (accept_unless i session held why).left
+quiet_accept_unless i session held None = refl
+quiet_accept_unless i session held (Some why) = refl
 
-quiet_accept_at : (i : InstanceEntry) (session reading : ℕ) (request : Request) (progress : Progress) → Quiet i (accept_at i session reading request progress).left
-quiet_accept_at i session reading request Asked = quiet_accept_by i session request (accept_refusal i reading request)
-quiet_accept_at i session reading request Accepted = refl
-quiet_accept_at i session reading request (Drawn stamp) = refl
-quiet_accept_at i session reading request (Settled commit how) = refl
+quiet_accept_if_asked : (i : InstanceEntry) (session reading : ℕ) (held : Held) (progress : Progress) → Quiet i (accept_if_asked i session reading held progress).left
+quiet_accept_if_asked i session reading held Asked = quiet_accept_unless i session held (accept_refusal i reading held.request)
+quiet_accept_if_asked i session reading held _ = refl
 
 quiet_accept_held : (i : InstanceEntry) (session reading : ℕ) (held : Option Held) → Quiet i (accept_held i session reading held).left
 quiet_accept_held i session reading None = refl
-quiet_accept_held i session reading (Some held) = quiet_accept_at i session reading held.request held.progress
+quiet_accept_held i session reading (Some held) = quiet_accept_if_asked i session reading held held.progress
 
 pub quiet_accept : (i : InstanceEntry) (session reading : ℕ) → Quiet i (instance_accept i session reading).left
 quiet_accept i session reading = quiet_accept_held i session reading (held_of i session)
 
 -- ---- settle
-quiet_settle_by : (i : InstanceEntry) (session : ℕ) (how : How) (request : Request) (commit : Option ℕ) → Quiet i (settle_by i session how request commit).left
-quiet_settle_by i session how request None = refl
-quiet_settle_by i session how request (Some commit) = refl
+quiet_settle_if_drawn : (i : InstanceEntry) (session : ℕ) (how : How) (held : Held) (commit : Option ℕ) → Quiet i (settle_if_drawn i session how held commit).left
+quiet_settle_if_drawn i session how held None = refl
+quiet_settle_if_drawn i session how held (Some commit) = refl
 
 quiet_settle_held : (i : InstanceEntry) (session : ℕ) (how : How) (held : Option Held) → Quiet i (settle_held i session how held).left
 quiet_settle_held i session how None = refl
-quiet_settle_held i session how (Some held) = quiet_settle_by i session how held.request (unsettled_by held.request held.progress)
+quiet_settle_held i session how (Some held) = quiet_settle_if_drawn i session how held (unsettled_by held.request held.progress)
 
 pub quiet_settle : (i : InstanceEntry) (session : ℕ) (how : How) → Quiet i (instance_settle i session how).left
 quiet_settle i session how = quiet_settle_held i session how (held_of i session)
 
 -- ---- answer
-quiet_answer_begin : (i : InstanceEntry) (session start : ℕ) (least : Option ℕ) → Quiet i (answer_begin i session start least).left
-quiet_answer_begin i session start None = refl
-quiet_answer_begin i session start (Some commit) = refl
+quiet_answer_begin : (i : InstanceEntry) (session : ℕ) (held : Held) (start : ℕ) (wait : Option ℕ) → Quiet i (answer_begin i session held start wait).left
+quiet_answer_begin i session held start None = refl
+quiet_answer_begin i session held start (Some commit) = refl
 
-quiet_answer_at : (i : InstanceEntry) (session : ℕ) (request : Request) (progress : Progress) → Quiet i (answer_at i session request progress).left
-quiet_answer_at i session (Begin s) Asked = refl
-quiet_answer_at i session (Begin s) Accepted = refl
-quiet_answer_at i session (Begin s) (Drawn start) = quiet_answer_begin i session start (least_unsettled i.requests start)
-quiet_answer_at i session (Begin s) (Settled commit how) = refl
-quiet_answer_at i session (Commit s start keys) Asked = refl
-quiet_answer_at i session (Commit s start keys) Accepted = refl
-quiet_answer_at i session (Commit s start keys) (Drawn stamp) = refl
-quiet_answer_at i session (Commit s start keys) (Settled commit how) = refl
+quiet_answer_if_ready : (i : InstanceEntry) (session : ℕ) (held : Held) (request : Request) (progress : Progress) → Quiet i (answer_if_ready i session held request progress).left
+quiet_answer_if_ready i session held (Begin s) (Drawn start) = quiet_answer_begin i session held start (least_unsettled i.requests start)
+quiet_answer_if_ready i session held (Commit s start keys) (Settled commit how) = refl
+quiet_answer_if_ready i session held request progress = refl
 
 quiet_answer_held : (i : InstanceEntry) (session : ℕ) (held : Option Held) → Quiet i (answer_held i session held).left
 quiet_answer_held i session None = refl
-quiet_answer_held i session (Some held) = quiet_answer_at i session held.request held.progress
+quiet_answer_held i session (Some held) = quiet_answer_if_ready i session held held.request held.progress
 
 pub quiet_answer : (i : InstanceEntry) (session : ℕ) → Quiet i (instance_answer i session).left
 quiet_answer i session = quiet_answer_held i session (held_of i session)
@@ -87,10 +79,10 @@ pub record Refuses (i : InstanceEntry) (step : InstanceStep Decided) : Type 0 wh
   pub never : (d : Decided) → step.answer ≡ Ok d → ⊥
 
 -- a decision that draws the next stamp for a request
-pub record Draws (i : InstanceEntry) (session : ℕ) (request : Request) (step : InstanceStep Decided) : Type 0 where
-  pub free : request_verdict i.buckets request ≡ Free
+pub record Draws (i : InstanceEntry) (session : ℕ) (held : Held) (step : InstanceStep Decided) : Type 0 where
+  pub free : request_verdict i.buckets held.request ≡ Free
   pub room : i.last ≢ i.ceiling
-  pub made : step ≡ decide_drawn i session request (i.last + 1)
+  pub made : step ≡ decide_drawn i session held (i.last + 1)
 
 abbrev refusal : Cause → Result Decided Cause
 refusal why = Err why
@@ -98,32 +90,30 @@ refusal why = Err why
 err_never : (why : Cause) (d : Decided) → refusal why ≡ Ok d → ⊥
 err_never why d e = cc
 
-out_refuses : (i : InstanceEntry) (session : ℕ) (stop : Option Cause) → Refuses i (out_of_stamps i session stop)
-out_refuses i session None = record { quiet = refl; never = err_never (cause.NoStamp i.last) }
-out_refuses i session (Some why) = record { quiet = refl; never = err_never why }
+out_refuses : (i : InstanceEntry) (session : ℕ) (held : Held) (stop : Option Cause) → Refuses i (out_of_stamps i session held stop)
+out_refuses i session held None = record { quiet = refl; never = err_never (cause.NoStamp i.last) }
+out_refuses i session held (Some why) = record { quiet = refl; never = err_never why }
 
-free_cases : (i : InstanceEntry) (session : ℕ) (request : Request) (out : Bool) → let step : InstanceStep Decided = (if out then out_of_stamps i session i.stop else decide_drawn i session request (i.last + 1)) in Refuses i step ⊎ ((out ≡ false) × (step ≡ decide_drawn i session request (i.last + 1)))
-free_cases i session request true = inl (out_refuses i session i.stop)
-free_cases i session request false = inr (refl, refl)
+free_cases : (i : InstanceEntry) (session : ℕ) (held : Held) (out : Bool) → let step : InstanceStep Decided = (if out then out_of_stamps i session held i.stop else decide_drawn i session held (i.last + 1)) in Refuses i step ⊎ ((out ≡ false) × (step ≡ decide_drawn i session held (i.last + 1)))
+free_cases i session held true = inl (out_refuses i session held i.stop)
+free_cases i session held false = inr (refl, refl)
 
-by_cases : (i : InstanceEntry) (session : ℕ) (request : Request) (v : Verdict) → request_verdict i.buckets request ≡ v → Refuses i (decide_by i session request v) ⊎ Draws i session request (decide_by i session request v)
-by_cases i session request Free e = elim (free_cases i session request (i.last == i.ceiling)) [
+by_cases : (i : InstanceEntry) (session : ℕ) (held : Held) (v : Verdict) → request_verdict i.buckets held.request ≡ v → Refuses i (decide_by i session held v) ⊎ Draws i session held (decide_by i session held v)
+by_cases i session held Free e = elim (free_cases i session held (i.last == i.ceiling)) [
   | inl r ↦ inl r
   | inr d ↦ inr (record { free = e; room = eqb-false i.last i.ceiling d.0; made = d.1 })
 ]
-by_cases i session request (Conflict key by) e = inl (record { quiet = refl; never = err_never (cause.Conflict key by) })
-by_cases i session request (Hidden key water) e = inl (record { quiet = refl; never = err_never (cause.Hidden key water) })
+by_cases i session held (Conflict key by) e = inl (record { quiet = refl; never = err_never (cause.Conflict key by) })
+by_cases i session held (Hidden key water) e = inl (record { quiet = refl; never = err_never (cause.Hidden key water) })
 
-at_cases : (i : InstanceEntry) (session : ℕ) (request : Request) (progress : Progress) → Refuses i (decide_at i session request progress) ⊎ Draws i session request (decide_at i session request progress)
-at_cases i session request Asked = inl (record { quiet = refl; never = err_never (cause.NoRequest session) })
-at_cases i session request Accepted = by_cases i session request (request_verdict i.buckets request) refl
-at_cases i session request (Drawn stamp) = inl (record { quiet = refl; never = err_never (cause.NoRequest session) })
-at_cases i session request (Settled commit how) = inl (record { quiet = refl; never = err_never (cause.NoRequest session) })
+if_accepted_cases : (i : InstanceEntry) (session : ℕ) (held : Held) (progress : Progress) → Refuses i (decide_if_accepted i session held progress) ⊎ Draws i session held (decide_if_accepted i session held progress)
+if_accepted_cases i session held Accepted = by_cases i session held (request_verdict i.buckets held.request) refl
+if_accepted_cases i session held _ = inl (record { quiet = refl; never = err_never (cause.NoRequest session) })
 
 abbrev pub DrawsFor : InstanceEntry → ℕ → Option Held → InstanceStep Decided → Type 0
 DrawsFor i session None step = ⊥
-DrawsFor i session (Some held) step = Draws i session held.request step
+DrawsFor i session (Some held) step = Draws i session held step
 
 pub held_cases : (i : InstanceEntry) (session : ℕ) (held : Option Held) → Refuses i (decide_held i session held) ⊎ DrawsFor i session held (decide_held i session held)
 held_cases i session None = inl (record { quiet = refl; never = err_never (cause.NoRequest session) })
-held_cases i session (Some held) = at_cases i session held.request held.progress
+held_cases i session (Some held) = if_accepted_cases i session held held.progress

@@ -1,5 +1,6 @@
 -- What an instance records rises, and a commit is drawn only where nothing was recorded above its start.
 use Rattle.std.proofs.Common.{◌≡◌, ℕ, zero, suc, ◌+◌, ◌<◌, ◌≤◌, List, [], ◌∷◌, ◌++◌, map, replicate, length, Option, Some, None, Result, Ok, Err, ◌⊎◌, inl, inr, refl, sym, subst, ap, ◌∙◌, arith, All, AllPairs}
+use Rattle.std.specs.Prelude.{slice_index_or}
 use Rattle.std.proofs.lemmas.List.{append-nil}
 use Rattle.std.proofs.lemmas.List.Elements.{All-nil, All-cons, All-head, All-tail, All-append, All-map}
 use Rattle.std.proofs.lemmas.List.Kept.{AllPairs-cons}
@@ -15,21 +16,14 @@ use Rattle.oracle_parts.specs.declared.instance.Decided.{Decided}
 use Rattle.oracle_parts.specs.declared.instance.Decided.TheVariants as decided
 use Rattle.oracle_parts.specs.Buckets.{Bucket, empty_bucket, contents, record_pairs, pair_of, pairs_of, verdict, CommitsRise, IsShown}
 use Rattle.oracle_parts.specs.Instance.{InstanceEntry, instance_new, held_of}
-use Rattle.oracle_parts.specs.InstanceSteps.{InstanceStep, decide_drawn, request_verdict, instance_decide}
-use Rattle.oracle_parts.specs.InstanceLaws.{InstanceCall, Asks, Accepts, Decides, Settles, Answers, Widens, Renews, Stops, after_call, IsRecordedIn, pairs_by, decided_pairs, call_pairs, RequestIsFree, HeldIsFree}
+use Rattle.oracle_parts.specs.InstanceSteps.{InstanceStep, pairs_by, decide_drawn, request_verdict, instance_decide}
+use Rattle.oracle_parts.specs.InstanceLaws.{InstanceCall, Asks, Accepts, Decides, Settles, Answers, Widens, Renews, Stops, after_call, IsRecordedIn, decided_pairs, call_pairs, RequestIsFree, HeldIsFree}
 use Rattle.oracle_parts.proofs.BucketVerdicts.{record_pairs-append, verdict_shown}
+use Rattle.oracle_parts.proofs.LastCommits.{NotAfter, rise_tail, rise_head}
+use Rattle.oracle_parts.proofs.InstanceLemmas.{stamp_of-decided_by}
 use Rattle.oracle_parts.proofs.InstanceMoves.{Quiet, quiet_ask, quiet_accept, quiet_settle, quiet_answer, Refuses, Draws, DrawsFor, held_cases}
 
 -- ---- pairs
-abbrev NotAfter : Recorded → Recorded → Type 0
-NotAfter earlier later = earlier.commit ≤ later.commit
-
-rise_tail : (pair : Recorded) (pairs : List Recorded) → CommitsRise (pair ∷ pairs) → CommitsRise pairs
-rise_tail pair pairs rise i j d lt within = rise (suc i) (suc j) d (omega arith) (omega arith)
-
-rise_head : (pair : Recorded) (pairs : List Recorded) → CommitsRise (pair ∷ pairs) → All (NotAfter pair) pairs
-rise_head pair pairs rise k d within = rise zero (suc k) d (omega arith) (omega arith)
-
 rise_append : (top : ℕ) (earlier later : List Recorded) → CommitsRise earlier → All (λ pair. pair.commit ≤ top) earlier → CommitsRise later → All (λ pair. top ≤ pair.commit) later → CommitsRise (earlier ++ later)
 rise_append top [] later rise below rest above = rest
 rise_append top (pair ∷ pairs) later rise below rest above =
@@ -57,31 +51,38 @@ quiet_records count width pairs i j q r = record {
 unrecorded : (count width : ℕ) (pairs more : List Recorded) (i : InstanceEntry) → more ≡ [] → IsRecordedIn count width pairs i → IsRecordedIn count width (pairs ++ more) i
 unrecorded count width pairs more i none r = subst (λ (ps : List Recorded). IsRecordedIn count width ps i) (sym (ap (λ (ms : List Recorded). pairs ++ ms) none ∙ append-nil pairs)) r
 
-refused_pairs_by : (request : Request) (answer : Result Decided Cause) → ((d : Decided) → answer ≡ Ok d → ⊥) → pairs_by request answer ≡ []
-refused_pairs_by (Begin s) answer never = refl
-refused_pairs_by (Commit s start keys) (Ok d) never = absurd (never d refl)
-refused_pairs_by (Commit s start keys) (Err why) never = refl
-
 refused_pairs : (held : Option Held) (answer : Result Decided Cause) → ((d : Decided) → answer ≡ Ok d → ⊥) → decided_pairs held answer ≡ []
-refused_pairs None answer never = refl
-refused_pairs (Some held) answer never = refused_pairs_by held.request answer never
+refused_pairs (Some held) (Ok d) never = absurd (never d refl)
+refused_pairs held answer never = refl
 
 later_up_to : (pairs : List Recorded) (last : ℕ) → All (λ pair. pair.commit ≤ last) pairs → All (λ pair. pair.commit ≤ last + 1) pairs
 later_up_to pairs last up_to k d within = let u = up_to k d within in omega (arith, u)
 
-drawn_records : (count width : ℕ) (pairs : List Recorded) (i : InstanceEntry) (session : ℕ) (request : Request) → IsRecordedIn count width pairs i → let step = decide_drawn i session request (i.last + 1) in IsRecordedIn count width (pairs ++ pairs_by request step.answer) step.left
-drawn_records count width pairs i session (Begin s) r = subst (λ (ps : List Recorded). IsRecordedIn count width ps (decide_drawn i session (Begin s) (i.last + 1)).left) (sym (append-nil pairs)) (record { holds = r.holds; rise = r.rise; up_to = later_up_to pairs i.last r.up_to })
-drawn_records count width pairs i session (Commit s start keys) r =
+-- the pairs that a request records with a stamp all have that stamp
+stamped : (P : Recorded → Type 0) (request : Request) (stamp : ℕ) → ((key : ℕ) → P (pair_of stamp key)) → All P (pairs_by request stamp)
+stamped P (Begin s) stamp each = All-nil P
+stamped P (Commit s start keys) stamp each = All-map P (pair_of stamp) keys (λ k d within. each (slice_index_or keys k d))
+
+rise_stamped : (request : Request) (stamp : ℕ) → CommitsRise (pairs_by request stamp)
+rise_stamped (Begin s) stamp = λ i j d lt within. absurd (omega arith)
+rise_stamped (Commit s start keys) stamp = rise_same stamp keys
+
+drawn_records : (count width : ℕ) (pairs : List Recorded) (i : InstanceEntry) (session : ℕ) (held : Held) → IsRecordedIn count width pairs i → IsRecordedIn count width (pairs ++ pairs_by held.request (i.last + 1)) (decide_drawn i session held (i.last + 1)).left
+drawn_records count width pairs i session held r =
     let stamp = i.last + 1 in
+    let more = pairs_by held.request stamp in
     record {
-      holds = ap (λ (b : List Bucket). record_pairs b (pairs_of keys stamp)) r.holds ∙ sym (record_pairs-append (replicate count (empty_bucket width)) pairs (pairs_of keys stamp));
-      rise = rise_append stamp pairs (pairs_of keys stamp) r.rise (later_up_to pairs i.last r.up_to) (rise_same stamp keys) (All-map (λ (p : Recorded). stamp ≤ p.commit) (pair_of stamp) keys (λ k d within. omega arith));
-      up_to = All-append (λ (p : Recorded). p.commit ≤ stamp) pairs (pairs_of keys stamp) (later_up_to pairs i.last r.up_to) (All-map (λ (p : Recorded). p.commit ≤ stamp) (pair_of stamp) keys (λ k d within. omega arith));
+      holds = ap (λ (b : List Bucket). record_pairs b more) r.holds ∙ sym (record_pairs-append (replicate count (empty_bucket width)) pairs more);
+      rise = rise_append stamp pairs more r.rise (later_up_to pairs i.last r.up_to) (rise_stamped held.request stamp) (stamped (λ (p : Recorded). stamp ≤ p.commit) held.request stamp (λ key. omega arith));
+      up_to = All-append (λ (p : Recorded). p.commit ≤ stamp) pairs more (later_up_to pairs i.last r.up_to) (stamped (λ (p : Recorded). p.commit ≤ stamp) held.request stamp (λ key. omega arith));
     }
+
+answered_pairs : (i : InstanceEntry) (session : ℕ) (held : Held) (stamp : ℕ) → decided_pairs (Some held) (decide_drawn i session held stamp).answer ≡ pairs_by held.request stamp
+answered_pairs i session held stamp = ap (pairs_by held.request) (stamp_of-decided_by held.request stamp)
 
 draws_records : (count width : ℕ) (pairs : List Recorded) (i : InstanceEntry) (session : ℕ) (held : Option Held) (step : InstanceStep Decided) → IsRecordedIn count width pairs i → DrawsFor i session held step → IsRecordedIn count width (pairs ++ decided_pairs held step.answer) step.left
 draws_records count width pairs i session None step r drew = absurd drew
-draws_records count width pairs i session (Some held) step r drew = rw drew.made (drawn_records count width pairs i session held.request r)
+draws_records count width pairs i session (Some held) step r drew = rw (drew.made, answered_pairs i session held (i.last + 1)) (drawn_records count width pairs i session held r)
 
 decided_records : (count width : ℕ) (pairs : List Recorded) (i : InstanceEntry) (session : ℕ) → IsRecordedIn count width pairs i → IsRecordedIn count width (pairs ++ call_pairs i (Decides session)) (instance_decide i session).left
 decided_records count width pairs i session r = elim (held_cases i session (held_of i session)) [

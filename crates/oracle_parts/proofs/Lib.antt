@@ -2,8 +2,10 @@ pub mod BucketPairs
 pub mod BucketSteps
 pub mod BucketLaws
 pub mod BucketVerdicts
-pub mod InstanceMoves
+pub mod LastCommits
+mod InstanceMoves
 pub mod InstanceLemmas
+pub mod InstanceRequests
 pub mod InstanceBegins
 pub mod InstanceRecords
 pub mod InstanceStamps

@@ -1,5 +1,5 @@
 -- An oracle's instance, and the requests that it holds.
-use Rattle.std.specs.Prelude.{ℕ, nat_lt, min, List, [], ◌∷◌, replicate, count_by, slice_index_or, slice_set, Option, None, Some, is_some, if◌then◌else◌}
+use Rattle.std.specs.Prelude.{ℕ, Bool, false, nat_lt, min, List, [], ◌∷◌, replicate, count_by, slice_index_or, slice_set, Option, None, Some, is_some, if◌then◌else◌}
 use Rattle.history_book.specs.declared.cause.Cause.{Cause}
 use Rattle.store_parts.specs.declared.record.Grant.{Grant}
 use Rattle.oracle_parts.specs.declared.instance.Request.{Request}
@@ -69,6 +69,30 @@ place_of_held (Some held) = Some (place_of_progress held.progress)
 -- where the request of a session stands
 abbrev pub place_at : InstanceEntry → ℕ → Option Place
 place_at i session = place_of_held (held_of i session)
+
+abbrev pub request_of_held : Option Held → Option (Request × Place)
+request_of_held None = None
+request_of_held (Some held) = Some (held.request, place_of_progress held.progress)
+
+-- the request of a session, and where it stands
+abbrev pub request_at : InstanceEntry → ℕ → Option (Request × Place)
+request_at i session = request_of_held (held_of i session)
+
+abbrev pub no_stamp_of_held : Option Held → Bool
+no_stamp_of_held None = false
+no_stamp_of_held (Some held) = held.told_no_stamp
+
+-- whether the session has a request of which it was told that no stamp is left
+abbrev pub was_told_no_stamp : InstanceEntry → ℕ → Bool
+was_told_no_stamp i session = no_stamp_of_held (held_of i session)
+
+abbrev pub not_yet_of_held : Option Held → Bool
+not_yet_of_held None = false
+not_yet_of_held (Some held) = held.told_not_yet
+
+-- whether the session has a request that it was told to wait with
+abbrev pub was_told_not_yet : InstanceEntry → ℕ → Bool
+was_told_not_yet i session = not_yet_of_held (held_of i session)
 
 -- the start of a request, and of a commit the commit, once it was drawn
 abbrev pub stamps_by : Request → Progress → Option (ℕ × Option ℕ)

@@ -13,9 +13,9 @@ use Rattle.oracle_parts.specs.declared.instance.Decided.{Decided}
 use Rattle.oracle_parts.specs.declared.instance.Decided.TheVariants as decided
 use Rattle.oracle_parts.specs.declared.instance.Reply.{Reply}
 use Rattle.oracle_parts.specs.declared.instance.Reply.TheVariants.{Begun}
-use Rattle.oracle_parts.specs.Buckets.{Bucket, contents, record_pairs, pairs_of, CommitsRise, last_commit}
-use Rattle.oracle_parts.specs.Instance.{InstanceEntry, held_of, unsettled_commit}
-use Rattle.oracle_parts.specs.InstanceSteps.{InstanceStep, CanAskOf, IsStop, instance_ask, instance_accept, instance_decide, instance_settle, instance_answer, instance_widened, instance_renewed, instance_stopped}
+use Rattle.oracle_parts.specs.Buckets.{contents, CommitsRise, last_commit}
+use Rattle.oracle_parts.specs.Instance.{InstanceEntry, session_of, held_of, in_flight, unsettled_commit}
+use Rattle.oracle_parts.specs.InstanceSteps.{pairs_by, instance_ask, instance_accept, instance_decide, instance_settle, instance_answer, instance_widened, instance_renewed, instance_stopped}
 
 -- the calls that change an instance
 pub data InstanceCall : Type 0 where
@@ -42,6 +42,20 @@ after_call i (Stops why) = instance_stopped i why
 abbrev pub CanCall : InstanceEntry → InstanceCall → Type 0
 CanCall i (Widens ceiling) = i.ceiling ≤ ceiling
 CanCall i _ = Unit {0}
+
+-- ---- whose request
+-- the session whose request a call is about
+abbrev pub call_session : InstanceCall → Option ℕ
+call_session (Asks request) = Some (session_of request)
+call_session (Accepts session reading) = Some session
+call_session (Decides session) = Some session
+call_session (Settles session how) = Some session
+call_session (Answers session) = Some session
+call_session _ = None
+
+-- no more requests are held than there are slots
+abbrev pub FitsItsSlots : InstanceEntry → Type 0
+FitsItsSlots i = in_flight i ≤ i.slots
 
 -- ---- stamps
 -- the last stamp is above no other that the range allows
@@ -102,14 +116,10 @@ pub record IsRecordedIn (count width : ℕ) (pairs : List Recorded) (i : Instanc
   pub rise : CommitsRise pairs
   pub up_to : All (λ pair. pair.commit ≤ i.last) pairs
 
--- what a decision on a request records
-abbrev pub pairs_by : Request → Result Decided Cause → List Recorded
-pairs_by (Commit session start keys) (Ok (decided.Drawn stamp)) = pairs_of keys stamp
-pairs_by request answer = []
-
+-- what a decision records for a request
 abbrev pub decided_pairs : Option Held → Result Decided Cause → List Recorded
-decided_pairs None answer = []
-decided_pairs (Some held) answer = pairs_by held.request answer
+decided_pairs (Some held) (Ok drawn) = pairs_by held.request (stamp_of drawn)
+decided_pairs held answer = []
 
 abbrev pub call_pairs : InstanceEntry → InstanceCall → List Recorded
 call_pairs i (Decides session) = decided_pairs (held_of i session) (instance_decide i session).answer

@@ -1,5 +1,6 @@
 // The bounded memory of conflicts: its plain data, and its laws, which range over every list of recorded pairs.
-ghost use Rattle.std.specs.Prelude.{◌≡◌, ◌≤◌, ◌⊎◌, ◌++◌, ℕ, List, length, Some};
+ghost use Rattle.std.specs.Prelude.{◌≡◌, ◌≤◌, ◌⊎◌, ◌++◌, ℕ, List, length, Contains, Some};
+ghost use Rattle.std.specs.Option.{IsSomeAnd};
 ghost use Rattle.oracle_parts.specs.declared.buckets.Recorded.{Recorded};
 ghost use Rattle.oracle_parts.specs.Buckets as memory;
 
@@ -22,6 +23,13 @@ pub enum Verdict {
     /// The key is not kept, and commits above the start were forgotten in its bucket.
     Hidden { key: KeyNo, water: u64 },
 }
+
+/// The last commit of a key was recorded for it, and where commits never fall it is at least each that was.
+pub fn last_commits_are_the_greatest()
+    ensures recorded { (pairs : List Recorded) (key commit : ℕ) → memory.last_commit pairs key ≡ Some commit → Contains pairs (memory.pair_of commit key) }
+    ensures greatest { (pairs : List Recorded) (key commit : ℕ) → memory.CommitsRise pairs → Contains pairs (memory.pair_of commit key) →
+        IsSomeAnd (memory.last_commit pairs key) (λ last. commit ≤ last) }
+{}
 
 /// Where commits never fall, the last commit recorded for a key is kept with that key, or is at most the water of its
 /// bucket.

@@ -4,9 +4,7 @@ use stamp_base::{KeyList, SessionNo, Stamp};
 #[derive(Clone, Copy, Debug, PartialEq, Eq)]
 pub enum Request {
     /// A start is wanted.
-    Begin {
-        session: SessionNo,
-    },
+    Begin { session: SessionNo },
     /// The transaction of that start is to commit what it wrote.
     Commit {
         session: SessionNo,
@@ -54,6 +52,10 @@ pub enum Progress {
 pub struct Held {
     pub request: Request,
     pub progress: Progress,
+    /// Whether its session was told that no stamp is left.
+    pub told_no_stamp: bool,
+    /// Whether its session was told to wait for an earlier commit.
+    pub told_not_yet: bool,
 }
 
 /// The stamp that a decision drew.

@@ -1,13 +1,32 @@
 // The laws of an oracle's instance, over every state and every call.
-ghost use Rattle.std.specs.Prelude.{◌≡◌, ◌≤◌, ◌++◌, ℕ, List, [], All, Option, None, Some, Ok};
+ghost use Rattle.std.specs.Prelude.{◌≡◌, ◌≢◌, ◌<◌, ◌≤◌, ◌++◌, ℕ, List, [], length, All, Option, None, Some, Ok};
 ghost use Rattle.oracle_parts.specs.declared.instance.Held.{Held};
 ghost use Rattle.oracle_parts.specs.declared.buckets.Recorded.{Recorded};
 ghost use Rattle.store_parts.specs.declared.record.Grant.{Grant};
 ghost use Rattle.oracle_parts.specs.declared.instance.Decided.{Decided};
 ghost use Rattle.oracle_parts.specs.declared.instance.Reply.TheVariants.{Begun};
-ghost use Rattle.oracle_parts.specs.Instance.{InstanceEntry, instance_new, held_of, least_unsettled};
+ghost use Rattle.oracle_parts.specs.Instance.{InstanceEntry, instance_new, held_of, with_request, least_unsettled};
 ghost use Rattle.oracle_parts.specs.InstanceSteps.{instance_decide, instance_answer};
 ghost use Rattle.oracle_parts.specs.InstanceLaws as law;
+
+/// A session's request is its own: it is found where it was put, and the requests of the others are as before.
+pub fn requests_stand_apart()
+    ensures same { (i : InstanceEntry) (session : ℕ) (now : Option Held) → session < length i.requests → held_of (with_request i session now) session ≡ now }
+    ensures others { (i : InstanceEntry) (session other : ℕ) (now : Option Held) → other ≢ session → held_of (with_request i session now) other ≡ held_of i other }
+{}
+
+/// A new instance holds no request. Each session keeps its place, and a call on one leaves the requests of the others.
+pub fn calls_leave_other_requests()
+    ensures granted { (grant : Grant) (node count width slots session : ℕ) → held_of (instance_new grant node count width slots) session ≡ None }
+    ensures places { (i : InstanceEntry) (call : law.InstanceCall) → length (law.after_call i call).requests ≡ length i.requests }
+    ensures others { (i : InstanceEntry) (call : law.InstanceCall) (other : ℕ) → law.call_session call ≢ Some other → held_of (law.after_call i call) other ≡ held_of i other }
+{}
+
+/// No more requests are held than there are slots.
+pub fn requests_fit_the_slots()
+    ensures granted { (grant : Grant) (node count width slots : ℕ) → law.FitsItsSlots (instance_new grant node count width slots) }
+    ensures kept { (i : InstanceEntry) (call : law.InstanceCall) → law.FitsItsSlots i → law.FitsItsSlots (law.after_call i call) }
+{}
 
 /// The grant of an instance stays, and its stamps, its range and its lease never go down.
 pub fn instances_go_up()
