@@ -1,0 +1,20 @@
+-- The events, each over the parts that it touches, one file an event.
+pub mod Clock
+pub mod Take
+pub mod Renew
+pub mod Extend
+pub mod Crash
+pub mod AskBegin
+pub mod AskCommit
+pub mod Accept
+pub mod Decide
+pub mod Put
+pub mod Answer
+pub mod Write
+pub mod Fetch
+pub mod Step
+pub mod Heal
+pub mod Abort
+pub mod Vanish
+pub mod SweepOpen
+pub mod SweepStep

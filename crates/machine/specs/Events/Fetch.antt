@@ -1,0 +1,58 @@
+-- A session begins a read by a fetch of the key's cells up to its start. The read goes over these cells, down to the first
+-- that decides by itself; where no step on the stores is needed, it has its answer at once. A failed fetch ends the read
+-- without an answer.
+use Rattle.std.specs.Prelude.{ℕ, List, [], ◌∷◌, Option, None, Some, length}
+use Rattle.stamp_base.specs.declared.stores.Store.{Store}
+use Rattle.stamp_base.specs.declared.stores.Store.TheVariants.{Cells}
+use Rattle.port_io.specs.declared.weather.Fate.{Fate}
+use Rattle.port_io.specs.declared.weather.Fate.TheVariants.{Works}
+use Rattle.history_book.specs.declared.cause.Cause.{Cause}
+use Rattle.history_book.specs.declared.item.Actor.TheVariants.{Session}
+use Rattle.history_book.specs.declared.item.Found.{Found}
+use Rattle.history_book.specs.declared.item.StoreStep.TheVariants as step
+use Rattle.history_book.specs.declared.item.Item.{Item}
+use Rattle.history_book.specs.declared.item.Item.TheVariants as item
+use Rattle.store_parts.specs.declared.rows.Cell.{Cell}
+use Rattle.store_parts.specs.Rows.{Row, fetched, front_of}
+use Rattle.client_parts.specs.SessionSteps.{work_refusal}
+use Rattle.client_parts.specs.KeyRead.{ReadTurn, Asks, Answers, read_over}
+use Rattle.machine.specs.State.{Client, Nothing, Reads}
+use Rattle.machine.specs.Effect.{Effect, done, refused, faulted}
+use Rattle.machine.specs.Clients.{is_reading}
+use Rattle.machine.specs.Events.Write.{open_asks}
+
+abbrev pub found_of : Option (ℕ × List ℕ) → Option Found
+found_of None = None
+found_of (Some found) = Some (record { from = found.0; value = found.1 })
+
+-- a read goes on, or has its answer, and with it the shadow that may be set
+abbrev pub client_read : Client → ReadTurn → Client
+client_read c (Asks r) = record c { under_way = Reads r; heal = None }
+client_read c (Answers a) = record c { under_way = Nothing; heal = a.heal }
+
+abbrev pub read_items : ℕ → ℕ → ℕ → ReadTurn → List Item
+read_items session start key (Asks r) = []
+read_items session start key (Answers a) = item.Read session start key (found_of a.found) ∷ []
+
+-- the fetch, and the read over its cells as far as it goes
+abbrev pub fetch_worked : ℕ → ℕ → ℕ → Client → List Cell → ReadTurn → Effect Client
+fetch_worked session start key c cells turn = done (client_read c turn) (item.Step (Session session) (step.Fetch key (length cells)) ∷ read_items session start key turn)
+
+abbrev pub fetch_by : ℕ → ℕ → ℕ → ℕ → Fate → Client → List Cell → Effect Client
+fetch_by session start epoch key Works c cells = fetch_worked session start key c cells (read_over key start epoch (front_of start cells))
+fetch_by session start epoch key fate c cells = faulted (record c { heal = None }) (Session session) Cells []
+
+abbrev pub fetch_open : ℕ → ℕ → Fate → Client → List Row → Option Cause → Option ℕ → Option ℕ → Effect Client
+fetch_open session key fate c rows (Some why) start epoch = refused c (Session session) why
+fetch_open session key fate c rows None (Some start) (Some epoch) = fetch_by session start epoch key fate c (fetched rows key start)
+fetch_open session key fate c rows None _ _ = done c []
+
+abbrev pub fetch_on : ℕ → ℕ → Fate → Client → List Row → Effect Client
+fetch_on session key fate c rows = fetch_open session key fate c rows (work_refusal c.entry.state (is_reading c)) c.entry.start c.entry.epoch
+
+abbrev pub epoch_asks : Option ℕ → Option Store → Option Store
+epoch_asks None asks = None
+epoch_asks (Some epoch) asks = asks
+
+abbrev pub fetch_asks : Client → Option Store
+fetch_asks c = epoch_asks c.entry.epoch (open_asks (work_refusal c.entry.state (is_reading c)) c.entry.start)

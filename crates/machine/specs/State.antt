@@ -1,0 +1,60 @@
+-- The state of the whole system, as plain data.
+use Rattle.std.specs.Prelude.{ℕ, List, [], Option, None, replicate}
+use Rattle.stamp_base.specs.SetupNumbers.{SetupNumbers}
+use Rattle.store_parts.specs.Rows.{Row}
+use Rattle.std.specs.FinMap as map
+use Rattle.store_parts.specs.Pairs.{Pairs}
+use Rattle.store_parts.specs.Record.{MasterRecord, free_record}
+use Rattle.client_parts.specs.declared.asks.Ask.{Ask}
+use Rattle.client_parts.specs.SessionSteps.{SessionEntry, session_new}
+use Rattle.client_parts.specs.Resolve.{Settling}
+use Rattle.client_parts.specs.KeyRead.{Reading}
+use Rattle.client_parts.specs.Sweep.{Sweeping}
+use Rattle.oracle_parts.specs.Instance.{InstanceEntry}
+
+-- what a session has under way between two of its events
+pub data UnderWay : Type 0 where
+  Nothing : UnderWay
+  -- a read
+  Reads : Reading → UnderWay
+  -- the resolve of its own commit, whose outcome is open
+  Settles : Settling → UnderWay
+  -- the asks of a completion that are left
+  Completes : List Ask → UnderWay
+
+-- a client: its session, what it has under way, and the shadow that its last read offers to set: key, version and commit
+pub record Client : Type 0 where
+  pub entry : SessionEntry
+  pub under_way : UnderWay
+  pub heal : Option (ℕ × ℕ × ℕ)
+
+pub record State : Type 0 where
+  -- the numbers of the setup, which no event changes
+  pub setup : SetupNumbers
+  -- the greatest reading that was handed in
+  pub seen : ℕ
+  -- the 16 clients, by their sessions' numbers
+  pub clients : List Client
+  -- for each node its instance, where it has one
+  pub nodes : List (Option InstanceEntry)
+  -- the open sweep
+  pub sweep : Option Sweeping
+  -- the stores: cells, commit table, master record
+  pub rows : List Row
+  pub pairs : Pairs
+  pub master : MasterRecord
+
+abbrev pub client_new : Client
+client_new = record { entry = session_new; under_way = Nothing; heal = None }
+
+abbrev pub opening : SetupNumbers → State
+opening setup = record {
+  setup = setup;
+  seen = 0;
+  clients = replicate 16 client_new;
+  nodes = replicate setup.nodes None;
+  sweep = None;
+  rows = [];
+  pairs = map.empty;
+  master = free_record;
+}
