@@ -1,0 +1,11 @@
+pub mod Words
+pub mod Pending
+pub mod Quiet
+pub mod Numbers
+pub mod Requests
+pub mod Memory
+pub mod Cells
+pub mod UnderWay
+pub mod Begins
+pub mod Reads
+pub mod Holds

@@ -1,0 +1,20 @@
+-- The conflict memory: what an instance's buckets hold, and that drawn commits of one key are apart.
+use Rattle.std.specs.Prelude.{◌≡◌, ◌≢◌, ℕ, ◌<◌, ◌⊎◌, List, Option}
+use Rattle.history_book.specs.Isolation.{Wrote}
+use Rattle.history_book.specs.declared.item.Item.{Item}
+use Rattle.stamp_base.specs.SetupNumbers.{SetupNumbers}
+use Rattle.oracle_parts.specs.Buckets.{contents}
+use Rattle.oracle_parts.specs.Instance.{InstanceEntry}
+use Rattle.isolation_laws.specs.Words.{InstanceAt, DrewCommit, recorded}
+
+-- the buckets of an instance hold what the commits drawn in its term recorded
+pub record AreRecorded (setup : SetupNumbers) (nodes : List (Option InstanceEntry)) (h : List Item) : Type 0 where
+  pub hold : (n : ℕ) (i : InstanceEntry) → InstanceAt nodes n i → i.buckets ≡ contents setup.buckets setup.width (recorded h i.term)
+
+-- of two transactions that wrote one key, and have drawn their commits, the one's commit is below the other's start
+pub record DrawnApart (h : List Item) : Type 0 where
+  pub apart : (r s n m term other t c u d k : ℕ) (v w : List ℕ) → DrewCommit h r n term t c → DrewCommit h s m other u d → t ≢ u → Wrote h t k v → Wrote h u k w → (c < u) ⊎ (d < t)
+
+pub record MemoryFacts (setup : SetupNumbers) (nodes : List (Option InstanceEntry)) (h : List Item) : Type 0 where
+  pub recorded : AreRecorded setup nodes h
+  pub apart : DrawnApart h

@@ -1,0 +1,107 @@
+-- The words in which the facts are told: what stands where in a state, and what a history has.
+use Rattle.std.specs.Prelude.{◌≡◌, ◌≢◌, ℕ, ◌<◌, ◌≤◌, ◌==◌, Bool, true, false, IsTrue, if◌then◌else◌, List, [], ◌∷◌, ◌++◌, slice_get, Option, None, Some}
+use Rattle.stamp_base.specs.declared.stores.Mark.TheVariants.{Committed as CommittedMark, Invalid as InvalidMark}
+use Rattle.history_book.specs.Members.{◌∈◌}
+use Rattle.history_book.specs.declared.item.Item.{Item}
+use Rattle.history_book.specs.declared.item.Item.TheVariants.{Begin, Draw, Write}
+use Rattle.store_parts.specs.declared.rows.Cell.{Cell}
+use Rattle.store_parts.specs.Pairs.{Pairs, mark_of}
+use Rattle.client_parts.specs.declared.session.State.{State as SessionState}
+use Rattle.client_parts.specs.declared.session.State.TheVariants as phase
+use Rattle.client_parts.specs.SessionSteps.{SessionEntry, key_added, has_transaction}
+use Rattle.oracle_parts.specs.declared.buckets.Recorded.{Recorded}
+use Rattle.oracle_parts.specs.declared.instance.Held.{Held}
+use Rattle.oracle_parts.specs.declared.instance.Progress.{Progress}
+use Rattle.oracle_parts.specs.declared.instance.Request.{Request}
+use Rattle.oracle_parts.specs.Buckets.{pairs_of}
+use Rattle.oracle_parts.specs.Instance.{InstanceEntry, held_of}
+use Rattle.machine.specs.State.{UnderWay, Client}
+
+-- ---- what stands where
+-- the node has this instance
+abbrev pub InstanceAt : List (Option InstanceEntry) → ℕ → InstanceEntry → Type 0
+InstanceAt nodes n i = slice_get nodes n ≡ Some (Some i)
+
+-- the instance holds this request of the session, and it has come this far
+pub record HeldBy (i : InstanceEntry) (s : ℕ) (request : Request) (progress : Progress) : Type 0 where
+  pub held : Held
+  pub has : held_of i s ≡ Some held
+  pub asks : held.request ≡ request
+  pub stands : held.progress ≡ progress
+
+abbrev pub ClientAt : List Client → ℕ → Client → Type 0
+ClientAt clients s c = slice_get clients s ≡ Some c
+
+-- the session is in this state with this transaction
+pub record TxnAt (clients : List Client) (s : ℕ) (state : SessionState) (t : ℕ) : Type 0 where
+  pub client : Client
+  pub at : ClientAt clients s client
+  pub state_is : client.entry.state ≡ state
+  pub start_is : client.entry.start ≡ Some t
+
+-- the session has the transaction t open, and reads by the epoch e
+pub record OpenAt (clients : List Client) (s t e : ℕ) : Type 0 where
+  pub client : Client
+  pub at : ClientAt clients s client
+  pub state_is : client.entry.state ≡ phase.Open
+  pub start_is : client.entry.start ≡ Some t
+  pub epoch_is : client.entry.epoch ≡ Some e
+
+-- ---- what a history has
+abbrev pub Begun : List Item → ℕ → ℕ → Type 0
+Begun h s t = Begin s t ∈ h
+
+abbrev pub DrewStart : List Item → ℕ → ℕ → ℕ → ℕ → Type 0
+DrewStart h s n term t = Draw s n term t None ∈ h
+
+abbrev pub DrewCommit : List Item → ℕ → ℕ → ℕ → ℕ → ℕ → Type 0
+DrewCommit h s n term t c = Draw s n term t (Some c) ∈ h
+
+-- a commit was drawn for the transaction
+abbrev pub HasDrawn : List Item → ℕ → Type 0
+HasDrawn h t = (s : ℕ) × (n : ℕ) × (term : ℕ) × (c : ℕ) × DrewCommit h s n term t c
+
+-- the stamp that an item draws in a term for a start: the commit, or the start
+abbrev pub drawn_stamp : ℕ → Option ℕ → ℕ
+drawn_stamp t None = t
+drawn_stamp t (Some c) = c
+
+-- the write list after an item
+abbrev pub keys_with : List ℕ → ℕ → Item → List ℕ
+keys_with keys t (Write session start key value) = if start == t then key_added keys key else keys
+keys_with keys t _ = keys
+
+unfoldable pub keys_from : List ℕ → ℕ → List Item → List ℕ
+keys_from keys t [] = keys
+keys_from keys t (x ∷ xs) = keys_from (keys_with keys t x) t xs
+
+-- the keys that the transaction wrote, each once, in the order of their first writes
+abbrev pub written_keys : List Item → ℕ → List ℕ
+written_keys h t = keys_from [] t h
+
+-- what a draw in the term records, by all writes of the history
+abbrev pub recorded_by : List Item → ℕ → Item → List Recorded
+recorded_by h term (Draw session node drawn_in t (Some c)) = if drawn_in == term then pairs_of (written_keys h t) c else []
+recorded_by h term _ = []
+
+unfoldable pub recorded_in : List Item → ℕ → List Item → List Recorded
+recorded_in h term [] = []
+recorded_in h term (x ∷ xs) = recorded_by h term x ++ recorded_in h term xs
+
+-- the pairs that the commits drawn in a term record, in order
+abbrev pub recorded : List Item → ℕ → List Recorded
+recorded h term = recorded_in h term h
+
+-- ---- what the stores have
+-- the cell of a version with this shadow, where a value was written
+abbrev pub cell_with : ℕ → Option ℕ → Option (List ℕ) → Option Cell
+cell_with t shadow None = None
+cell_with t shadow (Some value) = Some (record { version = t; value = value; shadow = shadow })
+
+-- the commit table has a mark that the transaction can never commit
+abbrev pub Marked : Pairs → ℕ → Type 0
+Marked pairs t = mark_of pairs t ≡ Some InvalidMark
+
+-- the commit table has the commit of the transaction
+abbrev pub HasRecord : Pairs → ℕ → ℕ → Type 0
+HasRecord pairs t c = mark_of pairs t ≡ Some (CommittedMark c)
