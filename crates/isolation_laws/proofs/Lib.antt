@@ -1,1 +1,4 @@
 pub mod Outcomes
+pub mod Lookups
+pub mod Pushed
+pub mod PendingAfter
