@@ -2,3 +2,4 @@ pub mod Outcomes
 pub mod Lookups
 pub mod Pushed
 pub mod PendingAfter
+pub mod OpenAfter
