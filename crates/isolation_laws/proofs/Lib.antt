@@ -3,3 +3,4 @@ pub mod Lookups
 pub mod Pushed
 pub mod PendingAfter
 pub mod OpenAfter
+pub mod Owners
