@@ -1,5 +1,6 @@
 -- All that ties a state of the machine to its history, with the isolation of the history.
 use Rattle.std.specs.Prelude.{List}
+use Rattle.stamp_base.specs.SetupNumbers.{AreInRange}
 use Rattle.history_book.specs.Isolation.{Isolated}
 use Rattle.history_book.specs.declared.item.Item.{Item}
 use Rattle.machine.specs.State.{State}
@@ -12,6 +13,7 @@ use Rattle.isolation_laws.specs.Begins.{BeginFacts}
 use Rattle.isolation_laws.specs.Reads.{ReadFacts}
 
 pub record Holds (w : State) (h : List Item) : Type 0 where
+  pub in_range : AreInRange w.setup
   pub numbers : NumberFacts w.setup w.seen w.nodes w.master h
   pub requests : RequestFacts w.nodes w.clients h
   pub memory : MemoryFacts w.setup w.nodes h
