@@ -4,3 +4,4 @@ pub mod Pushed
 pub mod PendingAfter
 pub mod OpenAfter
 pub mod Owners
+pub mod NumbersStay
