@@ -5,3 +5,5 @@ pub mod PendingAfter
 pub mod OpenAfter
 pub mod Owners
 pub mod NumbersStay
+pub mod NumbersOfRecord
+pub mod NumbersOfDraws
