@@ -7,3 +7,5 @@ pub mod Owners
 pub mod NumbersStay
 pub mod NumbersOfRecord
 pub mod NumbersOfDraws
+pub mod NewDraws
+pub mod NumbersOfItems

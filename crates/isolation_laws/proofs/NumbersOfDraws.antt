@@ -54,7 +54,7 @@ next_within last ceiling within other = grind (arith, within, other)
 pub drew_room : (w : State) (k : Drew w) → AreRanges w.nodes w.master → k.i.last + 1 ≤ k.i.ceiling
 drew_room w k ranges = next_within k.i.last k.i.ceiling (ranges.within k.node k.i k.at) k.room
 
-drew_ranges : (w : State) (k : Drew w) → AreRanges w.nodes w.master → AreRanges (drew_state w k).nodes w.master
+pub drew_ranges : (w : State) (k : Drew w) → AreRanges w.nodes w.master → AreRanges (drew_state w k).nodes w.master
 drew_ranges w k ranges = record {
   above = λ n j at. elim (drew_cases w k n j at) [
     | inl here ↦ subst (λ (x : InstanceEntry). x.epoch ≤ x.last) (sym here.1) (omega (arith, ranges.above k.node k.i k.at))
@@ -94,7 +94,7 @@ drew_ranges w k ranges = record {
   ];
 }
 
-drew_leases : (w : State) (k : Drew w) → AreLeases w.setup w.seen w.nodes w.master → AreLeases w.setup w.seen (drew_state w k).nodes w.master
+pub drew_leases : (w : State) (k : Drew w) → AreLeases w.setup w.seen w.nodes w.master → AreLeases w.setup w.seen (drew_state w k).nodes w.master
 drew_leases w k leases = record {
   holder = λ n j at. elim (drew_cases w k n j at) [
     | inl here ↦ leases.holder k.node k.i k.at
