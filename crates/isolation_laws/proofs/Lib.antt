@@ -9,3 +9,4 @@ pub mod NumbersOfRecord
 pub mod NumbersOfDraws
 pub mod NewDraws
 pub mod NumbersOfItems
+pub mod NumbersKept
