@@ -10,3 +10,4 @@ pub mod NumbersOfDraws
 pub mod NewDraws
 pub mod NumbersOfItems
 pub mod NumbersKept
+pub mod ClientsAfter
