@@ -11,3 +11,4 @@ pub mod NewDraws
 pub mod NumbersOfItems
 pub mod NumbersKept
 pub mod ClientsAfter
+pub mod RequestsAfter
