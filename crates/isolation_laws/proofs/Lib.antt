@@ -12,3 +12,5 @@ pub mod NumbersOfItems
 pub mod NumbersKept
 pub mod ClientsAfter
 pub mod RequestsAfter
+pub mod CommitsInFlight
+pub mod Standing
