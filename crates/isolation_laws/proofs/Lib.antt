@@ -14,3 +14,5 @@ pub mod ClientsAfter
 pub mod RequestsAfter
 pub mod CommitsInFlight
 pub mod Standing
+pub mod Silent
+pub mod RequestsKept
