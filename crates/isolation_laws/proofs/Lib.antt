@@ -16,3 +16,4 @@ pub mod CommitsInFlight
 pub mod Standing
 pub mod Silent
 pub mod RequestsKept
+pub mod RequestsOfNodes
