@@ -17,3 +17,4 @@ pub mod Standing
 pub mod Silent
 pub mod RequestsKept
 pub mod RequestsOfNodes
+pub mod RequestsOfClients
