@@ -18,3 +18,4 @@ pub mod Silent
 pub mod RequestsKept
 pub mod RequestsOfNodes
 pub mod RequestsOfClients
+pub mod RequestsOfMoves

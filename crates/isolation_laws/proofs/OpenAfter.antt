@@ -21,7 +21,7 @@ use Rattle.machine.specs.Events.Crash.{after_loss, crashed_client, crashed_clien
 use Rattle.machine.specs.Events.Fetch.{client_read}
 use Rattle.machine.specs.Events.Step.{client_settled, after_asks}
 use Rattle.machine.specs.Events.Write.{client_wrote}
-use Rattle.isolation_laws.specs.Words.{ClientAt, OpenAt}
+use Rattle.isolation_laws.specs.Words.{ClientAt, epoch_or_none, OpenAt}
 use Rattle.isolation_laws.specs.Pending.{IsOpen}
 use Rattle.isolation_laws.proofs.Lookups.{client_set}
 use Rattle.isolation_laws.proofs.Outcomes.{Crashed, crashed_state, AskedBegin, asked_begin_state, AskedCommit, asked_commit_state, Ended, ended_state, AnsweredBegin, answered_begin_state, answered_client, AnsweredCommit, answered_commit_state, EndedReadOnly, read_only_state, WroteOne, wrote_state, WriteFailed, write_failed_state, Aborted, aborted_state, Vanished, vanished_state, Healed, healed_state, Fetched, fetched_turn, fetched_state, ReadDropped, read_dropped_state, read_turn, ReadStepped, read_stepped_state, OutcomeStepped, outcome_state, OutcomeFailed, outcome_failed_state, CompletedOne, completed_state}
@@ -44,7 +44,7 @@ fewer_open_set clients s old new at (inr same) r t e o = elim (client_set client
       at = subst (λ q. ClientAt clients q old) (sym here.0) at;
       state_is = sym same.0 ∙ (ap (λ c. c.entry.state) (sym here.1) ∙ o.state_is);
       start_is = sym same.1 ∙ (ap (λ c. c.entry.start) (sym here.1) ∙ o.start_is);
-      epoch_is = sym same.2 ∙ (ap (λ c. c.entry.epoch) (sym here.1) ∙ o.epoch_is);
+      epoch_is = ap epoch_or_none (sym same.2 ∙ ap (λ c. c.entry.epoch) (sym here.1)) ∙ o.epoch_is;
     }
   | inr there ↦ record { client = o.client; at = there.1; state_is = o.state_is; start_is = o.start_is; epoch_is = o.epoch_is }
 ]
@@ -132,9 +132,9 @@ crashed_at (None ∷ others) (d ∷ clients) zero c at = (d, refl, inl (sym (sam
 crashed_at (Some held ∷ others) (d ∷ clients) zero c at = (d, refl, inr (held, refl, sym (same_Some (after_loss held.request d) c at)))
 crashed_at (held ∷ others) (d ∷ clients) (suc s) c at = crashed_at others clients s c at
 
-open_before_loss : (clients : List Client) (s t e : ℕ) (old c : Client) → ClientAt clients s old → OpensNothing old c → c.entry.state ≡ phase.Open → c.entry.start ≡ Some t → c.entry.epoch ≡ Some e → OpenAt clients s t e
+open_before_loss : (clients : List Client) (s t e : ℕ) (old c : Client) → ClientAt clients s old → OpensNothing old c → c.entry.state ≡ phase.Open → c.entry.start ≡ Some t → epoch_or_none c.entry.epoch ≡ e → OpenAt clients s t e
 open_before_loss clients s t e old c at (inl closed) state start epoch = absurd (closed state)
-open_before_loss clients s t e old c at (inr same) state start epoch = record { client = old; at = at; state_is = sym same.0 ∙ state; start_is = sym same.1 ∙ start; epoch_is = sym same.2 ∙ epoch }
+open_before_loss clients s t e old c at (inr same) state start epoch = record { client = old; at = at; state_is = sym same.0 ∙ state; start_is = sym same.1 ∙ start; epoch_is = ap epoch_or_none (sym same.2) ∙ epoch }
 
 loss_or_same : (old c : Client) (requests : List (Option Held)) (s : ℕ) → (c ≡ old) ⊎ ((held : Held) × (slice_index_or requests s None ≡ Some held) × (c ≡ after_loss held.request old)) → OpensNothing old c
 loss_or_same old c requests s (inl same) = inr (ap (λ d. d.entry.state) same, ap (λ d. d.entry.start) same, ap (λ d. d.entry.epoch) same)
@@ -207,7 +207,7 @@ open_answered_begin w k s t e o = elim (client_set w.clients k.session s (unless
       | inl stays ↦ absurd (not_gone (sym stays.1 ∙ (ap (λ c. c.entry.state) (sym stays.0) ∙ (ap (λ c. c.entry.state) (sym here.1) ∙ o.state_is))))
       | inr moves ↦
           let is : client_begun k.c k.start k.i.epoch ≡ o.client = sym moves ∙ sym here.1 in
-          inr (here.0, same_Some t k.start (sym o.start_is ∙ ap (λ c. c.entry.start) (sym is)), same_Some e k.i.epoch (sym o.epoch_is ∙ ap (λ c. c.entry.epoch) (sym is)))
+          inr (here.0, same_Some t k.start (sym o.start_is ∙ ap (λ c. c.entry.start) (sym is)), sym o.epoch_is ∙ ap (λ c. epoch_or_none c.entry.epoch) (sym is))
     ]
   | inr there ↦ inl (record { client = o.client; at = there.1; state_is = o.state_is; start_is = o.start_is; epoch_is = o.epoch_is })
 ]

@@ -39,13 +39,18 @@ pub record TxnAt (clients : List Client) (s : ℕ) (state : SessionState) (t : �
   pub state_is : client.entry.state ≡ state
   pub start_is : client.entry.start ≡ Some t
 
+-- the epoch of a session, 0 where it has none
+abbrev pub epoch_or_none : Option ℕ → ℕ
+epoch_or_none None = 0
+epoch_or_none (Some e) = e
+
 -- the session has the transaction t open, and reads by the epoch e
 pub record OpenAt (clients : List Client) (s t e : ℕ) : Type 0 where
   pub client : Client
   pub at : ClientAt clients s client
   pub state_is : client.entry.state ≡ phase.Open
   pub start_is : client.entry.start ≡ Some t
-  pub epoch_is : client.entry.epoch ≡ Some e
+  pub epoch_is : epoch_or_none client.entry.epoch ≡ e
 
 -- ---- what a history has
 abbrev pub Begun : List Item → ℕ → ℕ → Type 0
