@@ -19,3 +19,4 @@ pub mod RequestsKept
 pub mod RequestsOfNodes
 pub mod RequestsOfClients
 pub mod RequestsOfMoves
+pub mod RequestsOfDraws

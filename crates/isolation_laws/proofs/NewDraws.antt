@@ -60,7 +60,7 @@ three : (p q : ℕ) → (p < q) ⊎ ((p ≡ q) ⊎ (q < p))
 three p q = grind arith
 
 -- ---- the stamp differs from all before, and is above those of its term
-older_stamp : (w : State) (k : Drew w) (h : List Item) (s m term u : ℕ) (d : Option ℕ) → AreRanges w.nodes w.master → AreDrawn w.nodes w.master h → Draw s m term u d ∈ h → (drawn_stamp u d ≤ k.i.last) ⊎ ((k.i.ceiling < drawn_stamp u d) × (k.i.term < term))
+pub older_stamp : (w : State) (k : Drew w) (h : List Item) (s m term u : ℕ) (d : Option ℕ) → AreRanges w.nodes w.master → AreDrawn w.nodes w.master h → Draw s m term u d ∈ h → (drawn_stamp u d ≤ k.i.last) ⊎ ((k.i.ceiling < drawn_stamp u d) × (k.i.term < term))
 older_stamp w k h s m term u d ranges drawn drew = elim (three term k.i.term) [
   | inl less ↦ inl (omega (arith, drawn.earlier s m term u k.node d k.i drew k.at less, ranges.above k.node k.i k.at))
   | inr (inl same) ↦ inl (drawn.same s m term u k.node d k.i drew k.at same).1

@@ -127,7 +127,7 @@ open_not_pending nodes clients h s t e stamped requests pending begun o p =
     not_in_flight nodes clients h phase.Open s t o.client stamped requests pending o.at o.state_is open_not_gone open_not_committing begun p
 
 -- ---- what may still be placed is not placed
-so_far_unplaced : (h : List Item) (q : InFlight) (stage : Stage) (c : ℕ) → ArePlaced h → IsDrawnSoFar h q stage → Committed h q.start c → ⊥
+pub so_far_unplaced : (h : List Item) (q : InFlight) (stage : Stage) (c : ℕ) → ArePlaced h → IsDrawnSoFar h q stage → Committed h q.start c → ⊥
 so_far_unplaced h q Waits c placed so_far is = let drew = placed.drawn q.start c is in so_far (drew.0, drew.1, drew.2, c, drew.3)
 so_far_unplaced h q (Taken last) c placed so_far is = let drew = placed.drawn q.start c is in so_far (drew.0, drew.1, drew.2, c, drew.3)
 so_far_unplaced h q (Has commit) c placed so_far is = so_far.1 c is

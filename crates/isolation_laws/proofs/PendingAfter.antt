@@ -235,6 +235,10 @@ pending_accepted w k q p = elim (instance_changed w.nodes k.node q.node (moved k
   | inr there ↦ inl (pending_at w.nodes q q.node p.instance_of refl there.1 (pending_in (accepted_state w k).nodes q p))
 ]
 
+-- the commit was in flight before, and is not that of this session at this node
+abbrev pub StaysElsewhere : List (Option InstanceEntry) → ℕ → ℕ → InFlight → Type 0
+StaysElsewhere nodes n s q = Pending nodes q × ((q.node ≡ n) × (q.session ≡ s) → ⊥)
+
 -- the one that drew has its commit
 pub record IsDrawnNow (w : State) (k : Drew w) (q : InFlight) : Type 0 where
   pub node_is : q.node ≡ k.node
@@ -258,9 +262,9 @@ older_stage last progress.Accepted stage is = inr (stage_now (Taken (last + 1)) 
 older_stage last (progress.Drawn commit) stage is = inl is
 older_stage last (progress.Settled commit by) stage is = inl is
 
-drawn_other : (w : State) (k : Drew w) (q : InFlight) → q.node ≡ k.node → q.session ≢ k.session → (p : PendingIn (drew_instance w k) q) → HeldBy k.i q.session (Commit q.session q.start q.keys) p.progress_of → Pending w.nodes q ⊎ (IsOlder w k q ⊎ IsDrawnNow w k q)
+drawn_other : (w : State) (k : Drew w) (q : InFlight) → q.node ≡ k.node → q.session ≢ k.session → (p : PendingIn (drew_instance w k) q) → HeldBy k.i q.session (Commit q.session q.start q.keys) p.progress_of → StaysElsewhere w.nodes k.node k.session q ⊎ (IsOlder w k q ⊎ IsDrawnNow w k q)
 drawn_other w k q node other p held = elim (older_stage k.i.last p.progress_of q.stage p.stage_is) [
-  | inl same ↦ inl (pending_at w.nodes q k.node k.i node k.at (record { progress_of = p.progress_of; held = held; term_is = p.term_is; stage_is = same }))
+  | inl same ↦ inl (pending_at w.nodes q k.node k.i node k.at (record { progress_of = p.progress_of; held = held; term_is = p.term_is; stage_is = same }), λ is. other is.1)
   | inr older ↦ inr (inl (record {
       node_is = node;
       other = other;
@@ -269,7 +273,7 @@ drawn_other w k q node other p held = elim (older_stage k.i.last p.progress_of q
     }))
 ]
 
-drawn_here : (w : State) (k : Drew w) (q : InFlight) → q.node ≡ k.node → PendingIn (drew_instance w k) q → Pending w.nodes q ⊎ (IsOlder w k q ⊎ IsDrawnNow w k q)
+drawn_here : (w : State) (k : Drew w) (q : InFlight) → q.node ≡ k.node → PendingIn (drew_instance w k) q → StaysElsewhere w.nodes k.node k.session q ⊎ (IsOlder w k q ⊎ IsDrawnNow w k q)
 drawn_here w k q node p = elim (heldby_changed k.i k.session q.session (record k.held { progress = progress.Drawn (k.i.last + 1) }) (Commit q.session q.start q.keys) p.progress_of (record { held = p.held.held; has = p.held.has; asks = p.held.asks; stands = p.held.stands })) [
   | inl here ↦ inr (inr (record {
       node_is = node;
@@ -287,10 +291,10 @@ drawn_here w k q node p = elim (heldby_changed k.i k.session q.session (record k
   | inr there ↦ drawn_other w k q node there.0 p there.1
 ]
 
-pub pending_drew : (w : State) (k : Drew w) (q : InFlight) → Pending (drew_state w k).nodes q → Pending w.nodes q ⊎ (IsOlder w k q ⊎ IsDrawnNow w k q)
+pub pending_drew : (w : State) (k : Drew w) (q : InFlight) → Pending (drew_state w k).nodes q → StaysElsewhere w.nodes k.node k.session q ⊎ (IsOlder w k q ⊎ IsDrawnNow w k q)
 pending_drew w k q p = elim (instance_changed w.nodes k.node q.node (drew_instance w k) p.instance_of p.at) [
   | inl here ↦ drawn_here w k q here.0 (subst (λ (x : InstanceEntry). PendingIn x q) here.1 (pending_in (drew_state w k).nodes q p))
-  | inr there ↦ inl (pending_at w.nodes q q.node p.instance_of refl there.1 (pending_in (drew_state w k).nodes q p))
+  | inr there ↦ inl (pending_at w.nodes q q.node p.instance_of refl there.1 (pending_in (drew_state w k).nodes q p), λ same. there.0 same.0)
 ]
 
 -- ---- what may come below a start
@@ -331,14 +335,35 @@ pending_took w k t c = elim (pending_accepted w k c.coming c.pending) [
 -- what has its commit now, and what sees a later last stamp, came below the start before
 pub comes_drew : (w : State) (k : Drew w) (b t : ℕ) → ComesBelow (drew_state w k).nodes b t → ComesBelow w.nodes b t
 comes_drew w k b t c = elim (pending_drew w k c.coming c.pending) [
-  | inl old ↦ record { coming = c.coming; pending = old; start_is = c.start_is; below = c.below }
+  | inl old ↦ record { coming = c.coming; pending = old.0; start_is = c.start_is; below = c.below }
   | inr (inl older) ↦ record { coming = record c.coming { stage = Taken k.i.last }; pending = older.was_taken; start_is = c.start_is; below = below_less k.i.last b (subst (IsStageBelow b) older.taken c.below) }
   | inr (inr drawn) ↦ record { coming = record c.coming { stage = Taken k.i.last }; pending = drawn.was_taken; start_is = c.start_is; below = below_less k.i.last b (subst (IsStageBelow b) drawn.has c.below) }
 ]
 
 pub pending_drawn : (w : State) (k : Drew w) (t : ℕ) → IsPending (drew_state w k).nodes t → IsPending w.nodes t
 pending_drawn w k t c = elim (pending_drew w k c.coming c.pending) [
-  | inl old ↦ record { coming = c.coming; pending = old; start_is = c.start_is }
+  | inl old ↦ record { coming = c.coming; pending = old.0; start_is = c.start_is }
   | inr (inl older) ↦ record { coming = record c.coming { stage = Taken k.i.last }; pending = older.was_taken; start_is = c.start_is }
   | inr (inr drawn) ↦ record { coming = record c.coming { stage = Taken k.i.last }; pending = drawn.was_taken; start_is = c.start_is }
 ]
+
+-- ---- a request that is settled or over is in flight no more
+gone_from : (nodes : List (Option InstanceEntry)) (n s : ℕ) (i j : InstanceEntry) (q : InFlight) → InstanceAt nodes n i → ((q : InFlight) → PendingIn j q → (q.session ≢ s) × PendingIn i q) → Pending (slice_set nodes n (Some j)) q → StaysElsewhere nodes n s q
+gone_from nodes n s i j q at less p = elim (instance_changed nodes n q.node j p.instance_of p.at) [
+  | inl here ↦
+      let was = less q (subst (λ (x : InstanceEntry). PendingIn x q) here.1 (pending_in (slice_set nodes n (Some j)) q p)) in
+      (pending_at nodes q n i here.0 at was.1, λ same. was.0 same.1)
+  | inr there ↦ (pending_at nodes q q.node p.instance_of refl there.1 (pending_in (slice_set nodes n (Some j)) q p), λ same. there.0 same.0)
+]
+
+pub pending_placed : (w : State) (k : PlacedOne w) (q : InFlight) → Pending (placed_state w k).nodes q → StaysElsewhere w.nodes k.it.node k.it.session q
+pending_placed w k q p = gone_from w.nodes k.it.node k.it.session k.it.i (moved k.it.i k.it.session k.it.held (progress.Settled k.it.commit k.by)) q k.it.at (λ q p. settled_cases k.it.i k.it.session k.it.commit k.by k.it.held q p) p
+
+pub pending_not_placed : (w : State) (k : NotPlaced w) (q : InFlight) → Pending (not_placed_state w k).nodes q → StaysElsewhere w.nodes k.it.node k.it.session q
+pending_not_placed w k q p = gone_from w.nodes k.it.node k.it.session k.it.i (moved k.it.i k.it.session k.it.held (progress.Settled k.it.commit k.by)) q k.it.at (λ q p. settled_cases k.it.i k.it.session k.it.commit k.by k.it.held q p) p
+
+over_cases : (i : InstanceEntry) (s : ℕ) (q : InFlight) → PendingIn (without_request i s) q → (q.session ≢ s) × PendingIn i q
+over_cases i s q p = (other_than_ended i s q p, none_more_ended i s q p)
+
+pub pending_over : (nodes : List (Option InstanceEntry)) (n s : ℕ) (i : InstanceEntry) (q : InFlight) → InstanceAt nodes n i → Pending (slice_set nodes n (Some (without_request i s))) q → StaysElsewhere nodes n s q
+pending_over nodes n s i q at p = gone_from nodes n s i (without_request i s) q at (λ q p. over_cases i s q p) p
