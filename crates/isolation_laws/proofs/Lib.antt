@@ -20,3 +20,4 @@ pub mod RequestsOfNodes
 pub mod RequestsOfClients
 pub mod RequestsOfMoves
 pub mod RequestsOfDraws
+pub mod RequestsOfSettled
