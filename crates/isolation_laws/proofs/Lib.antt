@@ -21,3 +21,4 @@ pub mod RequestsOfClients
 pub mod RequestsOfMoves
 pub mod RequestsOfDraws
 pub mod RequestsOfSettled
+pub mod RequestsOfItems

@@ -143,3 +143,72 @@ settled_here w h g k by n s t c how_ term on holds settled now =
       settled = settled;
     } in
     rw (now.node_is, now.session_is, now.start_is, now.commit_is, now.by_is, now.term_is) one
+
+-- ---- placed
+is_placed_so : (g : List Item) (t c : ℕ) (by : Settled) → (by ≡ how.Placed) ⊎ (by ≡ how.Faulted) → Committed g t c → IsSettled g t c by
+is_placed_so g t c by (inl is) placed = subst (λ (b : Settled). IsSettled g t c b) (sym is) placed
+is_placed_so g t c by (inr is) placed = subst (λ (b : Settled). IsSettled g t c b) (sym is) tt
+
+placed_settled : (w : State) (h : List Item) (k : PlacedOne w) → Holds w h → AreSettled (placed_state w k).nodes (h ++ placed_items w k)
+placed_settled w h k holds =
+    let g : List Item = h ++ placed_items w k in
+    let all : Places h g k.it.start k.it.commit = places h k.items k.it.start k.it.commit k.quiet in
+    are_settled (placed_state w k).nodes g (λ n s t c by j at. elim (settled_now w k.it k.by n s t c by j at) [
+      | inl now ↦ settled_here w h g k.it k.by n s t c by j.term all.on holds (is_placed_so g k.it.start k.it.commit k.by k.by_is all.here) now
+      | inr was ↦ subst (λ term. SettledOne g n s term t c by) (sym was.2) (settled_on h g n s was.0.term t c by all.on (λ d is placed. elim (all.placed t d placed) [
+          | inl old ↦ old
+          | inr new ↦ absurd (settled_other w h k.it n s c by was.0 holds (subst (λ u. SettledAt w.nodes n s u c by was.0) new.0 was.1))
+        ]) (settled_one w.nodes h n s t c by was.0 holds.requests.settled was.1))
+    ])
+
+placed_pending : (w : State) (h : List Item) (k : PlacedOne w) → Holds w h → ArePending (placed_state w k).nodes (h ++ placed_items w k)
+placed_pending w h k holds =
+    let g : List Item = h ++ placed_items w k in
+    let all : Places h g k.it.start k.it.commit = places h k.items k.it.start k.it.commit k.quiet in
+    are_pending (placed_state w k).nodes g (λ q p.
+      let stays : StaysElsewhere w.nodes k.it.node k.it.session q = pending_placed w k q p in
+      pending_on h g q all.on (record {
+        alone = record {
+          undrawn = λ drew. places_drawn h g k.it.start k.it.commit q.start all drew;
+          unplaced = λ c placed. elim (all.placed q.start c placed) [ inl old ↦ old | inr new ↦ absurd (other_than w h k.it q holds stays new.0) ];
+        };
+        keys = all.keys q.start;
+      }) (pending_one w.nodes h q holds.requests.pending stays.0))
+
+pub requests_placed : (w : State) (h : List Item) (k : PlacedOne w) → Holds w h → RequestFacts (placed_state w k).nodes w.clients (h ++ placed_items w k)
+requests_placed w h k holds =
+    let g : List Item = h ++ placed_items w k in
+    let all : Places h g k.it.start k.it.commit = places h k.items k.it.start k.it.commit k.quiet in
+    record {
+      have_begun = have_on w.clients h (placed_items w k) holds.requests.have_begun;
+      requests = requests_fewer w.nodes (placed_state w k).nodes w.clients (held_placed w k) holds.requests.requests;
+      starting = starting_fewer w.nodes (placed_state w k).nodes h g (standing_placed IsDrawnNow w k (λ is. is)) all.on (λ n s t r i at held begun. all.begun r t begun) holds.requests.starting;
+      pending = placed_pending w h k holds;
+      settled = placed_settled w h k holds;
+      accepted = accepted_fewer w.nodes (placed_state w k).nodes (standing_placed IsAcceptedNow w k (λ is. is)) holds.requests.accepted;
+      opened = open_fewer w.clients w.clients h g (λ s t e o. o) (λ s t e o drew. places_drawn h g k.it.start k.it.commit t all drew) holds.requests.opened;
+      keys = record { written = λ s t c at is start. holds.requests.keys.written s t c at is start ∙ sym (all.keys t); some = holds.requests.keys.some };
+    }
+
+-- ---- not placed
+is_unplaced_so : (w : State) (h g : List Item) (k : AtDrawn w) (by : Settled) → (by ≡ how.Invalid) ⊎ (by ≡ how.Faulted) → Silent h g → Holds w h → IsSettled g k.start k.commit by
+is_unplaced_so w h g k by (inl is) silent holds = subst (λ (b : Settled). IsSettled g k.start k.commit b) (sym is) (λ d placed. (has_drew w.nodes h (in_flight_of w k) k.commit holds.requests.pending (drawn_pending w k holds.requests.requests) refl).1 d (silent.placed k.start d placed))
+is_unplaced_so w h g k by (inr is) silent holds = subst (λ (b : Settled). IsSettled g k.start k.commit b) (sym is) tt
+
+pub requests_not_placed : (w : State) (h : List Item) (k : NotPlaced w) → Holds w h → RequestFacts (not_placed_state w k).nodes w.clients (h ++ k.items)
+requests_not_placed w h k holds =
+    let g : List Item = h ++ k.items in
+    let silent : Silent h g = silent_quiet h k.items k.quiet in
+    record {
+      have_begun = have_silent w.clients h g silent holds.requests.have_begun;
+      requests = requests_fewer w.nodes (not_placed_state w k).nodes w.clients (held_not_placed w k) holds.requests.requests;
+      starting = starting_silent w.nodes (not_placed_state w k).nodes h g silent (standing_not_placed IsDrawnNow w k (λ is. is)) holds.requests.starting;
+      pending = pending_silent w.nodes (not_placed_state w k).nodes h g silent (fewer_not_placed w k) holds.requests.pending;
+      settled = are_settled (not_placed_state w k).nodes g (λ n s t c by j at. elim (settled_now w k.it k.by n s t c by j at) [
+        | inl now ↦ settled_here w h g k.it k.by n s t c by j.term silent.on holds (is_unplaced_so w h g k.it k.by k.by_is silent holds) now
+        | inr was ↦ subst (λ term. SettledOne g n s term t c by) (sym was.2) (settled_on h g n s was.0.term t c by silent.on (λ d is placed. silent.placed t d placed) (settled_one w.nodes h n s t c by was.0 holds.requests.settled was.1))
+      ]);
+      accepted = accepted_fewer w.nodes (not_placed_state w k).nodes (standing_not_placed IsAcceptedNow w k (λ is. is)) holds.requests.accepted;
+      opened = open_silent w.clients w.clients h g silent (λ s t e o. o) holds.requests.opened;
+      keys = keys_silent w.clients h g silent holds.requests.keys;
+    }
