@@ -22,3 +22,4 @@ pub mod RequestsOfMoves
 pub mod RequestsOfDraws
 pub mod RequestsOfSettled
 pub mod RequestsOfItems
+pub mod RequestsOfAll

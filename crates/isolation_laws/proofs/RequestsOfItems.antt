@@ -9,6 +9,7 @@ use Rattle.history_book.specs.declared.item.Item.{Item}
 use Rattle.history_book.specs.declared.item.Item.TheVariants.{AskBegin, Begin, Draw, Write, Placed, Step}
 use Rattle.history_book.specs.declared.item.Actor.TheVariants.{Janitor}
 use Rattle.history_book.proofs.MemberLemmas.{in_front, in_last, in_push, in_old}
+use Rattle.client_parts.specs.declared.session.State.{State as SessionState}
 use Rattle.client_parts.specs.declared.session.State.TheVariants as phase
 use Rattle.client_parts.specs.SessionSteps.{has_transaction, key_added}
 use Rattle.oracle_parts.specs.declared.instance.Progress.{Progress}
@@ -116,3 +117,113 @@ other_begin w h k n s t r i holds at held begun = elim (instance_changed w.nodes
           there.0 (draw_session s n i.term t k.session k.node k.i.term k.start (drawn_once h s k.session n k.node i.term k.i.term t k.start None None holds.numbers.new drew (drew_start w h k holds) now.1)).1
     ]
 ]
+
+pub requests_answered_begin : (w : State) (h : List Item) (k : AnsweredBegin w) → Holds w h → RequestFacts (answered_begin_state w k).nodes (answered_begin_state w k).clients (h ++ answered_begin_items w k)
+requests_answered_begin w h k holds =
+    let g : List Item = h ++ answered_begin_items w k in
+    let on : GoesOn h g = goes_on h (answered_begin_items w k) in
+    let held : HeldBy k.i k.session (BeginRequest k.session) (progress.Drawn k.start) = begin_held w h k holds in
+    record {
+      have_begun = begun_set w.clients g k.session (unless_gone k.c (client_begun k.c k.start k.i.epoch)) (begun_client w h k holds) (have_on w.clients h (answered_begin_items w k) holds.requests.have_begun);
+      requests = requests_over w.nodes (answered_begin_state w k).nodes w.clients k.node k.session k.i (BeginRequest k.session) (progress.Drawn k.start) k.c (unless_gone k.c (client_begun k.c k.start k.i.epoch)) refl k.at held k.client_at holds.requests.requests;
+      starting = record {
+        drawn = λ n s t j at is.
+            let was = (standing_over IsDrawnNow w.nodes k.node k.session k.i k.at).each n s j (BeginRequest s) (progress.Drawn t) tt at is in
+            subst (λ term. DrewStart g s n term t) (sym was.3) (on _ (holds.requests.starting.drawn n s t was.0 was.1 was.2));
+        unbegun = λ n s t r j at is begun. other_begin w h k n s t r j holds at is begun;
+      };
+      pending = pending_fewer w.nodes (answered_begin_state w k).nodes h g (fewer_answered_begin w k) on (λ q p. record {
+        alone = record { undrawn = no_drawn_begin h k.session k.start q.start; unplaced = λ c placed. in_old (Placed q.start c) (Begin k.session k.start) h (λ is. cc) placed };
+        keys = begin_writes_none h k.session k.start q.start;
+      }) holds.requests.pending;
+      settled = settled_fewer w.nodes (answered_begin_state w k).nodes h g (standing_over IsSettledNow w.nodes k.node k.session k.i k.at) on (λ n s t c d i at placed. in_old (Placed t d) (Begin k.session k.start) h (λ is. cc) placed) holds.requests.settled;
+      accepted = accepted_fewer w.nodes (answered_begin_state w k).nodes (standing_over IsAcceptedNow w.nodes k.node k.session k.i k.at) holds.requests.accepted;
+      opened = record {
+        undrawn = λ s t e o drew. elim (open_answered_begin w k s t e o) [
+          | inl old ↦ holds.requests.opened.undrawn s t e old (no_drawn_begin h k.session k.start t drew)
+          | inr new ↦
+              let was : HasDrawn h k.start = subst (HasDrawn h) new.1 (no_drawn_begin h k.session k.start t drew) in
+              let begun = holds.numbers.begun.commits was.0 was.1 was.2 k.start was.3 was.4 in
+              start_unbegun w h k begun.0 holds begun.1
+        ];
+        above = λ s t e o. elim (open_answered_begin w k s t e o) [
+          | inl old ↦ holds.requests.opened.above s t e old
+          | inr new ↦ omega (arith, (holds.numbers.drawn.same k.session k.node k.i.term k.start k.node None k.i (drew_start w h k holds) k.at refl).0, new.1, new.2)
+        ];
+      };
+      keys = keys_set w.clients g k.session (unless_gone k.c (client_begun k.c k.start k.i.epoch)) (begun_keys w h k holds) (record {
+        written = λ s t c at is start. holds.requests.keys.written s t c at is start ∙ sym (begin_writes_none h k.session k.start t);
+        some = holds.requests.keys.some;
+      });
+    }
+
+-- ---- a value that is written
+wrote_begun : (w : State) (h : List Item) (k : WroteOne w) → Holds w h → Begun h k.it.session k.start
+wrote_begun w h k holds = open_begun w.clients h k.it.session k.start k.it.c holds.requests.have_begun k.it.client_at k.it.is_open k.start_is
+
+pub wrote_open : (w : State) (k : WroteOne w) → OpenAt w.clients k.it.session k.start (epoch_or_none k.it.c.entry.epoch)
+wrote_open w k = record { client = k.it.c; at = k.it.client_at; state_is = k.it.is_open; start_is = k.start_is; epoch_is = refl }
+
+-- no commit in flight is of the transaction that writes
+pub wrote_not_pending : (w : State) (h : List Item) (k : WroteOne w) → Holds w h → IsPending w.nodes k.start → ⊥
+wrote_not_pending w h k holds p = open_not_pending w.nodes w.clients h k.it.session k.start (epoch_or_none k.it.c.entry.epoch) holds.isolated.stamped holds.requests.requests holds.requests.pending (wrote_begun w h k holds) (wrote_open w k) p
+
+write_no_begin : (h : List Item) (s t k : ℕ) (value : List ℕ) (r u : ℕ) → Begun (h ++ Write s t k value ∷ []) r u → Begun h r u
+write_no_begin h s t k value r u m = in_old (Begin r u) (Write s t k value) h (λ is. cc) m
+
+write_no_drawn : (h : List Item) (s t k : ℕ) (value : List ℕ) (u : ℕ) → HasDrawn (h ++ Write s t k value ∷ []) u → HasDrawn h u
+write_no_drawn h s t k value u (r, n, term, c, m) = (r, n, term, c, in_old (Draw r n term u (Some c)) (Write s t k value) h (λ is. cc) m)
+
+pub write_no_placed : (h : List Item) (s t k : ℕ) (value : List ℕ) (u c : ℕ) → Committed (h ++ Write s t k value ∷ []) u c → Committed h u c
+write_no_placed h s t k value u c m = in_old (Placed u c) (Write s t k value) h (λ is. cc) m
+
+has_in : (state : SessionState) → (state ≡ phase.Open) ⊎ HasAsked state → IsTrue (has_transaction state)
+has_in state (inl is) = subst (λ s. IsTrue (has_transaction s)) (sym is) refl
+has_in state (inr (inl is)) = subst (λ s. IsTrue (has_transaction s)) (sym is) refl
+has_in state (inr (inr is)) = subst (λ s. IsTrue (has_transaction s)) (sym is) refl
+
+has_begun_so : (w : State) (h : List Item) (s t : ℕ) (c : Client) → Holds w h → ClientAt w.clients s c → (c.entry.state ≡ phase.Open) ⊎ HasAsked c.entry.state → c.entry.start ≡ Some t → Begun h s t
+has_begun_so w h s t c holds at is start =
+    let begun = holds.requests.have_begun.begun s c at (has_in c.entry.state is) in
+    subst (Begun h s) (same_Some begun.0 t (sym begun.1 ∙ start)) begun.2
+
+open_not_asked_so : (state : SessionState) → state ≡ phase.Open → HasAsked state → ⊥
+open_not_asked_so state is asked = open_not_asked (subst HasAsked is asked)
+
+wrote_keys : (w : State) (h : List Item) (k : WroteOne w) → Holds w h → AreKeys (wrote_state w k).clients (h ++ wrote_items w k)
+wrote_keys w h k holds =
+    let g : List Item = h ++ wrote_items w k in
+    record {
+      written = λ s t c at is start. elim (client_set w.clients k.it.session s (client_wrote k.it.c k.key) c at) [
+        | inl here ↦
+            let same : t ≡ k.start = same_Some t k.start (sym start ∙ (ap (λ x. x.entry.start) here.1 ∙ k.start_is)) in
+            ap (λ x. x.entry.keys) here.1 ∙ (ap (λ ks. key_added ks k.key) (holds.requests.keys.written k.it.session k.start k.it.c k.it.client_at (inl k.it.is_open) k.start_is)
+            ∙ (sym (written_keys-own h k.it.session k.start k.key k.value) ∙ ap (written_keys g) (sym same)))
+        | inr there ↦ elim (cases_eq k.start t) [
+            | inl mine ↦ absurd (there.0 (begun_once h s k.it.session t holds.isolated.stamped (has_begun_so w h s t c holds there.1 is start) (subst (Begun h k.it.session) mine (wrote_begun w h k holds))))
+            | inr other ↦ holds.requests.keys.written s t c there.1 is start ∙ sym (written_keys-other h k.it.session k.start t k.key k.value other)
+          ]
+      ];
+      some = λ s c at asked. elim (client_set w.clients k.it.session s (client_wrote k.it.c k.key) c at) [
+        | inl here ↦ absurd (open_not_asked_so k.it.c.entry.state k.it.is_open (subst (λ (x : Client). HasAsked x.entry.state) here.1 asked))
+        | inr there ↦ holds.requests.keys.some s c there.1 asked
+      ];
+    }
+
+pub requests_wrote : (w : State) (h : List Item) (k : WroteOne w) → Holds w h → RequestFacts w.nodes (wrote_state w k).clients (h ++ wrote_items w k)
+requests_wrote w h k holds =
+    let g : List Item = h ++ wrote_items w k in
+    let on : GoesOn h g = goes_on h (wrote_items w k) in
+    record {
+      have_begun = have_on (wrote_state w k).clients h (wrote_items w k) (begun_kept w.clients h k.it.session k.it.c (client_wrote k.it.c k.key) k.it.client_at (λ has. (has, refl)) holds.requests.have_begun);
+      requests = requests_idle w.nodes w.clients k.it.session k.it.c (client_wrote k.it.c k.key) phase.Open k.it.client_at k.it.is_open open_waits holds.requests.requests;
+      starting = starting_fewer w.nodes w.nodes h g (standing_same IsDrawnNow w.nodes) on (λ n s t r i at held begun. write_no_begin h k.it.session k.start k.key k.value r t begun) holds.requests.starting;
+      pending = pending_fewer w.nodes w.nodes h g (λ q p. p) on (λ q p. record {
+        alone = record { undrawn = write_no_drawn h k.it.session k.start k.key k.value q.start; unplaced = λ c placed. write_no_placed h k.it.session k.start k.key k.value q.start c placed };
+        keys = written_keys-other h k.it.session k.start q.start k.key k.value (λ same. wrote_not_pending w h k holds (record { coming = q; pending = p; start_is = sym same }));
+      }) holds.requests.pending;
+      settled = settled_fewer w.nodes w.nodes h g (standing_same IsSettledNow w.nodes) on (λ n s t c d i at placed. write_no_placed h k.it.session k.start k.key k.value t d placed) holds.requests.settled;
+      accepted = holds.requests.accepted;
+      opened = open_fewer w.clients (wrote_state w k).clients h g (fewer_open_wrote w k) (λ s t e o drew. write_no_drawn h k.it.session k.start k.key k.value t drew) holds.requests.opened;
+      keys = wrote_keys w h k holds;
+    }
