@@ -1,6 +1,8 @@
-pub mod PairOrder
-pub mod HeldRows
-pub mod HeldIndex
-pub mod SpecRows
-pub mod FetchRows
-pub mod KeysOfVersion
+mod RowSplits
+mod KeyRows
+mod Shadows
+mod Fronts
+mod MapRows
+mod Stamped
+mod IndexKeys
+mod Entries

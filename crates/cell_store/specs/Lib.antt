@@ -1,3 +1,4 @@
 pub mod Seen
-pub mod Kept
+pub mod KeyLists
+pub mod Index
 pub mod Calls

@@ -1,29 +1,27 @@
-// The cells: rows of key, version, value and shadow, in an ordered map with an index from version to keys.
+//! The cells: rows of key, version, value and shadow. Each key's cells stand in a list by version, and an index leads from a
+//! version to its keys.
 #![tactic(auto)]
 
-ghost use Rattle.std.specs.Prelude.{◌≡◌, ◌↔◌, [], slice_get, None, IfOk, IfSome, IsOk, IsSome, OnErr, OnOk};
-ghost use Rattle.cell_store.specs.Calls.{put_row, fetched, looked, with_shadow, without_bare, keys_of_version, AreOrdered, AsksOnce, UnlessNoMemory, OnNoMemory, OnStoreFault, fated, Counts, Risen};
+ghost use Rattle.std.specs.Prelude.{◌≡◌, ◌↔◌, [], length, slice_get, None, IfOk, IsOk, IsSome, OnErr, OnOk};
+ghost use Rattle.std.specs.List.Sorted.{IsStrictlyIncreasing};
+ghost use Rattle.cell_store.specs.Calls.{put_row, fetched, front_of, looked, with_shadow, without_bare, keys_of_version, AreFalling, AreOrdered, AreUpto, HasOnly, IsBare, IsOneCall, UnlessNoMemory, OnNoMemory, fated};
 
-mod held;
+mod key_list;
+mod rows;
+mod version_index;
 
 use port_io::{Fate, Store, Weather};
-pub use store_parts::{Cell, StoreError, StoreFault};
-use stamp_base::{KeyNo, Stamp, Value};
+use rows::Rows;
+use stamp_base::{KeyNo, NoMemory, Stamp, Value};
 use std::alloc::Global;
-use std::collections::{BTreeMap, BTreeSet};
+use std::collections::BTreeSet;
 use std::marker::Model;
-
-/// What a row holds beside its key and version.
-#[derive(Clone, Copy, Debug)]
-struct Kept {
-    value: Value,
-    shadow: Option<Stamp>,
-}
+pub use store_parts::{Cell, StoreError, StoreFault};
 
 /// The cells of a store, seen as their rows in ascending order of key and version.
 #[derive(Drop)]
 pub struct Cells {
-    rows: BTreeMap<(KeyNo, Stamp), Kept>,
+    rows: Rows,
     // The version and the key of each row.
     index: BTreeSet<(Stamp, KeyNo)>,
     alloc: Global,
@@ -34,11 +32,19 @@ impl Model for Cells {
 
     ghost Value = { SeenCells };
 
-    ghost use Rattle.cell_store.specs.Kept.{rows_of, IsSound};
+    ghost use Rattle.cell_store.specs.Index.{IsIndexed};
 
-    ghost view = { λ c. record { rows = rows_of c.rows.entries } };
+    ghost view = { λ c. record { rows = c.rows } };
 
-    ghost invariant = { IsSound };
+    ghost invariant = { IsIndexed };
+}
+
+/// What a reader needs of a key: how many versions there are up to its start, and their cells, the greatest version first,
+/// down to the first whose shadow is below the start, or else all. No read goes further down than that one.
+#[derive(Drop)]
+pub struct Front {
+    pub versions: u64,
+    pub cells: Vec<Cell>,
 }
 
 impl Cells {
@@ -47,7 +53,7 @@ impl Cells {
         ensures rows { result.rows ≡ [] }
     {
         Cells {
-            rows: BTreeMap::new(alloc),
+            rows: Rows::new(alloc),
             index: BTreeSet::new(alloc),
             alloc,
         }
@@ -57,12 +63,12 @@ impl Cells {
     pub fn rows_ordered(&self)
         ensures { AreOrdered self.now.rows }
     {
-        let _ = &self.rows;
+        self.rows.are_ordered();
     }
 
-    /// Adds a bare row, or replaces the value of the row that is there. After NoMemory the store is as
-    /// before and the weather was not asked; after a StoreFault the row was put exactly where the fate
-    /// is FailsApplied.
+    /// Adds a bare row, or replaces the value of the row that is there. After NoMemory the store is as before and the
+    /// weather was not asked; after a StoreFault the row was put exactly where the fate is FailsApplied.
+    #[tactic(auto, using(crate::proofs::Entries::kept_entry))]
     pub fn put<W: Weather>(
         &mut self,
         weather: &mut W,
@@ -70,29 +76,22 @@ impl Cells {
         version: Stamp,
         value: Value,
     ) -> Result<(), StoreError>
-        requires { IfSome (looked self.old.rows key version) (λ cell. cell.shadow ≡ None) }
+        requires { IsBare self.old.rows key version }
         ensures rows { UnlessNoMemory result (self.new.rows ≡ fated (W.ahead weather.old Store.Cells 0)
             self.old.rows (put_row self.old.rows key version value)) }
-        ensures answer { UnlessNoMemory result (IsOk result ↔ (W.ahead weather.old Store.Cells 0 ≡ Fate.Works)) }
-        ensures asked { UnlessNoMemory result (AsksOnce Store.Cells (W.ahead weather.old) (W.ahead weather.new)) }
-        ensures counted { UnlessNoMemory result
-            (Counts (W.ahead weather.old Store.Cells 0) (W.faults weather.old) (W.faults weather.new)) }
-        ensures fault { OnStoreFault result (Risen (W.faults weather.old) (W.faults weather.new)) }
+        ensures call { UnlessNoMemory result (IsOneCall Store.Cells (W.ahead weather.old) (W.ahead weather.new)
+            (W.faults weather.old) (W.faults weather.new) result) }
         ensures memory { OnNoMemory result ((self.new ≡ self.old) × (weather.new ≡ weather.old)) }
     {
-        if self.cell(key, version).is_some() {
-            self.put_again(weather, key, version, value)?;
-            return Ok(());
+        if self.rows.cell(key, version).is_some() {
+            let fate = weather.next(Store::Cells);
+            self.replace_under(fate, key, version, value);
+            return Ok(answered_under(fate, ())?);
         }
         self.enter(key, version, value)?;
-        match weather.next(Store::Cells) {
-            Fate::Works => Ok(()),
-            Fate::FailsUnchanged => {
-                self.leave_bare(key, version);
-                Err(StoreError::StoreFault)
-            }
-            Fate::FailsApplied => Err(StoreError::StoreFault),
-        }
+        let fate = weather.next(Store::Cells);
+        self.keep_under(fate, key, version);
+        Ok(answered_under(fate, ())?)
     }
 
     /// The key's cells of version at most `upto`, in one step, the greatest version first.
@@ -103,20 +102,36 @@ impl Cells {
         upto: Stamp,
     ) -> Result<Vec<Cell>, StoreError>
         ensures value { IfOk result (λ cells. cells.items ≡ fetched self.now.rows key upto) }
-        ensures answer { UnlessNoMemory result (IsOk result ↔ (W.ahead weather.old Store.Cells 0 ≡ Fate.Works)) }
-        ensures asked { UnlessNoMemory result (AsksOnce Store.Cells (W.ahead weather.old) (W.ahead weather.new)) }
-        ensures counted { UnlessNoMemory result
-            (Counts (W.ahead weather.old Store.Cells 0) (W.faults weather.old) (W.faults weather.new)) }
-        ensures fault { OnStoreFault result (Risen (W.faults weather.old) (W.faults weather.new)) }
+        ensures falling { IfOk result (λ cells. AreFalling cells.items) }
+        ensures upto { IfOk result (λ cells. AreUpto upto cells.items) }
+        ensures call { UnlessNoMemory result (IsOneCall Store.Cells (W.ahead weather.old) (W.ahead weather.new)
+            (W.faults weather.old) (W.faults weather.new) result) }
         ensures memory { OnNoMemory result (weather.new ≡ weather.old) }
         ensures ordered { AreOrdered self.now.rows }
     {
-        let cells = self.cells_upto(key, upto)?;
-        match weather.next(Store::Cells) {
-            Fate::Works => Ok(cells),
-            Fate::FailsUnchanged => Err(StoreError::StoreFault),
-            Fate::FailsApplied => Err(StoreError::StoreFault),
-        }
+        let cells = self.rows.fetch(key, upto)?;
+        Ok(answered_under(weather.next(Store::Cells), cells)?)
+    }
+
+    /// What a reader with this start needs of the key, in one step. It costs a search by halves and the cells that it
+    /// gives, however many versions the key has.
+    pub fn fetch_front<W: Weather>(
+        &self,
+        weather: &mut W,
+        key: KeyNo,
+        start: Stamp,
+    ) -> Result<Front, StoreError>
+        ensures versions { IfOk result (λ front. front.versions ≡ length (fetched self.now.rows key start)) }
+        ensures cells { IfOk result (λ front. front.cells.items ≡ front_of start (fetched self.now.rows key start)) }
+        ensures falling { IfOk result (λ front. AreFalling front.cells.items) }
+        ensures upto { IfOk result (λ front. AreUpto start front.cells.items) }
+        ensures call { UnlessNoMemory result (IsOneCall Store.Cells (W.ahead weather.old) (W.ahead weather.new)
+            (W.faults weather.old) (W.faults weather.new) result) }
+        ensures memory { OnNoMemory result (weather.new ≡ weather.old) }
+        ensures ordered { AreOrdered self.now.rows }
+    {
+        let front = self.rows.front(key, start)?;
+        Ok(answered_under(weather.next(Store::Cells), front)?)
     }
 
     /// The cell of the key and the version, in one step. None exactly where there is no such row.
@@ -127,22 +142,16 @@ impl Cells {
         version: Stamp,
     ) -> Result<Option<Cell>, StoreFault>
         ensures value { IfOk result (λ found. found ≡ looked self.now.rows key version) }
-        ensures answer { IsOk result ↔ (W.ahead weather.old Store.Cells 0 ≡ Fate.Works) }
-        ensures asked { AsksOnce Store.Cells (W.ahead weather.old) (W.ahead weather.new) }
-        ensures counted { Counts (W.ahead weather.old Store.Cells 0) (W.faults weather.old) (W.faults weather.new) }
-        ensures fault { OnErr result (Risen (W.faults weather.old) (W.faults weather.new)) }
+        ensures call { IsOneCall Store.Cells (W.ahead weather.old) (W.ahead weather.new)
+            (W.faults weather.old) (W.faults weather.new) result }
         ensures ordered { AreOrdered self.now.rows }
     {
-        let found = self.cell(key, version);
-        match weather.next(Store::Cells) {
-            Fate::Works => Ok(found),
-            Fate::FailsUnchanged => Err(StoreFault),
-            Fate::FailsApplied => Err(StoreFault),
-        }
+        let found = self.rows.cell(key, version);
+        answered_under(weather.next(Store::Cells), found)
     }
 
-    /// The key's cell of the greatest version that is at most `upto`, in one step. None exactly where
-    /// there is no such row. Versions begin at 1, so that a walk down a key's versions ends there.
+    /// The key's cell of the greatest version that is at most `upto`, in one step. None exactly where there is no such
+    /// row. Versions begin at 1, so that a walk down a key's versions ends there.
     pub fn newest<W: Weather>(
         &self,
         weather: &mut W,
@@ -150,19 +159,13 @@ impl Cells {
         upto: Stamp,
     ) -> Result<Option<Cell>, StoreFault>
         ensures value { IfOk result (λ found. found ≡ slice_get (fetched self.now.rows key upto) 0) }
-        ensures answer { IsOk result ↔ (W.ahead weather.old Store.Cells 0 ≡ Fate.Works) }
-        ensures asked { AsksOnce Store.Cells (W.ahead weather.old) (W.ahead weather.new) }
-        ensures counted { Counts (W.ahead weather.old Store.Cells 0) (W.faults weather.old) (W.faults weather.new) }
-        ensures fault { OnErr result (Risen (W.faults weather.old) (W.faults weather.new)) }
+        ensures call { IsOneCall Store.Cells (W.ahead weather.old) (W.ahead weather.new)
+            (W.faults weather.old) (W.faults weather.new) result }
         ensures ordered { AreOrdered self.now.rows }
         ensures stamped { fetched self.now.rows key 0 ≡ [] }
     {
-        let newest = self.cell_upto(key, upto);
-        match weather.next(Store::Cells) {
-            Fate::Works => Ok(newest),
-            Fate::FailsUnchanged => Err(StoreFault),
-            Fate::FailsApplied => Err(StoreFault),
-        }
+        let newest = self.rows.newest(key, upto);
+        answered_under(weather.next(Store::Cells), newest)
     }
 
     /// Sets the shadow of the row that is there. Where no such row is there, nothing changes.
@@ -173,25 +176,15 @@ impl Cells {
         version: Stamp,
         commit: Stamp,
     ) -> Result<(), StoreFault>
-        requires { IfSome (looked self.old.rows key version) (λ cell. IfSome cell.shadow (λ there. there ≡ commit)) }
+        requires { HasOnly self.old.rows key version commit }
         ensures rows { self.new.rows ≡ fated (W.ahead weather.old Store.Cells 0)
             self.old.rows (with_shadow self.old.rows key version commit) }
-        ensures answer { IsOk result ↔ (W.ahead weather.old Store.Cells 0 ≡ Fate.Works) }
-        ensures asked { AsksOnce Store.Cells (W.ahead weather.old) (W.ahead weather.new) }
-        ensures counted { Counts (W.ahead weather.old Store.Cells 0) (W.faults weather.old) (W.faults weather.new) }
-        ensures fault { OnErr result (Risen (W.faults weather.old) (W.faults weather.new)) }
+        ensures call { IsOneCall Store.Cells (W.ahead weather.old) (W.ahead weather.new)
+            (W.faults weather.old) (W.faults weather.new) result }
     {
-        match weather.next(Store::Cells) {
-            Fate::Works => {
-                self.fill_shadow(key, version, commit);
-                Ok(())
-            }
-            Fate::FailsUnchanged => Err(StoreFault),
-            Fate::FailsApplied => {
-                self.fill_shadow(key, version, commit);
-                Err(StoreFault)
-            }
-        }
+        let fate = weather.next(Store::Cells);
+        self.fill_under(fate, key, version, commit);
+        answered_under(fate, ())
     }
 
     /// Removes the row only where it has no shadow.
@@ -203,22 +196,12 @@ impl Cells {
     ) -> Result<(), StoreFault>
         ensures rows { self.new.rows ≡ fated (W.ahead weather.old Store.Cells 0)
             self.old.rows (without_bare self.old.rows key version) }
-        ensures answer { IsOk result ↔ (W.ahead weather.old Store.Cells 0 ≡ Fate.Works) }
-        ensures asked { AsksOnce Store.Cells (W.ahead weather.old) (W.ahead weather.new) }
-        ensures counted { Counts (W.ahead weather.old Store.Cells 0) (W.faults weather.old) (W.faults weather.new) }
-        ensures fault { OnErr result (Risen (W.faults weather.old) (W.faults weather.new)) }
+        ensures call { IsOneCall Store.Cells (W.ahead weather.old) (W.ahead weather.new)
+            (W.faults weather.old) (W.faults weather.new) result }
     {
-        match weather.next(Store::Cells) {
-            Fate::Works => {
-                self.leave_bare(key, version);
-                Ok(())
-            }
-            Fate::FailsUnchanged => Err(StoreFault),
-            Fate::FailsApplied => {
-                self.leave_bare(key, version);
-                Err(StoreFault)
-            }
-        }
+        let fate = weather.next(Store::Cells);
+        self.leave_under(fate, key, version);
+        answered_under(fate, ())
     }
 
     /// The keys of the version's rows, ascending.
@@ -228,47 +211,105 @@ impl Cells {
         version: Stamp,
     ) -> Result<Vec<KeyNo>, StoreError>
         ensures value { IfOk result (λ keys. keys.items ≡ keys_of_version self.now.rows version) }
-        ensures answer { UnlessNoMemory result (IsOk result ↔ (W.ahead weather.old Store.Cells 0 ≡ Fate.Works)) }
-        ensures asked { UnlessNoMemory result (AsksOnce Store.Cells (W.ahead weather.old) (W.ahead weather.new)) }
-        ensures counted { UnlessNoMemory result
-            (Counts (W.ahead weather.old Store.Cells 0) (W.faults weather.old) (W.faults weather.new)) }
-        ensures fault { OnStoreFault result (Risen (W.faults weather.old) (W.faults weather.new)) }
+        ensures ascending { IfOk result (λ keys. IsStrictlyIncreasing keys.items) }
+        ensures call { UnlessNoMemory result (IsOneCall Store.Cells (W.ahead weather.old) (W.ahead weather.new)
+            (W.faults weather.old) (W.faults weather.new) result) }
         ensures memory { OnNoMemory result (weather.new ≡ weather.old) }
         ensures ordered { AreOrdered self.now.rows }
     {
         let keys = self.keys_with(version)?;
-        match weather.next(Store::Cells) {
-            Fate::Works => Ok(keys),
-            Fate::FailsUnchanged => Err(StoreError::StoreFault),
-            Fate::FailsApplied => Err(StoreError::StoreFault),
+        Ok(answered_under(weather.next(Store::Cells), keys)?)
+    }
+
+    /// The keys of the version's rows, ascending.
+    fn keys_with(&self, version: Stamp) -> Result<Vec<KeyNo>, NoMemory>
+        ensures value { IfOk result (λ keys. keys.items ≡ keys_of_version self.now.rows version) }
+        ensures ordered { AreOrdered self.now.rows }
+    {
+        self.rows.are_ordered();
+        let (first, last) = version_index::places_of(version);
+        Ok(version_index::keys_from_to(self.alloc, &self.index, first, last)?)
+    }
+
+    /// Adds a bare row where there is none, and its entry in the index. It is the only change that takes memory.
+    fn enter(&mut self, key: KeyNo, version: Stamp, value: Value) -> Result<(), NoMemory>
+        requires { looked self.old.rows key version ≡ None }
+        ensures ok { OnOk result (self.new.rows ≡ put_row self.old.rows key version value) }
+        ensures err { OnErr result (self.new ≡ self.old) }
+    {
+        // The look-ups by range in the index rest on what keys can be, which `value` tells.
+        let _ = key.value();
+        self.rows.enter(key, version, value)?;
+        match self.index.insert((version, key)) {
+            Ok(_) => Ok(()),
+            Err(_) => {
+                self.rows.remove_bare(key, version);
+                Err(NoMemory)
+            }
         }
     }
 
-    fn put_again<W: Weather>(
-        &mut self,
-        weather: &mut W,
-        key: KeyNo,
-        version: Stamp,
-        value: Value,
-    ) -> Result<(), StoreFault>
-        requires { IsSome (looked self.old.rows key version) }
-        ensures rows { self.new.rows ≡ fated (W.ahead weather.old Store.Cells 0)
-            self.old.rows (put_row self.old.rows key version value) }
-        ensures answer { IsOk result ↔ (W.ahead weather.old Store.Cells 0 ≡ Fate.Works) }
-        ensures asked { AsksOnce Store.Cells (W.ahead weather.old) (W.ahead weather.new) }
-        ensures counted { Counts (W.ahead weather.old Store.Cells 0) (W.faults weather.old) (W.faults weather.new) }
+    /// The bare row stays where the fate applies, and is taken away again where it does not.
+    fn keep_under(&mut self, fate: Fate, key: KeyNo, version: Stamp)
+        ensures { self.new.rows ≡ fated fate (without_bare self.old.rows key version) self.old.rows }
     {
-        match weather.next(Store::Cells) {
-            Fate::Works => {
-                self.replace_value(key, version, value);
-                Ok(())
-            }
-            Fate::FailsUnchanged => Err(StoreFault),
-            Fate::FailsApplied => {
-                self.replace_value(key, version, value);
-                Err(StoreFault)
-            }
+        if !fate.applies() {
+            self.leave_bare(key, version);
         }
+    }
+
+    /// Replaces the value of the row that is there, where the fate applies.
+    fn replace_under(&mut self, fate: Fate, key: KeyNo, version: Stamp, value: Value)
+        requires there { IsSome (looked self.old.rows key version) }
+        requires bare { IsBare self.old.rows key version }
+        ensures { self.new.rows ≡ fated fate self.old.rows (put_row self.old.rows key version value) }
+    {
+        if fate.applies() {
+            self.rows.replace_value(key, version, value);
+        }
+    }
+
+    /// Sets the shadow of the row that is there, where the fate applies.
+    fn fill_under(&mut self, fate: Fate, key: KeyNo, version: Stamp, commit: Stamp)
+        ensures { self.new.rows ≡ fated fate self.old.rows (with_shadow self.old.rows key version commit) }
+    {
+        if fate.applies() {
+            self.rows.fill_shadow(key, version, commit);
+        }
+    }
+
+    /// Removes the row where it has no shadow, and the fate applies.
+    fn leave_under(&mut self, fate: Fate, key: KeyNo, version: Stamp)
+        ensures { self.new.rows ≡ fated fate self.old.rows (without_bare self.old.rows key version) }
+    {
+        if fate.applies() {
+            self.leave_bare(key, version);
+        }
+    }
+
+    /// Removes the row where it has no shadow, and its entry in the index with it.
+    fn leave_bare(&mut self, key: KeyNo, version: Stamp)
+        ensures { self.new.rows ≡ without_bare self.old.rows key version }
+    {
+        let Some(cell) = self.rows.cell(key, version) else {
+            return;
+        };
+        if cell.shadow.is_none() {
+            self.rows.remove_bare(key, version);
+            self.index.remove(&(version, key));
+        }
+    }
+}
+
+/// The answer where the call works, and otherwise a fault.
+fn answered_under<T: Drop>(fate: Fate, answer: T) -> Result<T, StoreFault>
+    ensures answer { IsOk result ↔ (fate ≡ Fate.Works) }
+    ensures value { IfOk result (λ given. given ≡ answer) }
+{
+    if fate.works() {
+        Ok(answer)
+    } else {
+        Err(StoreFault)
     }
 }
 

@@ -113,11 +113,12 @@ pairs_head R c cs pairs = λ i d there. pairs 0 (suc i) d (omega arith) (omega a
 pairs_tail : (R : Cell → Cell → Type 0) (c : Cell) (cs : List Cell) → AllPairs R (c ∷ cs) → AllPairs R cs
 pairs_tail R c cs pairs = λ i j d less there. pairs (suc i) (suc j) d (omega arith) (omega arith)
 
-pairs_cons : (R : Cell → Cell → Type 0) (c : Cell) (cs : List Cell) → All (R c) cs → AllPairs R cs → AllPairs R (c ∷ cs)
-pairs_cons R c cs head tail zero zero d less there = absurd (omega arith)
-pairs_cons R c cs head tail zero (suc j) d less there = head j d (omega arith)
-pairs_cons R c cs head tail (suc i) zero d less there = absurd (omega arith)
-pairs_cons R c cs head tail (suc i) (suc j) d less there = tail i j d (omega arith) (omega arith)
+-- one more cell in front
+pub all_pairs_cons : (R : Cell → Cell → Type 0) (c : Cell) (cs : List Cell) → All (R c) cs → AllPairs R cs → AllPairs R (c ∷ cs)
+all_pairs_cons R c cs head tail zero zero d less there = absurd (omega arith)
+all_pairs_cons R c cs head tail zero (suc j) d less there = head j d (omega arith)
+all_pairs_cons R c cs head tail (suc i) zero d less there = absurd (omega arith)
+all_pairs_cons R c cs head tail (suc i) (suc j) d less there = tail i j d (omega arith) (omega arith)
 
 pub front-falls : (start : ℕ) (cells : List Cell) → AreFalling cells → AreFalling (front_of start cells)
 unfolding front_of
@@ -126,5 +127,5 @@ front-falls start (c ∷ cs) falling = elim (cases_Bool (is_below start c.shadow
   | inl a ↦ rw a (λ i j d less there. absurd (omega arith))
   | inr a ↦
       let R : Cell → Cell → Type 0 = λ x y. y.version < x.version in
-      rw a (pairs_cons R c (front_of start cs) (front-all (R c) start cs (pairs_head R c cs falling)) (front-falls start cs (pairs_tail R c cs falling)))
+      rw a (all_pairs_cons R c (front_of start cs) (front-all (R c) start cs (pairs_head R c cs falling)) (front-falls start cs (pairs_tail R c cs falling)))
 ]

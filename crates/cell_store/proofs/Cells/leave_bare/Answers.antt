@@ -1,28 +1,25 @@
-use Rattle.cell_store.proofs.SpecRows.{without_bare_absent, without_bare_shadowed}
-use Rattle.cell_store.proofs.HeldIndex.{shadow_is_some, unwrapped, shadow_is_none}
-use Rattle.std.proofs.Common.{sym, ◌∙◌}
-use Rattle.cell_store.proofs.HeldRows.{rows_of-remove_entry}
-use Rattle.cell_store.proofs.HeldIndex.{indexed_left, ranged_left}
+use Rattle.std.proofs.Common.{◌≡◌, ap, sym, subst, ◌∙◌, List, Some, None, IfSome, Option}
+use Rattle.store_parts.specs.declared.rows.Cell.{Cell}
+use Rattle.store_parts.specs.Rows.{Row, looked, IsBare}
+use Rattle.store_parts.proofs.RowVersions.{without_bare_absent, without_bare_shadowed}
+use Rattle.cell_store.proofs.Shadows.{shadow_is_none, shadow_is_some, unwrapped}
+use Rattle.cell_store.proofs.IndexKeys.{index_left, ranged_left, IsIndexOf}
 use Rattle.cell_store.proofs.Cells.leave_bare.Goals as goal
 
 pub returns-in_default : goal.returns-in_default
-returns-in_default c = sym (without_bare_absent c.args.self.now.rows c.args.key c.args.version (sym c.cell.ensures.value ∙ c.in_default.is))
+returns-in_default c = rw (← c.self.view_is) (sym (without_bare_absent c.self.inside.rows c.args.key c.args.version (sym c.cell.ensures.value ∙ c.in_default.is)))
 
 pub invariant_of-self : goal.invariant_of-self
-invariant_of-self c = record {
-  rows_ordered = c.remove.ensures.ordered;
-  index_ordered = c.remove-then-is_none.ensures.ordered;
-  indexed = indexed_left c.self.inside.rows c.remove.new.self c.self.inside.index c.remove-then-is_none.new.self c.args.key c.args.version c.self.invariant.indexed c.remove.ensures.updates c.remove-then-is_none.ensures.updates;
-  ranged = ranged_left c.self.inside.rows c.remove.new.self c.args.key c.args.version c.self.invariant.ranged c.remove.ensures.updates;
-}
-
-pub returns-then-is_none : goal.returns-then-is_none
-returns-then-is_none c =
-    let found = sym c.cell.ensures.value ∙ c.in-Some.is in
-    let bare = shadow_is_none c.in-Some.cell.shadow c.is_none.result c.is_none.ensures c.if-is_none.true in
-    rw (c.remove.ensures.entries, ← c.self.view_is) (rows_of-remove_entry c.self.inside.rows.entries c.args.key c.args.version c.in-Some.cell (rw (← c.self.view_is) at found) bare)
+invariant_of-self c =
+    let none : c.in-Some.cell.shadow ≡ None = shadow_is_none c.in-Some.cell.shadow c.is_none.result c.is_none.ensures c.if-is_none.true in
+    let bare : IsBare c.self.inside.rows c.args.key c.args.version = subst (λ (found : Option Cell). IfSome found (λ cell. cell.shadow ≡ None)) (sym (sym c.cell.ensures.value ∙ c.in-Some.is)) none in
+    record {
+      ordered = c.remove.ensures.ordered;
+      indexed = subst (λ (rows : List Row). IsIndexOf rows c.remove.new.self) (sym c.remove_bare.ensures) (index_left c.self.inside.rows c.self.inside.index c.remove.new.self c.args.key c.args.version c.self.invariant.indexed c.cell.ensures.ordered bare c.remove.ensures.updates);
+      ranged = ranged_left c.self.inside.index c.remove.new.self c.args.key c.args.version c.self.invariant.ranged c.remove.ensures.updates;
+    }
 
 pub returns-else-is_none : goal.returns-else-is_none
 returns-else-is_none c =
     let found = sym c.cell.ensures.value ∙ c.in-Some.is in
-    sym (without_bare_shadowed c.args.self.now.rows c.args.key c.args.version (unwrapped c.in-Some.cell.shadow) c.in-Some.cell found (shadow_is_some c.in-Some.cell.shadow c.is_none.result c.is_none.ensures c.if-is_none.false))
+    rw (← c.self.view_is) (sym (without_bare_shadowed c.self.inside.rows c.args.key c.args.version (unwrapped c.in-Some.cell.shadow) c.in-Some.cell found (shadow_is_some c.in-Some.cell.shadow c.is_none.result c.is_none.ensures c.if-is_none.false)))

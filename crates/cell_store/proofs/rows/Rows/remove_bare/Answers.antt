@@ -1,0 +1,36 @@
+use Rattle.std.proofs.Common.{◌≡◌, List, sym, subst, ap, ◌∙◌}
+use Rattle.std.specs.Option.{option_copied_mut}
+use Rattle.store_parts.specs.Rows.{Row, looked, without_bare, AreOrdered}
+use Rattle.store_parts.proofs.RowLaws.{ordered-without}
+use Rattle.store_parts.proofs.RowVersions.{without_bare_absent}
+use Rattle.cell_store.specs.KeyLists.{rows_of, AreStamped}
+use Rattle.cell_store.proofs.RowSplits.{look_is_asked, looked-none, without_is_edit}
+use Rattle.cell_store.proofs.MapRows.{asked_none, rising_there, rows_of-set_value}
+use Rattle.cell_store.proofs.Stamped.{stamped_without}
+use Rattle.cell_store.proofs.rows.Rows.remove_bare.Goals as goal
+
+pub remove_bare-requires : goal.remove_bare-requires
+remove_bare-requires c = rising_there c.args.key c.self.inside.lists.entries c.in-Some.cells.now c.self.invariant.ordered (sym c.get_mut.ensures.value ∙ ap option_copied_mut c.in-Some.is)
+
+pub returns-in_default : goal.returns-in_default
+returns-in_default c =
+    let absent = sym c.get_mut.ensures.value ∙ ap option_copied_mut c.in_default.is in
+    let none = asked_none c.args.key (λ rows. looked rows c.args.key c.args.version) c.self.inside.lists.entries (look_is_asked c.args.key c.args.version) c.self.invariant.keys_ordered absent ∙ looked-none c.args.key c.args.version _ tt in
+    rw (c.get_mut.follows.holds-at-none, ← c.self.view_is) (sym (without_bare_absent (rows_of c.self.inside.lists.entries) c.args.key c.args.version none))
+
+-- the rows of the lists as they are left
+rows_left : (c : goal.After-self-2-1) → rows_of (c.get_mut.follows.lender c.remove_bare.new.cells).entries ≡ without_bare (rows_of c.self.inside.lists.entries) c.args.key c.args.version
+rows_left c =
+    let found = sym c.get_mut.ensures.value ∙ ap option_copied_mut c.in-Some.is in
+    ap rows_of (c.get_mut.follows.holds c.remove_bare.new.cells).0
+    ∙ rows_of-set_value c.args.key c.args.version (λ rows. without_bare rows c.args.key c.args.version) c.self.inside.lists.entries c.in-Some.cells.now c.remove_bare.new.cells (without_is_edit c.args.key c.args.version) c.self.invariant.keys_ordered found (c.remove_bare.ensures c.args.key)
+
+pub invariant_of-self-2 : goal.invariant_of-self-2
+invariant_of-self-2 c = record {
+  keys_ordered = (c.get_mut.follows.holds c.remove_bare.new.cells).4;
+  ordered = subst (λ (rows : List Row). AreOrdered rows) (sym (rows_left c)) (ordered-without (rows_of c.self.inside.lists.entries) c.args.key c.args.version c.self.invariant.ordered);
+  stamped = subst (λ (rows : List Row). AreStamped rows) (sym (rows_left c)) (stamped_without (rows_of c.self.inside.lists.entries) c.args.key c.args.version c.self.invariant.ordered c.self.invariant.stamped);
+}
+
+pub returns : goal.returns
+returns c = rw (← c.self.view_is) (rows_left c)

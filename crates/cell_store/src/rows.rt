@@ -1,0 +1,148 @@
+// The rows, in lists of cells by key.
+ghost use Rattle.std.specs.Prelude.{◌≡◌, ℕ, [], length, slice_get, IfOk, IsSome, None, OnErr, OnOk};
+ghost use Rattle.cell_store.specs.KeyLists.{rows_at, AreRising};
+ghost use Rattle.cell_store.specs.Calls.{put_row, fetched, front_of, looked, with_shadow, without_bare, AreOrdered};
+
+use crate::key_list;
+use crate::{Cell, Front};
+use stamp_base::{KeyNo, NoMemory, Stamp, Value};
+use std::alloc::Global;
+use std::collections::BTreeMap;
+use std::marker::Model;
+
+/// Rows in ascending order of key and version.
+#[derive(Drop)]
+pub struct Rows {
+    // Each key's cells, in ascending order of version.
+    lists: BTreeMap<KeyNo, Vec<Cell>>,
+    alloc: Global,
+}
+
+impl Model for Rows {
+    ghost use Rattle.std.specs.Prelude.{List};
+    ghost use Rattle.store_parts.specs.Rows.{Row};
+
+    ghost Value = { List Row };
+
+    ghost use Rattle.cell_store.specs.KeyLists.{rows_of, IsSound};
+
+    ghost view = { λ r. rows_of r.lists.entries };
+
+    ghost invariant = { IsSound };
+}
+
+impl Rows {
+    /// No rows.
+    pub fn new(alloc: Global) -> Rows
+        ensures { result ≡ [] }
+    {
+        Rows {
+            lists: BTreeMap::new(alloc),
+            alloc,
+        }
+    }
+
+    /// They ascend by key and version.
+    pub fn are_ordered(&self)
+        ensures { AreOrdered self.now }
+    {
+        let _ = &self.lists;
+    }
+
+    /// The key's cells, in ascending order of version.
+    fn cells_of(&self, key: KeyNo) -> &[Cell]
+        ensures rising { AreRising result.now }
+        ensures looked { (t : ℕ) → looked (rows_at key result.now) key t ≡ looked self.now key t }
+        ensures fetched { (upto : ℕ) → fetched (rows_at key result.now) key upto ≡ fetched self.now key upto }
+        ensures stamped { fetched self.now key 0 ≡ [] }
+        ensures ordered { AreOrdered self.now }
+    {
+        match self.lists.get(&key) {
+            Some(cells) => cells,
+            None => &[],
+        }
+    }
+
+    /// The cell of the row that is there.
+    pub fn cell(&self, key: KeyNo, version: Stamp) -> Option<Cell>
+        ensures value { result ≡ looked self.now key version }
+        ensures ordered { AreOrdered self.now }
+    {
+        key_list::cell_of(self.cells_of(key), version)
+    }
+
+    /// The key's cells of version at most `upto`, the greatest version first.
+    pub fn fetch(&self, key: KeyNo, upto: Stamp) -> Result<Vec<Cell>, NoMemory>
+        ensures value { IfOk result (λ cells. cells.items ≡ fetched self.now key upto) }
+        ensures ordered { AreOrdered self.now }
+    {
+        let cells = key_list::upto(self.cells_of(key), upto);
+        Ok(key_list::turned(self.alloc, cells)?)
+    }
+
+    /// Of the same cells, how many there are, and those down to the first with a shadow below the start.
+    pub fn front(&self, key: KeyNo, start: Stamp) -> Result<Front, NoMemory>
+        ensures versions { IfOk result (λ front. front.versions ≡ length (fetched self.now key start)) }
+        ensures cells { IfOk result (λ front. front.cells.items ≡ front_of start (fetched self.now key start)) }
+        ensures ordered { AreOrdered self.now }
+    {
+        let cells = key_list::upto(self.cells_of(key), start);
+        Ok(key_list::front(self.alloc, cells, start)?)
+    }
+
+    /// The key's cell of the greatest version that is at most `upto`.
+    pub fn newest(&self, key: KeyNo, upto: Stamp) -> Option<Cell>
+        ensures value { result ≡ slice_get (fetched self.now key upto) 0 }
+        ensures stamped { fetched self.now key 0 ≡ [] }
+        ensures ordered { AreOrdered self.now }
+    {
+        key_list::upto(self.cells_of(key), upto).last().copied()
+    }
+
+    /// Adds a bare row where there is none.
+    pub fn enter(&mut self, key: KeyNo, version: Stamp, value: Value) -> Result<(), NoMemory>
+        requires { looked self.old key version ≡ None }
+        ensures ok { OnOk result (self.new ≡ put_row self.old key version value) }
+        ensures err { OnErr result (self.new ≡ self.old) }
+    {
+        // Versions begin at 1, which `value` tells.
+        let _ = version.value();
+        if let Some(cells) = self.lists.get_mut(&key) {
+            return key_list::enter(cells, version, value);
+        }
+        let cells = key_list::of_one(self.alloc, version, value)?;
+        self.lists.insert(key, cells)?;
+        Ok(())
+    }
+
+    /// Replaces the value of the row that is there.
+    pub fn replace_value(&mut self, key: KeyNo, version: Stamp, value: Value)
+        requires { IsSome (looked self.old key version) }
+        ensures { self.new ≡ put_row self.old key version value }
+    {
+        let Some(cells) = self.lists.get_mut(&key) else {
+            return;
+        };
+        key_list::replace_value(cells, version, value);
+    }
+
+    /// Sets the shadow of the row that is there.
+    pub fn fill_shadow(&mut self, key: KeyNo, version: Stamp, commit: Stamp)
+        ensures { self.new ≡ with_shadow self.old key version commit }
+    {
+        let Some(cells) = self.lists.get_mut(&key) else {
+            return;
+        };
+        key_list::fill_shadow(cells, version, commit);
+    }
+
+    /// Removes the row where it has no shadow.
+    pub fn remove_bare(&mut self, key: KeyNo, version: Stamp)
+        ensures { self.new ≡ without_bare self.old key version }
+    {
+        let Some(cells) = self.lists.get_mut(&key) else {
+            return;
+        };
+        key_list::remove_bare(cells, version);
+    }
+}
