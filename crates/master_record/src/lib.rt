@@ -94,6 +94,8 @@ impl Master {
         ensures answer { result ≡ unless_some (take_refused self.now.rules self.now.state reading)
             (granted self.now.rules self.now.state reading) }
         ensures range { IfOk result (λ grant. IsStampRange grant.epoch grant.ceiling) }
+        ensures term { IfOk result (λ grant. IsWithin 1 grant.ceiling grant.term) }
+        ensures until { IfOk result (λ grant. grant.until ≤ 2 ^ 61 + 1000000) }
     {
         if self.holder.is_some() && reading < self.until + self.skew {
             return Err(TakeRefused::Early {
@@ -188,7 +190,7 @@ impl Master {
     }
 
     fn hold(&mut self, node: NodeNo, grant: &Grant)
-        requires term { (1 ≤ grant.now.term) × (grant.now.term ≤ grant.now.ceiling) }
+        requires term { IsWithin 1 grant.now.ceiling grant.now.term }
         requires until { grant.now.until ≤ 2 ^ 61 + 1000000 }
         requires ceiling { grant.now.ceiling ≤ 2 ^ 62 }
         ensures state { self.new.state ≡ held_by node grant.now }
