@@ -49,6 +49,7 @@ impl Posts {
     }
 
     /// The node has an instance of this term from now on.
+    #[tactic(auto, using(crate::proofs::PostLemmas::set_in_front))]
     pub fn granted(&mut self, node: NodeNo, term: Term)
         requires { node < length self.old }
         ensures { self.new ≡ step.post_granted self.old node term }
@@ -57,6 +58,7 @@ impl Posts {
     }
 
     /// The node has no instance from now on.
+    #[tactic(auto, using(crate::proofs::PostLemmas::set_in_front))]
     pub fn crashed(&mut self, node: NodeNo)
         requires { node < length self.old }
         ensures { self.new ≡ step.post_crashed self.old node }
