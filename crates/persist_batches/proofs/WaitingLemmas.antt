@@ -1,8 +1,6 @@
 -- The batches that wait keep their order.
-use Rattle.std.proofs.Common.{◌≡◌, ℕ, ◌+◌, ◌<◌, ◌≤◌, ◌==◌, ◌^◌, nat_lt, Option, Some, None, false, List, [], ◌∷◌, length, get_or, inl, inr, refl, ap, ◌∙◌, arith}
+use Rattle.std.proofs.Common.{◌≡◌, ℕ, ◌+◌, ◌<◌, ◌≤◌, ◌==◌, nat_lt, false, List, [], ◌∷◌, length, get_or, inl, inr, refl, ap, ◌∙◌, arith}
 use Rattle.std.proofs.lemmas.Bool.{cases_Bool, ne_eqb, eqb-false, ltb-true, ltb-false, or_parts}
-use Rattle.std.specs.Option.{SomeIff}
-use Rattle.persist_batches.specs.Order.{next_of}
 use Rattle.persist_batches.specs.declared.numbered.Numbered.{Numbered}
 use Rattle.persist_batches.specs.Waiting.{holds, placed, IsAscendingFrom}
 
@@ -49,8 +47,3 @@ ascending-placed low (other ∷ waiting) batch le new h = elim (cases_Bool (nat_
       let above : other.number + 1 ≤ batch.number = (let up = ltb-false batch.number other.number q in let ne = eqb-false other.number batch.number parts.0 in omega arith) in
       rw q (h.0, ascending-placed (other.number + 1) waiting batch above parts.1 h.1)
 ]
-
--- the number after one that was the next
-pub next_of-after : (number : ℕ) (after : Option ℕ) → number < 2 ^ 64 → SomeIff after (number + 1 < 2 ^ 64) (number + 1) → next_of after ≡ number + 1
-next_of-after number None fits h = omega (arith, h)
-next_of-after number (Some n) fits h = h.1

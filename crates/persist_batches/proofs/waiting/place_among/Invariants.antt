@@ -1,6 +1,6 @@
 use Rattle.std.proofs.Common.{◌≡◌, ◌++◌, take, drop}
 use Rattle.persist_batches.specs.declared.numbered.Numbered.{Numbered}
-use Rattle.persist_batches.specs.Waiting.{holds, placed, IsAscendingFrom}
+use Rattle.persist_batches.specs.Waiting.{placed}
 use Rattle.persist_batches.proofs.waiting.place_among.Given as goal
 
 abbrev pub invariant-loop-i : goal.invariant-loop-i
