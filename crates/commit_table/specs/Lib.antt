@@ -1,3 +1,4 @@
-pub mod Seen
-pub mod Kept
 pub mod Calls
+pub mod Entries
+pub mod Kept
+pub mod Seen

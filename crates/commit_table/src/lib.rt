@@ -8,7 +8,7 @@ ghost use Rattle.commit_table.specs.Calls.{mark_of, put_answer, put_pair, withou
 
 mod entries;
 
-use entries::{place_under, remove_under};
+use entries::{place_under, remove_under, use_place};
 use indexmap::{IndexMap, IndexSet};
 use port_io::{Store, Weather};
 pub use store_parts::{Put, StoreError, StoreFault};
@@ -127,7 +127,7 @@ impl Table {
             (W.faults weather.old) (W.faults weather.new) result }
     {
         let put = answer(self.mark_of(txn));
-        self.places.swap_remove(&txn.value());
+        use_place(&mut self.places, txn);
         let fate = weather.next(Store::Table);
         place_under(&mut self.pairs, fate, txn, mark);
         answered_under(fate, put)

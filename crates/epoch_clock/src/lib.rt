@@ -1,7 +1,8 @@
-// The stamps of one grant: they rise by one from an epoch up to a ceiling.
+//! The stamps of one grant: they rise by one from an epoch up to a ceiling.
 #![tactic(auto)]
 
-ghost use Rattle.std.specs.Prelude.{◌≡◌, ◌+◌, ◌^◌, ◌<◌, ◌≤◌, IsTrue, MatchOption, IfSome, IfNone};
+ghost use Rattle.std.specs.Prelude.{◌≡◌, ◌+◌, ◌^◌, ◌<◌, MatchOption, IfSome, IfNone};
+ghost use Rattle.stamp_base.specs.Ranges.{IsStampRange, IsWithin};
 
 use stamp_base::Stamp;
 use std::marker::Model;
@@ -14,14 +15,14 @@ pub struct Range {
 }
 
 impl Model for Range {
-    ghost use Rattle.std.specs.Prelude.{◌^◌, ◌≤◌};
+    ghost use Rattle.stamp_base.specs.Ranges.{IsStampRange};
     ghost use Rattle.epoch_clock.specs.Span.{Span};
 
     ghost Value = { Span };
 
     ghost view = { λ r. record { last = r.last; ceiling = r.ceiling } };
 
-    ghost invariant = { λ r. (r.last ≤ r.ceiling) × (r.ceiling ≤ 2 ^ 62) };
+    ghost invariant = { λ r. IsStampRange r.last r.ceiling };
 
     ghost inverse = { λ s. record { last = s.last; ceiling = s.ceiling } };
 }
@@ -31,8 +32,7 @@ impl Range {
 
     /// The stamps from `epoch + 1` up to `ceiling`.
     pub fn new(epoch: u64, ceiling: u64) -> Range
-        requires ascending { epoch ≤ ceiling }
-        requires in_range { ceiling ≤ 2 ^ 62 }
+        requires { IsStampRange epoch ceiling }
         ensures last { result.last ≡ epoch }
         ensures ceiling { result.ceiling ≡ ceiling }
     {
@@ -59,8 +59,7 @@ impl Range {
 
     /// Raises the ceiling.
     pub fn widen(&mut self, ceiling: u64)
-        requires not_below { self.old.ceiling ≤ ceiling }
-        requires in_range { ceiling ≤ 2 ^ 62 }
+        requires { IsWithin self.old.ceiling (2 ^ 62) ceiling }
         ensures { self.new ≡ record self.old { ceiling = ceiling } }
     {
         self.ceiling = ceiling;
@@ -69,8 +68,7 @@ impl Range {
     /// The stamp that was drawn last, or the epoch before the first.
     pub fn last(&self) -> u64
         ensures value { result ≡ self.now.last }
-        ensures within { self.now.last ≤ self.now.ceiling }
-        ensures range { self.now.ceiling ≤ 2 ^ 62 }
+        ensures range { IsStampRange self.now.last self.now.ceiling }
     {
         self.last
     }
@@ -78,8 +76,7 @@ impl Range {
     /// The greatest stamp that can be drawn.
     pub fn ceiling(&self) -> u64
         ensures value { result ≡ self.now.ceiling }
-        ensures within { self.now.last ≤ self.now.ceiling }
-        ensures range { self.now.ceiling ≤ 2 ^ 62 }
+        ensures range { IsStampRange self.now.last self.now.ceiling }
     {
         self.ceiling
     }
@@ -91,24 +88,18 @@ mod tests {
 
     #[test]
     fn stamps_rise_by_one(rt: HostRuntime) {
-        let mut range = Range::new(5, 7);
-        assert_eq!(rt; range.last(), 5);
+        let mut range = Range::new(5, 6);
         assert_eq!(rt; range.draw(), Stamp::new(6));
-        assert_eq!(rt; range.draw(), Stamp::new(7));
         assert_eq!(rt; range.draw(), None);
-        assert_eq!(rt; range.ceiling(), 7);
         range.widen(8);
-        assert_eq!(rt; range.draw(), Stamp::new(8));
-        assert_eq!(rt; range.draw(), None);
-        assert_eq!(rt; range.last(), 8);
+        assert_eq!(rt; range.draw(), Stamp::new(7));
+        assert_eq!(rt; (range.last(), range.ceiling()), (7, 8));
     }
 
     #[test]
     fn the_last_stamp_is_the_greatest(rt: HostRuntime) {
         let mut range = Range::new(Stamp::GREATEST - 1, Stamp::GREATEST);
-        assert_eq!(rt; range.draw(), Stamp::new(Stamp::GREATEST));
+        assert_eq!(rt; range.draw(), Some(Stamp::LAST));
         assert_eq!(rt; range.draw(), None);
-        let mut used_up = Range::new(Stamp::GREATEST, Stamp::GREATEST);
-        assert_eq!(rt; used_up.draw(), None);
     }
 }

@@ -1,16 +1,13 @@
-// The master record: which node has the oracle, until when, and which stamps its term may draw.
+//! The master record: which node has the oracle, until when, and which stamps its term may draw.
 #![tactic(auto)]
 
-ghost use Rattle.std.specs.Prelude.{◌≡◌, ◌≤◌, ◌<◌, ◌+◌, ◌^◌, ◌↔◌, IfErr, IsSome, None};
-ghost use Rattle.master_record.specs.Calls.{MasterRecord, Leasing, free_record, take_refused, granted, taken, renew_refused, renewed_until, renewed, extend_refused, extended, unless_some, answered, AsksOnce, fated, Counts, Risen};
+ghost use Rattle.std.specs.Prelude.{◌≡◌, ◌≤◌, ◌<◌, ◌+◌, ◌^◌, ◌↔◌, IfOk, IsSome, None, if◌then◌else◌};
+ghost use Rattle.master_record.specs.Calls.{MasterRecord, Leasing, free_record, take_refused, granted, taken, held_by, is_spent, renew_refused, renewed_until, renewed, extend_refused, extended, unless_some, answered, AsksOnce, IsWithin, IsStampRange, fated, works};
 
 use port_io::{Fate, Store, Weather};
 pub use store_parts::{ExtendRefused, Grant, RenewRefused, TakeRefused};
-use stamp_base::{NodeNo, Term};
+use stamp_base::{NodeNo, Stamp, Term};
 use std::marker::Model;
-
-/// The greatest stamp, which is the last ceiling that a range can have.
-const LAST_STAMP: u64 = 1 << 62;
 
 /// The one record that says which node has the oracle. Each of its three steps is one store call.
 #[derive(Drop)]
@@ -40,7 +37,9 @@ impl Model for Master {
 impl Master {
     /// A free record: term 0, no holder, `until` 0 and `ceiling` 0.
     pub fn free(lease: u64, skew: u64, range: u64) -> Master
-        requires { (lease ≤ 1000000) × (skew ≤ 1000000) × (1 ≤ range) × (range ≤ 2 ^ 62) }
+        requires lease { lease ≤ 1000000 }
+        requires skew { skew ≤ 1000000 }
+        requires range { IsWithin 1 (2 ^ 62) range }
         ensures state { result.state ≡ free_record }
         ensures rules { result.rules ≡ record { lease = lease; skew = skew; range = range } }
     {
@@ -87,10 +86,41 @@ impl Master {
         self.ceiling
     }
 
-    /// Grants the next term to the node, with a lease from the reading on and a range from the old ceiling
-    /// on. Refused as Early exactly where a holder is there and the reading is below `until` and the skew,
-    /// then as Spent exactly where a further range would go past the last stamp. A fault comes before both
-    /// and hides them. A refused take changes nothing.
+    /// What a take at this reading would be granted or refused, without a store call. Refused as Early exactly where a
+    /// holder is there and the reading is below `until` and the skew, then as Spent exactly where a further range would
+    /// go past the last stamp.
+    pub fn grant_at(&self, reading: u64) -> Result<Grant, TakeRefused>
+        requires { reading ≤ 2 ^ 61 }
+        ensures answer { result ≡ unless_some (take_refused self.now.rules self.now.state reading)
+            (granted self.now.rules self.now.state reading) }
+        ensures range { IfOk result (λ grant. IsStampRange grant.epoch grant.ceiling) }
+        ensures term { IfOk result (λ grant. IsWithin 1 grant.ceiling grant.term) }
+        ensures until { IfOk result (λ grant. grant.until ≤ 2 ^ 61 + 1000000) }
+    {
+        if self.holder.is_some() && reading < self.until + self.skew {
+            return Err(TakeRefused::Early {
+                reading,
+                until: self.until,
+            });
+        }
+        if self.is_spent() {
+            return Err(TakeRefused::Spent {
+                ceiling: self.ceiling,
+            });
+        }
+        let Some(term) = Term::new(self.term + 1) else {
+            unreachable!();
+        };
+        Ok(Grant {
+            term,
+            epoch: self.ceiling,
+            until: reading + self.lease,
+            ceiling: self.ceiling + self.range,
+        })
+    }
+
+    /// Grants the next term to the node, with a lease from the reading on and a range from the old ceiling on. It is
+    /// refused as `grant_at` says, and then changes nothing. A fault comes before the refusals and hides them.
     pub fn take<W: Weather>(
         &mut self,
         weather: &mut W,
@@ -103,18 +133,16 @@ impl Master {
         ensures rules { self.new.rules ≡ self.old.rules }
         ensures answer { result ≡ answered (W.ahead weather.old Store.Master 0) TakeRefused.StoreFault
             (take_refused self.old.rules self.old.state reading) (granted self.old.rules self.old.state reading) }
-        ensures asked { AsksOnce Store.Master (W.ahead weather.old) (W.ahead weather.new) }
-        ensures counted { Counts (W.ahead weather.old Store.Master 0) (W.faults weather.old) (W.faults weather.new) }
-        ensures fault { IfErr result (λ why. why ≡ TakeRefused.StoreFault → Risen (W.faults weather.old) (W.faults weather.new)) }
+        ensures range { IfOk result (λ grant. IsStampRange grant.epoch grant.ceiling) }
+        ensures asked { AsksOnce Store.Master (W.ahead weather.old) (W.ahead weather.new)
+            (W.faults weather.old) (W.faults weather.new) }
     {
-        match weather.next(Store::Master) {
-            Fate::Works => self.take_now(node, reading),
-            Fate::FailsUnchanged => Err(TakeRefused::StoreFault),
-            Fate::FailsApplied => {
-                let _ = self.take_now(node, reading);
-                Err(TakeRefused::StoreFault)
-            }
+        let fate = weather.next(Store::Master);
+        let told = self.grant_at(reading);
+        if fate.applies() && let Ok(grant) = &told {
+            self.hold(node, grant);
         }
+        told_under(fate, told, TakeRefused::StoreFault)
     }
 
     /// Sets `until` to the greater of `until` and the reading with the lease, and answers it. Refused as
@@ -131,18 +159,15 @@ impl Master {
         ensures rules { self.new.rules ≡ self.old.rules }
         ensures answer { result ≡ answered (W.ahead weather.old Store.Master 0) RenewRefused.StoreFault
             (renew_refused self.old.state term) (renewed_until self.old.rules self.old.state reading) }
-        ensures asked { AsksOnce Store.Master (W.ahead weather.old) (W.ahead weather.new) }
-        ensures counted { Counts (W.ahead weather.old Store.Master 0) (W.faults weather.old) (W.faults weather.new) }
-        ensures fault { IfErr result (λ why. why ≡ RenewRefused.StoreFault → Risen (W.faults weather.old) (W.faults weather.new)) }
+        ensures asked { AsksOnce Store.Master (W.ahead weather.old) (W.ahead weather.new)
+            (W.faults weather.old) (W.faults weather.new) }
     {
-        match weather.next(Store::Master) {
-            Fate::Works => self.renew_now(term, reading),
-            Fate::FailsUnchanged => Err(RenewRefused::StoreFault),
-            Fate::FailsApplied => {
-                let _ = self.renew_now(term, reading);
-                Err(RenewRefused::StoreFault)
-            }
+        let fate = weather.next(Store::Master);
+        let told = self.renewal_at(term, reading);
+        if fate.applies() && let Ok(until) = told {
+            self.until = until;
         }
+        told_under(fate, told, RenewRefused::StoreFault)
     }
 
     /// Raises the ceiling by one range, and answers it. Refused as Replaced exactly where the record has
@@ -153,85 +178,73 @@ impl Master {
         ensures rules { self.new.rules ≡ self.old.rules }
         ensures answer { result ≡ answered (W.ahead weather.old Store.Master 0) ExtendRefused.StoreFault
             (extend_refused self.old.rules self.old.state term) (self.old.state.ceiling + self.old.rules.range) }
-        ensures asked { AsksOnce Store.Master (W.ahead weather.old) (W.ahead weather.new) }
-        ensures counted { Counts (W.ahead weather.old Store.Master 0) (W.faults weather.old) (W.faults weather.new) }
-        ensures fault { IfErr result (λ why. why ≡ ExtendRefused.StoreFault → Risen (W.faults weather.old) (W.faults weather.new)) }
+        ensures asked { AsksOnce Store.Master (W.ahead weather.old) (W.ahead weather.new)
+            (W.faults weather.old) (W.faults weather.new) }
     {
-        match weather.next(Store::Master) {
-            Fate::Works => self.extend_now(term),
-            Fate::FailsUnchanged => Err(ExtendRefused::StoreFault),
-            Fate::FailsApplied => {
-                let _ = self.extend_now(term);
-                Err(ExtendRefused::StoreFault)
-            }
+        let fate = weather.next(Store::Master);
+        let told = self.extension_of(term);
+        if fate.applies() && let Ok(ceiling) = told {
+            self.ceiling = ceiling;
         }
+        told_under(fate, told, ExtendRefused::StoreFault)
     }
 
-    fn take_now(&mut self, node: NodeNo, reading: u64) -> Result<Grant, TakeRefused>
-        requires { reading ≤ 2 ^ 61 }
-        ensures state { self.new.state ≡ taken self.old.rules self.old.state node reading }
+    fn hold(&mut self, node: NodeNo, grant: &Grant)
+        requires term { IsWithin 1 grant.now.ceiling grant.now.term }
+        requires until { grant.now.until ≤ 2 ^ 61 + 1000000 }
+        requires ceiling { grant.now.ceiling ≤ 2 ^ 62 }
+        ensures state { self.new.state ≡ held_by node grant.now }
         ensures rules { self.new.rules ≡ self.old.rules }
-        ensures answer { result ≡ unless_some (take_refused self.old.rules self.old.state reading)
-            (granted self.old.rules self.old.state reading) }
     {
-        if self.holder.is_some() && reading < self.until + self.skew {
-            return Err(TakeRefused::Early {
-                reading,
-                until: self.until,
-            });
-        }
-        if self.ceiling + self.range > LAST_STAMP {
-            return Err(TakeRefused::Spent {
-                ceiling: self.ceiling,
-            });
-        }
-        let Some(term) = Term::new(self.term + 1) else {
-            unreachable!();
-        };
-        let epoch = self.ceiling;
-        self.term = term.value();
+        self.term = grant.term.value();
         self.holder = Some(node);
-        self.until = reading + self.lease;
-        self.ceiling = epoch + self.range;
-        Ok(Grant {
-            term,
-            epoch,
-            until: self.until,
-            ceiling: self.ceiling,
-        })
+        self.until = grant.until;
+        self.ceiling = grant.ceiling;
     }
 
-    fn renew_now(&mut self, term: Term, reading: u64) -> Result<u64, RenewRefused>
+    /// The end that a renewal would set.
+    fn renewal_at(&self, term: Term, reading: u64) -> Result<u64, RenewRefused>
         requires { reading ≤ 2 ^ 61 }
-        ensures state { self.new.state ≡ renewed self.old.rules self.old.state term reading }
-        ensures rules { self.new.rules ≡ self.old.rules }
-        ensures answer { result ≡ unless_some (renew_refused self.old.state term)
-            (renewed_until self.old.rules self.old.state reading) }
+        ensures answer { result ≡ unless_some (renew_refused self.now.state term)
+            (renewed_until self.now.rules self.now.state reading) }
+        ensures range { IfOk result (λ until. until ≤ 2 ^ 61 + 1000000) }
     {
         if self.term != term.value() {
             return Err(RenewRefused::Replaced { found: self.term });
         }
-        self.until = self.until.max(reading + self.lease);
-        Ok(self.until)
+        Ok(self.until.max(reading + self.lease))
     }
 
-    fn extend_now(&mut self, term: Term) -> Result<u64, ExtendRefused>
-        ensures state { self.new.state ≡ extended self.old.rules self.old.state term }
-        ensures rules { self.new.rules ≡ self.old.rules }
-        ensures answer { result ≡ unless_some (extend_refused self.old.rules self.old.state term)
-            (self.old.state.ceiling + self.old.rules.range) }
+    /// The ceiling that an extension would set.
+    fn extension_of(&self, term: Term) -> Result<u64, ExtendRefused>
+        ensures answer { result ≡ unless_some (extend_refused self.now.rules self.now.state term)
+            (self.now.state.ceiling + self.now.rules.range) }
+        ensures range { IfOk result (λ ceiling. IsWithin self.now.state.ceiling (2 ^ 62) ceiling) }
     {
         if self.term != term.value() {
             return Err(ExtendRefused::Replaced { found: self.term });
         }
-        if self.ceiling + self.range > LAST_STAMP {
+        if self.is_spent() {
             return Err(ExtendRefused::Spent {
                 ceiling: self.ceiling,
             });
         }
-        self.ceiling += self.range;
-        Ok(self.ceiling)
+        Ok(self.ceiling + self.range)
     }
+
+    /// Whether a further range would go past the last stamp.
+    fn is_spent(&self) -> bool
+        ensures value { result ≡ is_spent self.now.rules self.now.state }
+    {
+        self.ceiling + self.range > Stamp::GREATEST
+    }
+}
+
+/// What a call of this fate tells: a fault hides the answer.
+fn told_under<T: Drop, E: Drop>(fate: Fate, told: Result<T, E>, fault: E) -> Result<T, E>
+    ensures { result ≡ (if works fate then told else Err fault) }
+{
+    if fate.works() { told } else { Err(fault) }
 }
 
 #[cfg(test)]

@@ -139,6 +139,20 @@ fn fails_the_planned_calls(rt: HostRuntime) -> Result<(), Fail> {
     Ok(())
 }
 
+#[test]
+fn one_fate_for_every_call(rt: HostRuntime) {
+    for (fate, works, applies) in [
+        (Fate::Works, true, true),
+        (Fate::FailsUnchanged, false, false),
+        (Fate::FailsApplied, false, true),
+    ] {
+        assert_eq!(rt; (fate.works(), fate.applies()), (works, applies));
+        let mut weather = OneFate::new(fate);
+        assert_eq!(rt; weather.next(Store::Table), fate);
+        assert_eq!(rt; weather.next(Store::Cells), fate);
+    }
+}
+
 // Nothing is asked of standard input, which may be a terminal.
 #[test]
 fn stands_on_the_system(rt: HostRuntime) {

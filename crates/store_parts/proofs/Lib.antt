@@ -1,3 +1,4 @@
 pub mod RowLaws
 pub mod RowFetches
 pub mod RowVersions
+pub mod PairLaws

@@ -1,4 +1,4 @@
-// The posts of the nodes: which node has an oracle's instance, and of which term.
+//! The posts of the nodes: which node has an oracle's instance, and of which term.
 #![tactic(auto)]
 
 ghost use Rattle.std.specs.Prelude.{◌≡◌, ◌<◌, ◌≤◌, MatchResult, None, Some, length};
@@ -11,7 +11,7 @@ use std::marker::Model;
 /// For each node the term of its instance.
 #[derive(Drop)]
 pub struct Posts {
-    terms: [Option<Term>; 8],
+    terms: [Option<Term>; NodeNo::COUNT],
     nodes: usize,
 }
 
@@ -32,7 +32,7 @@ impl Posts {
         ensures { result ≡ step.posts_new nodes }
     {
         Posts {
-            terms: [None; 8],
+            terms: [None; NodeNo::COUNT],
             nodes: nodes as usize,
         }
     }
@@ -49,19 +49,21 @@ impl Posts {
     }
 
     /// The node has an instance of this term from now on.
+    #[tactic(auto, using(crate::proofs::PostLemmas::set_in_front))]
     pub fn granted(&mut self, node: NodeNo, term: Term)
         requires { node < length self.old }
         ensures { self.new ≡ step.post_granted self.old node term }
     {
-        self.terms[node.value() as usize] = Some(term);
+        self.terms[node.index()] = Some(term);
     }
 
     /// The node has no instance from now on.
+    #[tactic(auto, using(crate::proofs::PostLemmas::set_in_front))]
     pub fn crashed(&mut self, node: NodeNo)
         requires { node < length self.old }
         ensures { self.new ≡ step.post_crashed self.old node }
     {
-        self.terms[node.value() as usize] = None;
+        self.terms[node.index()] = None;
     }
 
     /// The term of the node's instance. None exactly where it has none.
@@ -69,7 +71,7 @@ impl Posts {
         requires { node < length self.now }
         ensures { result ≡ step.post_of self.now node }
     {
-        self.terms[node.value() as usize]
+        self.terms[node.index()]
     }
 }
 
