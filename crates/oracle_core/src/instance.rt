@@ -10,10 +10,10 @@ use epoch_clock::Range;
 use history_book::Cause;
 use lease_keeper::Lease;
 use oracle_parts::{Decided, Held, Place, Progress, Reply, Request, Settled, Verdict};
-use store_parts::Grant;
 use stamp_base::{NoMemory, NodeNo, SessionNo, Setup, Stamp, Term};
 use std::alloc::Global;
 use std::marker::Model;
+use store_parts::Grant;
 
 /// One oracle, made by one grant of the master record. A request goes from place to place by `ask`, `accept`,
 /// `decide`, for a commit `settle`, and `answer`.
@@ -284,12 +284,7 @@ impl Instance {
         }
     }
 
-    fn accept_asked(
-        &mut self,
-        session: SessionNo,
-        held: Held,
-        reading: u64,
-    ) -> Result<(), Cause>
+    fn accept_asked(&mut self, session: SessionNo, held: Held, reading: u64) -> Result<(), Cause>
         ensures left { self.new ≡ (step.accept_unless self.old session held (step.accept_refusal self.old reading held.request)).left }
         ensures answer { result ≡ (step.accept_unless self.old session held (step.accept_refusal self.old reading held.request)).answer }
     {
@@ -418,12 +413,7 @@ impl Instance {
         }
     }
 
-    fn answer_begin(
-        &mut self,
-        session: SessionNo,
-        held: Held,
-        start: Stamp,
-    ) -> Result<Reply, Cause>
+    fn answer_begin(&mut self, session: SessionNo, held: Held, start: Stamp) -> Result<Reply, Cause>
         ensures left { self.new ≡ (step.answer_begin self.old session held start (entry.least_unsettled self.old.requests start)).left }
         ensures answer { result ≡ (step.answer_begin self.old session held start (entry.least_unsettled self.old.requests start)).answer }
     {
