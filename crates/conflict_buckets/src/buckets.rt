@@ -1,4 +1,5 @@
 ghost use Rattle.std.specs.Prelude.{◌≡◌, ◌<◌, ◌≤◌, [], length, IfOk};
+ghost use Rattle.stamp_base.specs.Ranges.{IsWithin};
 ghost use Rattle.oracle_parts.specs.Buckets as memory;
 
 use crate::bucket::Bucket;
@@ -29,8 +30,8 @@ impl Buckets {
     /// Empty buckets. All their memory is taken here.
     #[tactic(auto, unfolding(oracle_parts::specs::Buckets::record_pairs))]
     pub fn open(alloc: Global, buckets: u64, width: u64) -> Result<Buckets, NoMemory>
-        requires count { (1 ≤ buckets) × (buckets ≤ 4096) }
-        requires width { (1 ≤ width) × (width ≤ 64) }
+        requires count { IsWithin 1 4096 buckets }
+        requires width { IsWithin 1 64 width }
         ensures { IfOk result (λ opened. opened ≡ memory.contents buckets width []) }
     {
         let mut opened = Vec::with_capacity(alloc, buckets as usize)?;

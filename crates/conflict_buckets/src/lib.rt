@@ -1,4 +1,5 @@
-// The bounded conflict memory of an oracle's instance.
+//! The bounded memory of conflicts of an oracle's instance: the latest commits of keys, and for each bucket the latest
+//! commit that it forgot.
 #![tactic(auto)]
 
 mod bucket;

@@ -1,4 +1,6 @@
-ghost use Rattle.std.specs.Prelude.{◌≡◌, ◌≤◌, ◌^◌, IfOk, Ok, None, Some};
+ghost use Rattle.std.specs.Prelude.{◌≡◌, ◌≤◌, ◌^◌, ◌↔◌, IfOk, IsTrue, Ok, None, Some};
+ghost use Rattle.stamp_base.specs.Ranges.{IsStampRange};
+ghost use Rattle.oracle_parts.specs.Buckets as memory;
 ghost use Rattle.oracle_parts.specs.Instance as entry;
 ghost use Rattle.oracle_parts.specs.InstanceSteps as step;
 
@@ -8,10 +10,10 @@ use epoch_clock::Range;
 use history_book::Cause;
 use lease_keeper::Lease;
 use oracle_parts::{Decided, Held, Place, Progress, Reply, Request, Settled, Verdict};
-use store_parts::Grant;
 use stamp_base::{NoMemory, NodeNo, SessionNo, Setup, Stamp, Term};
 use std::alloc::Global;
 use std::marker::Model;
+use store_parts::Grant;
 
 /// One oracle, made by one grant of the master record. A request goes from place to place by `ask`, `accept`,
 /// `decide`, for a commit `settle`, and `answer`.
@@ -26,7 +28,7 @@ pub struct Instance {
     // The first refusal of the master record that ends requests.
     stop: Option<Cause>,
     slots: u64,
-    // One for each of the 16 sessions, by its number.
+    // One for each session, by its number.
     requests: Vec<Option<Held>>,
 }
 
@@ -49,9 +51,7 @@ impl Instance {
         node: NodeNo,
         setup: &Setup,
     ) -> Result<Instance, NoMemory>
-        requires range { (grant.epoch ≤ grant.ceiling) × (grant.ceiling ≤ 2 ^ 62) }
-        requires buckets { (1 ≤ setup.now.buckets) × (setup.now.buckets ≤ 4096) }
-        requires width { (1 ≤ setup.now.width) × (setup.now.width ≤ 64) }
+        requires { IsStampRange grant.epoch grant.ceiling }
         ensures { IfOk result (λ opened. opened ≡ entry.instance_new grant node setup.now.buckets setup.now.width setup.now.slots) }
     {
         Ok(Instance {
@@ -63,7 +63,7 @@ impl Instance {
             buckets: Buckets::open(alloc, setup.buckets, setup.width)?,
             stop: None,
             slots: setup.slots,
-            requests: Vec::from_array(alloc, [None; 16])?,
+            requests: Vec::from_array(alloc, [None; SessionNo::COUNT])?,
         })
     }
 
@@ -104,7 +104,42 @@ impl Instance {
         self.range.ceiling()
     }
 
-    /// Where the request of a session stands. None exactly where it has none.
+    /// Whether no stamp is left.
+    pub fn is_used_up(&self) -> bool
+        ensures { IsTrue result ↔ (self.now.last ≡ self.now.ceiling) }
+    {
+        self.range.last() == self.range.ceiling()
+    }
+
+    /// The refusal of the master record that is kept.
+    pub fn stop(&self) -> Option<Cause>
+        ensures { result ≡ self.now.stop }
+    {
+        self.stop
+    }
+
+    /// How many requests may be held at once.
+    pub fn slots(&self) -> u64
+        ensures { result ≡ self.now.slots }
+    {
+        self.slots
+    }
+
+    /// How many requests are held.
+    pub fn in_flight(&self) -> u64
+        ensures { result ≡ entry.in_flight self.now }
+    {
+        self.requests.iter().filter(|held| held.is_some()).count() as u64
+    }
+
+    /// The request of a session and where it stands. None exactly where the session has none.
+    pub fn request_of(&self, session: SessionNo) -> Option<(Request, Place)>
+        ensures { result ≡ entry.request_at self.now session }
+    {
+        waiting::request_of(&self.find(session))
+    }
+
+    /// Where the request of a session stands. None exactly where the session has none.
     pub fn place(&self, session: SessionNo) -> Option<Place>
         ensures { result ≡ entry.place_at self.now session }
     {
@@ -118,6 +153,20 @@ impl Instance {
         waiting::stamps_of(&self.find(session))
     }
 
+    /// Whether the session has a request that was refused as NoStamp before.
+    pub fn told_no_stamp(&self, session: SessionNo) -> bool
+        ensures { result ≡ entry.was_told_no_stamp self.now session }
+    {
+        waiting::told_no_stamp(&self.find(session))
+    }
+
+    /// Whether the session has a request that was refused as NotYet before.
+    pub fn told_not_yet(&self, session: SessionNo) -> bool
+        ensures { result ≡ entry.was_told_not_yet self.now session }
+    {
+        waiting::told_not_yet(&self.find(session))
+    }
+
     /// Takes a slot for the request. Refused as Full exactly where all slots are taken.
     pub fn ask(&mut self, request: Request) -> Result<(), Cause>
         requires { step.CanAskOf self.old request }
@@ -128,7 +177,7 @@ impl Instance {
         if in_flight == self.slots {
             return Err(Cause::Full { in_flight });
         }
-        self.put(waiting::session_of(&request), request, Progress::Asked);
+        self.put(waiting::session_of(&request), waiting::just_asked(request));
         Ok(())
     }
 
@@ -141,11 +190,11 @@ impl Instance {
     {
         match self.find(session) {
             Some(
-                Held {
-                    request,
+                held @ Held {
                     progress: Progress::Asked,
+                    ..
                 },
-            ) => self.accept_asked(session, request, reading),
+            ) => self.accept_asked(session, held, reading),
             _ => Err(Cause::NoRequest { session }),
         }
     }
@@ -160,11 +209,11 @@ impl Instance {
     {
         match self.find(session) {
             Some(
-                Held {
-                    request,
+                held @ Held {
                     progress: Progress::Accepted,
+                    ..
                 },
-            ) => self.decide_accepted(session, request),
+            ) => self.decide_accepted(session, held),
             _ => Err(Cause::NoRequest { session }),
         }
     }
@@ -187,18 +236,20 @@ impl Instance {
         ensures left { self.new ≡ (step.instance_answer self.old session).left }
         ensures answer { result ≡ (step.instance_answer self.old session).answer }
     {
-        let held = self.find(session);
-        match &held {
+        let found = self.find(session);
+        match &found {
             Some(
-                Held {
+                held @ Held {
                     request: Request::Begin { .. },
                     progress: Progress::Drawn { stamp },
+                    ..
                 },
-            ) => self.answer_begin(session, *stamp),
+            ) => self.answer_begin(session, *held, *stamp),
             Some(
                 Held {
                     request: Request::Commit { .. },
                     progress: Progress::Settled { commit, how },
+                    ..
                 },
             ) => {
                 self.end(session);
@@ -210,8 +261,7 @@ impl Instance {
 
     /// The range goes up to a new ceiling.
     pub fn widened(&mut self, ceiling: u64)
-        requires not_below { self.old.ceiling ≤ ceiling }
-        requires in_range { ceiling ≤ 2 ^ 62 }
+        requires { IsStampRange self.old.ceiling ceiling }
         ensures { self.new ≡ step.instance_widened self.old ceiling }
     {
         self.range.widen(ceiling);
@@ -234,18 +284,13 @@ impl Instance {
         }
     }
 
-    fn accept_asked(
-        &mut self,
-        session: SessionNo,
-        request: Request,
-        reading: u64,
-    ) -> Result<(), Cause>
-        ensures left { self.new ≡ (step.accept_by self.old session request (step.accept_refusal self.old reading request)).left }
-        ensures answer { result ≡ (step.accept_by self.old session request (step.accept_refusal self.old reading request)).answer }
+    fn accept_asked(&mut self, session: SessionNo, held: Held, reading: u64) -> Result<(), Cause>
+        ensures left { self.new ≡ (step.accept_unless self.old session held (step.accept_refusal self.old reading held.request)).left }
+        ensures answer { result ≡ (step.accept_unless self.old session held (step.accept_refusal self.old reading held.request)).answer }
     {
-        match self.accept_refusal(&request, reading) {
+        match self.accept_refusal(&held.request, reading) {
             None => {
-                self.put(session, request, Progress::Accepted);
+                self.advance(session, held, Progress::Accepted);
                 Ok(())
             }
             Some(cause) => {
@@ -274,12 +319,12 @@ impl Instance {
         }
     }
 
-    fn decide_accepted(&mut self, session: SessionNo, request: Request) -> Result<Decided, Cause>
-        ensures left { self.new ≡ (step.decide_by self.old session request (step.request_verdict self.old.buckets request)).left }
-        ensures answer { result ≡ (step.decide_by self.old session request (step.request_verdict self.old.buckets request)).answer }
+    fn decide_accepted(&mut self, session: SessionNo, held: Held) -> Result<Decided, Cause>
+        ensures left { self.new ≡ (step.decide_by self.old session held (step.request_verdict self.old.buckets held.request)).left }
+        ensures answer { result ≡ (step.decide_by self.old session held (step.request_verdict self.old.buckets held.request)).answer }
     {
-        match self.verdict(&request) {
-            Verdict::Free => self.decide_free(session, request),
+        match self.verdict(&held.request) {
+            Verdict::Free => self.decide_free(session, held),
             Verdict::Conflict { key, by } => {
                 self.end(session);
                 Err(Cause::Conflict { key, by })
@@ -300,24 +345,33 @@ impl Instance {
         }
     }
 
-    fn decide_free(&mut self, session: SessionNo, request: Request) -> Result<Decided, Cause>
-        ensures left { self.new ≡ (step.decide_free self.old session request).left }
-        ensures answer { result ≡ (step.decide_free self.old session request).answer }
+    fn decide_free(&mut self, session: SessionNo, held: Held) -> Result<Decided, Cause>
+        ensures left { self.new ≡ (step.decide_free self.old session held).left }
+        ensures answer { result ≡ (step.decide_free self.old session held).answer }
     {
         match self.range.draw() {
-            Some(stamp) => Ok(self.decide_drawn(session, request, stamp)),
-            None => self.out_of_stamps(session),
+            Some(stamp) => Ok(self.decide_drawn(session, held, stamp)),
+            None => self.out_of_stamps(session, held),
         }
     }
 
-    fn out_of_stamps(&mut self, session: SessionNo) -> Result<Decided, Cause>
-        ensures left { self.new ≡ (step.out_of_stamps self.old session self.old.stop).left }
-        ensures answer { result ≡ (step.out_of_stamps self.old session self.old.stop).answer }
+    fn out_of_stamps(&mut self, session: SessionNo, held: Held) -> Result<Decided, Cause>
+        ensures left { self.new ≡ (step.out_of_stamps self.old session held self.old.stop).left }
+        ensures answer { result ≡ (step.out_of_stamps self.old session held self.old.stop).answer }
     {
         match self.stop {
-            None => Err(Cause::NoStamp {
-                last: self.range.last(),
-            }),
+            None => {
+                self.put(
+                    session,
+                    Held {
+                        told_no_stamp: true,
+                        ..held
+                    },
+                );
+                Err(Cause::NoStamp {
+                    last: self.range.last(),
+                })
+            }
             Some(cause) => {
                 self.end(session);
                 Err(cause)
@@ -326,38 +380,42 @@ impl Instance {
     }
 
     /// The stamp was drawn for the request.
-    fn decide_drawn(&mut self, session: SessionNo, request: Request, stamp: Stamp) -> Decided
+    fn decide_drawn(&mut self, session: SessionNo, held: Held, stamp: Stamp) -> Decided
         requires { self.old.last ≡ stamp }
-        ensures left { self.new ≡ (step.decide_drawn self.old session request stamp).left }
-        ensures answer { Ok result ≡ (step.decide_drawn self.old session request stamp).answer }
+        ensures left { self.new ≡ (step.decide_drawn self.old session held stamp).left }
+        ensures answer { Ok result ≡ (step.decide_drawn self.old session held stamp).answer }
     {
-        let decided = match &request {
-            Request::Begin { .. } => Decided::Started(stamp),
-            Request::Commit { keys, .. } => {
-                self.buckets.keep(keys, stamp);
-                Decided::Drawn(stamp)
-            }
-        };
-        self.put(session, request, Progress::Drawn { stamp });
-        decided
+        self.record(&held.request, stamp);
+        self.advance(session, held, Progress::Drawn { stamp });
+        waiting::decided_by(&held.request, stamp)
+    }
+
+    /// The keys of a commit are recorded with its stamp.
+    #[tactic(auto, unfolding(oracle_parts::specs::Buckets::record_pairs))]
+    fn record(&mut self, request: &Request, stamp: Stamp)
+        ensures { self.new ≡ record self.old { buckets = memory.record_pairs self.old.buckets (step.pairs_by request.now stamp) } }
+    {
+        if let Request::Commit { keys, .. } = request {
+            self.buckets.keep(keys, stamp);
+        }
     }
 
     fn settle_held(&mut self, session: SessionNo, held: Held, how: Settled) -> Result<(), Cause>
-        ensures left { self.new ≡ (step.settle_by self.old session how held.request (entry.unsettled_by held.request held.progress)).left }
-        ensures answer { result ≡ (step.settle_by self.old session how held.request (entry.unsettled_by held.request held.progress)).answer }
+        ensures left { self.new ≡ (step.settle_if_drawn self.old session how held (entry.unsettled_by held.request held.progress)).left }
+        ensures answer { result ≡ (step.settle_if_drawn self.old session how held (entry.unsettled_by held.request held.progress)).answer }
     {
         match waiting::unsettled_commit(&held) {
             Some(commit) => {
-                self.put(session, held.request, Progress::Settled { commit, how });
+                self.advance(session, held, Progress::Settled { commit, how });
                 Ok(())
             }
             None => Err(Cause::NoRequest { session }),
         }
     }
 
-    fn answer_begin(&mut self, session: SessionNo, start: Stamp) -> Result<Reply, Cause>
-        ensures left { self.new ≡ (step.answer_begin self.old session start (entry.least_unsettled self.old.requests start)).left }
-        ensures answer { result ≡ (step.answer_begin self.old session start (entry.least_unsettled self.old.requests start)).answer }
+    fn answer_begin(&mut self, session: SessionNo, held: Held, start: Stamp) -> Result<Reply, Cause>
+        ensures left { self.new ≡ (step.answer_begin self.old session held start (entry.least_unsettled self.old.requests start)).left }
+        ensures answer { result ≡ (step.answer_begin self.old session held start (entry.least_unsettled self.old.requests start)).answer }
     {
         match waiting::least_unsettled(&self.requests, start) {
             None => {
@@ -367,36 +425,45 @@ impl Instance {
                     epoch: self.epoch,
                 })
             }
-            Some(commit) => Err(Cause::NotYet { commit }),
+            Some(commit) => {
+                self.put(
+                    session,
+                    Held {
+                        told_not_yet: true,
+                        ..held
+                    },
+                );
+                Err(Cause::NotYet { commit })
+            }
         }
-    }
-
-    /// How many requests are held.
-    fn in_flight(&self) -> u64
-        ensures { result ≡ entry.in_flight self.now }
-    {
-        self.requests.iter().filter(|held| held.is_some()).count() as u64
     }
 
     /// The request of a session.
     fn find(&self, session: SessionNo) -> Option<Held>
         ensures { result ≡ entry.held_of self.now session }
     {
-        self.requests[session.value() as usize]
+        self.requests[session.index()]
+    }
+
+    /// The request that is held has come this far.
+    fn advance(&mut self, session: SessionNo, held: Held, progress: Progress)
+        ensures { self.new ≡ step.moved self.old session held progress }
+    {
+        self.put(session, Held { progress, ..held });
     }
 
     /// The session has this request from now on.
-    fn put(&mut self, session: SessionNo, request: Request, progress: Progress)
-        ensures { self.new ≡ step.moved self.old session request progress }
+    fn put(&mut self, session: SessionNo, held: Held)
+        ensures { self.new ≡ entry.with_request self.old session (Some held) }
     {
-        self.requests[session.value() as usize] = Some(Held { request, progress });
+        self.requests[session.index()] = Some(held);
     }
 
     /// The request of the session is over, and its slot is free.
     fn end(&mut self, session: SessionNo)
         ensures { self.new ≡ step.without_request self.old session }
     {
-        self.requests[session.value() as usize] = None;
+        self.requests[session.index()] = None;
     }
 }
 

@@ -1,4 +1,4 @@
-// An oracle's instance: the requests that it holds, taken step by step from the ask to the answer.
+//! An oracle's instance: the requests that it holds, taken step by step from the ask to the answer.
 #![tactic(auto)]
 
 mod instance;

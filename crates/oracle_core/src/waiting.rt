@@ -1,8 +1,9 @@
 // What a held request tells by how far it has come.
 ghost use Rattle.std.specs.Prelude.{◌≡◌, ℕ, List};
 ghost use Rattle.oracle_parts.specs.Instance as entry;
+ghost use Rattle.oracle_parts.specs.InstanceSteps as step;
 
-use oracle_parts::{Held, Place, Progress, Request};
+use oracle_parts::{Decided, Held, Place, Progress, Request};
 use stamp_base::{SessionNo, Stamp};
 
 pub fn session_of(request: &Request) -> SessionNo
@@ -14,17 +15,72 @@ pub fn session_of(request: &Request) -> SessionNo
     }
 }
 
+/// A request of which nothing was told yet.
+pub fn just_asked(request: Request) -> Held
+    ensures { result ≡ step.just_asked request }
+{
+    Held {
+        request,
+        progress: Progress::Asked,
+        told_no_stamp: false,
+        told_not_yet: false,
+    }
+}
+
+/// What a stamp is to a request.
+pub fn decided_by(request: &Request, stamp: Stamp) -> Decided
+    ensures { result ≡ step.decided_by request.now stamp }
+{
+    match request {
+        Request::Begin { .. } => Decided::Started(stamp),
+        Request::Commit { .. } => Decided::Drawn(stamp),
+    }
+}
+
+pub fn request_of(held: &Option<Held>) -> Option<(Request, Place)>
+    ensures { result ≡ entry.request_of_held held.now }
+{
+    match held {
+        None => None,
+        Some(held) => Some((held.request, place_of_progress(&held.progress))),
+    }
+}
+
 pub fn place_of(held: &Option<Held>) -> Option<Place>
     ensures { result ≡ entry.place_of_held held.now }
 {
     match held {
         None => None,
-        Some(held) => Some(match held.progress {
-            Progress::Asked => Place::Asked,
-            Progress::Accepted => Place::Accepted,
-            Progress::Drawn { .. } => Place::Drawn,
-            Progress::Settled { .. } => Place::Settled,
-        }),
+        Some(held) => Some(place_of_progress(&held.progress)),
+    }
+}
+
+fn place_of_progress(progress: &Progress) -> Place
+    ensures { result ≡ entry.place_of_progress progress.now }
+{
+    match progress {
+        Progress::Asked => Place::Asked,
+        Progress::Accepted => Place::Accepted,
+        Progress::Drawn { .. } => Place::Drawn,
+        Progress::Settled { .. } => Place::Settled,
+    }
+}
+
+pub fn told_no_stamp(held: &Option<Held>) -> bool
+    ensures { result ≡ entry.no_stamp_of_held held.now }
+{
+    match held {
+        None => false,
+        Some(held) => held.told_no_stamp,
+    }
+}
+
+pub fn told_not_yet(held: &Option<Held>) -> bool
+    ensures { result ≡ entry.not_yet_of_held held.now }
+{
+    match held {
+        None => false,
+        Some(held) => held.told_not_yet,
     }
 }
 
@@ -68,6 +124,7 @@ pub fn unsettled_commit(held: &Held) -> Option<Stamp>
         Held {
             request: Request::Commit { .. },
             progress: Progress::Drawn { stamp },
+            ..
         } => Some(*stamp),
         _ => None,
     }
@@ -93,6 +150,7 @@ fn unsettled_below(held: &Option<Held>, start: Stamp) -> Option<Stamp>
             Held {
                 request: Request::Commit { .. },
                 progress: Progress::Drawn { stamp },
+                ..
             },
         ) if *stamp < start => Some(*stamp),
         _ => None,

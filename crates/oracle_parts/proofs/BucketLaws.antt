@@ -1,4 +1,4 @@
--- The laws of the bounded memory, over the bucket of one key.
+-- Laws for the crates above: what the bucket of a key keeps and forgets.
 use Rattle.std.proofs.Common.{◌≡◌, ℕ, suc, ◌<◌, ◌≤◌, ◌%◌, ◌==◌, true, List, [], ◌∷◌, length, replicate, Option, Some, None, ◌⊎◌, inl, inr, refl, sym, subst, ap, ◌∙◌, arith, if◌then◌else◌}
 use Rattle.std.specs.Option.{option_or}
 use Rattle.std.specs.Prelude.{slice_index_or, slice_set}
@@ -55,7 +55,7 @@ bucket_of-contents count width pairs key some =
 pub ordered-empty : (width : ℕ) → 1 ≤ width → IsOrdered (empty_bucket width)
 ordered-empty width wide = record { wide = wide; ascends = tt; fits = omega arith }
 
-pub ordered-fed_one : (count place : ℕ) (bucket : Bucket) (pair : Recorded) → IsOrdered bucket → IsOrdered (fed_one count place bucket pair)
+ordered-fed_one : (count place : ℕ) (bucket : Bucket) (pair : Recorded) → IsOrdered bucket → IsOrdered (fed_one count place bucket pair)
 ordered-fed_one count place bucket pair h = elim (cases_Bool (place_of count pair.key == place)) [ inl q ↦ rw q (ordered-recorded bucket pair h) | inr q ↦ rw q h ]
 
 pub ordered-fed : (count place : ℕ) (bucket : Bucket) (pairs : List Recorded) → IsOrdered bucket → IsOrdered (fed count place bucket pairs)

@@ -1,4 +1,4 @@
--- What a recorded pair makes of a bucket.
+-- Laws for the crates above: what a recorded pair makes of a bucket.
 use Rattle.std.proofs.Common.{◌≡◌, ℕ, ◌<◌, ◌≤◌, ◌==◌, nat_lt, ◌&&◌, ◌||◌, List, [], ◌∷◌, length, Option, Some, None, ◌⊎◌, inl, inr, refl, sym, subst, ap, ◌∙◌, arith}
 use Rattle.std.proofs.lemmas.Bool.{cases_Bool, cases_eq, eqb-true, eq-eqb, ne_eqb, ltb-true, ltb-false, or_cases, or_parts, and_parts}
 use Rattle.std.proofs.lemmas.Option.{none-some}
@@ -48,7 +48,7 @@ oldest-le_others first (pair ∷ pairs) =
       oldest-le_others (older first pair) pairs,
     )
 
-pub kept_commit-among : (pair : Recorded) (pairs : List Recorded) → Ascends pairs → IsAmong pair pairs → kept_commit pairs pair.key ≡ Some pair.commit
+kept_commit-among : (pair : Recorded) (pairs : List Recorded) → Ascends pairs → IsAmong pair pairs → kept_commit pairs pair.key ≡ Some pair.commit
 unfolding kept_commit
 kept_commit-among pair [] h m = absurd m
 kept_commit-among pair (first ∷ pairs) h m = elim m [

@@ -1,4 +1,4 @@
--- What the buckets tell a start, by the commits that were recorded.
+-- Laws for the crates above: what the buckets tell a start, by the commits that were recorded.
 use Rattle.std.proofs.Common.{◌≡◌, ℕ, zero, suc, ◌<◌, ◌≤◌, nat_lt, List, [], ◌∷◌, ◌++◌, length, replicate, Option, Some, None, ◌⊎◌, inl, inr, refl, sym, subst, ◌∙◌, arith, AllPairs, Contains}
 use Rattle.std.specs.Prelude.{slice_index_or}
 use Rattle.std.proofs.lemmas.Bool.{cases_Bool, ltb-true, ltb-false}
@@ -11,6 +11,7 @@ use Rattle.oracle_parts.specs.Buckets.{Bucket, empty_bucket, kept_commit, place_
 use Rattle.oracle_parts.proofs.BucketPairs.{Every, Ascends}
 use Rattle.oracle_parts.proofs.BucketSteps.{IsOrdered}
 use Rattle.oracle_parts.proofs.BucketLaws.{fed, bucket_of-contents, ordered-empty, ordered-fed, width-fed, length-record_pairs, last_commit_held, kept_commit_last, water_recorded}
+use Rattle.oracle_parts.proofs.LastCommits.{contains_later}
 
 -- what a verdict says of a kept commit or the water
 abbrev Judges : ℕ → ℕ → ℕ → Option ℕ → Verdict → Type 0
@@ -33,9 +34,6 @@ abbrev Tells : List Bucket → ℕ → List ℕ → Verdict → Type 0
 Tells buckets start keys Free = (key : ℕ) → Contains keys key → key_verdict (bucket_of buckets key) start key ≡ Free
 Tells buckets start keys (Conflict key by) = Contains keys key × (key_verdict (bucket_of buckets key) start key ≡ Conflict key by)
 Tells buckets start keys (Hidden key water) = Contains keys key × (key_verdict (bucket_of buckets key) start key ≡ Hidden key water)
-
-contains_later : (first : ℕ) (keys : List ℕ) (key : ℕ) → Contains keys key → Contains (first ∷ keys) key
-contains_later first keys key (k, within, e) = (suc k, omega arith, e)
 
 contains_first : (first : ℕ) (keys : List ℕ) → Contains (first ∷ keys) first
 contains_first first keys = (0, omega arith, refl)

@@ -1,5 +1,5 @@
--- What the calls of an instance change besides its requests.
-use Rattle.std.proofs.Common.{◌≡◌, ◌≢◌, ℕ, ◌+◌, ◌==◌, Bool, true, false, Option, Some, None, Result, Ok, Err, ◌⊎◌, inl, inr, refl, if◌then◌else◌}
+-- Laws for the crates above: only a decision that draws changes more of an instance than its requests.
+use Rattle.std.proofs.Common.{◌≡◌, ◌≢◌, ℕ, ◌+◌, ◌==◌, Bool, true, false, Option, Some, None, Result, Ok, Err, ◌⊎◌, inl, inr, refl, sym, ap, ◌∙◌, if◌then◌else◌}
 use Rattle.std.proofs.lemmas.Bool.{eqb-false}
 use Rattle.history_book.specs.declared.cause.Cause.{Cause}
 use Rattle.history_book.specs.declared.cause.Cause.TheVariants as cause
@@ -13,69 +13,66 @@ use Rattle.oracle_parts.specs.declared.instance.Held.{Held}
 use Rattle.oracle_parts.specs.declared.instance.Settled.{Settled as How}
 use Rattle.oracle_parts.specs.declared.instance.Decided.{Decided}
 use Rattle.oracle_parts.specs.Instance.{InstanceEntry, held_of, in_flight, with_request, session_of, unsettled_by, least_unsettled}
-use Rattle.oracle_parts.specs.InstanceSteps.{InstanceStep, stays, just_asked, instance_ask, accept_refusal, accept_unless, accept_if_asked, accept_held, instance_accept, out_of_stamps, decide_drawn, decide_by, request_verdict, decide_if_accepted, decide_held, settle_if_drawn, settle_held, instance_settle, answer_begin, answer_if_ready, answer_held, instance_answer}
-
--- all but the requests is as before
-abbrev pub Quiet : InstanceEntry → InstanceEntry → Type 0
-Quiet i j = j ≡ record i { requests = j.requests }
+use Rattle.oracle_parts.specs.InstanceSteps.{InstanceStep, stays, just_asked, instance_ask, accept_refusal, accept_unless, accept_if_asked, accept_held, instance_accept, out_of_stamps, decided_by, decide_drawn, decide_by, request_verdict, decide_if_accepted, decide_held, instance_decide, settle_if_drawn, settle_held, instance_settle, answer_begin, answer_if_ready, answer_held, instance_answer}
+use Rattle.oracle_parts.specs.InstanceLaws.{InstanceCall, Asks, Accepts, Settles, Answers, after_call, ChangesRequestsAlone, IsNoDecision}
 
 -- ---- ask
-quiet_ask_by : (i : InstanceEntry) (request : Request) (full : Bool) → Quiet i (if full then stays {A = Unit {0}} i (cause.Full (in_flight i)) else record { left = with_request i (session_of request) (Some (just_asked request)); answer = Ok tt }).left
+quiet_ask_by : (i : InstanceEntry) (request : Request) (full : Bool) → ChangesRequestsAlone i (if full then stays {A = Unit {0}} i (cause.Full (in_flight i)) else record { left = with_request i (session_of request) (Some (just_asked request)); answer = Ok tt }).left
 quiet_ask_by i request true = refl
 quiet_ask_by i request false = refl
 
-pub quiet_ask : (i : InstanceEntry) (request : Request) → Quiet i (instance_ask i request).left
+pub quiet_ask : (i : InstanceEntry) (request : Request) → ChangesRequestsAlone i (instance_ask i request).left
 quiet_ask i request = quiet_ask_by i request (in_flight i == i.slots)
 
 -- ---- accept
-quiet_accept_unless : (i : InstanceEntry) (session : ℕ) (held : Held) (why : Option Cause) → Quiet i (accept_unless i session held why).left
+quiet_accept_unless : (i : InstanceEntry) (session : ℕ) (held : Held) (why : Option Cause) → ChangesRequestsAlone i (accept_unless i session held why).left
 quiet_accept_unless i session held None = refl
 quiet_accept_unless i session held (Some why) = refl
 
-quiet_accept_if_asked : (i : InstanceEntry) (session reading : ℕ) (held : Held) (progress : Progress) → Quiet i (accept_if_asked i session reading held progress).left
+quiet_accept_if_asked : (i : InstanceEntry) (session reading : ℕ) (held : Held) (progress : Progress) → ChangesRequestsAlone i (accept_if_asked i session reading held progress).left
 quiet_accept_if_asked i session reading held Asked = quiet_accept_unless i session held (accept_refusal i reading held.request)
 quiet_accept_if_asked i session reading held _ = refl
 
-quiet_accept_held : (i : InstanceEntry) (session reading : ℕ) (held : Option Held) → Quiet i (accept_held i session reading held).left
+quiet_accept_held : (i : InstanceEntry) (session reading : ℕ) (held : Option Held) → ChangesRequestsAlone i (accept_held i session reading held).left
 quiet_accept_held i session reading None = refl
 quiet_accept_held i session reading (Some held) = quiet_accept_if_asked i session reading held held.progress
 
-pub quiet_accept : (i : InstanceEntry) (session reading : ℕ) → Quiet i (instance_accept i session reading).left
+pub quiet_accept : (i : InstanceEntry) (session reading : ℕ) → ChangesRequestsAlone i (instance_accept i session reading).left
 quiet_accept i session reading = quiet_accept_held i session reading (held_of i session)
 
 -- ---- settle
-quiet_settle_if_drawn : (i : InstanceEntry) (session : ℕ) (how : How) (held : Held) (commit : Option ℕ) → Quiet i (settle_if_drawn i session how held commit).left
+quiet_settle_if_drawn : (i : InstanceEntry) (session : ℕ) (how : How) (held : Held) (commit : Option ℕ) → ChangesRequestsAlone i (settle_if_drawn i session how held commit).left
 quiet_settle_if_drawn i session how held None = refl
 quiet_settle_if_drawn i session how held (Some commit) = refl
 
-quiet_settle_held : (i : InstanceEntry) (session : ℕ) (how : How) (held : Option Held) → Quiet i (settle_held i session how held).left
+quiet_settle_held : (i : InstanceEntry) (session : ℕ) (how : How) (held : Option Held) → ChangesRequestsAlone i (settle_held i session how held).left
 quiet_settle_held i session how None = refl
 quiet_settle_held i session how (Some held) = quiet_settle_if_drawn i session how held (unsettled_by held.request held.progress)
 
-pub quiet_settle : (i : InstanceEntry) (session : ℕ) (how : How) → Quiet i (instance_settle i session how).left
+pub quiet_settle : (i : InstanceEntry) (session : ℕ) (how : How) → ChangesRequestsAlone i (instance_settle i session how).left
 quiet_settle i session how = quiet_settle_held i session how (held_of i session)
 
 -- ---- answer
-quiet_answer_begin : (i : InstanceEntry) (session : ℕ) (held : Held) (start : ℕ) (wait : Option ℕ) → Quiet i (answer_begin i session held start wait).left
+quiet_answer_begin : (i : InstanceEntry) (session : ℕ) (held : Held) (start : ℕ) (wait : Option ℕ) → ChangesRequestsAlone i (answer_begin i session held start wait).left
 quiet_answer_begin i session held start None = refl
 quiet_answer_begin i session held start (Some commit) = refl
 
-quiet_answer_if_ready : (i : InstanceEntry) (session : ℕ) (held : Held) (request : Request) (progress : Progress) → Quiet i (answer_if_ready i session held request progress).left
+quiet_answer_if_ready : (i : InstanceEntry) (session : ℕ) (held : Held) (request : Request) (progress : Progress) → ChangesRequestsAlone i (answer_if_ready i session held request progress).left
 quiet_answer_if_ready i session held (Begin s) (Drawn start) = quiet_answer_begin i session held start (least_unsettled i.requests start)
 quiet_answer_if_ready i session held (Commit s start keys) (Settled commit how) = refl
 quiet_answer_if_ready i session held request progress = refl
 
-quiet_answer_held : (i : InstanceEntry) (session : ℕ) (held : Option Held) → Quiet i (answer_held i session held).left
+quiet_answer_held : (i : InstanceEntry) (session : ℕ) (held : Option Held) → ChangesRequestsAlone i (answer_held i session held).left
 quiet_answer_held i session None = refl
 quiet_answer_held i session (Some held) = quiet_answer_if_ready i session held held.request held.progress
 
-pub quiet_answer : (i : InstanceEntry) (session : ℕ) → Quiet i (instance_answer i session).left
+pub quiet_answer : (i : InstanceEntry) (session : ℕ) → ChangesRequestsAlone i (instance_answer i session).left
 quiet_answer i session = quiet_answer_held i session (held_of i session)
 
 -- ---- decide
 -- a decision that is refused
 pub record Refuses (i : InstanceEntry) (step : InstanceStep Decided) : Type 0 where
-  pub quiet : Quiet i step.left
+  pub quiet : ChangesRequestsAlone i step.left
   pub never : (d : Decided) → step.answer ≡ Ok d → ⊥
 
 -- a decision that draws the next stamp for a request
@@ -117,3 +114,21 @@ DrawsFor i session (Some held) step = Draws i session held step
 pub held_cases : (i : InstanceEntry) (session : ℕ) (held : Option Held) → Refuses i (decide_held i session held) ⊎ DrawsFor i session held (decide_held i session held)
 held_cases i session None = inl (record { quiet = refl; never = err_never (cause.NoRequest session) })
 held_cases i session (Some held) = if_accepted_cases i session held held.progress
+
+-- ---- all calls
+pub alone-after_call : (i : InstanceEntry) (call : InstanceCall) → IsNoDecision call → ChangesRequestsAlone i (after_call i call)
+alone-after_call i (Asks request) is = quiet_ask i request
+alone-after_call i (Accepts session reading) is = quiet_accept i session reading
+alone-after_call i (Settles session how) is = quiet_settle i session how
+alone-after_call i (Answers session) is = quiet_answer i session
+alone-after_call i _ is = absurd is
+
+draws_answer : (i : InstanceEntry) (session : ℕ) (held : Option Held) (step : InstanceStep Decided) (why : Cause) → DrawsFor i session held step → step.answer ≡ Err why → ⊥
+draws_answer i session None step why drew e = drew
+draws_answer i session (Some held) step why drew e = err_never why (decided_by held.request (i.last + 1)) (sym e ∙ ap (λ (s : InstanceStep Decided). s.answer) drew.made)
+
+pub alone-refused : (i : InstanceEntry) (session : ℕ) (why : Cause) → (instance_decide i session).answer ≡ Err why → ChangesRequestsAlone i (instance_decide i session).left
+alone-refused i session why e = elim (held_cases i session (held_of i session)) [
+  | inl refused ↦ refused.quiet
+  | inr drew ↦ absurd (draws_answer i session (held_of i session) (instance_decide i session) why drew e)
+]

@@ -1,8 +1,8 @@
--- What an instance records rises, and a commit is drawn only where nothing was recorded above its start.
-use Rattle.std.proofs.Common.{◌≡◌, ℕ, zero, suc, ◌+◌, ◌<◌, ◌≤◌, List, [], ◌∷◌, ◌++◌, map, replicate, length, Option, Some, None, Result, Ok, Err, ◌⊎◌, inl, inr, refl, sym, subst, ap, ◌∙◌, arith, All, AllPairs}
+-- Laws for the crates above: what an instance records rises, and a commit is drawn only where nothing was recorded above its start.
+use Rattle.std.proofs.Common.{◌≡◌, ℕ, ◌+◌, ◌≤◌, List, [], ◌∷◌, ◌++◌, replicate, Option, Some, None, Result, Ok, inl, inr, refl, sym, subst, ap, ◌∙◌, arith, All}
 use Rattle.std.specs.Prelude.{slice_index_or}
 use Rattle.std.proofs.lemmas.List.{append-nil}
-use Rattle.std.proofs.lemmas.List.Elements.{All-nil, All-cons, All-head, All-tail, All-append, All-map}
+use Rattle.std.proofs.lemmas.List.Elements.{All-nil, All-head, All-tail, All-append, All-map}
 use Rattle.std.proofs.lemmas.List.Kept.{AllPairs-cons}
 use Rattle.history_book.specs.declared.cause.Cause.{Cause}
 use Rattle.oracle_parts.specs.declared.buckets.Recorded.{Recorded}
@@ -13,15 +13,14 @@ use Rattle.oracle_parts.specs.declared.instance.Request.{Request}
 use Rattle.oracle_parts.specs.declared.instance.Request.TheVariants.{Begin, Commit}
 use Rattle.oracle_parts.specs.declared.instance.Held.{Held}
 use Rattle.oracle_parts.specs.declared.instance.Decided.{Decided}
-use Rattle.oracle_parts.specs.declared.instance.Decided.TheVariants as decided
 use Rattle.oracle_parts.specs.Buckets.{Bucket, empty_bucket, contents, record_pairs, pair_of, pairs_of, verdict, CommitsRise, IsShown}
 use Rattle.oracle_parts.specs.Instance.{InstanceEntry, instance_new, held_of}
 use Rattle.oracle_parts.specs.InstanceSteps.{InstanceStep, pairs_by, decide_drawn, request_verdict, instance_decide}
-use Rattle.oracle_parts.specs.InstanceLaws.{InstanceCall, Asks, Accepts, Decides, Settles, Answers, Widens, Renews, Stops, after_call, IsRecordedIn, decided_pairs, call_pairs, RequestIsFree, HeldIsFree}
+use Rattle.oracle_parts.specs.InstanceLaws.{InstanceCall, Asks, Accepts, Decides, Settles, Answers, Widens, Renews, Stops, after_call, IsRecordedIn, decided_pairs, call_pairs, RequestIsFree, HeldIsFree, ChangesRequestsAlone}
 use Rattle.oracle_parts.proofs.BucketVerdicts.{record_pairs-append, verdict_shown}
 use Rattle.oracle_parts.proofs.LastCommits.{NotAfter, rise_tail, rise_head}
-use Rattle.oracle_parts.proofs.InstanceLemmas.{stamp_of-decided_by}
-use Rattle.oracle_parts.proofs.InstanceMoves.{Quiet, quiet_ask, quiet_accept, quiet_settle, quiet_answer, Refuses, Draws, DrawsFor, held_cases}
+use Rattle.oracle_parts.proofs.InstanceNumbers.{stamp_of-decided_by}
+use Rattle.oracle_parts.proofs.InstanceMoves.{quiet_ask, quiet_accept, quiet_settle, quiet_answer, DrawsFor, held_cases}
 
 -- ---- pairs
 rise_append : (top : ℕ) (earlier later : List Recorded) → CommitsRise earlier → All (λ pair. pair.commit ≤ top) earlier → CommitsRise later → All (λ pair. top ≤ pair.commit) later → CommitsRise (earlier ++ later)
@@ -41,7 +40,7 @@ rise_same commit (key ∷ keys) =
     (rise_same commit keys)
 
 -- ---- recordings
-quiet_records : (count width : ℕ) (pairs : List Recorded) (i j : InstanceEntry) → Quiet i j → IsRecordedIn count width pairs i → IsRecordedIn count width pairs j
+quiet_records : (count width : ℕ) (pairs : List Recorded) (i j : InstanceEntry) → ChangesRequestsAlone i j → IsRecordedIn count width pairs i → IsRecordedIn count width pairs j
 quiet_records count width pairs i j q r = record {
   holds = ap (λ (e : InstanceEntry). e.buckets) q ∙ r.holds;
   rise = r.rise;
@@ -90,7 +89,7 @@ decided_records count width pairs i session r = elim (held_cases i session (held
   | inr drew ↦ draws_records count width pairs i session (held_of i session) (instance_decide i session) r drew
 ]
 
-quiet_call : (count width : ℕ) (pairs : List Recorded) (i j : InstanceEntry) → Quiet i j → IsRecordedIn count width pairs i → IsRecordedIn count width (pairs ++ []) j
+quiet_call : (count width : ℕ) (pairs : List Recorded) (i j : InstanceEntry) → ChangesRequestsAlone i j → IsRecordedIn count width pairs i → IsRecordedIn count width (pairs ++ []) j
 quiet_call count width pairs i j q r = unrecorded count width pairs [] j refl (quiet_records count width pairs i j q r)
 
 same_call : (count width : ℕ) (pairs : List Recorded) (i j : InstanceEntry) → j.buckets ≡ i.buckets → j.last ≡ i.last → IsRecordedIn count width pairs i → IsRecordedIn count width (pairs ++ []) j

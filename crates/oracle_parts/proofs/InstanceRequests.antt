@@ -1,7 +1,7 @@
 -- Laws for the crates above: whose request a call changes, and that no more requests are held than there are slots.
 use Rattle.std.proofs.Common.{◌≡◌, ◌≢◌, ℕ, ◌+◌, ◌<◌, ◌≤◌, ◌==◌, Bool, true, false, cond, is_some, count_by, List, length, slice_set, Option, Some, None, Ok, inl, inr, refl, sym, ap, ◌∙◌, arith, if◌then◌else◌}
 use Rattle.std.specs.Prelude.{slice_index_or}
-use Rattle.std.proofs.lemmas.Bool.{cases_Bool, cases_lt, eqb-false}
+use Rattle.std.proofs.lemmas.Bool.{cases_lt, eqb-false}
 use Rattle.std.proofs.lemmas.List.{get_or-set_same, get_or-set_other, get_or-replicate, get_or_past, set_past, length-set}
 use Rattle.std.proofs.lemmas.List.Sums.{sum_by-set}
 use Rattle.std.proofs.lemmas.Option.{none-some}
@@ -19,7 +19,7 @@ use Rattle.oracle_parts.specs.declared.instance.Settled.{Settled as How}
 use Rattle.oracle_parts.specs.Instance.{InstanceEntry, instance_new, held_of, in_flight, with_request, session_of, unsettled_by, least_unsettled}
 use Rattle.oracle_parts.specs.InstanceSteps.{stays, just_asked, accept_refusal, accept_unless, accept_if_asked, accept_held, out_of_stamps, decide_drawn, decide_by, request_verdict, decide_if_accepted, decide_held, settle_if_drawn, settle_held, answer_begin, answer_if_ready, answer_held}
 use Rattle.oracle_parts.specs.InstanceLaws.{InstanceCall, Asks, Accepts, Decides, Settles, Answers, Widens, Renews, Stops, after_call, call_session, FitsItsSlots}
-use Rattle.oracle_parts.proofs.InstanceLemmas.{goes_up}
+use Rattle.oracle_parts.proofs.InstanceNumbers.{goes_up}
 
 -- ---- one request
 pub held_of-with_request_same : (i : InstanceEntry) (session : ℕ) (now : Option Held) → session < length i.requests → held_of (with_request i session now) session ≡ now

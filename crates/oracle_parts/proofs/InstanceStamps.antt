@@ -1,5 +1,5 @@
--- The stamps of the requests that are held stay between the epoch and the last stamp.
-use Rattle.std.proofs.Common.{◌≡◌, ℕ, zero, suc, ◌+◌, ◌<◌, ◌≤◌, ◌==◌, Bool, true, false, List, [], ◌∷◌, slice_set, Option, Some, None, Ok, refl, arith, All, IfSome, if◌then◌else◌}
+-- Laws for the crates above: the stamps of the requests that are held stay between the epoch and the last stamp.
+use Rattle.std.proofs.Common.{ℕ, zero, suc, ◌+◌, ◌<◌, ◌≤◌, ◌==◌, Bool, true, false, List, [], ◌∷◌, slice_set, Option, Some, None, Ok, arith, All, IfSome, if◌then◌else◌}
 use Rattle.std.specs.Prelude.{slice_index_or}
 use Rattle.std.proofs.lemmas.List.Elements.{All-set, All-replicate, All-head, All-tail}
 use Rattle.history_book.specs.declared.cause.Cause.{Cause}

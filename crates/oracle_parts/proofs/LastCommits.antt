@@ -1,5 +1,5 @@
 -- Laws for the crates above: the last commit of a key was recorded for it, and it is the greatest where commits never fall.
-use Rattle.std.proofs.Common.{◌≡◌, ℕ, zero, suc, ◌<◌, ◌≤◌, ◌==◌, List, [], ◌∷◌, length, Option, Some, None, inl, inr, refl, ap, arith, All, Contains, if◌then◌else◌}
+use Rattle.std.proofs.Common.{◌≡◌, ℕ, zero, suc, ◌≤◌, ◌==◌, List, [], ◌∷◌, Option, Some, None, inl, inr, refl, ap, arith, All, Contains, if◌then◌else◌}
 use Rattle.std.specs.Option.{option_or, IsSomeAnd}
 use Rattle.std.proofs.lemmas.Bool.{cases_Bool, eqb-true, eq-eqb}
 use Rattle.std.proofs.lemmas.List.Elements.{All-contains}
@@ -21,8 +21,8 @@ rise_head pair pairs rise k d within = rise zero (suc k) d (omega arith) (omega 
 same_pair : (pair : Recorded) (key commit : ℕ) → pair.key ≡ key → pair.commit ≡ commit → pair ≡ pair_of commit key
 same_pair pair key commit k c = rw (← k, ← c) refl
 
-contains_later : (first : Recorded) (pairs : List Recorded) (pair : Recorded) → Contains pairs pair → Contains (first ∷ pairs) pair
-contains_later first pairs pair (k, within, e) = (suc k, omega arith, e)
+pub contains_later : {X : Type 0} (first : X) (xs : List X) (x : X) → Contains xs x → Contains (first ∷ xs) x
+contains_later first xs x (k, within, e) = (suc k, omega arith, e)
 
 recorded_here : (pair : Recorded) (later : List Recorded) (key commit : ℕ) → (if pair.key == key then Some pair.commit else None) ≡ Some commit → Contains (pair ∷ later) (pair_of commit key)
 recorded_here pair later key commit e = elim (cases_Bool (pair.key == key)) [

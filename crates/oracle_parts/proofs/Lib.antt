@@ -3,8 +3,8 @@ pub mod BucketSteps
 pub mod BucketLaws
 pub mod BucketVerdicts
 pub mod LastCommits
-mod InstanceMoves
-pub mod InstanceLemmas
+pub mod InstanceMoves
+pub mod InstanceNumbers
 pub mod InstanceRequests
 pub mod InstanceBegins
 pub mod InstanceRecords

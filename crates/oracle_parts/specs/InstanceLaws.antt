@@ -1,7 +1,6 @@
 -- What is true of an oracle's instance over all its calls.
-use Rattle.std.specs.Prelude.{◌≡◌, ◌≢◌, ℕ, ◌+◌, ◌<◌, ◌≤◌, List, [], All, Any, AllPairs, Contains, IfSome, Option, None, Some, Result, Ok, Err}
+use Rattle.std.specs.Prelude.{◌≡◌, ℕ, ◌+◌, ◌<◌, ◌≤◌, List, [], All, Any, Contains, IfSome, Option, None, Some, Result, Ok}
 use Rattle.history_book.specs.declared.cause.Cause.{Cause}
-use Rattle.history_book.specs.declared.cause.Cause.TheVariants.{NotYet}
 use Rattle.oracle_parts.specs.declared.buckets.Recorded.{Recorded}
 use Rattle.oracle_parts.specs.declared.instance.Request.{Request}
 use Rattle.oracle_parts.specs.declared.instance.Request.TheVariants.{Begin, Commit}
@@ -11,8 +10,6 @@ use Rattle.oracle_parts.specs.declared.instance.Held.{Held}
 use Rattle.oracle_parts.specs.declared.instance.Settled.{Settled as How}
 use Rattle.oracle_parts.specs.declared.instance.Decided.{Decided}
 use Rattle.oracle_parts.specs.declared.instance.Decided.TheVariants as decided
-use Rattle.oracle_parts.specs.declared.instance.Reply.{Reply}
-use Rattle.oracle_parts.specs.declared.instance.Reply.TheVariants.{Begun}
 use Rattle.oracle_parts.specs.Buckets.{contents, CommitsRise, last_commit}
 use Rattle.oracle_parts.specs.Instance.{InstanceEntry, session_of, held_of, in_flight, unsettled_commit}
 use Rattle.oracle_parts.specs.InstanceSteps.{pairs_by, instance_ask, instance_accept, instance_decide, instance_settle, instance_answer, instance_widened, instance_renewed, instance_stopped}
@@ -52,6 +49,18 @@ call_session (Decides session) = Some session
 call_session (Settles session how) = Some session
 call_session (Answers session) = Some session
 call_session _ = None
+
+-- all but the requests is as before
+abbrev pub ChangesRequestsAlone : InstanceEntry → InstanceEntry → Type 0
+ChangesRequestsAlone old new = new ≡ record old { requests = new.requests }
+
+-- a call on a request that is no decision
+abbrev pub IsNoDecision : InstanceCall → Type 0
+IsNoDecision (Asks request) = Unit {0}
+IsNoDecision (Accepts session reading) = Unit {0}
+IsNoDecision (Settles session how) = Unit {0}
+IsNoDecision (Answers session) = Unit {0}
+IsNoDecision _ = ⊥
 
 -- no more requests are held than there are slots
 abbrev pub FitsItsSlots : InstanceEntry → Type 0

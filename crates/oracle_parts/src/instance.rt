@@ -4,7 +4,9 @@ use stamp_base::{KeyList, SessionNo, Stamp};
 #[derive(Clone, Copy, Debug, PartialEq, Eq)]
 pub enum Request {
     /// A start is wanted.
-    Begin { session: SessionNo },
+    Begin {
+        session: SessionNo,
+    },
     /// The transaction of that start is to commit what it wrote.
     Commit {
         session: SessionNo,

@@ -1,5 +1,6 @@
 // The laws of an oracle's instance, over every state and every call.
-ghost use Rattle.std.specs.Prelude.{◌≡◌, ◌≢◌, ◌<◌, ◌≤◌, ◌++◌, ℕ, List, [], length, All, Option, None, Some, Ok};
+ghost use Rattle.std.specs.Prelude.{◌≡◌, ◌≢◌, ◌<◌, ◌≤◌, ◌++◌, ℕ, List, [], length, All, Option, None, Some, Ok, Err};
+ghost use Rattle.history_book.specs.declared.cause.Cause.{Cause};
 ghost use Rattle.oracle_parts.specs.declared.instance.Held.{Held};
 ghost use Rattle.oracle_parts.specs.declared.buckets.Recorded.{Recorded};
 ghost use Rattle.store_parts.specs.declared.record.Grant.{Grant};
@@ -20,6 +21,12 @@ pub fn calls_leave_other_requests()
     ensures granted { (grant : Grant) (node count width slots session : ℕ) → held_of (instance_new grant node count width slots) session ≡ None }
     ensures places { (i : InstanceEntry) (call : law.InstanceCall) → length (law.after_call i call).requests ≡ length i.requests }
     ensures others { (i : InstanceEntry) (call : law.InstanceCall) (other : ℕ) → law.call_session call ≢ Some other → held_of (law.after_call i call) other ≡ held_of i other }
+{}
+
+/// Only a decision that draws a stamp changes more of an instance than its requests.
+pub fn decisions_alone_draw()
+    ensures others { (i : InstanceEntry) (call : law.InstanceCall) → law.IsNoDecision call → law.ChangesRequestsAlone i (law.after_call i call) }
+    ensures refused { (i : InstanceEntry) (session : ℕ) (why : Cause) → (instance_decide i session).answer ≡ Err why → law.ChangesRequestsAlone i (instance_decide i session).left }
 {}
 
 /// No more requests are held than there are slots.

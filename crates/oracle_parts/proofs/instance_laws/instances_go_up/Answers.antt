@@ -1,4 +1,4 @@
-use Rattle.oracle_parts.proofs.InstanceLemmas.{goes_up}
+use Rattle.oracle_parts.proofs.InstanceNumbers.{goes_up}
 use Rattle.oracle_parts.proofs.instance_laws.instances_go_up.Goals as goal
 
 pub returns : goal.returns

@@ -1,4 +1,4 @@
-use Rattle.oracle_parts.proofs.InstanceLemmas.{new_in_range, stays_in_range}
+use Rattle.oracle_parts.proofs.InstanceNumbers.{new_in_range, stays_in_range}
 use Rattle.oracle_parts.proofs.instance_laws.last_stamps_stay_in_range.Goals as goal
 
 pub returns-clause-granted : goal.returns-clause-granted

@@ -1,19 +1,17 @@
--- The laws of an instance.
-use Rattle.std.proofs.Common.{◌≡◌, ◌≢◌, ℕ, ◌+◌, ◌<◌, ◌≤◌, max, List, Option, Some, None, Result, Ok, Err, ◌⊎◌, inl, inr, refl, sym, ap, ◌∙◌, arith}
-use Rattle.std.specs.Option.{option_or}
+-- Laws for the crates above: the stamps, the range and the lease of an instance.
+use Rattle.std.proofs.Common.{◌≡◌, ◌≢◌, ℕ, ◌+◌, ◌≤◌, Option, Some, None, Result, Ok, inl, inr, refl, sym, ap, ◌∙◌, arith}
 use Rattle.history_book.specs.declared.cause.Cause.{Cause}
 use Rattle.store_parts.specs.declared.record.Grant.{Grant}
 use Rattle.oracle_parts.specs.declared.instance.Request.{Request}
 use Rattle.oracle_parts.specs.declared.instance.Request.TheVariants.{Begin, Commit}
 use Rattle.oracle_parts.specs.declared.instance.Held.{Held}
 use Rattle.oracle_parts.specs.declared.instance.Decided.{Decided}
-use Rattle.oracle_parts.specs.declared.instance.Decided.TheVariants as decided
 use Rattle.oracle_parts.specs.Instance.{InstanceEntry, instance_new, held_of}
 use Rattle.oracle_parts.specs.InstanceSteps.{InstanceStep, decided_by, decide_drawn, instance_decide}
-use Rattle.oracle_parts.specs.InstanceLaws.{InstanceCall, Asks, Accepts, Decides, Settles, Answers, Widens, Renews, Stops, after_call, CanCall, IsInRange, GoesUp, stamp_of, DrawsNext}
-use Rattle.oracle_parts.proofs.InstanceMoves.{Quiet, quiet_ask, quiet_accept, quiet_settle, quiet_answer, Refuses, Draws, DrawsFor, held_cases}
+use Rattle.oracle_parts.specs.InstanceLaws.{InstanceCall, Asks, Accepts, Decides, Settles, Answers, Widens, Renews, Stops, after_call, CanCall, IsInRange, GoesUp, stamp_of, DrawsNext, ChangesRequestsAlone}
+use Rattle.oracle_parts.proofs.InstanceMoves.{quiet_ask, quiet_accept, quiet_settle, quiet_answer, DrawsFor, held_cases}
 
-quiet_goes_up : (i j : InstanceEntry) → Quiet i j → GoesUp i j
+quiet_goes_up : (i j : InstanceEntry) → ChangesRequestsAlone i j → GoesUp i j
 quiet_goes_up i j q =
     let last : j.last ≡ i.last = ap (λ (e : InstanceEntry). e.last) q in
     let ceiling : j.ceiling ≡ i.ceiling = ap (λ (e : InstanceEntry). e.ceiling) q in
@@ -49,7 +47,7 @@ goes_up i (Renews until) can = record { node = refl; term = refl; epoch = refl; 
 goes_up i (Stops why) can = record { node = refl; term = refl; epoch = refl; slots = refl; last = omega arith; ceiling = omega arith; until = omega arith }
 
 -- ---- the range
-quiet_in_range : (i j : InstanceEntry) → Quiet i j → IsInRange i → IsInRange j
+quiet_in_range : (i j : InstanceEntry) → ChangesRequestsAlone i j → IsInRange i → IsInRange j
 quiet_in_range i j q r =
     let last : j.last ≡ i.last = ap (λ (e : InstanceEntry). e.last) q in
     let ceiling : j.ceiling ≡ i.ceiling = ap (λ (e : InstanceEntry). e.ceiling) q in
