@@ -1,5 +1,5 @@
 -- A client session: what each call needs, answers and leaves.
-use Rattle.std.specs.Prelude.{◌≡◌, ◌≢◌, ℕ, ◌≤◌, ◌==◌, nat_lt, Bool, true, false, ◌||◌, ◌⊎◌, IsTrue, IsSome, List, [], ◌∷◌, ◌++◌, Option, None, Some, if◌then◌else◌, length}
+use Rattle.std.specs.Prelude.{◌≡◌, ◌≢◌, ℕ, ◌==◌, nat_lt, Bool, true, false, ◌||◌, ◌⊎◌, IsTrue, IsSome, List, [], ◌∷◌, ◌++◌, Option, None, Some, if◌then◌else◌, length}
 use Rattle.std.specs.List.{list_any}
 use Rattle.std.specs.Option.{option_or}
 use Rattle.history_book.specs.declared.cause.Cause.{Cause}
