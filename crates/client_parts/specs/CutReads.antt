@@ -14,7 +14,7 @@ IsCutTurn (Answers a) (Answers b) = a ≡ b
 IsCutTurn (Asks cut) (Asks whole) = IsCut cut whole
 IsCutTurn _ _ = ⊥
 
--- a read after these answers; one that has its own answer stays
+-- a read that is told these answers, one after another; one that has found its own is over
 unfoldable pub read_after : List Told → ReadTurn → ReadTurn
 read_after [] turn = turn
 read_after (told ∷ tolds) (Asks r) = read_after tolds (read_told r told)
