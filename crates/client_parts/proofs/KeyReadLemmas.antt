@@ -1,9 +1,8 @@
 -- What a read passes over, and how soon it ends.
-use Rattle.std.proofs.Common.{rules, ◌≡◌, ◌⊎◌, ℕ, ◌+◌, ◌*◌, ◌<◌, ◌≤◌, ◌==◌, nat_lt, nat_le, Bool, true, false, ◌||◌, cond, is_some, List, [], ◌∷◌, ◌++◌, Option, None, Some, length, All, refl, sym, ap, ◌∙◌, arith, inl, inr}
+use Rattle.std.proofs.Common.{rules, ◌≡◌, ◌⊎◌, ℕ, ◌+◌, ◌*◌, ◌<◌, ◌≤◌, ◌==◌, nat_lt, Bool, true, false, ◌||◌, cond, is_some, List, [], ◌∷◌, ◌++◌, Option, None, Some, length, All, refl, ap, arith, inl, inr}
 use Rattle.std.specs.List.{take_while}
 use Rattle.std.proofs.lemmas.List.Sums.{take_while-cons}
 use Rattle.std.proofs.lemmas.List.Elements.{All-cons}
-use Rattle.std.proofs.lemmas.Bool.Decides.{nat_tests}
 use Rattle.std.proofs.lemmas.Bool.{eq-eqb, eqb-true, leb-true, leb-false}
 use Rattle.store_parts.specs.declared.rows.Cell.{Cell}
 use Rattle.client_parts.specs.declared.key_read.Answer.{Answer}
@@ -12,7 +11,7 @@ use Rattle.client_parts.specs.declared.resolve.SettlePoint.TheVariants.{FirstLoo
 use Rattle.client_parts.specs.declared.resolve.Outcome.TheVariants.{Committed, Dead}
 use Rattle.client_parts.specs.declared.asks.Told.{Told}
 use Rattle.client_parts.specs.Resolve.{SettleTurn, Goes, Decides, settle_turn, settle_left, SettlesEnd}
-use Rattle.client_parts.specs.KeyRead.{Reading, is_late, is_passed, after_passed, PassesUnasked, PassedAreLate, AnswersBy, AnswersOwnOrBelow, turn_at, read_over, ReadTurn, Asks, Answers, IfBelow, found_none, found_cell, found_by, settling_of, read_by, read_left, ReadsEnd}
+use Rattle.client_parts.specs.KeyRead.{Reading, is_late, is_passed, after_passed, PassesUnasked, PassedAreLate, AnswersBy, AnswersOwnOrBelow, turn_at, read_over, Asks, Answers, IfBelow, found_none, found_cell, found_by, settling_of, read_by, read_left, ReadsEnd}
 
 late_by : (start : ℕ) (shadow : Option ℕ) → is_late start shadow ≡ true → ((commit : ℕ) → shadow ≡ Some commit → start ≤ commit) × (shadow ≡ None → ⊥)
 late_by start None h = absurd cc
@@ -41,7 +40,7 @@ unfolding after_passed
 passed_fewer_cons start c cs true e h = rw e (omega arith)
 passed_fewer_cons start c cs false e h = rw e (omega arith)
 
-pub passed_fewer : (start : ℕ) (cells : List Cell) → length (after_passed start cells) ≤ length cells
+passed_fewer : (start : ℕ) (cells : List Cell) → length (after_passed start cells) ≤ length cells
 unfolding after_passed
 passed_fewer start [] = omega arith
 passed_fewer start (c ∷ cs) = passed_fewer_cons start c cs (is_passed start c) refl (passed_fewer start cs)
@@ -82,7 +81,7 @@ read_left_at : (key start epoch : ℕ) (cells : List Cell) (r : Reading) → tur
 read_left_at key start epoch [] r e = absurd cc
 read_left_at key start epoch (c ∷ cs) r e = let few : read_left r ≤ 3 * length cs + 3 = resolves_cell key start epoch c cs _ r e in omega arith
 
-pub read_left_over : (key start epoch : ℕ) (cells : List Cell) (r : Reading) → read_over key start epoch cells ≡ Asks r → read_left r ≤ 3 * length cells
+read_left_over : (key start epoch : ℕ) (cells : List Cell) (r : Reading) → read_over key start epoch cells ≡ Asks r → read_left r ≤ 3 * length cells
 read_left_over key start epoch cells r e = let few : read_left r ≤ 3 * length (after_passed start cells) = read_left_at key start epoch (after_passed start cells) r e in omega (arith, passed_fewer start cells)
 
 left_some : (point : SettlePoint) → 1 ≤ settle_left point

@@ -1,2 +1,4 @@
 pub mod CompletionLemmas
-pub mod KeyReadLemmas
+pub mod CutReadLemmas
+mod KeyReadLemmas
+pub mod WriteListLemmas

@@ -1,5 +1,5 @@
 -- Which answers fit a store step of a step machine.
-use Rattle.std.specs.Prelude.{ℕ, Bool, true, false, IsTrue, Option, None, Some}
+use Rattle.std.specs.Prelude.{Bool, true, false, IsTrue, Option, None, Some}
 use Rattle.client_parts.specs.declared.asks.Ask.{Ask}
 use Rattle.client_parts.specs.declared.asks.Ask.TheVariants.{Get, Mark, Look, Shadow, Remove, Erase, Keys}
 use Rattle.client_parts.specs.declared.asks.Told.{Told}

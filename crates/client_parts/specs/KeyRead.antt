@@ -1,18 +1,16 @@
 -- The read of a key over the cells that were fetched, by the resolve of one cell.
-use Rattle.std.specs.Prelude.{◌≡◌, ℕ, ◌+◌, ◌*◌, ◌<◌, ◌≤◌, ◌⊎◌, ◌==◌, nat_lt, nat_le, Bool, true, false, ◌||◌, is_some, IsTrue, List, [], ◌∷◌, ◌++◌, Option, None, Some, if◌then◌else◌, length, All}
+use Rattle.std.specs.Prelude.{◌≡◌, ℕ, ◌+◌, ◌*◌, ◌<◌, ◌≤◌, ◌⊎◌, ◌==◌, nat_lt, nat_le, Bool, false, ◌||◌, is_some, List, [], ◌∷◌, ◌++◌, Option, None, Some, if◌then◌else◌, length, All}
 use Rattle.std.specs.List.{AllPairs, take_while}
 use Rattle.client_parts.specs.declared.asks.Ask.{Ask}
 use Rattle.client_parts.specs.declared.asks.Told.{Told}
 use Rattle.store_parts.specs.declared.rows.Cell.{Cell}
 use Rattle.client_parts.specs.declared.resolve.SettlePoint.{SettlePoint}
 use Rattle.client_parts.specs.declared.resolve.SettlePoint.TheVariants.{Table, Marking}
-use Rattle.client_parts.specs.declared.resolve.Outcome.{Outcome}
 use Rattle.client_parts.specs.declared.resolve.Outcome.TheVariants.{Committed, Dead}
 use Rattle.client_parts.specs.declared.key_read.Answer.{Answer}
 use Rattle.client_parts.specs.declared.key_read.Next.{Next}
 use Rattle.client_parts.specs.declared.key_read.Next.TheVariants.{Ask as NextAsk, Done as NextDone}
-use Rattle.client_parts.specs.Asks.{FitsNext}
-use Rattle.client_parts.specs.Resolve.{Settling, settle_open, settle_ask, settle_left, SettleTurn, Goes, Decides, settle_turn}
+use Rattle.client_parts.specs.Resolve.{Settling, settle_ask, settle_left, SettleTurn, Goes, Decides, settle_turn}
 
 -- a read under way: the cell that is being resolved, and the older ones behind it
 pub record Reading : Type 0 where
@@ -51,6 +49,16 @@ found_by key c commit by_table = record { found = Some (c.version, c.value); hea
 abbrev pub is_late : ℕ → Option ℕ → Bool
 is_late start None = false
 is_late start (Some commit) = nat_le start commit
+
+-- a shadow below the start: the cell decides by itself, and no read comes further
+abbrev pub is_below : ℕ → Option ℕ → Bool
+is_below start None = false
+is_below start (Some commit) = nat_lt commit start
+
+-- the cells down to the first that decides by itself, that one included; all of them where there is none
+unfoldable pub front_of : ℕ → List Cell → List Cell
+front_of start [] = []
+front_of start (c ∷ cs) = if is_below start c.shadow then c ∷ [] else c ∷ front_of start cs
 
 -- another's cell that is passed over without an ask
 abbrev pub is_passed : ℕ → Cell → Bool
@@ -91,11 +99,6 @@ reading_left (Answers a) = None
 abbrev pub next_of : ReadTurn → Next
 next_of (Asks r) = NextAsk (read_ask r)
 next_of (Answers a) = NextDone a
-
--- what the next answer makes of a read
-abbrev pub told_turn : Option Reading → Told → Option ReadTurn
-told_turn None told = None
-told_turn (Some r) told = Some (read_told r told)
 
 abbrev pub next_ask : Option Reading → Option Ask
 next_ask None = None

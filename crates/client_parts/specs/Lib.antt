@@ -3,4 +3,6 @@ pub mod Resolve
 pub mod Completion
 pub mod Sweep
 pub mod KeyRead
+pub mod CutReads
 pub mod SessionSteps
+pub mod WriteLists

@@ -1,5 +1,5 @@
 -- The resolve of one cell: what is asked at each point, and what an answer decides.
-use Rattle.std.specs.Prelude.{◌≡◌, ℕ, ◌+◌, ◌<◌, ◌≤◌, ◌⊎◌, Bool, true, false, IsTrue, Option, None, Some, if◌then◌else◌}
+use Rattle.std.specs.Prelude.{◌≡◌, ℕ, ◌<◌, ◌≤◌, ◌⊎◌, Bool, true, false, IsTrue, Option, None, Some, if◌then◌else◌}
 use Rattle.client_parts.specs.declared.asks.Ask.{Ask}
 use Rattle.client_parts.specs.declared.asks.Ask.TheVariants.{Get, Mark, Look}
 use Rattle.client_parts.specs.declared.asks.Told.{Told}

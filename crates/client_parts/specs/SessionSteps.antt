@@ -1,7 +1,8 @@
 -- A client session: what each call needs, answers and leaves.
-use Rattle.std.specs.Prelude.{◌≡◌, ◌≢◌, ℕ, ◌≤◌, ◌==◌, nat_lt, Bool, true, false, ◌||◌, ◌⊎◌, IsTrue, IsSome, List, [], ◌∷◌, ◌++◌, Option, None, Some, if◌then◌else◌, length}
+use Rattle.std.specs.Prelude.{◌≡◌, ◌≢◌, ℕ, ◌==◌, nat_lt, Bool, true, false, ◌||◌, ◌⊎◌, IsTrue, IsSome, List, [], ◌∷◌, ◌++◌, Option, None, Some, if◌then◌else◌, length}
 use Rattle.std.specs.List.{list_any}
 use Rattle.std.specs.Option.{option_or}
+use Rattle.stamp_base.specs.declared.limits.TheConstants.{KEY_LIMIT}
 use Rattle.history_book.specs.declared.cause.Cause.{Cause}
 use Rattle.history_book.specs.declared.cause.Cause.TheVariants.{Gone as CauseGone, NoTransaction, Busy, TooManyKeys, Idle}
 use Rattle.client_parts.specs.declared.session.State.{State}
@@ -49,9 +50,9 @@ has_key keys key = list_any (λ k. k == key) keys
 abbrev pub key_added : List ℕ → ℕ → List ℕ
 key_added keys key = if has_key keys key then keys else keys ++ key ∷ []
 
--- a transaction writes at most 64 keys
+-- a key that is there is written again, and another one while there is room for it
 abbrev pub key_refusal : List ℕ → ℕ → Option Cause
-key_refusal keys key = if has_key keys key || nat_lt (length keys) 64 then None else Some TooManyKeys
+key_refusal keys key = if has_key keys key || nat_lt (length keys) KEY_LIMIT then None else Some TooManyKeys
 
 -- the state comes before the number of keys
 abbrev pub write_refusal : SessionEntry → ℕ → Option Cause

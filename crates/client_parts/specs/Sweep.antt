@@ -1,9 +1,9 @@
 -- The sweep of a transaction whose session has vanished: what it asks, and what an answer leaves.
-use Rattle.std.specs.Prelude.{◌≡◌, ℕ, ◌+◌, ◌<◌, ◌≤◌, ◌⊎◌, nat_lt, Bool, true, false, IsTrue, List, [], ◌∷◌, Option, None, Some, IsSomeAnd, if◌then◌else◌, length, drop}
+use Rattle.std.specs.Prelude.{◌≡◌, ℕ, ◌+◌, ◌<◌, ◌≤◌, ◌⊎◌, nat_lt, Bool, true, false, List, Option, None, Some, IsSomeAnd, if◌then◌else◌, length, drop}
 use Rattle.stamp_base.specs.declared.stores.Mark.{Mark}
 use Rattle.stamp_base.specs.declared.stores.Mark.TheVariants.{Committed as CommittedMark, Invalid as InvalidMark}
 use Rattle.client_parts.specs.declared.asks.Ask.{Ask}
-use Rattle.client_parts.specs.declared.asks.Ask.TheVariants.{Get, Mark as MarkAsk, Keys, Remove}
+use Rattle.client_parts.specs.declared.asks.Ask.TheVariants.{Get, Mark as MarkAsk, Keys}
 use Rattle.client_parts.specs.declared.asks.Told.{Told}
 use Rattle.client_parts.specs.declared.asks.Told.TheVariants.{Absent, Invalid, Committed, Marked}
 use Rattle.client_parts.specs.Asks.{FitsNext}

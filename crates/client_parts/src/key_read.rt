@@ -1,4 +1,5 @@
 ghost use Rattle.client_parts.specs.KeyRead.{PassedAreLate, AnswersOwnOrBelow, AnswersResolved, PassesDeadOrLate, ReadsMarkOldAlone, ReadsEnd};
+ghost use Rattle.client_parts.specs.CutReads.{CutReadsAreWhole};
 
 use crate::asks::Ask;
 use stamp_base::{KeyNo, Stamp, TxnId, Value};
@@ -47,4 +48,10 @@ pub fn reads_mark_old_alone()
 /// A read ends within three steps for each cell.
 pub fn reads_end()
     ensures { ReadsEnd }
+{}
+
+/// A read that has the cells down to the first with a shadow below the start alone asks and answers what it does over
+/// all of them.
+pub fn cut_reads_are_whole()
+    ensures { CutReadsAreWhole }
 {}

@@ -1,4 +1,5 @@
 ghost use Rattle.client_parts.specs.SessionSteps.{SessionsKeepSense};
+ghost use Rattle.client_parts.specs.WriteLists.{WriteListsAreFirstWrites};
 
 /// What a client session is about.
 #[derive(Clone, Copy, Debug, PartialEq, Eq)]
@@ -22,4 +23,9 @@ pub enum State {
 /// Every call whose condition is met keeps what a state tells of the transaction.
 pub fn sessions_keep_sense()
     ensures { SessionsKeepSense }
+{}
+
+/// A write list has each key once: the first write of a key adds it at the end, and a later one leaves the list.
+pub fn write_lists_are_first_writes()
+    ensures { WriteListsAreFirstWrites }
 {}

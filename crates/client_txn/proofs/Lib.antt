@@ -1,1 +1,1 @@
-pub mod KeyLemmas
+mod KeyLemmas

@@ -1,4 +1,4 @@
-// Client sessions: what a session is about, and what it has written.
+//! Client sessions: what a session is about, and what it has written.
 #![tactic(auto)]
 
 mod session;

@@ -1,9 +1,9 @@
 ghost use Rattle.std.specs.Prelude.{◌≡◌, MatchResult, None, Some};
 ghost use Rattle.client_parts.specs.SessionSteps as step;
 
-use history_book::Cause;
 use client_parts::State;
-use stamp_base::{KeyList, KeyNo, Stamp};
+use history_book::Cause;
+use stamp_base::{KEY_LIMIT, KeyList, KeyNo, Stamp};
 use std::marker::Model;
 
 /// A client session. Its start, keys and commit are those of its transaction.
@@ -116,6 +116,25 @@ impl Session {
         }
     }
 
+    /// Whether the session may vanish: refused as gone.
+    pub fn check_vanish(&self) -> Result<(), Cause>
+        ensures { MatchResult result (λ _. step.vanish_refusal self.now.state ≡ None) (λ cause. step.vanish_refusal self.now.state ≡ Some cause) }
+    {
+        match self.state {
+            State::Gone => Err(Cause::Gone),
+            _ => Ok(()),
+        }
+    }
+
+    /// Whether the transaction may write the key, where no read is under way: refused as gone, without a transaction,
+    /// busy, or with 64 other keys, in this order.
+    pub fn check_write(&self, key: KeyNo) -> Result<(), Cause>
+        ensures { MatchResult result (λ _. step.write_refusal self.now key ≡ None) (λ cause. step.write_refusal self.now key ≡ Some cause) }
+    {
+        self.check_work(false)?;
+        check_key(&self.keys, key)
+    }
+
     /// A begin was answered.
     pub fn begun(&mut self, start: Stamp, epoch: u64)
         requires { step.CanBegin self.old }
@@ -130,18 +149,14 @@ impl Session {
         };
     }
 
-    /// Takes the key into the write list, before the write goes to the store. Refused as gone, without a transaction,
-    /// busy, or with 64 other keys, in this order; the session is then as before.
+    /// Takes the key into the write list, where `check_write` says yes. Refused as it says; the session is then as
+    /// before.
     pub fn wrote(&mut self, key: KeyNo) -> Result<(), Cause>
         ensures answer { MatchResult result (λ _. step.write_refusal self.old key ≡ None) (λ cause. step.write_refusal self.old key ≡ Some cause) }
         ensures left { MatchResult result (λ _. self.new ≡ step.session_wrote self.old key) (λ _. self.new ≡ self.old) }
     {
-        match self.state {
-            State::Gone => Err(Cause::Gone),
-            State::Free => Err(Cause::NoTransaction),
-            State::Open => add_key(&mut self.keys, key),
-            _ => Err(Cause::Busy),
-        }
+        self.check_work(false)?;
+        add_key(&mut self.keys, key)
     }
 
     /// A begin was asked of a free session, or the commit of a transaction that has written.
@@ -207,6 +222,18 @@ impl Session {
             epoch: self.epoch,
             ..Session::new()
         };
+    }
+}
+
+/// Whether the list has the key, or room for it.
+fn check_key(keys: &KeyList, key: KeyNo) -> Result<(), Cause>
+    ensures { MatchResult result (λ _. step.key_refusal keys.now key ≡ None) (λ cause. step.key_refusal keys.now key ≡ Some cause) }
+{
+    let keys = keys.as_slice();
+    if keys.contains(&key) || keys.len() < KEY_LIMIT {
+        Ok(())
+    } else {
+        Err(Cause::TooManyKeys)
     }
 }
 

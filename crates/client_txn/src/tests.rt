@@ -3,7 +3,7 @@ ghost use Rattle.client_parts.specs.declared.session.State.{State};
 
 use super::*;
 use history_book::Cause;
-use stamp_base::{KeyNo, Stamp};
+use stamp_base::{KEY_LIMIT, KeyNo, Stamp};
 use std::process::Abort;
 use std::test::Fail;
 
@@ -26,23 +26,31 @@ fn opened() -> Result<Session, &'static str>
     Ok(session)
 }
 
+/// Writes each of the first 64 keys.
+fn fill(session: &mut Session) -> Result<(), &'static str> {
+    for n in 0..64 {
+        let written = session.wrote(key(n)?);
+        if written.is_err() {
+            return Err("a write was refused");
+        }
+    }
+    Ok(())
+}
+
 #[test]
 fn own_writes(rt: HostRuntime) -> Result<(), Fail> {
     let mut session = opened()?;
-    for n in 0..64 {
-        assert_eq!(rt; session.wrote(key(n)?), Ok(()));
-    }
-    assert_eq!(rt; session.wrote(key(64)?), Err(Cause::TooManyKeys));
-    assert_eq!(rt; session.wrote(key(0)?), Ok(()));
-    assert_eq!(rt; session.keys().as_slice().len(), 64);
-    assert_eq!(rt; session.keys().as_slice()[63], key(63)?);
+    fill(&mut session)?;
+    let (first, more) = (key(0)?, key(64)?);
+    assert_eq!(rt; session.check_write(first), Ok(()));
+    assert_eq!(rt; session.check_write(more), Err(Cause::TooManyKeys));
+    assert_eq!(rt; session.keys().as_slice().len(), KEY_LIMIT);
     Ok(())
 }
 
 #[test]
 fn plain_path(rt: HostRuntime) -> Result<(), Fail> {
     let mut session = opened()?;
-    assert_eq!(rt; session.start(), Some(stamp(1)?));
     assert_eq!(rt; session.wrote(key(0)?), Ok(()));
     if !session.keys().as_slice().is_empty() {
         commits(&rt, session, stamp(2)?);
@@ -51,39 +59,29 @@ fn plain_path(rt: HostRuntime) -> Result<(), Fail> {
 }
 
 /// Takes an open transaction with a write through its commit.
-fn commits(rt: &impl Abort, session: Session, commit: Stamp)
+fn commits(rt: &impl Abort, mut session: Session, commit: Stamp)
     requires open { session.state ≡ State.Open }
     requires wrote { session.keys ≢ [] }
 {
-    let mut session = session;
     session.asked();
-    assert_eq!(rt; session.state(), State::Committing);
+    session.opened();
+    assert_eq!(rt; session.state(), State::OpenOutcome);
     session.committed(commit);
-    assert_eq!(rt; session.state(), State::Completing { undo: false });
     assert_eq!(rt; session.commit(), Some(commit));
     session.freed();
-    assert_eq!(rt; session.state(), State::Free);
     assert_eq!(rt; session.start(), None);
     assert_eq!(rt; session.epoch(), Some(0));
 }
 
 #[test]
-fn refusals_of_order(rt: HostRuntime) {
-    let mut session = Session::new();
-    assert_eq!(rt; session.check_step(false), Err(Cause::Idle));
-    assert_eq!(rt; session.check_work(false), Err(Cause::NoTransaction));
-    session.asked();
-    assert_eq!(rt; session.check_begin(), Err(Cause::Busy));
-    assert_eq!(rt; session.check_work(false), Err(Cause::Busy));
-    session.vanished();
-    assert_eq!(rt; session.check_begin(), Err(Cause::Gone));
-    assert_eq!(rt; session.state(), State::Gone);
-}
-
-#[test]
-fn faulted_put(rt: HostRuntime) -> Result<(), Fail> {
+fn refusals_of_order(rt: HostRuntime) -> Result<(), Fail> {
     let mut session = opened()?;
+    assert_eq!(rt; session.check_begin(), Err(Cause::Busy));
+    assert_eq!(rt; session.check_work(true), Err(Cause::Busy));
+    assert_eq!(rt; session.check_step(false), Err(Cause::Idle));
     session.aborted();
-    assert_eq!(rt; session.state(), State::Free);
+    assert_eq!(rt; session.check_vanish(), Ok(()));
+    session.vanished();
+    assert_eq!(rt; session.check_vanish(), Err(Cause::Gone));
     Ok(())
 }

@@ -2,8 +2,7 @@ ghost use Rattle.std.specs.Prelude.{◌≡◌, true, false};
 ghost use Rattle.client_parts.specs.Asks.{Fits};
 ghost use Rattle.client_parts.specs.Resolve.{settle_open, settle_ask, settle_turn, settle_by, outcome_of};
 
-use client_parts::{Outcome, SettlePoint};
-use client_parts::{Ask, Told};
+use client_parts::{Ask, Outcome, SettlePoint, Told};
 use stamp_base::{KeyNo, Stamp, TxnId};
 use std::marker::Model;
 

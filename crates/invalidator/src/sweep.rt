@@ -1,10 +1,10 @@
-ghost use Rattle.std.specs.Prelude.{◌≡◌, IsTrue};
+ghost use Rattle.std.specs.Prelude.{◌≡◌};
 ghost use Rattle.std.specs.List.Sorted.{IsStrictlyIncreasing};
 ghost use Rattle.client_parts.specs.Sweep.{sweep_open, sweep_ask, sweep_told, sweep_listed, IsListing, is_undecided};
 ghost use Rattle.client_parts.specs.Asks.{FitsNext};
 
-use shadow_cells::{finish_ask, undo_ask};
 use client_parts::{Ask, Told};
+use shadow_cells::{finish_ask, undo_ask};
 use stamp_base::{KeyNo, Mark, TxnId};
 use std::marker::Model;
 
@@ -60,6 +60,20 @@ impl Sweep {
             epoch,
             stage: Stage::Table,
         }
+    }
+
+    /// The transaction that is swept.
+    pub fn txn(&self) -> TxnId
+        ensures { result ≡ self.now.txn }
+    {
+        self.txn
+    }
+
+    /// The epoch of the oracle that sweeps: a transaction above it is not marked.
+    pub fn epoch(&self) -> u64
+        ensures { result ≡ self.now.epoch }
+    {
+        self.epoch
     }
 
     /// The next step; None exactly where the sweep has ended.

@@ -1,3 +1,3 @@
-pub mod TurnLemmas
-pub mod RunLemmas
-pub mod Fetched
+mod TurnLemmas
+mod RunLemmas
+mod Fetched

@@ -1,13 +1,13 @@
-// The read of a key: a machine that goes over the fetched cells from the greatest version down, and asks for one store
-// step at a time where a cell is not decided by itself.
+//! The read of a key: a machine that goes over the fetched cells from the greatest version down, and asks for one store
+//! step at a time where a cell is not decided by itself.
 #![tactic(auto)]
 
 mod run;
 mod turn;
 
 pub use client_parts::{Answer, Next};
-pub use store_parts::Cell;
 pub use run::ReadRun;
+pub use store_parts::Cell;
 
 #[cfg(test)]
 mod tests;

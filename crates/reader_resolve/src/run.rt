@@ -3,12 +3,11 @@ ghost use Rattle.client_parts.specs.Asks.{FitsNext};
 ghost use Rattle.client_parts.specs.KeyRead.{AreFetched, read_over, read_told, reading_left, next_of, next_ask};
 
 use crate::turn::{Reader, Turn};
+use client_parts::{Ask, Next, Told};
 use invalidator::Settle;
-use store_parts::Cell;
-use client_parts::Next;
-use client_parts::{Ask, Told};
 use stamp_base::{KeyNo, Stamp};
 use std::marker::Model;
+use store_parts::Cell;
 
 /// A read of a key under way, seen as None once it has its answer.
 #[derive(Debug, Drop)]
@@ -38,6 +37,7 @@ impl Model for ReadRun {
 impl ReadRun {
     /// Reads the key over its cells, which stand as a fetch up to `start` gave them. `epoch` is that of the session's
     /// begin: up to it, a version may be marked.
+    #[tactic(auto, using(crate::proofs::RunLemmas::asks_next))]
     pub fn start(key: KeyNo, start: Stamp, epoch: u64, cells: Vec<Cell>) -> (ReadRun, Next)
         requires { AreFetched start cells.items }
         ensures run { result.0 ≡ reading_left (read_over key start epoch cells.items) }
@@ -67,7 +67,15 @@ impl ReadRun {
         }
     }
 
+    /// The key that is read.
+    pub fn key(&self) -> KeyNo
+        ensures { IfSome self.now (λ r. result ≡ r.key) }
+    {
+        self.reader.key
+    }
+
     /// The step that was asked last; None once the read has its answer.
+    #[tactic(auto, using(crate::proofs::RunLemmas::asked))]
     pub fn next(&self) -> Option<Ask>
         ensures { result ≡ next_ask self.now }
     {

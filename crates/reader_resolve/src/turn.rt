@@ -3,11 +3,10 @@ ghost use Rattle.client_parts.specs.Asks.{Fits};
 ghost use Rattle.client_parts.specs.Resolve.{settle_ask};
 ghost use Rattle.client_parts.specs.KeyRead.{is_passed, after_passed, read_over, found_cell, found_by, found_none};
 
+use client_parts::{Answer, Outcome, Told};
 use invalidator::Settle;
-use client_parts::{Answer, Outcome};
-use store_parts::Cell;
 use stamp_base::{KeyNo, Stamp};
-use client_parts::Told;
+use store_parts::Cell;
 
 /// Who reads what: a transaction by its start, with the epoch of its begin.
 #[derive(Clone, Copy, Debug)]
@@ -69,6 +68,7 @@ impl Reader {
 
     /// The read where the cell at a place was decided: it answers by a commit below the start, and is passed over
     /// otherwise.
+    #[tactic(auto, using(crate::proofs::TurnLemmas::passed_on))]
     fn turn_by(&self, cells: &[Cell], at: usize, outcome: Outcome) -> Turn
         requires { at < length cells.now }
         ensures turn { turn_of self.now cells.now result ≡ decided_of self.now (drop at cells.now) outcome }

@@ -5,6 +5,7 @@ use client_parts::Ask;
 use stamp_base::{KeyNo, Stamp, TxnId};
 
 /// The step after `done` steps of finishing a transaction that wrote these keys; None where no step is left.
+#[tactic(auto, using(crate::proofs::Steps::finish_at))]
 pub fn finish_ask(txn: TxnId, commit: Stamp, keys: &[KeyNo], done: usize) -> Option<Ask>
     ensures { result ≡ first_ask (drop done (finish_asks txn commit keys.now)) }
 {
@@ -18,6 +19,7 @@ pub fn finish_ask(txn: TxnId, commit: Stamp, keys: &[KeyNo], done: usize) -> Opt
 }
 
 /// The step after `done` steps of undoing a transaction that wrote these keys; None where no step is left.
+#[tactic(auto, using(crate::proofs::Steps::undo_at))]
 pub fn undo_ask(txn: TxnId, keys: &[KeyNo], done: usize) -> Option<Ask>
     ensures { result ≡ first_ask (drop done (undo_asks txn keys.now)) }
 {

@@ -1,4 +1,4 @@
-// Completions: the store steps that finish or undo a transaction which has ended.
+//! Completions: the store steps that finish or undo a transaction which has ended.
 #![tactic(auto)]
 
 ghost use Rattle.std.specs.Prelude.{◌≡◌, drop, IsSome};
@@ -80,6 +80,7 @@ impl Completion {
     }
 
     /// The next step was done.
+    #[tactic(auto, using(crate::proofs::Steps::drop_more))]
     pub fn done(&mut self)
         requires { IsSome (first_ask self.old) }
         ensures { self.new ≡ drop 1 self.old }

@@ -1,6 +1,5 @@
 use super::*;
 use stamp_base::KeyNo;
-use std::alloc::{AllocError, Global};
 use std::test::Fail;
 
 fn stamp(n: u64) -> Result<Stamp, &'static str> {
@@ -11,6 +10,7 @@ fn key(n: u64) -> Result<KeyNo, &'static str> {
     KeyNo::new(n).ok_or("no key")
 }
 
+/// The keys below a number.
 fn keys_below(n: u64) -> Result<KeyList, &'static str> {
     let mut keys = KeyList::empty();
     for i in 0..n {
@@ -19,47 +19,29 @@ fn keys_below(n: u64) -> Result<KeyList, &'static str> {
     Ok(keys)
 }
 
-/// All asks of the completion, each done in turn.
-fn drive(alloc: Global, mut completion: Completion) -> Result<Vec<Ask>, AllocError> {
-    let mut asks = Vec::new(alloc);
-    for _ in 0..100 {
-        let Some(ask) = completion.next() else {
-            break;
-        };
-        asks.push(ask)?;
-        completion.done();
-    }
-    Ok(asks)
+/// The next step, which is then done.
+fn step(completion: &mut Completion) -> Option<Ask> {
+    let ask = completion.next()?;
+    completion.done();
+    Some(ask)
 }
 
 #[test]
-fn vanished_session(rt: HostRuntime) -> Result<(), Fail> {
-    let (start, commit) = (stamp(1)?, stamp(2)?);
-    let asks = drive(
-        rt.alloc(),
-        Completion::finish(start, commit, keys_below(2)?),
-    )?;
-    let want = [
-        Ask::Shadow(key(0)?, start, commit),
-        Ask::Shadow(key(1)?, start, commit),
-        Ask::Remove(start),
-    ];
-    assert_eq!(rt; asks.as_slice(), want.as_slice());
-    let erased = drive(rt.alloc(), Completion::undo(start, keys_below(2)?))?;
-    let want = [Ask::Erase(key(0)?, start), Ask::Erase(key(1)?, start)];
-    assert_eq!(rt; erased.as_slice(), want.as_slice());
+fn plain_path(rt: HostRuntime) -> Result<(), Fail> {
+    let (k0, k1, start, commit) = (key(0)?, key(1)?, stamp(1)?, stamp(2)?);
+    let mut finish = Completion::finish(start, commit, keys_below(2)?);
+    assert_eq!(rt; step(&mut finish), Some(Ask::Shadow(k0, start, commit)));
+    assert_eq!(rt; step(&mut finish), Some(Ask::Shadow(k1, start, commit)));
+    assert_eq!(rt; step(&mut finish), Some(Ask::Remove(start)));
+    assert_eq!(rt; step(&mut finish), None);
     Ok(())
 }
 
 #[test]
-fn own_writes(rt: HostRuntime) -> Result<(), Fail> {
-    let (start, commit) = (stamp(1)?, stamp(2)?);
-    let asks = drive(
-        rt.alloc(),
-        Completion::finish(start, commit, keys_below(64)?),
-    )?;
-    assert_eq!(rt; asks.len(), 65);
-    assert_eq!(rt; asks[63], Ask::Shadow(key(63)?, start, commit));
-    assert_eq!(rt; asks[64], Ask::Remove(start));
+fn conflict(rt: HostRuntime) -> Result<(), Fail> {
+    let (k0, start) = (key(0)?, stamp(1)?);
+    let mut undo = Completion::undo(start, keys_below(1)?);
+    assert_eq!(rt; step(&mut undo), Some(Ask::Erase(k0, start)));
+    assert_eq!(rt; step(&mut undo), None);
     Ok(())
 }
