@@ -46,13 +46,13 @@ abbrev pub Visible : List Item → ℕ → ℕ → Option Found → Type 0
 Visible h s k None = (t c : ℕ) → Candidate h s k t c → ⊥
 Visible h s k (Some found) = Newest h s k found
 
--- the keys of the transaction t were listed, as a sweep does that has marked it
+-- before holds a listing of the keys of the transaction t, which only a sweep of t makes
 abbrev pub WasListed : List Item → ℕ → Type 0
 WasListed before t = (actor : Actor) × (count : ℕ) × (Step actor (Keys t count) ∈ before)
 
 -- A transaction reads its own last write before the read, and else what is visible in the whole
--- history. Where its keys were listed before, what is visible is right too: a sweep has marked it, so
--- it never commits, and erases what it wrote.
+-- history. Where a sweep listed its keys before the read, what is visible is right too: from that
+-- listing on the sweep takes the writes of the transaction away, one by one, and its own may be gone.
 abbrev pub RightAnswer : List Item → List Item → ℕ → ℕ → Option Found → Option (List ℕ) → Type 0
 RightAnswer h before s k answer None = Visible h s k answer
 RightAnswer h before s k answer (Some own) = (answer ≡ Some (record { from = s; value = own })) ⊎ (WasListed before s × Visible h s k answer)
