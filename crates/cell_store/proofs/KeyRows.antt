@@ -36,14 +36,16 @@ non_decreasing cells rising = λ i j d le there. elim (cases_lt i j) [
 
 -- what a search by halves tells of the parts of a list
 pub upto_parts : (cells : List Cell) (n upto : ℕ) → IsPartitionPoint (λ (c : Cell). leb c.version upto ≡ true) (λ (c : Cell). leb c.version upto ≡ false) cells n → All (λ (c : Cell). c.version ≤ upto) (take n cells) × All (λ (c : Cell). upto < c.version) (drop n cells)
-upto_parts cells n upto point =
-    (All-weaker (λ (c : Cell). leb c.version upto ≡ true) (λ (c : Cell). c.version ≤ upto) (λ c h. grind (arith, nat_tests, h)) (take n cells) (take_within (λ (c : Cell). leb c.version upto ≡ true) cells n point.0),
-    All-weaker (λ (c : Cell). leb c.version upto ≡ false) (λ (c : Cell). upto < c.version) (λ c h. grind (arith, nat_tests, h)) (drop n cells) (drop_within (λ (c : Cell). leb c.version upto ≡ false) cells n point.1))
+upto_parts cells n upto point = (
+  All-weaker (λ (c : Cell). leb c.version upto ≡ true) (λ (c : Cell). c.version ≤ upto) (λ c h. grind (arith, nat_tests, h)) (take n cells) (take_within (λ (c : Cell). leb c.version upto ≡ true) cells n point.0),
+  All-weaker (λ (c : Cell). leb c.version upto ≡ false) (λ (c : Cell). upto < c.version) (λ c h. grind (arith, nat_tests, h)) (drop n cells) (drop_within (λ (c : Cell). leb c.version upto ≡ false) cells n point.1),
+)
 
 pub lower_parts : (cells : List Cell) (n t : ℕ) → IsPartitionPoint (λ (c : Cell). ltb c.version t ≡ true) (λ (c : Cell). ltb c.version t ≡ false) cells n → AreLowerBefore cells t n × All (λ (c : Cell). t ≤ c.version) (drop n cells)
-lower_parts cells n t point =
-    (All-weaker (λ (c : Cell). ltb c.version t ≡ true) (λ (c : Cell). c.version < t) (λ c h. grind (arith, nat_tests, h)) (take n cells) (take_within (λ (c : Cell). ltb c.version t ≡ true) cells n point.0),
-    All-weaker (λ (c : Cell). ltb c.version t ≡ false) (λ (c : Cell). t ≤ c.version) (λ c h. grind (arith, nat_tests, h)) (drop n cells) (drop_within (λ (c : Cell). ltb c.version t ≡ false) cells n point.1))
+lower_parts cells n t point = (
+  All-weaker (λ (c : Cell). ltb c.version t ≡ true) (λ (c : Cell). c.version < t) (λ c h. grind (arith, nat_tests, h)) (take n cells) (take_within (λ (c : Cell). ltb c.version t ≡ true) cells n point.0),
+  All-weaker (λ (c : Cell). ltb c.version t ≡ false) (λ (c : Cell). t ≤ c.version) (λ c h. grind (arith, nat_tests, h)) (drop n cells) (drop_within (λ (c : Cell). ltb c.version t ≡ false) cells n point.1),
+)
 
 lower_rows : (k t : ℕ) (cells : List Cell) → All (λ (c : Cell). c.version < t) cells → AllByRecursion (IsEarlier k t) (rows_at k cells)
 lower_rows k t [] h = tt

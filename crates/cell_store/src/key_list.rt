@@ -5,7 +5,7 @@ ghost use Rattle.cell_store.specs.KeyLists.{rows_at, AreRising, AreLowerBefore, 
 ghost use Rattle.cell_store.specs.Calls.{put_row, fetched, front_of, looked, with_shadow, without_bare};
 ghost use Rattle.store_parts.specs.Rows as rows;
 
-use crate::{Cell, Front};
+use crate::Cell;
 use stamp_base::{NoMemory, Stamp, Value};
 use std::alloc::{AllocError, Global};
 
@@ -27,28 +27,16 @@ pub fn turned(alloc: Global, cells: &[Cell]) -> Result<Vec<Cell>, AllocError>
     Ok(turned)
 }
 
-/// How many cells there are, and those from the last one on down to the first whose shadow is below the start.
-pub fn front(alloc: Global, cells: &[Cell], start: Stamp) -> Result<Front, AllocError>
-    ensures versions { IfOk result (λ front. front.versions ≡ length (reverse cells.now)) }
-    ensures cells { IfOk result (λ front. front.cells.items ≡ front_of start (reverse cells.now)) }
+/// The last cells, from the last one whose shadow is below the start on; all of them where there is none.
+pub fn front(cells: &[Cell], start: Stamp) -> &[Cell]
+    ensures { reverse result.now ≡ front_of start (reverse cells.now) }
 {
-    Ok(Front {
-        versions: cells.len() as u64,
-        cells: front_cells(alloc, cells, start)?,
-    })
-}
-
-fn front_cells(alloc: Global, cells: &[Cell], start: Stamp) -> Result<Vec<Cell>, AllocError>
-    ensures { IfOk result (λ front. front.items ≡ front_of start (reverse cells.now)) }
-{
-    let mut front = Vec::new(alloc);
-    for cell in cells.iter().rev() {
-        front.push(*cell)?;
-        if is_below(cell.shadow, start) {
-            return Ok(front);
+    for first in (0..cells.len()).rev() {
+        if is_below(cells[first].shadow, start) {
+            return &cells[first..];
         }
     }
-    Ok(front)
+    cells
 }
 
 fn is_below(shadow: Option<Stamp>, start: Stamp) -> bool

@@ -3,8 +3,7 @@ ghost use Rattle.std.specs.Prelude.{◌≡◌, ℕ, [], length, slice_get, IfOk,
 ghost use Rattle.cell_store.specs.KeyLists.{rows_at, AreRising};
 ghost use Rattle.cell_store.specs.Calls.{put_row, fetched, front_of, looked, with_shadow, without_bare, AreOrdered};
 
-use crate::key_list;
-use crate::{Cell, Front};
+use crate::{Cell, Front, key_list};
 use stamp_base::{KeyNo, NoMemory, Stamp, Value};
 use std::alloc::Global;
 use std::collections::BTreeMap;
@@ -87,7 +86,10 @@ impl Rows {
         ensures ordered { AreOrdered self.now }
     {
         let cells = key_list::upto(self.cells_of(key), start);
-        Ok(key_list::front(self.alloc, cells, start)?)
+        Ok(Front {
+            versions: cells.len() as u64,
+            cells: key_list::turned(self.alloc, key_list::front(cells, start))?,
+        })
     }
 
     /// The key's cell of the greatest version that is at most `upto`.

@@ -45,15 +45,15 @@ pub invariant_of-self : goal.invariant_of-self
 unfolding Entered Kept
 invariant_of-self c = elim (either c.enter.result (on_ok_weaker c.enter.result (entered c) c.enter.ensures.ok) (on_err_weaker c.enter.result (kept c) c.enter.ensures.err)) [
   | inl e ↦ record {
-      keys_ordered = (c.get_mut.follows.holds c.enter.new.cells).4;
-      ordered = subst (λ (rows : List Row). AreOrdered rows) (sym e) (ordered-put (rows_of c.self.inside.lists.entries) c.args.key c.args.version c.args.value c.self.invariant.ordered);
-      stamped = subst (λ (rows : List Row). AreStamped rows) (sym e) (stamped_put (rows_of c.self.inside.lists.entries) c.args.key c.args.version c.args.value c.self.invariant.stamped c.value.ensures.range.0);
-    }
+    keys_ordered = (c.get_mut.follows.holds c.enter.new.cells).4;
+    ordered = subst (λ (rows : List Row). AreOrdered rows) (sym e) (ordered-put (rows_of c.self.inside.lists.entries) c.args.key c.args.version c.args.value c.self.invariant.ordered);
+    stamped = subst (λ (rows : List Row). AreStamped rows) (sym e) (stamped_put (rows_of c.self.inside.lists.entries) c.args.key c.args.version c.args.value c.self.invariant.stamped c.value.ensures.range.0);
+  }
   | inr e ↦ record {
-      keys_ordered = (c.get_mut.follows.holds c.enter.new.cells).4;
-      ordered = subst (λ (rows : List Row). AreOrdered rows) (sym e) c.self.invariant.ordered;
-      stamped = subst (λ (rows : List Row). AreStamped rows) (sym e) c.self.invariant.stamped;
-    }
+    keys_ordered = (c.get_mut.follows.holds c.enter.new.cells).4;
+    ordered = subst (λ (rows : List Row). AreOrdered rows) (sym e) c.self.invariant.ordered;
+    stamped = subst (λ (rows : List Row). AreStamped rows) (sym e) c.self.invariant.stamped;
+  }
 ]
 
 pub returns-in-Some-clause-ok : goal.returns-in-Some-clause-ok
