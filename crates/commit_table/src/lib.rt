@@ -11,11 +11,11 @@ mod entries;
 use entries::{place_under, remove_under, use_place};
 use indexmap::{IndexMap, IndexSet};
 use port_io::{Store, Weather};
-pub use store_parts::{Put, StoreError, StoreFault};
-use store_parts::answered_under;
 use stamp_base::{Mark, NoMemory, TxnId};
 use std::alloc::Global;
 use std::marker::Model;
+use store_parts::answered_under;
+pub use store_parts::{Put, StoreError, StoreFault};
 
 /// The marks of transactions. A call finds, adds and removes in constant time, so the order of the
 /// entries means nothing, and contracts see them as a map.
@@ -85,10 +85,7 @@ impl Table {
         ensures memory { OnNoMemory result ((self.new ≡ self.old) × (weather.new ≡ weather.old)) }
     {
         match self.mark_of(txn) {
-            Some(there) => Ok(answered_under(
-                weather.next(Store::Table),
-                Put::Found(there),
-            )?),
+            Some(there) => Ok(answered_under(weather.next(Store::Table), Put::Found(there))?),
             None => self.put_new(weather, txn, mark),
         }
     }

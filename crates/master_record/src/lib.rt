@@ -5,9 +5,9 @@ ghost use Rattle.std.specs.Prelude.{◌≡◌, ◌≤◌, ◌<◌, ◌+◌, ◌^
 ghost use Rattle.master_record.specs.Calls.{MasterRecord, Leasing, free_record, take_refused, granted, taken, held_by, is_spent, renew_refused, renewed_until, renewed, extend_refused, extended, unless_some, answered, AsksOnce, IsWithin, IsStampRange, fated, works};
 
 use port_io::{Fate, Store, Weather};
-pub use store_parts::{ExtendRefused, Grant, RenewRefused, TakeRefused};
 use stamp_base::{NodeNo, Stamp, Term};
 use std::marker::Model;
+pub use store_parts::{ExtendRefused, Grant, RenewRefused, TakeRefused};
 
 /// The one record that says which node has the oracle. Each of its three steps is one store call.
 #[derive(Drop)]
@@ -139,7 +139,9 @@ impl Master {
     {
         let fate = weather.next(Store::Master);
         let told = self.grant_at(reading);
-        if fate.applies() && let Ok(grant) = &told {
+        if fate.applies()
+            && let Ok(grant) = &told
+        {
             self.hold(node, grant);
         }
         told_under(fate, told, TakeRefused::StoreFault)
@@ -164,7 +166,9 @@ impl Master {
     {
         let fate = weather.next(Store::Master);
         let told = self.renewal_at(term, reading);
-        if fate.applies() && let Ok(until) = told {
+        if fate.applies()
+            && let Ok(until) = told
+        {
             self.until = until;
         }
         told_under(fate, told, RenewRefused::StoreFault)
@@ -183,7 +187,9 @@ impl Master {
     {
         let fate = weather.next(Store::Master);
         let told = self.extension_of(term);
-        if fate.applies() && let Ok(ceiling) = told {
+        if fate.applies()
+            && let Ok(ceiling) = told
+        {
             self.ceiling = ceiling;
         }
         told_under(fate, told, ExtendRefused::StoreFault)

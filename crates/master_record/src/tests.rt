@@ -20,7 +20,10 @@ fn each_step_once(rt: HostRuntime) {
     assert_eq!(rt; master.renew(&mut calm, Term::FIRST, 9), Ok(19));
     assert_eq!(rt; master.extend(&mut calm, Term::FIRST), Ok(200));
     assert_eq!(rt; master.holder(), Some(NodeNo::LAST));
-    assert_eq!(rt; (master.term(), master.until(), master.ceiling()), (1, 19, 200));
+    assert_eq!(rt;
+        (master.term(), master.until(), master.ceiling()),
+        (1, 19, 200)
+    );
 }
 
 #[test]

@@ -1,13 +1,13 @@
 -- The laws of the pairs, for the crates above: what a look finds after a put and after a removal, of the transaction
 -- itself and of another.
-use Rattle.std.proofs.Common.{◌≡◌, ◌≢◌, ℕ, true, false, cond, Option, None, Some, ◌⊎◌, inl, inr, refl, sym, ap, ◌∙◌, subst, arith}
+use Rattle.std.proofs.Common.{◌≡◌, ◌≢◌, ℕ, true, false, cond, Option, None, Some, inl, inr, refl, sym, ap, ◌∙◌, subst, arith}
 use Rattle.std.specs.Ordering.{nat_cmp, eq_by_cmp}
 use Rattle.std.specs.FinMap as map
 use Rattle.std.specs.FinMap.{get-empty, get-insert, get-remove}
 use Rattle.std.specs.Cmp.{nat_cmp_total}
 use Rattle.std.proofs.lemmas.Bool.Decides.{nat_tests}
 use Rattle.std.proofs.lemmas.Bool.{cases_eq}
-use Rattle.std.proofs.lemmas.Option.{same_Some, none-some}
+use Rattle.std.proofs.lemmas.Option.{none-some}
 use Rattle.stamp_base.specs.declared.stores.Mark.{Mark}
 use Rattle.stamp_base.specs.declared.stores.Mark.TheVariants.{Committed, Invalid}
 use Rattle.store_parts.specs.Pairs.{Pairs, mark_of, put_pair, put_over, without_committed, removed_from}

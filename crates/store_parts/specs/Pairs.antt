@@ -1,6 +1,6 @@
 -- The commit table as a map from transactions to marks, and what each call does to it.
 -- The map is known by its look-ups alone: the order of the entries is no part of it.
-use Rattle.std.specs.Prelude.{◌≡◌, ℕ, Option, None, Some}
+use Rattle.std.specs.Prelude.{ℕ, Option, None, Some}
 use Rattle.std.specs.Ordering.{nat_cmp}
 use Rattle.std.specs.FinMap as map
 use Rattle.std.specs.FinSet as set
