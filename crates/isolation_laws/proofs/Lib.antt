@@ -23,3 +23,7 @@ pub mod RequestsOfDraws
 pub mod RequestsOfSettled
 pub mod RequestsOfItems
 pub mod RequestsOfAll
+pub mod RecordedCommits
+pub mod MemoryStays
+pub mod MemoryOfDraws
+pub mod MemoryKept

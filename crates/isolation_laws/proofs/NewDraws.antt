@@ -103,7 +103,7 @@ stamp_between : (low high stamp t : ℕ) (commit : Option ℕ) (u : ℕ) (d : Op
 stamp_between low high stamp t commit u d start same is above below = (stamp_over low stamp t commit u d start same is above, stamp_up_to high stamp t commit u d start same is below)
 
 -- ---- a longer history has the draw, and what it had
-drew_or : (w : State) (k : Drew w) (h : List Item) (s m term u : ℕ) (d : Option ℕ) → Draw s m term u d ∈ (h ++ new_draw w k ∷ []) → (Draw s m term u d ∈ h) ⊎ ((term ≡ k.i.term) × (u ≡ start_drawn k.held.request (k.i.last + 1)) × (d ≡ commit_drawn k.held.request (k.i.last + 1)))
+pub drew_or : (w : State) (k : Drew w) (h : List Item) (s m term u : ℕ) (d : Option ℕ) → Draw s m term u d ∈ (h ++ new_draw w k ∷ []) → (Draw s m term u d ∈ h) ⊎ ((term ≡ k.i.term) × (u ≡ start_drawn k.held.request (k.i.last + 1)) × (d ≡ commit_drawn k.held.request (k.i.last + 1)))
 drew_or w k h s m term u d drew = elim (in_push (Draw s m term u d) (new_draw w k) h drew) [
   | inl old ↦ inl old
   | inr now ↦ inr (parts_of s m term u d (asker_of k.held.request) k.node k.i.term (start_drawn k.held.request (k.i.last + 1)) (commit_drawn k.held.request (k.i.last + 1)) (now ∙ draw_item_is k.node k.i.term k.held.request (k.i.last + 1)))

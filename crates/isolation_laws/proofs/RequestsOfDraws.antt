@@ -38,7 +38,7 @@ use Rattle.isolation_laws.proofs.NewDraws.{older_stamp, new_draw, drew_taken, dr
 write_is_draw : (s u k : ℕ) (v : List ℕ) (r n term t : ℕ) (c : Option ℕ) → Draw r n term t c ≡ Write s u k v → ⊥
 write_is_draw s u k v r n term t c same = cc
 
-drew_keys : (w : State) (k : Drew w) (h : List Item) (t : ℕ) → written_keys (h ++ drew_items w k) t ≡ written_keys h t
+pub drew_keys : (w : State) (k : Drew w) (h : List Item) (t : ℕ) → written_keys (h ++ drew_items w k) t ≡ written_keys h t
 drew_keys w k h t = written_keys-no_write h (new_draw w k) t (λ s u key v is. write_is_draw s u key v (asker_of k.held.request) k.node k.i.term (start_drawn k.held.request (k.i.last + 1)) (commit_drawn k.held.request (k.i.last + 1)) (sym (draw_item_is k.node k.i.term k.held.request (k.i.last + 1)) ∙ is))
 
 parts_same : (s n term t c r m other u : ℕ) (d : Option ℕ) → Draw s n term t (Some c) ≡ Draw r m other u d → (t ≡ u) × (Some c ≡ d)
@@ -48,7 +48,7 @@ parts_same s n term t c r m other u d same = (cc, cc)
 abbrev pub DrawsFor : (w : State) → Drew w → ℕ → Type 0
 DrawsFor w k t = (r : ℕ) × (keys : List ℕ) × (k.held.request ≡ Commit r t keys)
 
-draws_commit : (w : State) (k : Drew w) (request : Request) (t c : ℕ) → k.held.request ≡ request → t ≡ start_drawn request (k.i.last + 1) → Some c ≡ commit_drawn request (k.i.last + 1) → DrawsFor w k t
+pub draws_commit : (w : State) (k : Drew w) (request : Request) (t c : ℕ) → k.held.request ≡ request → t ≡ start_drawn request (k.i.last + 1) → Some c ≡ commit_drawn request (k.i.last + 1) → DrawsFor w k t
 draws_commit w k (BeginRequest r) t c is start commit = absurd (none-some c (sym commit))
 draws_commit w k (Commit r u keys) t c is start commit = (r, keys, is ∙ ap (λ q. Commit r q keys) (sym start))
 
@@ -64,7 +64,7 @@ drew_or_drawn w k h t (s, n, term, c, drew) = elim (in_push (Draw s n term t (So
 abbrev pub drawing : (w : State) → Drew w → ℕ → List ℕ → InFlight
 drawing w k t keys = record { session = k.session; node = k.node; term = k.i.term; start = t; keys = keys; stage = Taken k.i.last }
 
-drawing_pending : (w : State) (h : List Item) (k : Drew w) (r t : ℕ) (keys : List ℕ) → Holds w h → k.held.request ≡ Commit r t keys → Pending w.nodes (drawing w k t keys)
+pub drawing_pending : (w : State) (h : List Item) (k : Drew w) (r t : ℕ) (keys : List ℕ) → Holds w h → k.held.request ≡ Commit r t keys → Pending w.nodes (drawing w k t keys)
 drawing_pending w h k r t keys holds is = drew_taken w k r t keys holds.requests.requests is
 
 -- another commit in flight is of another transaction
