@@ -4,7 +4,7 @@ ghost use Rattle.oracle_parts.specs.Buckets as memory;
 ghost use Rattle.oracle_parts.specs.Instance as entry;
 ghost use Rattle.oracle_parts.specs.InstanceSteps as step;
 
-use crate::waiting;
+use crate::requests;
 use conflict_buckets::Buckets;
 use epoch_clock::Range;
 use history_book::Cause;
@@ -136,35 +136,35 @@ impl Instance {
     pub fn request_of(&self, session: SessionNo) -> Option<(Request, Place)>
         ensures { result ≡ entry.request_at self.now session }
     {
-        waiting::request_of(&self.find(session))
+        requests::request_of(&self.find(session))
     }
 
     /// Where the request of a session stands. None exactly where the session has none.
     pub fn place(&self, session: SessionNo) -> Option<Place>
         ensures { result ≡ entry.place_at self.now session }
     {
-        waiting::place_of(&self.find(session))
+        requests::place_of(&self.find(session))
     }
 
     /// The start of a session's request and, of a commit, the commit. None exactly where nothing was drawn for it.
     pub fn drawn(&self, session: SessionNo) -> Option<(Stamp, Option<Stamp>)>
         ensures { result ≡ entry.stamps_at self.now session }
     {
-        waiting::stamps_of(&self.find(session))
+        requests::stamps_of(&self.find(session))
     }
 
     /// Whether the session has a request that was refused as NoStamp before.
     pub fn told_no_stamp(&self, session: SessionNo) -> bool
         ensures { result ≡ entry.was_told_no_stamp self.now session }
     {
-        waiting::told_no_stamp(&self.find(session))
+        requests::told_no_stamp(&self.find(session))
     }
 
     /// Whether the session has a request that was refused as NotYet before.
     pub fn told_not_yet(&self, session: SessionNo) -> bool
         ensures { result ≡ entry.was_told_not_yet self.now session }
     {
-        waiting::told_not_yet(&self.find(session))
+        requests::told_not_yet(&self.find(session))
     }
 
     /// Takes a slot for the request. Refused as Full exactly where all slots are taken.
@@ -177,7 +177,10 @@ impl Instance {
         if in_flight == self.slots {
             return Err(Cause::Full { in_flight });
         }
-        self.put(waiting::session_of(&request), waiting::just_asked(request));
+        self.put(
+            requests::session_of(&request),
+            requests::just_asked(request),
+        );
         Ok(())
     }
 
@@ -387,7 +390,7 @@ impl Instance {
     {
         self.record(&held.request, stamp);
         self.advance(session, held, Progress::Drawn { stamp });
-        waiting::decided_by(&held.request, stamp)
+        requests::decided_by(&held.request, stamp)
     }
 
     /// The keys of a commit are recorded with its stamp.
@@ -404,7 +407,7 @@ impl Instance {
         ensures left { self.new ≡ (step.settle_if_drawn self.old session how held (entry.unsettled_by held.request held.progress)).left }
         ensures answer { result ≡ (step.settle_if_drawn self.old session how held (entry.unsettled_by held.request held.progress)).answer }
     {
-        match waiting::unsettled_commit(&held) {
+        match requests::unsettled_commit(&held) {
             Some(commit) => {
                 self.advance(session, held, Progress::Settled { commit, how });
                 Ok(())
@@ -417,7 +420,7 @@ impl Instance {
         ensures left { self.new ≡ (step.answer_begin self.old session held start (entry.least_unsettled self.old.requests start)).left }
         ensures answer { result ≡ (step.answer_begin self.old session held start (entry.least_unsettled self.old.requests start)).answer }
     {
-        match waiting::least_unsettled(&self.requests, start) {
+        match requests::least_unsettled(&self.requests, start) {
             None => {
                 self.end(session);
                 Ok(Reply::Begun {

@@ -2,7 +2,7 @@
 #![tactic(auto)]
 
 mod instance;
-mod waiting;
+mod requests;
 
 pub use instance::Instance;
 pub use oracle_parts::{Decided, Place, Reply, Request, Settled};

@@ -1,6 +1,6 @@
 // Each call once with ample memory, and the end of the stamps, which no script reaches.
 use super::*;
-use crate::waiting;
+use crate::requests;
 use history_book::Cause;
 use stamp_base::{KeyList, KeyNo, NodeNo, SessionNo, Setup, Stamp, Term};
 use std::alloc::Global;
@@ -41,7 +41,7 @@ fn commit() -> Request {
 
 /// Asks, accepts at reading 9, and decides.
 fn decided(instance: &mut Instance, request: Request) -> Result<Decided, Cause> {
-    let session = waiting::session_of(&request);
+    let session = requests::session_of(&request);
     if instance.place(session).is_some() {
         return Err(Cause::Busy);
     }

@@ -67,7 +67,7 @@ abbrev pub FitsItsSlots : InstanceEntry → Type 0
 FitsItsSlots i = in_flight i ≤ i.slots
 
 -- ---- stamps
--- the last stamp is above no other that the range allows
+-- the last stamp is at least the epoch, and at most the ceiling
 pub record IsInRange (i : InstanceEntry) : Type 0 where
   pub above : i.epoch ≤ i.last
   pub within : i.last ≤ i.ceiling

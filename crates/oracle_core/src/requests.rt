@@ -1,4 +1,4 @@
-// What a held request tells by how far it has come.
+// What is read off the requests that an instance holds.
 ghost use Rattle.std.specs.Prelude.{◌≡◌, ℕ, List};
 ghost use Rattle.oracle_parts.specs.Instance as entry;
 ghost use Rattle.oracle_parts.specs.InstanceSteps as step;
