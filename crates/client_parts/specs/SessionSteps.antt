@@ -1,5 +1,5 @@
 -- A client session: what each call needs, answers and leaves.
-use Rattle.std.specs.Prelude.{◌≡◌, ◌≢◌, ℕ, ◌==◌, nat_lt, Bool, true, false, ◌||◌, ◌⊎◌, IsTrue, IsSome, List, [], ◌∷◌, ◌++◌, Option, None, Some, if◌then◌else◌, length}
+use Rattle.std.specs.Prelude.{◌≡◌, ◌≢◌, ℕ, ◌==◌, nat_lt, Bool, true, false, ◌||◌, ◌⊎◌, IsTrue, IsSome, List, [], ◌∷◌, ◌++◌, Option, None, Some, Result, Ok, Err, if◌then◌else◌, length}
 use Rattle.std.specs.List.{list_any}
 use Rattle.std.specs.Option.{option_or}
 use Rattle.stamp_base.specs.declared.limits.TheConstants.{KEY_LIMIT}
@@ -18,6 +18,11 @@ pub record SessionEntry : Type 0 where
 
 abbrev pub session_new : SessionEntry
 session_new = record { state = Free; start = None; epoch = None; keys = []; commit = None }
+
+-- yes where nothing refuses, and otherwise the cause
+abbrev pub IsAnswer : {T : Type 0} → Option Cause → Result T Cause → Type 0
+IsAnswer refusal (Ok x) = refusal ≡ None
+IsAnswer refusal (Err cause) = refusal ≡ Some cause
 
 -- why no begin may be asked
 abbrev pub begin_refusal : State → Option Cause

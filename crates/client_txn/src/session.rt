@@ -1,4 +1,4 @@
-ghost use Rattle.std.specs.Prelude.{◌≡◌, MatchResult, None, Some};
+ghost use Rattle.std.specs.Prelude.{◌≡◌, MatchResult};
 ghost use Rattle.client_parts.specs.SessionSteps as step;
 
 use client_parts::State;
@@ -82,7 +82,7 @@ impl Session {
 
     /// Whether a begin may be asked: refused as gone, or busy.
     pub fn check_begin(&self) -> Result<(), Cause>
-        ensures { MatchResult result (λ _. step.begin_refusal self.now.state ≡ None) (λ cause. step.begin_refusal self.now.state ≡ Some cause) }
+        ensures { step.IsAnswer (step.begin_refusal self.now.state) result }
     {
         match self.state {
             State::Gone => Err(Cause::Gone),
@@ -94,7 +94,7 @@ impl Session {
     /// Whether the transaction may write, fetch, ask for its commit or abort, where `reading` tells whether a read is
     /// under way: refused as gone, without a transaction, or busy.
     pub fn check_work(&self, reading: bool) -> Result<(), Cause>
-        ensures { MatchResult result (λ _. step.work_refusal self.now.state reading ≡ None) (λ cause. step.work_refusal self.now.state reading ≡ Some cause) }
+        ensures { step.IsAnswer (step.work_refusal self.now.state reading) result }
     {
         match self.state {
             State::Gone => Err(Cause::Gone),
@@ -106,7 +106,7 @@ impl Session {
 
     /// Whether there is a step to make, where `reading` tells whether a read is under way: refused as gone, or idle.
     pub fn check_step(&self, reading: bool) -> Result<(), Cause>
-        ensures { MatchResult result (λ _. step.step_refusal self.now.state reading ≡ None) (λ cause. step.step_refusal self.now.state reading ≡ Some cause) }
+        ensures { step.IsAnswer (step.step_refusal self.now.state reading) result }
     {
         match self.state {
             State::Gone => Err(Cause::Gone),
@@ -118,7 +118,7 @@ impl Session {
 
     /// Whether the session may vanish: refused as gone.
     pub fn check_vanish(&self) -> Result<(), Cause>
-        ensures { MatchResult result (λ _. step.vanish_refusal self.now.state ≡ None) (λ cause. step.vanish_refusal self.now.state ≡ Some cause) }
+        ensures { step.IsAnswer (step.vanish_refusal self.now.state) result }
     {
         match self.state {
             State::Gone => Err(Cause::Gone),
@@ -129,7 +129,7 @@ impl Session {
     /// Whether the transaction may write the key, where no read is under way: refused as gone, without a transaction,
     /// busy, or with 64 other keys, in this order.
     pub fn check_write(&self, key: KeyNo) -> Result<(), Cause>
-        ensures { MatchResult result (λ _. step.write_refusal self.now key ≡ None) (λ cause. step.write_refusal self.now key ≡ Some cause) }
+        ensures { step.IsAnswer (step.write_refusal self.now key) result }
     {
         self.check_work(false)?;
         check_key(&self.keys, key)
@@ -152,7 +152,7 @@ impl Session {
     /// Takes the key into the write list, where `check_write` says yes. Refused as it says; the session is then as
     /// before.
     pub fn wrote(&mut self, key: KeyNo) -> Result<(), Cause>
-        ensures answer { MatchResult result (λ _. step.write_refusal self.old key ≡ None) (λ cause. step.write_refusal self.old key ≡ Some cause) }
+        ensures answer { step.IsAnswer (step.write_refusal self.old key) result }
         ensures left { MatchResult result (λ _. self.new ≡ step.session_wrote self.old key) (λ _. self.new ≡ self.old) }
     {
         self.check_work(false)?;
@@ -227,7 +227,7 @@ impl Session {
 
 /// Whether the list has the key, or room for it.
 fn check_key(keys: &KeyList, key: KeyNo) -> Result<(), Cause>
-    ensures { MatchResult result (λ _. step.key_refusal keys.now key ≡ None) (λ cause. step.key_refusal keys.now key ≡ Some cause) }
+    ensures { step.IsAnswer (step.key_refusal keys.now key) result }
 {
     let keys = keys.as_slice();
     if keys.contains(&key) || keys.len() < KEY_LIMIT {
@@ -238,7 +238,7 @@ fn check_key(keys: &KeyList, key: KeyNo) -> Result<(), Cause>
 }
 
 fn add_key(keys: &mut KeyList, key: KeyNo) -> Result<(), Cause>
-    ensures answer { MatchResult result (λ _. step.key_refusal keys.old key ≡ None) (λ cause. step.key_refusal keys.old key ≡ Some cause) }
+    ensures answer { step.IsAnswer (step.key_refusal keys.old key) result }
     ensures left { MatchResult result (λ _. keys.new ≡ step.key_added keys.old key) (λ _. keys.new ≡ keys.old) }
 {
     match keys.push(key) {

@@ -1,7 +1,7 @@
-ghost use Rattle.std.specs.Prelude.{◌≡◌, ◌<◌, ◌≤◌, ◌++◌, ◌∷◌, List, drop, length, slice_get, Some, IsTrue};
+ghost use Rattle.std.specs.Prelude.{◌≡◌, ◌<◌, ◌≤◌, drop, length};
 ghost use Rattle.client_parts.specs.Asks.{Fits};
 ghost use Rattle.client_parts.specs.Resolve.{settle_ask};
-ghost use Rattle.client_parts.specs.KeyRead.{is_passed, after_passed, read_over, found_cell, found_by, found_none};
+ghost use Rattle.client_parts.specs.KeyRead.{is_passed, after_passed, read_over, found_cell, found_by};
 
 use client_parts::{Answer, Outcome, Told};
 use invalidator::Settle;
