@@ -87,7 +87,7 @@ memory_wrote w h k holds =
     let item : Item = Write k.it.session k.start k.key k.value in
     memory_same w.setup w.nodes w.nodes h (h ++ wrote_items w k) (remembered_same w.nodes)
     (nothing_push h item (write_is_no_draw k.it.session k.start k.key k.value) (λ s t key value is drew.
-      holds.requests.opened.undrawn k.it.session k.start (epoch_or_none k.it.c.entry.epoch) (wrote_open w k) (subst (HasDrawn h) (sym (same_start k.it.session k.start k.key s t key k.value value is)) drew))) holds.memory
+    holds.requests.opened.undrawn k.it.session k.start (epoch_or_none k.it.c.entry.epoch) (wrote_open w k) (subst (HasDrawn h) (sym (same_start k.it.session k.start k.key s t key k.value value is)) drew))) holds.memory
 
 loud : (w : State) (h : List Item) (nodes : List (Option InstanceEntry)) (x : Item) (items : List Item) → SameMemory w.nodes nodes → ((s m term u : ℕ) (d : Option ℕ) → Draw s m term u d ≡ x → ⊥) → ((s t k : ℕ) (value : List ℕ) → x ≡ Write s t k value → ⊥) → AllQuiet items → Holds w h → MemoryFacts w.setup nodes (h ++ x ∷ items)
 loud w h nodes x items same other unwritten quiet holds = memory_same w.setup w.nodes nodes h (h ++ x ∷ items) same (nothing_more h x items other (λ s t k value is drew. unwritten s t k value is) quiet) holds.memory

@@ -55,7 +55,7 @@ own_buckets : (w : State) (h : List Item) (k : Drew w) → Holds w h → record_
 own_buckets w h k holds =
     let before : k.i.buckets ≡ contents w.setup.buckets w.setup.width (recorded h k.i.term) = holds.memory.recorded.hold k.node k.i k.at in
     let all : recorded (h ++ drew_items w k) k.i.term ≡ recorded h k.i.term ++ pairs_by k.held.request (k.i.last + 1) =
-        drew_recorded w h k k.i.term ∙ ap (λ ps. recorded h k.i.term ++ ps) (now_recorded w h k k.held.request holds refl) in
+    drew_recorded w h k k.i.term ∙ ap (λ ps. recorded h k.i.term ++ ps) (now_recorded w h k k.held.request holds refl) in
     ap (λ bs. record_pairs bs (pairs_by k.held.request (k.i.last + 1))) before
     ∙ (sym (record_pairs-append _ (recorded h k.i.term) (pairs_by k.held.request (k.i.last + 1)))
     ∙ ap (contents w.setup.buckets w.setup.width) (sym all))
@@ -144,12 +144,12 @@ drew_apart w h k holds = record {
       let b : Wrote h u key x = draw_writes_nothing w h k u key x also in
       elim (drew_or w k h r n term t (Some c) first) [
         | inl old ↦ elim (drew_or w k h s m other u (Some d) second) [
-            | inl older ↦ holds.memory.apart.apart r s n m term other t c u d key v x old older differ a b
-            | inr now ↦
-                let draws : DrawsFor w k u = draws_commit w k k.held.request u d refl now.1 now.2 in
-                let stamp : d ≡ k.i.last + 1 = commit_is k.held.request (k.i.last + 1) d now.2 in
-                subst (λ q. (c < u) ⊎ (q < t)) (sym stamp) (swapped (k.i.last + 1) t c u (apart_now w h k draws.0 u draws.1 r n term t c key x v holds draws.2 old b a))
-          ]
+          | inl older ↦ holds.memory.apart.apart r s n m term other t c u d key v x old older differ a b
+          | inr now ↦
+              let draws : DrawsFor w k u = draws_commit w k k.held.request u d refl now.1 now.2 in
+              let stamp : d ≡ k.i.last + 1 = commit_is k.held.request (k.i.last + 1) d now.2 in
+              subst (λ q. (c < u) ⊎ (q < t)) (sym stamp) (swapped (k.i.last + 1) t c u (apart_now w h k draws.0 u draws.1 r n term t c key x v holds draws.2 old b a))
+        ]
         | inr now ↦
             let draws : DrawsFor w k t = draws_commit w k k.held.request t c refl now.1 now.2 in
             let stamp : c ≡ k.i.last + 1 = commit_is k.held.request (k.i.last + 1) c now.2 in

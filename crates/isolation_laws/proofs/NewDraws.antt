@@ -71,7 +71,8 @@ commit_new : (w : State) (k : Drew w) (h : List Item) (request : Request) → k.
 commit_new w k h (BeginRequest r) is holds c drawn = absurd (none-some c drawn)
 commit_new w k h (Commit r t keys) is holds c drawn = (
   omega (arith, (drew_within w k r t keys holds.requests.requests holds.requests.accepted is).1, same_Some (k.i.last + 1) c drawn),
-  holds.requests.pending.so_far (record { session = k.session; node = k.node; term = k.i.term; start = t; keys = keys; stage = Taken k.i.last }) (drew_taken w k r t keys holds.requests.requests is))
+  holds.requests.pending.so_far (record { session = k.session; node = k.node; term = k.i.term; start = t; keys = keys; stage = Taken k.i.last }) (drew_taken w k r t keys holds.requests.requests is),
+)
 
 new_now : (w : State) (k : Drew w) (h : List Item) (request : Request) → k.held.request ≡ request → Holds w h → IsNewDraw h (Draw (asker_of request) k.node k.i.term (start_drawn request (k.i.last + 1)) (commit_drawn request (k.i.last + 1)))
 new_now w k h request is holds = (
@@ -83,7 +84,8 @@ new_now w k h request is holds = (
     | inl low ↦ omega (arith, low, stamp_is request (k.i.last + 1))
     | inr high ↦ absurd (omega (arith, high.1))
   ]),
-  commit_new w k h request is holds)
+  commit_new w k h request is holds,
+)
 
 -- the parts of equal draws
 parts_of : (s m term u : ℕ) (d : Option ℕ) (r n other v : ℕ) (e : Option ℕ) → Draw s m term u d ≡ Draw r n other v e → (term ≡ other) × (u ≡ v) × (d ≡ e)
@@ -148,39 +150,39 @@ drew_drawn w k h holds =
       ];
       earlier = λ s m term t n commit i drew at less. elim (drew_or w k h s m term t commit drew) [
         | inl old ↦ elim (drew_cases w k n i at) [
-            | inl here ↦ omega (arith, drawn.earlier s m term t k.node commit k.i old k.at (omega (arith, less, ap (λ x. x.term) here.1)), ap (λ x. x.epoch) here.1)
-            | inr there ↦ drawn.earlier s m term t n commit i old there.1 less
-          ]
+          | inl here ↦ omega (arith, drawn.earlier s m term t k.node commit k.i old k.at (omega (arith, less, ap (λ x. x.term) here.1)), ap (λ x. x.epoch) here.1)
+          | inr there ↦ drawn.earlier s m term t n commit i old there.1 less
+        ]
         | inr new ↦ elim (drew_cases w k n i at) [
-            | inl here ↦ absurd (omega (arith, less, new.0, ap (λ x. x.term) here.1))
-            | inr there ↦ stamp_up_to i.epoch (k.i.last + 1) t commit (start_drawn k.held.request (k.i.last + 1)) (commit_drawn k.held.request (k.i.last + 1)) new.1 new.2 is (omega (arith, room, ranges.apart k.node n k.i i k.at there.1 (omega (arith, less, new.0))))
-          ]
+          | inl here ↦ absurd (omega (arith, less, new.0, ap (λ x. x.term) here.1))
+          | inr there ↦ stamp_up_to i.epoch (k.i.last + 1) t commit (start_drawn k.held.request (k.i.last + 1)) (commit_drawn k.held.request (k.i.last + 1)) new.1 new.2 is (omega (arith, room, ranges.apart k.node n k.i i k.at there.1 (omega (arith, less, new.0))))
+        ]
       ];
       same = λ s m term t n commit i drew at same. elim (drew_or w k h s m term t commit drew) [
         | inl old ↦ elim (drew_cases w k n i at) [
-            | inl here ↦
-                let was = drawn.same s m term t k.node commit k.i old k.at (same ∙ ap (λ x. x.term) here.1) in
-                (omega (arith, was.0, ap (λ x. x.epoch) here.1), omega (arith, was.1, ap (λ x. x.last) here.1))
-            | inr there ↦ drawn.same s m term t n commit i old there.1 same
-          ]
+          | inl here ↦
+              let was = drawn.same s m term t k.node commit k.i old k.at (same ∙ ap (λ x. x.term) here.1) in
+              (omega (arith, was.0, ap (λ x. x.epoch) here.1), omega (arith, was.1, ap (λ x. x.last) here.1))
+          | inr there ↦ drawn.same s m term t n commit i old there.1 same
+        ]
         | inr new ↦ elim (drew_cases w k n i at) [
-            | inl here ↦ stamp_between i.epoch i.last (k.i.last + 1) t commit (start_drawn k.held.request (k.i.last + 1)) (commit_drawn k.held.request (k.i.last + 1)) new.1 new.2 is (omega (arith, ranges.above k.node k.i k.at, ap (λ x. x.epoch) here.1)) (omega (arith, ap (λ x. x.last) here.1))
-            | inr there ↦ absurd (ranges.differ n k.node i k.i there.0 there.1 k.at (sym same ∙ new.0))
-          ]
+          | inl here ↦ stamp_between i.epoch i.last (k.i.last + 1) t commit (start_drawn k.held.request (k.i.last + 1)) (commit_drawn k.held.request (k.i.last + 1)) new.1 new.2 is (omega (arith, ranges.above k.node k.i k.at, ap (λ x. x.epoch) here.1)) (omega (arith, ap (λ x. x.last) here.1))
+          | inr there ↦ absurd (ranges.differ n k.node i k.i there.0 there.1 k.at (sym same ∙ new.0))
+        ]
       ];
       later = λ s m term t n commit i drew at less. elim (drew_or w k h s m term t commit drew) [
         | inl old ↦ elim (drew_cases w k n i at) [
-            | inl here ↦
-                let was = drawn.later s m term t k.node commit k.i old k.at (omega (arith, less, ap (λ x. x.term) here.1)) in
-                (omega (arith, was.0, ap (λ x. x.ceiling) here.1), omega (arith, was.1, ap (λ x. x.ceiling) here.1))
-            | inr there ↦ drawn.later s m term t n commit i old there.1 less
-          ]
+          | inl here ↦
+              let was = drawn.later s m term t k.node commit k.i old k.at (omega (arith, less, ap (λ x. x.term) here.1)) in
+              (omega (arith, was.0, ap (λ x. x.ceiling) here.1), omega (arith, was.1, ap (λ x. x.ceiling) here.1))
+          | inr there ↦ drawn.later s m term t n commit i old there.1 less
+        ]
         | inr new ↦ elim (drew_cases w k n i at) [
-            | inl here ↦ absurd (omega (arith, less, new.0, ap (λ x. x.term) here.1))
-            | inr there ↦
-                let low : i.ceiling ≤ k.i.epoch = ranges.apart n k.node i k.i there.1 k.at (omega (arith, less, new.0)) in
-                (stamp_over i.ceiling (k.i.last + 1) t commit (start_drawn k.held.request (k.i.last + 1)) (commit_drawn k.held.request (k.i.last + 1)) new.1 new.2 is (omega (arith, low, ranges.above k.node k.i k.at)), omega (arith, low, above, new.1))
-          ]
+          | inl here ↦ absurd (omega (arith, less, new.0, ap (λ x. x.term) here.1))
+          | inr there ↦
+              let low : i.ceiling ≤ k.i.epoch = ranges.apart n k.node i k.i there.1 k.at (omega (arith, less, new.0)) in
+              (stamp_over i.ceiling (k.i.last + 1) t commit (start_drawn k.held.request (k.i.last + 1)) (commit_drawn k.held.request (k.i.last + 1)) new.1 new.2 is (omega (arith, low, ranges.above k.node k.i k.at)), omega (arith, low, above, new.1))
+        ]
       ];
     }
 

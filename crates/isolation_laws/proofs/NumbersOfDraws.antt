@@ -74,23 +74,23 @@ drew_ranges w k ranges = record {
   ];
   differ = λ n m i j other at there. elim (drew_cases w k n i at) [
     | inl here ↦ elim (drew_cases w k m j there) [
-        | inl also ↦ absurd (other (here.0 ∙ sym also.0))
-        | inr else ↦ λ same. ranges.differ k.node m k.i j (λ is. else.0 (sym is)) k.at else.1 (ap (λ x. x.term) (sym here.1) ∙ same)
-      ]
+      | inl also ↦ absurd (other (here.0 ∙ sym also.0))
+      | inr else ↦ λ same. ranges.differ k.node m k.i j (λ is. else.0 (sym is)) k.at else.1 (ap (λ x. x.term) (sym here.1) ∙ same)
+    ]
     | inr old ↦ elim (drew_cases w k m j there) [
-        | inl also ↦ λ same. ranges.differ n k.node i k.i old.0 old.1 k.at (same ∙ ap (λ x. x.term) also.1)
-        | inr too ↦ ranges.differ n m i j other old.1 too.1
-      ]
+      | inl also ↦ λ same. ranges.differ n k.node i k.i old.0 old.1 k.at (same ∙ ap (λ x. x.term) also.1)
+      | inr too ↦ ranges.differ n m i j other old.1 too.1
+    ]
   ];
   apart = λ n m i j at there less. elim (drew_cases w k n i at) [
     | inl here ↦ elim (drew_cases w k m j there) [
-        | inl also ↦ absurd (omega (arith, less, ap (λ x. x.term) here.1, ap (λ x. x.term) also.1))
-        | inr else ↦ omega (arith, ranges.apart k.node m k.i j k.at else.1 (omega (arith, less, ap (λ x. x.term) here.1)), ap (λ x. x.ceiling) here.1)
-      ]
+      | inl also ↦ absurd (omega (arith, less, ap (λ x. x.term) here.1, ap (λ x. x.term) also.1))
+      | inr else ↦ omega (arith, ranges.apart k.node m k.i j k.at else.1 (omega (arith, less, ap (λ x. x.term) here.1)), ap (λ x. x.ceiling) here.1)
+    ]
     | inr old ↦ elim (drew_cases w k m j there) [
-        | inl also ↦ omega (arith, ranges.apart n k.node i k.i old.1 k.at (omega (arith, less, ap (λ x. x.term) also.1)), ap (λ x. x.epoch) also.1)
-        | inr too ↦ ranges.apart n m i j old.1 too.1 less
-      ]
+      | inl also ↦ omega (arith, ranges.apart n k.node i k.i old.1 k.at (omega (arith, less, ap (λ x. x.term) also.1)), ap (λ x. x.epoch) also.1)
+      | inr too ↦ ranges.apart n m i j old.1 too.1 less
+    ]
   ];
 }
 

@@ -138,23 +138,23 @@ granted_ranges w node reading ranges = record {
   ];
   differ = λ n m i j other at there. elim (with_new_cases w node reading n i ranges at) [
     | inl here ↦ elim (with_new_cases w node reading m j ranges there) [
-        | inl also ↦ absurd (other (here.0 ∙ sym also.0))
-        | inr old ↦ λ same. omega (arith, old.counted.1, same, ap (λ x. x.term) here.1)
-      ]
+      | inl also ↦ absurd (other (here.0 ∙ sym also.0))
+      | inr old ↦ λ same. omega (arith, old.counted.1, same, ap (λ x. x.term) here.1)
+    ]
     | inr old ↦ elim (with_new_cases w node reading m j ranges there) [
-        | inl also ↦ λ same. omega (arith, old.counted.1, same, ap (λ x. x.term) also.1)
-        | inr too ↦ ranges.differ n m i j other old.at too.at
-      ]
+      | inl also ↦ λ same. omega (arith, old.counted.1, same, ap (λ x. x.term) also.1)
+      | inr too ↦ ranges.differ n m i j other old.at too.at
+    ]
   ];
   apart = λ n m i j at there less. elim (with_new_cases w node reading n i ranges at) [
     | inl here ↦ elim (with_new_cases w node reading m j ranges there) [
-        | inl also ↦ absurd (omega (arith, less, ap (λ x. x.term) here.1, ap (λ x. x.term) also.1))
-        | inr old ↦ absurd (omega (arith, less, old.counted.1, ap (λ x. x.term) here.1))
-      ]
+      | inl also ↦ absurd (omega (arith, less, ap (λ x. x.term) here.1, ap (λ x. x.term) also.1))
+      | inr old ↦ absurd (omega (arith, less, old.counted.1, ap (λ x. x.term) here.1))
+    ]
     | inr old ↦ elim (with_new_cases w node reading m j ranges there) [
-        | inl also ↦ omega (arith, old.covered, ap (λ x. x.epoch) also.1)
-        | inr too ↦ ranges.apart n m i j old.at too.at less
-      ]
+      | inl also ↦ omega (arith, old.covered, ap (λ x. x.epoch) also.1)
+      | inr too ↦ ranges.apart n m i j old.at too.at less
+    ]
   ];
 }
 

@@ -40,12 +40,12 @@ fewer_open_set clients s old new at (inl closed) r t e o = elim (client_set clie
 ]
 fewer_open_set clients s old new at (inr same) r t e o = elim (client_set clients s r new o.client o.at) [
   | inl here ↦ record {
-      client = old;
-      at = subst (λ q. ClientAt clients q old) (sym here.0) at;
-      state_is = sym same.0 ∙ (ap (λ c. c.entry.state) (sym here.1) ∙ o.state_is);
-      start_is = sym same.1 ∙ (ap (λ c. c.entry.start) (sym here.1) ∙ o.start_is);
-      epoch_is = ap epoch_or_none (sym same.2 ∙ ap (λ c. c.entry.epoch) (sym here.1)) ∙ o.epoch_is;
-    }
+    client = old;
+    at = subst (λ q. ClientAt clients q old) (sym here.0) at;
+    state_is = sym same.0 ∙ (ap (λ c. c.entry.state) (sym here.1) ∙ o.state_is);
+    start_is = sym same.1 ∙ (ap (λ c. c.entry.start) (sym here.1) ∙ o.start_is);
+    epoch_is = ap epoch_or_none (sym same.2 ∙ ap (λ c. c.entry.epoch) (sym here.1)) ∙ o.epoch_is;
+  }
   | inr there ↦ record { client = o.client; at = there.1; state_is = o.state_is; start_is = o.start_is; epoch_is = o.epoch_is }
 ]
 
@@ -204,11 +204,11 @@ fewer_open_completed w k = fewer_open_set w.clients k.session k.c k.left k.clien
 pub open_answered_begin : (w : State) (k : AnsweredBegin w) (s t e : ℕ) → OpenAt (answered_begin_state w k).clients s t e → OpenAt w.clients s t e ⊎ ((s ≡ k.session) × (t ≡ k.start) × (e ≡ k.i.epoch))
 open_answered_begin w k s t e o = elim (client_set w.clients k.session s (unless_gone k.c (client_begun k.c k.start k.i.epoch)) o.client o.at) [
   | inl here ↦ elim (gone_cases k.c (client_begun k.c k.start k.i.epoch)) [
-      | inl stays ↦ absurd (not_gone (sym stays.1 ∙ (ap (λ c. c.entry.state) (sym stays.0) ∙ (ap (λ c. c.entry.state) (sym here.1) ∙ o.state_is))))
-      | inr moves ↦
-          let is : client_begun k.c k.start k.i.epoch ≡ o.client = sym moves ∙ sym here.1 in
-          inr (here.0, same_Some t k.start (sym o.start_is ∙ ap (λ c. c.entry.start) (sym is)), sym o.epoch_is ∙ ap (λ c. epoch_or_none c.entry.epoch) (sym is))
-    ]
+    | inl stays ↦ absurd (not_gone (sym stays.1 ∙ (ap (λ c. c.entry.state) (sym stays.0) ∙ (ap (λ c. c.entry.state) (sym here.1) ∙ o.state_is))))
+    | inr moves ↦
+        let is : client_begun k.c k.start k.i.epoch ≡ o.client = sym moves ∙ sym here.1 in
+        inr (here.0, same_Some t k.start (sym o.start_is ∙ ap (λ c. c.entry.start) (sym is)), sym o.epoch_is ∙ ap (λ c. epoch_or_none c.entry.epoch) (sym is))
+  ]
   | inr there ↦ inl (record { client = o.client; at = there.1; state_is = o.state_is; start_is = o.start_is; epoch_is = o.epoch_is })
 ]
 

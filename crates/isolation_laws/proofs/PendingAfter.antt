@@ -214,18 +214,18 @@ pub record IsTaken (w : State) (k : Accepted w) (q : InFlight) : Type 0 where
 taken_here : (w : State) (k : Accepted w) (q : InFlight) → q.node ≡ k.node → PendingIn (moved k.i k.session k.held progress.Accepted) q → Pending w.nodes q ⊎ IsTaken w k q
 taken_here w k q node p = elim (heldby_changed k.i k.session q.session (record k.held { progress = progress.Accepted }) (Commit q.session q.start q.keys) p.progress_of p.held) [
   | inl here ↦ inr (record {
-      node_is = node;
-      session_is = here.0;
-      term_is = sym p.term_is;
-      request_is = here.1;
-      taken = stage_now (Taken k.i.last) q.stage (ap (stage_of k.i.last) here.2 ∙ p.stage_is);
-      waited = pending_at w.nodes (record q { stage = Waits }) k.node k.i node k.at (record {
-        progress_of = progress.Asked;
-        held = record { held = k.held; has = ap (λ s. held_of k.i s) here.0 ∙ k.has; asks = here.1; stands = k.asked };
-        term_is = p.term_is;
-        stage_is = refl;
-      });
-    })
+    node_is = node;
+    session_is = here.0;
+    term_is = sym p.term_is;
+    request_is = here.1;
+    taken = stage_now (Taken k.i.last) q.stage (ap (stage_of k.i.last) here.2 ∙ p.stage_is);
+    waited = pending_at w.nodes (record q { stage = Waits }) k.node k.i node k.at (record {
+      progress_of = progress.Asked;
+      held = record { held = k.held; has = ap (λ s. held_of k.i s) here.0 ∙ k.has; asks = here.1; stands = k.asked };
+      term_is = p.term_is;
+      stage_is = refl;
+    });
+  })
   | inr there ↦ inl (pending_at w.nodes q k.node k.i node k.at (record { progress_of = p.progress_of; held = there.1; term_is = p.term_is; stage_is = p.stage_is }))
 ]
 
@@ -266,28 +266,28 @@ drawn_other : (w : State) (k : Drew w) (q : InFlight) → q.node ≡ k.node → 
 drawn_other w k q node other p held = elim (older_stage k.i.last p.progress_of q.stage p.stage_is) [
   | inl same ↦ inl (pending_at w.nodes q k.node k.i node k.at (record { progress_of = p.progress_of; held = held; term_is = p.term_is; stage_is = same }), λ is. other is.1)
   | inr older ↦ inr (inl (record {
-      node_is = node;
-      other = other;
-      taken = older.0;
-      was_taken = pending_at w.nodes (record q { stage = Taken k.i.last }) k.node k.i node k.at (record { progress_of = p.progress_of; held = held; term_is = p.term_is; stage_is = older.1 });
-    }))
+    node_is = node;
+    other = other;
+    taken = older.0;
+    was_taken = pending_at w.nodes (record q { stage = Taken k.i.last }) k.node k.i node k.at (record { progress_of = p.progress_of; held = held; term_is = p.term_is; stage_is = older.1 });
+  }))
 ]
 
 drawn_here : (w : State) (k : Drew w) (q : InFlight) → q.node ≡ k.node → PendingIn (drew_instance w k) q → StaysElsewhere w.nodes k.node k.session q ⊎ (IsOlder w k q ⊎ IsDrawnNow w k q)
 drawn_here w k q node p = elim (heldby_changed k.i k.session q.session (record k.held { progress = progress.Drawn (k.i.last + 1) }) (Commit q.session q.start q.keys) p.progress_of (record { held = p.held.held; has = p.held.has; asks = p.held.asks; stands = p.held.stands })) [
   | inl here ↦ inr (inr (record {
-      node_is = node;
-      session_is = here.0;
-      term_is = sym p.term_is;
-      request_is = here.1;
-      has = stage_now (Has (k.i.last + 1)) q.stage (ap (stage_of (k.i.last + 1)) here.2 ∙ p.stage_is);
-      was_taken = pending_at w.nodes (record q { stage = Taken k.i.last }) k.node k.i node k.at (record {
-        progress_of = progress.Accepted;
-        held = record { held = k.held; has = ap (λ s. held_of k.i s) here.0 ∙ k.has; asks = here.1; stands = k.accepted };
-        term_is = p.term_is;
-        stage_is = refl;
-      });
-    }))
+    node_is = node;
+    session_is = here.0;
+    term_is = sym p.term_is;
+    request_is = here.1;
+    has = stage_now (Has (k.i.last + 1)) q.stage (ap (stage_of (k.i.last + 1)) here.2 ∙ p.stage_is);
+    was_taken = pending_at w.nodes (record q { stage = Taken k.i.last }) k.node k.i node k.at (record {
+      progress_of = progress.Accepted;
+      held = record { held = k.held; has = ap (λ s. held_of k.i s) here.0 ∙ k.has; asks = here.1; stands = k.accepted };
+      term_is = p.term_is;
+      stage_is = refl;
+    });
+  }))
   | inr there ↦ drawn_other w k q node there.0 p there.1
 ]
 

@@ -57,9 +57,9 @@ from_keeps keys t (x ∷ xs) key has = from_keeps (keys_with keys t x) t xs key 
 with_written : (keys : List ℕ) (t key : ℕ) (x : Item) (value : List ℕ) → written_by t key x ≡ Some value → Contains (keys_with keys t x) key
 with_written keys t key (Write s u k v) value is = elim (cases_Bool (u == t)) [
   | inl own ↦ elim (cases_Bool (k == key)) [
-      | inl same ↦ rw own (subst (λ y. Contains (key_added keys k) y) (eqb-true k key same) (added_there keys k))
-      | inr other ↦ absurd (none-some value (rw (own, other) at is))
-    ]
+    | inl same ↦ rw own (subst (λ y. Contains (key_added keys k) y) (eqb-true k key same) (added_there keys k))
+    | inr other ↦ absurd (none-some value (rw (own, other) at is))
+  ]
   | inr other ↦ absurd (none-some value (rw other at is))
 ]
 with_written keys t key _ value is = absurd (none-some value is)
@@ -150,8 +150,8 @@ rises_by h term P (x ∷ xs) each orders =
     rise_append (recorded_by h term x) (recorded_in h term xs) (by_rises h term x)
     (rises_by h term (λ before y. P (x ∷ before) y) xs rest (λ before y z now m. orders (x ∷ before) y z now (inr m)))
     (by_is h term x (λ p. All (NotAfter p) (recorded_in h term xs)) (λ s n t c key is. in_is h term xs (NotAfter (pair_of c key)) (λ y m r o u d other drawn.
-      let at = place_of y xs m in
-      orders (x ∷ take at.0 xs) y x (rest.at at.0 y at.1) (inl refl) s n t c r o u d is drawn)))
+    let at = place_of y xs m in
+    orders (x ∷ take at.0 xs) y x (rest.at at.0 y at.1) (inl refl) s n t c r o u d is drawn)))
 
 new_in_order : (term : ℕ) (before : List Item) (y x : Item) → IsNewDraw before y → x ∈ before → InOrder term x y
 new_in_order term before y x new m s n t c r o u d is drawn =

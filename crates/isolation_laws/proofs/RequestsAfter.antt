@@ -164,9 +164,9 @@ pub new_held : (nodes : List (Option InstanceEntry)) (s n : ℕ) (i : InstanceEn
 new_held nodes s n i now at = record {
   each = λ m r j asked p there held. elim (instance_changed nodes n m (with_request i s (Some now)) j there) [
     | inl here ↦ elim (held_set i s r (Some now) held.held (ap (λ (y : InstanceEntry). held_of y r) (sym here.1) ∙ held.has)) [
-        | inl mine ↦ inl (mine.0, here.0, sym (ap (λ x. x.request) (same_Some now held.held mine.1) ∙ held.asks))
-        | inr old ↦ inr (i, subst (λ q. InstanceAt nodes q i) (sym here.0) at, record { held = held.held; has = old.1; asks = held.asks; stands = held.stands })
-      ]
+      | inl mine ↦ inl (mine.0, here.0, sym (ap (λ x. x.request) (same_Some now held.held mine.1) ∙ held.asks))
+      | inr old ↦ inr (i, subst (λ q. InstanceAt nodes q i) (sym here.0) at, record { held = held.held; has = old.1; asks = held.asks; stands = held.stands })
+    ]
     | inr other ↦ inr (j, other.1, held)
   ];
 }
@@ -180,18 +180,18 @@ requests_new nodes new clients n s request old c state holds own at is none wait
   waits = λ m r j asked p there held. elim (holds.each m r j asked p there held) [
     | inl now ↦ (c, subst (λ q. ClientAt (slice_set clients s c) q c) (sym now.0) (set_found clients s c old at), subst (λ (x : Request). WaitsFor x c) (sym now.2) waits)
     | inr was ↦ elim (cases_eq r s) [
-        | inl mine ↦ absurd (none_held nodes clients s old state requests at is none m was.0 asked p was.1 (subst (λ q. HeldBy was.0 q asked p) mine was.2))
-        | inr other ↦ let before = requests.waits m r was.0 asked p was.1 was.2 in (before.0, set_other clients s r c other ∙ before.1, before.2)
-      ]
+      | inl mine ↦ absurd (none_held nodes clients s old state requests at is none m was.0 asked p was.1 (subst (λ q. HeldBy was.0 q asked p) mine was.2))
+      | inr other ↦ let before = requests.waits m r was.0 asked p was.1 was.2 in (before.0, set_other clients s r c other ∙ before.1, before.2)
+    ]
   ];
   one = λ m o r j g asked other p q there too held also. elim (holds.each m r j asked p there held) [
     | inl now ↦ elim (holds.each o r g other q too also) [
-        | inl same ↦ now.1 ∙ sym same.1
-        | inr was ↦ absurd (none_held nodes clients s old state requests at is none o was.0 other q was.1 (subst (λ y. HeldBy was.0 y other q) now.0 was.2))
-      ]
+      | inl same ↦ now.1 ∙ sym same.1
+      | inr was ↦ absurd (none_held nodes clients s old state requests at is none o was.0 other q was.1 (subst (λ y. HeldBy was.0 y other q) now.0 was.2))
+    ]
     | inr was ↦ elim (holds.each o r g other q too also) [
-        | inl now ↦ absurd (none_held nodes clients s old state requests at is none m was.0 asked p was.1 (subst (λ y. HeldBy was.0 y asked p) now.0 was.2))
-        | inr before ↦ requests.one m o r was.0 before.0 asked other p q was.1 before.1 was.2 before.2
-      ]
+      | inl now ↦ absurd (none_held nodes clients s old state requests at is none m was.0 asked p was.1 (subst (λ y. HeldBy was.0 y asked p) now.0 was.2))
+      | inr before ↦ requests.one m o r was.0 before.0 asked other p q was.1 before.1 was.2 before.2
+    ]
   ];
 }

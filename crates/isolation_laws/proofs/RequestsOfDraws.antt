@@ -93,9 +93,9 @@ older_one w h k q holds is =
 draws_its : (w : State) (h : List Item) (k : Drew w) (q : InFlight) (request : Request) → k.held.request ≡ request → request ≡ Commit q.session q.start q.keys → q.node ≡ k.node → q.term ≡ k.i.term → DrewCommit (h ++ drew_items w k) q.session q.node q.term q.start (k.i.last + 1)
 draws_its w h k q request is asks node term =
     let item : Draw q.session q.node q.term q.start (Some (k.i.last + 1)) ≡ new_draw w k =
-        ap (λ n. Draw q.session n q.term q.start (Some (k.i.last + 1))) node
-        ∙ (ap (λ x. Draw q.session k.node x q.start (Some (k.i.last + 1))) term
-        ∙ sym (ap (λ r. draw_item k.node k.i.term r (k.i.last + 1)) (is ∙ asks))) in
+    ap (λ n. Draw q.session n q.term q.start (Some (k.i.last + 1))) node
+    ∙ (ap (λ x. Draw q.session k.node x q.start (Some (k.i.last + 1))) term
+    ∙ sym (ap (λ r. draw_item k.node k.i.term r (k.i.last + 1)) (is ∙ asks))) in
     subst (λ x. x ∈ (h ++ drew_items w k)) (sym item) (in_last (new_draw w k) h)
 
 drawn_one : (w : State) (h : List Item) (k : Drew w) (q : InFlight) → Holds w h → IsDrawnQ w k q → PendingOne (h ++ drew_items w k) q

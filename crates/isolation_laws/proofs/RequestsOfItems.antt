@@ -111,11 +111,11 @@ other_begin w h k n s t r i holds at held begun = elim (instance_changed w.nodes
         | inr now ↦ left.0 (draw_session s k.node k.i.term t k.session k.node k.i.term k.start (drawn_once h s k.session k.node k.node k.i.term k.i.term t k.start None None holds.numbers.new (holds.requests.starting.drawn k.node s t k.i k.at left.1) (drew_start w h k holds) now.1)).0
       ]
   | inr there ↦ elim (begun_or h k.session k.start r t begun) [
-      | inl old ↦ holds.requests.starting.unbegun n s t r i there.1 held old
-      | inr now ↦
-          let drew : DrewStart h s n i.term t = holds.requests.starting.drawn n s t i there.1 held in
-          there.0 (draw_session s n i.term t k.session k.node k.i.term k.start (drawn_once h s k.session n k.node i.term k.i.term t k.start None None holds.numbers.new drew (drew_start w h k holds) now.1)).1
-    ]
+    | inl old ↦ holds.requests.starting.unbegun n s t r i there.1 held old
+    | inr now ↦
+        let drew : DrewStart h s n i.term t = holds.requests.starting.drawn n s t i there.1 held in
+        there.0 (draw_session s n i.term t k.session k.node k.i.term k.start (drawn_once h s k.session n k.node i.term k.i.term t k.start None None holds.numbers.new drew (drew_start w h k holds) now.1)).1
+  ]
 ]
 
 pub requests_answered_begin : (w : State) (h : List Item) (k : AnsweredBegin w) → Holds w h → RequestFacts (answered_begin_state w k).nodes (answered_begin_state w k).clients (h ++ answered_begin_items w k)
@@ -200,9 +200,9 @@ wrote_keys w h k holds =
             ap (λ x. x.entry.keys) here.1 ∙ (ap (λ ks. key_added ks k.key) (holds.requests.keys.written k.it.session k.start k.it.c k.it.client_at (inl k.it.is_open) k.start_is)
             ∙ (sym (written_keys-own h k.it.session k.start k.key k.value) ∙ ap (written_keys g) (sym same)))
         | inr there ↦ elim (cases_eq k.start t) [
-            | inl mine ↦ absurd (there.0 (begun_once h s k.it.session t holds.isolated.stamped (has_begun_so w h s t c holds there.1 is start) (subst (Begun h k.it.session) mine (wrote_begun w h k holds))))
-            | inr other ↦ holds.requests.keys.written s t c there.1 is start ∙ sym (written_keys-other h k.it.session k.start t k.key k.value other)
-          ]
+          | inl mine ↦ absurd (there.0 (begun_once h s k.it.session t holds.isolated.stamped (has_begun_so w h s t c holds there.1 is start) (subst (Begun h k.it.session) mine (wrote_begun w h k holds))))
+          | inr other ↦ holds.requests.keys.written s t c there.1 is start ∙ sym (written_keys-other h k.it.session k.start t k.key k.value other)
+        ]
       ];
       some = λ s c at asked. elim (client_set w.clients k.it.session s (client_wrote k.it.c k.key) c at) [
         | inl here ↦ absurd (open_not_asked_so k.it.c.entry.state k.it.is_open (subst (λ (x : Client). HasAsked x.entry.state) here.1 asked))

@@ -114,9 +114,9 @@ unless_becomes : (h : List Item) (s : ℕ) (old new : Client) → KeysClient h o
 unless_becomes h s old new keys becomes = elim (gone_cases old new) [
   | inl stays ↦ becomes_same h s old (unless_gone old new) stays.0 keys
   | inr moves ↦ elim (is_gone old.entry.state) [
-      | inl gone ↦ becomes_same h s old (unless_gone old new) (stays_gone old new gone) keys
-      | inr here ↦ subst (λ (x : Client). Becomes h s old x) (sym moves) (becomes here)
-    ]
+    | inl gone ↦ becomes_same h s old (unless_gone old new) (stays_gone old new gone) keys
+    | inr here ↦ subst (λ (x : Client). Becomes h s old x) (sym moves) (becomes here)
+  ]
 ]
 
 loss_becomes : (h : List Item) (s : ℕ) (request : Request) (c : Client) → KeysClient h c → WaitsFor request c → Becomes h s c (after_loss request c)
@@ -151,14 +151,17 @@ answer_becomes h s r t commit ks how.Faulted c keys waits = unless_becomes h s c
 crash_becomes : (w : State) (h : List Item) (k : Crashed w) (s : ℕ) (c : Client) → Holds w h → ClientAt (crashed_state w k).clients s c → (old : Client) × ClientAt w.clients s old × Becomes h s old c
 crash_becomes w h k s c holds at =
     let was = crashed_at k.i.requests w.clients s c at in
-    let keys : KeysClient h was.0 = keys_client w.clients h s was.0 holds.requests.keys was.1 in
-    (was.0, was.1, elim was.2 [
-      | inl same ↦ becomes_same h s was.0 c same keys
-      | inr lost ↦
-          let waiting = holds.requests.requests.waits k.node s k.i lost.0.request lost.0.progress k.at (record { held = lost.0; has = lost.1; asks = refl; stands = refl }) in
-          let mine : waiting.0 ≡ was.0 = one_client w.clients s waiting.0 was.0 waiting.1 was.1 in
-          subst (λ (x : Client). Becomes h s was.0 x) (sym lost.2) (loss_becomes h s lost.0.request was.0 keys (subst (λ (x : Client). WaitsFor lost.0.request x) mine waiting.2))
-    ])
+    let keys : KeysClient h was.0 = keys_client w.clients h s was.0 holds.requests.keys was.1 in (
+      was.0,
+      was.1,
+      elim was.2 [
+        | inl same ↦ becomes_same h s was.0 c same keys
+        | inr lost ↦
+            let waiting = holds.requests.requests.waits k.node s k.i lost.0.request lost.0.progress k.at (record { held = lost.0; has = lost.1; asks = refl; stands = refl }) in
+            let mine : waiting.0 ≡ was.0 = one_client w.clients s waiting.0 was.0 waiting.1 was.1 in
+            subst (λ (x : Client). Becomes h s was.0 x) (sym lost.2) (loss_becomes h s lost.0.request was.0 keys (subst (λ (x : Client). WaitsFor lost.0.request x) mine waiting.2))
+      ],
+    )
 
 crash_begun : (w : State) (h : List Item) (k : Crashed w) → Holds w h → HaveBegun (crashed_state w k).clients h
 crash_begun w h k holds = record {

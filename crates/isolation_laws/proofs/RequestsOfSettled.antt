@@ -156,9 +156,9 @@ placed_settled w h k holds =
     are_settled (placed_state w k).nodes g (λ n s t c by j at. elim (settled_now w k.it k.by n s t c by j at) [
       | inl now ↦ settled_here w h g k.it k.by n s t c by j.term all.on holds (is_placed_so g k.it.start k.it.commit k.by k.by_is all.here) now
       | inr was ↦ subst (λ term. SettledOne g n s term t c by) (sym was.2) (settled_on h g n s was.0.term t c by all.on (λ d is placed. elim (all.placed t d placed) [
-          | inl old ↦ old
-          | inr new ↦ absurd (settled_other w h k.it n s c by was.0 holds (subst (λ u. SettledAt w.nodes n s u c by was.0) new.0 was.1))
-        ]) (settled_one w.nodes h n s t c by was.0 holds.requests.settled was.1))
+        | inl old ↦ old
+        | inr new ↦ absurd (settled_other w h k.it n s c by was.0 holds (subst (λ u. SettledAt w.nodes n s u c by was.0) new.0 was.1))
+      ]) (settled_one w.nodes h n s t c by was.0 holds.requests.settled was.1))
     ])
 
 placed_pending : (w : State) (h : List Item) (k : PlacedOne w) → Holds w h → ArePending (placed_state w k).nodes (h ++ placed_items w k)
@@ -166,14 +166,14 @@ placed_pending w h k holds =
     let g : List Item = h ++ placed_items w k in
     let all : Places h g k.it.start k.it.commit = places h k.items k.it.start k.it.commit k.quiet in
     are_pending (placed_state w k).nodes g (λ q p.
-      let stays : StaysElsewhere w.nodes k.it.node k.it.session q = pending_placed w k q p in
-      pending_on h g q all.on (record {
-        alone = record {
-          undrawn = λ drew. places_drawn h g k.it.start k.it.commit q.start all drew;
-          unplaced = λ c placed. elim (all.placed q.start c placed) [ inl old ↦ old | inr new ↦ absurd (other_than w h k.it q holds stays new.0) ];
-        };
-        keys = all.keys q.start;
-      }) (pending_one w.nodes h q holds.requests.pending stays.0))
+    let stays : StaysElsewhere w.nodes k.it.node k.it.session q = pending_placed w k q p in
+    pending_on h g q all.on (record {
+      alone = record {
+        undrawn = λ drew. places_drawn h g k.it.start k.it.commit q.start all drew;
+        unplaced = λ c placed. elim (all.placed q.start c placed) [ inl old ↦ old | inr new ↦ absurd (other_than w h k.it q holds stays new.0) ];
+      };
+      keys = all.keys q.start;
+    }) (pending_one w.nodes h q holds.requests.pending stays.0))
 
 pub requests_placed : (w : State) (h : List Item) (k : PlacedOne w) → Holds w h → RequestFacts (placed_state w k).nodes w.clients (h ++ placed_items w k)
 requests_placed w h k holds =

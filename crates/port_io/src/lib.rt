@@ -12,8 +12,8 @@ pub use memory::{MemSink, MemSource};
 pub use planned::PlannedWeather;
 pub use sink::{Sink, SinkStop, SinkWhy, write_all_of};
 pub use source::{ReadStop, Source, read_up_to};
-pub use standard::{StdSink, StdSource};
 pub use stamp_base::Store;
+pub use standard::{StdSink, StdSource};
 pub use weather::{CalmWeather, Fate, OneFate, Weather};
 
 /// A read or a write that the outside did not carry out.

@@ -87,7 +87,11 @@ pub fn counted(faults: u64, fate: Fate) -> u64
     ensures count { Counts fate faults result }
     ensures no_fall { faults ≤ result }
 {
-    if fate.works() { faults } else { faults.saturating_add(1) }
+    if fate.works() {
+        faults
+    } else {
+        faults.saturating_add(1)
+    }
 }
 
 /// The weather in which every store call works.

@@ -85,9 +85,10 @@ looked-fetched (r ∷ rs) k t upto cell found within = elim (is_row-cases k t r)
 
 -- exactly what is looked up, up to the version, is fetched
 pub Contains-fetched : (rs : List Row) (k upto : ℕ) (cell : Cell) → AreOrdered rs → (Contains (fetched rs k upto) cell ↔ ((looked rs k cell.version ≡ Some cell) × (cell.version ≤ upto)))
-Contains-fetched rs k upto cell ordered =
-    (λ there. (fetched-looked rs k upto cell ordered there, All-contains (λ (c : Cell). c.version ≤ upto) (fetched rs k upto) cell (fetched-upto rs k upto) there),
-    λ h. looked-fetched rs k cell.version upto cell h.0 h.1)
+Contains-fetched rs k upto cell ordered = (
+  λ there. (fetched-looked rs k upto cell ordered there, All-contains (λ (c : Cell). c.version ≤ upto) (fetched rs k upto) cell (fetched-upto rs k upto) there),
+  λ h. looked-fetched rs k cell.version upto cell h.0 h.1,
+)
 
 -- the cells of rows that stand behind come first
 pub fetched-append : (xs ys : List Row) (k upto : ℕ) → fetched (xs ++ ys) k upto ≡ fetched ys k upto ++ fetched xs k upto

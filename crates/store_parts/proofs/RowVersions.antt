@@ -26,9 +26,10 @@ any_key (r ∷ rs) k t = grind (arith, nat_tests, any_key rs k t)
 
 -- the keys of the version are those that are looked up
 pub Contains-keys_of_version : (rs : List Row) (k t : ℕ) → (Contains (keys_of_version rs t) k ↔ IsSome (looked rs k t))
-Contains-keys_of_version rs k t =
-    (λ there. sym (any_key rs k t) ∙ list_any-from_Contains nat_eq_equiv k (keys_of_version rs t) there,
-    λ found. Contains-from_any {eq = nat_eq} eqb-true k (keys_of_version rs t) (any_key rs k t ∙ found))
+Contains-keys_of_version rs k t = (
+  λ there. sym (any_key rs k t) ∙ list_any-from_Contains nat_eq_equiv k (keys_of_version rs t) there,
+  λ found. Contains-from_any {eq = nat_eq} eqb-true k (keys_of_version rs t) (any_key rs k t ∙ found),
+)
 
 -- the later keys of the version are above the row's key
 above_key : (r : Row) (rs : List Row) (t : ℕ) → r.version ≡ t → IsBelowAll r rs → AllByRecursion (λ k. nat_cmp r.key k ≡ Less) (keys_of_version rs t)

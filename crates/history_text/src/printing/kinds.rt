@@ -7,9 +7,9 @@ ghost use Rattle.history_text.specs.Fits.{FitsAnswer, FitsCommit, FitsItem, Fits
 use super::words::{
     print_actor, print_key, print_node, print_one, print_session, print_stage, print_store,
 };
-use history_book::{Actor, Ending, Found, Note};
 use crate::line::LineBuf;
-use stamp_base::{Store, KeyNo, NodeNo, SessionNo, Stamp, Term, Value};
+use history_book::{Actor, Ending, Found, Note};
+use stamp_base::{KeyNo, NodeNo, SessionNo, Stamp, Store, Term, Value};
 
 pub fn print_note(actor: Actor, note: Note, line: &mut LineBuf)
     ensures text { line.new ≡ body_of (item.Note actor note) }

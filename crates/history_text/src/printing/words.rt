@@ -4,9 +4,9 @@ ghost use Rattle.stamp_base.specs.Ranges.{IsKey, IsNode, IsSession};
 ghost use Rattle.history_text.specs.Fits.{FitsActor};
 
 // The parts that items share. Each adds its text at the end of the line.
-use history_book::Actor;
 use crate::line::LineBuf;
-use stamp_base::{Store, KeyNo, NodeNo, SessionNo, Stage};
+use history_book::Actor;
+use stamp_base::{KeyNo, NodeNo, SessionNo, Stage, Store};
 
 /// A name and its number, as one text.
 pub fn print_one(name: &[u8], number: u64, line: &mut LineBuf)

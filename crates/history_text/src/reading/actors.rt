@@ -6,8 +6,7 @@ use super::causes::cause;
 use super::steps::step;
 use super::words::{actor, field, is_word, name, split_word, stamp_of};
 use history_book::{Item, Note};
-use stamp_base::Store;
-use stamp_base::Stage;
+use stamp_base::{Stage, Store};
 
 /// The items of any actor.
 #[tactic(auto, unfolding(crate::specs::ReadActors::actor_kind_at))]
