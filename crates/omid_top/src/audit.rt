@@ -9,9 +9,10 @@ ghost use Rattle.omid_top.specs.Audit.{IsReportOn, IsVerdict, Reported, Reported
 use crate::report::Report;
 use crate::{Status, print};
 use history_book::Item;
+use history_text::{HistoryFault, read_history};
 use port_io::{ReadStop, Sink, Source, read_up_to};
 use si_judge::{Verdict, judge};
-use stamp_base::NoMemory;
+use stamp_base::{BYTE_LIMIT, NoMemory};
 use std::alloc::Global;
 
 /// Reads a history, judges it, and writes the report.

@@ -1,4 +1,4 @@
-// The top call: words and bytes in, a history, a report or an error line out, and a status.
+//! The top call: words and bytes in, a history, a report or an error line out, and a status.
 #![tactic(auto)]
 
 ghost use Rattle.std.specs.Prelude.{◌≡◌, ◌≢◌, ℕ, ◌≤◌, ◌⊎◌, List, IfSome, IsErr, IsErrAnd, IsOkAnd, map, string_bytes};
@@ -18,7 +18,6 @@ pub use session_script as script;
 mod audit;
 pub mod driver;
 mod gate;
-mod history;
 mod print;
 mod replay;
 mod report;

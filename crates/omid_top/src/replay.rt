@@ -9,10 +9,10 @@ ghost use Rattle.omid_top.specs.Texts.{bad_line_text, replay_text};
 ghost use Rattle.omid_top.specs.Promise.{KeepsPromise, GainsFront};
 
 use crate::print::{self, written};
-use crate::script::{BYTE_LIMIT, Mode, Script, ScriptCause, ScriptFault, read_script};
+use crate::script::{Mode, Script, ScriptCause, ScriptFault, read_script};
 use crate::{Status, driver};
 use port_io::{ReadStop, Sink, Source, read_up_to};
-use stamp_base::NoMemory;
+use stamp_base::{BYTE_LIMIT, NoMemory};
 use std::alloc::Global;
 
 /// Reads a script and carries it out in file order.
