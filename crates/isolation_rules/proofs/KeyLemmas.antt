@@ -32,9 +32,6 @@ some_is : (o : Option (List ℕ)) → is_some o ≡ true → (value : List ℕ) 
 some_is None e = absurd (cc)
 some_is (Some value) e = (value, refl)
 
-is_some-Some : (o : Option (List ℕ)) (value : List ℕ) → o ≡ Some value → is_some o ≡ true
-is_some-Some o value e = ap is_some e
-
 pub and_parts : (a b : Bool) → (a && b) ≡ true → (a ≡ true) × (b ≡ true)
 and_parts true b e = (refl, e)
 and_parts false b e = absurd (cc)

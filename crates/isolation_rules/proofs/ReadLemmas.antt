@@ -10,8 +10,8 @@ use Rattle.isolation_rules.specs.declared.version.Version.{Version}
 use Rattle.isolation_rules.specs.ReadPairs.{written_at, IsLastWrite, IsGivenAt, IsRightAt, AnswersAt, BreaksRead}
 use Rattle.isolation_rules.specs.declared.verdict.Rule.TheVariants as rule
 use Rattle.isolation_rules.specs.Judged.{IsSecond, Passes}
-use Rattle.isolation_rules.specs.Best.{IsWritten, IsOwn, Sees, place_seen, IsWrong}
-use Rattle.isolation_rules.proofs.PlaceLemmas.{one_at, and_some, place_of, in_take, length_take_within}
+use Rattle.isolation_rules.specs.Best.{IsOwn, Sees, place_seen, IsWrong}
+use Rattle.isolation_rules.proofs.PlaceLemmas.{one_at, and_some, place_of, in_take}
 use Rattle.isolation_rules.proofs.WriteLemmas.{last_write_at}
 
 start_of : Item → ℕ
@@ -84,15 +84,6 @@ seen_wrong h stamped i s k answer seen less sees other = (
   record { answer = option_map (λ version. version.found) seen; visible = sees_visible h s k seen sees; given = sees_given h i s k seen sees },
   sees_within h i s k seen less sees,
 )
-
-pub seen_right : (h : List Item) (i s k : ℕ) (answer : Option Found) (seen : Option Version) → Sees h s k seen → answer ≡ option_map (λ version. version.found) seen → IsWrong h i s k answer None None
-seen_right h i s k answer seen sees e = subst (λ (a : Option Found). Visible h s k a) (sym e) (sees_visible h s k seen sees)
-
-pub own_within : (h : List Item) (i k : ℕ) (own : Version) → i < length h → IsWritten (take i h) k own → own.place < length h
-own_within h i k own less written =
-    let near = written_within (take i h) own.found.from k own.place own.found.value written.wrote in
-    let few = length_take_within i h in
-    omega (arith, less, near, few)
 
 -- an answer that is wrong by the own write is wrong
 pub own_wrong : (h : List Item) (i s k : ℕ) (answer : Option Found) (own : Version) (second : Option ℕ) → IsOwn (take i h) s k (Some own) → IsWrong h i own.found.from k answer (Some own.found.value) second → IsWrong h i s k answer (last_write (take i h) s k) second

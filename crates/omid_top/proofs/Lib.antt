@@ -1,6 +1,5 @@
-pub mod AnswersLemmas
-pub mod RunLemmas
-pub mod PrintLemmas
-pub mod PromiseLemmas
-pub mod HistoryLemmas
-pub mod ReportLemmas
+mod AnswersLemmas
+mod RunLemmas
+mod PrintLemmas
+mod PromiseLemmas
+mod ReportLemmas

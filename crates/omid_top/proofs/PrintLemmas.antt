@@ -22,7 +22,3 @@ front_more (Some held) b c items i d line n within is low gone more =
     let whole : printed items ≡ sent ++ (line ++ rest) = printed_front items i d within ∙ ap (λ text. sent ++ (text ++ rest)) (sym is) in
     let front : take (length sent + n) (printed items) ≡ sent ++ take n line = rw (whole, take-append-add sent (line ++ rest) n, take-append-le n line rest) refl in
     (length sent + n, subst (λ (o : Option (List ℕ)). Gains o c (take n line)) gone more ∙ ap Some (append_assoc held sent (take n line) ∙ ap (λ text. held ++ text) (sym front)))
-
--- a text of one write
-pub front_of : (a c : Option (List ℕ)) (text : List ℕ) (n : ℕ) → Gains a c (take n text) → GainsFront a c text
-front_of a c text n gone = (n, gone)

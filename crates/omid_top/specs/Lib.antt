@@ -3,5 +3,4 @@ pub mod Answers
 pub mod Texts
 pub mod Promise
 pub mod Runs
-pub mod History
 pub mod Audit

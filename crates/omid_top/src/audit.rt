@@ -1,5 +1,5 @@
 // Auditing a history: reading it, judging it, and reporting what was found.
-ghost use Rattle.std.specs.Prelude.{◌≡◌, ◌≢◌, ℕ, ◌≤◌, ◌⊎◌, IfOk, IfSome, List};
+ghost use Rattle.std.specs.Prelude.{◌≡◌, ◌≢◌, ℕ, ◌≤◌, ◌⊎◌, IfOk, IfSome, IsOk, List};
 ghost use Rattle.port_io.specs.Ports.{Risen, Gains, IsAtEnd};
 ghost use Rattle.history_book.specs.declared.item.Item.{Item};
 ghost use Rattle.omid_top.specs.Promise.{GainsFront};
@@ -9,9 +9,10 @@ ghost use Rattle.omid_top.specs.Audit.{IsReportOn, IsVerdict, Reported, Reported
 use crate::report::Report;
 use crate::{Status, print};
 use history_book::Item;
+use history_text::{HistoryFault, read_history};
 use port_io::{ReadStop, Sink, Source, read_up_to};
 use si_judge::{Verdict, judge};
-use stamp_base::NoMemory;
+use stamp_base::{BYTE_LIMIT, NoMemory};
 use std::alloc::Global;
 
 /// Reads a history, judges it, and writes the report.
@@ -19,10 +20,12 @@ pub fn audit_source<S: Source, K: Sink>(alloc: Global, source: &mut S, sink: &mu
     ensures read { (result.code ≡ 0) ⊎ (result.code ≡ 7) → IsAtEnd (S.left source.new) }
     ensures audited { IsVerdict result.code → IfSome (S.left source.old) (λ bytes. Reported bytes result.code (K.held sink.old) (K.held sink.new)) }
     ensures fair { IfSome (S.left source.old) (λ bytes. (items : List Item) → AreItems bytes items → IsFairTo items result.code) }
-    ensures source_failed { result.code ≡ 4 → Risen (S.faults source.old) (S.faults source.new) × (K.held sink.new ≡ K.held sink.old) }
+    ensures source_failed { result.code ≡ 4 → Risen (S.faults source.old) (S.faults source.new) × (sink.new ≡ sink.old) }
+    ensures source_worked { result.code ≢ 4 → S.faults source.new ≡ S.faults source.old }
     ensures sink_failed { result.code ≡ 5 → Risen (K.faults sink.old) (K.faults sink.new) }
+    ensures sink_worked { result.code ≢ 5 → K.faults sink.new ≡ K.faults sink.old }
     ensures cut { result.code ≡ 5 → IfSome (S.left source.old) (λ bytes. ReportedFront bytes (K.held sink.old) (K.held sink.new)) }
-    ensures no_memory { result.code ≡ 6 → K.held sink.new ≡ K.held sink.old }
+    ensures no_memory { result.code ≡ 6 → sink.new ≡ sink.old }
     ensures codes { (result.code ≤ 7) × (result.code ≢ 1) × (result.code ≢ 2) }
 {
     match read_up_to(alloc, source, BYTE_LIMIT) {
@@ -38,8 +41,9 @@ fn audit_bytes<K: Sink>(alloc: Global, bytes: &[u8], sink: &mut K) -> Status
     ensures audited { IsVerdict result.code → Reported bytes.now result.code (K.held sink.old) (K.held sink.new) }
     ensures fair { (items : List Item) → AreItems bytes.now items → IsFairTo items result.code }
     ensures sink_failed { result.code ≡ 5 → Risen (K.faults sink.old) (K.faults sink.new) }
+    ensures sink_worked { result.code ≢ 5 → K.faults sink.new ≡ K.faults sink.old }
     ensures cut { result.code ≡ 5 → ReportedFront bytes.now (K.held sink.old) (K.held sink.new) }
-    ensures no_memory { result.code ≡ 6 → K.held sink.new ≡ K.held sink.old }
+    ensures no_memory { result.code ≡ 6 → sink.new ≡ sink.old }
     ensures codes { IsVerdict result.code ⊎ (result.code ≡ 5) ⊎ (result.code ≡ 6) }
 {
     match report_on(alloc, bytes) {
@@ -52,6 +56,7 @@ fn audit_bytes<K: Sink>(alloc: Global, bytes: &[u8], sink: &mut K) -> Status
 fn reported<K: Sink>(sink: &mut K, report: &Report) -> Status
     ensures told { IsVerdict result.code → (report_status report.now ≡ result.code) × Gains (K.held sink.old) (K.held sink.new) (report_text report.now) }
     ensures sink_failed { result.code ≡ 5 → Risen (K.faults sink.old) (K.faults sink.new) }
+    ensures sink_worked { result.code ≢ 5 → K.faults sink.new ≡ K.faults sink.old }
     ensures cut { result.code ≡ 5 → GainsFront (K.held sink.old) (K.held sink.new) (report_text report.now) }
     ensures codes { IsVerdict result.code ⊎ (result.code ≡ 5) }
 {
@@ -72,9 +77,10 @@ fn report_on(alloc: Global, bytes: &[u8]) -> Result<Report, NoMemory>
     }
 }
 
-/// What is found of items, whichever bytes they are.
+/// What is found of items, whichever bytes they are. The judge needs no memory.
 fn judged(alloc: Global, items: &[Item]) -> Result<Report, NoMemory>
-    ensures { IfOk result (λ report. (bytes : List ℕ) → AreItems bytes items.now → IsReportOn bytes report) }
+    ensures always { IsOk result }
+    ensures right { IfOk result (λ report. (bytes : List ℕ) → AreItems bytes items.now → IsReportOn bytes report) }
 {
     match judge(alloc, items)? {
         Verdict::Isolated => Ok(Report::Isolated { items: items.len() }),

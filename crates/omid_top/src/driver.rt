@@ -1,5 +1,5 @@
 // Carrying out a script in file order, on one thread.
-ghost use Rattle.std.specs.Prelude.{◌≡◌, ◌≢◌, ◌∷◌, [], IfOk, OnOk, Err};
+ghost use Rattle.std.specs.Prelude.{◌≡◌, ◌↔◌, ◌∷◌, [], IfOk, OnOk, OnErr, IsErr, Err};
 ghost use Rattle.session_script.specs.Script.{data_of};
 ghost use Rattle.cluster_core.specs.Whole.{Whole};
 ghost use Rattle.omid_top.specs.Replay.{replayed, line_events, session_events, node_events, target_node};
@@ -23,10 +23,11 @@ pub fn replay(alloc: Global, script: &Script) -> Result<Cluster, NoMemory>
     Ok(cluster)
 }
 
-/// Makes the line's events.
+/// Makes the line's events. Where memory is refused the cluster is as before.
 #[tactic(auto, unfolding(crate::specs::Runs::run))]
 fn carry_out(cluster: &mut Cluster, line: &Line) -> Result<(), NoMemory>
-    ensures { OnOk result (cluster.new ≡ run cluster.old (line_events line.now)) }
+    ensures made { OnOk result (cluster.new ≡ run cluster.old (line_events line.now)) }
+    ensures memory { OnErr result (cluster.new ≡ cluster.old) }
 {
     match line.actor {
         Actor::Session(session) => session_line(cluster, session, &line.verb),
@@ -37,7 +38,8 @@ fn carry_out(cluster: &mut Cluster, line: &Line) -> Result<(), NoMemory>
 
 #[tactic(auto, unfolding(crate::specs::Runs::run))]
 fn node_line(cluster: &mut Cluster, node: NodeNo, verb: &Verb) -> Result<(), NoMemory>
-    ensures { OnOk result (cluster.new ≡ run cluster.old (node_events node verb.now)) }
+    ensures made { OnOk result (cluster.new ≡ run cluster.old (node_events node verb.now)) }
+    ensures memory { OnErr result (cluster.new ≡ cluster.old) }
 {
     match verb {
         Verb::Take => answered(cluster.take_whole(node)),
@@ -47,7 +49,8 @@ fn node_line(cluster: &mut Cluster, node: NodeNo, verb: &Verb) -> Result<(), NoM
 
 #[tactic(auto, unfolding(crate::specs::Runs::run))]
 fn session_line(cluster: &mut Cluster, session: SessionNo, verb: &Verb) -> Result<(), NoMemory>
-    ensures { OnOk result (cluster.new ≡ run cluster.old (session_events session verb.now)) }
+    ensures made { OnOk result (cluster.new ≡ run cluster.old (session_events session verb.now)) }
+    ensures memory { OnErr result (cluster.new ≡ cluster.old) }
 {
     match verb {
         Verb::Begin { target } => answered(cluster.begin_whole(session, node_of(target))),
@@ -68,7 +71,7 @@ fn node_of(target: &Target) -> NodeNo
 
 /// A refusal is an answer too: it stands in the history.
 fn answered(answer: Result<(), Stopped>) -> Result<(), NoMemory>
-    ensures { OnOk result (answer ≢ Err Stopped.NoMemory) }
+    ensures { IsErr result ↔ (answer ≡ Err Stopped.NoMemory) }
 {
     match answer {
         Err(Stopped::NoMemory) => Err(NoMemory),

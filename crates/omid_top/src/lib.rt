@@ -1,4 +1,4 @@
-// The top call: words and bytes in, a history, a report or an error line out, and a status.
+//! The top call: words and bytes in, a history, a report or an error line out, and a status.
 #![tactic(auto)]
 
 ghost use Rattle.std.specs.Prelude.{◌≡◌, ◌≢◌, ℕ, ◌≤◌, ◌⊎◌, List, IfSome, IsErr, IsErrAnd, IsOkAnd, map, string_bytes};
@@ -18,8 +18,8 @@ pub use session_script as script;
 mod audit;
 pub mod driver;
 mod gate;
-mod history;
 mod print;
+mod process;
 mod replay;
 mod report;
 mod status;
@@ -27,6 +27,7 @@ mod words;
 
 pub use gate::{Gate, GatePlace, OpenGate};
 use port_io::{Sink, Source};
+pub use process::{program, words_behind};
 pub use status::Status;
 use std::alloc::Global;
 use std::sync::Wait;
@@ -43,7 +44,10 @@ use words::Command;
 /// is written, with its cause; 4 where the source failed, 5 where the sink did, and 6 where memory was refused; 7
 /// where the history that was audited is not isolated, and the first broken rule and two items that break it are
 /// written. On 2 the source is not read, and on 3 nothing is carried out. No error of memory comes once the first
-/// byte is written.
+/// byte is written, and none from judging.
+///
+/// The words are text. A caller that has a word which is none hands in an empty one in its place, as `words_behind` does:
+/// no command has either.
 pub fn omid<R: Threads + Wait + Sync, S: Source, K: Sink, G: Gate>(
     rt: &R,
     alloc: Global,
@@ -55,7 +59,7 @@ pub fn omid<R: Threads + Wait + Sync, S: Source, K: Sink, G: Gate>(
     // The words are no command.
     ensures usage { result.code ≡ 2 → (IsKnown (map string_bytes words.now) → ⊥) × Gains (K.held sink.old) (K.held sink.new) usage_text }
     ensures no_command { (IsKnown (map string_bytes words.now) → ⊥) → (result.code ≡ 2) ⊎ (result.code ≡ 5) }
-    ensures unread { (IsKnown (map string_bytes words.now) → ⊥) → S.left source.new ≡ S.left source.old }
+    ensures unread { (IsKnown (map string_bytes words.now) → ⊥) → source.new ≡ source.old }
     ensures cut_usage { result.code ≡ 5 → (IsKnown (map string_bytes words.now) → ⊥) → GainsFront (K.held sink.old) (K.held sink.new) usage_text }
 
     // A script was carried out, or the bytes are none.
@@ -77,9 +81,11 @@ pub fn omid<R: Threads + Wait + Sync, S: Source, K: Sink, G: Gate>(
         ReportedFront bytes (K.held sink.old) (K.held sink.new)) }
 
     // A fault of the source, a fault of the sink, want of memory.
-    ensures source_failed { result.code ≡ 4 → Risen (S.faults source.old) (S.faults source.new) × (K.held sink.new ≡ K.held sink.old) }
+    ensures source_failed { result.code ≡ 4 → Risen (S.faults source.old) (S.faults source.new) × (sink.new ≡ sink.old) }
+    ensures source_worked { result.code ≢ 4 → S.faults source.new ≡ S.faults source.old }
     ensures sink_failed { result.code ≡ 5 → Risen (K.faults sink.old) (K.faults sink.new) }
-    ensures no_memory { result.code ≡ 6 → K.held sink.new ≡ K.held sink.old }
+    ensures sink_worked { result.code ≢ 5 → K.faults sink.new ≡ K.faults sink.old }
+    ensures no_memory { result.code ≡ 6 → sink.new ≡ sink.old }
 
     ensures codes { (result.code ≤ 7) × (result.code ≢ 1) }
 {

@@ -18,6 +18,7 @@ pub fn print_history<K: Sink>(sink: &mut K, items: &[Item]) -> Result<(), Failed
     ensures all { OnOk result (Gains (K.held sink.old) (K.held sink.new) (printed items.now)) }
     ensures front { OnErr result (GainsFront (K.held sink.old) (K.held sink.new) (printed items.now)) }
     ensures failed { OnErr result (Risen (K.faults sink.old) (K.faults sink.new)) }
+    ensures worked { OnOk result (K.faults sink.new ≡ K.faults sink.old) }
 {
     let mut line = LineBuf::new();
     for item in items {
@@ -35,6 +36,7 @@ pub fn print_usage<K: Sink>(sink: &mut K) -> Result<(), Failed>
     ensures all { OnOk result (Gains (K.held sink.old) (K.held sink.new) usage_text) }
     ensures front { OnErr result (GainsFront (K.held sink.old) (K.held sink.new) usage_text) }
     ensures failed { OnErr result (Risen (K.faults sink.old) (K.faults sink.new)) }
+    ensures worked { OnOk result (K.faults sink.new ≡ K.faults sink.old) }
 {
     print_text(
         sink,
@@ -47,6 +49,7 @@ pub fn print_bad_line<K: Sink>(sink: &mut K, number: u64, cause: ScriptCause) ->
     ensures all { OnOk result (Gains (K.held sink.old) (K.held sink.new) (bad_line_text (record { line = number; cause = cause }))) }
     ensures front { OnErr result (GainsFront (K.held sink.old) (K.held sink.new) (bad_line_text (record { line = number; cause = cause }))) }
     ensures failed { OnErr result (Risen (K.faults sink.old) (K.faults sink.new)) }
+    ensures worked { OnOk result (K.faults sink.new ≡ K.faults sink.old) }
 {
     let mut line = LineBuf::new();
     set_bad_line(&mut line, number, cause);
@@ -58,6 +61,7 @@ pub fn print_report<K: Sink>(sink: &mut K, report: &Report) -> Result<(), Failed
     ensures all { OnOk result (Gains (K.held sink.old) (K.held sink.new) (report_text report.now)) }
     ensures front { OnErr result (GainsFront (K.held sink.old) (K.held sink.new) (report_text report.now)) }
     ensures failed { OnErr result (Risen (K.faults sink.old) (K.faults sink.new)) }
+    ensures worked { OnOk result (K.faults sink.new ≡ K.faults sink.old) }
 {
     let mut line = LineBuf::new();
     report.print(&mut line);
@@ -79,6 +83,7 @@ fn print_text<K: Sink>(sink: &mut K, text: &[u8]) -> Result<(), Failed>
     ensures all { OnOk result (Gains (K.held sink.old) (K.held sink.new) text.now) }
     ensures front { OnErr result (GainsFront (K.held sink.old) (K.held sink.new) text.now) }
     ensures failed { OnErr result (Risen (K.faults sink.old) (K.faults sink.new)) }
+    ensures worked { OnOk result (K.faults sink.new ≡ K.faults sink.old) }
 {
     match write_all_of(sink, text) {
         Ok(()) => Ok(()),

@@ -1,5 +1,5 @@
 // Replaying a script: reading it, carrying it out in file order, and writing its history.
-ghost use Rattle.std.specs.Prelude.{◌≡◌, ◌≤◌, ◌⊎◌, IfSome, IsErrAnd, IsOkAnd};
+ghost use Rattle.std.specs.Prelude.{◌≡◌, ◌≢◌, ◌≤◌, ◌⊎◌, IfSome, IsErrAnd, IsOkAnd};
 ghost use Rattle.port_io.specs.Ports.{Risen, Gains, IsAtEnd};
 ghost use Rattle.history_text.specs.Text.{printed};
 ghost use Rattle.session_script.specs.Script.{script_of, data_of};
@@ -9,10 +9,10 @@ ghost use Rattle.omid_top.specs.Texts.{bad_line_text, replay_text};
 ghost use Rattle.omid_top.specs.Promise.{KeepsPromise, GainsFront};
 
 use crate::print::{self, written};
-use crate::script::{BYTE_LIMIT, Mode, Script, ScriptCause, ScriptFault, read_script};
+use crate::script::{Mode, Script, ScriptCause, ScriptFault, read_script};
 use crate::{Status, driver};
 use port_io::{ReadStop, Sink, Source, read_up_to};
-use stamp_base::NoMemory;
+use stamp_base::{BYTE_LIMIT, NoMemory};
 use std::alloc::Global;
 
 /// Reads a script and carries it out in file order.
@@ -22,11 +22,13 @@ pub fn replay_source<S: Source, K: Sink>(alloc: Global, source: &mut S, sink: &m
         KeepsPromise script × Gains (K.held sink.old) (K.held sink.new) (printed (replayed script)))) }
     ensures bad_line { result.code ≡ 3 → IfSome (S.left source.old) (λ bytes. IsErrAnd (script_of bytes Replay) (λ bad.
         Gains (K.held sink.old) (K.held sink.new) (bad_line_text bad))) }
-    ensures source_failed { result.code ≡ 4 → Risen (S.faults source.old) (S.faults source.new) × (K.held sink.new ≡ K.held sink.old) }
+    ensures source_failed { result.code ≡ 4 → Risen (S.faults source.old) (S.faults source.new) × (sink.new ≡ sink.old) }
+    ensures source_worked { result.code ≢ 4 → S.faults source.new ≡ S.faults source.old }
     ensures sink_failed { result.code ≡ 5 → Risen (K.faults sink.old) (K.faults sink.new) }
+    ensures sink_worked { result.code ≢ 5 → K.faults sink.new ≡ K.faults sink.old }
     ensures cut { result.code ≡ 5 → IfSome (S.left source.old) (λ bytes.
         GainsFront (K.held sink.old) (K.held sink.new) (replay_text (script_of bytes Replay))) }
-    ensures no_memory { result.code ≡ 6 → K.held sink.new ≡ K.held sink.old }
+    ensures no_memory { result.code ≡ 6 → sink.new ≡ sink.old }
     ensures codes { (result.code ≡ 0) ⊎ ((3 ≤ result.code) × (result.code ≤ 6)) }
 {
     match read_up_to(alloc, source, BYTE_LIMIT) {
@@ -47,8 +49,9 @@ fn replay_bytes<K: Sink>(alloc: Global, bytes: &[u8], sink: &mut K) -> Status
     ensures bad_line { result.code ≡ 3 → IsErrAnd (script_of bytes.now Replay) (λ bad.
         Gains (K.held sink.old) (K.held sink.new) (bad_line_text bad)) }
     ensures sink_failed { result.code ≡ 5 → Risen (K.faults sink.old) (K.faults sink.new) }
+    ensures sink_worked { result.code ≢ 5 → K.faults sink.new ≡ K.faults sink.old }
     ensures cut { result.code ≡ 5 → GainsFront (K.held sink.old) (K.held sink.new) (replay_text (script_of bytes.now Replay)) }
-    ensures no_memory { result.code ≡ 6 → K.held sink.new ≡ K.held sink.old }
+    ensures no_memory { result.code ≡ 6 → sink.new ≡ sink.old }
     ensures codes { (result.code ≡ 0) ⊎ (result.code ≡ 3) ⊎ (result.code ≡ 5) ⊎ (result.code ≡ 6) }
 {
     match read_script(alloc, bytes, Mode::Replay) {
@@ -66,8 +69,9 @@ fn replay_bytes<K: Sink>(alloc: Global, bytes: &[u8], sink: &mut K) -> Status
 fn replay_script<K: Sink>(alloc: Global, script: &Script, sink: &mut K) -> Status
     ensures replayed { result.code ≡ 0 → KeepsPromise (data_of script.now) × Gains (K.held sink.old) (K.held sink.new) (printed (replayed (data_of script.now))) }
     ensures sink_failed { result.code ≡ 5 → Risen (K.faults sink.old) (K.faults sink.new) }
+    ensures sink_worked { result.code ≢ 5 → K.faults sink.new ≡ K.faults sink.old }
     ensures cut { result.code ≡ 5 → GainsFront (K.held sink.old) (K.held sink.new) (printed (replayed (data_of script.now))) }
-    ensures no_memory { result.code ≡ 6 → K.held sink.new ≡ K.held sink.old }
+    ensures no_memory { result.code ≡ 6 → sink.new ≡ sink.old }
     ensures codes { (result.code ≡ 0) ⊎ (result.code ≡ 5) ⊎ (result.code ≡ 6) }
 {
     match driver::replay(alloc, script) {

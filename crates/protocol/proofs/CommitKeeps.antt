@@ -57,10 +57,6 @@ placed w s t = record (with_session w s None) {
   latest = all_latest w.latest t.keys (w.last + 1);
 }
 
-shadow_in : (t c : ℕ) (o : Option (List ℕ)) → shadowed c (cell_with t None o) ≡ cell_with t (Some c) o
-shadow_in t c None = refl
-shadow_in t c (Some v) = refl
-
 -- the cells of the transaction have its commit as shadow
 own_cells : (w : State) (h : List Item) (s : ℕ) (t : Transaction) (n k : ℕ) → IsOpen w.sessions s t → Holds w h → (o : Option (List ℕ)) → last_write h t.start k ≡ o → looked (all_shadowed w.rows t.keys t.start n) k t.start ≡ cell_with t.start (Some n) o
 own_cells w h s t n k opened all None e = all_shadowed-kept w.rows t.keys t.start n k None (all.open_cells.bare s k t opened ∙ ap (cell_with t.start None) e)

@@ -1,14 +1,16 @@
-pub mod StableReads
-pub mod Quiet
-pub mod Sessions
-pub mod Writers
-pub mod BeginKeeps
-pub mod WriteKeeps
-pub mod NewestCell
-pub mod ReadKeeps
-pub mod AllKeys
-pub mod PlacedIsolated
-pub mod CommitKeeps
+mod StableReads
+mod Quiet
+mod Sessions
+mod Writers
+mod BeginKeeps
+mod WriteKeeps
+mod NewestCell
+mod ReadKeeps
+mod AllKeys
+mod PlacedIsolated
+mod CommitKeeps
 pub mod Always
 pub mod Conditions
-pub mod WorkedHistories
+mod WorkedHistories
+mod WorkedReads
+mod WorkedRefusals

@@ -23,10 +23,6 @@ cell_value : (t : ℕ) (shadow : Option ℕ) (o : Option (List ℕ)) (cell : Cel
 cell_value t shadow None cell e = absurd (cc)
 cell_value t shadow (Some v) cell e = ap (λ (c : Cell). Some c.value) (same_Some _ _ e)
 
-cell_shadow : (t : ℕ) (shadow : Option ℕ) (o : Option (List ℕ)) (cell : Cell) → cell_with t shadow o ≡ Some cell → shadow ≡ cell.shadow
-cell_shadow t shadow None cell e = absurd (cc)
-cell_shadow t shadow (Some v) cell e = ap (λ (c : Cell). c.shadow) (same_Some _ _ e)
-
 or-true : (b : Bool) → (b || true) ≡ true
 or-true true = refl
 or-true false = refl

@@ -2,7 +2,7 @@
 use Rattle.std.proofs.Common.{◌≡◌, ℕ, ◌<◌, ◌≤◌, List, [], ◌∷◌, Option, Some, None, inl, inr, refl, subst, ap, arith}
 use Rattle.std.proofs.lemmas.Option.{same_Some}
 use Rattle.history_book.specs.Members.{◌∈◌, AtEach}
-use Rattle.history_book.specs.Isolation.{last_write, Candidate, Visible, RightRead, Apart, Stamped, StartsAbove, Fresh, Isolated, before_ask, has_ask}
+use Rattle.history_book.specs.Isolation.{last_write, NewStamps, Apart, Stamped, StartsAbove, Fresh, Isolated, before_ask, has_ask}
 use Rattle.history_book.specs.declared.item.Found.{Found}
 use Rattle.history_book.specs.declared.item.Item.{Item}
 use Rattle.history_book.specs.declared.item.Item.TheVariants.{AskBegin, Begin, Write, Read, Placed}
@@ -10,7 +10,7 @@ use Rattle.history_book.proofs.MemberLemmas.{AtEach-push}
 use Rattle.store_parts.specs.Rows.{put_row, with_shadow, without_bare}
 use Rattle.protocol.specs.CommitStep.{latest_of, with_latest, all_latest, conflict, all_shadowed, all_erased}
 use Rattle.protocol.specs.Machine.{items_from, history_after}
-use Rattle.protocol.specs.WorkedHistories.{p, q, conflict_events, conflict_history, both_committed, read_of, from_first, own_write_missed, stale_begin, asked_before, one_commit_of_two, one_start_of_two, start_as_commit}
+use Rattle.protocol.specs.WorkedHistories.{p, q, conflict_events, conflict_history, both_committed, stale_begin, asked_before, one_commit_of_two, one_start_of_two, start_as_commit, commit_of_three}
 use Rattle.protocol.proofs.Always.{history_isolated}
 
 pub conflict_row : history_after conflict_events ≡ conflict_history
@@ -29,56 +29,6 @@ unfolding ◌∈◌ last_write
 both_not_apart a = elim (a.apart 1 3 2 4 0 p q (inr (inr (inl refl))) (inr (inr (inr (inl refl)))) (λ e. absurd (omega arith)) refl refl) [
   | inl l ↦ absurd (omega arith)
   | inr l ↦ absurd (omega arith)
-]
-
-first_candidate : (answer : Option Found) → Candidate (read_of answer) 4 0 1 3
-unfolding ◌∈◌ last_write
-first_candidate answer = record { committed = inr (inr (inl refl)); below = omega arith; wrote = (p, refl) }
-
-one_candidate : (answer : Option Found) (t c : ℕ) → Candidate (read_of answer) 4 0 t c → c ≤ 3
-unfolding ◌∈◌
-one_candidate answer t c a = elim a.committed [
-  | inl e ↦ absurd (cc)
-  | inr deeper ↦ elim deeper [
-    | inl e ↦ absurd (cc)
-    | inr last ↦ elim last [
-      | inl e ↦ let is : c ≡ 3 = cc in omega arith
-      | inr none ↦ absurd none
-    ]
-  ]
-]
-
-late_visible : Visible (read_of (Some from_first)) 4 0 (Some from_first)
-unfolding last_write
-late_visible = record { commit = 3; candidate = first_candidate (Some from_first); value = refl; greatest = λ t c a. one_candidate (Some from_first) t c a }
-
-pub late_right : AtEach (RightRead (read_of (Some from_first))) (read_of (Some from_first))
-unfolding last_write
-late_right =
-    let h : List Item = read_of (Some from_first) in
-    let none : AtEach (RightRead h) [] = record { at = λ n x e. absurd (cc) } in
-    let one : AtEach (RightRead h) (Write 0 1 0 p ∷ []) = AtEach-push (RightRead h) [] (Write 0 1 0 p) none tt in
-    let two : AtEach (RightRead h) (Write 0 1 0 p ∷ Read 1 4 0 (Some from_first) ∷ []) = AtEach-push (RightRead h) (Write 0 1 0 p ∷ []) (Read 1 4 0 (Some from_first)) one late_visible in
-    AtEach-push (RightRead h) (Write 0 1 0 p ∷ Read 1 4 0 (Some from_first) ∷ []) (Placed 1 3) two tt
-
-pub missed_wrong : AtEach (RightRead (read_of None)) (read_of None) → ⊥
-unfolding last_write
-missed_wrong a = a.at 1 (Read 1 4 0 None) refl 1 3 (first_candidate None)
-
-other_start : (n : ℕ) → n ≡ 1 → n ≡ 3 → ⊥
-other_start n a b = absurd (omega arith)
-
-pub own_wrong : AtEach (RightRead own_write_missed) own_write_missed → ⊥
-unfolding last_write ◌∈◌
-own_wrong a = elim (a.at 3 (Read 1 3 0 (Some from_first)) refl) [
-  | inl e ↦ other_start 1 refl (ap (λ (f : Found). f.from) (same_Some _ _ e))
-  | inr listed ↦ elim listed.0.2 [
-    | inl e ↦ absurd (cc)
-    | inr deeper ↦ elim deeper [
-      | inl e ↦ absurd (cc)
-      | inr last ↦ elim last [ inl e ↦ absurd (cc) | inr none ↦ absurd none ]
-    ]
-  ]
 ]
 
 pub stale_not_fresh : Fresh stale_begin → ⊥
@@ -107,3 +57,26 @@ one_start_wrong s = s.distinct.at 1 (Begin 1 1) refl 0 (inl refl)
 pub start_as_commit_wrong : Stamped start_as_commit → ⊥
 unfolding ◌∈◌
 start_as_commit_wrong s = s.no_start_commits 0 3 1 (inl refl) (inr (inl refl))
+
+-- nothing stands before the only commit
+first_commit : AtEach NewStamps (commit_of_three 4)
+unfolding ◌∈◌
+first_commit =
+    let none : AtEach NewStamps [] = record { at = λ n x e. absurd (cc) } in
+    AtEach-push NewStamps [] (Placed 3 4) none (λ t c m. absurd m)
+
+pub above_stamped : Stamped (commit_of_three 4)
+unfolding ◌∈◌
+above_stamped = record {
+  distinct = first_commit;
+  no_start_commits = λ session t u m _. absurd (elim m [ inl e ↦ absurd (cc) | inr none ↦ none ]);
+  start_below_commit = λ t c m. elim m [ inl e ↦ let start : t ≡ 3 = cc in let commit : c ≡ 4 = cc in omega arith | inr none ↦ absurd none ];
+}
+
+pub at_start_wrong : Isolated (commit_of_three 3) → ⊥
+unfolding ◌∈◌
+at_start_wrong i = let less : 3 < 3 = i.stamped.start_below_commit 3 3 (inl refl) in absurd (omega arith)
+
+pub below_start_wrong : Isolated (commit_of_three 2) → ⊥
+unfolding ◌∈◌
+below_start_wrong i = let less : 3 < 2 = i.stamped.start_below_commit 3 2 (inl refl) in absurd (omega arith)

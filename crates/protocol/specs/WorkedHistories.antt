@@ -1,10 +1,11 @@
 -- Small histories that are, and that are not, what isolation asks for.
 use Rattle.std.specs.Prelude.{ℕ, List, [], ◌∷◌, Option, None, Some}
 use Rattle.history_book.specs.declared.cause.Cause.TheVariants.{Conflict}
-use Rattle.history_book.specs.declared.item.Actor.TheVariants.{Session}
+use Rattle.history_book.specs.declared.item.Actor.TheVariants.{Session, Janitor}
 use Rattle.history_book.specs.declared.item.Found.{Found}
 use Rattle.history_book.specs.declared.item.Item.{Item}
-use Rattle.history_book.specs.declared.item.Item.TheVariants.{Take, AskBegin, Draw, Begin, Write, Read, AskCommit, Placed, Committed, Refused}
+use Rattle.history_book.specs.declared.item.Item.TheVariants.{Take, AskBegin, Draw, Begin, Write, Read, AskCommit, Placed, Committed, Refused, Step}
+use Rattle.history_book.specs.declared.item.StoreStep.TheVariants.{Keys}
 use Rattle.protocol.specs.Machine.{Event, Takes, Begins, Writes, Commits}
 
 -- two values of one letter
@@ -39,9 +40,16 @@ read_of answer = Write 0 1 0 p ∷ Read 1 4 0 answer ∷ Placed 1 3 ∷ []
 abbrev pub from_first : Found
 from_first = record { from = 1; value = p }
 
--- a transaction reads the key that it wrote, and the answer is another's version
-abbrev pub own_write_missed : List Item
-own_write_missed = Write 0 1 0 p ∷ Placed 1 2 ∷ Write 1 3 0 q ∷ Read 1 3 0 (Some from_first) ∷ []
+-- The transaction with the start 3 reads the key that it wrote, where a version of another is visible to it. In the
+-- second history a sweep lists its keys before it reads.
+abbrev pub unlisted_read : Found → List Item
+unlisted_read answer = Write 0 1 0 p ∷ Placed 1 2 ∷ Write 1 3 0 q ∷ Read 1 3 0 (Some answer) ∷ []
+
+abbrev pub listed_read : Found → List Item
+listed_read answer = Write 0 1 0 p ∷ Placed 1 2 ∷ Write 1 3 0 q ∷ Step Janitor (Keys 3 1) ∷ Read 1 3 0 (Some answer) ∷ []
+
+abbrev pub own_write : Found
+own_write = record { from = 3; value = q }
 
 -- a begin below a commit that was placed before its ask, and one whose ask came first
 abbrev pub stale_begin : List Item
@@ -59,3 +67,11 @@ one_start_of_two = Begin 0 1 ∷ Begin 1 1 ∷ []
 
 abbrev pub start_as_commit : List Item
 start_as_commit = Begin 0 3 ∷ Placed 1 3 ∷ []
+
+-- the transaction with the start 3 commits with this stamp
+abbrev pub commit_of_three : ℕ → List Item
+commit_of_three commit = Placed 3 commit ∷ []
+
+-- a transaction with this start is refused for the commit 3 of another that wrote the key
+abbrev pub refused_for_three : ℕ → List Item
+refused_for_three start = Write 0 1 0 p ∷ Draw 0 0 1 1 (Some 3) ∷ AskCommit 1 0 start ∷ Refused (Session 1) (Conflict 0 3) ∷ []

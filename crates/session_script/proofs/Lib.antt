@@ -1,3 +1,3 @@
-pub mod ArgumentLemmas
-pub mod LineLemmas
-pub mod WordLemmas
+mod ArgumentLemmas
+mod LineLemmas
+mod WordLemmas

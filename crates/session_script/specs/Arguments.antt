@@ -2,6 +2,8 @@
 use Rattle.std.specs.Prelude.{ℕ, ◌+◌, ◌-◌, ◌*◌, ◌==◌, nat_lt, nat_le, Bool, false, ◌&&◌, ◌||◌, not, if◌then◌else◌, List, [], ◌∷◌, Option, None, Some, length, codes}
 use Rattle.std.specs.List.{list_all}
 use Rattle.std.specs.Str.{bytes_eq}
+use Rattle.stamp_base.specs.declared.numbers.TheConstants.KeyNo as keys
+use Rattle.stamp_base.specs.declared.numbers.TheConstants.SessionNo as sessions
 use Rattle.history_book.specs.declared.item.Actor.{Actor}
 use Rattle.history_book.specs.declared.item.Actor.TheVariants.{Clock, Node, Session, Janitor}
 
@@ -33,11 +35,11 @@ below limit (Some n) = if nat_lt n limit then Some n else None
 
 -- `s0` to `s15`
 abbrev pub session_of : List ℕ → Option ℕ
-session_of word = below 16 (number_behind 115 word)
+session_of word = below sessions.COUNT (number_behind 115 word)
 
 -- `k0` to `k4095`
 abbrev pub key_of : List ℕ → Option ℕ
-key_of word = below 4096 (number_behind 107 word)
+key_of word = below keys.COUNT (number_behind 107 word)
 
 -- `a` to the last of the nodes
 abbrev pub node_of : ℕ → List ℕ → Option ℕ

@@ -4,7 +4,9 @@ use Rattle.std.specs.List.{list_all}
 use Rattle.std.specs.Str.Lines.{lines}
 use Rattle.stamp_base.specs.declared.stores.Store.{Store}
 use Rattle.port_io.specs.declared.weather.Fate.{Fate}
-use Rattle.stamp_base.specs.declared.setup.Setup.{Setup}
+use Rattle.stamp_base.specs.declared.limits.TheConstants.{BYTE_LIMIT, LINE_LIMIT}
+use Rattle.stamp_base.specs.SetupNumbers.{SetupNumbers, default_numbers}
+use Rattle.stamp_base.specs.Setups.{numbers_of}
 use Rattle.history_book.specs.declared.item.Actor.{Actor}
 use Rattle.history_book.specs.declared.item.Actor.TheVariants as actors
 use Rattle.session_script.specs.declared.form.Form.{Form}
@@ -27,14 +29,14 @@ use Rattle.session_script.specs.Words.{is_plain, is_silent, words_of, LineWords,
 
 -- a script as plain lists
 pub record ScriptData : Type 0 where
-  pub setup : Setup
+  pub setup : SetupNumbers
   pub leads : List ℕ
   pub faults : List (Store × ℕ × Fate)
   pub lines : List Line
 
 -- the lists of a script that was read
 abbrev pub data_of : Script → ScriptData
-data_of script = record { setup = script.setup; leads = script.leads.items; faults = script.faults.items; lines = script.lines.items }
+data_of script = record { setup = numbers_of script.setup; leads = script.leads.items; faults = script.faults.items; lines = script.lines.items }
 
 -- the first bad line and its first cause; line 0 stands for the bytes as a whole
 pub record BadLine : Type 0 where
@@ -152,7 +154,7 @@ with_line so_far line = record { counted = so_far.counted + 1; script = record s
 unfoldable pub after_line : Mode → SoFar → ℕ → List ℕ → Result SoFar ScriptCause
 after_line mode so_far number line =
     if is_silent line then Ok so_far
-    else if nat_le 131072 so_far.counted then Err TooManyLines
+    else if nat_le LINE_LIMIT so_far.counted then Err TooManyLines
     else if not (list_all is_plain line) then Err BadByte
     else line_of mode so_far.script.setup.nodes number (line_words (words_of line)) >>= (λ said. Ok (with_line so_far said))
 
@@ -165,17 +167,13 @@ unfoldable pub script_from : Mode → SoFar → ℕ → List (List ℕ) → Resu
 script_from mode so_far number [] = Ok so_far.script
 script_from mode so_far number (line ∷ rest) = or_bad_line number (after_line mode so_far number line) (λ next. script_from mode next (number + 1) rest)
 
--- the setup of a script without setup lines
-abbrev pub default_setup : Setup
-default_setup = record { nodes = 2; lease = 10; skew = 2; range = 100; buckets = 64; width = 4; slots = 64; batch = 8; workers = 2; cache = 0; direct = false }
-
 -- what holds before the first line
 abbrev pub nothing_read : SoFar
-nothing_read = record { counted = 0; script = record { setup = default_setup; leads = 0 ∷ 0 ∷ []; faults = []; lines = [] } }
+nothing_read = record { counted = 0; script = record { setup = default_numbers; leads = 0 ∷ 0 ∷ []; faults = []; lines = [] } }
 
 -- the script of the bytes, or their first bad line
 abbrev pub script_of : List ℕ → Mode → Result ScriptData BadLine
-script_of bytes mode = if nat_lt 16777216 (length bytes) then Err (record { line = 0; cause = TooLong }) else script_from mode nothing_read 1 (lines bytes)
+script_of bytes mode = if nat_lt BYTE_LIMIT (length bytes) then Err (record { line = 0; cause = TooLong }) else script_from mode nothing_read 1 (lines bytes)
 
 -- a reader answered what the definition gives, unless memory was refused
 abbrev pub ReadsScript : Result Script ScriptFault → Result ScriptData BadLine → Type 0

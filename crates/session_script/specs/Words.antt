@@ -39,11 +39,6 @@ is_silent line = is_silent_from (after_blanks line)
 abbrev pub with_word : List ℕ → List (List ℕ) → List (List ℕ)
 with_word word words = if is_word word then word ∷ words else words
 
--- the text begins with no blank
-abbrev pub StartsPlain : List ℕ → Type 0
-StartsPlain [] = Unit {0}
-StartsPlain (b ∷ bs) = is_blank b ≡ false
-
 -- the first word of a text, and the text after it
 pub record TakesWord (text word rest : List ℕ) : Type 0 where
   pub words : words_of text ≡ with_word word (words_of rest)

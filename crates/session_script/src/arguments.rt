@@ -3,12 +3,11 @@ ghost use Rattle.std.specs.Prelude.{◌≡◌, ◌≤◌, length};
 ghost use Rattle.session_script.specs.Arguments.{is_digit, leads_well, spelled_from, number_of, number_behind, session_of, key_of, node_of, value_of, actor_of};
 
 use history_book::Actor;
-use stamp_base::{KeyNo, NodeNo, SessionNo, Value};
+use stamp_base::{KeyNo, NodeNo, SessionNo, Setup, Value};
 
-/// The actor that begins a line, where there are so many nodes.
-pub fn actor_of(nodes: u64, word: &[u8]) -> Option<Actor>
-    requires { nodes ≤ 8 }
-    ensures { result ≡ actor_of nodes word.now }
+/// The actor that begins a line.
+pub fn actor_of(setup: &Setup, word: &[u8]) -> Option<Actor>
+    ensures { result ≡ actor_of setup.now.nodes word.now }
 {
     if word == b"clock".as_slice() {
         return Some(Actor::Clock);
@@ -16,7 +15,7 @@ pub fn actor_of(nodes: u64, word: &[u8]) -> Option<Actor>
     if word == b"janitor".as_slice() {
         return Some(Actor::Janitor);
     }
-    if let Some(node) = node_of(nodes, word) {
+    if let Some(node) = node_of(setup, word) {
         return Some(Actor::Node(node));
     }
     match session_of(word) {
@@ -25,13 +24,12 @@ pub fn actor_of(nodes: u64, word: &[u8]) -> Option<Actor>
     }
 }
 
-/// A node, by its letter.
-pub fn node_of(nodes: u64, word: &[u8]) -> Option<NodeNo>
-    requires { nodes ≤ 8 }
-    ensures { result ≡ node_of nodes word.now }
+/// A node of the setup, by its letter.
+pub fn node_of(setup: &Setup, word: &[u8]) -> Option<NodeNo>
+    ensures { result ≡ node_of setup.now.nodes word.now }
 {
     match word {
-        [letter] if b'a' <= *letter && (*letter as u64) < b'a' as u64 + nodes => {
+        [letter] if b'a' <= *letter && (*letter as u64) < b'a' as u64 + setup.nodes => {
             NodeNo::new((*letter - b'a') as u64)
         }
         _ => None,

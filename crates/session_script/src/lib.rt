@@ -1,4 +1,4 @@
-// Scripts: what a session's bytes ask for, or the first bad line and why it is bad.
+//! Scripts: what a session's bytes ask for, or the first bad line and why it is bad.
 #![tactic(auto)]
 
 mod arguments;
@@ -14,7 +14,7 @@ mod tables;
 mod words;
 
 pub use cause::{ScriptCause, ScriptFault};
-pub use reading::{BYTE_LIMIT, LINE_LIMIT, read_script};
+pub use reading::read_script;
 pub use script::{Line, Mode, Script, Target, Verb};
 
 #[cfg(test)]

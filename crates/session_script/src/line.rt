@@ -10,19 +10,18 @@ use crate::script::{Line, Mode, Target, Verb};
 use crate::tables::{setup_form, verb_form};
 use crate::words::Words;
 use history_book::Actor;
-use stamp_base::{KeyNo, Value};
+use stamp_base::{KeyNo, Setup, Value};
 
-/// What the words of a line say, where there are so many nodes.
+/// What the words of a line say.
 #[tactic(auto, unfolding(crate::specs::Script::line_of))]
-pub fn line_of(mode: Mode, nodes: u64, number: u64, words: &Words) -> Result<Line, ScriptCause>
-    requires { nodes ≤ 8 }
-    ensures { result ≡ line_of mode nodes number (seen words.now) }
+pub fn line_of(mode: Mode, setup: &Setup, number: u64, words: &Words) -> Result<Line, ScriptCause>
+    ensures { result ≡ line_of mode setup.now.nodes number (seen words.now) }
 {
     if let Some(form) = setup_form(words.first) {
         return setup_line(form, words);
     }
-    match actor_of(nodes, words.first) {
-        Some(actor) => actor_line(mode, nodes, number, actor, words),
+    match actor_of(setup, words.first) {
+        Some(actor) => actor_line(mode, setup, number, actor, words),
         None => Err(ScriptCause::UnknownActor),
     }
 }
@@ -41,16 +40,15 @@ fn setup_line(form: Form, words: &Words) -> Result<Line, ScriptCause>
 #[tactic(auto, unfolding(crate::specs::Script::actor_line))]
 fn actor_line(
     mode: Mode,
-    nodes: u64,
+    setup: &Setup,
     number: u64,
     actor: Actor,
     words: &Words,
 ) -> Result<Line, ScriptCause>
-    requires { nodes ≤ 8 }
-    ensures { result ≡ actor_line mode nodes number actor (seen words.now) }
+    ensures { result ≡ actor_line mode setup.now.nodes number actor (seen words.now) }
 {
     let form = form_of(mode, &actor, words)?;
-    let verb = verb_of(nodes, form, words)?;
+    let verb = verb_of(setup, form, words)?;
     Ok(Line {
         number,
         actor,
@@ -104,14 +102,13 @@ fn is_run(mode: Mode) -> bool
 }
 
 /// The arguments of a line of a form that is built.
-fn verb_of(nodes: u64, form: Form, words: &Words) -> Result<Verb, ScriptCause>
-    requires { nodes ≤ 8 }
-    ensures { result ≡ verb_of nodes form (seen words.now) }
+fn verb_of(setup: &Setup, form: Form, words: &Words) -> Result<Verb, ScriptCause>
+    ensures { result ≡ verb_of setup.now.nodes form (seen words.now) }
 {
     match form {
         Form::Take => Ok(Verb::Take),
-        Form::Begin => begin_at(nodes, words),
-        Form::Commit => commit_at(nodes, words),
+        Form::Begin => begin_at(setup, words),
+        Form::Commit => commit_at(setup, words),
         Form::Write => write_at(words),
         Form::Read => read_at(words),
         _ => Err(ScriptCause::NotYet),
@@ -119,20 +116,18 @@ fn verb_of(nodes: u64, form: Form, words: &Words) -> Result<Verb, ScriptCause>
 }
 
 #[tactic(auto, unfolding(crate::specs::Script::begin_at))]
-fn begin_at(nodes: u64, words: &Words) -> Result<Verb, ScriptCause>
-    requires { nodes ≤ 8 }
-    ensures { result ≡ begin_at nodes (seen words.now) }
+fn begin_at(setup: &Setup, words: &Words) -> Result<Verb, ScriptCause>
+    ensures { result ≡ begin_at setup.now.nodes (seen words.now) }
 {
-    let target = target_of(nodes, words)?;
+    let target = target_of(setup, words)?;
     Ok(Verb::Begin { target })
 }
 
 #[tactic(auto, unfolding(crate::specs::Script::commit_at))]
-fn commit_at(nodes: u64, words: &Words) -> Result<Verb, ScriptCause>
-    requires { nodes ≤ 8 }
-    ensures { result ≡ commit_at nodes (seen words.now) }
+fn commit_at(setup: &Setup, words: &Words) -> Result<Verb, ScriptCause>
+    ensures { result ≡ commit_at setup.now.nodes (seen words.now) }
 {
-    let target = target_of(nodes, words)?;
+    let target = target_of(setup, words)?;
     Ok(Verb::Commit { target })
 }
 
@@ -155,11 +150,10 @@ fn read_at(words: &Words) -> Result<Verb, ScriptCause>
 
 /// Where a line sends a request. Of the nodes only the first is served today.
 #[tactic(auto, unfolding(crate::specs::Script::target_of))]
-fn target_of(nodes: u64, words: &Words) -> Result<Target, ScriptCause>
-    requires { nodes ≤ 8 }
-    ensures { result ≡ target_of nodes (seen words.now) }
+fn target_of(setup: &Setup, words: &Words) -> Result<Target, ScriptCause>
+    ensures { result ≡ target_of setup.now.nodes (seen words.now) }
 {
-    match node_of(nodes, words.third) {
+    match node_of(setup, words.third) {
         Some(node) => {
             if node.value() == 0 {
                 Ok(Target::Node(node))

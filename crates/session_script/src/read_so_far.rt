@@ -1,8 +1,9 @@
 // What was read of a script so far.
 ghost use Rattle.std.specs.Prelude.{◌≡◌, ◌+◌, ◌<◌, ◌≤◌, IfOk, OnOk, vec_len};
+ghost use Rattle.stamp_base.specs.declared.limits.TheConstants.{LINE_LIMIT};
 
 use crate::script::{Line, Script};
-use stamp_base::Setup;
+use stamp_base::{LINE_LIMIT, Setup};
 use std::alloc::{AllocError, Global};
 
 #[derive(Drop)]
@@ -11,8 +12,7 @@ pub struct ReadSoFar {
     pub counted: usize,
     pub script: Script,
     ghost few: { vec_len script.lines ≤ counted },
-    ghost limited: { counted ≤ 131072 },
-    ghost known_nodes: { script.setup.nodes ≤ 8 },
+    ghost limited: { counted ≤ LINE_LIMIT },
 }
 
 impl ReadSoFar {
@@ -27,7 +27,7 @@ impl ReadSoFar {
         Ok(ReadSoFar {
             counted: 0,
             script: Script {
-                setup: Setup::DEFAULT,
+                setup: Setup::default(),
                 leads,
                 faults: Vec::new(alloc),
                 lines: Vec::new(alloc),
@@ -37,7 +37,7 @@ impl ReadSoFar {
 
     /// Adds a line that counts.
     pub fn add(&mut self, line: Line) -> Result<(), AllocError>
-        requires { self.old.counted < 131072 }
+        requires { self.old.counted < LINE_LIMIT }
         ensures { OnOk result (so_far self.new ≡ with_line (so_far self.old) line) }
     {
         self.script.lines.extend_from_slice(&[line])?;

@@ -10,18 +10,13 @@ use crate::line::line_of;
 use crate::lines::split_line;
 use crate::read_so_far::ReadSoFar;
 use crate::script::{Line, Mode, Script};
+use stamp_base::{BYTE_LIMIT, LINE_LIMIT};
 use std::alloc::Global;
-
-/// The most bytes that a script has.
-pub const BYTE_LIMIT: usize = 16_777_216;
-
-/// The most lines of a script that are neither empty nor comments.
-pub const LINE_LIMIT: usize = 131_072;
 
 /// The script that the bytes are, or the first bad line and its first cause.
 pub fn read_script(alloc: Global, bytes: &[u8], mode: Mode) -> Result<Script, ScriptFault>
     ensures script { ReadsScript result (script_of bytes.now mode) }
-    ensures few { IfOk result (λ script. vec_len script.lines ≤ 131072) }
+    ensures few { IfOk result (λ script. vec_len script.lines ≤ LINE_LIMIT) }
 {
     if bytes.len() > BYTE_LIMIT {
         return Err(ScriptFault::At {
@@ -34,9 +29,9 @@ pub fn read_script(alloc: Global, bytes: &[u8], mode: Mode) -> Result<Script, Sc
 
 #[tactic(auto, unfolding(crate::specs::Script::script_from))]
 fn read_lines(alloc: Global, bytes: &[u8], mode: Mode) -> Result<Script, ScriptFault>
-    requires { length bytes.now ≤ 16777216 }
+    requires { length bytes.now ≤ BYTE_LIMIT }
     ensures script { ReadsScript result (script_from mode nothing_read 1 (lines bytes.now)) }
-    ensures few { IfOk result (λ script. vec_len script.lines ≤ 131072) }
+    ensures few { IfOk result (λ script. vec_len script.lines ≤ LINE_LIMIT) }
 {
     let mut reading = ReadSoFar::start(alloc)?;
     let mut rest = bytes;
@@ -69,14 +64,14 @@ fn read_line(
     if !is_plain_line(line) {
         return bad_line(number, ScriptCause::BadByte);
     }
-    match line_of(mode, reading.script.setup.nodes, number, &cut_line(line)) {
+    match line_of(mode, &reading.script.setup, number, &cut_line(line)) {
         Ok(line) => add_line(reading, line),
         Err(cause) => bad_line(number, cause),
     }
 }
 
 fn add_line(reading: &mut ReadSoFar, line: Line) -> Result<(), ScriptFault>
-    requires { reading.old.counted < 131072 }
+    requires { reading.old.counted < LINE_LIMIT }
     ensures ok { OnOk result (so_far reading.new ≡ with_line (so_far reading.old) line) }
     ensures memory { IfErr result (λ fault. fault ≡ ScriptFault.NoMemory) }
 {

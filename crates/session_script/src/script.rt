@@ -1,6 +1,6 @@
 use history_book::Actor;
-use port_io::{Fate, Store};
-use stamp_base::{KeyNo, Name, NodeNo, SessionNo, Setup, Stage, TxnId, Value};
+use port_io::Fate;
+use stamp_base::{KeyNo, Name, NodeNo, SessionNo, Setup, Stage, Store, TxnId, Value};
 
 /// For which way of carrying out a script is read.
 #[derive(Clone, Copy, Debug, PartialEq, Eq)]

@@ -132,7 +132,7 @@ fn reads_each_form_that_is_built(rt: HostRuntime) -> Result<(), Fail> {
         assert!(rt; line.actor == *actor, "actor of line {number}");
         assert!(rt; line.verb == *verb, "verb of line {number}");
     }
-    assert!(rt; script.setup == Setup::DEFAULT);
+    assert!(rt; script.setup == Setup::default());
     assert_eq!(rt; script.leads.as_slice(), [0, 0].as_slice());
     assert!(rt; script.faults.is_empty());
     Ok(())

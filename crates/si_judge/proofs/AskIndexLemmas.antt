@@ -28,10 +28,6 @@ or_true : (b : Bool) → (b || true) ≡ true
 or_true true = refl
 or_true false = refl
 
-or_false : (b : Bool) → (b || false) ≡ b
-or_false true = refl
-or_false false = refl
-
 asks_last : (s : ℕ) (xs : List Item) (x : Item) → asks s x ≡ true → has_ask s (xs ++ x ∷ []) ≡ true
 unfolding has_ask
 asks_last s [] x on = rw on refl
@@ -179,9 +175,6 @@ past_end : (starts : List (Option ℕ)) (q stamp : ℕ) → length starts ≤ q 
 past_end [] q stamp le low = low
 past_end (o ∷ starts) zero stamp le low = omega (arith, le)
 past_end (o ∷ starts) (suc q) stamp le low = past_end starts q stamp (omega (arith, le)) low
-
-pub none_behind : (starts : List (Option ℕ)) (place : ℕ) (least : Option ℕ) → place ≡ length starts → KnowsLeast starts place least
-none_behind starts place least end = record { at = λ q stamp le low. absurd (past_end starts q stamp (omega (arith, le, end)) low) }
 
 pub least_more : (starts : List (Option ℕ)) (place : ℕ) (old new : Option ℕ) → KnowsLeast starts (suc place) old → ((stamp : ℕ) → IsNotAbove old stamp → IsNotAbove new stamp) → ((stamp : ℕ) → IsNotAbove (get_or starts place None) stamp → IsNotAbove new stamp) → KnowsLeast starts place new
 least_more starts place old new knows first second = record {

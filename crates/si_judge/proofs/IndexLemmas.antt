@@ -8,24 +8,17 @@ use Rattle.std.specs.BTreeMap.{BTreeMap, get, is_at, Updates, IsEmpty}
 use Rattle.std.proofs.lemmas.Bool.{eqb-true}
 use Rattle.std.proofs.lemmas.Bool.Decides.{nat_tests}
 use Rattle.std.proofs.lemmas.Option.{same_Some}
-use Rattle.history_book.specs.Members.{◌∈◌}
-use Rattle.history_book.specs.Isolation.{last_write, written_by, Committed, NewStamps, Visible, Newest}
+use Rattle.history_book.specs.Isolation.{last_write, written_by, Committed, Visible, Newest}
 use Rattle.history_book.specs.declared.item.Item.{Item}
-use Rattle.history_book.specs.declared.item.Item.TheVariants.{Placed, Write}
-use Rattle.history_book.proofs.MemberLemmas.{in_front, in_last, in_push, in_old}
+use Rattle.history_book.specs.declared.item.Item.TheVariants.{Write}
 use Rattle.isolation_rules.specs.declared.version.Version.{Version}
 use Rattle.isolation_rules.specs.Best.{IsOwn, IsWritten}
 use Rattle.isolation_rules.proofs.WriteLemmas.{last_write_at}
-use Rattle.si_judge.specs.Indexed.{pair_cmp, HasCommits, HasVersions, HasLastWrites}
+use Rattle.si_judge.specs.Indexed.{pair_cmp, HasVersions, HasLastWrites}
+use Rattle.si_judge.specs.declared.commits.Commit.{Commit}
+use Rattle.si_judge.specs.Commits.{Commits, commit_at, HasCommits}
+use Rattle.si_judge.proofs.CommitLemmas.{has_committed, committed_is_held}
 use Rattle.si_judge.proofs.PushLemmas.{write_here, write_stays, last_write_stays, written_is, wrote_or_none}
-
--- what a map has at a number after an entry
-nat_updated : {X : Type 0} (m n : BTreeMap ℕ X) (t : ℕ) (w : X) → Updates nat_cmp m n t (Some w) → (u : ℕ) → ((u ≡ t) × (get nat_cmp n u ≡ Some w)) ⊎ ((u ≡ t → ⊥) × (get nat_cmp n u ≡ get nat_cmp m u))
-nat_updated {X} m n t w put u = by (is_at (nat_cmp t) u) refl
-  where
-    by : (b : Bool) → is_at (nat_cmp t) u ≡ b → ((u ≡ t) × (get nat_cmp n u ≡ Some w)) ⊎ ((u ≡ t → ⊥) × (get nat_cmp n u ≡ get nat_cmp m u))
-    by true e = inl (grind (arith, nat_tests, e), put.0 u ∙ ap (λ b. cond b (Some w) (get nat_cmp m u)) e)
-    by false e = inr (λ same. grind (arith, nat_tests, e, same), put.0 u ∙ ap (λ b. cond b (Some w) (get nat_cmp m u)) e)
 
 at_pair : (a b p q : ℕ) → is_at (pair_cmp (a, b)) (p, q) ≡ ((p == a) && (q == b))
 at_pair a b p q = grind (arith, nat_tests)
@@ -43,49 +36,6 @@ pair_updated {X} m n a b w put p q = by (is_at (pair_cmp (a, b)) (p, q)) refl
         let tests = both_true (p == a) (q == b) (sym (at_pair a b p q) ∙ e) in
         inl (eqb-true p a tests.0, eqb-true q b tests.1, put.0 (p, q) ∙ ap (λ r. cond r (Some w) (get pair_cmp m (p, q))) e)
     by false e = inr (λ one two. grind (arith, nat_tests, e, one, two), put.0 (p, q) ∙ ap (λ r. cond r (Some w) (get pair_cmp m (p, q))) e)
-
-pub commits_skip : (part : List Item) (x : Item) (m : BTreeMap ℕ ℕ) → ((t c : ℕ) → Placed t c ≡ x → ⊥) → HasCommits part m → HasCommits (part ++ x ∷ []) m
-commits_skip part x m other old = record {
-  held = λ t c e. in_front (Placed t c) part (x ∷ []) (old.held t c e);
-  whole = λ t c there. old.whole t c (in_old (Placed t c) x part (other t c) there);
-}
-
-start_of : Item → ℕ
-start_of (Placed t c) = t
-start_of _ = 0
-
-commit_of : Item → ℕ
-commit_of (Placed t c) = c
-commit_of _ = 0
-
-one_start : (t c u d : ℕ) → Placed t c ≡ Placed u d → t ≡ u
-unfolding start_of
-one_start t c u d e = ap start_of e
-
-one_commit : (t c u d : ℕ) → Placed t c ≡ Placed u d → c ≡ d
-unfolding commit_of
-one_commit t c u d e = ap commit_of e
-
--- a transaction with no commit before has the one that is entered
-pub commits_entered : (part : List Item) (t c : ℕ) (m n : BTreeMap ℕ ℕ) → NewStamps part (Placed t c) → Updates nat_cmp m n t (Some c) → HasCommits part m → HasCommits (part ++ Placed t c ∷ []) n
-commits_entered part t c m n new put old = record {
-  held = λ u d e. elim (nat_updated m n t c put u) [
-    | inl here ↦
-        let at = same_Some _ _ (sym here.1 ∙ e) in
-        subst (λ (w : ℕ). Placed w d ∈ (part ++ Placed t c ∷ [])) (sym here.0) (subst (λ (w : ℕ). Placed t w ∈ (part ++ Placed t c ∷ [])) at (in_last (Placed t c) part))
-    | inr other ↦ in_front (Placed u d) part (Placed t c ∷ []) (old.held u d (sym other.1 ∙ e))
-  ];
-  whole = λ u d there. elim (nat_updated m n t c put u) [
-    | inl here ↦ elim (in_push (Placed u d) (Placed t c) part there) [
-      | inl before ↦ absurd ((new u d before).0 here.0)
-      | inr e ↦ here.1 ∙ ap Some (sym (one_commit u d t c e))
-    ]
-    | inr other ↦ elim (in_push (Placed u d) (Placed t c) part there) [
-      | inl before ↦ other.1 ∙ old.whole u d before
-      | inr e ↦ absurd (other.0 (one_start u d t c e))
-    ]
-  ];
-}
 
 -- an item that writes nothing for a committed transaction changes no version
 pub versions_skip : (h part : List Item) (x : Item) (m : BTreeMap (ℕ × ℕ) Version) → ((t c k : ℕ) (v : List ℕ) → Committed h t c → written_by t k x ≡ Some v → ⊥) → HasVersions h part m → HasVersions h (part ++ x ∷ []) m
@@ -114,16 +64,19 @@ unfolding writer written_key
 one_writer s t k v r u l w e = (ap writer e, ap written_key e)
 
 -- a write of a transaction that is not committed is no version
-pub open_write_skips : (h : List Item) (commits : BTreeMap ℕ ℕ) (session u l : ℕ) (w : List ℕ) → HasCommits h commits → get nat_cmp commits u ≡ None → (t c k : ℕ) (v : List ℕ) → Committed h t c → written_by t k (Write session u l w) ≡ Some v → ⊥
+pub open_write_skips : (h : List Item) (commits : Commits) (session u l : ℕ) (w : List ℕ) → HasCommits h (length h) commits → get nat_cmp commits u ≡ None → (t c k : ℕ) (v : List ℕ) → Committed h t c → written_by t k (Write session u l w) ≡ Some v → ⊥
 open_write_skips h commits session u l w has none t c k v committed some =
     let is = written_is t k (Write session u l w) v some in
     let same = (one_writer session u l w is.0 t k v is.1).0 in
-    let clash : None ≡ Some c = sym none ∙ ap (λ n. get nat_cmp commits n) same ∙ has.whole t c committed in
+    let held = committed_is_held h commits has t c committed in
+    let clash : None ≡ Some (commit_at c held.0) = sym none ∙ ap (λ n. get nat_cmp commits n) same ∙ held.1 in
     absurd (cc)
 
 -- the commit of a committed transaction is one
-one_of_commits : (h : List Item) (commits : BTreeMap ℕ ℕ) (t c d : ℕ) → HasCommits h commits → get nat_cmp commits t ≡ Some c → Committed h t d → d ≡ c
-one_of_commits h commits t c d has there committed = same_Some _ _ (sym (has.whole t d committed) ∙ there)
+one_of_commits : (h : List Item) (commits : Commits) (t d : ℕ) (commit : Commit) → HasCommits h (length h) commits → get nat_cmp commits t ≡ Some commit → Committed h t d → d ≡ commit.stamp
+one_of_commits h commits t d commit has there committed =
+    let held = committed_is_held h commits has t d committed in
+    ap (λ (c : Commit). c.stamp) (same_Some _ _ (sym held.1 ∙ there))
 
 some_is : {X : Type 0} (o : Option X) (x : X) → o ≡ Some x → IsSome o
 some_is o x e = ap is_some e
@@ -139,14 +92,14 @@ writes_itself : (session t k : ℕ) (v : List ℕ) → written_by t k (Write ses
 writes_itself session t k v = grind (arith, nat_tests)
 
 -- a write of a committed transaction takes the place of its earlier write of the key
-pub versions_entered : (h part : List Item) (commits : BTreeMap ℕ ℕ) (session t k c p : ℕ) (v : List ℕ) (m n : BTreeMap (ℕ × ℕ) Version) → HasCommits h commits → get nat_cmp commits t ≡ Some c → length part ≡ p → Updates pair_cmp m n (k, c) (Some (record { place = p; found = record { from = t; value = v } })) → HasVersions h part m → HasVersions h (part ++ Write session t k v ∷ []) n
+pub versions_entered : (h part : List Item) (commits : Commits) (commit : Commit) (session t k p : ℕ) (v : List ℕ) (m n : BTreeMap (ℕ × ℕ) Version) → HasCommits h (length h) commits → get nat_cmp commits t ≡ Some commit → length part ≡ p → Updates pair_cmp m n (k, commit.stamp) (Some (record { place = p; found = record { from = t; value = v } })) → HasVersions h part m → HasVersions h (part ++ Write session t k v ∷ []) n
 unfolding made
-versions_entered h part commits session t k c p v m n has there at put old = record {
-  held = λ l d version e. elim (pair_updated m n k c (made p t v) put l d) [
+versions_entered h part commits commit session t k p v m n has there at put old = record {
+  held = λ l d version e. elim (pair_updated m n k commit.stamp (made p t v) put l d) [
     | inl here ↦
         let same : made p t v ≡ version = same_Some _ _ (sym here.2 ∙ e) in
         subst (λ (w : Version). Committed h w.found.from d × IsWritten (part ++ Write session t k v ∷ []) l w) same (
-          subst (λ (a : ℕ). Committed h t a) (sym here.1) (has.held t c there),
+          subst (λ (a : ℕ). Committed h t a) (sym here.1) (has_committed h (length h) commits has t commit there),
           subst (λ (a : ℕ). IsWritten (part ++ Write session t k v ∷ []) a (made p t v)) (sym here.0) (entered_written part session t k p v at (writes_itself session t k v)),
         )
     | inr other ↦
@@ -154,25 +107,18 @@ versions_entered h part commits session t k c p v m n has there at put old = rec
         let not_here : written_by version.found.from l (Write session t k v) ≡ None = wrote_or_none version.found.from l (Write session t k v) _ (λ none. none) (λ w some.
         let is = written_is version.found.from l (Write session t k v) w some in
         let same = one_writer session t k v is.0 version.found.from l w is.1 in
-        absurd (other.0 (sym same.1) (one_of_commits h commits t c d has there (subst (λ (a : ℕ). Committed h a d) (sym same.0) was.0)))) in
+        absurd (other.0 (sym same.1) (one_of_commits h commits t d commit has there (subst (λ (a : ℕ). Committed h a d) (sym same.0) was.0)))) in
         (was.0, write_stays part (Write session t k v) version.found.from l version.found.value version.place not_here was.1)
   ];
-  whole = λ u d l w committed wrote. elim (pair_updated m n k c (made p t v) put l d) [
+  whole = λ u d l w committed wrote. elim (pair_updated m n k commit.stamp (made p t v) put l d) [
     | inl here ↦ some_is _ _ here.2
     | inr other ↦
         let not_here : written_by u l (Write session t k v) ≡ None = wrote_or_none u l (Write session t k v) _ (λ none. none) (λ z some.
         let is = written_is u l (Write session t k v) z some in
         let same = one_writer session t k v is.0 u l z is.1 in
-        absurd (other.0 (sym same.1) (one_of_commits h commits t c d has there (subst (λ (a : ℕ). Committed h a d) (sym same.0) committed)))) in
+        absurd (other.0 (sym same.1) (one_of_commits h commits t d commit has there (subst (λ (a : ℕ). Committed h a d) (sym same.0) committed)))) in
         subst (λ (o : Option Version). IsSome o) (sym other.1) (old.whole u d l w committed (sym (last_write_stays part (Write session t k v) u l not_here) ∙ wrote))
   ];
-}
-
-pub commits_empty : (m : BTreeMap ℕ ℕ) → IsEmpty m → HasCommits [] m
-unfolding ◌∈◌
-commits_empty m empty = record {
-  held = λ t c e. let none : get nat_cmp m t ≡ None = rw empty refl in let clash : None ≡ Some c = sym none ∙ e in absurd (cc);
-  whole = λ t c there. absurd there;
 }
 
 pub versions_empty : (h : List Item) (m : BTreeMap (ℕ × ℕ) Version) → IsEmpty m → HasVersions h [] m

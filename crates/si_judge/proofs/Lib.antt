@@ -1,9 +1,10 @@
-pub mod ApartLaw
-pub mod PushLemmas
-pub mod IndexLemmas
-pub mod ListedLemmas
-pub mod VerdictLemmas
-pub mod SuspectLemmas
-pub mod StampIndexLemmas
-pub mod AskIndexLemmas
-pub mod OverlapIndexLemmas
+mod ApartLaw
+mod PushLemmas
+mod IndexLemmas
+mod ListedLemmas
+mod VerdictLemmas
+mod SuspectLemmas
+mod StampIndexLemmas
+mod AskIndexLemmas
+mod CommitLemmas
+mod OverlapIndexLemmas

@@ -1,5 +1,5 @@
 -- What the maps of commits and of committed writes hold, and what is marked by them.
-use Rattle.std.proofs.Common.{◌≡◌, ◌≢◌, ◌≤◌, ◌<◌, ◌+◌, ◌==◌, ◌⊎◌, ℕ, zero, suc, Bool, true, false, cond, List, [], ◌∷◌, Option, Some, None, is_some, IfSome, length, get_or, slice_get, inl, inr, refl, sym, ap, subst, ◌∙◌, arith}
+use Rattle.std.proofs.Common.{◌≡◌, ◌≤◌, ◌<◌, ◌+◌, ◌==◌, ◌⊎◌, ℕ, zero, suc, Bool, true, false, cond, List, [], ◌∷◌, Option, Some, None, is_some, IfSome, length, get_or, slice_get, inl, inr, refl, sym, ap, subst, ◌∙◌, arith}
 use Rattle.std.specs.Ordering.{nat_cmp}
 use Rattle.std.specs.BTreeMap.{is_at, get, Updates}
 use Rattle.std.specs.BTreeMap.Range.{range_contains, entries_between}
@@ -12,47 +12,20 @@ use Rattle.std.proofs.lemmas.Option.{same_Some, slice_get_within}
 use Rattle.std.proofs.lemmas.Map.Lookups.{exact_pairs, exact_unsigned}
 use Rattle.std.proofs.lemmas.Map.Views.{tells_apart}
 use Rattle.history_book.specs.Members.{◌∈◌}
-use Rattle.history_book.specs.Isolation.{Stamped, Wrote}
+use Rattle.history_book.specs.Isolation.{Wrote}
 use Rattle.history_book.specs.declared.item.Item.{Item}
 use Rattle.history_book.specs.declared.item.Item.TheVariants.{Placed, Write}
 use Rattle.isolation_rules.specs.declared.verdict.Rule.TheVariants as rule
 use Rattle.isolation_rules.specs.ApartPairs.{OverlapsPlaced, Overlapping, writes}
 use Rattle.isolation_rules.specs.Judged.{Passes}
 use Rattle.isolation_rules.proofs.KeyLemmas.{any_writes, and_parts}
-use Rattle.isolation_rules.proofs.PlaceLemmas.{both_at, in_take}
+use Rattle.isolation_rules.proofs.PlaceLemmas.{both_at}
 use Rattle.si_judge.specs.declared.marks.Marks.{Marks}
-use Rattle.si_judge.specs.declared.overlap_index.Commit.{Commit}
+use Rattle.si_judge.specs.declared.commits.Commit.{Commit}
+use Rattle.si_judge.specs.Commits.{Commits, commit_at, HasCommits}
 use Rattle.si_judge.specs.Marks.{IsMarked, KeepsMarks}
 use Rattle.si_judge.specs.Indexed.{pair_cmp}
-use Rattle.si_judge.specs.OverlapIndex.{Commits, Written, commit_at, NotesCommit, HasCommits, HasWrite, HasWrites, KeepsWrites, MarksOverlaps, MarksAll}
-
--- ---- the commits
-off_at : (t u : ℕ) → u ≢ t → is_at (nat_cmp t) u ≡ false
-off_at t u other = grind (arith, nat_tests)
-
-pub commit_noted : (old new : Commits) (x : Item) (t c place : ℕ) → x ≡ Placed t c → Updates nat_cmp old new t (Some (commit_at c place)) → NotesCommit old new x place
-commit_noted old new x t c place is updates = subst (λ (y : Item). NotesCommit old new y place) (sym is) (updates.1, λ u other. updates.2 u (off_at t u other))
-
-pub no_commits : (h : List Item) (commits : Commits) → HasCommits h 0 commits
-no_commits h commits = record { at = λ i t c less there. absurd (omega (arith, less)) }
-
-commit_stays : (h : List Item) → Stamped h → (place : ℕ) (x : Item) (old new : Commits) → slice_get h place ≡ Some x → NotesCommit old new x place → (i t c : ℕ) → i < place → slice_get h i ≡ Some (Placed t c) → get nat_cmp old t ≡ Some (commit_at c i) → get nat_cmp new t ≡ Some (commit_at c i)
-commit_stays h stamped place (Placed u d) old new here notes i t c before there was =
-    let fresh = stamped.distinct.at place (Placed u d) here t c (in_take (Placed t c) place h i there before) in
-    notes.1 t fresh.0 ∙ was
-commit_stays h stamped place _ old new here notes i t c before there was = notes t ∙ was
-
-pub commits_more : (h : List Item) → Stamped h → (place : ℕ) (x : Item) (old new : Commits) → slice_get h place ≡ Some x → HasCommits h place old → NotesCommit old new x place → HasCommits h (place + 1) new
-commits_more h stamped place x old new here has notes = record {
-  at = λ i t c less there. elim (cases_lt i place) [
-    | inl before ↦ commit_stays h stamped place x old new here notes i t c before there (has.at i t c before there)
-    | inr more ↦
-        let same : place ≡ i = omega (arith, less, more) in
-        let item : x ≡ Placed t c = same_Some _ _ (sym here ∙ ap (λ n. slice_get h n) same ∙ there) in
-        let noted = subst (λ (y : Item). NotesCommit old new y place) item notes in
-        subst (λ (n : ℕ). get nat_cmp new t ≡ Some (commit_at c n)) same noted.0
-  ];
-}
+use Rattle.si_judge.specs.OverlapIndex.{Written, HasWrite, HasWrites, KeepsWrites, MarksOverlaps, MarksAll}
 
 -- ---- the committed writes
 pub write_noted : (commits : Commits) (old new : Written) (x : Item) (session t k : ℕ) (value : List ℕ) (commit : Commit) → x ≡ Write session t k value → Some commit ≡ get nat_cmp commits t → Updates pair_cmp old new (k, t) (Some commit) → HasWrite commits new x
@@ -76,9 +49,6 @@ writes_kept commits old new k t commit there updates = record { at = λ l u othe
         let one : Some commit ≡ Some other = there ∙ ap (λ n. get nat_cmp commits n) start ∙ found in
         sym (ap (λ q. get pair_cmp new q) same) ∙ updates.1 ∙ one
     by l u other found was false e = updates.2 (l, u) e ∙ was
-
-pub no_writes : (h : List Item) (commits : Commits) (written : Written) → HasWrites h 0 commits written
-no_writes h commits written = record { at = λ i x less there. absurd (omega (arith, less)) }
 
 write_stays : (commits : Commits) (old new : Written) → KeepsWrites commits old new → (x : Item) → HasWrite commits old x → HasWrite commits new x
 write_stays commits old new keeps (Write session t k value) has = by (get nat_cmp commits t) refl has
@@ -106,9 +76,6 @@ Entry = (ℕ × ℕ) × Commit
 -- each entry of the part is still to come, or it and the commit at the place are marked
 pub record IsMarkedBut (part left : List Entry) (place : ℕ) (marks : Marks) : Type 0 where
   pub at : (e : Entry) → e ∈ part → (e ∈ left) ⊎ (IsMarked marks place × IsMarked marks e.1.place)
-
-pub none_marked : (part left : List Entry) (place : ℕ) (marks : Marks) → left ≡ part → IsMarkedBut part left place marks
-none_marked part left place marks same = record { at = λ e m. inl (subst (λ (es : List Entry). e ∈ es) (sym same) m) }
 
 pub keeps_none : (marks : Marks) → KeepsMarks marks marks
 keeps_none marks = record { each = refl; at = λ i on. on }

@@ -1,46 +1,15 @@
 -- Items that share no stamp with those behind.
-use Rattle.std.proofs.Common.{◌≡◌, ◌==◌, ◌||◌, ℕ, Bool, true, false, nat_le, ◌≤◌, suc, List, Some, slice_get, arith, inl, inr, refl, sym, ap, subst, ◌∙◌}
-use Rattle.std.proofs.lemmas.Bool.{eqb-true, cases_lt}
+use Rattle.std.proofs.Common.{◌≡◌, ℕ, true, ◌≤◌, suc, List, Some, slice_get, arith, inl, inr, sym, ap, subst, ◌∙◌}
+use Rattle.std.proofs.lemmas.Bool.{cases_lt}
 use Rattle.std.proofs.lemmas.Option.{same_Some}
-use Rattle.std.specs.Ordering.{nat_cmp}
-use Rattle.std.specs.BTreeSet.{BTreeSet, contains}
 use Rattle.history_book.specs.declared.item.Item.{Item}
 use Rattle.history_book.specs.declared.item.Item.TheVariants.{Begin, Placed}
 use Rattle.isolation_rules.specs.declared.verdict.Rule.TheVariants as rule
-use Rattle.isolation_rules.specs.StampedPairs.{start_meets, placed_meets, stamps_meet, commits_too_low}
+use Rattle.isolation_rules.specs.StampedPairs.{stamps_meet, commits_too_low}
 use Rattle.isolation_rules.specs.Judged.{Passes}
 use Rattle.isolation_rules.proofs.PlaceLemmas.{one_at, both_at}
 use Rattle.si_judge.specs.declared.stamp_index.Stamps.{Stamps}
-use Rattle.si_judge.specs.StampSets.{Has}
 use Rattle.si_judge.specs.StampIndex.{HasStamps, KeepsStamps, IsClear}
-
--- a stamp that a set lacks is none that it has
-stamps_differ : (stamps : BTreeSet ℕ) (t u : ℕ) → contains nat_cmp stamps t ≡ false → Has stamps u → (t == u) ≡ false
-stamps_differ stamps t u lacks has = by (t == u) refl
-  where
-    by : (r : Bool) → (t == u) ≡ r → r ≡ false
-    by true e = let same : contains nat_cmp stamps t ≡ contains nat_cmp stamps u = ap (λ n. contains nat_cmp stamps n) (eqb-true t u e) in absurd (cc)
-    by false e = refl
-
-begin_apart : (index : Stamps) (t : ℕ) → contains nat_cmp index.drawn t ≡ false → (y : Item) → HasStamps index y → start_meets t y ≡ false
-begin_apart index t lacks (Begin session start) has = stamps_differ index.drawn t start lacks has
-begin_apart index t lacks (Placed start commit) has = stamps_differ index.drawn t commit lacks has.1
-begin_apart index t lacks _ has = refl
-
-pub begin_clear : (index : Stamps) (session t : ℕ) → contains nat_cmp index.drawn t ≡ false → IsClear index (Begin session t)
-begin_clear index session t lacks = record { above = refl; apart = λ y has. begin_apart index t lacks y has }
-
-or_neither : (a b : Bool) → a ≡ false → b ≡ false → (a || b) ≡ false
-or_neither true b ea eb = ea
-or_neither false b ea eb = eb
-
-placed_apart : (index : Stamps) (t c : ℕ) → contains nat_cmp index.placed t ≡ false → contains nat_cmp index.drawn c ≡ false → (y : Item) → HasStamps index y → placed_meets t c y ≡ false
-placed_apart index t c start commit (Begin session other) has = stamps_differ index.drawn c other commit has
-placed_apart index t c start commit (Placed u d) has = or_neither (t == u) (c == d) (stamps_differ index.placed t u start has.0) (stamps_differ index.drawn c d commit has.1)
-placed_apart index t c start commit _ has = refl
-
-pub placed_clear : (index : Stamps) (t c : ℕ) → nat_le c t ≡ false → contains nat_cmp index.placed t ≡ false → contains nat_cmp index.drawn c ≡ false → IsClear index (Placed t c)
-placed_clear index t c above start commit = record { above = above; apart = λ y has. placed_apart index t c start commit y has }
 
 -- the index has the stamps of the items behind a place
 pub record HasBehind (h : List Item) (index : Stamps) (place : ℕ) : Type 0 where

@@ -16,9 +16,6 @@ use Rattle.isolation_rules.proofs.FreshLaw.{fresh_kept, kept_fresh}
 use Rattle.isolation_rules.proofs.WalkLemmas.{all_kept}
 use Rattle.si_judge.proofs.ApartLaw.{apart_kept, kept_apart}
 
-pub before_stamped : (h : List Item) → IsEarlierKept rule.Stamped h
-before_stamped h = λ other less. absurd (omega (arith, less))
-
 pub before_apart : (h : List Item) → IsKept rule.Stamped h → IsEarlierKept rule.Apart h
 before_apart h stamped = λ other less. go other less
   where

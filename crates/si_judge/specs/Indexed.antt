@@ -14,11 +14,6 @@ use Rattle.isolation_rules.specs.Best.{IsOwn, IsWritten, lists}
 abbrev pub pair_cmp : ℕ × ℕ → ℕ × ℕ → Ordering
 pair_cmp x y = ordering_then (nat_cmp x.0 y.0) (nat_cmp x.1 y.1)
 
--- the map has the commit of each committed transaction, and no others
-pub record HasCommits (h : List Item) (commits : BTreeMap ℕ ℕ) : Type 0 where
-  pub held : (t c : ℕ) → get nat_cmp commits t ≡ Some c → Committed h t c
-  pub whole : (t c : ℕ) → Committed h t c → get nat_cmp commits t ≡ Some c
-
 -- the map has, by key and commit, the last write of each committed transaction at each key in a part of
 -- the history, and no others
 pub record HasVersions (h part : List Item) (versions : BTreeMap (ℕ × ℕ) Version) : Type 0 where

@@ -1,34 +1,18 @@
 -- What an index of the writes of committed transactions holds.
 pub use Rattle.si_judge.specs.Marks.{IsMarked, KeepsMarks}
-use Rattle.std.specs.Prelude.{◌≡◌, ◌≢◌, ℕ, ◌<◌, ◌≤◌, List, Some, slice_get, IfSome}
+use Rattle.std.specs.Prelude.{◌≡◌, ℕ, ◌<◌, ◌≤◌, List, Some, slice_get, IfSome}
 use Rattle.std.specs.Ordering.{nat_cmp}
 use Rattle.std.specs.BTreeMap.{BTreeMap, get}
 use Rattle.history_book.specs.declared.item.Item.{Item}
-use Rattle.history_book.specs.declared.item.Item.TheVariants.{Placed, Write}
+use Rattle.history_book.specs.declared.item.Item.TheVariants.{Write}
 use Rattle.si_judge.specs.Indexed.{pair_cmp}
-use Rattle.si_judge.specs.declared.overlap_index.Commit.{Commit}
+use Rattle.si_judge.specs.declared.commits.Commit.{Commit}
+use Rattle.si_judge.specs.Commits.{Commits}
 use Rattle.si_judge.specs.declared.marks.Marks.{Marks}
-
--- commits, by their transactions
-abbrev pub Commits : Type 0
-Commits = BTreeMap ℕ Commit
 
 -- commits, by the keys that they wrote and by their transactions
 abbrev pub Written : Type 0
 Written = BTreeMap (ℕ × ℕ) Commit
-
--- the transaction t committed at c, by the item at the place
-abbrev pub commit_at : ℕ → ℕ → Commit
-commit_at c place = record { stamp = c; place = place }
-
--- a commit that is placed there is put in, and all others stay
-abbrev pub NotesCommit : Commits → Commits → Item → ℕ → Type 0
-NotesCommit old new (Placed t c) place = (get nat_cmp new t ≡ Some (commit_at c place)) × ((u : ℕ) → u ≢ t → get nat_cmp new u ≡ get nat_cmp old u)
-NotesCommit old new _ place = (u : ℕ) → get nat_cmp new u ≡ get nat_cmp old u
-
--- the commits that are placed below n are in the map
-pub record HasCommits (h : List Item) (n : ℕ) (commits : Commits) : Type 0 where
-  pub at : (place t c : ℕ) → place < n → slice_get h place ≡ Some (Placed t c) → get nat_cmp commits t ≡ Some (commit_at c place)
 
 -- where the item is a write of a committed transaction, the map has its commit
 abbrev pub HasWrite : Commits → Written → Item → Type 0

@@ -1,11 +1,12 @@
-// The judge of histories: whether the items of a finished history are snapshot isolated.
+//! The judge of histories: whether the items of a finished history are snapshot isolated.
 #![tactic(auto)]
 
-ghost use Rattle.std.specs.Prelude.{◌≡◌, ◌<◌, length, IfOk, Ok};
+ghost use Rattle.std.specs.Prelude.{◌≡◌, ◌<◌, length, IfOk, IsOk, Ok};
 ghost use Rattle.history_book.specs.Isolation.{Isolated};
 ghost use Rattle.isolation_rules.specs.Judged.{AllRight, IsEarlierKept, IsJudged, IsKept, IsLeastPair};
 
 mod ask_index;
+mod commits;
 mod listed;
 mod marks;
 mod overlap_index;
@@ -33,6 +34,7 @@ use std::alloc::Global;
 /// memory is refused, a walk over all pairs is made in its place, in a time that grows with the square of the
 /// number of items and more, so the answer is never NoMemory.
 pub fn judge(alloc: Global, items: &[Item]) -> Result<Verdict, NoMemory>
+    ensures always { IsOk result }
     ensures judged { IfOk result (λ verdict. IsJudged items.now verdict) }
     ensures isolated { IfOk result (λ verdict. verdict ≡ Verdict.Isolated → Isolated items.now) }
     ensures complete { Isolated items.now → result ≡ Ok Verdict.Isolated }

@@ -2,9 +2,10 @@
 // be broken.
 ghost use Rattle.std.specs.Prelude.{length, IfOk, OnOk};
 ghost use Rattle.history_book.specs.Isolation as isolation;
-ghost use Rattle.si_judge.specs.OverlapIndex.{HasCommits, HasWrite, HasWrites, KeepsMarks, KeepsWrites, MarksAll, MarksOverlaps, NotesCommit};
+ghost use Rattle.si_judge.specs.OverlapIndex.{HasWrite, HasWrites, KeepsMarks, KeepsWrites, MarksAll, MarksOverlaps};
 ghost use Rattle.si_judge.specs.Suspects.{AreSuspects};
 
+use crate::commits::{Commit, commits_by_start};
 use crate::marks::Marks;
 use history_book::Item;
 use isolation_rules::Rule;
@@ -12,13 +13,6 @@ use stamp_base::{KeyNo, NoMemory, Stamp};
 use std::alloc::Global;
 use std::collections::BTreeMap;
 use std::ops::Bound;
-
-/// A commit, and the place of its item.
-#[derive(Clone, Copy)]
-pub struct Commit {
-    pub stamp: Stamp,
-    pub place: usize,
-}
 
 /// Whether each place is a suspect: those of two commits are where both wrote a key, and one commit is not
 /// below the other's start.
@@ -31,35 +25,6 @@ pub fn overlap_suspects(alloc: Global, items: &[Item]) -> Result<Vec<bool>, NoMe
     let mut marks = Marks::new(alloc, items.len())?;
     mark_all_overlaps(&written, &mut marks);
     Ok(marks.each)
-}
-
-/// The commits, by their transactions.
-fn commits_by_start(alloc: Global, items: &[Item]) -> Result<BTreeMap<Stamp, Commit>, NoMemory>
-    requires { isolation.Stamped items.now }
-    ensures { IfOk result (λ commits. HasCommits items.now (length items.now) commits) }
-{
-    let mut commits = BTreeMap::new(alloc);
-    for place in 0..items.len() {
-        note_commit(&mut commits, &items[place], place)?;
-    }
-    Ok(commits)
-}
-
-fn note_commit(
-    commits: &mut BTreeMap<Stamp, Commit>,
-    item: &Item,
-    place: usize,
-) -> Result<(), NoMemory>
-    ensures { OnOk result (NotesCommit commits.old commits.new item.now place) }
-{
-    match item {
-        Item::Placed { start, commit } => {
-            let stamp = *commit;
-            commits.insert(*start, Commit { stamp, place })?;
-            Ok(())
-        }
-        _ => Ok(()),
-    }
 }
 
 /// The commit of each key and transaction that wrote it, where it committed.

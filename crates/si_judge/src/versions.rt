@@ -3,8 +3,10 @@ ghost use Rattle.std.specs.Prelude.{◌≡◌, ◌∷◌, ◌++◌, [], List, le
 ghost use Rattle.history_book.specs.declared.item.Item.{Item};
 ghost use Rattle.history_book.specs.Isolation as isolation;
 ghost use Rattle.isolation_rules.specs.Best.{Sees};
-ghost use Rattle.si_judge.specs.Indexed.{HasCommits, HasVersions};
+ghost use Rattle.si_judge.specs.Commits.{HasCommits};
+ghost use Rattle.si_judge.specs.Indexed.{HasVersions};
 
+use crate::commits::{Commit, commits_by_start};
 use history_book::{Found, Item};
 use isolation_rules::Version;
 use stamp_base::{KeyNo, NoMemory, Stamp};
@@ -23,7 +25,7 @@ impl VersionIndex {
         requires { isolation.Stamped items.now }
         ensures { IfOk result (λ index. HasVersions items.now items.now index.versions) }
     {
-        let commits = commits_of(alloc, items)?;
+        let commits = commits_by_start(alloc, items)?;
         let versions = versions_of(alloc, items, &commits)?;
         Ok(VersionIndex { versions })
     }
@@ -40,35 +42,12 @@ impl VersionIndex {
     }
 }
 
-/// The commit of each committed transaction.
-fn commits_of(alloc: Global, items: &[Item]) -> Result<BTreeMap<Stamp, Stamp>, NoMemory>
-    requires { isolation.Stamped items.now }
-    ensures { IfOk result (λ commits. HasCommits items.now commits) }
-{
-    let mut commits = BTreeMap::new(alloc);
-    for item in items {
-        enter_commit(&mut commits, item)?;
-    }
-    Ok(commits)
-}
-
-fn enter_commit(commits: &mut BTreeMap<Stamp, Stamp>, item: &Item) -> Result<(), NoMemory>
-    ensures { OnOk result ((part : List Item) → isolation.NewStamps part item.now → HasCommits part commits.old →
-        HasCommits (part ++ item.now ∷ []) commits.new) }
-{
-    let Item::Placed { start, commit } = item else {
-        return Ok(());
-    };
-    commits.insert(*start, *commit)?;
-    Ok(())
-}
-
 fn versions_of(
     alloc: Global,
     items: &[Item],
-    commits: &BTreeMap<Stamp, Stamp>,
+    commits: &BTreeMap<Stamp, Commit>,
 ) -> Result<BTreeMap<(KeyNo, Stamp), Version>, NoMemory>
-    requires { HasCommits items.now commits.now }
+    requires { HasCommits items.now (length items.now) commits.now }
     ensures { IfOk result (λ versions. HasVersions items.now items.now versions) }
 {
     let mut versions = BTreeMap::new(alloc);
@@ -81,11 +60,11 @@ fn versions_of(
 /// Enters what the item writes, where its transaction committed, in place of an earlier write of the key.
 fn enter_version(
     versions: &mut BTreeMap<(KeyNo, Stamp), Version>,
-    commits: &BTreeMap<Stamp, Stamp>,
+    commits: &BTreeMap<Stamp, Commit>,
     place: usize,
     item: &Item,
 ) -> Result<(), NoMemory>
-    ensures { OnOk result ((h part : List Item) → HasCommits h commits.now → length part ≡ place →
+    ensures { OnOk result ((h part : List Item) → HasCommits h (length h) commits.now → length part ≡ place →
         HasVersions h part versions.old → HasVersions h (part ++ item.now ∷ []) versions.new) }
 {
     let Item::Write {
@@ -104,6 +83,6 @@ fn enter_version(
         from: *start,
         value: *value,
     };
-    versions.insert((*key, *commit), Version { place, found })?;
+    versions.insert((*key, commit.stamp), Version { place, found })?;
     Ok(())
 }

@@ -1,6 +1,6 @@
 // What the program says of histories that it audits, byte for byte.
 use crate::calls::answer_of;
-use crate::rows::{PLAIN_HISTORY, ROWS, USAGE};
+use crate::rows::{PLAIN_HISTORY, ROWS};
 use std::test::Fail;
 
 /// A history, what an audit of it must write, and its status.
@@ -141,44 +141,6 @@ fn histories_are_judged(rt: HostRuntime) -> Result<(), Fail> {
     Ok(())
 }
 
-/// For each kind of item a line that is almost one.
-const ALMOST: [&str; 21] = [
-    "tick 012",
-    "note s1 post p q",
-    "take a reading=0 term=0 epoch=0 until=10 ceiling=100",
-    "renew a reading=5 term=1",
-    "extend a term=1  ceiling=200",
-    "ask-begin s16 a",
-    "ask-commit s1 a start=0",
-    "accept s1 i term=1 reading=0",
-    "draw s1 a term=1 start=01",
-    "begin s1 start=4611686018427387905",
-    "write s1 start=1 k4096 v",
-    "read s1 start=3 k0 from=1",
-    "placed start=1 commit=2 ",
-    "committed s1 start=1 commit=2 3",
-    "mark s1  start=1",
-    "step s1 fetch k00 cells=2",
-    "end s1 start=1 read",
-    "refused s1 full in-flight=18446744073709551616",
-    "fault a tables",
-    "crash a term=0",
-    "vanish s1 s2",
-];
-
-#[test]
-fn almost_items_are_none(rt: HostRuntime) -> Result<(), Fail> {
-    for line in ALMOST {
-        let (written, status) = answer_of(&rt, rt.alloc(), &["audit"], line.as_bytes())?;
-        assert_eq!(rt; status, 3);
-        assert_eq!(rt;
-            written.as_slice(),
-            b"history line 1: not an item\n".as_slice()
-        );
-    }
-    Ok(())
-}
-
 #[test]
 fn what_is_replayed_is_isolated(rt: HostRuntime) -> Result<(), Fail> {
     for row in &ROWS {
@@ -187,34 +149,5 @@ fn what_is_replayed_is_isolated(rt: HostRuntime) -> Result<(), Fail> {
             assert_eq!(rt; status, 0);
         }
     }
-    Ok(())
-}
-
-#[test]
-fn audit_takes_no_more_words(rt: HostRuntime) -> Result<(), Fail> {
-    let (written, status) = answer_of(
-        &rt,
-        rt.alloc(),
-        &["audit", "now"],
-        PLAIN_HISTORY.as_bytes(),
-    )?;
-    assert_eq!(rt; status, 2);
-    assert_eq!(rt; written.as_slice(), USAGE.as_bytes());
-    Ok(())
-}
-
-#[test]
-fn a_history_has_at_most_16_mib(rt: HostRuntime) -> Result<(), Fail> {
-    let mut feeds = vec![in rt.alloc(); b'\n'; 16_777_216]?;
-    let (written, status) = answer_of(&rt, rt.alloc(), &["audit"], &feeds)?;
-    assert_eq!(rt; status, 0);
-    assert_eq!(rt; written.as_slice(), b"isolated items=0\n".as_slice());
-    feeds.push(b'\n')?;
-    let (written, status) = answer_of(&rt, rt.alloc(), &["audit"], &feeds)?;
-    assert_eq!(rt; status, 3);
-    assert_eq!(rt;
-        written.as_slice(),
-        b"history line 0: not an item\n".as_slice()
-    );
     Ok(())
 }

@@ -16,13 +16,23 @@ pub fn answer_of<R: Threads + Wait + Sync>(
     for name in names {
         words.push(name.to_string(alloc)?)?;
     }
+    written_for(rt, alloc, &words, input)
+}
+
+/// The same for words that are texts of their own.
+pub fn written_for<R: Threads + Wait + Sync>(
+    rt: &R,
+    alloc: Global,
+    words: &[String],
+    input: &[u8],
+) -> Result<(Vec<u8>, u8), AllocError> {
     let bytes = input.to_vec(alloc)?;
     let mut source = MemSource::new(bytes, Vec::new(alloc));
     let mut sink = match MemSink::open(alloc, 4096, Vec::new(alloc)) {
         Ok(sink) => sink,
         Err(_) => return Err(AllocError),
     };
-    let status = omid(rt, alloc, &words, &mut source, &mut sink, &OpenGate);
+    let status = omid(rt, alloc, words, &mut source, &mut sink, &OpenGate);
     let written = sink.bytes().to_vec(alloc)?;
     Ok((written, status.code))
 }

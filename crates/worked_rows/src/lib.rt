@@ -1,4 +1,4 @@
-// The worked examples of the whole program, as tables: words, input, output and status. It holds tests alone.
+//! The worked examples of the whole program, as tables: words, input, output and status. It holds tests alone.
 #![tactic(auto)]
 
 #[cfg(test)]
@@ -11,3 +11,5 @@ mod drips;
 mod faults;
 #[cfg(test)]
 mod rows;
+#[cfg(test)]
+mod words;

@@ -1,4 +1,4 @@
-use Rattle.std.proofs.Common.{◌≤◌, take}
+use Rattle.std.proofs.Common.{◌≡◌, take}
 use Rattle.port_io.specs.Ports.{Gains}
 use Rattle.history_text.specs.Text.{printed}
 use Rattle.omid_top.proofs.print.print_history.Given as goal
@@ -6,5 +6,5 @@ use Rattle.omid_top.proofs.print.print_history.Given as goal
 abbrev pub invariant-loop-item : goal.invariant-loop-item
 invariant-loop-item g l = record {
   gone : Gains (g.K.Sink.held l.fn.sink) (g.K.Sink.held l.sink) (printed (take l.item-index l.items));
-  counted : g.K.Sink.faults l.fn.sink ≤ g.K.Sink.faults l.sink;
+  worked : g.K.Sink.faults l.sink ≡ g.K.Sink.faults l.fn.sink;
 }

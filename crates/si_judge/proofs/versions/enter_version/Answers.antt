@@ -16,4 +16,4 @@ returns-in_default-get c = λ h part has at old.
 pub returns : goal.returns
 returns c = λ h part has at old.
     subst (λ (x : Item). HasVersions h (part ++ x ∷ []) c.insert.new.self) (sym c.in-Write.is)
-    (versions_entered h part c.args.commits.now c.in-Write.session c.in-Write.start c.in-Write.key c.in-Some.commit.now c.args.place c.in-Write.value c.args.versions.now c.insert.new.self has (sym c.get.ensures.value ∙ ap option_copied c.in-Some.is) at c.in_ok-insert.ensures.updates old)
+    (versions_entered h part c.args.commits.now c.in-Some.commit.now c.in-Write.session c.in-Write.start c.in-Write.key c.args.place c.in-Write.value c.args.versions.now c.insert.new.self has (sym c.get.ensures.value ∙ ap option_copied c.in-Some.is) at c.in_ok-insert.ensures.updates old)

@@ -1,7 +1,10 @@
 use Rattle.std.proofs.Common.{◌≡◌, ◌<◌, Some, length, slice_get, refl, arith}
 use Rattle.std.proofs.lemmas.Option.{slice_get_read}
-use Rattle.si_judge.proofs.OverlapIndexLemmas.{commits_more}
-use Rattle.si_judge.proofs.overlap_index.commits_by_start.Goals as goal
+use Rattle.si_judge.proofs.CommitLemmas.{commits_empty, commits_more}
+use Rattle.si_judge.proofs.commits.commits_by_start.Goals as goal
+
+pub loop-place-init : goal.loop-place-init
+loop-place-init c = commits_empty c.args.items.now c.new-commits.result c.new-commits.ensures.empty
 
 pub loop-place-preserved : goal.loop-place-preserved
 loop-place-preserved c =

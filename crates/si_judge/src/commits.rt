@@ -1,0 +1,45 @@
+// The commits of a history, by their transactions.
+ghost use Rattle.std.specs.Prelude.{length, IfOk, OnOk};
+ghost use Rattle.history_book.specs.Isolation as isolation;
+ghost use Rattle.si_judge.specs.Commits.{HasCommits, NotesCommit};
+
+use history_book::Item;
+use stamp_base::{NoMemory, Stamp};
+use std::alloc::Global;
+use std::collections::BTreeMap;
+
+/// A commit, and the place of its item.
+#[derive(Clone, Copy)]
+pub struct Commit {
+    pub stamp: Stamp,
+    pub place: usize,
+}
+
+/// The commits, by the starts of their transactions.
+pub fn commits_by_start(alloc: Global, items: &[Item]) -> Result<BTreeMap<Stamp, Commit>, NoMemory>
+    requires { isolation.Stamped items.now }
+    ensures { IfOk result (λ commits. HasCommits items.now (length items.now) commits) }
+{
+    let mut commits = BTreeMap::new(alloc);
+    for place in 0..items.len() {
+        note_commit(&mut commits, &items[place], place)?;
+    }
+    Ok(commits)
+}
+
+fn note_commit(
+    commits: &mut BTreeMap<Stamp, Commit>,
+    item: &Item,
+    place: usize,
+) -> Result<(), NoMemory>
+    ensures { OnOk result (NotesCommit commits.old commits.new item.now place) }
+{
+    match item {
+        Item::Placed { start, commit } => {
+            let stamp = *commit;
+            commits.insert(*start, Commit { stamp, place })?;
+            Ok(())
+        }
+        _ => Ok(()),
+    }
+}
