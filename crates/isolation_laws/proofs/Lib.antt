@@ -23,3 +23,7 @@ pub mod RequestsOfDraws
 pub mod RequestsOfSettled
 pub mod RequestsOfItems
 pub mod RequestsOfAll
+pub mod LiveAfter
+pub mod Calm
+pub mod CellsStay
+pub mod CellsMove
