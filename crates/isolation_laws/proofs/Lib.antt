@@ -27,3 +27,4 @@ pub mod LiveAfter
 pub mod Calm
 pub mod CellsStay
 pub mod CellsMove
+pub mod Works
