@@ -28,3 +28,4 @@ pub mod Calm
 pub mod CellsStay
 pub mod CellsMove
 pub mod Works
+pub mod StoreMoves
