@@ -29,3 +29,5 @@ pub mod CellsStay
 pub mod CellsMove
 pub mod Works
 pub mod StoreMoves
+pub mod ClientWorks
+pub mod Settled
