@@ -10,7 +10,7 @@ use Rattle.history_book.specs.Isolation.{Committed, Wrote, last_write, written_b
 use Rattle.history_book.specs.declared.item.StoreStep.TheVariants.{Keys}
 use Rattle.history_book.specs.declared.item.Item.{Item}
 use Rattle.history_book.specs.declared.item.Item.TheVariants.{Write, Read, Placed, Step}
-use Rattle.history_book.proofs.MemberLemmas.{in_front, in_last, in_old}
+use Rattle.history_book.proofs.MemberLemmas.{in_front, in_last, in_old, in_push}
 use Rattle.history_book.proofs.HistoryLemmas.{last_write-push}
 use Rattle.client_parts.specs.SessionSteps.{has_key, key_added}
 use Rattle.client_parts.specs.KeyRead.{ReadTurn, Asks, Answers}
@@ -167,3 +167,57 @@ write_in_keys keys s t k value (x ∷ xs) m = elim m [
 
 pub wrote_in_keys : (h : List Item) (t k : ℕ) (value : List ℕ) → Wrote h t k value → k ∈ written_keys h t
 wrote_in_keys h t k value wrote = let who = write_of h t k value wrote in write_in_keys [] who.0 t k value h who.1
+
+-- and each of these was written
+pub wrote_some : (h : List Item) (s t k : ℕ) (value : List ℕ) → Write s t k value ∈ h → (last : List ℕ) × Wrote h t k last
+unfolding last_write ◌∈◌
+wrote_some [] s t k value m = absurd m
+wrote_some (x ∷ xs) s t k value m = elim m [
+  | inl here ↦ by (last_write xs t k) (ap (written_by t k) (sym here) ∙ written_here s t k value)
+  | inr deeper ↦ let later = wrote_some xs s t k value deeper in (later.0, ap (λ o. option_or o (written_by t k x)) later.1)
+]
+  where
+    by : (later : Option (List ℕ)) → written_by t k x ≡ Some value → (last : List ℕ) × (option_or later (written_by t k x) ≡ Some last)
+    by None e = (value, e)
+    by (Some v) e = (v, refl)
+
+in_added : (keys : List ℕ) (j k : ℕ) → k ∈ key_added keys j → (k ∈ keys) ⊎ (k ≡ j)
+in_added keys j k m = elim (cases_Bool (has_key keys j)) [
+  | inl has ↦ inl (rw has at m)
+  | inr has ↦ in_push k j keys (rw has at m)
+]
+
+in_with : (keys : List ℕ) (t k : ℕ) (x : Item) → k ∈ keys_with keys t x → (k ∈ keys) ⊎ ((s : ℕ) × (value : List ℕ) × (Write s t k value ≡ x))
+in_with keys t k (Write s u j value) m = elim (cases_eq u t) [
+  | inl own ↦ elim (in_added keys j k (rw (eq-eqb u t own) at m)) [
+      | inl old ↦ inl old
+      | inr now ↦ inr (s, value, cc)
+    ]
+  | inr other ↦ inl (rw (ne_eqb u t other) at m)
+]
+in_with keys t k _ m = inl m
+
+in_from : (keys : List ℕ) (t k : ℕ) (h : List Item) → k ∈ keys_from keys t h → (k ∈ keys) ⊎ ((s : ℕ) × (value : List ℕ) × (Write s t k value ∈ h))
+unfolding keys_from ◌∈◌
+in_from keys t k [] m = inl m
+in_from keys t k (x ∷ xs) m = elim (in_from (keys_with keys t x) t k xs m) [
+  | inl early ↦ elim (in_with keys t k x early) [
+      | inl old ↦ inl old
+      | inr here ↦ inr (here.0, here.1, inl here.2)
+    ]
+  | inr later ↦ inr (later.0, later.1, inr later.2)
+]
+
+in_no_keys : (k : ℕ) → k ∈ [] → ⊥
+unfolding ◌∈◌
+in_no_keys k m = m
+
+pub key_was_written : (h : List Item) (t k : ℕ) → k ∈ written_keys h t → (value : List ℕ) × Wrote h t k value
+key_was_written h t k m = elim (in_from [] t k h m) [
+  | inl none ↦ absurd (in_no_keys k none)
+  | inr write ↦ wrote_some h write.0 t k write.1 write.2
+]
+
+pub first_key_in : (k : ℕ) (rest keys : List ℕ) → keys ≡ k ∷ rest → k ∈ keys
+unfolding ◌∈◌
+first_key_in k rest keys is = subst (λ (ks : List ℕ). k ∈ ks) (sym is) (inl refl)

@@ -31,3 +31,4 @@ pub mod Works
 pub mod StoreMoves
 pub mod ClientWorks
 pub mod Settled
+pub mod SessionMoves
