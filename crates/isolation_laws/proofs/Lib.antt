@@ -32,3 +32,6 @@ pub mod StoreMoves
 pub mod ClientWorks
 pub mod Settled
 pub mod SessionMoves
+pub mod UnderWayOfRequests
+pub mod UnderWayOfSessions
+pub mod UnderWayOfCompletions
