@@ -35,3 +35,7 @@ pub mod SessionMoves
 pub mod UnderWayOfRequests
 pub mod UnderWayOfSessions
 pub mod UnderWayOfCompletions
+pub mod UnderWayOfSweeps
+pub mod WritesKept
+pub mod CellsKept
+pub mod UnderWayKept
