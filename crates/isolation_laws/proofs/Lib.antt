@@ -23,3 +23,7 @@ pub mod RequestsOfDraws
 pub mod RequestsOfSettled
 pub mod RequestsOfItems
 pub mod RequestsOfAll
+pub mod AsksBefore
+pub mod FreshBegins
+pub mod SettledBelow
+pub mod BeginsKept
