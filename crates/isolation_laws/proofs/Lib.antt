@@ -27,3 +27,4 @@ pub mod AsksBefore
 pub mod FreshBegins
 pub mod SettledBelow
 pub mod BeginsKept
+pub mod ReadersRely
