@@ -28,3 +28,6 @@ pub mod FreshBegins
 pub mod SettledBelow
 pub mod BeginsKept
 pub mod ReadersRely
+pub mod StoresStay
+pub mod Unwritten
+pub mod ClientsReading
