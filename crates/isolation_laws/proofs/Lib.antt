@@ -31,3 +31,4 @@ pub mod ReadersRely
 pub mod StoresStay
 pub mod Unwritten
 pub mod ClientsReading
+pub mod ReadsStay
