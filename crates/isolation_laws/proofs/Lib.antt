@@ -32,3 +32,4 @@ pub mod StoresStay
 pub mod Unwritten
 pub mod ClientsReading
 pub mod ReadsStay
+pub mod CoveredVersions
