@@ -33,3 +33,4 @@ pub mod Unwritten
 pub mod ClientsReading
 pub mod ReadsStay
 pub mod CoveredVersions
+pub mod SeesFetched
