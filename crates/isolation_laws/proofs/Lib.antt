@@ -34,3 +34,4 @@ pub mod ClientsReading
 pub mod ReadsStay
 pub mod CoveredVersions
 pub mod SeesFetched
+pub mod SeesPassed
