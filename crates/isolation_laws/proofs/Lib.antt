@@ -35,3 +35,4 @@ pub mod ReadsStay
 pub mod CoveredVersions
 pub mod SeesFetched
 pub mod SeesPassed
+pub mod ReadTurns
