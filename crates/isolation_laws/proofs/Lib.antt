@@ -36,3 +36,5 @@ pub mod CoveredVersions
 pub mod SeesFetched
 pub mod SeesPassed
 pub mod ReadTurns
+pub mod ReadsOfReads
+pub mod ReadsKept

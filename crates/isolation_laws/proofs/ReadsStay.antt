@@ -71,7 +71,7 @@ right_none : (g before : List Item) (x : Item) → ((s b k : ℕ) (answer : Opti
 right_none g before (Read s b k answer) none = absurd (none s b k answer refl)
 right_none g before _ none = tt
 
-rights_more : (g h items : List Item) → NoReads items → AtEach (RightRead g) h → AtEach (RightRead g) (h ++ items)
+pub rights_more : (g h items : List Item) → NoReads items → AtEach (RightRead g) h → AtEach (RightRead g) (h ++ items)
 unfolding ◌∈◌
 rights_more g h [] none rights = subst (AtEach (RightRead g)) (sym (append-nil h)) rights
 rights_more g h (x ∷ items) none rights = subst (AtEach (RightRead g)) (append_assoc h (x ∷ []) items)
