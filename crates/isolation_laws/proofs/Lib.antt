@@ -23,3 +23,5 @@ pub mod RequestsOfDraws
 pub mod RequestsOfSettled
 pub mod RequestsOfItems
 pub mod RequestsOfAll
+pub mod InversionParts
+pub mod InversionOfSessions
