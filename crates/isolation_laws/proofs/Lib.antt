@@ -25,3 +25,4 @@ pub mod RequestsOfItems
 pub mod RequestsOfAll
 pub mod InversionParts
 pub mod InversionOfSessions
+pub mod InversionOfRecord
