@@ -98,10 +98,14 @@ still_client w session c items at quiet = still_all w (with_client w session c) 
 pub still_post : (w : State) (node seen : ℕ) (post : Option InstanceEntry) (items : List Item) → slice_get w.nodes node ≡ Some post → w.seen ≤ seen → AllQuiet items → ComesTo w (record (with_post w node post) { seen = seen }) items
 still_post w node seen post items at up quiet = still w seen (slice_set w.nodes node post) (record (with_post w node post) { seen = seen }) items up (nodes_put w.nodes node post at) quiet refl
 
+-- a client was put back, beside other nodes
+pub client_back : (w : State) (session seen : ℕ) (c : Client) (nodes : List (Option InstanceEntry)) → ClientAt w.clients session c → record w { seen = seen; nodes = nodes; clients = slice_set w.clients session c } ≡ record w { seen = seen; nodes = nodes }
+client_back w session seen c nodes at = ap (λ (clients : List Client). record w { seen = seen; nodes = nodes; clients = clients }) (set_same w.clients session c at)
+
 -- both were put back
 pub still_both : (w : State) (node session seen : ℕ) (post : Option InstanceEntry) (c : Client) (items : List Item) → slice_get w.nodes node ≡ Some post → ClientAt w.clients session c → w.seen ≤ seen → AllQuiet items → ComesTo w (record (with_client (with_post w node post) session c) { seen = seen }) items
 still_both w node session seen post c items at client_at up quiet =
-    still w seen (slice_set w.nodes node post) (record (with_client (with_post w node post) session c) { seen = seen }) items up (nodes_put w.nodes node post at) quiet (ap (λ (clients : List Client). record (with_post w node post) { seen = seen; clients = clients }) (set_same w.clients session c client_at))
+    still w seen (slice_set w.nodes node post) (record (with_client (with_post w node post) session c) { seen = seen }) items up (nodes_put w.nodes node post at) quiet (client_back w session seen c (slice_set w.nodes node post) client_at)
 
 -- an open transaction without a read under way
 abbrev pub at_open : (w : State) (session : ℕ) (c : Client) → ClientAt w.clients session c → c.entry.state ≡ phase.Open → is_reading c ≡ false → AtOpen w

@@ -26,3 +26,5 @@ pub mod RequestsOfAll
 pub mod InversionParts
 pub mod InversionOfSessions
 pub mod InversionOfRecord
+pub mod InversionOfAsks
+pub mod InversionOfRequests
