@@ -128,7 +128,7 @@ stop_cases _ is = absurd is
 decide_ended : (w : State) (node session : ℕ) (i : InstanceEntry) (held : Held) (c : Client) (why : Cause) → Served w node session i held c → held.progress ≡ progress.Accepted → ComesTo w (with_client (with_post w node (Some (without_request i session))) session (after_refusal held.request c)) (item.Refused (Session session) why ∷ [])
 decide_ended w node session i held c why served accepted = ended w node session w.seen i held c why served (inr accepted) (omega arith)
 
-told_quiet : (told : Bool) (x : Item) → Quiet x → AllQuiet (if told then [] else x ∷ [])
+pub told_quiet : (told : Bool) (x : Item) → Quiet x → AllQuiet (if told then [] else x ∷ [])
 told_quiet true x quiet = none_quiet
 told_quiet false x quiet = one_quiet x quiet
 
@@ -164,7 +164,7 @@ decide_verdict w node session i held c served stop accepted Free is = decide_roo
 decide_verdict w node session i held c served stop accepted (Conflict key by) is = decide_ended w node session i held c (cause.Conflict key by) served accepted
 decide_verdict w node session i held c served stop accepted (Hidden key water) is = decide_ended w node session i held c (cause.Hidden key water) served accepted
 
-decide_still : (w : State) (node session : ℕ) (post : Option InstanceEntry) (c : Client) (why : Cause) → slice_get w.nodes node ≡ Some post → ClientAt w.clients session c → ComesTo w (with_client (with_post w node post) session c) (item.Refused (Node node) why ∷ [])
+pub decide_still : (w : State) (node session : ℕ) (post : Option InstanceEntry) (c : Client) (why : Cause) → slice_get w.nodes node ≡ Some post → ClientAt w.clients session c → ComesTo w (with_client (with_post w node post) session c) (item.Refused (Node node) why ∷ [])
 decide_still w node session post c why at client_at = still_both w node session w.seen post c _ at client_at (omega arith) (refusal_quiet (Node node) why)
 
 decide_progress : (w : State) (node session : ℕ) (i : InstanceEntry) (held : Held) (c : Client) → Served w node session i held c → StopOf i.stop → (p : Progress) → held.progress ≡ p → ComesBy w (decide_step w node session held c (decide_if_accepted i session held p))

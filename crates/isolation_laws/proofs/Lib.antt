@@ -28,3 +28,4 @@ pub mod InversionOfSessions
 pub mod InversionOfRecord
 pub mod InversionOfAsks
 pub mod InversionOfRequests
+pub mod InversionOfAnswers
