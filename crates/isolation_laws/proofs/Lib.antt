@@ -29,3 +29,6 @@ pub mod InversionOfRecord
 pub mod InversionOfAsks
 pub mod InversionOfRequests
 pub mod InversionOfAnswers
+pub mod InversionOfCalls
+pub mod InversionOfSweeps
+pub mod InversionOfSteps
