@@ -32,3 +32,5 @@ pub mod InversionOfAnswers
 pub mod InversionOfCalls
 pub mod InversionOfSweeps
 pub mod InversionOfSteps
+pub mod InversionOfWork
+pub mod Inversion
