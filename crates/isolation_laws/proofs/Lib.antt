@@ -34,3 +34,4 @@ pub mod InversionOfSweeps
 pub mod InversionOfSteps
 pub mod InversionOfWork
 pub mod Inversion
+pub mod InversionSound
