@@ -35,3 +35,4 @@ pub mod InversionOfSteps
 pub mod InversionOfWork
 pub mod Inversion
 pub mod InversionSound
+pub mod IsolatedItems
