@@ -36,3 +36,5 @@ pub mod InversionOfWork
 pub mod Inversion
 pub mod InversionSound
 pub mod IsolatedItems
+pub mod IsolatedStamps
+pub mod Opening
