@@ -38,3 +38,4 @@ pub mod InversionSound
 pub mod IsolatedItems
 pub mod IsolatedStamps
 pub mod Opening
+pub mod AlwaysHolds
