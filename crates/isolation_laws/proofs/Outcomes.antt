@@ -4,6 +4,7 @@
 use Rattle.std.proofs.Common.{◌≡◌, ◌≢◌, ℕ, ◌+◌, ◌<◌, ◌≤◌, max, Bool, true, false, if◌then◌else◌, List, [], ◌∷◌, Option, None, Some, ◌⊎◌}
 use Rattle.std.specs.Prelude.{slice_get, slice_set}
 use Rattle.stamp_base.specs.declared.stores.Mark.TheVariants.{Committed as CommittedMark, Invalid as InvalidMark}
+use Rattle.history_book.specs.declared.cause.Cause.{Cause}
 use Rattle.history_book.specs.declared.item.Actor.TheVariants.{Janitor}
 use Rattle.history_book.specs.declared.item.StoreStep.TheVariants.{Keys as KeysStep}
 use Rattle.history_book.specs.declared.item.Item.{Item}
@@ -26,7 +27,7 @@ use Rattle.oracle_parts.specs.declared.instance.Settled.{Settled}
 use Rattle.oracle_parts.specs.declared.instance.Settled.TheVariants as how
 use Rattle.oracle_parts.specs.Buckets.{record_pairs}
 use Rattle.oracle_parts.specs.Instance.{InstanceEntry, held_of, with_request, least_unsettled}
-use Rattle.oracle_parts.specs.InstanceSteps.{without_request, moved, just_asked, pairs_by, epoch_refusal, request_verdict, instance_widened, instance_renewed}
+use Rattle.oracle_parts.specs.InstanceSteps.{without_request, moved, just_asked, pairs_by, epoch_refusal, request_verdict, instance_widened, instance_renewed, IsStop}
 use Rattle.machine.specs.State.{UnderWay, Nothing, Reads, Settles, Completes, Client, State}
 use Rattle.machine.specs.Clients.{is_reading, client_begun, client_asked, client_freed, client_aborted, client_committed, client_opened, client_vanished, unless_gone, after_refusal}
 use Rattle.machine.specs.StoreSteps.{rows_after, pairs_after, told_by}
@@ -41,6 +42,11 @@ use Rattle.isolation_laws.specs.Words.{InstanceAt, ClientAt}
 use Rattle.isolation_laws.specs.Quiet.{Quiet, AllQuiet}
 
 -- ---- what changes nothing that a fact reads
+-- a refusal that is kept is the master record's
+abbrev pub StopOf : Option Cause → Type 0
+StopOf None = Unit {0}
+StopOf (Some why) = IsStop why
+
 -- the same but for the refusal that is kept and for what requests were told
 pub record Alike (i j : InstanceEntry) : Type 0 where
   pub term : j.term ≡ i.term
@@ -49,6 +55,7 @@ pub record Alike (i j : InstanceEntry) : Type 0 where
   pub ceiling : j.ceiling ≡ i.ceiling
   pub until : j.until ≡ i.until
   pub buckets : j.buckets ≡ i.buckets
+  pub stop : StopOf i.stop → StopOf j.stop
   pub requests : (s : ℕ) (new : Held) → held_of j s ≡ Some new → (old : Held) × (held_of i s ≡ Some old) × (new.request ≡ old.request) × (new.progress ≡ old.progress)
 
 -- each instance was there, alike

@@ -1,0 +1,72 @@
+-- What one step on the stores shows and changes.
+use Rattle.std.proofs.Common.{◌≡◌, ◌≢◌, ℕ, Bool, true, false, List, [], ◌∷◌, ◌++◌, Option, Some, None, ◌⊎◌, inl, inr, refl, sym, ◌∙◌, ap, subst}
+use Rattle.std.proofs.lemmas.List.Elements.{All-append}
+use Rattle.stamp_base.specs.declared.stores.Mark.{Mark}
+use Rattle.stamp_base.specs.declared.stores.Store.{Store}
+use Rattle.port_io.specs.declared.weather.Fate.{Fate}
+use Rattle.port_io.specs.declared.weather.Fate.TheVariants.{Works, FailsUnchanged, FailsApplied}
+use Rattle.history_book.specs.declared.item.Actor.{Actor}
+use Rattle.history_book.specs.declared.item.Item.{Item}
+use Rattle.history_book.specs.declared.item.Item.TheVariants as item
+use Rattle.store_parts.specs.Rows.{Row}
+use Rattle.store_parts.specs.Pairs.{Pairs}
+use Rattle.client_parts.specs.declared.asks.Ask.{Ask}
+use Rattle.client_parts.specs.declared.asks.Ask.TheVariants as ask
+use Rattle.client_parts.specs.declared.asks.Told.{Told}
+use Rattle.client_parts.specs.declared.asks.Told.TheVariants as told
+use Rattle.client_parts.specs.declared.resolve.SettlePoint.{SettlePoint}
+use Rattle.client_parts.specs.declared.resolve.SettlePoint.TheVariants as point
+use Rattle.client_parts.specs.Resolve.{ask_at}
+use Rattle.machine.specs.StoreSteps.{store_of, rows_after, pairs_after, entry_of, mark_item, step_item, mark_kept, effect_items}
+use Rattle.isolation_laws.specs.Quiet.{Quiet, AllQuiet}
+use Rattle.isolation_laws.proofs.Outcomes.{MayHaveMarked}
+use Rattle.isolation_laws.proofs.InversionParts.{none_quiet, one_quiet}
+
+-- the step lists no keys
+abbrev pub NoList : Ask → Type 0
+NoList asked = (txn : ℕ) → asked ≡ ask.Keys txn → ⊥
+
+mark_quiet : (actor : Actor) (txn : ℕ) (found : Option Mark) → Quiet (mark_item actor txn found)
+mark_quiet actor txn None = refl
+mark_quiet actor txn (Some mark) = refl
+
+pub step_quiet : (actor : Actor) (asked : Ask) (answer : Told) → NoList asked → Quiet (step_item actor asked answer)
+step_quiet actor (ask.Get txn) answer no_list = refl
+step_quiet actor (ask.Mark txn) answer no_list = mark_quiet actor txn (entry_of answer)
+step_quiet actor (ask.Look key txn) answer no_list = refl
+step_quiet actor (ask.Shadow key txn commit) answer no_list = refl
+step_quiet actor (ask.Remove txn) answer no_list = refl
+step_quiet actor (ask.Erase key txn) answer no_list = refl
+step_quiet actor (ask.Keys txn) answer no_list = absurd (no_list txn refl)
+
+mark_kept_quiet : (actor : Actor) (asked : Ask) (answer : Told) → AllQuiet (mark_kept actor asked answer)
+mark_kept_quiet actor (ask.Mark txn) told.Marked = one_quiet (item.Mark actor txn) refl
+mark_kept_quiet actor _ _ = none_quiet
+
+effect_quiet : (actor : Actor) (asked : Ask) (answer : Told) (fate : Fate) → AllQuiet (effect_items actor asked answer fate)
+effect_quiet actor asked answer Works = none_quiet
+effect_quiet actor asked answer FailsUnchanged = none_quiet
+effect_quiet actor asked answer FailsApplied = mark_kept_quiet actor asked answer
+
+-- what a failed step shows
+pub failed_quiet : (actor : Actor) (asked : Ask) (answer : Told) (fate : Fate) (store : Store) → AllQuiet (effect_items actor asked answer fate ++ item.Fault actor store ∷ [])
+failed_quiet actor asked answer fate store = All-append Quiet (effect_items actor asked answer fate) (item.Fault actor store ∷ []) (effect_quiet actor asked answer fate) (one_quiet (item.Fault actor store) refl)
+
+-- ---- a resolve lists no keys, changes no cell, and the table only by a mark
+pub resolve_no_list : (key txn : ℕ) (at : SettlePoint) → NoList (ask_at key txn at)
+resolve_no_list key txn point.FirstLook t is = cc
+resolve_no_list key txn point.Table t is = cc
+resolve_no_list key txn point.Marking t is = cc
+resolve_no_list key txn point.LastLook t is = cc
+
+pub resolve_rows : (key txn : ℕ) (at : SettlePoint) (rows : List Row) → rows_after (ask_at key txn at) rows ≡ rows
+resolve_rows key txn point.FirstLook rows = refl
+resolve_rows key txn point.Table rows = refl
+resolve_rows key txn point.Marking rows = refl
+resolve_rows key txn point.LastLook rows = refl
+
+pub resolve_marks : (key txn : ℕ) (at : SettlePoint) (pairs : Pairs) → MayHaveMarked pairs (pairs_after (ask_at key txn at) pairs)
+resolve_marks key txn point.FirstLook pairs = inl refl
+resolve_marks key txn point.Table pairs = inl refl
+resolve_marks key txn point.Marking pairs = inr (txn, refl)
+resolve_marks key txn point.LastLook pairs = inl refl

@@ -1,0 +1,189 @@
+-- What the events of a session alone come to: an abort, a vanish, a write, a fetch, a heal.
+use Rattle.std.proofs.Common.{◌≡◌, ◌≢◌, ℕ, ◌≤◌, Bool, true, false, if◌then◌else◌, List, [], ◌∷◌, ◌++◌, Option, Some, None, ◌⊎◌, inl, inr, refl, sym, ◌∙◌, ap, subst}
+use Rattle.std.specs.Prelude.{slice_get, slice_set, length}
+use Rattle.std.specs.Option.{option_or}
+use Rattle.stamp_base.specs.declared.stores.Store.TheVariants.{Cells}
+use Rattle.port_io.specs.declared.weather.Fate.{Fate}
+use Rattle.port_io.specs.declared.weather.Fate.TheVariants.{Works, FailsUnchanged, FailsApplied}
+use Rattle.port_io.specs.Fates.{fated}
+use Rattle.history_book.specs.declared.cause.Cause.{Cause}
+use Rattle.history_book.specs.declared.item.Actor.TheVariants.{Session}
+use Rattle.history_book.specs.declared.item.Ending.TheVariants as ending
+use Rattle.history_book.specs.declared.item.StoreStep.TheVariants as step
+use Rattle.history_book.specs.declared.item.Item.{Item}
+use Rattle.history_book.specs.declared.item.Item.TheVariants as item
+use Rattle.store_parts.specs.declared.rows.Cell.{Cell}
+use Rattle.store_parts.specs.Rows.{Row, put_row, fetched, front_of, with_shadow}
+use Rattle.store_parts.specs.Pairs.{Pairs}
+use Rattle.client_parts.specs.declared.asks.Ask.TheVariants.{Shadow}
+use Rattle.client_parts.specs.declared.session.State.{State as SessionState}
+use Rattle.client_parts.specs.declared.session.State.TheVariants as phase
+use Rattle.client_parts.specs.SessionSteps.{work_refusal, key_refusal, vanish_refusal}
+use Rattle.client_parts.specs.KeyRead.{read_over}
+use Rattle.machine.specs.State.{Client, State}
+use Rattle.machine.specs.Effect.{Effect}
+use Rattle.machine.specs.StoreSteps.{Met, met}
+use Rattle.machine.specs.Clients.{is_reading}
+use Rattle.machine.specs.Machine.{Step, step_by, with_client}
+use Rattle.machine.specs.Events.Abort.{abort_by, abort_on}
+use Rattle.machine.specs.Events.Vanish.{vanish_by, vanish_on}
+use Rattle.machine.specs.Events.Write.{write_refused, write_by, write_open, write_on}
+use Rattle.machine.specs.Events.Fetch.{fetch_by, fetch_open, fetch_on}
+use Rattle.machine.specs.Events.Heal.{offer_by, offer_of, heal_at, heal_on}
+use Rattle.isolation_laws.specs.Words.{ClientAt}
+use Rattle.isolation_laws.specs.Quiet.{Quiet, AllQuiet}
+use Rattle.isolation_laws.proofs.Outcomes.{AtOpen, Outcome, OfAborted, OfVanished, OfWrote, OfWriteFailed, OfFetched, OfReadDropped, OfHealed}
+use Rattle.isolation_laws.proofs.InversionParts.{ComesTo, ComesBy, none_quiet, one_quiet, two_quiet, refusal_quiet, still_client, at_open}
+
+-- the effect on a client, and on the cells with it
+abbrev pub for_client : State → ℕ → Effect Client → Step
+for_client w session effect = step_by effect (λ (p : Client). with_client w session p)
+
+abbrev pub for_cells : State → ℕ → Effect (Client × List Row) → Step
+for_cells w session effect = step_by effect (λ (p : Client × List Row). record (with_client w session p.0) { rows = p.1 })
+
+-- work is refused but of an open transaction without a read under way
+pub work_open : (state : SessionState) (reading : Bool) → work_refusal state reading ≡ None → (state ≡ phase.Open) × (reading ≡ false)
+work_open phase.Open false go = (refl, refl)
+work_open phase.Open true go = absurd (cc)
+work_open phase.Free reading go = absurd (cc)
+work_open phase.Asking reading go = absurd (cc)
+work_open phase.Committing reading go = absurd (cc)
+work_open phase.OpenOutcome reading go = absurd (cc)
+work_open (phase.Completing undo) reading go = absurd (cc)
+work_open phase.Gone reading go = absurd (cc)
+
+abbrev pub open_by_work : (w : State) (session : ℕ) (c : Client) → ClientAt w.clients session c → work_refusal c.entry.state (is_reading c) ≡ None → AtOpen w
+open_by_work w session c at go = at_open w session c at (work_open c.entry.state (is_reading c) go).0 (work_open c.entry.state (is_reading c) go).1
+
+-- ---- abort
+abort_comes : (w : State) (session : ℕ) (c : Client) → ClientAt w.clients session c → (why : Option Cause) → work_refusal c.entry.state (is_reading c) ≡ why → (start : Option ℕ) → ComesBy w (for_client w session (abort_by session c why start))
+abort_comes w session c at (Some why) go start = still_client w session c _ at (refusal_quiet (Session session) why)
+abort_comes w session c at None go None = still_client w session c [] at none_quiet
+abort_comes w session c at None go (Some start) = (OfAborted (record {
+  it = open_by_work w session c at go;
+  items = item.End session start ending.Aborted ∷ [];
+  quiet = one_quiet (item.End session start ending.Aborted) refl;
+}), refl, refl)
+
+pub abort_at : (w : State) (session : ℕ) (c : Client) → ClientAt w.clients session c → ComesBy w (for_client w session (abort_on session c))
+abort_at w session c at = abort_comes w session c at (work_refusal c.entry.state (is_reading c)) refl c.entry.start
+
+-- ---- vanish
+vanish_comes : (w : State) (session : ℕ) (c : Client) → ClientAt w.clients session c → (why : Option Cause) → ComesBy w (for_client w session (vanish_by session c why))
+vanish_comes w session c at (Some why) = still_client w session c _ at (refusal_quiet (Session session) why)
+vanish_comes w session c at None = (OfVanished (record {
+  session = session;
+  c = c;
+  client_at = at;
+  items = item.Vanish session ∷ [];
+  quiet = one_quiet (item.Vanish session) refl;
+}), refl, refl)
+
+pub vanish_at : (w : State) (session : ℕ) (c : Client) → ClientAt w.clients session c → ComesBy w (for_client w session (vanish_on session c))
+vanish_at w session c at = vanish_comes w session c at (vanish_refusal c.entry.state)
+
+-- ---- write
+write_may : (work key : Option Cause) → option_or work key ≡ None → work ≡ None
+write_may None key go = refl
+write_may (Some why) key go = absurd (cc)
+
+write_failed : (w : State) (session start key : ℕ) (value : List ℕ) (c : Client) → ClientAt w.clients session c → work_refusal c.entry.state (is_reading c) ≡ None → c.entry.start ≡ Some start → (rows : List Row) → (rows ≡ w.rows) ⊎ (rows ≡ put_row w.rows key start value) → ComesBy w (for_cells w session (write_by session start key value FailsApplied c rows))
+write_failed w session start key value c at go begun rows rows_are = (OfWriteFailed (record {
+  it = open_by_work w session c at go;
+  start = start;
+  key = key;
+  value = value;
+  start_is = begun;
+  rows = rows;
+  rows_are = rows_are;
+  items = item.Fault (Session session) Cells ∷ item.End session start ending.Aborted ∷ [];
+  quiet = two_quiet (item.Fault (Session session) Cells) (item.End session start ending.Aborted) refl refl;
+}), refl, refl)
+
+write_fated : (w : State) (session start key : ℕ) (value : List ℕ) (fate : Fate) (c : Client) → ClientAt w.clients session c → work_refusal c.entry.state (is_reading c) ≡ None → c.entry.start ≡ Some start → ComesBy w (for_cells w session (write_by session start key value fate c (fated fate w.rows (put_row w.rows key start value))))
+write_fated w session start key value Works c at go begun = (OfWrote (record { it = open_by_work w session c at go; start = start; key = key; value = value; start_is = begun }), refl, refl)
+write_fated w session start key value FailsUnchanged c at go begun = write_failed w session start key value c at go begun w.rows (inl refl)
+write_fated w session start key value FailsApplied c at go begun = write_failed w session start key value c at go begun (put_row w.rows key start value) (inr refl)
+
+write_comes : (w : State) (session key : ℕ) (value : List ℕ) (fate : Fate) (c : Client) → ClientAt w.clients session c → (why : Option Cause) → write_refused c key ≡ why → (start : Option ℕ) → c.entry.start ≡ start → ComesBy w (for_cells w session (write_open session key value fate c w.rows why start))
+write_comes w session key value fate c at (Some why) go start begun = still_client w session c _ at (refusal_quiet (Session session) why)
+write_comes w session key value fate c at None go None begun = still_client w session c [] at none_quiet
+write_comes w session key value fate c at None go (Some start) begun = write_fated w session start key value fate c at (write_may (work_refusal c.entry.state (is_reading c)) (key_refusal c.entry.keys key) go) begun
+
+pub write_at : (w : State) (session key : ℕ) (value : List ℕ) (fate : Fate) (c : Client) → ClientAt w.clients session c → ComesBy w (for_cells w session (write_on session key value fate c w.rows))
+write_at w session key value fate c at = write_comes w session key value fate c at (write_refused c key) refl c.entry.start refl
+
+-- ---- fetch
+fetch_failed : (w : State) (session : ℕ) (c : Client) → ClientAt w.clients session c → work_refusal c.entry.state (is_reading c) ≡ None → ComesTo w (with_client w session (record c { heal = None })) (item.Fault (Session session) Cells ∷ [])
+fetch_failed w session c at go = (OfReadDropped (record {
+  session = session;
+  c = c;
+  under_way = c.under_way;
+  client_at = at;
+  under_way_is = inl (refl, (work_open c.entry.state (is_reading c) go).1);
+  heal = None;
+  heal_is = inr refl;
+  pairs = w.pairs;
+  pairs_are = inl refl;
+  items = item.Fault (Session session) Cells ∷ [];
+  quiet = one_quiet (item.Fault (Session session) Cells) refl;
+}), refl, refl)
+
+fetch_fated : (w : State) (session start epoch key : ℕ) (fate : Fate) (c : Client) → ClientAt w.clients session c → work_refusal c.entry.state (is_reading c) ≡ None → c.entry.start ≡ Some start → c.entry.epoch ≡ Some epoch → ComesBy w (for_client w session (fetch_by session start epoch key fate c (fetched w.rows key start)))
+fetch_fated w session start epoch key Works c at go begun known = (OfFetched (record {
+  it = open_by_work w session c at go;
+  key = key;
+  start = start;
+  epoch = epoch;
+  start_is = begun;
+  epoch_is = known;
+  first = item.Step (Session session) (step.Fetch key (length (fetched w.rows key start)));
+  quiet = refl;
+}), refl, refl)
+fetch_fated w session start epoch key FailsUnchanged c at go begun known = fetch_failed w session c at go
+fetch_fated w session start epoch key FailsApplied c at go begun known = fetch_failed w session c at go
+
+fetch_comes : (w : State) (session key : ℕ) (fate : Fate) (c : Client) → ClientAt w.clients session c → (why : Option Cause) → work_refusal c.entry.state (is_reading c) ≡ why → (start : Option ℕ) → c.entry.start ≡ start → (epoch : Option ℕ) → c.entry.epoch ≡ epoch → ComesBy w (for_client w session (fetch_open session key fate c w.rows why start epoch))
+fetch_comes w session key fate c at (Some why) go start begun epoch known = still_client w session c _ at (refusal_quiet (Session session) why)
+fetch_comes w session key fate c at None go None begun epoch known = still_client w session c [] at none_quiet
+fetch_comes w session key fate c at None go (Some start) begun None known = still_client w session c [] at none_quiet
+fetch_comes w session key fate c at None go (Some start) begun (Some epoch) known = fetch_fated w session start epoch key fate c at go begun known
+
+pub fetch_at : (w : State) (session key : ℕ) (fate : Fate) (c : Client) → ClientAt w.clients session c → ComesBy w (for_client w session (fetch_on session key fate c w.rows))
+fetch_at w session key fate c at = fetch_comes w session key fate c at (work_refusal c.entry.state (is_reading c)) refl c.entry.start refl c.entry.epoch refl
+
+-- ---- heal
+-- an offer is taken of an open transaction without a read under way
+offer_open : (state : SessionState) (reading : Bool) (heal : Option (ℕ × ℕ × ℕ)) (offer : ℕ × ℕ × ℕ) → offer_by state reading heal ≡ Some offer → (state ≡ phase.Open) × (reading ≡ false) × (heal ≡ Some offer)
+offer_open phase.Open false heal offer has = (refl, refl, has)
+offer_open phase.Open true heal offer has = absurd (cc)
+offer_open phase.Free reading heal offer has = absurd (cc)
+offer_open phase.Asking reading heal offer has = absurd (cc)
+offer_open phase.Committing reading heal offer has = absurd (cc)
+offer_open phase.OpenOutcome reading heal offer has = absurd (cc)
+offer_open (phase.Completing undo) reading heal offer has = absurd (cc)
+offer_open phase.Gone reading heal offer has = absurd (cc)
+
+heal_one : (w : State) (session : ℕ) (c : Client) (offer : ℕ × ℕ × ℕ) → ClientAt w.clients session c → offer_of c ≡ Some offer → (applied : Bool) (items : List Item) → AllQuiet items → ComesTo w (record (with_client w session (record c { heal = None })) { rows = if applied then with_shadow w.rows offer.0 offer.1 offer.2 else w.rows }) items
+heal_one w session c offer at has applied items quiet =
+    let found = offer_open c.entry.state (is_reading c) c.heal offer has in
+    (OfHealed (record {
+      it = at_open w session c at found.0 found.1;
+      key = offer.0;
+      version = offer.1;
+      commit = offer.2;
+      offer = found.2;
+      applied = applied;
+      items = items;
+      quiet = quiet;
+    }), refl, refl)
+
+heal_comes : (w : State) (session : ℕ) (fate : Fate) (c : Client) → ClientAt w.clients session c → (offer : Option (ℕ × ℕ × ℕ)) → offer_of c ≡ offer → ComesBy w (for_cells w session (heal_at session fate c w.rows w.pairs offer))
+heal_comes w session fate c at None has = still_client w session c _ at (refusal_quiet (Session session) _)
+heal_comes w session Works c at (Some offer) has = heal_one w session c offer at has true (item.Step (Session session) (step.Shadow offer.0 offer.1 offer.2) ∷ []) (one_quiet (item.Step (Session session) (step.Shadow offer.0 offer.1 offer.2)) refl)
+heal_comes w session FailsUnchanged c at (Some offer) has = heal_one w session c offer at has false (item.Fault (Session session) Cells ∷ []) (one_quiet (item.Fault (Session session) Cells) refl)
+heal_comes w session FailsApplied c at (Some offer) has = heal_one w session c offer at has true (item.Fault (Session session) Cells ∷ []) (one_quiet (item.Fault (Session session) Cells) refl)
+
+pub heal_at_client : (w : State) (session : ℕ) (fate : Fate) (c : Client) → ClientAt w.clients session c → ComesBy w (for_cells w session (heal_on session fate c w.rows w.pairs))
+heal_at_client w session fate c at = heal_comes w session fate c at (offer_of c) refl
