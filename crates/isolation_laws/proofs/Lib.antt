@@ -74,3 +74,4 @@ pub mod IsolatedItems
 pub mod IsolatedStamps
 pub mod Opening
 pub mod AlwaysHolds
+pub mod Theorem
