@@ -10,7 +10,7 @@ use Rattle.oracle_parts.specs.Instance.{InstanceEntry}
 use Rattle.machine.specs.declared.event.Event.{Event}
 use Rattle.machine.specs.declared.event.Event.TheVariants as event
 use Rattle.machine.specs.State.{Client, State, opening}
-use Rattle.machine.specs.Machine.{Step, at_post, at_client, at_both, stepped, Move, after_move, state_after, items_after, history_after, reading_of, seen_after, IsSteadyAt, AreSteady, Steady}
+use Rattle.machine.specs.Machine.{Step, at_post, at_client, at_both, stepped, Move, state_after, items_after, history_after, reading_of, seen_after, AreSteady, Steady}
 use Rattle.isolation_laws.specs.Memory.{MemoryFacts}
 use Rattle.isolation_laws.specs.Cells.{CellFacts}
 use Rattle.isolation_laws.specs.UnderWay.{UnderWayFacts}

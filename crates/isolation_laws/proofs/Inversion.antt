@@ -1,16 +1,13 @@
 -- Each event of the machine comes to one outcome.
-use Rattle.std.proofs.Common.{◌≡◌, ℕ, ◌+◌, ◌≤◌, max, List, [], ◌∷◌, Option, Some, None, refl, arith}
+use Rattle.std.proofs.Common.{◌≡◌, ℕ, ◌≤◌, max, List, [], Option, Some, None, refl, arith}
 use Rattle.std.specs.Prelude.{slice_get}
 use Rattle.port_io.specs.declared.weather.Fate.{Fate}
 use Rattle.history_book.specs.declared.item.Item.{Item}
 use Rattle.history_book.specs.declared.item.Item.TheVariants as item
-use Rattle.store_parts.specs.Record.{MasterRecord}
-use Rattle.client_parts.specs.Sweep.{Sweeping}
 use Rattle.oracle_parts.specs.Instance.{InstanceEntry}
 use Rattle.machine.specs.declared.event.Event.{Event}
 use Rattle.machine.specs.declared.event.Event.TheVariants as event
 use Rattle.machine.specs.State.{Client, State}
-use Rattle.machine.specs.Effect.{Effect}
 use Rattle.machine.specs.Machine.{Step, with_reading, at_post, at_client, at_both, stepped, reading_of, IsSteadyAt}
 use Rattle.machine.specs.Events.Take.{take_on}
 use Rattle.machine.specs.Events.Renew.{renew_on}
@@ -31,7 +28,6 @@ use Rattle.machine.specs.Events.Vanish.{vanish_on}
 use Rattle.machine.specs.Events.SweepOpen.{sweep_open_on}
 use Rattle.isolation_laws.specs.Words.{ClientAt}
 use Rattle.isolation_laws.specs.Holds.{Holds}
-use Rattle.isolation_laws.proofs.Outcomes.{Outcome, left_by, told_by_outcome}
 use Rattle.isolation_laws.proofs.InversionParts.{ComesTo, ComesBy, none_quiet, one_quiet, still, still_all, nodes_same}
 use Rattle.isolation_laws.proofs.InversionOfSessions.{for_client, for_cells, abort_at, vanish_at, write_at, fetch_at, heal_at_client}
 use Rattle.isolation_laws.proofs.InversionOfRecord.{for_record, take_at, renew_at_post, extend_at_post}

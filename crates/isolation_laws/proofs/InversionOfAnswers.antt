@@ -1,14 +1,12 @@
 -- What a node's put of a commit and its answer to a request come to.
-use Rattle.std.proofs.Common.{◌≡◌, ◌≢◌, ℕ, ◌+◌, ◌≤◌, Bool, true, false, if◌then◌else◌, List, [], ◌∷◌, ◌++◌, Option, Some, None, ◌⊎◌, inl, inr, refl, sym, ◌∙◌, ap, subst, arith}
-use Rattle.std.specs.Prelude.{slice_get, slice_set, Result, Ok, Err}
-use Rattle.std.proofs.lemmas.Option.{same_Some}
+use Rattle.std.proofs.Common.{◌≡◌, ℕ, true, List, [], ◌∷◌, Option, Some, None, ◌⊎◌, inl, inr, refl, sym, ◌∙◌, ap, arith}
+use Rattle.std.specs.Prelude.{slice_get, slice_set}
 use Rattle.stamp_base.specs.declared.stores.Mark.{Mark}
 use Rattle.stamp_base.specs.declared.stores.Mark.TheVariants.{Committed as CommittedMark}
 use Rattle.stamp_base.specs.declared.stores.Store.TheVariants.{Table}
 use Rattle.port_io.specs.declared.weather.Fate.{Fate}
 use Rattle.port_io.specs.declared.weather.Fate.TheVariants.{Works, FailsUnchanged, FailsApplied}
 use Rattle.port_io.specs.Fates.{fated}
-use Rattle.history_book.specs.declared.cause.Cause.{Cause}
 use Rattle.history_book.specs.declared.cause.Cause.TheVariants as cause
 use Rattle.history_book.specs.declared.item.Actor.TheVariants.{Node, Session}
 use Rattle.history_book.specs.declared.item.StoreStep.TheVariants.{PutFound}
@@ -23,18 +21,18 @@ use Rattle.oracle_parts.specs.declared.instance.Request.{Request}
 use Rattle.oracle_parts.specs.declared.instance.Request.TheVariants.{Begin, Commit}
 use Rattle.oracle_parts.specs.declared.instance.Settled.{Settled}
 use Rattle.oracle_parts.specs.declared.instance.Settled.TheVariants as how
-use Rattle.oracle_parts.specs.Instance.{InstanceEntry, held_of, was_told_not_yet, stamps_by, stamps_of_held, stamps_at, unsettled_by, least_unsettled}
+use Rattle.oracle_parts.specs.Instance.{InstanceEntry, held_of, was_told_not_yet, stamps_by, stamps_of_held, unsettled_by, least_unsettled}
 use Rattle.oracle_parts.specs.InstanceSteps.{InstanceStep, without_request, moved, not_yet_told, settle_if_drawn, settle_held, instance_settle, answer_begin, answer_if_ready, answer_held}
 use Rattle.machine.specs.State.{Client, State}
 use Rattle.machine.specs.Effect.{Effect, refused}
 use Rattle.machine.specs.Clients.{unless_gone}
 use Rattle.machine.specs.Machine.{Step, step_by, with_post, with_client}
 use Rattle.machine.specs.Events.Put.{to_place_by, to_place, put_by, put_commit, put_on}
-use Rattle.machine.specs.Events.Answer.{answer_by, answer_request, answer_on}
+use Rattle.machine.specs.Events.Answer.{answer_by, answer_on}
 use Rattle.isolation_laws.specs.Words.{InstanceAt, ClientAt}
 use Rattle.isolation_laws.specs.Quiet.{Quiet, AllQuiet}
-use Rattle.isolation_laws.proofs.Outcomes.{AtDrawn, answered_client, Outcome, OfPlaced, OfNotPlaced, OfAnsweredBegin, OfAnsweredCommit}
-use Rattle.isolation_laws.proofs.InversionParts.{ComesTo, ComesBy, none_quiet, one_quiet, refusal_quiet, still, still_post, still_both, client_back, nodes_alike, alike_told}
+use Rattle.isolation_laws.proofs.Outcomes.{AtDrawn, answered_client, OfPlaced, OfNotPlaced, OfAnsweredBegin, OfAnsweredCommit}
+use Rattle.isolation_laws.proofs.InversionParts.{ComesTo, ComesBy, none_quiet, one_quiet, refusal_quiet, still, still_post, client_back, nodes_alike, alike_told}
 use Rattle.isolation_laws.proofs.InversionOfRequests.{for_request, Served, decide_still, told_quiet}
 
 -- ---- put

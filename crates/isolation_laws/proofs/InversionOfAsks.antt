@@ -1,8 +1,7 @@
 -- What a crash and the asks of a session come to.
-use Rattle.std.proofs.Common.{◌≡◌, ◌≢◌, ℕ, ◌+◌, ◌<◌, ◌≤◌, ◌==◌, max, Bool, true, false, if◌then◌else◌, List, [], ◌∷◌, ◌++◌, Option, Some, None, ◌⊎◌, inl, inr, refl, sym, ◌∙◌, ap, subst, arith}
-use Rattle.std.specs.Prelude.{slice_get, slice_set, nat_lt, nat_le, Result, Ok, Err}
-use Rattle.std.proofs.lemmas.Bool.{ltb-true}
-use Rattle.std.proofs.lemmas.List.Elements.{All-nil, All-cons, All-append}
+use Rattle.std.proofs.Common.{◌≡◌, ◌≢◌, ℕ, ◌==◌, Bool, true, false, if◌then◌else◌, List, [], ◌∷◌, Option, Some, None, refl, ap, arith}
+use Rattle.std.specs.Prelude.{slice_get, slice_set, Ok}
+use Rattle.std.proofs.lemmas.List.Elements.{All-cons, All-append}
 use Rattle.history_book.specs.declared.cause.Cause.{Cause}
 use Rattle.history_book.specs.declared.cause.Cause.TheVariants as cause
 use Rattle.history_book.specs.declared.item.Actor.TheVariants.{Node, Session}
@@ -13,24 +12,22 @@ use Rattle.client_parts.specs.declared.session.State.{State as SessionState}
 use Rattle.client_parts.specs.declared.session.State.TheVariants as phase
 use Rattle.client_parts.specs.SessionSteps.{begin_refusal, work_refusal}
 use Rattle.oracle_parts.specs.declared.instance.Held.{Held}
-use Rattle.oracle_parts.specs.declared.instance.Progress.{Progress}
-use Rattle.oracle_parts.specs.declared.instance.Progress.TheVariants as progress
 use Rattle.oracle_parts.specs.declared.instance.Request.{Request}
 use Rattle.oracle_parts.specs.declared.instance.Request.TheVariants.{Begin, Commit}
-use Rattle.oracle_parts.specs.Instance.{InstanceEntry, held_of, in_flight, session_of, with_request}
+use Rattle.oracle_parts.specs.Instance.{InstanceEntry, in_flight, session_of, with_request}
 use Rattle.oracle_parts.specs.InstanceSteps.{InstanceStep, stays, just_asked}
 use Rattle.machine.specs.State.{Client, State}
 use Rattle.machine.specs.Effect.{Effect}
 use Rattle.machine.specs.Clients.{is_reading, client_freed}
-use Rattle.machine.specs.Machine.{Step, step_by, with_post, with_client, with_reading}
+use Rattle.machine.specs.Machine.{Step, step_by, with_post, with_client}
 use Rattle.machine.specs.Events.Crash.{loss_heard, loss_items, crashed_items, all_crashed_items, crash_on}
 use Rattle.machine.specs.Events.AskBegin.{asked_by, ask_begin_by, ask_begin_on}
 use Rattle.machine.specs.Events.AskCommit.{commit_of, ask_commit_by, ask_commit_on}
 use Rattle.isolation_laws.specs.Words.{InstanceAt, ClientAt}
 use Rattle.isolation_laws.specs.Quiet.{Quiet, AllQuiet}
 use Rattle.isolation_laws.proofs.Lookups.{set_same}
-use Rattle.isolation_laws.proofs.Outcomes.{Outcome, OfCrashed, OfAskedBegin, OfAskedCommit, OfEndedReadOnly}
-use Rattle.isolation_laws.proofs.InversionParts.{ComesTo, ComesBy, none_quiet, one_quiet, refusal_quiet, still_post, still_both, at_open}
+use Rattle.isolation_laws.proofs.Outcomes.{OfCrashed, OfAskedBegin, OfAskedCommit, OfEndedReadOnly}
+use Rattle.isolation_laws.proofs.InversionParts.{ComesTo, ComesBy, none_quiet, one_quiet, refusal_quiet, still_post, still_both}
 use Rattle.isolation_laws.proofs.InversionOfSessions.{work_open, open_by_work}
 
 -- ---- crash

@@ -1,5 +1,5 @@
 -- What the calls on the master record come to: a take, a renewal, an extension.
-use Rattle.std.proofs.Common.{◌≡◌, ◌≢◌, ℕ, ◌+◌, ◌≤◌, ◌==◌, max, Bool, true, false, if◌then◌else◌, List, [], ◌∷◌, ◌++◌, Option, Some, None, ◌⊎◌, inl, inr, refl, sym, ◌∙◌, ap, subst, arith}
+use Rattle.std.proofs.Common.{◌≡◌, ℕ, ◌+◌, ◌≤◌, ◌==◌, max, Bool, true, false, if◌then◌else◌, List, [], ◌∷◌, Option, Some, None, refl, ap, arith}
 use Rattle.std.specs.Prelude.{slice_get, slice_set}
 use Rattle.std.specs.Option.{option_or}
 use Rattle.std.proofs.lemmas.Bool.{eqb-true}
@@ -21,18 +21,18 @@ use Rattle.store_parts.specs.declared.record.ExtendRefused.{ExtendRefused}
 use Rattle.store_parts.specs.declared.record.ExtendRefused.TheVariants as extend
 use Rattle.store_parts.specs.Record.{MasterRecord, take_refused, granted, held_by, unless_refused, renew_refused, renewed_until, extend_refused, is_spent, answered}
 use Rattle.oracle_parts.specs.Instance.{InstanceEntry}
-use Rattle.oracle_parts.specs.InstanceSteps.{IsStop, instance_stopped, instance_renewed, instance_widened}
+use Rattle.oracle_parts.specs.InstanceSteps.{IsStop, instance_stopped}
 use Rattle.machine.specs.State.{State}
 use Rattle.machine.specs.Effect.{Effect, kept_items}
 use Rattle.machine.specs.Machine.{Step, step_by, with_post, with_reading}
 use Rattle.machine.specs.Events.Take.{rules_of, take_item, take_by, take_on}
-use Rattle.machine.specs.Events.Renew.{renew_by, renew_at, renew_on}
-use Rattle.machine.specs.Events.Extend.{extend_by, extend_at, extend_on}
+use Rattle.machine.specs.Events.Renew.{renew_by, renew_on}
+use Rattle.machine.specs.Events.Extend.{extend_by, extend_on}
 use Rattle.isolation_laws.specs.Words.{InstanceAt}
-use Rattle.isolation_laws.specs.Quiet.{Quiet, AllQuiet}
+use Rattle.isolation_laws.specs.Quiet.{AllQuiet}
 use Rattle.isolation_laws.proofs.Lookups.{set_same}
-use Rattle.isolation_laws.proofs.Outcomes.{StopOf, Alike, Outcome, OfGranted, OfRenewed, OfExtended}
-use Rattle.isolation_laws.proofs.InversionParts.{ComesTo, ComesBy, none_quiet, one_quiet, two_quiet, refusal_quiet, still, still_post, alike_same, nodes_alike}
+use Rattle.isolation_laws.proofs.Outcomes.{StopOf, Alike, OfGranted, OfRenewed, OfExtended}
+use Rattle.isolation_laws.proofs.InversionParts.{ComesTo, ComesBy, one_quiet, two_quiet, refusal_quiet, still, still_post, nodes_alike}
 
 -- the effect on a node and the master record
 abbrev pub for_record : State → ℕ → Effect (Option InstanceEntry × MasterRecord) → Step

@@ -1,6 +1,6 @@
 -- What the events of a session alone come to: an abort, a vanish, a write, a fetch, a heal.
-use Rattle.std.proofs.Common.{◌≡◌, ◌≢◌, ℕ, ◌≤◌, Bool, true, false, if◌then◌else◌, List, [], ◌∷◌, ◌++◌, Option, Some, None, ◌⊎◌, inl, inr, refl, sym, ◌∙◌, ap, subst}
-use Rattle.std.specs.Prelude.{slice_get, slice_set, length}
+use Rattle.std.proofs.Common.{◌≡◌, ℕ, Bool, true, false, if◌then◌else◌, List, [], ◌∷◌, Option, Some, None, ◌⊎◌, inl, inr, refl}
+use Rattle.std.specs.Prelude.{length}
 use Rattle.std.specs.Option.{option_or}
 use Rattle.stamp_base.specs.declared.stores.Store.TheVariants.{Cells}
 use Rattle.port_io.specs.declared.weather.Fate.{Fate}
@@ -12,17 +12,12 @@ use Rattle.history_book.specs.declared.item.Ending.TheVariants as ending
 use Rattle.history_book.specs.declared.item.StoreStep.TheVariants as step
 use Rattle.history_book.specs.declared.item.Item.{Item}
 use Rattle.history_book.specs.declared.item.Item.TheVariants as item
-use Rattle.store_parts.specs.declared.rows.Cell.{Cell}
-use Rattle.store_parts.specs.Rows.{Row, put_row, fetched, front_of, with_shadow}
-use Rattle.store_parts.specs.Pairs.{Pairs}
-use Rattle.client_parts.specs.declared.asks.Ask.TheVariants.{Shadow}
+use Rattle.store_parts.specs.Rows.{Row, put_row, fetched, with_shadow}
 use Rattle.client_parts.specs.declared.session.State.{State as SessionState}
 use Rattle.client_parts.specs.declared.session.State.TheVariants as phase
 use Rattle.client_parts.specs.SessionSteps.{work_refusal, key_refusal, vanish_refusal}
-use Rattle.client_parts.specs.KeyRead.{read_over}
 use Rattle.machine.specs.State.{Client, State}
 use Rattle.machine.specs.Effect.{Effect}
-use Rattle.machine.specs.StoreSteps.{Met, met}
 use Rattle.machine.specs.Clients.{is_reading}
 use Rattle.machine.specs.Machine.{Step, step_by, with_client}
 use Rattle.machine.specs.Events.Abort.{abort_by, abort_on}
@@ -31,8 +26,8 @@ use Rattle.machine.specs.Events.Write.{write_refused, write_by, write_open, writ
 use Rattle.machine.specs.Events.Fetch.{fetch_by, fetch_open, fetch_on}
 use Rattle.machine.specs.Events.Heal.{offer_by, offer_of, heal_at, heal_on}
 use Rattle.isolation_laws.specs.Words.{ClientAt}
-use Rattle.isolation_laws.specs.Quiet.{Quiet, AllQuiet}
-use Rattle.isolation_laws.proofs.Outcomes.{AtOpen, Outcome, OfAborted, OfVanished, OfWrote, OfWriteFailed, OfFetched, OfReadDropped, OfHealed}
+use Rattle.isolation_laws.specs.Quiet.{AllQuiet}
+use Rattle.isolation_laws.proofs.Outcomes.{AtOpen, OfAborted, OfVanished, OfWrote, OfWriteFailed, OfFetched, OfReadDropped, OfHealed}
 use Rattle.isolation_laws.proofs.InversionParts.{ComesTo, ComesBy, none_quiet, one_quiet, two_quiet, refusal_quiet, still_client, at_open}
 
 -- the effect on a client, and on the cells with it

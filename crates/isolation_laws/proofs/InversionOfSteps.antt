@@ -1,11 +1,8 @@
 -- What the next step of a session comes to: of a read, of the resolve of its own commit, of a completion.
-use Rattle.std.proofs.Common.{◌≡◌, ◌≢◌, ℕ, Bool, true, false, IsTrue, if◌then◌else◌, List, [], ◌∷◌, ◌++◌, Option, Some, None, ◌⊎◌, inl, inr, refl, sym, ◌∙◌, ap, subst}
-use Rattle.std.specs.Prelude.{slice_get, slice_set}
-use Rattle.std.proofs.lemmas.Option.{same_Some}
-use Rattle.std.proofs.lemmas.List.Elements.{All-nil, All-cons, All-append}
+use Rattle.std.proofs.Common.{◌≡◌, ℕ, Bool, true, false, if◌then◌else◌, List, [], ◌∷◌, ◌++◌, Option, Some, None, ◌⊎◌, inl, inr, refl, ap}
+use Rattle.std.proofs.lemmas.List.Elements.{All-cons}
 use Rattle.port_io.specs.declared.weather.Fate.{Fate}
 use Rattle.port_io.specs.declared.weather.Fate.TheVariants.{Works, FailsUnchanged, FailsApplied}
-use Rattle.history_book.specs.declared.cause.Cause.{Cause}
 use Rattle.history_book.specs.declared.item.Actor.TheVariants.{Session}
 use Rattle.history_book.specs.declared.item.Ending.TheVariants.{Dead as DeadEnd}
 use Rattle.history_book.specs.declared.item.Item.{Item}
@@ -15,11 +12,10 @@ use Rattle.store_parts.specs.Pairs.{Pairs}
 use Rattle.client_parts.specs.declared.asks.Ask.{Ask}
 use Rattle.client_parts.specs.declared.asks.Told.{Told}
 use Rattle.client_parts.specs.declared.resolve.Outcome.TheVariants as outcome
-use Rattle.client_parts.specs.declared.session.State.{State as SessionState}
 use Rattle.client_parts.specs.declared.session.State.TheVariants as phase
 use Rattle.client_parts.specs.Resolve.{Settling, settle_ask, SettleTurn, Goes, Decides, settle_turn}
 use Rattle.client_parts.specs.KeyRead.{Reading, read_ask}
-use Rattle.machine.specs.State.{UnderWay, Nothing, Reads, Settles, Completes, Client, State}
+use Rattle.machine.specs.State.{Nothing, Reads, Settles, Completes, Client, State}
 use Rattle.machine.specs.Effect.{Effect}
 use Rattle.machine.specs.Clients.{client_freed}
 use Rattle.machine.specs.StoreSteps.{met, store_of, told_by, step_item, rows_after, pairs_after, effect_items}
@@ -28,8 +24,8 @@ use Rattle.machine.specs.Events.Fetch.{client_read}
 use Rattle.machine.specs.Events.Step.{StepParts, read_step, settle_items, client_settled, settle_step, complete_step, own_resolve, after_asks}
 use Rattle.isolation_laws.specs.Words.{ClientAt}
 use Rattle.isolation_laws.specs.Quiet.{Quiet, AllQuiet}
-use Rattle.isolation_laws.proofs.Outcomes.{Outcome, AtOpenOutcome, OfReadStepped, OfReadDropped, OfOutcome, OfOutcomeFailed, OfCompleted, MayHaveMarked, read_turn}
-use Rattle.isolation_laws.proofs.InversionParts.{ComesTo, ComesBy, none_quiet, one_quiet, still_client}
+use Rattle.isolation_laws.proofs.Outcomes.{OfReadStepped, OfReadDropped, OfOutcome, OfOutcomeFailed, OfCompleted, MayHaveMarked, read_turn}
+use Rattle.isolation_laws.proofs.InversionParts.{ComesTo, ComesBy, none_quiet, one_quiet}
 use Rattle.isolation_laws.proofs.InversionOfCalls.{NoList, step_quiet, failed_quiet, resolve_no_list, resolve_rows, resolve_marks}
 
 -- the effect on a client and the stores

@@ -1,6 +1,5 @@
 -- What the events of the janitor come to. An open sweep always asks something.
-use Rattle.std.proofs.Common.{◌≡◌, ◌≢◌, ℕ, ◌≤◌, Bool, true, false, List, [], ◌∷◌, ◌++◌, Option, Some, None, ◌⊎◌, inl, inr, refl, sym, ◌∙◌, ap, subst, length}
-use Rattle.std.specs.Prelude.{slice_get, slice_set}
+use Rattle.std.proofs.Common.{◌≡◌, ℕ, Bool, true, false, List, [], ◌∷◌, ◌++◌, Option, Some, None, refl, sym, ap, length}
 use Rattle.std.proofs.lemmas.List.Elements.{All-append}
 use Rattle.stamp_base.specs.declared.stores.Store.TheVariants.{Cells}
 use Rattle.port_io.specs.declared.weather.Fate.{Fate}
@@ -18,10 +17,10 @@ use Rattle.machine.specs.State.{State}
 use Rattle.machine.specs.Effect.{Effect}
 use Rattle.machine.specs.StoreSteps.{met, store_of, told_by, step_item}
 use Rattle.machine.specs.Machine.{Step, step_by, on_swept}
-use Rattle.machine.specs.Events.SweepOpen.{sweep_open_at, sweep_open_on}
+use Rattle.machine.specs.Events.SweepOpen.{sweep_open_on}
 use Rattle.machine.specs.Events.SweepStep.{undecided_items, sweep_met, sweep_at, sweep_lists, sweep_step_on}
 use Rattle.isolation_laws.specs.Quiet.{Quiet, AllQuiet}
-use Rattle.isolation_laws.proofs.Outcomes.{Outcome, OfSweepOpened, OfSwept, OfSweepListed, OfSweepFailed}
+use Rattle.isolation_laws.proofs.Outcomes.{OfSweepOpened, OfSwept, OfSweepListed, OfSweepFailed}
 use Rattle.isolation_laws.proofs.InversionParts.{ComesTo, ComesBy, none_quiet, one_quiet, refusal_quiet, still_all}
 use Rattle.isolation_laws.proofs.InversionOfCalls.{NoList, step_quiet, failed_quiet}
 

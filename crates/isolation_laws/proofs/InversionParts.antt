@@ -1,5 +1,5 @@
 -- What it is for an event to come to an outcome, and what comes to nothing.
-use Rattle.std.proofs.Common.{◌≡◌, ◌≢◌, ℕ, ◌≤◌, false, List, [], ◌∷◌, ◌++◌, Option, Some, None, inl, inr, refl, sym, ◌∙◌, ap, subst, arith}
+use Rattle.std.proofs.Common.{◌≡◌, ℕ, ◌≤◌, false, List, [], ◌∷◌, Option, Some, inl, inr, refl, sym, ◌∙◌, ap, subst, arith}
 use Rattle.std.specs.Prelude.{slice_get, slice_set}
 use Rattle.std.proofs.lemmas.Option.{same_Some}
 use Rattle.std.proofs.lemmas.List.Elements.{All-nil, All-cons}
@@ -16,7 +16,7 @@ use Rattle.machine.specs.Machine.{Step, with_post, with_client}
 use Rattle.isolation_laws.specs.Words.{InstanceAt, ClientAt}
 use Rattle.isolation_laws.specs.Quiet.{Quiet, AllQuiet}
 use Rattle.isolation_laws.proofs.Lookups.{set_same, instance_changed, held_set}
-use Rattle.isolation_laws.proofs.Outcomes.{StopOf, Alike, AlikeNodes, Still, AtOpen, Outcome, OfStill, left_by, told_by_outcome}
+use Rattle.isolation_laws.proofs.Outcomes.{Alike, AlikeNodes, AtOpen, Outcome, OfStill, left_by, told_by_outcome}
 
 -- the state and the items are those of an outcome
 abbrev pub ComesTo : (w : State) → State → List Item → Type 0

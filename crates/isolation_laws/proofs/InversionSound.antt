@@ -1,5 +1,5 @@
 -- Every outcome keeps what the inversion needs: kept refusals are the master record's, and an open sweep asks something.
-use Rattle.std.proofs.Common.{◌≡◌, ◌≢◌, ℕ, ◌<◌, Bool, true, false, List, [], ◌∷◌, Option, Some, None, ◌⊎◌, inl, inr, refl, sym, ◌∙◌, ap, subst}
+use Rattle.std.proofs.Common.{◌≡◌, ℕ, ◌<◌, Bool, true, false, List, Option, Some, None, inl, inr, refl, sym, ◌∙◌, ap, subst}
 use Rattle.std.specs.Prelude.{slice_get, slice_set, replicate}
 use Rattle.std.proofs.lemmas.Option.{same_Some, none-some, slice_get_within, get_or_from_slice_get}
 use Rattle.std.proofs.lemmas.List.{get_or-replicate, length-replicate}
@@ -10,7 +10,7 @@ use Rattle.oracle_parts.specs.Instance.{InstanceEntry}
 use Rattle.machine.specs.State.{State, opening}
 use Rattle.machine.specs.Events.SweepStep.{still_open, sweep_left}
 use Rattle.isolation_laws.specs.Words.{InstanceAt}
-use Rattle.isolation_laws.proofs.Lookups.{instance_set, instance_changed, instance_ended}
+use Rattle.isolation_laws.proofs.Lookups.{instance_changed, instance_ended}
 use Rattle.isolation_laws.proofs.Outcomes.{StopOf, AlikeNodes, Granted, granted_nodes, Renewed, renewed_nodes, Extended, extended_nodes, Outcome, OfStill, OfGranted, OfRenewed, OfExtended, OfCrashed, OfAskedBegin, OfAskedCommit, OfAccepted, OfEnded, OfDrew, OfPlaced, OfNotPlaced, OfAnsweredBegin, OfAnsweredCommit, OfEndedReadOnly, OfWrote, OfWriteFailed, OfAborted, OfVanished, OfHealed, OfFetched, OfReadDropped, OfReadStepped, OfOutcome, OfOutcomeFailed, OfCompleted, OfSweepOpened, OfSwept, OfSweepListed, OfSweepFailed, left_by}
 use Rattle.isolation_laws.proofs.InversionOfRequests.{AreStops}
 use Rattle.isolation_laws.proofs.InversionOfSweeps.{SweepAsks}

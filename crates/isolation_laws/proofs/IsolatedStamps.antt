@@ -1,20 +1,19 @@
 -- Every outcome keeps stamps distinct and begins fresh. Of commits that are placed each is apart, since those that are drawn are.
-use Rattle.std.proofs.Common.{◌≡◌, ◌≢◌, ℕ, ◌<◌, List, [], ◌∷◌, ◌++◌, append_assoc, Option, Some, None, ◌⊎◌, inl, inr, refl, sym, ◌∙◌, ap, subst}
-use Rattle.history_book.specs.Members.{◌∈◌, AtEach}
-use Rattle.history_book.specs.Isolation.{Committed, Wrote, Apart, NewStamps, Stamped, StartsAbove, Fresh, before_ask}
+use Rattle.std.proofs.Common.{◌≡◌, ◌≢◌, ℕ, ◌<◌, List, [], ◌∷◌, ◌++◌, append_assoc, Some, None, ◌⊎◌, inl, inr, refl, sym, subst}
+use Rattle.history_book.specs.Isolation.{Committed, Apart, NewStamps, Stamped, StartsAbove, Fresh}
 use Rattle.history_book.specs.declared.item.Item.{Item}
 use Rattle.history_book.specs.declared.item.Item.TheVariants as item
 use Rattle.history_book.proofs.MemberLemmas.{in_push, in_old, AtEach-push}
 use Rattle.machine.specs.State.{State}
-use Rattle.isolation_laws.specs.Words.{Begun, DrewStart, DrewCommit}
+use Rattle.isolation_laws.specs.Words.{Begun, DrewCommit}
 use Rattle.isolation_laws.specs.Numbers.{AreNewDraws, AreBegun, ArePlaced}
 use Rattle.isolation_laws.specs.Memory.{DrawnApart}
 use Rattle.isolation_laws.specs.Holds.{Holds}
 use Rattle.isolation_laws.proofs.Owners.{drawn_once, commit_above_start, has_drew}
-use Rattle.isolation_laws.proofs.Outcomes.{PlacedOne, placed_items, AnsweredBegin, answered_begin_items, Outcome, told_by_outcome}
+use Rattle.isolation_laws.proofs.Outcomes.{PlacedOne, AnsweredBegin, answered_begin_items, Outcome, told_by_outcome}
 use Rattle.isolation_laws.proofs.NumbersKept.{drew_start, in_flight_of, drawn_pending, drew_commit, numbers_kept}
 use Rattle.isolation_laws.proofs.RequestsOfItems.{begin_held}
-use Rattle.isolation_laws.proofs.IsolatedItems.{is_stamp, NoStamp, NoStamps, quiet_no_stamps, Stamping, StampsNone, StampsPlaced, StampsBegin, stamping, each_on, begin_old, placed_old}
+use Rattle.isolation_laws.proofs.IsolatedItems.{NoStamp, NoStamps, quiet_no_stamps, Stamping, StampsNone, StampsPlaced, StampsBegin, stamping, each_on, begin_old, placed_old}
 
 -- ---- items without a stamp
 no_new_stamp : (before : List Item) (x : Item) → NoStamp x → NewStamps before x

@@ -1,30 +1,28 @@
 -- All that ties state and history holds in the opening state, of an empty history.
-use Rattle.std.proofs.Common.{◌≡◌, ◌≢◌, ℕ, ◌<◌, ◌≤◌, Bool, true, false, IsTrue, List, [], ◌∷◌, Option, Some, None, ◌⊎◌, inl, inr, refl, sym, ◌∙◌, ap, subst}
-use Rattle.std.specs.Prelude.{slice_get, replicate}
+use Rattle.std.proofs.Common.{◌≡◌, ℕ, true, false, IsTrue, List, [], Some, None, ◌⊎◌, inl, inr, refl, sym, ◌∙◌, ap}
+use Rattle.std.specs.Prelude.{replicate}
 use Rattle.std.specs.FinMap as map
 use Rattle.std.specs.Ordering.{nat_cmp}
 use Rattle.std.proofs.lemmas.Option.{none-some}
 use Rattle.stamp_base.specs.declared.stores.Mark.TheVariants.{Committed as CommittedMark}
 use Rattle.stamp_base.specs.SetupNumbers.{SetupNumbers, AreInRange}
 use Rattle.history_book.specs.Members.{◌∈◌, AtEach}
-use Rattle.history_book.specs.Isolation.{Committed, NewStamps, Stamped, StartsAbove, Fresh, Apart, RightRead, Isolated}
-use Rattle.history_book.specs.declared.item.Item.{Item}
+use Rattle.history_book.specs.Isolation.{NewStamps, StartsAbove, RightRead, Isolated}
 use Rattle.store_parts.specs.declared.rows.Cell.{Cell}
 use Rattle.store_parts.specs.Rows.{looked, AreOrdered}
 use Rattle.client_parts.specs.declared.session.State.{State as SessionState}
 use Rattle.client_parts.specs.declared.session.State.TheVariants as phase
 use Rattle.client_parts.specs.SessionSteps.{has_transaction}
-use Rattle.oracle_parts.specs.Instance.{InstanceEntry}
-use Rattle.machine.specs.State.{UnderWay, Nothing, Reads, Settles, Completes, Client, State, client_new, opening}
-use Rattle.isolation_laws.specs.Words.{InstanceAt, ClientAt, TxnAt, OpenAt, HasRecord}
-use Rattle.isolation_laws.specs.Pending.{InFlight, Pending, ComesBelow, Live}
-use Rattle.isolation_laws.specs.Numbers.{AreRanges, AreLeases, AreDrawn, IsNewDraw, AreNewDraws, AreBegun, ArePlaced, NumberFacts}
-use Rattle.isolation_laws.specs.Requests.{HaveBegun, AreRequests, AreStarting, ArePending, AreSettled, AreAccepted, HasAsked, AreOpen, AreKeys, RequestFacts}
-use Rattle.isolation_laws.specs.Memory.{AreRecorded, DrawnApart, MemoryFacts}
-use Rattle.isolation_laws.specs.Cells.{AreRows, ArePairs, AreLiveCells, ArePlacedCells, CellFacts}
-use Rattle.isolation_laws.specs.UnderWay.{AreFinishing, AreUndoing, AreSettling, AreHeals, IsSweeping, UnderWayFacts}
-use Rattle.isolation_laws.specs.Begins.{AreFreshBegins, AreSettledBelow, BeginFacts}
-use Rattle.isolation_laws.specs.Reads.{AreReading, AreLastingReads, ReadFacts}
+use Rattle.machine.specs.State.{UnderWay, Nothing, Reads, Settles, Client, client_new, opening}
+use Rattle.isolation_laws.specs.Words.{ClientAt, OpenAt, HasRecord}
+use Rattle.isolation_laws.specs.Pending.{Live}
+use Rattle.isolation_laws.specs.Numbers.{IsNewDraw, NumberFacts}
+use Rattle.isolation_laws.specs.Requests.{HasAsked, RequestFacts}
+use Rattle.isolation_laws.specs.Memory.{MemoryFacts}
+use Rattle.isolation_laws.specs.Cells.{CellFacts}
+use Rattle.isolation_laws.specs.UnderWay.{UnderWayFacts}
+use Rattle.isolation_laws.specs.Begins.{BeginFacts}
+use Rattle.isolation_laws.specs.Reads.{ReadFacts}
 use Rattle.isolation_laws.specs.Holds.{Holds}
 use Rattle.isolation_laws.proofs.InversionSound.{found_copy, none_at}
 
