@@ -1,64 +1,52 @@
--- What ties state and history holds after every list of moves with steady readings, where each outcome keeps it.
+-- What ties state and history holds after every list of moves with steady readings; so each history is snapshot isolated.
 use Rattle.std.proofs.Common.{◌≡◌, ℕ, max, List, [], ◌∷◌, ◌++◌, append_assoc, Option, Some, None, refl, sym, ◌∙◌, ap, subst}
 use Rattle.std.proofs.lemmas.List.{append-nil}
 use Rattle.stamp_base.specs.SetupNumbers.{SetupNumbers, AreInRange}
 use Rattle.port_io.specs.declared.weather.Fate.{Fate}
-use Rattle.history_book.specs.Members.{AtEach}
-use Rattle.history_book.specs.Isolation.{RightRead, Isolated}
+use Rattle.history_book.specs.Isolation.{Isolated}
 use Rattle.history_book.specs.declared.item.Item.{Item}
 use Rattle.oracle_parts.specs.Instance.{InstanceEntry}
 use Rattle.machine.specs.declared.event.Event.{Event}
 use Rattle.machine.specs.declared.event.Event.TheVariants as event
 use Rattle.machine.specs.State.{Client, State, opening}
 use Rattle.machine.specs.Machine.{Step, at_post, at_client, at_both, stepped, Move, state_after, items_after, history_after, reading_of, seen_after, AreSteady, Steady}
-use Rattle.isolation_laws.specs.Memory.{MemoryFacts}
-use Rattle.isolation_laws.specs.Cells.{CellFacts}
-use Rattle.isolation_laws.specs.UnderWay.{UnderWayFacts}
-use Rattle.isolation_laws.specs.Begins.{BeginFacts}
-use Rattle.isolation_laws.specs.Reads.{ReadFacts}
 use Rattle.isolation_laws.specs.Holds.{Holds}
 use Rattle.isolation_laws.proofs.Outcomes.{Outcome, OfStill, left_by, told_by_outcome}
 use Rattle.isolation_laws.proofs.NumbersKept.{numbers_kept}
 use Rattle.isolation_laws.proofs.RequestsOfAll.{requests_kept}
+use Rattle.isolation_laws.proofs.MemoryKept.{memory_kept}
+use Rattle.isolation_laws.proofs.CellsKept.{cells_kept}
+use Rattle.isolation_laws.proofs.UnderWayKept.{under_way_kept}
+use Rattle.isolation_laws.proofs.BeginsKept.{begins_kept}
+use Rattle.isolation_laws.proofs.ReadsKept.{reads_kept, right_reads_kept}
 use Rattle.isolation_laws.proofs.InversionParts.{ComesBy}
 use Rattle.isolation_laws.proofs.Inversion.{Sound, comes_to}
 use Rattle.isolation_laws.proofs.InversionSound.{sound_kept, opening_sound}
 use Rattle.isolation_laws.proofs.IsolatedStamps.{stamped_kept, fresh_kept, apart_kept}
 use Rattle.isolation_laws.proofs.Opening.{opening_holds}
 
--- each outcome keeps the facts of these groups
-pub record GroupsAreKept : Type 0 where
-  pub memory : (w : State) (h : List Item) (o : Outcome w) → Holds w h → MemoryFacts (left_by w o).setup (left_by w o).nodes (h ++ told_by_outcome w o)
-  pub cells : (w : State) (h : List Item) (o : Outcome w) → Holds w h → CellFacts (left_by w o).clients (left_by w o).nodes (left_by w o).rows (left_by w o).pairs (h ++ told_by_outcome w o)
-  pub under_way : (w : State) (h : List Item) (o : Outcome w) → Holds w h → UnderWayFacts (left_by w o).clients (left_by w o).sweep (left_by w o).rows (left_by w o).pairs (h ++ told_by_outcome w o)
-  pub begins : (w : State) (h : List Item) (o : Outcome w) → Holds w h → BeginFacts (left_by w o).clients (left_by w o).nodes (h ++ told_by_outcome w o)
-  pub reads : (w : State) (h : List Item) (o : Outcome w) → Holds w h → ReadFacts (left_by w o).clients (left_by w o).nodes (left_by w o).rows (left_by w o).pairs (h ++ told_by_outcome w o)
-  pub right_reads : (w : State) (h : List Item) (o : Outcome w) → Holds w h → AtEach (RightRead (h ++ told_by_outcome w o)) (h ++ told_by_outcome w o)
-
 -- ---- one outcome
 pub setup_kept : (w : State) (o : Outcome w) → (left_by w o).setup ≡ w.setup
 setup_kept w (OfStill k) = refl
 setup_kept w _ = refl
 
-pub holds_kept : GroupsAreKept → (w : State) (h : List Item) (o : Outcome w) → Holds w h → Holds (left_by w o) (h ++ told_by_outcome w o)
-holds_kept groups w h o holds =
-    let memory = groups.memory w h o holds in
-    record {
-      in_range = subst (λ (setup : SetupNumbers). AreInRange setup) (sym (setup_kept w o)) holds.in_range;
-      numbers = numbers_kept w h o holds;
-      requests = requests_kept w h o holds;
-      memory = memory;
-      cells = groups.cells w h o holds;
-      under_way = groups.under_way w h o holds;
-      begins = groups.begins w h o holds;
-      reads = groups.reads w h o holds;
-      isolated = record {
-        apart = apart_kept w h o holds memory.apart;
-        stamped = stamped_kept w h o holds;
-        fresh = fresh_kept w h o holds;
-        reads = groups.right_reads w h o holds;
-      };
-    }
+pub holds_kept : (w : State) (h : List Item) (o : Outcome w) → Holds w h → Holds (left_by w o) (h ++ told_by_outcome w o)
+holds_kept w h o holds = record {
+  in_range = subst (λ (setup : SetupNumbers). AreInRange setup) (sym (setup_kept w o)) holds.in_range;
+  numbers = numbers_kept w h o holds;
+  requests = requests_kept w h o holds;
+  memory = memory_kept w h o holds;
+  cells = cells_kept w h o holds;
+  under_way = under_way_kept w h o holds;
+  begins = begins_kept w h o holds;
+  reads = reads_kept w h o holds;
+  isolated = record {
+    apart = apart_kept w h o holds;
+    stamped = stamped_kept w h o holds;
+    fresh = fresh_kept w h o holds;
+    reads = right_reads_kept w h o holds;
+  };
+}
 
 -- ---- the greatest reading after an event
 post_seen : (left : State) (seen : ℕ) (f : Option InstanceEntry → Step) → left.seen ≡ seen → ((post : Option InstanceEntry) → (f post).state.seen ≡ seen) → (found : Option (Option InstanceEntry)) → (at_post left found f).state.seen ≡ seen
@@ -102,10 +90,10 @@ pub record HoldsSoundly (w : State) (h : List Item) : Type 0 where
   pub holds : Holds w h
   pub sound : Sound w
 
--- what comes to an outcome that keeps them keeps them
-come_soundly : GroupsAreKept → (w : State) (h : List Item) (step : Step) → HoldsSoundly w h → ComesBy w step → HoldsSoundly step.state (h ++ step.items)
-come_soundly groups w h step both (o, state, items) = record {
-  holds = subst (λ (v : State). Holds v (h ++ step.items)) (sym state) (subst (λ (xs : List Item). Holds (left_by w o) (h ++ xs)) (sym items) (holds_kept groups w h o both.holds));
+-- what comes to an outcome keeps them
+come_soundly : (w : State) (h : List Item) (step : Step) → HoldsSoundly w h → ComesBy w step → HoldsSoundly step.state (h ++ step.items)
+come_soundly w h step both (o, state, items) = record {
+  holds = subst (λ (v : State). Holds v (h ++ step.items)) (sym state) (subst (λ (xs : List Item). Holds (left_by w o) (h ++ xs)) (sym items) (holds_kept w h o both.holds));
   sound = subst (λ (v : State). Sound v) (sym state) (sound_kept w o both.sound);
 }
 
@@ -113,20 +101,20 @@ setup_stays : (w : State) (step : Step) → ComesBy w step → step.state.setup 
 setup_stays w step (o, state, items) = ap (λ (v : State). v.setup) state ∙ setup_kept w o
 
 -- ---- all moves
-always_from : GroupsAreKept → (w : State) (h : List Item) (moves : List Move) → HoldsSoundly w h → AreSteady w.setup.skew w.seen moves → Holds (state_after w moves) (h ++ items_after w moves)
+always_from : (w : State) (h : List Item) (moves : List Move) → HoldsSoundly w h → AreSteady w.setup.skew w.seen moves → Holds (state_after w moves) (h ++ items_after w moves)
 unfolding state_after items_after AreSteady
-always_from groups w h [] both steady = subst (λ (xs : List Item). Holds w xs) (sym (append-nil h)) both.holds
-always_from groups w h (move ∷ moves) both steady =
+always_from w h [] both steady = subst (λ (xs : List Item). Holds w xs) (sym (append-nil h)) both.holds
+always_from w h (move ∷ moves) both steady =
     let step : Step = stepped w move.event move.fate in
     let comes : ComesBy w step = comes_to w h move.event move.fate both.holds both.sound steady.0 in
-    let after : HoldsSoundly step.state (h ++ step.items) = come_soundly groups w h step both comes in
+    let after : HoldsSoundly step.state (h ++ step.items) = come_soundly w h step both comes in
     let skew : AreSteady step.state.setup.skew (seen_after w.seen (reading_of move.event)) moves = subst (λ (setup : SetupNumbers). AreSteady setup.skew (seen_after w.seen (reading_of move.event)) moves) (sym (setup_stays w step comes)) steady.1 in
     let still_steady : AreSteady step.state.setup.skew step.state.seen moves = subst (λ (seen : ℕ). AreSteady step.state.setup.skew seen moves) (sym (seen_goes_up w move.event move.fate)) skew in
-    subst (λ (xs : List Item). Holds (state_after step.state moves) xs) (append_assoc h step.items (items_after step.state moves)) (always_from groups step.state (h ++ step.items) moves after still_steady)
+    subst (λ (xs : List Item). Holds (state_after step.state moves) xs) (append_assoc h step.items (items_after step.state moves)) (always_from step.state (h ++ step.items) moves after still_steady)
 
-pub always_holds : GroupsAreKept → (setup : SetupNumbers) (moves : List Move) → Steady setup moves → AreInRange setup → Holds (state_after (opening setup) moves) (history_after setup moves)
-always_holds groups setup moves steady in_range = always_from groups (opening setup) [] moves (record { holds = opening_holds setup in_range; sound = opening_sound setup }) steady
+pub always_holds : (setup : SetupNumbers) (moves : List Move) → Steady setup moves → AreInRange setup → Holds (state_after (opening setup) moves) (history_after setup moves)
+always_holds setup moves steady in_range = always_from (opening setup) [] moves (record { holds = opening_holds setup in_range; sound = opening_sound setup }) steady
 
 -- every history is snapshot isolated
-pub always_isolated : GroupsAreKept → (setup : SetupNumbers) (moves : List Move) → Steady setup moves → AreInRange setup → Isolated (history_after setup moves)
-always_isolated groups setup moves steady in_range = (always_holds groups setup moves steady in_range).isolated
+pub histories_are_isolated : (setup : SetupNumbers) (moves : List Move) → Steady setup moves → AreInRange setup → Isolated (history_after setup moves)
+histories_are_isolated setup moves steady in_range = (always_holds setup moves steady in_range).isolated

@@ -12,6 +12,7 @@ use Rattle.isolation_laws.specs.Holds.{Holds}
 use Rattle.isolation_laws.proofs.Owners.{drawn_once, commit_above_start, has_drew}
 use Rattle.isolation_laws.proofs.Outcomes.{PlacedOne, AnsweredBegin, answered_begin_items, Outcome, told_by_outcome}
 use Rattle.isolation_laws.proofs.NumbersKept.{drew_start, in_flight_of, drawn_pending, drew_commit, numbers_kept}
+use Rattle.isolation_laws.proofs.MemoryKept.{memory_kept}
 use Rattle.isolation_laws.proofs.RequestsOfItems.{begin_held}
 use Rattle.isolation_laws.proofs.IsolatedItems.{NoStamp, NoStamps, quiet_no_stamps, Stamping, StampsNone, StampsPlaced, StampsBegin, stamping, each_on, begin_old, placed_old}
 
@@ -135,5 +136,5 @@ apart_of_drawn h placed drawn = record {
     drawn.apart a.0 b.0 a.1 b.1 a.2 b.2 t c u d k v x a.3 b.3 differ wrote other;
 }
 
-pub apart_kept : (w : State) (h : List Item) (o : Outcome w) → Holds w h → DrawnApart (h ++ told_by_outcome w o) → Apart (h ++ told_by_outcome w o)
-apart_kept w h o holds drawn = apart_of_drawn (h ++ told_by_outcome w o) (numbers_kept w h o holds).placed drawn
+pub apart_kept : (w : State) (h : List Item) (o : Outcome w) → Holds w h → Apart (h ++ told_by_outcome w o)
+apart_kept w h o holds = apart_of_drawn (h ++ told_by_outcome w o) (numbers_kept w h o holds).placed (memory_kept w h o holds).apart

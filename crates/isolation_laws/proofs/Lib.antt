@@ -74,4 +74,3 @@ pub mod IsolatedItems
 pub mod IsolatedStamps
 pub mod Opening
 pub mod AlwaysHolds
-pub mod Theorem
