@@ -29,10 +29,12 @@ use Rattle.isolation_laws.proofs.PendingAfter.{fewer_still, fewer_granted, fewer
 use Rattle.isolation_laws.proofs.OpenAfter.{fewer_open_crashed, fewer_open_asked_begin, fewer_open_ended, fewer_open_answered_commit, fewer_open_read_only, fewer_open_aborted, fewer_open_vanished, fewer_open_healed, fewer_open_fetched, fewer_open_dropped, fewer_open_read, fewer_open_outcome, fewer_open_outcome_failed, fewer_open_completed}
 use Rattle.isolation_laws.proofs.RequestsOfItems.{begin_held}
 use Rattle.isolation_laws.proofs.LiveAfter.{FewerLive, fewer_live, same_live, live_by_clients, live_by_nodes, live_asked_commit, live_accepted, live_drew, live_answered_begin}
-use Rattle.isolation_laws.proofs.Calm.{Calm, calm_none, calm_quiet, calm_turn, calm_push, last_write-none}
+use Rattle.isolation_laws.proofs.Calm.{Calm, calm_none, calm_quiet, calm_turn, calm_push}
+use Rattle.isolation_laws.proofs.WrittenKeys.{last_write-none}
 use Rattle.isolation_laws.proofs.CellsStay.{cells_calm, cells_shadow}
 use Rattle.isolation_laws.proofs.CellsMove.{cells_placed}
-use Rattle.isolation_laws.proofs.StoreMoves.{AskFits, never_live, cells_stepped, sweep_fits}
+use Rattle.isolation_laws.proofs.StoreMoves.{AskFits, never_live, cells_stepped}
+use Rattle.isolation_laws.proofs.CompletionSteps.{sweep_fits}
 use Rattle.isolation_laws.proofs.SessionMoves.{cells_may_mark}
 use Rattle.isolation_laws.proofs.UnderWayOfRequests.{calm_ask, calm_begin, is_placing}
 use Rattle.isolation_laws.proofs.UnderWayOfSessions.{heal_placed}

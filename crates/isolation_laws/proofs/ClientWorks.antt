@@ -19,7 +19,7 @@ use Rattle.machine.specs.Clients.{undo_of, finish_of, client_begun, client_asked
 use Rattle.machine.specs.Events.Fetch.{client_read}
 use Rattle.isolation_laws.specs.Words.{written_keys}
 use Rattle.isolation_laws.specs.UnderWay.{IsFinish, IsUndo}
-use Rattle.isolation_laws.proofs.Calm.{wrote_in_keys}
+use Rattle.isolation_laws.proofs.WrittenKeys.{wrote_in_keys}
 use Rattle.isolation_laws.proofs.Works.{Works, IsIdle, works_idle}
 
 -- ---- nothing under way

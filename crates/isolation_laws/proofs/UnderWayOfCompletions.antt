@@ -22,7 +22,8 @@ use Rattle.isolation_laws.proofs.Outcomes.{CompletedOne, completed_state}
 use Rattle.isolation_laws.proofs.Calm.{calm_same, calm_quiet}
 use Rattle.isolation_laws.proofs.Works.{Works, Finishes, KeepsPlaced}
 use Rattle.isolation_laws.proofs.ClientWorks.{works_freed}
-use Rattle.isolation_laws.proofs.StoreMoves.{AskFits, keeps_same, keeps_stepped, marks_stepped, finish_fits, finish_next, undo_first}
+use Rattle.isolation_laws.proofs.StoreMoves.{AskFits, keeps_same, keeps_stepped, marks_stepped}
+use Rattle.isolation_laws.proofs.CompletionSteps.{finish_fits, finish_next, undo_first}
 use Rattle.isolation_laws.proofs.SessionMoves.{work_of, start_of, completing_not_live, under_way_moved}
 
 -- ---- what the ask needs

@@ -31,7 +31,8 @@ use Rattle.isolation_laws.specs.Holds.{Holds}
 use Rattle.isolation_laws.proofs.Outcomes.{SweepOpened, sweep_opened_state, SweptOne, swept_state, SweepListed, sweep_listed_state, sweep_listed_items, SweepFailed, sweep_failed_state}
 use Rattle.isolation_laws.proofs.Calm.{Calm, calm_same, calm_quiet, calm_push, listed_goes_on}
 use Rattle.isolation_laws.proofs.Works.{AllWork, all_work, under_way, KeepsPlaced, finish_on, swept_at_on, sweeping_none, work_on}
-use Rattle.isolation_laws.proofs.StoreMoves.{AskFits, keeps_same, keeps_more, keeps_stepped, marks_stepped, finish_next, undo_first, sweep_fits, placed_row}
+use Rattle.isolation_laws.proofs.StoreMoves.{AskFits, keeps_same, keeps_more, keeps_stepped, marks_stepped}
+use Rattle.isolation_laws.proofs.CompletionSteps.{finish_next, undo_first, sweep_fits, placed_row}
 use Rattle.isolation_laws.proofs.SessionMoves.{work_kept}
 use Rattle.isolation_laws.proofs.UnderWayOfCompletions.{keeps_if, marks_if}
 
