@@ -1,24 +1,19 @@
 -- A longer history that has no further write or placed commit.
-use Rattle.std.proofs.Common.{◌≡◌, ◌≢◌, ℕ, ◌==◌, Bool, true, false, List, [], ◌∷◌, ◌++◌, append_assoc, Option, Some, None, ◌⊎◌, inl, inr, refl, sym, ◌∙◌, ap, subst, arith}
+use Rattle.std.proofs.Common.{◌≡◌, ℕ, List, [], ◌∷◌, ◌++◌, append_assoc, Some, None, inl, inr, refl, sym, ◌∙◌, ap, subst}
 use Rattle.std.specs.Option.{option_or}
 use Rattle.std.proofs.lemmas.List.{append-nil}
 use Rattle.std.proofs.lemmas.List.Elements.{All-nil, All-cons}
-use Rattle.std.proofs.lemmas.Bool.{cases_Bool, cases_eq, eq-eqb, ne_eqb}
-use Rattle.std.proofs.lemmas.Option.{none-some}
-use Rattle.history_book.specs.Members.{◌∈◌}
-use Rattle.history_book.specs.Isolation.{Committed, Wrote, last_write, written_by, WasListed}
+use Rattle.std.proofs.lemmas.Bool.{cases_eq, eq-eqb, ne_eqb}
+use Rattle.history_book.specs.Isolation.{Committed, last_write, written_by, WasListed}
 use Rattle.history_book.specs.declared.item.StoreStep.TheVariants.{Keys}
 use Rattle.history_book.specs.declared.item.Item.{Item}
 use Rattle.history_book.specs.declared.item.Item.TheVariants.{Write, Read, Placed, Step}
-use Rattle.history_book.proofs.MemberLemmas.{in_front, in_last, in_old, in_push}
+use Rattle.history_book.proofs.MemberLemmas.{in_old}
 use Rattle.history_book.proofs.HistoryLemmas.{last_write-push}
-use Rattle.client_parts.specs.SessionSteps.{has_key, key_added}
 use Rattle.client_parts.specs.KeyRead.{ReadTurn, Asks, Answers}
 use Rattle.machine.specs.Events.Fetch.{found_of, read_items}
-use Rattle.isolation_laws.specs.Words.{keys_with, keys_from, written_keys}
 use Rattle.isolation_laws.specs.Quiet.{Quiet, AllQuiet}
 use Rattle.isolation_laws.proofs.Pushed.{old_placed, last_write-quiet}
-use Rattle.isolation_laws.proofs.ClientsAfter.{keys_with_own}
 use Rattle.isolation_laws.proofs.CommitsInFlight.{GoesOn, goes_on}
 
 pub record Calm (h g : List Item) : Type 0 where

@@ -1,31 +1,23 @@
 -- The first ask of a completion and of a sweep: that it has what it needs, and what is left behind it.
-use Rattle.std.proofs.Common.{◌≡◌, ◌≢◌, ℕ, Bool, true, false, List, [], ◌∷◌, ◌++◌, map, Option, Some, None, ◌⊎◌, inl, inr, refl, sym, ◌∙◌, ap, subst, arith}
+use Rattle.std.proofs.Common.{◌≡◌, ℕ, List, [], ◌∷◌, Option, Some, None, ◌⊎◌, inl, inr, refl, sym, ◌∙◌, ap, subst}
 use Rattle.std.proofs.lemmas.Option.{same_Some, none-some}
 use Rattle.stamp_base.specs.declared.stores.Mark.TheVariants.{Committed as CommittedMark, Invalid as InvalidMark}
 use Rattle.history_book.specs.Members.{◌∈◌}
-use Rattle.history_book.specs.Isolation.{Committed, Wrote, last_write, WasListed}
+use Rattle.history_book.specs.Isolation.{Committed, Wrote, last_write}
 use Rattle.history_book.specs.declared.item.Item.{Item}
 use Rattle.store_parts.specs.declared.rows.Cell.{Cell}
-use Rattle.store_parts.specs.Rows.{Row, looked, with_shadow, without_bare}
-use Rattle.store_parts.specs.Pairs.{Pairs, mark_of}
-use Rattle.store_parts.proofs.RowLaws.{shadowed, looked-shadow_same}
-use Rattle.store_parts.proofs.PairLaws.{entry_stays-put_pair, invalid_stays-without_committed}
+use Rattle.store_parts.specs.Rows.{Row, looked, with_shadow}
+use Rattle.store_parts.proofs.RowLaws.{looked-shadow_same}
 use Rattle.client_parts.specs.declared.asks.Ask.{Ask}
 use Rattle.client_parts.specs.declared.asks.Ask.TheVariants as ask
 use Rattle.client_parts.specs.Completion.{finish_asks, undo_asks, first_ask}
 use Rattle.client_parts.specs.Sweep.{SweepPoint, Table, Marking, Listing, Left, Undecided, Sweeping, sweep_ask, sweep_ask_at}
 use Rattle.machine.specs.State.{State}
-use Rattle.machine.specs.StoreSteps.{rows_after, pairs_after}
-use Rattle.isolation_laws.specs.Words.{Marked, HasRecord, cell_with}
-use Rattle.isolation_laws.specs.Pending.{Live}
-use Rattle.isolation_laws.specs.Cells.{IsSwept, AreShadowed, ArePlacedCells, CellFacts}
-use Rattle.isolation_laws.specs.UnderWay.{HasShadow, IsFinish, IsUndo, IsSweptAt}
+use Rattle.machine.specs.StoreSteps.{rows_after}
+use Rattle.isolation_laws.specs.Words.{Marked, cell_with}
+use Rattle.isolation_laws.specs.Cells.{AreShadowed}
+use Rattle.isolation_laws.specs.UnderWay.{HasShadow, IsFinish, IsSweptAt}
 use Rattle.isolation_laws.specs.Holds.{Holds}
-use Rattle.isolation_laws.proofs.Owners.{one_commit, live_unplaced}
-use Rattle.isolation_laws.proofs.Calm.{Calm, calm_same}
-use Rattle.isolation_laws.proofs.CellsStay.{cells_pairs, marking_moves, removal_moves, shadow_cases, shadowed_with, cells_shadow}
-use Rattle.isolation_laws.proofs.CellsMove.{erase_cases, cells_erase}
-use Rattle.isolation_laws.proofs.Works.{KeepsPlaced}
 use Rattle.isolation_laws.proofs.StoreMoves.{AskFits, has_shadow_set, keeps_shadow}
 
 -- ---- the first ask of a completion
@@ -68,9 +60,9 @@ in_none k (j ∷ left) is m = cc
 pub finish_fits : (w : State) (h : List Item) (t c : ℕ) (asked : Ask) (asks : List Ask) → Holds w h → IsFinish w.rows h t c (asked ∷ asks) → AskFits w h asked
 finish_fits w h t c asked asks holds finish = elim (finish_first t c finish.left asked asks finish.shape) [
   | inl last ↦ subst (λ (a : Ask). AskFits w h a) (sym last.1) (all_shadowed w h t c holds (λ k value wrote. elim (finish.covered k value wrote) [
-      | inl m ↦ absurd (in_none k finish.left last.0 m)
-      | inr has ↦ has
-    ]))
+    | inl m ↦ absurd (in_none k finish.left last.0 m)
+    | inr has ↦ has
+  ]))
   | inr more ↦ subst (λ (a : Ask). AskFits w h a) (sym more.3) finish.placed
 ]
 
@@ -96,17 +88,17 @@ pub finish_next : (w : State) (h : List Item) (t c : ℕ) (asked : Ask) (asks : 
 finish_next w h t c asked asks holds finish = elim (finish_first t c finish.left asked asks finish.shape) [
   | inl last ↦ inl last.2
   | inr more ↦ inr (subst (λ (a : Ask). IsFinish (rows_after a w.rows) h t c asks) (sym more.3) (record {
-      left = more.1;
-      shape = more.4;
-      placed = finish.placed;
-      covered = λ j value wrote. elim (finish.covered j value wrote) [
-        | inl m ↦ elim (in_rest j more.0 finish.left more.1 more.2 m) [
-            | inl here ↦ inr (subst (λ q. HasShadow (with_shadow w.rows more.0 t c) q t c) (sym here) (shadow_now w h t c more.0 value holds finish.placed (subst (λ q. Wrote h t q value) here wrote)))
-            | inr rest ↦ inl rest
-          ]
-        | inr has ↦ inr ((keeps_shadow w h more.0 t c holds finish.placed).shadows t c j finish.placed has)
-      ];
-    }))
+    left = more.1;
+    shape = more.4;
+    placed = finish.placed;
+    covered = λ j value wrote. elim (finish.covered j value wrote) [
+      | inl m ↦ elim (in_rest j more.0 finish.left more.1 more.2 m) [
+        | inl here ↦ inr (subst (λ q. HasShadow (with_shadow w.rows more.0 t c) q t c) (sym here) (shadow_now w h t c more.0 value holds finish.placed (subst (λ q. Wrote h t q value) here wrote)))
+        | inr rest ↦ inl rest
+      ]
+      | inr has ↦ inr ((keeps_shadow w h more.0 t c holds finish.placed).shadows t c j finish.placed has)
+    ];
+  }))
 ]
 
 -- ---- the first ask of a sweep

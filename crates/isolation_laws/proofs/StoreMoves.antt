@@ -1,30 +1,27 @@
 -- One step on the stores of a completion, a sweep, a read or a resolve: what it needs, and that the cells and the commit
 -- table stay right by it.
-use Rattle.std.proofs.Common.{◌≡◌, ◌≢◌, ℕ, Bool, true, false, List, [], ◌∷◌, ◌++◌, map, Option, Some, None, ◌⊎◌, inl, inr, refl, sym, ◌∙◌, ap, subst, arith}
+use Rattle.std.proofs.Common.{◌≡◌, ℕ, List, Some, inl, inr, refl, sym, ◌∙◌, ap, subst}
 use Rattle.std.proofs.lemmas.Option.{same_Some, none-some}
-use Rattle.stamp_base.specs.declared.stores.Mark.TheVariants.{Committed as CommittedMark, Invalid as InvalidMark}
-use Rattle.history_book.specs.Members.{◌∈◌}
-use Rattle.history_book.specs.Isolation.{Committed, Wrote, last_write, WasListed}
+use Rattle.stamp_base.specs.declared.stores.Mark.TheVariants.{Invalid as InvalidMark}
+use Rattle.history_book.specs.Isolation.{Committed}
 use Rattle.history_book.specs.declared.item.Item.{Item}
 use Rattle.store_parts.specs.declared.rows.Cell.{Cell}
 use Rattle.store_parts.specs.Rows.{Row, looked, with_shadow, without_bare}
-use Rattle.store_parts.specs.Pairs.{Pairs, mark_of}
-use Rattle.store_parts.proofs.RowLaws.{shadowed, looked-shadow_same}
+use Rattle.store_parts.specs.Pairs.{Pairs}
+use Rattle.store_parts.proofs.RowLaws.{shadowed}
 use Rattle.store_parts.proofs.PairLaws.{entry_stays-put_pair, invalid_stays-without_committed}
 use Rattle.client_parts.specs.declared.asks.Ask.{Ask}
 use Rattle.client_parts.specs.declared.asks.Ask.TheVariants as ask
-use Rattle.client_parts.specs.Completion.{finish_asks, undo_asks, first_ask}
-use Rattle.client_parts.specs.Sweep.{SweepPoint, Table, Marking, Listing, Left, Undecided, Sweeping, sweep_ask, sweep_ask_at}
 use Rattle.machine.specs.State.{State}
 use Rattle.machine.specs.StoreSteps.{rows_after, pairs_after}
-use Rattle.isolation_laws.specs.Words.{Marked, HasRecord, cell_with}
+use Rattle.isolation_laws.specs.Words.{Marked}
 use Rattle.isolation_laws.specs.Pending.{Live}
-use Rattle.isolation_laws.specs.Cells.{IsSwept, AreShadowed, ArePlacedCells, CellFacts}
-use Rattle.isolation_laws.specs.UnderWay.{HasShadow, IsFinish, IsUndo, IsSweptAt}
+use Rattle.isolation_laws.specs.Cells.{IsSwept, AreShadowed, CellFacts}
+use Rattle.isolation_laws.specs.UnderWay.{HasShadow}
 use Rattle.isolation_laws.specs.Holds.{Holds}
 use Rattle.isolation_laws.proofs.Owners.{one_commit, live_unplaced}
 use Rattle.isolation_laws.proofs.Calm.{Calm, calm_same}
-use Rattle.isolation_laws.proofs.CellsStay.{cells_pairs, marking_moves, removal_moves, shadow_cases, shadowed_with, cells_shadow}
+use Rattle.isolation_laws.proofs.CellsStay.{cells_pairs, marking_moves, removal_moves, shadow_cases, cells_shadow}
 use Rattle.isolation_laws.proofs.CellsMove.{erase_cases, cells_erase}
 use Rattle.isolation_laws.proofs.Works.{KeepsPlaced}
 

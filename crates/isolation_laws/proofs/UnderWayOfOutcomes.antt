@@ -1,38 +1,28 @@
 -- What is under way where a session resolves its own commit, whose outcome is open.
-use Rattle.std.proofs.Common.{◌≡◌, ◌≢◌, ℕ, nat_lt, if◌then◌else◌, Bool, true, false, IsTrue, List, [], ◌∷◌, ◌++◌, Option, Some, None, ◌⊎◌, inl, inr, refl, sym, ◌∙◌, ap, subst, arith}
-use Rattle.std.specs.Prelude.{slice_get, slice_set}
-use Rattle.std.proofs.lemmas.Bool.{cases_Bool}
+use Rattle.std.proofs.Common.{◌≡◌, ℕ, Bool, true, false, List, [], ◌∷◌, ◌++◌, Option, Some, None, inl, inr, refl, sym, ◌∙◌, subst}
 use Rattle.std.proofs.lemmas.Option.{same_Some, none-some}
 use Rattle.history_book.specs.Members.{◌∈◌}
 use Rattle.history_book.specs.Isolation.{Committed, Wrote}
 use Rattle.history_book.specs.declared.item.Item.{Item}
-use Rattle.store_parts.specs.Rows.{Row, with_shadow}
+use Rattle.store_parts.specs.Rows.{Row}
 use Rattle.client_parts.specs.declared.asks.Ask.{Ask}
-use Rattle.client_parts.specs.declared.asks.Ask.TheVariants as ask
-use Rattle.client_parts.specs.declared.resolve.SettlePoint.{SettlePoint}
-use Rattle.client_parts.specs.declared.resolve.SettlePoint.TheVariants as point
 use Rattle.client_parts.specs.declared.resolve.Outcome.TheVariants as outcome
 use Rattle.client_parts.specs.declared.session.State.TheVariants as phase
-use Rattle.client_parts.specs.Completion.{undo_asks}
-use Rattle.client_parts.specs.Resolve.{Settling, SettleTurn, Goes, Decides, own_settling, ask_at, settle_ask, settle_turn}
-use Rattle.client_parts.specs.KeyRead.{Reading, ReadTurn, Asks, Answers, settling_of, found_by, read_over, read_by, read_ask}
-use Rattle.machine.specs.State.{UnderWay, Nothing, Reads, Settles, Completes, Client, State}
-use Rattle.machine.specs.Clients.{client_freed, client_aborted, client_vanished}
-use Rattle.machine.specs.StoreSteps.{rows_after, pairs_after, told_by}
-use Rattle.machine.specs.Events.Fetch.{client_read}
-use Rattle.machine.specs.Events.Step.{client_settled, own_resolve, after_asks}
-use Rattle.isolation_laws.specs.Words.{ClientAt, Begun, written_keys}
-use Rattle.isolation_laws.specs.UnderWay.{IsFinish, IsUndo, IsShownAt, IsOwnResolve, UnderWayFacts}
+use Rattle.client_parts.specs.Resolve.{Settling, SettleTurn, Goes, Decides, own_settling, settle_ask, settle_turn}
+use Rattle.machine.specs.State.{Nothing, Settles, Completes, Client, State}
+use Rattle.machine.specs.StoreSteps.{told_by}
+use Rattle.machine.specs.Events.Step.{client_settled, own_resolve}
+use Rattle.isolation_laws.specs.Words.{written_keys}
+use Rattle.isolation_laws.specs.UnderWay.{IsShownAt, IsOwnResolve, UnderWayFacts}
 use Rattle.isolation_laws.specs.Holds.{Holds}
-use Rattle.isolation_laws.proofs.Outcomes.{EndedReadOnly, read_only_state, Aborted, aborted_state, Vanished, vanished_state, Healed, healed_state, Fetched, fetched_turn, fetched_state, fetched_items, ReadDropped, read_dropped_state, ReadStepped, read_turn, read_stepped_state, read_stepped_items, OutcomeStepped, outcome_state, OutcomeFailed, outcome_failed_state, CompletedOne, completed_state}
-use Rattle.isolation_laws.proofs.Calm.{Calm, calm_same, calm_quiet, calm_turn}
+use Rattle.isolation_laws.proofs.Outcomes.{OutcomeStepped, outcome_state, OutcomeFailed, outcome_failed_state}
+use Rattle.isolation_laws.proofs.Calm.{calm_quiet}
 use Rattle.isolation_laws.proofs.WrittenKeys.{key_was_written, first_key_in}
-use Rattle.isolation_laws.proofs.Works.{Works, works_on, KeepsPlaced}
-use Rattle.isolation_laws.proofs.ClientWorks.{works_freed, works_vanished, works_aborted, works_committed, IsPlain, plain_open, works_plain, plain_reading, TurnHeals, read_over_heals, works_read}
+use Rattle.isolation_laws.proofs.Works.{Works}
+use Rattle.isolation_laws.proofs.ClientWorks.{works_aborted, works_committed}
 use Rattle.isolation_laws.proofs.Settled.{decided_placed, goes_shown, dead_unplaced}
-use Rattle.isolation_laws.proofs.StoreMoves.{AskFits, keeps_same, keeps_shadow, keeps_stepped, marks_stepped}
-use Rattle.isolation_laws.proofs.CompletionSteps.{finish_fits, finish_next, undo_first}
-use Rattle.isolation_laws.proofs.SessionMoves.{work_of, start_of, unplaced_of, open_settles_none, completing_not_live, marks_may_mark, under_way_moved, under_way_client}
+use Rattle.isolation_laws.proofs.StoreMoves.{marks_stepped}
+use Rattle.isolation_laws.proofs.SessionMoves.{work_of, start_of, marks_may_mark, under_way_moved}
 use Rattle.isolation_laws.proofs.UnderWayOfSessions.{calm_keeps, nothing_settles}
 
 settles_same : (x y : Settling) → Settles x ≡ Settles y → x ≡ y
@@ -58,9 +48,9 @@ record OwnStep (w : State) (h : List Item) (k : OutcomeStepped w) : Type 0 where
 own_step : (w : State) (h : List Item) (k : OutcomeStepped w) → Holds w h → OwnStep w h k
 own_step w h k holds = elim k.work [
   | inl busy ↦ elim ((work_of w h k.it.session k.it.c holds k.it.client_at).resolve k.it.is_open) [
-      | inl none ↦ absurd (nothing_settles k.x (sym none ∙ busy))
-      | inr r ↦ record { start = r.1; start_is = r.3; own = subst (λ (y : Settling). IsOwnResolve w.rows h r.1 k.it.c.entry.keys y) (settles_same r.0 k.x (sym r.2 ∙ busy)) r.4 }
-    ]
+    | inl none ↦ absurd (nothing_settles k.x (sym none ∙ busy))
+    | inr r ↦ record { start = r.1; start_is = r.3; own = subst (λ (y : Settling). IsOwnResolve w.rows h r.1 k.it.c.entry.keys y) (settles_same r.0 k.x (sym r.2 ∙ busy)) r.4 }
+  ]
   | inr opens ↦
       let start = start_of w h k.it.session k.it.c phase.OpenOutcome holds k.it.client_at k.it.is_open refl in
       record { start = start.0; start_is = start.1; own = resolve_opens w.rows h k.it.c.entry.start k.it.c.entry.keys start.0 k.x start.1 opens.1 }

@@ -1,33 +1,24 @@
 -- What a transaction wrote: its last writes, and the keys of its write list.
-use Rattle.std.proofs.Common.{◌≡◌, ◌≢◌, ℕ, ◌==◌, Bool, true, false, List, [], ◌∷◌, ◌++◌, append_assoc, Option, Some, None, ◌⊎◌, inl, inr, refl, sym, ◌∙◌, ap, subst, arith}
+use Rattle.std.proofs.Common.{◌≡◌, ℕ, ◌==◌, true, List, [], ◌∷◌, Option, Some, None, ◌⊎◌, inl, inr, refl, sym, ◌∙◌, ap, subst}
 use Rattle.std.specs.Option.{option_or}
-use Rattle.std.proofs.lemmas.List.{append-nil}
-use Rattle.std.proofs.lemmas.List.Elements.{All-nil, All-cons}
 use Rattle.std.proofs.lemmas.Bool.{cases_Bool, cases_eq, eq-eqb, ne_eqb}
 use Rattle.std.proofs.lemmas.Option.{none-some}
 use Rattle.history_book.specs.Members.{◌∈◌}
-use Rattle.history_book.specs.Isolation.{Committed, Wrote, last_write, written_by, WasListed}
-use Rattle.history_book.specs.declared.item.StoreStep.TheVariants.{Keys}
+use Rattle.history_book.specs.Isolation.{Wrote, last_write, written_by}
 use Rattle.history_book.specs.declared.item.Item.{Item}
-use Rattle.history_book.specs.declared.item.Item.TheVariants.{Write, Read, Placed, Step}
-use Rattle.history_book.proofs.MemberLemmas.{in_front, in_last, in_old, in_push}
-use Rattle.history_book.proofs.HistoryLemmas.{last_write-push}
+use Rattle.history_book.specs.declared.item.Item.TheVariants.{Write}
+use Rattle.history_book.proofs.MemberLemmas.{in_front, in_last, in_push}
 use Rattle.client_parts.specs.SessionSteps.{has_key, key_added}
-use Rattle.client_parts.specs.KeyRead.{ReadTurn, Asks, Answers}
-use Rattle.machine.specs.Events.Fetch.{found_of, read_items}
 use Rattle.isolation_laws.specs.Words.{keys_with, keys_from, written_keys}
-use Rattle.isolation_laws.specs.Quiet.{Quiet, AllQuiet}
-use Rattle.isolation_laws.proofs.Pushed.{old_placed, last_write-quiet}
 use Rattle.isolation_laws.proofs.ClientsAfter.{keys_with_own}
-use Rattle.isolation_laws.proofs.CommitsInFlight.{GoesOn, goes_on}
 use Rattle.isolation_laws.proofs.Calm.{written_here}
 
 value_of : (s u j t k : ℕ) (v value : List ℕ) → written_by t k (Write s u j v) ≡ Some value → Write s t k value ≡ Write s u j v
 value_of s u j t k v value e = elim (cases_eq u t) [
   | inl a ↦ elim (cases_eq j k) [
-      | inl b ↦ let there : Some v ≡ Some value = rw (eq-eqb u t a, eq-eqb j k b) at e in cc
-      | inr b ↦ let there : None ≡ Some value = rw (eq-eqb u t a, ne_eqb j k b) at e in absurd (none-some value there)
-    ]
+    | inl b ↦ let there : Some v ≡ Some value = rw (eq-eqb u t a, eq-eqb j k b) at e in cc
+    | inr b ↦ let there : None ≡ Some value = rw (eq-eqb u t a, ne_eqb j k b) at e in absurd (none-some value there)
+  ]
   | inr a ↦ let there : None ≡ Some value = rw (ne_eqb u t a) at e in absurd (none-some value there)
 ]
 
@@ -119,9 +110,9 @@ in_added keys j k m = elim (cases_Bool (has_key keys j)) [
 in_with : (keys : List ℕ) (t k : ℕ) (x : Item) → k ∈ keys_with keys t x → (k ∈ keys) ⊎ ((s : ℕ) × (value : List ℕ) × (Write s t k value ≡ x))
 in_with keys t k (Write s u j value) m = elim (cases_eq u t) [
   | inl own ↦ elim (in_added keys j k (rw (eq-eqb u t own) at m)) [
-      | inl old ↦ inl old
-      | inr now ↦ inr (s, value, cc)
-    ]
+    | inl old ↦ inl old
+    | inr now ↦ inr (s, value, cc)
+  ]
   | inr other ↦ inl (rw (ne_eqb u t other) at m)
 ]
 in_with keys t k _ m = inl m
@@ -131,9 +122,9 @@ unfolding keys_from ◌∈◌
 in_from keys t k [] m = inl m
 in_from keys t k (x ∷ xs) m = elim (in_from (keys_with keys t x) t k xs m) [
   | inl early ↦ elim (in_with keys t k x early) [
-      | inl old ↦ inl old
-      | inr here ↦ inr (here.0, here.1, inl here.2)
-    ]
+    | inl old ↦ inl old
+    | inr here ↦ inr (here.0, here.1, inl here.2)
+  ]
   | inr later ↦ inr (later.0, later.1, inr later.2)
 ]
 
