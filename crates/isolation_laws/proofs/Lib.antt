@@ -36,5 +36,6 @@ pub mod CoveredVersions
 pub mod SeesFetched
 pub mod SeesPassed
 pub mod ReadTurns
+pub mod ReadsLonger
 pub mod ReadsOfReads
 pub mod ReadsKept

@@ -1,6 +1,6 @@
 -- What readers rely on: commits and values stay, marks and shadows stay, and nothing more comes below a begun start but what
 -- came before. Then reads under way see all that they saw, and past reads stay right.
-use Rattle.std.proofs.Common.{◌≡◌, ◌≢◌, ℕ, zero, suc, ◌+◌, ◌<◌, ◌≤◌, Bool, true, false, List, [], ◌∷◌, ◌++◌, Option, Some, None, ◌⊎◌, inl, inr, refl, sym, ◌∙◌, ap, subst, arith, All}
+use Rattle.std.proofs.Common.{◌≡◌, ℕ, ◌<◌, ◌≤◌, List, ◌∷◌, Option, Some, None, ◌⊎◌, inl, inr, sym, ◌∙◌, arith}
 use Rattle.history_book.specs.Members.{◌∈◌, AtEach}
 use Rattle.history_book.specs.Isolation.{Committed, Wrote, last_write, WasListed, Candidate, Newest, Visible, RightAnswer, RightRead}
 use Rattle.history_book.specs.declared.item.Found.{Found}
@@ -19,7 +19,7 @@ use Rattle.machine.specs.State.{Reads, Client, State}
 use Rattle.isolation_laws.specs.Words.{ClientAt, OpenAt, Begun, DrewCommit, Marked}
 use Rattle.isolation_laws.specs.Pending.{ComesBelow, IsPending}
 use Rattle.isolation_laws.specs.UnderWay.{HasShadow}
-use Rattle.isolation_laws.specs.Reads.{IsCovered, HasLastWrite, SeesAll, IsResolvedTo, IsReading, AreReading, Outlasts, AreLastingReads}
+use Rattle.isolation_laws.specs.Reads.{IsCovered, SeesAll, IsResolvedTo, IsReading, AreReading, Outlasts}
 use Rattle.isolation_laws.specs.Holds.{Holds}
 use Rattle.isolation_laws.proofs.Owners.{coming_is_markable}
 use Rattle.isolation_laws.proofs.CommitsInFlight.{GoesOn}

@@ -1,6 +1,5 @@
 -- Every outcome keeps the facts on reads, and all answers right.
-use Rattle.std.proofs.Common.{◌≡◌, ◌≢◌, ℕ, ◌+◌, Bool, true, false, if◌then◌else◌, List, [], ◌∷◌, ◌++◌, Option, Some, None, refl, sym, subst}
-use Rattle.std.specs.Prelude.{slice_get, slice_set}
+use Rattle.std.proofs.Common.{ℕ, ◌+◌, Bool, if◌then◌else◌, List, [], ◌∷◌, ◌++◌, Option, refl}
 use Rattle.history_book.specs.Members.{AtEach}
 use Rattle.history_book.specs.Isolation.{RightRead}
 use Rattle.history_book.specs.declared.item.Actor.TheVariants.{Janitor}
@@ -20,7 +19,7 @@ use Rattle.isolation_laws.specs.Holds.{Holds}
 use Rattle.isolation_laws.proofs.Outcomes.{Outcome, OfStill, OfGranted, OfRenewed, OfExtended, OfCrashed, OfAskedBegin, OfAskedCommit, OfAccepted, OfEnded, OfDrew, OfPlaced, OfNotPlaced, OfAnsweredBegin, OfAnsweredCommit, OfEndedReadOnly, OfWrote, OfWriteFailed, OfAborted, OfVanished, OfHealed, OfFetched, OfReadDropped, OfReadStepped, OfOutcome, OfOutcomeFailed, OfCompleted, OfSweepOpened, OfSwept, OfSweepListed, OfSweepFailed, left_by, told_by_outcome, Healed}
 use Rattle.isolation_laws.proofs.PendingAfter.{fewer_still, fewer_granted, fewer_renewed, fewer_extended, fewer_crashed, fewer_asked_begin, fewer_ended_one, fewer_not_placed, fewer_answered_begin, fewer_answered_commit, comes_asked_commit, comes_drew}
 use Rattle.isolation_laws.proofs.StoresStay.{MarksStay, marks_after, marks_may, marks_if, ShadowsStay, shadows_same, shadows_if, shadows_set, FillsPlaced, shadows_after, completed_fills, swept_fills}
-use Rattle.isolation_laws.proofs.Unwritten.{Unwritten, WritesNone, unwritten_nil, unwritten_quiet, unwritten_push, unwritten_draw, rely_unwritten}
+use Rattle.isolation_laws.proofs.Unwritten.{WritesNone, unwritten_nil, unwritten_quiet, unwritten_push, unwritten_draw, rely_unwritten}
 use Rattle.isolation_laws.proofs.ClientsReading.{FewerReading, same_reading, reading_crashed, reading_asked_begin, reading_asked_commit, reading_ended, reading_answered_begin, reading_answered_commit, reading_read_only, reading_wrote, reading_write_failed, reading_aborted, reading_vanished, reading_healed, reading_dropped, reading_outcome, reading_outcome_failed, reading_completed}
 use Rattle.isolation_laws.proofs.ReadsStay.{NoReads, quiet_no_reads, then_no_reads, none_no_reads, one_no_reads, draw_no_reads, ReadsRight, reads_stay, NoneComes, none_comes, same_comes, none_comes_accepted, rely_placed, rely_wrote, shadows_failed}
 use Rattle.isolation_laws.proofs.ReadsOfReads.{reads_stepped, reads_fetched}

@@ -1,25 +1,25 @@
 -- A read that passes a cell over sees the rest, and what it answers is visible and lasts.
-use Rattle.std.proofs.Common.{◌≡◌, ◌≢◌, ℕ, zero, suc, ◌+◌, ◌<◌, ◌≤◌, ◌==◌, nat_lt, nat_le, ◌||◌, is_some, Bool, true, false, if◌then◌else◌, List, [], ◌∷◌, ◌++◌, Option, Some, None, ◌⊎◌, inl, inr, refl, sym, ◌∙◌, ap, subst, arith, All, length}
+use Rattle.std.proofs.Common.{◌≡◌, ℕ, suc, ◌<◌, ◌≤◌, ◌==◌, ◌||◌, is_some, Bool, true, false, if◌then◌else◌, List, [], ◌∷◌, Option, Some, None, ◌⊎◌, inl, inr, refl, sym, ◌∙◌, ap, subst, arith}
 use Rattle.std.proofs.lemmas.Bool.{cases_Bool, ltb-true, leb-true}
-use Rattle.std.proofs.lemmas.Option.{same_Some, none-some}
+use Rattle.std.proofs.lemmas.Option.{none-some}
 use Rattle.stamp_base.specs.declared.stores.Mark.{Mark}
 use Rattle.stamp_base.specs.declared.stores.Mark.TheVariants.{Committed as CommittedMark, Invalid as InvalidMark}
-use Rattle.history_book.specs.Isolation.{Committed, Wrote, last_write, WasListed, Candidate, Newest, Visible}
+use Rattle.history_book.specs.Isolation.{Committed, Wrote, WasListed, Candidate, Visible}
 use Rattle.history_book.specs.declared.item.Found.{Found}
 use Rattle.history_book.specs.declared.item.Item.{Item}
 use Rattle.store_parts.specs.declared.rows.Cell.{Cell}
-use Rattle.store_parts.specs.Rows.{Row, AreFalling, is_below}
+use Rattle.store_parts.specs.Rows.{is_below}
 use Rattle.store_parts.specs.Pairs.{Pairs, mark_of}
 use Rattle.client_parts.specs.declared.key_read.Answer.{Answer}
 use Rattle.client_parts.specs.declared.resolve.SettlePoint.TheVariants.{Table}
-use Rattle.client_parts.specs.KeyRead.{Reading, ReadTurn, Asks, Answers, found_none, found_cell, is_late, is_passed, after_passed, turn_at, read_over, AnswersBy, IfBelow}
+use Rattle.client_parts.specs.KeyRead.{Reading, ReadTurn, Asks, Answers, found_cell, is_late, is_passed, after_passed, turn_at, read_over, AnswersBy, IfBelow}
 use Rattle.client_parts.proofs.KeyReadLemmas.{answers_own_or_below}
 use Rattle.oracle_parts.specs.Instance.{InstanceEntry}
 use Rattle.machine.specs.State.{State}
 use Rattle.machine.specs.Events.Fetch.{found_of}
 use Rattle.isolation_laws.specs.Words.{Marked}
 use Rattle.isolation_laws.specs.Pending.{ComesBelow}
-use Rattle.isolation_laws.specs.Reads.{floor_at, IsCovered, HasLastWrite, SeesAll, IsReading, Outlasts}
+use Rattle.isolation_laws.specs.Reads.{floor_at, IsCovered, SeesAll, IsReading, Outlasts}
 use Rattle.isolation_laws.specs.Holds.{Holds}
 use Rattle.isolation_laws.proofs.Owners.{one_commit, pending_unplaced, later_version}
 use Rattle.isolation_laws.proofs.CoveredVersions.{falls_tail, covered_none, covered_cases, covered_upto}

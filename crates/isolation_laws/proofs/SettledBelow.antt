@@ -1,22 +1,21 @@
 -- Of an open transaction each instance draws at most up to the epoch, or is past the start, whatever comes.
-use Rattle.std.proofs.Common.{◌≡◌, ◌≢◌, ℕ, zero, suc, ◌+◌, ◌<◌, ◌≤◌, Bool, true, false, List, [], ◌∷◌, ◌++◌, Option, Some, None, ◌⊎◌, inl, inr, refl, sym, ◌∙◌, ap, subst, arith, All, IfSome}
-use Rattle.std.specs.Prelude.{slice_get, slice_set, slice_index_or}
-use Rattle.std.proofs.lemmas.Option.{same_Some, none-some}
+use Rattle.std.proofs.Common.{◌≡◌, ◌≢◌, ℕ, zero, suc, ◌+◌, ◌<◌, ◌≤◌, Bool, true, false, List, [], ◌∷◌, Option, Some, None, ◌⊎◌, inl, inr, refl, sym, ◌∙◌, ap, subst, arith, All, IfSome}
+use Rattle.std.specs.Prelude.{slice_index_or}
 use Rattle.std.proofs.lemmas.List.Elements.{All-head, All-tail}
 use Rattle.history_book.specs.declared.item.Item.{Item}
-use Rattle.store_parts.specs.Record.{granted, renewed_until}
+use Rattle.store_parts.specs.Record.{granted}
 use Rattle.oracle_parts.specs.declared.instance.Held.{Held}
 use Rattle.oracle_parts.specs.declared.instance.Progress.{Progress}
 use Rattle.oracle_parts.specs.declared.instance.Progress.TheVariants as progress
 use Rattle.oracle_parts.specs.declared.instance.Request.{Request}
-use Rattle.oracle_parts.specs.declared.instance.Request.TheVariants.{Begin, Commit}
-use Rattle.oracle_parts.specs.Instance.{InstanceEntry, held_of, unsettled_by, least_unsettled}
+use Rattle.oracle_parts.specs.declared.instance.Request.TheVariants.{Commit}
+use Rattle.oracle_parts.specs.Instance.{InstanceEntry, unsettled_by}
 use Rattle.oracle_parts.specs.InstanceSteps.{without_request, instance_widened}
 use Rattle.oracle_parts.specs.InstanceLaws.{IsNotBelow}
 use Rattle.oracle_parts.proofs.InstanceBegins.{none_waits}
 use Rattle.machine.specs.State.{Client, State}
 use Rattle.machine.specs.Events.Take.{rules_of, instance_of}
-use Rattle.isolation_laws.specs.Words.{InstanceAt, HeldBy, OpenAt, Begun, DrewCommit, DrewStart}
+use Rattle.isolation_laws.specs.Words.{InstanceAt, HeldBy, OpenAt, Begun, DrewCommit}
 use Rattle.isolation_laws.specs.Pending.{InFlight, Has, Pending}
 use Rattle.isolation_laws.specs.Requests.{HaveBegun}
 use Rattle.isolation_laws.specs.Begins.{AreSettledBelow, IsPast}
