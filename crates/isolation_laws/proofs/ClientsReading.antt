@@ -58,7 +58,7 @@ fewer_reading_set clients s old c at new q d r there reads = elim (client_set cl
   | inr other ↦ other.1
 ]
 
-nothing_reads : (r : Reading) → Nothing ≡ Reads r → ⊥
+pub nothing_reads : (r : Reading) → Nothing ≡ Reads r → ⊥
 nothing_reads r same = cc
 
 settles_nothing : (x : Settling) (r : Reading) → Settles x ≡ Reads r → ⊥

@@ -29,13 +29,6 @@ FewerBegins old new = (n s : ℕ) (j : InstanceEntry) (p : Progress) → Instanc
 pub begins_of : (old new : List (Option InstanceEntry)) → FewerHeld old new → FewerBegins old new
 begins_of old new fewer n s j p at held = fewer.each n s j (Begin s) p at held
 
--- one begin against a longer history
-pub record FreshOne (h : List Item) (s bound : ℕ) : Type 0 where
-  pub each : (t c : ℕ) → Committed (before_ask s h) t c → c ≤ bound
-
-pub fresh_on : (h items : List Item) (s bound : ℕ) → has_ask s h ≡ true → AsksNothing s items → FreshOne h s bound → FreshOne (h ++ items) s bound
-fresh_on h items s bound has none fresh = record { each = λ t c placed. fresh.each t c (subst (λ before. Committed before t c) (before_stays s h items has none) placed) }
-
 asked_on : (old new : List (Option InstanceEntry)) (h items : List Item) → FewerBegins old new → AreFreshBegins old h → (n s : ℕ) (j : InstanceEntry) (p : Progress) → InstanceAt new n j → HeldBy j s (Begin s) p → has_ask s (h ++ items) ≡ true
 asked_on old new h items fewer fresh n s j p at held =
     let was = fewer n s j p at held in ask_stays s h items (fresh.asked n s was.0 was.1 was.2 was.3)

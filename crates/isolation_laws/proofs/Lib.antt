@@ -25,9 +25,9 @@ pub mod RequestsOfItems
 pub mod RequestsOfAll
 pub mod AsksBefore
 pub mod FreshBegins
+pub mod ReadersRely
 pub mod SettledBelow
 pub mod BeginsKept
-pub mod ReadersRely
 pub mod StoresStay
 pub mod Unwritten
 pub mod ClientsReading

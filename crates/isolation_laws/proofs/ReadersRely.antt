@@ -107,7 +107,7 @@ resolved_on w h nodes rows pairs g s k b e t LastLook rely holds o is = (
 pub open_now_begun : (w : State) (h : List Item) (s b e : ℕ) → Holds w h → OpenAt w.clients s b e → Begun h s b
 open_now_begun w h s b e holds o = open_begun w.clients h s b o.client holds.requests.have_begun o.at o.state_is o.start_is
 
-listed_so : (h g : List Item) (t : ℕ) → GoesOn h g → WasListed h t → WasListed g t
+pub listed_so : (h g : List Item) (t : ℕ) → GoesOn h g → WasListed h t → WasListed g t
 listed_so h g t on (actor, count, m) = (actor, count, on (Step actor (Keys t count)) m)
 
 pub reading_on : (w : State) (h : List Item) (nodes : List (Option InstanceEntry)) (rows : List Row) (pairs : Pairs) (g : List Item) (s b e : ℕ) (r : Reading) → RelyOn w h nodes rows pairs g → ((k : ℕ) → last_write g b k ≡ last_write h b k) → Holds w h → OpenAt w.clients s b e → IsReading w.nodes w.rows w.pairs h b e r → IsReading nodes rows pairs g b e r

@@ -1,11 +1,10 @@
 -- Reads and answers over a longer history without writes and placed commits, and a client that reads.
 use Rattle.std.proofs.Common.{◌≡◌, ◌≢◌, ℕ, List, ◌∷◌, Option, Some, None, inl, inr, sym, ◌∙◌, ap, subst}
 use Rattle.std.specs.Prelude.{slice_set}
-use Rattle.history_book.specs.Isolation.{WasListed, Candidate, Visible, RightAnswer}
+use Rattle.history_book.specs.Isolation.{Candidate, Visible, RightAnswer}
 use Rattle.history_book.specs.declared.item.Found.{Found}
-use Rattle.history_book.specs.declared.item.StoreStep.TheVariants.{Keys}
 use Rattle.history_book.specs.declared.item.Item.{Item}
-use Rattle.history_book.specs.declared.item.Item.TheVariants.{Placed, Step}
+use Rattle.history_book.specs.declared.item.Item.TheVariants.{Placed}
 use Rattle.store_parts.specs.declared.rows.Cell.{Cell}
 use Rattle.store_parts.specs.Rows.{Row}
 use Rattle.store_parts.specs.Pairs.{Pairs}
@@ -13,11 +12,12 @@ use Rattle.client_parts.specs.declared.resolve.SettlePoint.{SettlePoint}
 use Rattle.client_parts.specs.declared.resolve.SettlePoint.TheVariants.{FirstLook, Table, Marking, LastLook}
 use Rattle.client_parts.specs.KeyRead.{Reading}
 use Rattle.oracle_parts.specs.Instance.{InstanceEntry}
-use Rattle.machine.specs.State.{Nothing, Reads, Client}
+use Rattle.machine.specs.State.{Reads, Client}
 use Rattle.isolation_laws.specs.Words.{ClientAt, epoch_or_none, OpenAt}
 use Rattle.isolation_laws.specs.Reads.{SeesAll, IsResolvedTo, IsReading, AreReading}
 use Rattle.isolation_laws.proofs.Lookups.{set_found, set_other, client_set, one_client}
 use Rattle.isolation_laws.proofs.CommitsInFlight.{GoesOn}
+use Rattle.isolation_laws.proofs.ReadersRely.{listed_so}
 use Rattle.isolation_laws.proofs.Unwritten.{Unwritten}
 
 candidate_old : (h g : List Item) (b k t c : ℕ) → Unwritten h g → Candidate g b k t c → Candidate h b k t c
@@ -35,13 +35,10 @@ visible_longer h g b k (Some found) un is = record {
   greatest = λ t c candidate. is.greatest t c (candidate_old h g b k t c un candidate);
 }
 
-listed_longer : (h g : List Item) (t : ℕ) → GoesOn h g → WasListed h t → WasListed g t
-listed_longer h g t on (actor, count, m) = (actor, count, on (Step actor (Keys t count)) m)
-
 pub right_longer : (h g before : List Item) (b k : ℕ) (answer : Option Found) (own : Option (List ℕ)) → Unwritten h g → GoesOn h before → RightAnswer h h b k answer own → RightAnswer g before b k answer own
 right_longer h g before b k answer None un on is = visible_longer h g b k answer un is
 right_longer h g before b k answer (Some own) un on (inl mine) = inl mine
-right_longer h g before b k answer (Some own) un on (inr (listed, visible)) = inr (listed_longer h before b on listed, visible_longer h g b k answer un visible)
+right_longer h g before b k answer (Some own) un on (inr (listed, visible)) = inr (listed_so h before b on listed, visible_longer h g b k answer un visible)
 
 sees_longer : (nodes : List (Option InstanceEntry)) (pairs : Pairs) (h g : List Item) (b k : ℕ) (cells : List Cell) → Unwritten h g → SeesAll nodes pairs h b k cells → SeesAll nodes pairs g b k cells
 sees_longer nodes pairs h g b k cells un sees = record {
@@ -64,7 +61,7 @@ pub reading_longer : (nodes : List (Option InstanceEntry)) (rows : List Row) (pa
 reading_longer nodes rows pairs h g b e r un is = record {
   start_is = is.start_is;
   epoch_is = is.epoch_is;
-  own = λ value wrote. listed_longer h g b un.on (is.own value (sym (un.writes b r.key) ∙ wrote));
+  own = λ value wrote. listed_so h g b un.on (is.own value (sym (un.writes b r.key) ∙ wrote));
   sees = sees_longer nodes pairs h g b r.key (r.cell ∷ r.older) un is.sees;
   resolved = resolved_longer pairs rows h g r.key b e r.cell.version r.point un is.resolved;
 }
@@ -101,5 +98,3 @@ reading_set clients nodes rows pairs g s b e old c at same o now reading = recor
 pub reads_same : (r x : Reading) → Reads r ≡ Reads x → r ≡ x
 reads_same r x same = cc
 
-pub nothing_reads : (r : Reading) → Nothing ≡ Reads r → ⊥
-nothing_reads r same = cc

@@ -26,13 +26,14 @@ use Rattle.isolation_laws.specs.Holds.{Holds}
 use Rattle.isolation_laws.proofs.Outcomes.{Fetched, fetched_turn, fetched_state, fetched_items, ReadStepped, read_turn, read_stepped_state, read_stepped_items}
 use Rattle.isolation_laws.proofs.Pushed.{not_true, in_append}
 use Rattle.isolation_laws.proofs.OpenAfter.{read_keeps_entry}
-use Rattle.isolation_laws.proofs.StoresStay.{MarksStay, marks_after, shadows_same}
+use Rattle.isolation_laws.proofs.ClientsReading.{nothing_reads}
+use Rattle.isolation_laws.proofs.StoresStay.{MarksStay, marks_same, marks_after, shadows_same}
 use Rattle.isolation_laws.proofs.Unwritten.{Unwritten, unwritten_quiet, unwritten_turn, rely_unwritten}
 use Rattle.isolation_laws.proofs.ReadersRely.{RelyOn, reading_kept, lasts_on, right_kept}
 use Rattle.isolation_laws.proofs.ReadsStay.{ReadsRight, quiet_no_reads, rights_more, same_comes}
 use Rattle.isolation_laws.proofs.SeesFetched.{AreCellsOf, are_fetched, sees_fetched, sees_front, none_own, own_or_listed, own_value}
 use Rattle.isolation_laws.proofs.SeesPassed.{TurnRight, OwnListed, over_right}
-use Rattle.isolation_laws.proofs.ReadsLonger.{right_longer, reading_longer, ReadsNow, reading_set, reads_same, nothing_reads}
+use Rattle.isolation_laws.proofs.ReadsLonger.{right_longer, reading_longer, ReadsNow, reading_set, reads_same}
 use Rattle.isolation_laws.proofs.ReadTurns.{step_right}
 
 -- ---- an answer that is right
@@ -176,10 +177,7 @@ cells_good w h s k b e (c ∷ cs) holds o are = elim (cases_eq c.version b) [
   | inr other ↦ other_good w h s k b e (c ∷ cs) holds o are (none_own b c cs are.falling are.upto other)
 ]
 
-same_marks : (pairs : Pairs) → MarksStay pairs pairs
-same_marks pairs u marked = marked
-
 pub reads_fetched : (w : State) (h : List Item) (k : Fetched w) → Holds w h → ReadsRight (fetched_state w k).clients w.nodes w.rows w.pairs (h ++ fetched_items w k)
 reads_fetched w h k holds =
-    reads_turn w h w.pairs k.first k.it.session k.start k.epoch k.key k.it.c (fetched_turn w k.key k.start k.epoch) k.quiet k.it.client_at (fetched_open w k) (same_marks w.pairs)
+    reads_turn w h w.pairs k.first k.it.session k.start k.epoch k.key k.it.c (fetched_turn w k.key k.start k.epoch) k.quiet k.it.client_at (fetched_open w k) (marks_same w.pairs)
     (cells_good w h k.it.session k.key k.start k.epoch (fetched w.rows k.key k.start) holds (fetched_open w k) (are_fetched w h k.key k.start holds)) holds

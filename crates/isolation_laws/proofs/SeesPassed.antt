@@ -22,6 +22,7 @@ use Rattle.isolation_laws.specs.Pending.{ComesBelow}
 use Rattle.isolation_laws.specs.Reads.{floor_at, IsCovered, SeesAll, IsReading, Outlasts}
 use Rattle.isolation_laws.specs.Holds.{Holds}
 use Rattle.isolation_laws.proofs.Owners.{one_commit, pending_unplaced, later_version}
+use Rattle.isolation_laws.proofs.StoresStay.{committed_not_invalid}
 use Rattle.isolation_laws.proofs.CoveredVersions.{falls_tail, covered_none, covered_cases, covered_upto}
 use Rattle.isolation_laws.proofs.SeesFetched.{pending_coming}
 
@@ -93,9 +94,6 @@ sees_after w h pairs b k (c ∷ cs) holds sees = elim (cases_Bool (is_passed b c
 pub record IsAnswer (nodes : List (Option InstanceEntry)) (pairs : Pairs) (h : List Item) (b k : ℕ) (answer : Option Found) : Type 0 where
   pub visible : Visible h b k answer
   pub lasts : (u : ℕ) (value : List ℕ) → ComesBelow nodes b u → Wrote h u k value → Outlasts pairs b u answer
-
-committed_not_invalid : (c : ℕ) → Some (CommittedMark c) ≡ Some InvalidMark → ⊥
-committed_not_invalid c same = cc
 
 marked_by : (pairs : Pairs) (u : ℕ) (mark : Option Mark) → mark_of pairs u ≡ mark → Marked pairs u ⊎ (Marked pairs u → ⊥)
 marked_by pairs u None is = inr (λ marked. none-some InvalidMark (sym is ∙ marked))

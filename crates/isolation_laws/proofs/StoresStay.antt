@@ -33,6 +33,9 @@ use Rattle.isolation_laws.proofs.Owners.{one_commit}
 abbrev pub MarksStay : Pairs → Pairs → Type 0
 MarksStay old new = (u : ℕ) → Marked old u → Marked new u
 
+pub marks_same : (pairs : Pairs) → MarksStay pairs pairs
+marks_same pairs u marked = marked
+
 -- what a look finds of another transaction
 eq_apart : (u t : ℕ) → u ≢ t → eq_by_cmp nat_cmp u t ≡ false
 eq_apart u t other = grind (arith, nat_tests, other)
@@ -53,7 +56,7 @@ marks_over pairs t u mark None is marked = elim (cases_eq u t) [
 pub marks_put : (pairs : Pairs) (t : ℕ) (mark : Mark) → MarksStay pairs (put_pair pairs t mark)
 marks_put pairs t mark u marked = marks_over pairs t u mark (mark_of pairs t) refl marked
 
-committed_not_invalid : (c : ℕ) → Some (CommittedMark c) ≡ Some InvalidMark → ⊥
+pub committed_not_invalid : (c : ℕ) → Some (CommittedMark c) ≡ Some InvalidMark → ⊥
 committed_not_invalid c same = cc
 
 marks_removed : (pairs : Pairs) (t u : ℕ) (there : Option Mark) → mark_of pairs t ≡ there → Marked pairs u → Marked (removed_from pairs t there) u
