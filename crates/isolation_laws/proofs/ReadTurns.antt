@@ -110,7 +110,7 @@ sees_marked w h pairs s b e k cells holds o marks sees =
     sees_on w h w.nodes w.rows pairs h s b k cells rely (open_now_begun w h s b e holds o) sees
 
 passes_on : (w : State) (h : List Item) (pairs : Pairs) (r : Reading) → Holds w h → OwnListed h r.start r.key → LetsGo w.nodes pairs h r.start r.cell.version → SeesAll w.nodes pairs h r.start r.key (r.cell ∷ r.older) → TurnRight w h pairs r.start r.epoch r.key (read_over r.key r.start r.epoch r.older)
-passes_on w h pairs r holds own goes sees = over_right w h pairs r.start r.epoch r.key r.older (read_over r.key r.start r.epoch r.older) holds own (sees_rest w.nodes pairs h r.start r.key r.cell r.older goes sees) refl
+passes_on w h pairs r holds own goes sees = over_right w h pairs r.start r.epoch r.key r.older holds own (sees_rest w.nodes pairs h r.start r.key r.cell r.older goes sees)
 
 turn_right : (w : State) (h : List Item) (pairs : Pairs) (r : Reading) (turn : SettleTurn) → Holds w h → OwnListed h r.start r.key → SeesAll w.nodes pairs h r.start r.key (r.cell ∷ r.older) → Tells w pairs h r.key r.start r.epoch r.cell.version turn → TurnRight w h pairs r.start r.epoch r.key (read_by r turn)
 turn_right w h pairs r (Goes point) holds own sees tells = (record { start_is = refl; epoch_is = refl; own = own; sees = sees; resolved = tells }, refl)

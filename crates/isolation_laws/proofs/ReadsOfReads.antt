@@ -168,7 +168,7 @@ other_good : (w : State) (h : List Item) (s k b e : ℕ) (cells : List Cell) →
 other_good w h s k b e cells holds o are below =
     let own : OwnListed h b k = λ value wrote. own_or_listed w h s k b e cells value holds o are below wrote in
     good_turn w h w.pairs b e k (read_over k b e (front_of b cells)) own
-    (over_right w h w.pairs b e k (front_of b cells) (read_over k b e (front_of b cells)) holds own (sees_front w.nodes w.pairs h b k cells (sees_fetched w h k b cells holds are below)) refl)
+    (over_right w h w.pairs b e k (front_of b cells) holds own (sees_front w.nodes w.pairs h b k cells (sees_fetched w h k b cells holds are below)))
 
 cells_good : (w : State) (h : List Item) (s k b e : ℕ) (cells : List Cell) → Holds w h → OpenAt w.clients s b e → AreCellsOf w.rows k b cells → GoodTurn w h w.pairs b e k (read_over k b e (front_of b cells))
 cells_good w h s k b e [] holds o are = other_good w h s k b e [] holds o are (All-nil (λ (c : Cell). c.version < b))
