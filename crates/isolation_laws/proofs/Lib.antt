@@ -48,9 +48,9 @@ pub mod CellsKept
 pub mod UnderWayKept
 pub mod AsksBefore
 pub mod FreshBegins
+pub mod ReadersRely
 pub mod SettledBelow
 pub mod BeginsKept
-pub mod ReadersRely
 pub mod StoresStay
 pub mod Unwritten
 pub mod ClientsReading
@@ -59,6 +59,7 @@ pub mod CoveredVersions
 pub mod SeesFetched
 pub mod SeesPassed
 pub mod ReadTurns
+pub mod ReadsLonger
 pub mod ReadsOfReads
 pub mod ReadsKept
 pub mod InversionParts
