@@ -1,4 +1,4 @@
 pub mod CompletionLemmas
 pub mod CutReadLemmas
-mod KeyReadLemmas
+pub mod KeyReadLemmas
 pub mod WriteListLemmas

@@ -78,3 +78,4 @@ pub mod IsolatedItems
 pub mod IsolatedStamps
 pub mod Opening
 pub mod AlwaysHolds
+pub mod Theorem
