@@ -1,9 +1,6 @@
 -- Every outcome keeps the facts on the cells and the commit table.
-use Rattle.std.proofs.Common.{◌≡◌, ◌≢◌, ℕ, ◌+◌, if◌then◌else◌, Bool, true, false, List, [], ◌∷◌, ◌++◌, Option, Some, None, ◌⊎◌, inl, inr, refl, sym, ◌∙◌, ap, subst}
-use Rattle.std.specs.Prelude.{slice_get, slice_set}
-use Rattle.std.proofs.lemmas.List.{append-nil}
-use Rattle.std.proofs.lemmas.Option.{none-some}
-use Rattle.history_book.specs.Isolation.{Committed, last_write}
+use Rattle.std.proofs.Common.{◌≡◌, ℕ, ◌+◌, if◌then◌else◌, Bool, true, false, List, [], ◌∷◌, ◌++◌, Option, Some, None, inl, inr, refl, sym, ◌∙◌, ap, subst}
+use Rattle.history_book.specs.Isolation.{last_write}
 use Rattle.history_book.specs.declared.item.Item.{Item}
 use Rattle.history_book.specs.declared.item.Item.TheVariants.{Write, Draw}
 use Rattle.store_parts.specs.declared.rows.Cell.{Cell}
@@ -13,26 +10,27 @@ use Rattle.client_parts.specs.declared.asks.Ask.{Ask}
 use Rattle.client_parts.specs.declared.resolve.SettlePoint.{SettlePoint}
 use Rattle.client_parts.specs.declared.resolve.SettlePoint.TheVariants as point
 use Rattle.client_parts.specs.Resolve.{Settling, ask_at, settle_ask}
-use Rattle.client_parts.specs.KeyRead.{settling_of, read_ask}
+use Rattle.client_parts.specs.KeyRead.{settling_of}
 use Rattle.oracle_parts.specs.Instance.{InstanceEntry}
 use Rattle.machine.specs.State.{Client, State}
 use Rattle.machine.specs.StoreSteps.{rows_after, pairs_after}
 use Rattle.isolation_laws.specs.Words.{Begun}
-use Rattle.isolation_laws.specs.Pending.{IsPending}
 use Rattle.isolation_laws.specs.Quiet.{AllQuiet}
 use Rattle.isolation_laws.specs.Cells.{CellFacts}
 use Rattle.isolation_laws.specs.Holds.{Holds}
 use Rattle.isolation_laws.proofs.NumbersKept.{in_flight_of, drawn_pending}
 use Rattle.isolation_laws.proofs.NumbersOfDraws.{start_drawn, commit_drawn, asker_of, draw_item_is}
-use Rattle.isolation_laws.proofs.Outcomes.{Drew, drew_state, drew_items, PlacedOne, placed_state, placed_items, AnsweredBegin, answered_begin_state, answered_begin_items, Healed, healed_state, ReadDropped, read_dropped_state, ReadStepped, read_turn, read_stepped_state, read_stepped_items, OutcomeStepped, outcome_state, OutcomeFailed, outcome_failed_state, CompletedOne, completed_state, SweptOne, swept_state, SweepFailed, sweep_failed_state, fetched_turn, Outcome, OfStill, OfGranted, OfRenewed, OfExtended, OfCrashed, OfAskedBegin, OfAskedCommit, OfAccepted, OfEnded, OfDrew, OfPlaced, OfNotPlaced, OfAnsweredBegin, OfAnsweredCommit, OfEndedReadOnly, OfWrote, OfWriteFailed, OfAborted, OfVanished, OfHealed, OfFetched, OfReadDropped, OfReadStepped, OfOutcome, OfOutcomeFailed, OfCompleted, OfSweepOpened, OfSwept, OfSweepListed, OfSweepFailed, left_by, told_by_outcome}
+use Rattle.isolation_laws.proofs.Outcomes.{Drew, drew_items, PlacedOne, placed_state, placed_items, AnsweredBegin, answered_begin_state, answered_begin_items, Healed, read_turn, fetched_turn, Outcome, OfStill, OfGranted, OfRenewed, OfExtended, OfCrashed, OfAskedBegin, OfAskedCommit, OfAccepted, OfEnded, OfDrew, OfPlaced, OfNotPlaced, OfAnsweredBegin, OfAnsweredCommit, OfEndedReadOnly, OfWrote, OfWriteFailed, OfAborted, OfVanished, OfHealed, OfFetched, OfReadDropped, OfReadStepped, OfOutcome, OfOutcomeFailed, OfCompleted, OfSweepOpened, OfSwept, OfSweepListed, OfSweepFailed, left_by, told_by_outcome}
 use Rattle.isolation_laws.proofs.PendingAfter.{fewer_still, fewer_granted, fewer_renewed, fewer_extended, fewer_crashed, fewer_asked_begin, fewer_ended_one, fewer_placed, fewer_not_placed, fewer_answered_commit}
 use Rattle.isolation_laws.proofs.OpenAfter.{fewer_open_crashed, fewer_open_asked_begin, fewer_open_ended, fewer_open_answered_commit, fewer_open_read_only, fewer_open_aborted, fewer_open_vanished, fewer_open_healed, fewer_open_fetched, fewer_open_dropped, fewer_open_read, fewer_open_outcome, fewer_open_outcome_failed, fewer_open_completed}
 use Rattle.isolation_laws.proofs.RequestsOfItems.{begin_held}
 use Rattle.isolation_laws.proofs.LiveAfter.{FewerLive, fewer_live, same_live, live_by_clients, live_by_nodes, live_asked_commit, live_accepted, live_drew, live_answered_begin}
-use Rattle.isolation_laws.proofs.Calm.{Calm, calm_none, calm_quiet, calm_turn, calm_push, last_write-none}
+use Rattle.isolation_laws.proofs.Calm.{Calm, calm_none, calm_quiet, calm_turn, calm_push}
+use Rattle.isolation_laws.proofs.WrittenKeys.{last_write-none}
 use Rattle.isolation_laws.proofs.CellsStay.{cells_calm, cells_shadow}
 use Rattle.isolation_laws.proofs.CellsMove.{cells_placed}
-use Rattle.isolation_laws.proofs.StoreMoves.{AskFits, never_live, cells_stepped, sweep_fits}
+use Rattle.isolation_laws.proofs.StoreMoves.{AskFits, never_live, cells_stepped}
+use Rattle.isolation_laws.proofs.CompletionSteps.{sweep_fits}
 use Rattle.isolation_laws.proofs.SessionMoves.{cells_may_mark}
 use Rattle.isolation_laws.proofs.UnderWayOfRequests.{calm_ask, calm_begin, is_placing}
 use Rattle.isolation_laws.proofs.UnderWayOfSessions.{heal_placed}

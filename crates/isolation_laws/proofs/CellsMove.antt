@@ -1,22 +1,22 @@
 -- The cells and the commit table where a row is erased or written, and where a commit is placed.
-use Rattle.std.proofs.Common.{◌≡◌, ◌≢◌, ℕ, List, [], ◌∷◌, ◌++◌, Option, Some, None, IfSome, ◌⊎◌, inl, inr, refl, sym, ◌∙◌, ap, subst, arith}
+use Rattle.std.proofs.Common.{◌≡◌, ℕ, List, Option, Some, None, IfSome, ◌⊎◌, inl, inr, refl, sym, ◌∙◌, ap, subst}
 use Rattle.std.proofs.lemmas.Bool.{cases_eq}
 use Rattle.std.proofs.lemmas.Option.{same_Some, none-some}
 use Rattle.stamp_base.specs.declared.stores.Mark.TheVariants.{Committed as CommittedMark, Invalid as InvalidMark}
-use Rattle.history_book.specs.Isolation.{Committed, Stamped, last_write, WasListed}
+use Rattle.history_book.specs.Isolation.{Committed, last_write}
 use Rattle.history_book.specs.declared.item.Item.{Item}
 use Rattle.history_book.specs.declared.item.Item.TheVariants.{Begin, Placed}
 use Rattle.store_parts.specs.declared.rows.Cell.{Cell}
-use Rattle.store_parts.specs.Rows.{Row, looked, AreOrdered, IsBare, bare_cell, put_row, with_shadow, without_bare}
-use Rattle.store_parts.specs.Pairs.{Pairs, mark_of, put_pair, without_committed}
+use Rattle.store_parts.specs.Rows.{Row, looked, AreOrdered, bare_cell, put_row, without_bare}
+use Rattle.store_parts.specs.Pairs.{Pairs, mark_of, put_pair}
 use Rattle.store_parts.proofs.RowLaws.{looked-put_other, looked-put_same, looked-without, looked-without_other, ordered-put, ordered-without}
 use Rattle.store_parts.proofs.RowVersions.{without_bare_absent, without_bare_shadowed, without_bare_gone}
 use Rattle.store_parts.proofs.PairLaws.{entry_or, mark_of-put_pair, mark_of-put_pair_other, entry_stays-put_pair}
 use Rattle.oracle_parts.specs.Instance.{InstanceEntry}
 use Rattle.machine.specs.State.{Client}
-use Rattle.isolation_laws.specs.Words.{Begun, Marked, HasRecord, cell_with}
+use Rattle.isolation_laws.specs.Words.{Begun, HasRecord, cell_with}
 use Rattle.isolation_laws.specs.Pending.{Live}
-use Rattle.isolation_laws.specs.Cells.{AreRows, ArePairs, IsSwept, AreLiveCells, IsPlacedCell, AreShadowed, ArePlacedCells, CellFacts}
+use Rattle.isolation_laws.specs.Cells.{IsSwept, AreShadowed, CellFacts}
 use Rattle.isolation_laws.proofs.CommitsInFlight.{GoesOn}
 use Rattle.isolation_laws.proofs.LiveAfter.{FewerLive}
 use Rattle.isolation_laws.proofs.Calm.{listed_goes_on}
@@ -38,6 +38,7 @@ erased_here rows k t ordered = by (looked rows k t) refl
     shadow_is : (cell : Cell) (shadow : Option ℕ) → cell.shadow ≡ shadow → looked rows k t ≡ Some cell → IsErased rows k t k t ⊎ (looked (without_bare rows k t) k t ≡ looked rows k t)
     shadow_is cell None bare e = inl (record { key_is = refl; version_is = refl; gone = without_bare_gone rows k t ordered (subst (λ (found : Option Cell). IfSome found (λ c. c.shadow ≡ None)) (sym e) bare); cell = cell; was = e; bare = bare })
     shadow_is cell (Some c) has e = inr (ap (λ rs. looked rs k t) (without_bare_shadowed rows k t c cell e has))
+
     by : (found : Option Cell) → looked rows k t ≡ found → IsErased rows k t k t ⊎ (looked (without_bare rows k t) k t ≡ looked rows k t)
     by None e = inr (ap (λ rs. looked rs k t) (without_bare_absent rows k t e))
     by (Some cell) e = shadow_is cell cell.shadow refl e
@@ -64,25 +65,25 @@ cells_erase clients nodes rows pairs h k t shadows swept facts = record {
     bare = λ u j live. elim (erase_cases rows k t j u facts.rows_are.ordered) [
       | inl here ↦ inr (here.gone, subst (λ q. IsSwept pairs h q) here.version_is (swept (subst (λ q. Live clients nodes q) (sym here.version_is) live)))
       | inr same ↦ elim (facts.live.bare u j live) [
-          | inl bare ↦ inl (same ∙ bare)
-          | inr gone ↦ inr (same ∙ gone.0, gone.1)
-        ]
+        | inl bare ↦ inl (same ∙ bare)
+        | inr gone ↦ inr (same ∙ gone.0, gone.1)
+      ]
     ];
   };
   placed = record {
     cells = λ u d j committed. elim (erase_cases rows k t j u facts.rows_are.ordered) [
       | inl here ↦ absurd (bare_not_shadowed u d (last_write h u j) here.cell here.bare (sym here.was ∙ subst (λ q. looked rows j q ≡ cell_with q (Some d) (last_write h q j)) here.version_is (shadows d (subst (λ q. Committed h q d) (sym here.version_is) committed) j)))
       | inr same ↦ elim (facts.placed.cells u d j committed) [
-          | inl bare ↦ inl (same ∙ bare)
-          | inr has ↦ inr (same ∙ has)
-        ]
+        | inl bare ↦ inl (same ∙ bare)
+        | inr has ↦ inr (same ∙ has)
+      ]
     ];
     found = λ u d committed. elim (facts.placed.found u d committed) [
       | inl has ↦ inl has
       | inr all ↦ inr (λ j. elim (erase_cases rows k t j u facts.rows_are.ordered) [
-          | inl here ↦ absurd (bare_not_shadowed u d (last_write h u j) here.cell here.bare (sym here.was ∙ all j))
-          | inr same ↦ same ∙ all j
-        ])
+        | inl here ↦ absurd (bare_not_shadowed u d (last_write h u j) here.cell here.bare (sym here.was ∙ all j))
+        | inr same ↦ same ∙ all j
+      ])
     ];
   };
 }
@@ -118,25 +119,25 @@ cells_put clients new_clients nodes new_nodes rows pairs h g s k t value fewer w
     bare = λ u j live. elim (put_cases rows k t value j u bare) [
       | inl here ↦ inl (subst (λ q. looked (put_row rows k t value) q u ≡ cell_with u None (last_write g u q)) here.0 (subst (λ q. looked (put_row rows k t value) k q ≡ cell_with q None (last_write g q k)) here.1 (looked-put_same rows k t value bare ∙ ap (cell_with t None) (sym (written (subst (λ q. Live new_clients new_nodes q) (sym here.1) live))))))
       | inr other ↦ elim (facts.live.bare u j (fewer u live)) [
-          | inl is ↦ inl (other.1 ∙ (is ∙ ap (cell_with u None) (sym (writes.others u j other.0))))
-          | inr gone ↦ inr (other.1 ∙ gone.0, record { marked = gone.1.marked; listed = listed_goes_on h g u writes.on gone.1.listed })
-        ]
+        | inl is ↦ inl (other.1 ∙ (is ∙ ap (cell_with u None) (sym (writes.others u j other.0))))
+        | inr gone ↦ inr (other.1 ∙ gone.0, record { marked = gone.1.marked; listed = listed_goes_on h g u writes.on gone.1.listed })
+      ]
     ];
   };
   placed = record {
     cells = λ u d j committed. elim (put_cases rows k t value j u bare) [
       | inl here ↦ absurd (unplaced d (subst (λ q. Committed h q d) (sym here.1) (writes.placed u d committed)))
       | inr other ↦ elim (facts.placed.cells u d j (writes.placed u d committed)) [
-          | inl is ↦ inl (other.1 ∙ (is ∙ ap (cell_with u None) (sym (writes.others u j other.0))))
-          | inr has ↦ inr (other.1 ∙ (has ∙ ap (cell_with u (Some d)) (sym (writes.others u j other.0))))
-        ]
+        | inl is ↦ inl (other.1 ∙ (is ∙ ap (cell_with u None) (sym (writes.others u j other.0))))
+        | inr has ↦ inr (other.1 ∙ (has ∙ ap (cell_with u (Some d)) (sym (writes.others u j other.0))))
+      ]
     ];
     found = λ u d committed. elim (facts.placed.found u d (writes.placed u d committed)) [
       | inl has ↦ inl has
       | inr all ↦ inr (λ j. elim (put_cases rows k t value j u bare) [
-          | inl here ↦ absurd (unplaced d (subst (λ q. Committed h q d) (sym here.1) (writes.placed u d committed)))
-          | inr other ↦ other.1 ∙ (all j ∙ ap (cell_with u (Some d)) (sym (writes.others u j other.0)))
-        ])
+        | inl here ↦ absurd (unplaced d (subst (λ q. Committed h q d) (sym here.1) (writes.placed u d committed)))
+        | inr other ↦ other.1 ∙ (all j ∙ ap (cell_with u (Some d)) (sym (writes.others u j other.0)))
+      ])
     ];
   };
 }
@@ -180,19 +181,19 @@ cells_placed clients nodes new_nodes rows pairs h g t c fewer places live free f
   placed = record {
     cells = λ u d k committed. elim (places.placed u d committed) [
       | inl old ↦ elim (facts.placed.cells u d k old) [
-          | inl is ↦ inl (is ∙ ap (cell_with u None) (sym (places.writes u k)))
-          | inr has ↦ inr (has ∙ ap (cell_with u (Some d)) (sym (places.writes u k)))
-        ]
+        | inl is ↦ inl (is ∙ ap (cell_with u None) (sym (places.writes u k)))
+        | inr has ↦ inr (has ∙ ap (cell_with u (Some d)) (sym (places.writes u k)))
+      ]
       | inr now ↦ elim (facts.live.bare t k live) [
-          | inl is ↦ inl (subst (λ q. looked rows k q ≡ cell_with q None (last_write g q k)) (sym now.0) (is ∙ ap (cell_with t None) (sym (places.writes t k))))
-          | inr gone ↦ absurd (none-some InvalidMark (sym free ∙ gone.1.marked))
-        ]
+        | inl is ↦ inl (subst (λ q. looked rows k q ≡ cell_with q None (last_write g q k)) (sym now.0) (is ∙ ap (cell_with t None) (sym (places.writes t k))))
+        | inr gone ↦ absurd (none-some InvalidMark (sym free ∙ gone.1.marked))
+      ]
     ];
     found = λ u d committed. elim (places.placed u d committed) [
       | inl old ↦ elim (facts.placed.found u d old) [
-          | inl has ↦ inl (entry_stays-put_pair pairs t u (CommittedMark c) (CommittedMark d) has)
-          | inr all ↦ inr (λ k. all k ∙ ap (cell_with u (Some d)) (sym (places.writes u k)))
-        ]
+        | inl has ↦ inl (entry_stays-put_pair pairs t u (CommittedMark c) (CommittedMark d) has)
+        | inr all ↦ inr (λ k. all k ∙ ap (cell_with u (Some d)) (sym (places.writes u k)))
+      ]
       | inr now ↦ inl (subst (λ q. HasRecord (put_pair pairs t (CommittedMark c)) q d) (sym now.0) (subst (λ q. HasRecord (put_pair pairs t (CommittedMark c)) t q) (sym now.1) (mark_of-put_pair pairs t (CommittedMark c) ∙ ap (λ found. Some (entry_or found (CommittedMark c))) free)))
     ];
   };

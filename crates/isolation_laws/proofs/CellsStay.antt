@@ -1,23 +1,22 @@
 -- The cells and the commit table where the history goes on, where the table moves, and where a row gets its shadow, is
 -- erased or is written.
-use Rattle.std.proofs.Common.{◌≡◌, ◌≢◌, ℕ, List, [], ◌∷◌, ◌++◌, Option, Some, None, ◌⊎◌, inl, inr, refl, sym, ◌∙◌, ap, subst, arith}
+use Rattle.std.proofs.Common.{◌≡◌, ℕ, List, Option, Some, None, ◌⊎◌, inl, inr, refl, sym, ◌∙◌, ap, subst}
 use Rattle.std.proofs.lemmas.Bool.{cases_eq}
 use Rattle.std.proofs.lemmas.Option.{same_Some, none-some}
 use Rattle.stamp_base.specs.declared.stores.Mark.TheVariants.{Committed as CommittedMark, Invalid as InvalidMark}
-use Rattle.history_book.specs.Isolation.{Committed, Stamped, last_write, WasListed}
+use Rattle.history_book.specs.Isolation.{Committed, Stamped, last_write}
 use Rattle.history_book.specs.declared.item.Item.{Item}
 use Rattle.history_book.specs.declared.item.Item.TheVariants.{Begin, Placed}
 use Rattle.store_parts.specs.declared.rows.Cell.{Cell}
-use Rattle.store_parts.specs.Rows.{Row, looked, AreOrdered, bare_cell, put_row, with_shadow, without_bare}
+use Rattle.store_parts.specs.Rows.{Row, looked, with_shadow}
 use Rattle.store_parts.specs.Pairs.{Pairs, mark_of, put_pair, without_committed}
-use Rattle.store_parts.proofs.RowLaws.{shadowed, looked-put_other, looked-put_same, looked-shadow_other, looked-shadow_same, looked-without, looked-without_other, ordered-put, ordered-shadow, ordered-without}
-use Rattle.store_parts.proofs.RowVersions.{without_bare_absent, without_bare_shadowed, without_bare_gone}
+use Rattle.store_parts.proofs.RowLaws.{shadowed, looked-shadow_other, looked-shadow_same, ordered-shadow}
 use Rattle.store_parts.proofs.PairLaws.{entry_or, mark_of-put_pair, mark_of-put_pair_other, entry_stays-put_pair, mark_of-without_committed_other, invalid_stays-without_committed, was_there-without_committed}
 use Rattle.oracle_parts.specs.Instance.{InstanceEntry}
 use Rattle.machine.specs.State.{Client}
-use Rattle.isolation_laws.specs.Words.{Begun, Marked, HasRecord, cell_with}
+use Rattle.isolation_laws.specs.Words.{Marked, HasRecord, cell_with}
 use Rattle.isolation_laws.specs.Pending.{Live}
-use Rattle.isolation_laws.specs.Cells.{AreRows, ArePairs, IsSwept, AreLiveCells, IsPlacedCell, AreShadowed, ArePlacedCells, CellFacts}
+use Rattle.isolation_laws.specs.Cells.{IsSwept, AreShadowed, CellFacts}
 use Rattle.isolation_laws.proofs.Owners.{one_commit}
 use Rattle.isolation_laws.proofs.CommitsInFlight.{GoesOn}
 use Rattle.isolation_laws.proofs.Calm.{Calm, listed_goes_on}
@@ -41,9 +40,9 @@ cells_calm clients new_clients nodes new_nodes rows pairs h g fewer calm facts =
   live = record {
     bare = λ t k live. elim (fewer t live) [
       | inl old ↦ elim (facts.live.bare t k old) [
-          | inl is ↦ inl (is ∙ ap (cell_with t None) (sym (calm.writes t k)))
-          | inr gone ↦ inr (gone.0, swept_on pairs pairs h g t (λ marked. marked) calm.on gone.1)
-        ]
+        | inl is ↦ inl (is ∙ ap (cell_with t None) (sym (calm.writes t k)))
+        | inr gone ↦ inr (gone.0, swept_on pairs pairs h g t (λ marked. marked) calm.on gone.1)
+      ]
       | inr empty ↦ inl ((empty k).0 ∙ ap (cell_with t None) (sym (calm.writes t k ∙ (empty k).1)))
     ];
   };
@@ -120,9 +119,9 @@ removal_moves rows pairs h t shadows = record {
 pub here_or_else : (k t j u : ℕ) → ((k ≡ j) × (t ≡ u)) ⊎ (k ≡ j → t ≡ u → ⊥)
 here_or_else k t j u = elim (cases_eq k j) [
   | inl a ↦ elim (cases_eq t u) [
-      | inl b ↦ inl (a, b)
-      | inr b ↦ inr (λ p q. b q)
-    ]
+    | inl b ↦ inl (a, b)
+    | inr b ↦ inr (λ p q. b q)
+  ]
   | inr a ↦ inr (λ p q. a p)
 ]
 
@@ -165,9 +164,9 @@ cells_shadow clients nodes rows pairs h k t c stamped unplaced is facts = record
     bare = λ u j live. elim (shadow_cases rows k t c j u) [
       | inl here ↦ absurd (unplaced u c live (subst (λ q. Committed h q c) here.1 is))
       | inr same ↦ elim (facts.live.bare u j live) [
-          | inl bare ↦ inl (same ∙ bare)
-          | inr gone ↦ inr (same ∙ gone.0, gone.1)
-        ]
+        | inl bare ↦ inl (same ∙ bare)
+        | inr gone ↦ inr (same ∙ gone.0, gone.1)
+      ]
     ];
   };
   placed = record {
@@ -179,18 +178,18 @@ cells_shadow clients nodes rows pairs h k t c stamped unplaced is facts = record
             | inr has ↦ ap (shadowed c) has ∙ shadowed_with u c (Some d) (last_write h u j)
           ] ∙ ap (λ q. cell_with u (Some q) (last_write h u j)) one))
       | inr same ↦ elim (facts.placed.cells u d j committed) [
-          | inl bare ↦ inl (same ∙ bare)
-          | inr has ↦ inr (same ∙ has)
-        ]
+        | inl bare ↦ inl (same ∙ bare)
+        | inr has ↦ inr (same ∙ has)
+      ]
     ];
     found = λ u d committed. elim (facts.placed.found u d committed) [
       | inl has ↦ inl has
       | inr all ↦ inr (λ j. elim (shadow_cases rows k t c j u) [
-          | inl here ↦
-              let one : c ≡ d = one_commit h u c d stamped (subst (λ q. Committed h q c) here.1 is) committed in
-              here.2 ∙ (ap (shadowed c) (all j) ∙ (shadowed_with u c (Some d) (last_write h u j) ∙ ap (λ q. cell_with u (Some q) (last_write h u j)) one))
-          | inr same ↦ same ∙ all j
-        ])
+        | inl here ↦
+            let one : c ≡ d = one_commit h u c d stamped (subst (λ q. Committed h q c) here.1 is) committed in
+            here.2 ∙ (ap (shadowed c) (all j) ∙ (shadowed_with u c (Some d) (last_write h u j) ∙ ap (λ q. cell_with u (Some q) (last_write h u j)) one))
+        | inr same ↦ same ∙ all j
+      ])
     ];
   };
 }

@@ -1,9 +1,9 @@
 -- What a client has under way after its transaction or its request has ended, or a read has gone on.
-use Rattle.std.proofs.Common.{◌≡◌, ◌≢◌, ℕ, nat_lt, Bool, true, false, ◌||◌, is_some, ◌==◌, if◌then◌else◌, List, [], ◌∷◌, ◌++◌, Option, Some, None, ◌⊎◌, inl, inr, refl, sym, ◌∙◌, ap, subst, arith}
+use Rattle.std.proofs.Common.{◌≡◌, ℕ, Bool, true, false, ◌||◌, is_some, ◌==◌, List, [], ◌∷◌, Option, Some, None, inl, inr, refl, sym, ◌∙◌, ap, subst}
 use Rattle.std.proofs.lemmas.Bool.{cases_Bool}
 use Rattle.std.proofs.lemmas.Option.{same_Some, none-some}
 use Rattle.history_book.specs.Members.{◌∈◌}
-use Rattle.history_book.specs.Isolation.{Committed, Wrote}
+use Rattle.history_book.specs.Isolation.{Committed}
 use Rattle.history_book.specs.declared.item.Item.{Item}
 use Rattle.store_parts.specs.declared.rows.Cell.{Cell}
 use Rattle.store_parts.specs.Rows.{Row}
@@ -13,14 +13,13 @@ use Rattle.client_parts.specs.declared.session.State.TheVariants as phase
 use Rattle.client_parts.specs.SessionSteps.{SessionEntry, aborted_by, asked_state}
 use Rattle.client_parts.specs.Completion.{finish_asks, undo_asks}
 use Rattle.client_parts.specs.Resolve.{Settling}
-use Rattle.client_parts.specs.KeyRead.{Reading, ReadTurn, Asks, Answers, found_none, found_cell, after_passed, turn_at, read_over}
-use Rattle.machine.specs.State.{UnderWay, Nothing, Reads, Settles, Completes, Client}
+use Rattle.client_parts.specs.KeyRead.{Reading, ReadTurn, Asks, Answers, after_passed, turn_at, read_over}
+use Rattle.machine.specs.State.{Nothing, Reads, Settles, Completes, Client}
 use Rattle.machine.specs.Clients.{undo_of, finish_of, client_begun, client_asked, client_freed, client_aborted, client_committed, client_opened, client_vanished, unless_gone, unless_gone_by}
 use Rattle.machine.specs.Events.Fetch.{client_read}
 use Rattle.isolation_laws.specs.Words.{written_keys}
-use Rattle.isolation_laws.specs.UnderWay.{IsFinish, IsUndo}
-use Rattle.isolation_laws.proofs.Calm.{wrote_in_keys}
-use Rattle.isolation_laws.proofs.Works.{Works, IsIdle, works_idle}
+use Rattle.isolation_laws.proofs.WrittenKeys.{wrote_in_keys}
+use Rattle.isolation_laws.proofs.Works.{Works, works_idle}
 
 -- ---- nothing under way
 pub works_freed : (rows : List Row) (h : List Item) (c : Client) → Works rows h (client_freed c)
@@ -74,12 +73,18 @@ works_aborted rows h c t start unplaced = subst (λ (o : Option ℕ). Works rows
 -- ---- one that has its commit
 committed_works : (rows : List Row) (h : List Item) (e : SessionEntry) (t commit : ℕ) → e.start ≡ Some t → e.keys ≡ written_keys h t → Committed h t commit → Works rows h (record { entry = record e { state = phase.Completing false; commit = Some commit }; under_way = finish_of (Some t) commit e.keys; heal = None })
 committed_works rows h e t commit start keys placed = record {
-  finish = λ asks is busy. (t, commit, start, refl, record {
-    left = e.keys;
-    shape = sym (asks_same (finish_asks t commit e.keys) asks busy);
-    placed = placed;
-    covered = λ k value wrote. inl (subst (λ (ks : List ℕ). k ∈ ks) (sym keys) (wrote_in_keys h t k value wrote));
-  });
+  finish = λ asks is busy. (
+    t,
+    commit,
+    start,
+    refl,
+    record {
+      left = e.keys;
+      shape = sym (asks_same (finish_asks t commit e.keys) asks busy);
+      placed = placed;
+      covered = λ k value wrote. inl (subst (λ (ks : List ℕ). k ∈ ks) (sym keys) (wrote_in_keys h t k value wrote));
+    },
+  );
   finish_busy = λ is. (finish_asks t commit e.keys, refl);
   undo = λ u asks is other busy. absurd (cc);
   undo_busy = λ is. absurd (cc);
@@ -132,6 +137,7 @@ plain_reading rows h c r work reads = record { not_completing = λ undo is. by u
     by : (undo : Bool) → c.entry.state ≡ phase.Completing undo → ⊥
     by true is = let busy = work.undo_busy is in let both : Reads r ≡ Completes busy.0 = sym reads ∙ busy.1 in cc
     by false is = let busy = work.finish_busy is in let both : Reads r ≡ Completes busy.0 = sym reads ∙ busy.1 in cc
+
     outcome : c.entry.state ≡ phase.OpenOutcome → ⊥
     outcome is = elim (work.resolve is) [
       | inl none ↦ let both : Reads r ≡ Nothing = sym reads ∙ none in cc

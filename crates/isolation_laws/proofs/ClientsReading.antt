@@ -1,6 +1,6 @@
 -- Who reads: after each outcome but those of a read, each client that reads read before, and is as it was.
-use Rattle.std.proofs.Common.{◌≡◌, ◌≢◌, ℕ, zero, suc, ◌<◌, Bool, true, false, List, [], ◌∷◌, Option, Some, None, ◌⊎◌, inl, inr, refl, sym, ◌∙◌, ap, subst}
-use Rattle.std.specs.Prelude.{slice_get, slice_set, slice_index_or}
+use Rattle.std.proofs.Common.{◌≡◌, ℕ, true, false, List, [], ◌∷◌, Option, Some, None, ◌⊎◌, inl, inr, sym, ◌∙◌, ap, subst}
+use Rattle.std.specs.Prelude.{slice_set, slice_index_or}
 use Rattle.history_book.specs.declared.item.Item.{Item}
 use Rattle.store_parts.specs.Rows.{Row}
 use Rattle.store_parts.specs.Pairs.{Pairs}
@@ -14,10 +14,10 @@ use Rattle.oracle_parts.specs.declared.instance.Request.TheVariants.{Begin, Comm
 use Rattle.oracle_parts.specs.declared.instance.Settled.{Settled}
 use Rattle.oracle_parts.specs.declared.instance.Settled.TheVariants as how
 use Rattle.oracle_parts.specs.Instance.{InstanceEntry}
-use Rattle.machine.specs.State.{UnderWay, Nothing, Reads, Settles, Completes, Client, State}
-use Rattle.machine.specs.Clients.{is_reading, is_reading_by, undo_of, finish_of, client_begun, client_asked, client_freed, client_aborted, client_committed, client_opened, client_vanished, unless_gone, after_refusal}
+use Rattle.machine.specs.State.{Nothing, Reads, Settles, Completes, Client, State}
+use Rattle.machine.specs.Clients.{is_reading, is_reading_by, undo_of, finish_of, client_begun, client_freed, client_aborted, client_committed, client_opened, unless_gone, after_refusal}
 use Rattle.machine.specs.StoreSteps.{told_by}
-use Rattle.machine.specs.Events.Crash.{after_loss, crashed_clients}
+use Rattle.machine.specs.Events.Crash.{after_loss}
 use Rattle.machine.specs.Events.Step.{client_settled, after_asks}
 use Rattle.machine.specs.Events.Write.{client_wrote}
 use Rattle.isolation_laws.specs.Words.{ClientAt, OpenAt}
@@ -58,7 +58,7 @@ fewer_reading_set clients s old c at new q d r there reads = elim (client_set cl
   | inr other ↦ other.1
 ]
 
-nothing_reads : (r : Reading) → Nothing ≡ Reads r → ⊥
+pub nothing_reads : (r : Reading) → Nothing ≡ Reads r → ⊥
 nothing_reads r same = cc
 
 settles_nothing : (x : Settling) (r : Reading) → Settles x ≡ Reads r → ⊥

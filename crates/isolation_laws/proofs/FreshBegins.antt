@@ -1,15 +1,11 @@
 -- What was placed before the ask of a begin stays below the start that it got, or will get.
-use Rattle.std.proofs.Common.{◌≡◌, ◌≢◌, ℕ, zero, suc, ◌+◌, ◌<◌, ◌≤◌, Bool, true, false, List, [], ◌∷◌, ◌++◌, Option, Some, None, ◌⊎◌, inl, inr, refl, sym, ◌∙◌, ap, subst, arith}
-use Rattle.std.specs.Prelude.{slice_get, slice_set}
-use Rattle.std.proofs.lemmas.Option.{same_Some, none-some}
-use Rattle.history_book.specs.Members.{◌∈◌}
+use Rattle.std.proofs.Common.{◌≡◌, ◌≢◌, ℕ, ◌+◌, ◌<◌, ◌≤◌, true, List, ◌++◌, Option, inl, inr, sym, ap, subst, arith}
 use Rattle.history_book.specs.Isolation.{Committed, before_ask, has_ask}
 use Rattle.history_book.specs.declared.item.Item.{Item}
-use Rattle.history_book.specs.declared.item.Item.TheVariants.{AskBegin, Placed}
+use Rattle.history_book.specs.declared.item.Item.TheVariants.{Placed}
 use Rattle.history_book.proofs.HistoryLemmas.{before_ask-in}
 use Rattle.oracle_parts.specs.declared.instance.Progress.{Progress}
 use Rattle.oracle_parts.specs.declared.instance.Progress.TheVariants as progress
-use Rattle.oracle_parts.specs.declared.instance.Request.{Request}
 use Rattle.oracle_parts.specs.declared.instance.Request.TheVariants.{Begin, Commit}
 use Rattle.oracle_parts.specs.Instance.{InstanceEntry}
 use Rattle.oracle_parts.specs.InstanceSteps.{moved}
@@ -32,13 +28,6 @@ FewerBegins old new = (n s : ℕ) (j : InstanceEntry) (p : Progress) → Instanc
 
 pub begins_of : (old new : List (Option InstanceEntry)) → FewerHeld old new → FewerBegins old new
 begins_of old new fewer n s j p at held = fewer.each n s j (Begin s) p at held
-
--- one begin against a longer history
-pub record FreshOne (h : List Item) (s bound : ℕ) : Type 0 where
-  pub each : (t c : ℕ) → Committed (before_ask s h) t c → c ≤ bound
-
-pub fresh_on : (h items : List Item) (s bound : ℕ) → has_ask s h ≡ true → AsksNothing s items → FreshOne h s bound → FreshOne (h ++ items) s bound
-fresh_on h items s bound has none fresh = record { each = λ t c placed. fresh.each t c (subst (λ before. Committed before t c) (before_stays s h items has none) placed) }
 
 asked_on : (old new : List (Option InstanceEntry)) (h items : List Item) → FewerBegins old new → AreFreshBegins old h → (n s : ℕ) (j : InstanceEntry) (p : Progress) → InstanceAt new n j → HeldBy j s (Begin s) p → has_ask s (h ++ items) ≡ true
 asked_on old new h items fewer fresh n s j p at held =

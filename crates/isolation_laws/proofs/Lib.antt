@@ -29,15 +29,18 @@ pub mod MemoryOfDraws
 pub mod MemoryKept
 pub mod LiveAfter
 pub mod Calm
+pub mod WrittenKeys
 pub mod CellsStay
 pub mod CellsMove
 pub mod Works
 pub mod StoreMoves
+pub mod CompletionSteps
 pub mod ClientWorks
 pub mod Settled
 pub mod SessionMoves
 pub mod UnderWayOfRequests
 pub mod UnderWayOfSessions
+pub mod UnderWayOfOutcomes
 pub mod UnderWayOfCompletions
 pub mod UnderWayOfSweeps
 pub mod WritesKept
@@ -45,9 +48,9 @@ pub mod CellsKept
 pub mod UnderWayKept
 pub mod AsksBefore
 pub mod FreshBegins
+pub mod ReadersRely
 pub mod SettledBelow
 pub mod BeginsKept
-pub mod ReadersRely
 pub mod StoresStay
 pub mod Unwritten
 pub mod ClientsReading
@@ -56,6 +59,7 @@ pub mod CoveredVersions
 pub mod SeesFetched
 pub mod SeesPassed
 pub mod ReadTurns
+pub mod ReadsLonger
 pub mod ReadsOfReads
 pub mod ReadsKept
 pub mod InversionParts

@@ -1,11 +1,11 @@
 -- What may still be placed after each outcome: nothing that could not before, but the transaction of an answered begin.
-use Rattle.std.proofs.Common.{◌≡◌, ◌≢◌, ℕ, List, [], ◌∷◌, ◌++◌, Option, Some, None, ◌⊎◌, inl, inr, refl, sym, ◌∙◌, ap, subst}
+use Rattle.std.proofs.Common.{◌≡◌, ℕ, List, Option, Some, ◌⊎◌, inl, inr, sym, ◌∙◌, ap}
 use Rattle.oracle_parts.specs.Instance.{InstanceEntry}
 use Rattle.machine.specs.State.{Client, State}
 use Rattle.isolation_laws.specs.Words.{epoch_or_none}
-use Rattle.isolation_laws.specs.Pending.{Waits, Taken, InFlight, Pending, IsPending, Live}
+use Rattle.isolation_laws.specs.Pending.{Waits, Taken, IsPending, Live}
 use Rattle.isolation_laws.proofs.Outcomes.{AskedCommit, asked_commit_state, Accepted, accepted_state, Drew, drew_state, AnsweredBegin, answered_begin_state}
-use Rattle.isolation_laws.proofs.PendingAfter.{FewerPending, IsAsked, pending_asked_commit, IsTaken, pending_accepted, pending_drew, fewer_answered_begin}
+use Rattle.isolation_laws.proofs.PendingAfter.{FewerPending, pending_asked_commit, pending_accepted, pending_drew, fewer_answered_begin}
 use Rattle.isolation_laws.proofs.OpenAfter.{FewerOpen, fewer_is_open, fewer_open_asked_commit, open_answered_begin}
 use Rattle.isolation_laws.proofs.RequestsOfMoves.{opens}
 
@@ -36,10 +36,10 @@ live_asked_commit w k t (inl o) = inl (fewer_is_open w.clients (asked_commit_sta
 live_asked_commit w k t (inr p) = elim (pending_asked_commit w k p.coming p.pending) [
   | inl old ↦ inr (record { coming = p.coming; pending = old; start_is = p.start_is })
   | inr now ↦ inl (record {
-      session = k.session;
-      epoch = epoch_or_none k.c.entry.epoch;
-      open_at = opens w k.session t k.c k.client_at k.is_open (k.start_is ∙ ap Some (sym now.start_is ∙ p.start_is));
-    })
+    session = k.session;
+    epoch = epoch_or_none k.c.entry.epoch;
+    open_at = opens w k.session t k.c k.client_at k.is_open (k.start_is ∙ ap Some (sym now.start_is ∙ p.start_is));
+  })
 ]
 
 pub live_accepted : (w : State) (k : Accepted w) → FewerLive w.clients w.nodes w.clients (accepted_state w k).nodes

@@ -1,5 +1,5 @@
 -- What a store call decides for a read is true, and so the read goes on rightly, or answers rightly.
-use Rattle.std.proofs.Common.{◌≡◌, ◌≢◌, ℕ, zero, suc, ◌+◌, ◌<◌, ◌≤◌, nat_lt, nat_le, Bool, true, false, cond, if◌then◌else◌, List, [], ◌∷◌, ◌++◌, Option, Some, None, ◌⊎◌, inl, inr, refl, sym, ◌∙◌, ap, subst, arith, All, length}
+use Rattle.std.proofs.Common.{◌≡◌, ℕ, ◌<◌, ◌≤◌, nat_lt, nat_le, Bool, true, false, cond, List, ◌∷◌, Option, Some, None, ◌⊎◌, inl, inr, refl, sym, ◌∙◌, ap, arith}
 use Rattle.std.specs.Ordering.{nat_cmp, eq_by_cmp}
 use Rattle.std.specs.FinMap.{get-insert}
 use Rattle.std.specs.Cmp.{nat_cmp_total}
@@ -8,21 +8,19 @@ use Rattle.std.proofs.lemmas.Bool.Decides.{nat_tests}
 use Rattle.std.proofs.lemmas.Option.{same_Some, none-some}
 use Rattle.stamp_base.specs.declared.stores.Mark.{Mark}
 use Rattle.stamp_base.specs.declared.stores.Mark.TheVariants.{Committed as CommittedMark, Invalid as InvalidMark}
-use Rattle.history_book.specs.Isolation.{Committed, Wrote, last_write, WasListed}
+use Rattle.history_book.specs.Isolation.{Committed, last_write}
 use Rattle.history_book.specs.declared.item.Item.{Item}
 use Rattle.store_parts.specs.declared.rows.Cell.{Cell}
-use Rattle.store_parts.specs.Rows.{Row, looked}
+use Rattle.store_parts.specs.Rows.{looked}
 use Rattle.store_parts.specs.Pairs.{Pairs, mark_of, put_pair, put_over}
 use Rattle.client_parts.specs.declared.resolve.Outcome.TheVariants.{Committed as CommittedAt, Dead}
 use Rattle.client_parts.specs.declared.resolve.SettlePoint.{SettlePoint}
 use Rattle.client_parts.specs.declared.resolve.SettlePoint.TheVariants.{FirstLook, Table, Marking, LastLook}
 use Rattle.client_parts.specs.Resolve.{SettleTurn, Goes, Decides, settle_turn, settle_turn_at, ask_at, after_table, after_marking, after_last_look}
-use Rattle.client_parts.specs.KeyRead.{Reading, ReadTurn, Asks, Answers, settling_of, read_over, read_by, read_ask, read_told, found_by}
-use Rattle.oracle_parts.specs.Instance.{InstanceEntry}
+use Rattle.client_parts.specs.KeyRead.{Reading, settling_of, read_over, read_by, read_ask, read_told}
 use Rattle.machine.specs.State.{State}
 use Rattle.machine.specs.StoreSteps.{pairs_after, told_by, told_entry, told_mark, told_shadow, told_cell}
 use Rattle.isolation_laws.specs.Words.{OpenAt, Marked, HasRecord, cell_with}
-use Rattle.isolation_laws.specs.Pending.{ComesBelow}
 use Rattle.isolation_laws.specs.UnderWay.{HasShadow}
 use Rattle.isolation_laws.specs.Reads.{SeesAll, IsResolvedTo, IsReading}
 use Rattle.isolation_laws.specs.Holds.{Holds}
@@ -112,7 +110,7 @@ sees_marked w h pairs s b e k cells holds o marks sees =
     sees_on w h w.nodes w.rows pairs h s b k cells rely (open_now_begun w h s b e holds o) sees
 
 passes_on : (w : State) (h : List Item) (pairs : Pairs) (r : Reading) → Holds w h → OwnListed h r.start r.key → LetsGo w.nodes pairs h r.start r.cell.version → SeesAll w.nodes pairs h r.start r.key (r.cell ∷ r.older) → TurnRight w h pairs r.start r.epoch r.key (read_over r.key r.start r.epoch r.older)
-passes_on w h pairs r holds own goes sees = over_right w h pairs r.start r.epoch r.key r.older (read_over r.key r.start r.epoch r.older) holds own (sees_rest w.nodes pairs h r.start r.key r.cell r.older goes sees) refl
+passes_on w h pairs r holds own goes sees = over_right w h pairs r.start r.epoch r.key r.older holds own (sees_rest w.nodes pairs h r.start r.key r.cell r.older goes sees)
 
 turn_right : (w : State) (h : List Item) (pairs : Pairs) (r : Reading) (turn : SettleTurn) → Holds w h → OwnListed h r.start r.key → SeesAll w.nodes pairs h r.start r.key (r.cell ∷ r.older) → Tells w pairs h r.key r.start r.epoch r.cell.version turn → TurnRight w h pairs r.start r.epoch r.key (read_by r turn)
 turn_right w h pairs r (Goes point) holds own sees tells = (record { start_is = refl; epoch_is = refl; own = own; sees = sees; resolved = tells }, refl)

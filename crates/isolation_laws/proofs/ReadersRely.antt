@@ -1,6 +1,6 @@
 -- What readers rely on: commits and values stay, marks and shadows stay, and nothing more comes below a begun start but what
 -- came before. Then reads under way see all that they saw, and past reads stay right.
-use Rattle.std.proofs.Common.{◌≡◌, ◌≢◌, ℕ, zero, suc, ◌+◌, ◌<◌, ◌≤◌, Bool, true, false, List, [], ◌∷◌, ◌++◌, Option, Some, None, ◌⊎◌, inl, inr, refl, sym, ◌∙◌, ap, subst, arith, All}
+use Rattle.std.proofs.Common.{◌≡◌, ℕ, ◌<◌, ◌≤◌, List, ◌∷◌, Option, Some, None, ◌⊎◌, inl, inr, sym, ◌∙◌, arith}
 use Rattle.history_book.specs.Members.{◌∈◌, AtEach}
 use Rattle.history_book.specs.Isolation.{Committed, Wrote, last_write, WasListed, Candidate, Newest, Visible, RightAnswer, RightRead}
 use Rattle.history_book.specs.declared.item.Found.{Found}
@@ -19,7 +19,7 @@ use Rattle.machine.specs.State.{Reads, Client, State}
 use Rattle.isolation_laws.specs.Words.{ClientAt, OpenAt, Begun, DrewCommit, Marked}
 use Rattle.isolation_laws.specs.Pending.{ComesBelow, IsPending}
 use Rattle.isolation_laws.specs.UnderWay.{HasShadow}
-use Rattle.isolation_laws.specs.Reads.{IsCovered, HasLastWrite, SeesAll, IsResolvedTo, IsReading, AreReading, Outlasts, AreLastingReads}
+use Rattle.isolation_laws.specs.Reads.{IsCovered, SeesAll, IsResolvedTo, IsReading, AreReading, Outlasts}
 use Rattle.isolation_laws.specs.Holds.{Holds}
 use Rattle.isolation_laws.proofs.Owners.{coming_is_markable}
 use Rattle.isolation_laws.proofs.CommitsInFlight.{GoesOn}
@@ -107,7 +107,7 @@ resolved_on w h nodes rows pairs g s k b e t LastLook rely holds o is = (
 pub open_now_begun : (w : State) (h : List Item) (s b e : ℕ) → Holds w h → OpenAt w.clients s b e → Begun h s b
 open_now_begun w h s b e holds o = open_begun w.clients h s b o.client holds.requests.have_begun o.at o.state_is o.start_is
 
-listed_so : (h g : List Item) (t : ℕ) → GoesOn h g → WasListed h t → WasListed g t
+pub listed_so : (h g : List Item) (t : ℕ) → GoesOn h g → WasListed h t → WasListed g t
 listed_so h g t on (actor, count, m) = (actor, count, on (Step actor (Keys t count)) m)
 
 pub reading_on : (w : State) (h : List Item) (nodes : List (Option InstanceEntry)) (rows : List Row) (pairs : Pairs) (g : List Item) (s b e : ℕ) (r : Reading) → RelyOn w h nodes rows pairs g → ((k : ℕ) → last_write g b k ≡ last_write h b k) → Holds w h → OpenAt w.clients s b e → IsReading w.nodes w.rows w.pairs h b e r → IsReading nodes rows pairs g b e r

@@ -1,44 +1,39 @@
 -- A fetch, and a step of a read: the session reads on and sees all, or has an answer that is right and lasts.
-use Rattle.std.proofs.Common.{◌≡◌, ◌≢◌, ℕ, zero, suc, ◌+◌, ◌<◌, ◌≤◌, ◌==◌, is_some, ◌||◌, Bool, true, false, if◌then◌else◌, List, [], ◌∷◌, ◌++◌, append_assoc, Option, Some, None, ◌⊎◌, inl, inr, refl, sym, ◌∙◌, ap, subst, arith, All}
-use Rattle.std.specs.Prelude.{slice_get, slice_set}
+use Rattle.std.proofs.Common.{◌≡◌, ℕ, ◌<◌, ◌==◌, true, List, [], ◌∷◌, ◌++◌, append_assoc, Option, Some, None, inl, inr, refl, sym, ◌∙◌, ap, subst, arith, All}
+use Rattle.std.specs.Prelude.{slice_set}
 use Rattle.std.proofs.lemmas.Bool.{cases_Bool, cases_eq, eq-eqb}
 use Rattle.std.proofs.lemmas.List.{append-nil}
 use Rattle.std.proofs.lemmas.List.Elements.{All-nil, All-cons}
-use Rattle.std.proofs.lemmas.Option.{same_Some, none-some}
 use Rattle.history_book.specs.Members.{◌∈◌, AtEach}
-use Rattle.history_book.specs.Isolation.{Committed, Wrote, last_write, WasListed, Candidate, Newest, Visible, RightAnswer, RightRead}
+use Rattle.history_book.specs.Isolation.{Wrote, last_write, Visible, RightAnswer, RightRead}
 use Rattle.history_book.specs.declared.item.Found.{Found}
-use Rattle.history_book.specs.declared.item.StoreStep.TheVariants.{Keys}
 use Rattle.history_book.specs.declared.item.Item.{Item}
-use Rattle.history_book.specs.declared.item.Item.TheVariants.{Read, Placed, Step}
+use Rattle.history_book.specs.declared.item.Item.TheVariants.{Read}
 use Rattle.history_book.proofs.MemberLemmas.{AtEach-push}
 use Rattle.store_parts.specs.declared.rows.Cell.{Cell}
-use Rattle.store_parts.specs.Rows.{Row, fetched, front_of, is_below}
+use Rattle.store_parts.specs.Rows.{fetched, front_of, is_below}
 use Rattle.store_parts.specs.Pairs.{Pairs}
 use Rattle.client_parts.specs.declared.key_read.Answer.{Answer}
-use Rattle.client_parts.specs.declared.resolve.SettlePoint.{SettlePoint}
-use Rattle.client_parts.specs.declared.resolve.SettlePoint.TheVariants.{FirstLook, Table, Marking, LastLook}
-use Rattle.client_parts.specs.KeyRead.{Reading, ReadTurn, Asks, Answers, found_none, found_cell, is_late, is_passed, after_passed, turn_at, read_over, read_ask}
-use Rattle.oracle_parts.specs.Instance.{InstanceEntry}
-use Rattle.machine.specs.State.{Nothing, Reads, Client, State}
+use Rattle.client_parts.specs.KeyRead.{Reading, ReadTurn, Asks, Answers, found_cell, after_passed, read_over, read_ask}
+use Rattle.machine.specs.State.{Client, State}
 use Rattle.machine.specs.StoreSteps.{pairs_after}
 use Rattle.machine.specs.Events.Fetch.{found_of, client_read, read_items}
-use Rattle.isolation_laws.specs.Words.{ClientAt, epoch_or_none, OpenAt, Marked}
+use Rattle.isolation_laws.specs.Words.{ClientAt, epoch_or_none, OpenAt}
 use Rattle.isolation_laws.specs.Pending.{ComesBelow}
 use Rattle.isolation_laws.specs.Quiet.{Quiet, AllQuiet}
-use Rattle.isolation_laws.specs.Reads.{IsCovered, HasLastWrite, SeesAll, IsResolvedTo, IsReading, AreReading, Outlasts, AreLastingReads}
+use Rattle.isolation_laws.specs.Reads.{IsReading, Outlasts, AreLastingReads}
 use Rattle.isolation_laws.specs.Holds.{Holds}
-use Rattle.isolation_laws.proofs.Lookups.{set_found, set_other, client_set, one_client}
 use Rattle.isolation_laws.proofs.Outcomes.{Fetched, fetched_turn, fetched_state, fetched_items, ReadStepped, read_turn, read_stepped_state, read_stepped_items}
-use Rattle.isolation_laws.proofs.Pushed.{not_true, in_append, quiet_in}
-use Rattle.isolation_laws.proofs.CommitsInFlight.{GoesOn}
+use Rattle.isolation_laws.proofs.Pushed.{not_true, in_append}
 use Rattle.isolation_laws.proofs.OpenAfter.{read_keeps_entry}
-use Rattle.isolation_laws.proofs.StoresStay.{MarksStay, marks_after, shadows_same}
-use Rattle.isolation_laws.proofs.Unwritten.{Unwritten, unwritten_same, unwritten_quiet, unwritten_turn, rely_unwritten}
+use Rattle.isolation_laws.proofs.ClientsReading.{nothing_reads}
+use Rattle.isolation_laws.proofs.StoresStay.{MarksStay, marks_same, marks_after, shadows_same}
+use Rattle.isolation_laws.proofs.Unwritten.{Unwritten, unwritten_quiet, unwritten_turn, rely_unwritten}
 use Rattle.isolation_laws.proofs.ReadersRely.{RelyOn, reading_kept, lasts_on, right_kept}
-use Rattle.isolation_laws.proofs.ReadsStay.{ReadsRight, NoReads, quiet_no_reads, reads_stay, rights_more, same_comes}
+use Rattle.isolation_laws.proofs.ReadsStay.{ReadsRight, quiet_no_reads, rights_more, same_comes}
 use Rattle.isolation_laws.proofs.SeesFetched.{AreCellsOf, are_fetched, sees_fetched, sees_front, none_own, own_or_listed, own_value}
-use Rattle.isolation_laws.proofs.SeesPassed.{IsAnswer, TurnRight, OwnListed, over_right}
+use Rattle.isolation_laws.proofs.SeesPassed.{TurnRight, OwnListed, over_right}
+use Rattle.isolation_laws.proofs.ReadsLonger.{right_longer, reading_longer, ReadsNow, reading_set, reads_same}
 use Rattle.isolation_laws.proofs.ReadTurns.{step_right}
 
 -- ---- an answer that is right
@@ -58,91 +53,7 @@ good_turn : (w : State) (h : List Item) (pairs : Pairs) (b e k : ℕ) (turn : Re
 good_turn w h pairs b e k (Asks r) own right = right.0
 good_turn w h pairs b e k (Answers a) own right = record { right = right_by h b k (found_of a.found) (last_write h b k) refl own right.visible; lasts = right.lasts }
 
--- ---- over a longer history without writes and placed commits
-candidate_old : (h g : List Item) (b k t c : ℕ) → Unwritten h g → Candidate g b k t c → Candidate h b k t c
-candidate_old h g b k t c un is = record { committed = un.placed t c is.committed; below = is.below; wrote = (is.wrote.0, sym (un.writes t k) ∙ is.wrote.1) }
-
-candidate_new : (h g : List Item) (b k t c : ℕ) → Unwritten h g → Candidate h b k t c → Candidate g b k t c
-candidate_new h g b k t c un is = record { committed = un.on (Placed t c) is.committed; below = is.below; wrote = (is.wrote.0, un.writes t k ∙ is.wrote.1) }
-
-visible_longer : (h g : List Item) (b k : ℕ) (answer : Option Found) → Unwritten h g → Visible h b k answer → Visible g b k answer
-visible_longer h g b k None un is = λ t c candidate. is t c (candidate_old h g b k t c un candidate)
-visible_longer h g b k (Some found) un is = record {
-  commit = is.commit;
-  candidate = candidate_new h g b k found.from is.commit un is.candidate;
-  value = un.writes found.from k ∙ is.value;
-  greatest = λ t c candidate. is.greatest t c (candidate_old h g b k t c un candidate);
-}
-
-listed_longer : (h g : List Item) (t : ℕ) → GoesOn h g → WasListed h t → WasListed g t
-listed_longer h g t on (actor, count, m) = (actor, count, on (Step actor (Keys t count)) m)
-
-right_longer : (h g before : List Item) (b k : ℕ) (answer : Option Found) (own : Option (List ℕ)) → Unwritten h g → GoesOn h before → RightAnswer h h b k answer own → RightAnswer g before b k answer own
-right_longer h g before b k answer None un on is = visible_longer h g b k answer un is
-right_longer h g before b k answer (Some own) un on (inl mine) = inl mine
-right_longer h g before b k answer (Some own) un on (inr (listed, visible)) = inr (listed_longer h before b on listed, visible_longer h g b k answer un visible)
-
-sees_longer : (nodes : List (Option InstanceEntry)) (pairs : Pairs) (h g : List Item) (b k : ℕ) (cells : List Cell) → Unwritten h g → SeesAll nodes pairs h b k cells → SeesAll nodes pairs g b k cells
-sees_longer nodes pairs h g b k cells un sees = record {
-  falling = sees.falling;
-  below = sees.below;
-  shadows = λ i x lt commit is. un.on (Placed _ commit) (sees.shadows i x lt commit is);
-  found = λ u d value placed less wrote. sees.found u d value (un.placed u d placed) less (sym (un.writes u k) ∙ wrote);
-  values = λ i x lt d placed less. un.writes _ k ∙ sees.values i x lt d (un.placed _ d placed) less;
-  coming = λ u value comes unmarked wrote. sees.coming u value comes unmarked (sym (un.writes u k) ∙ wrote);
-  coming_values = λ i x lt comes unmarked. un.writes _ k ∙ sees.coming_values i x lt comes unmarked;
-}
-
-resolved_longer : (pairs : Pairs) (rows : List Row) (h g : List Item) (k b e t : ℕ) (point : SettlePoint) → Unwritten h g → IsResolvedTo pairs rows h k b e t point → IsResolvedTo pairs rows g k b e t point
-resolved_longer pairs rows h g k b e t FirstLook un is = is
-resolved_longer pairs rows h g k b e t Table un is = tt
-resolved_longer pairs rows h g k b e t Marking un is = is
-resolved_longer pairs rows h g k b e t LastLook un is = (is.0, λ c placed less. is.1 c (un.placed t c placed) less)
-
-reading_longer : (nodes : List (Option InstanceEntry)) (rows : List Row) (pairs : Pairs) (h g : List Item) (b e : ℕ) (r : Reading) → Unwritten h g → IsReading nodes rows pairs h b e r → IsReading nodes rows pairs g b e r
-reading_longer nodes rows pairs h g b e r un is = record {
-  start_is = is.start_is;
-  epoch_is = is.epoch_is;
-  own = λ value wrote. listed_longer h g b un.on (is.own value (sym (un.writes b r.key) ∙ wrote));
-  sees = sees_longer nodes pairs h g b r.key (r.cell ∷ r.older) un is.sees;
-  resolved = resolved_longer pairs rows h g r.key b e r.cell.version r.point un is.resolved;
-}
-
--- ---- one client reads
-same_open : (clients : List Client) (s b e : ℕ) (old c : Client) → ClientAt clients s old → c.entry ≡ old.entry → OpenAt clients s b e → OpenAt (slice_set clients s c) s b e
-same_open clients s b e old c at same o =
-    let is : o.client ≡ old = one_client clients s o.client old o.at at in
-    record {
-      client = c;
-      at = set_found clients s c old at;
-      state_is = ap (λ x. x.state) same ∙ (ap (λ (x : Client). x.entry.state) (sym is) ∙ o.state_is);
-      start_is = ap (λ x. x.start) same ∙ (ap (λ (x : Client). x.entry.start) (sym is) ∙ o.start_is);
-      epoch_is = ap (λ x. epoch_or_none x.epoch) same ∙ (ap (λ (x : Client). epoch_or_none x.entry.epoch) (sym is) ∙ o.epoch_is);
-    }
-
-other_open : (clients : List Client) (s r b e : ℕ) (c : Client) → r ≢ s → OpenAt clients r b e → OpenAt (slice_set clients s c) r b e
-other_open clients s r b e c other o = record { client = o.client; at = set_other clients s r c other ∙ o.at; state_is = o.state_is; start_is = o.start_is; epoch_is = o.epoch_is }
-
--- what the client reads now
-abbrev pub ReadsNow : List (Option InstanceEntry) → List Row → Pairs → List Item → ℕ → ℕ → Client → Type 0
-ReadsNow nodes rows pairs g b e c = (r : Reading) → c.under_way ≡ Reads r → IsReading nodes rows pairs g b e r
-
-reading_set : (clients : List Client) (nodes : List (Option InstanceEntry)) (rows : List Row) (pairs : Pairs) (g : List Item) (s b e : ℕ) (old c : Client) → ClientAt clients s old → c.entry ≡ old.entry → OpenAt clients s b e → ReadsNow nodes rows pairs g b e c → AreReading clients nodes rows pairs g → AreReading (slice_set clients s c) nodes rows pairs g
-reading_set clients nodes rows pairs g s b e old c at same o now reading = record {
-  reads = λ q d r there reads. elim (client_set clients s q c d there) [
-    | inl here ↦ (b, e, subst (λ p. OpenAt (slice_set clients s c) p b e) (sym here.0) (same_open clients s b e old c at same o), now r (sym (ap (λ (x : Client). x.under_way) here.1) ∙ reads))
-    | inr other ↦
-        let was = reading.reads q d r other.1 reads in
-        (was.0, was.1, other_open clients s q was.0 was.1 c other.0 was.2, was.3)
-  ];
-}
-
-reads_same : (r x : Reading) → Reads r ≡ Reads x → r ≡ x
-reads_same r x same = cc
-
-nothing_reads : (r : Reading) → Nothing ≡ Reads r → ⊥
-nothing_reads r same = cc
-
+-- what the client reads after a turn
 turn_reads : (w : State) (h g : List Item) (pairs : Pairs) (b e k : ℕ) (c : Client) (turn : ReadTurn) → Unwritten h g → GoodTurn w h pairs b e k turn → ReadsNow w.nodes w.rows pairs g b e (client_read c turn)
 turn_reads w h g pairs b e k c (Asks x) un good r is = subst (λ (y : Reading). IsReading w.nodes w.rows pairs g b e y) (reads_same x r is) (reading_longer w.nodes w.rows pairs h g b e x un good)
 turn_reads w h g pairs b e k c (Answers a) un good r is = absurd (nothing_reads r is)
@@ -257,7 +168,7 @@ other_good : (w : State) (h : List Item) (s k b e : ℕ) (cells : List Cell) →
 other_good w h s k b e cells holds o are below =
     let own : OwnListed h b k = λ value wrote. own_or_listed w h s k b e cells value holds o are below wrote in
     good_turn w h w.pairs b e k (read_over k b e (front_of b cells)) own
-    (over_right w h w.pairs b e k (front_of b cells) (read_over k b e (front_of b cells)) holds own (sees_front w.nodes w.pairs h b k cells (sees_fetched w h k b cells holds are below)) refl)
+    (over_right w h w.pairs b e k (front_of b cells) holds own (sees_front w.nodes w.pairs h b k cells (sees_fetched w h k b cells holds are below)))
 
 cells_good : (w : State) (h : List Item) (s k b e : ℕ) (cells : List Cell) → Holds w h → OpenAt w.clients s b e → AreCellsOf w.rows k b cells → GoodTurn w h w.pairs b e k (read_over k b e (front_of b cells))
 cells_good w h s k b e [] holds o are = other_good w h s k b e [] holds o are (All-nil (λ (c : Cell). c.version < b))
@@ -266,10 +177,7 @@ cells_good w h s k b e (c ∷ cs) holds o are = elim (cases_eq c.version b) [
   | inr other ↦ other_good w h s k b e (c ∷ cs) holds o are (none_own b c cs are.falling are.upto other)
 ]
 
-same_marks : (pairs : Pairs) → MarksStay pairs pairs
-same_marks pairs u marked = marked
-
 pub reads_fetched : (w : State) (h : List Item) (k : Fetched w) → Holds w h → ReadsRight (fetched_state w k).clients w.nodes w.rows w.pairs (h ++ fetched_items w k)
 reads_fetched w h k holds =
-    reads_turn w h w.pairs k.first k.it.session k.start k.epoch k.key k.it.c (fetched_turn w k.key k.start k.epoch) k.quiet k.it.client_at (fetched_open w k) (same_marks w.pairs)
+    reads_turn w h w.pairs k.first k.it.session k.start k.epoch k.key k.it.c (fetched_turn w k.key k.start k.epoch) k.quiet k.it.client_at (fetched_open w k) (marks_same w.pairs)
     (cells_good w h k.it.session k.key k.start k.epoch (fetched w.rows k.key k.start) holds (fetched_open w k) (are_fetched w h k.key k.start holds)) holds

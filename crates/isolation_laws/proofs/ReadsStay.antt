@@ -1,30 +1,28 @@
 -- Reads under way, past reads and their answers after the outcomes that answer no read.
-use Rattle.std.proofs.Common.{◌≡◌, ◌≢◌, ℕ, zero, suc, ◌==◌, ◌&&◌, ◌+◌, ◌<◌, ◌≤◌, Bool, true, false, if◌then◌else◌, List, [], ◌∷◌, ◌++◌, append_assoc, Option, Some, None, ◌⊎◌, inl, inr, refl, sym, ◌∙◌, ap, subst, arith}
-use Rattle.std.specs.Prelude.{slice_get, slice_set}
+use Rattle.std.proofs.Common.{◌≡◌, ◌≢◌, ℕ, ◌==◌, ◌&&◌, ◌<◌, if◌then◌else◌, List, [], ◌∷◌, ◌++◌, append_assoc, Option, Some, None, inl, inr, refl, sym, ◌∙◌, ap, subst, arith}
+use Rattle.std.specs.Prelude.{slice_get}
 use Rattle.std.specs.Option.{option_or}
 use Rattle.std.proofs.lemmas.Bool.{ne_eqb}
-use Rattle.std.proofs.lemmas.Option.{same_Some, none-some}
+use Rattle.std.proofs.lemmas.Option.{none-some}
 use Rattle.std.proofs.lemmas.List.{append-nil}
 use Rattle.stamp_base.specs.declared.stores.Mark.TheVariants.{Committed as CommittedMark, Invalid as InvalidMark}
 use Rattle.history_book.specs.Members.{◌∈◌, AtEach}
 use Rattle.history_book.specs.Isolation.{Committed, last_write, written_by, RightRead}
 use Rattle.history_book.specs.declared.item.Found.{Found}
 use Rattle.history_book.specs.declared.item.Item.{Item}
-use Rattle.history_book.specs.declared.item.Item.TheVariants.{Begin, Draw, Write, Read, Placed}
+use Rattle.history_book.specs.declared.item.Item.TheVariants.{Draw, Write, Read, Placed}
 use Rattle.history_book.proofs.HistoryLemmas.{last_write-push}
 use Rattle.history_book.proofs.MemberLemmas.{AtEach-push}
-use Rattle.store_parts.specs.Rows.{Row, put_row}
-use Rattle.store_parts.specs.Pairs.{Pairs, mark_of, put_pair}
-use Rattle.client_parts.specs.KeyRead.{Reading}
+use Rattle.store_parts.specs.Rows.{Row}
+use Rattle.store_parts.specs.Pairs.{Pairs, mark_of}
 use Rattle.oracle_parts.specs.declared.instance.Request.{Request}
 use Rattle.oracle_parts.specs.declared.instance.Request.TheVariants.{Begin as BeginRequest, Commit}
 use Rattle.oracle_parts.specs.Instance.{InstanceEntry}
 use Rattle.machine.specs.State.{Client, State}
-use Rattle.machine.specs.Clients.{is_reading}
 use Rattle.machine.specs.Events.Decide.{draw_item}
-use Rattle.isolation_laws.specs.Words.{epoch_or_none, OpenAt, Begun, Marked}
+use Rattle.isolation_laws.specs.Words.{epoch_or_none, OpenAt, Begun}
 use Rattle.isolation_laws.specs.Pending.{ComesBelow, IsPending}
-use Rattle.isolation_laws.specs.Quiet.{Quiet, AllQuiet}
+use Rattle.isolation_laws.specs.Quiet.{AllQuiet}
 use Rattle.isolation_laws.specs.Reads.{ReadFacts}
 use Rattle.isolation_laws.specs.Holds.{Holds}
 use Rattle.isolation_laws.proofs.Lookups.{one_client}
@@ -33,7 +31,7 @@ use Rattle.isolation_laws.proofs.Owners.{begun_once, open_unplaced, accepts_now,
 use Rattle.isolation_laws.proofs.Pushed.{not_true, in_append, quiet_in, last_write-quiet}
 use Rattle.isolation_laws.proofs.PendingAfter.{FewerPending, fewer_comes, fewer_placed, comes_accepted}
 use Rattle.isolation_laws.proofs.CommitsInFlight.{goes_on}
-use Rattle.isolation_laws.proofs.NumbersKept.{open_begun, in_flight_of, drawn_pending, drew_commit}
+use Rattle.isolation_laws.proofs.NumbersKept.{in_flight_of, drawn_pending, drew_commit}
 use Rattle.isolation_laws.proofs.RequestsOfSettled.{Places, places}
 use Rattle.isolation_laws.proofs.RequestsOfItems.{wrote_open, wrote_not_pending, write_no_placed}
 use Rattle.isolation_laws.proofs.StoresStay.{ShadowsStay, marks_put, shadows_same, shadows_put}

@@ -1,7 +1,7 @@
 -- A fetch gives all that a read may answer with, and so do its cells down to the first that decides.
-use Rattle.std.proofs.Common.{◌≡◌, ◌≢◌, ℕ, zero, suc, ◌+◌, ◌<◌, ◌≤◌, Bool, true, false, List, [], ◌∷◌, ◌++◌, Option, Some, None, ◌⊎◌, inl, inr, refl, sym, ◌∙◌, ap, subst, arith, All, length}
+use Rattle.std.proofs.Common.{◌≡◌, ◌≢◌, ℕ, zero, suc, ◌<◌, ◌≤◌, List, [], ◌∷◌, Option, Some, None, inl, inr, refl, sym, ◌∙◌, ap, arith, All, length}
 use Rattle.std.specs.Prelude.{slice_index_or}
-use Rattle.std.specs.List.{AllPairs, Any, Contains}
+use Rattle.std.specs.List.{Contains}
 use Rattle.std.proofs.lemmas.Option.{same_Some, none-some}
 use Rattle.std.proofs.lemmas.List.Elements.{All-contains}
 use Rattle.history_book.specs.Isolation.{Committed, Wrote, last_write, WasListed}
@@ -14,7 +14,7 @@ use Rattle.store_parts.proofs.RowFetches.{fetched-upto, fetched-falls, Contains-
 use Rattle.oracle_parts.specs.Instance.{InstanceEntry}
 use Rattle.machine.specs.State.{State}
 use Rattle.isolation_laws.specs.Words.{OpenAt, Marked, cell_with}
-use Rattle.isolation_laws.specs.Pending.{ComesBelow, IsOpen, IsPending}
+use Rattle.isolation_laws.specs.Pending.{ComesBelow, IsPending}
 use Rattle.isolation_laws.specs.Reads.{IsCovered, HasLastWrite, SeesAll}
 use Rattle.isolation_laws.specs.Holds.{Holds}
 use Rattle.isolation_laws.proofs.Owners.{coming_is_below}

@@ -1,27 +1,27 @@
 -- A read that passes a cell over sees the rest, and what it answers is visible and lasts.
-use Rattle.std.proofs.Common.{◌≡◌, ◌≢◌, ℕ, zero, suc, ◌+◌, ◌<◌, ◌≤◌, ◌==◌, nat_lt, nat_le, ◌||◌, is_some, Bool, true, false, if◌then◌else◌, List, [], ◌∷◌, ◌++◌, Option, Some, None, ◌⊎◌, inl, inr, refl, sym, ◌∙◌, ap, subst, arith, All, length}
-use Rattle.std.proofs.lemmas.Bool.{cases_Bool, ltb-true, leb-true}
-use Rattle.std.proofs.lemmas.Option.{same_Some, none-some}
+use Rattle.std.proofs.Common.{◌≡◌, ◌≢◌, ℕ, zero, suc, ◌<◌, ◌≤◌, ◌==◌, ◌||◌, is_some, Bool, true, false, if◌then◌else◌, List, [], ◌∷◌, Option, Some, None, ◌⊎◌, inl, inr, refl, sym, ◌∙◌, ap, subst, arith}
+use Rattle.std.proofs.lemmas.Bool.{cases_Bool, ltb-true, leb-true, leb-false, ne_eqb}
+use Rattle.std.proofs.lemmas.Option.{none-some}
 use Rattle.stamp_base.specs.declared.stores.Mark.{Mark}
 use Rattle.stamp_base.specs.declared.stores.Mark.TheVariants.{Committed as CommittedMark, Invalid as InvalidMark}
-use Rattle.history_book.specs.Isolation.{Committed, Wrote, last_write, WasListed, Candidate, Newest, Visible}
+use Rattle.history_book.specs.Isolation.{Committed, Wrote, WasListed, Candidate, Visible}
 use Rattle.history_book.specs.declared.item.Found.{Found}
 use Rattle.history_book.specs.declared.item.Item.{Item}
 use Rattle.store_parts.specs.declared.rows.Cell.{Cell}
-use Rattle.store_parts.specs.Rows.{Row, AreFalling, is_below}
+use Rattle.store_parts.specs.Rows.{is_below}
 use Rattle.store_parts.specs.Pairs.{Pairs, mark_of}
 use Rattle.client_parts.specs.declared.key_read.Answer.{Answer}
 use Rattle.client_parts.specs.declared.resolve.SettlePoint.TheVariants.{Table}
-use Rattle.client_parts.specs.KeyRead.{Reading, ReadTurn, Asks, Answers, found_none, found_cell, is_late, is_passed, after_passed, turn_at, read_over, AnswersBy, IfBelow}
-use Rattle.client_parts.proofs.KeyReadLemmas.{answers_own_or_below}
+use Rattle.client_parts.specs.KeyRead.{Reading, ReadTurn, Asks, Answers, found_none, found_cell, is_late, is_passed, after_passed, turn_at, read_over}
 use Rattle.oracle_parts.specs.Instance.{InstanceEntry}
 use Rattle.machine.specs.State.{State}
 use Rattle.machine.specs.Events.Fetch.{found_of}
 use Rattle.isolation_laws.specs.Words.{Marked}
 use Rattle.isolation_laws.specs.Pending.{ComesBelow}
-use Rattle.isolation_laws.specs.Reads.{floor_at, IsCovered, HasLastWrite, SeesAll, IsReading, Outlasts}
+use Rattle.isolation_laws.specs.Reads.{floor_at, IsCovered, SeesAll, IsReading, Outlasts}
 use Rattle.isolation_laws.specs.Holds.{Holds}
 use Rattle.isolation_laws.proofs.Owners.{one_commit, pending_unplaced, later_version}
+use Rattle.isolation_laws.proofs.StoresStay.{committed_not_invalid}
 use Rattle.isolation_laws.proofs.CoveredVersions.{falls_tail, covered_none, covered_cases, covered_upto}
 use Rattle.isolation_laws.proofs.SeesFetched.{pending_coming}
 
@@ -81,21 +81,10 @@ passed_goes w h pairs b k c cs holds passed sees =
     let commit = late_commit b c.shadow (passed_late (c.version == b) (is_late b c.shadow) passed) in
     goes_late w h pairs b c.version commit.0 holds (sees.shadows 0 c (omega arith) commit.0 commit.1) commit.2
 
-pub sees_after : (w : State) (h : List Item) (pairs : Pairs) (b k : ℕ) (cells : List Cell) → Holds w h → SeesAll w.nodes pairs h b k cells → SeesAll w.nodes pairs h b k (after_passed b cells)
-unfolding after_passed
-sees_after w h pairs b k [] holds sees = sees
-sees_after w h pairs b k (c ∷ cs) holds sees = elim (cases_Bool (is_passed b c)) [
-  | inl passed ↦ rw passed (sees_after w h pairs b k cs holds (sees_rest w.nodes pairs h b k c cs (passed_goes w h pairs b k c cs holds passed sees) sees))
-  | inr stays ↦ rw stays sees
-]
-
 -- ---- answers
 pub record IsAnswer (nodes : List (Option InstanceEntry)) (pairs : Pairs) (h : List Item) (b k : ℕ) (answer : Option Found) : Type 0 where
   pub visible : Visible h b k answer
   pub lasts : (u : ℕ) (value : List ℕ) → ComesBelow nodes b u → Wrote h u k value → Outlasts pairs b u answer
-
-committed_not_invalid : (c : ℕ) → Some (CommittedMark c) ≡ Some InvalidMark → ⊥
-committed_not_invalid c same = cc
 
 marked_by : (pairs : Pairs) (u : ℕ) (mark : Option Mark) → mark_of pairs u ≡ mark → Marked pairs u ⊎ (Marked pairs u → ⊥)
 marked_by pairs u None is = inr (λ marked. none-some InvalidMark (sym is ∙ marked))
@@ -160,26 +149,31 @@ OwnListed h b k = (value : List ℕ) → Wrote h b k value → WasListed h b
 abbrev pub read_first : ℕ → ℕ → ℕ → Cell → List Cell → Reading
 read_first key b e c cs = record { key = key; start = b; epoch = e; cell = c; older = cs; point = Table }
 
-asks_by : (key b e : ℕ) (c : Cell) (cs : List Cell) (at_once : Bool) (r : Reading) → (if at_once then Answers (found_cell c) else Asks (read_first key b e c cs)) ≡ Asks r → r ≡ read_first key b e c cs
-asks_by key b e c cs true r is = absurd (cc)
-asks_by key b e c cs false r is = cc
+abbrev turn_first : ℕ → ℕ → ℕ → Cell → List Cell → Bool → ReadTurn
+turn_first key b e c cs at_once = if at_once then Answers (found_cell c) else Asks (read_first key b e c cs)
 
-reading_first : (w : State) (h : List Item) (pairs : Pairs) (b e k : ℕ) (cells : List Cell) (r : Reading) → OwnListed h b k → SeesAll w.nodes pairs h b k cells → turn_at k b e cells ≡ Asks r → TurnRight w h pairs b e k (Asks r)
-reading_first w h pairs b e k [] r own sees is = absurd (cc)
-reading_first w h pairs b e k (c ∷ cs) r own sees is = subst (λ (x : Reading). TurnRight w h pairs b e k (Asks x)) (sym (asks_by k b e c cs ((c.version == b) || is_some c.shadow) r is))
-    (record { start_is = refl; epoch_is = refl; own = own; sees = sees; resolved = tt }, refl)
+-- a first cell that is not passed over: a shadow is below the start, and a bare cell is resolved
+first_right : (w : State) (h : List Item) (pairs : Pairs) (b e k : ℕ) (c : Cell) (cs : List Cell) (shadow : Option ℕ) → Holds w h → OwnListed h b k → SeesAll w.nodes pairs h b k (c ∷ cs) → c.shadow ≡ shadow → is_late b shadow ≡ false → TurnRight w h pairs b e k (turn_first k b e c cs (is_some shadow))
+first_right w h pairs b e k c cs None holds own sees is stays = (record { start_is = refl; epoch_is = refl; own = own; sees = sees; resolved = tt }, refl)
+first_right w h pairs b e k c cs (Some commit) holds own sees is stays = answer_first w h pairs b k commit c cs holds sees (sees.shadows 0 c (omega arith) commit is) (leb-false b commit stays)
 
-if_below : (b : ℕ) (shadow : Option ℕ) → IfBelow b shadow → (commit : ℕ) × (shadow ≡ Some commit) × (commit < b)
-if_below b None is = absurd is
-if_below b (Some commit) is = (commit, refl, is)
+other_version : (b v : ℕ) → v < b → (v == b) ≡ false
+other_version b v below = ne_eqb v b (λ same. omega (arith, same, below))
 
-answered_over : (w : State) (h : List Item) (pairs : Pairs) (b e k : ℕ) (cells : List Cell) (a : Answer) → Holds w h → SeesAll w.nodes pairs h b k cells → AnswersBy b cells a → TurnRight w h pairs b e k (Answers a)
-answered_over w h pairs b e k [] a holds sees is = subst (λ (x : Answer). TurnRight w h pairs b e k (Answers x)) (sym is) (answer_none w.nodes pairs h b k sees)
-answered_over w h pairs b e k (c ∷ cs) a holds sees (is, inl mine) = absurd (omega (arith, sees.below 0 c (omega arith), mine))
-answered_over w h pairs b e k (c ∷ cs) a holds sees (is, inr below) =
-    let commit = if_below b c.shadow below in
-    subst (λ (x : Answer). TurnRight w h pairs b e k (Answers x)) (sym is) (answer_first w h pairs b k commit.0 c cs holds sees (sees.shadows 0 c (omega arith) commit.0 commit.1) commit.2)
+not_late : (own late : Bool) → own ≡ false → (if own then false else late) ≡ false → late ≡ false
+not_late true late is stays = absurd (cc)
+not_late false late is stays = stays
 
-pub over_right : (w : State) (h : List Item) (pairs : Pairs) (b e k : ℕ) (cells : List Cell) (turn : ReadTurn) → Holds w h → OwnListed h b k → SeesAll w.nodes pairs h b k cells → read_over k b e cells ≡ turn → TurnRight w h pairs b e k turn
-over_right w h pairs b e k cells (Asks r) holds own sees is = reading_first w h pairs b e k (after_passed b cells) r own (sees_after w h pairs b k cells holds sees) is
-over_right w h pairs b e k cells (Answers a) holds own sees is = answered_over w h pairs b e k (after_passed b cells) a holds (sees_after w h pairs b k cells holds sees) (answers_own_or_below k b e cells a is)
+stops_right : (w : State) (h : List Item) (pairs : Pairs) (b e k : ℕ) (c : Cell) (cs : List Cell) → Holds w h → OwnListed h b k → SeesAll w.nodes pairs h b k (c ∷ cs) → is_passed b c ≡ false → TurnRight w h pairs b e k (turn_at k b e (c ∷ cs))
+stops_right w h pairs b e k c cs holds own sees stays =
+    let other : (c.version == b) ≡ false = other_version b c.version (sees.below 0 c (omega arith)) in
+    subst (λ (mine : Bool). TurnRight w h pairs b e k (turn_first k b e c cs (mine || is_some c.shadow))) (sym other)
+    (first_right w h pairs b e k c cs c.shadow holds own sees refl (not_late (c.version == b) (is_late b c.shadow) other stays))
+
+pub over_right : (w : State) (h : List Item) (pairs : Pairs) (b e k : ℕ) (cells : List Cell) → Holds w h → OwnListed h b k → SeesAll w.nodes pairs h b k cells → TurnRight w h pairs b e k (read_over k b e cells)
+unfolding after_passed
+over_right w h pairs b e k [] holds own sees = answer_none w.nodes pairs h b k sees
+over_right w h pairs b e k (c ∷ cs) holds own sees = elim (cases_Bool (is_passed b c)) [
+  | inl passed ↦ rw passed (over_right w h pairs b e k cs holds own (sees_rest w.nodes pairs h b k c cs (passed_goes w h pairs b k c cs holds passed sees) sees))
+  | inr stays ↦ rw stays (stops_right w h pairs b e k c cs holds own sees stays)
+]

@@ -1,24 +1,22 @@
 -- Of an open transaction each instance draws at most up to the epoch, or is past the start, whatever comes.
-use Rattle.std.proofs.Common.{◌≡◌, ◌≢◌, ℕ, zero, suc, ◌+◌, ◌<◌, ◌≤◌, Bool, true, false, List, [], ◌∷◌, ◌++◌, Option, Some, None, ◌⊎◌, inl, inr, refl, sym, ◌∙◌, ap, subst, arith, All, IfSome}
-use Rattle.std.specs.Prelude.{slice_get, slice_set, slice_index_or}
-use Rattle.std.proofs.lemmas.Option.{same_Some, none-some}
+use Rattle.std.proofs.Common.{◌≡◌, ◌≢◌, ℕ, zero, suc, ◌+◌, ◌<◌, ◌≤◌, Bool, true, false, List, [], ◌∷◌, Option, Some, None, ◌⊎◌, inl, inr, refl, sym, ◌∙◌, ap, subst, arith, All, IfSome}
+use Rattle.std.specs.Prelude.{slice_index_or}
 use Rattle.std.proofs.lemmas.List.Elements.{All-head, All-tail}
 use Rattle.history_book.specs.declared.item.Item.{Item}
-use Rattle.store_parts.specs.Record.{granted, renewed_until}
+use Rattle.store_parts.specs.Record.{granted}
 use Rattle.oracle_parts.specs.declared.instance.Held.{Held}
 use Rattle.oracle_parts.specs.declared.instance.Progress.{Progress}
 use Rattle.oracle_parts.specs.declared.instance.Progress.TheVariants as progress
 use Rattle.oracle_parts.specs.declared.instance.Request.{Request}
-use Rattle.oracle_parts.specs.declared.instance.Request.TheVariants.{Begin, Commit}
-use Rattle.oracle_parts.specs.Instance.{InstanceEntry, held_of, unsettled_by, least_unsettled}
+use Rattle.oracle_parts.specs.declared.instance.Request.TheVariants.{Commit}
+use Rattle.oracle_parts.specs.Instance.{InstanceEntry, unsettled_by}
 use Rattle.oracle_parts.specs.InstanceSteps.{without_request, instance_widened}
 use Rattle.oracle_parts.specs.InstanceLaws.{IsNotBelow}
 use Rattle.oracle_parts.proofs.InstanceBegins.{none_waits}
 use Rattle.machine.specs.State.{Client, State}
 use Rattle.machine.specs.Events.Take.{rules_of, instance_of}
-use Rattle.isolation_laws.specs.Words.{InstanceAt, HeldBy, OpenAt, Begun, DrewCommit, DrewStart}
+use Rattle.isolation_laws.specs.Words.{InstanceAt, HeldBy, OpenAt, Begun, DrewCommit}
 use Rattle.isolation_laws.specs.Pending.{InFlight, Has, Pending}
-use Rattle.isolation_laws.specs.Requests.{HaveBegun}
 use Rattle.isolation_laws.specs.Begins.{AreSettledBelow, IsPast}
 use Rattle.isolation_laws.specs.Holds.{Holds}
 use Rattle.isolation_laws.proofs.Lookups.{instance_changed, one_instance, heldby_changed, heldby_ended}
@@ -26,8 +24,9 @@ use Rattle.isolation_laws.proofs.Outcomes.{Granted, granted_nodes, granted_state
 use Rattle.isolation_laws.proofs.Owners.{begun_below_last, has_drew}
 use Rattle.isolation_laws.proofs.OpenAfter.{FewerOpen, open_answered_begin}
 use Rattle.isolation_laws.proofs.PendingAfter.{new_holds_none}
-use Rattle.isolation_laws.proofs.NumbersKept.{open_begun, drew_start}
+use Rattle.isolation_laws.proofs.NumbersKept.{drew_start}
 use Rattle.isolation_laws.proofs.NumbersStay.{SameNumbers}
+use Rattle.isolation_laws.proofs.ReadersRely.{open_now_begun}
 use Rattle.isolation_laws.proofs.CommitsInFlight.{FewerStanding, IsDrawnNow}
 use Rattle.isolation_laws.proofs.Standing.{standing_over}
 
@@ -58,10 +57,6 @@ below_fewer before after old new opens keeps fewer settled = record {
       below_on old new n b e was.0 j fewer was.1 at was.2 was.3 (settled.below s b e n was.0 (opens s b e o) was.1);
 }
 
--- an open transaction was begun
-pub open_was_begun : (clients : List Client) (h : List Item) (s b e : ℕ) → HaveBegun clients h → OpenAt clients s b e → Begun h s b
-open_was_begun clients h s b e have o = open_begun clients h s b o.client have o.at o.state_is o.start_is
-
 -- ---- a new instance begins above all that was drawn
 new_past : (w : State) (h : List Item) (k : Granted w) (s b : ℕ) → Holds w h → Begun h s b → IsPast (instance_of w.setup k.node (granted (rules_of w.setup) w.master k.reading)) b
 new_past w h k s b holds begun =
@@ -75,7 +70,7 @@ granted_below : (w : State) (h : List Item) (k : Granted w) (failed : Bool) → 
 granted_below w h k true holds = holds.begins.below
 granted_below w h k false holds = record {
   below = λ s b e n j o at. elim (instance_changed w.nodes k.node n (instance_of w.setup k.node (granted (rules_of w.setup) w.master k.reading)) j at) [
-    | inl here ↦ inr (subst (λ (x : InstanceEntry). IsPast x b) (sym here.1) (new_past w h k s b holds (open_was_begun w.clients h s b e holds.requests.have_begun o)))
+    | inl here ↦ inr (subst (λ (x : InstanceEntry). IsPast x b) (sym here.1) (new_past w h k s b holds (open_now_begun w h s b e holds o)))
     | inr there ↦ holds.begins.below.below s b e n j o there.1
   ];
 }
@@ -90,7 +85,7 @@ widened_past i b ceiling past = record { last = past.last; settled = λ r t c ke
 past_now : (w : State) (h : List Item) (k : Extended w) (s b e : ℕ) → Holds w h → OpenAt w.clients s b e → IsPast k.i b
 past_now w h k s b e holds o = elim (holds.begins.below.below s b e k.node k.i o k.at) [
   | inl all ↦
-      let last : b ≤ k.i.last = begun_below_last w.nodes w.master h k.node k.i s b holds.numbers.ranges holds.numbers.drawn holds.numbers.begun k.at (sym k.own) (open_was_begun w.clients h s b e holds.requests.have_begun o) in
+      let last : b ≤ k.i.last = begun_below_last w.nodes w.master h k.node k.i s b holds.numbers.ranges holds.numbers.drawn holds.numbers.begun k.at (sym k.own) (open_now_begun w h s b e holds o) in
       absurd (omega (arith, all, last, holds.numbers.ranges.within k.node k.i k.at, holds.requests.opened.above s b e o))
   | inr past ↦ past
 ]

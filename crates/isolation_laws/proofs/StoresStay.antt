@@ -1,5 +1,5 @@
 -- Marks stay in the commit table, and rows that have a shadow of a placed commit keep it.
-use Rattle.std.proofs.Common.{◌≡◌, ◌≢◌, ℕ, zero, suc, ◌<◌, Bool, true, false, cond, if◌then◌else◌, IsTrue, List, [], ◌∷◌, ◌++◌, Option, Some, None, ◌⊎◌, inl, inr, refl, sym, ◌∙◌, ap, subst, arith}
+use Rattle.std.proofs.Common.{◌≡◌, ◌≢◌, ℕ, Bool, true, false, cond, if◌then◌else◌, IsTrue, List, [], ◌∷◌, Option, Some, None, ◌⊎◌, inl, inr, refl, sym, ◌∙◌, ap, subst, arith}
 use Rattle.std.specs.Ordering.{nat_cmp, eq_by_cmp}
 use Rattle.std.specs.FinMap.{get-insert, get-remove}
 use Rattle.std.specs.Cmp.{nat_cmp_total}
@@ -10,9 +10,8 @@ use Rattle.stamp_base.specs.declared.stores.Mark.{Mark}
 use Rattle.stamp_base.specs.declared.stores.Mark.TheVariants.{Committed as CommittedMark, Invalid as InvalidMark}
 use Rattle.history_book.specs.Isolation.{Committed, Stamped}
 use Rattle.history_book.specs.declared.item.Item.{Item}
-use Rattle.store_parts.specs.declared.rows.Cell.{Cell}
-use Rattle.store_parts.specs.Rows.{Row, looked, put_row, with_shadow, without_bare, shadowed, AreOrdered}
-use Rattle.store_parts.specs.Pairs.{Pairs, mark_of, put_pair, put_over, without_committed, removed_from}
+use Rattle.store_parts.specs.Rows.{Row, looked, put_row, with_shadow, without_bare, shadowed}
+use Rattle.store_parts.specs.Pairs.{Pairs, mark_of, put_pair, put_over, removed_from}
 use Rattle.store_parts.proofs.RowLaws.{looked-put_other, looked-shadow_other, looked-shadow_same, looked-without_other}
 use Rattle.store_parts.proofs.RowVersions.{without_bare_shadowed}
 use Rattle.client_parts.specs.declared.asks.Ask.{Ask}
@@ -22,17 +21,20 @@ use Rattle.client_parts.specs.declared.session.State.TheVariants as phase
 use Rattle.client_parts.specs.SessionSteps.{has_transaction}
 use Rattle.client_parts.specs.Completion.{finish_asks, undo_asks, first_ask}
 use Rattle.client_parts.specs.Sweep.{Sweeping, SweepPoint, Table, Marking, Listing, Left, Undecided, sweep_ask, sweep_ask_at}
-use Rattle.machine.specs.State.{Completes, State}
+use Rattle.machine.specs.State.{State}
 use Rattle.machine.specs.StoreSteps.{rows_after, pairs_after}
 use Rattle.isolation_laws.specs.Words.{Marked}
-use Rattle.isolation_laws.specs.UnderWay.{HasShadow, IsFinish, IsSweptAt}
+use Rattle.isolation_laws.specs.UnderWay.{HasShadow, IsSweptAt}
 use Rattle.isolation_laws.specs.Holds.{Holds}
-use Rattle.isolation_laws.proofs.Outcomes.{MayHaveMarked, CompletedOne, SweptOne, SweepFailed}
+use Rattle.isolation_laws.proofs.Outcomes.{MayHaveMarked, CompletedOne}
 use Rattle.isolation_laws.proofs.Owners.{one_commit}
 
 -- ---- the table
 abbrev pub MarksStay : Pairs → Pairs → Type 0
 MarksStay old new = (u : ℕ) → Marked old u → Marked new u
+
+pub marks_same : (pairs : Pairs) → MarksStay pairs pairs
+marks_same pairs u marked = marked
 
 -- what a look finds of another transaction
 eq_apart : (u t : ℕ) → u ≢ t → eq_by_cmp nat_cmp u t ≡ false
@@ -54,7 +56,7 @@ marks_over pairs t u mark None is marked = elim (cases_eq u t) [
 pub marks_put : (pairs : Pairs) (t : ℕ) (mark : Mark) → MarksStay pairs (put_pair pairs t mark)
 marks_put pairs t mark u marked = marks_over pairs t u mark (mark_of pairs t) refl marked
 
-committed_not_invalid : (c : ℕ) → Some (CommittedMark c) ≡ Some InvalidMark → ⊥
+pub committed_not_invalid : (c : ℕ) → Some (CommittedMark c) ≡ Some InvalidMark → ⊥
 committed_not_invalid c same = cc
 
 marks_removed : (pairs : Pairs) (t u : ℕ) (there : Option Mark) → mark_of pairs t ≡ there → Marked pairs u → Marked (removed_from pairs t there) u

@@ -10,7 +10,8 @@ use Rattle.isolation_laws.proofs.Calm.{calm_quiet}
 use Rattle.isolation_laws.proofs.SessionMoves.{under_way_same}
 use Rattle.isolation_laws.proofs.CellsKept.{calm_drew}
 use Rattle.isolation_laws.proofs.UnderWayOfRequests.{under_way_crashed, under_way_asked_begin, under_way_asked_commit, under_way_ended, under_way_placed, under_way_answered_begin, under_way_answered_commit}
-use Rattle.isolation_laws.proofs.UnderWayOfSessions.{under_way_read_only, under_way_aborted, under_way_vanished, under_way_healed, under_way_fetched, under_way_dropped, under_way_read, under_way_outcome, under_way_outcome_failed}
+use Rattle.isolation_laws.proofs.UnderWayOfSessions.{under_way_read_only, under_way_aborted, under_way_vanished, under_way_healed, under_way_fetched, under_way_dropped, under_way_read}
+use Rattle.isolation_laws.proofs.UnderWayOfOutcomes.{under_way_outcome, under_way_outcome_failed}
 use Rattle.isolation_laws.proofs.UnderWayOfCompletions.{under_way_completed}
 use Rattle.isolation_laws.proofs.UnderWayOfSweeps.{under_way_sweep_opened, under_way_swept, under_way_sweep_listed, under_way_sweep_failed}
 use Rattle.isolation_laws.proofs.WritesKept.{under_way_wrote, under_way_write_failed}

@@ -1,28 +1,24 @@
 -- What is under way where a completion makes a step.
-use Rattle.std.proofs.Common.{◌≡◌, ◌≢◌, ℕ, if◌then◌else◌, Bool, true, false, IsTrue, List, [], ◌∷◌, ◌++◌, Option, Some, None, ◌⊎◌, inl, inr, refl, sym, ◌∙◌, ap, subst, arith}
-use Rattle.std.specs.Prelude.{slice_get, slice_set}
-use Rattle.std.proofs.lemmas.Option.{same_Some, none-some}
-use Rattle.history_book.specs.Isolation.{Committed}
+use Rattle.std.proofs.Common.{◌≡◌, ℕ, if◌then◌else◌, Bool, true, false, List, [], ◌∷◌, ◌++◌, inl, inr, refl, sym, ◌∙◌, ap, subst}
 use Rattle.history_book.specs.declared.item.Item.{Item}
 use Rattle.store_parts.specs.Rows.{Row}
 use Rattle.store_parts.specs.Pairs.{Pairs}
 use Rattle.client_parts.specs.declared.asks.Ask.{Ask}
-use Rattle.client_parts.specs.declared.asks.Ask.TheVariants as ask
 use Rattle.client_parts.specs.declared.session.State.TheVariants as phase
 use Rattle.client_parts.specs.Completion.{undo_asks}
 use Rattle.client_parts.specs.Resolve.{Settling}
 use Rattle.machine.specs.State.{Settles, Completes, Client, State}
-use Rattle.machine.specs.Clients.{client_freed}
 use Rattle.machine.specs.StoreSteps.{rows_after, pairs_after}
 use Rattle.machine.specs.Events.Step.{after_asks}
-use Rattle.isolation_laws.specs.Words.{ClientAt, Begun, Marked}
-use Rattle.isolation_laws.specs.UnderWay.{IsFinish, IsUndo, UnderWayFacts}
+use Rattle.isolation_laws.specs.Words.{Marked}
+use Rattle.isolation_laws.specs.UnderWay.{IsUndo, UnderWayFacts}
 use Rattle.isolation_laws.specs.Holds.{Holds}
 use Rattle.isolation_laws.proofs.Outcomes.{CompletedOne, completed_state}
 use Rattle.isolation_laws.proofs.Calm.{calm_same, calm_quiet}
 use Rattle.isolation_laws.proofs.Works.{Works, Finishes, KeepsPlaced}
 use Rattle.isolation_laws.proofs.ClientWorks.{works_freed}
-use Rattle.isolation_laws.proofs.StoreMoves.{AskFits, keeps_same, keeps_stepped, marks_stepped, finish_fits, finish_next, undo_first}
+use Rattle.isolation_laws.proofs.StoreMoves.{AskFits, keeps_same, keeps_stepped, marks_stepped}
+use Rattle.isolation_laws.proofs.CompletionSteps.{finish_fits, finish_next, undo_first}
 use Rattle.isolation_laws.proofs.SessionMoves.{work_of, start_of, completing_not_live, under_way_moved}
 
 -- ---- what the ask needs
@@ -87,9 +83,6 @@ works_after_asks w h c asked (a ∷ more) undo holds is busy work = works_next w
 -- ---- the step, which may have failed with effect or without
 abbrev rows_if : Bool → Ask → List Row → List Row
 rows_if applied asked rows = if applied then rows_after asked rows else rows
-
-abbrev pairs_if : Bool → Ask → Pairs → Pairs
-pairs_if applied asked pairs = if applied then pairs_after asked pairs else pairs
 
 left_works : (w : State) (h : List Item) (k : CompletedOne w) → Holds w h → Works (rows_if k.applied k.asked w.rows) h k.left
 left_works w h k holds = elim k.left_is [

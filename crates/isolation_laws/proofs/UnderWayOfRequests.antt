@@ -1,19 +1,16 @@
 -- What is under way where a request is asked, is over, or is answered, and where a commit is placed.
-use Rattle.std.proofs.Common.{◌≡◌, ◌≢◌, ℕ, Bool, true, false, IsTrue, List, [], ◌∷◌, ◌++◌, append_assoc, Option, Some, None, ◌⊎◌, inl, inr, refl, sym, ◌∙◌, ap, subst, arith}
-use Rattle.std.specs.Prelude.{slice_get, slice_set, slice_index_or}
-use Rattle.std.proofs.lemmas.Option.{same_Some, none-some}
+use Rattle.std.proofs.Common.{◌≡◌, ℕ, true, IsTrue, List, [], ◌∷◌, ◌++◌, append_assoc, Some, ◌⊎◌, inl, inr, refl, sym, ◌∙◌, ap, subst}
+use Rattle.std.proofs.lemmas.Option.{same_Some}
 use Rattle.stamp_base.specs.declared.stores.Mark.TheVariants.{Committed as CommittedMark, Invalid as InvalidMark}
 use Rattle.history_book.specs.Isolation.{Committed, last_write}
 use Rattle.history_book.specs.declared.item.Item.{Item}
 use Rattle.history_book.specs.declared.item.Item.TheVariants.{AskBegin, Begin as BeginItem, Placed}
 use Rattle.store_parts.specs.Rows.{Row}
-use Rattle.store_parts.specs.Pairs.{put_pair}
 use Rattle.store_parts.proofs.PairLaws.{entry_stays-put_pair}
 use Rattle.client_parts.specs.declared.session.State.{State as SessionState}
 use Rattle.client_parts.specs.declared.session.State.TheVariants as phase
 use Rattle.client_parts.specs.SessionSteps.{has_transaction}
 use Rattle.oracle_parts.specs.declared.instance.Held.{Held}
-use Rattle.oracle_parts.specs.declared.instance.Progress.{Progress}
 use Rattle.oracle_parts.specs.declared.instance.Progress.TheVariants as progress
 use Rattle.oracle_parts.specs.declared.instance.Request.{Request}
 use Rattle.oracle_parts.specs.declared.instance.Request.TheVariants.{Begin, Commit}
@@ -21,10 +18,10 @@ use Rattle.oracle_parts.specs.declared.instance.Settled.{Settled}
 use Rattle.oracle_parts.specs.declared.instance.Settled.TheVariants as how
 use Rattle.oracle_parts.specs.Instance.{InstanceEntry, held_of, session_of}
 use Rattle.machine.specs.State.{Client, State}
-use Rattle.machine.specs.Clients.{client_begun, client_asked, client_freed, client_aborted, client_committed, client_opened, unless_gone, after_refusal}
-use Rattle.machine.specs.Events.Crash.{after_loss, crashed_clients}
-use Rattle.isolation_laws.specs.Words.{InstanceAt, HeldBy, ClientAt, Begun}
-use Rattle.isolation_laws.specs.Pending.{Waits, Taken, InFlight, Pending, IsPending}
+use Rattle.machine.specs.Clients.{client_begun, client_asked, client_freed, client_aborted, client_opened, unless_gone, after_refusal}
+use Rattle.machine.specs.Events.Crash.{after_loss}
+use Rattle.isolation_laws.specs.Words.{InstanceAt, ClientAt, Begun}
+use Rattle.isolation_laws.specs.Pending.{Waits, Taken, IsPending}
 use Rattle.isolation_laws.specs.Requests.{WaitsFor, IsSettled}
 use Rattle.isolation_laws.specs.Quiet.{AllQuiet}
 use Rattle.isolation_laws.specs.UnderWay.{UnderWayFacts}
@@ -38,7 +35,7 @@ use Rattle.isolation_laws.proofs.NumbersKept.{in_flight_of, drawn_pending}
 use Rattle.isolation_laws.proofs.RequestsOfSettled.{Places, places}
 use Rattle.isolation_laws.proofs.Calm.{Calm, calm_same, calm_quiet, calm_push, last_write-other}
 use Rattle.isolation_laws.proofs.CellsMove.{IsPlacing}
-use Rattle.isolation_laws.proofs.Works.{Works, AllWork, all_work, under_way, KeepsPlaced, works_on, sweeping_on}
+use Rattle.isolation_laws.proofs.Works.{Works, AllWork, under_way, KeepsPlaced, works_on, sweeping_on}
 use Rattle.isolation_laws.proofs.ClientWorks.{works_freed, works_opened, works_begun, works_asked, works_aborted, works_committed, works_unless}
 use Rattle.isolation_laws.proofs.StoreMoves.{keeps_same}
 use Rattle.isolation_laws.proofs.SessionMoves.{work_of, start_of, under_way_calm, under_way_client}
@@ -94,15 +91,15 @@ ended_pending w h k s t keys holds is =
     let own : k.held.request ≡ Commit k.session t keys = own_request w h k.node k.session s t keys k.i k.held holds k.at k.has is in
     elim k.undrawn [
       | inl asked ↦ record {
-          coming = record { session = k.session; node = k.node; term = k.i.term; start = t; keys = keys; stage = Waits };
-          pending = record { instance_of = k.i; progress_of = progress.Asked; at = k.at; held = record { held = k.held; has = k.has; asks = own; stands = asked }; term_is = refl; stage_is = refl };
-          start_is = refl;
-        }
+        coming = record { session = k.session; node = k.node; term = k.i.term; start = t; keys = keys; stage = Waits };
+        pending = record { instance_of = k.i; progress_of = progress.Asked; at = k.at; held = record { held = k.held; has = k.has; asks = own; stands = asked }; term_is = refl; stage_is = refl };
+        start_is = refl;
+      }
       | inr accepted ↦ record {
-          coming = record { session = k.session; node = k.node; term = k.i.term; start = t; keys = keys; stage = Taken k.i.last };
-          pending = record { instance_of = k.i; progress_of = progress.Accepted; at = k.at; held = record { held = k.held; has = k.has; asks = own; stands = accepted }; term_is = refl; stage_is = refl };
-          start_is = refl;
-        }
+        coming = record { session = k.session; node = k.node; term = k.i.term; start = t; keys = keys; stage = Taken k.i.last };
+        pending = record { instance_of = k.i; progress_of = progress.Accepted; at = k.at; held = record { held = k.held; has = k.has; asks = own; stands = accepted }; term_is = refl; stage_is = refl };
+        start_is = refl;
+      }
     ]
 
 pub under_way_ended : (w : State) (h : List Item) (k : Ended w) → Holds w h → UnderWayFacts (ended_state w k).clients w.sweep w.rows w.pairs (h ++ k.items)
@@ -123,9 +120,6 @@ answered_works : (w : State) (h : List Item) (s t commit : ℕ) (by : Settled) (
 answered_works w h s t commit how.Placed c holds at is start settled = works_committed w.rows h c t commit start (holds.requests.keys.written s t c at (inr (inl is)) start) settled
 answered_works w h s t commit how.Invalid c holds at is start settled = works_aborted w.rows h c t start settled
 answered_works w h s t commit how.Faulted c holds at is start settled = works_opened w.rows h c
-
-commit_starts : (r s t u : ℕ) (keys more : List ℕ) → Commit r t keys ≡ Commit s u more → t ≡ u
-commit_starts r s t u keys more same = cc
 
 waits_commit : (request : Request) (s t : ℕ) (keys : List ℕ) (c : Client) → request ≡ Commit s t keys → WaitsFor request c → (c.entry.state ≡ phase.Gone) ⊎ ((c.entry.state ≡ phase.Committing) × (c.entry.start ≡ Some t))
 waits_commit request s t keys c is waits = subst (λ (r : Request). WaitsFor r c) is waits
@@ -171,8 +165,8 @@ under_way_placed w h k holds =
     (λ s c at. works_on w.rows w.rows h g c keeps (λ t d start is placed. elim (places_it.placed t d placed) [
       | inl old ↦ old
       | inr now ↦ elim is [
-          | inl undoes ↦ absurd (placed_elsewhere w h k.it s t c (phase.Completing true) holds at undoes refl (λ q. cc) (λ q. cc) start now.0)
-          | inr resolves ↦ absurd (placed_elsewhere w h k.it s t c phase.OpenOutcome holds at resolves refl (λ q. cc) (λ q. cc) start now.0)
-        ]
+        | inl undoes ↦ absurd (placed_elsewhere w h k.it s t c (phase.Completing true) holds at undoes refl (λ q. cc) (λ q. cc) start now.0)
+        | inr resolves ↦ absurd (placed_elsewhere w h k.it s t c phase.OpenOutcome holds at resolves refl (λ q. cc) (λ q. cc) start now.0)
+      ]
     ]) (work_of w h s c holds at))
     (sweeping_on w.sweep w.rows w.rows w.pairs (placed_state w k).pairs h g keeps (λ t marked. entry_stays-put_pair w.pairs k.it.start t (CommittedMark k.it.commit) InvalidMark marked) holds.under_way.sweeping)

@@ -1,12 +1,11 @@
 -- What is under way where a sweep is opened, makes a step, lists the keys or fails.
-use Rattle.std.proofs.Common.{◌≡◌, ◌≢◌, ℕ, ◌==◌, nat_lt, if◌then◌else◌, Bool, true, false, List, [], ◌∷◌, ◌++◌, drop, Option, Some, None, ◌⊎◌, inl, inr, refl, sym, ◌∙◌, ap, subst, arith}
+use Rattle.std.proofs.Common.{◌≡◌, ℕ, ◌==◌, nat_lt, List, [], ◌∷◌, ◌++◌, Option, Some, None, inl, inr, refl, sym, ◌∙◌, ap, subst}
 use Rattle.std.proofs.lemmas.List.{append-nil}
 use Rattle.std.proofs.lemmas.Bool.{cases_Bool, eq-eqb}
 use Rattle.std.proofs.lemmas.Option.{same_Some, none-some}
 use Rattle.stamp_base.specs.declared.stores.Mark.{Mark}
 use Rattle.stamp_base.specs.declared.stores.Mark.TheVariants.{Committed as CommittedMark, Invalid as InvalidMark}
 use Rattle.history_book.specs.Members.{◌∈◌}
-use Rattle.history_book.specs.Isolation.{Committed, Wrote, WasListed}
 use Rattle.history_book.specs.declared.item.Actor.TheVariants.{Janitor}
 use Rattle.history_book.specs.declared.item.StoreStep.TheVariants.{Keys as KeysStep}
 use Rattle.history_book.specs.declared.item.Item.{Item}
@@ -15,25 +14,24 @@ use Rattle.history_book.proofs.MemberLemmas.{in_last}
 use Rattle.store_parts.specs.declared.rows.Cell.{Cell}
 use Rattle.store_parts.specs.Rows.{Row, looked, keys_of_version}
 use Rattle.store_parts.specs.Pairs.{Pairs, mark_of, put_pair}
-use Rattle.store_parts.proofs.RowLaws.{is_row-cases, looked-past}
+use Rattle.store_parts.proofs.RowLaws.{is_row-cases}
 use Rattle.store_parts.proofs.PairLaws.{entry_or, mark_of-put_pair}
 use Rattle.client_parts.specs.declared.asks.Ask.{Ask}
 use Rattle.client_parts.specs.declared.asks.Ask.TheVariants as ask
-use Rattle.client_parts.specs.declared.asks.Told.{Told}
-use Rattle.client_parts.specs.Completion.{undo_asks, first_ask}
+use Rattle.client_parts.specs.Completion.{first_ask}
 use Rattle.client_parts.specs.Sweep.{SweepPoint, Table, Marking, Listing, Left, Undecided, Sweeping, sweep_open, sweep_ask, sweep_ask_at, sweep_after_table, sweep_after_marking, sweep_point_after, sweep_told, sweep_point_listed, sweep_listed}
 use Rattle.machine.specs.State.{State}
 use Rattle.machine.specs.StoreSteps.{rows_after, pairs_after, told_entry, told_mark, told_by}
 use Rattle.machine.specs.Events.SweepStep.{still_open, sweep_left}
-use Rattle.isolation_laws.specs.Words.{Marked}
-use Rattle.isolation_laws.specs.UnderWay.{IsFinish, IsSweptAt, IsSweeping, UnderWayFacts}
+use Rattle.isolation_laws.specs.UnderWay.{IsSweptAt, IsSweeping, UnderWayFacts}
 use Rattle.isolation_laws.specs.Holds.{Holds}
 use Rattle.isolation_laws.proofs.Outcomes.{SweepOpened, sweep_opened_state, SweptOne, swept_state, SweepListed, sweep_listed_state, sweep_listed_items, SweepFailed, sweep_failed_state}
-use Rattle.isolation_laws.proofs.Calm.{Calm, calm_same, calm_quiet, calm_push, listed_goes_on}
-use Rattle.isolation_laws.proofs.Works.{AllWork, all_work, under_way, KeepsPlaced, finish_on, swept_at_on, sweeping_none, work_on}
-use Rattle.isolation_laws.proofs.StoreMoves.{AskFits, keeps_same, keeps_more, keeps_stepped, marks_stepped, finish_next, undo_first, sweep_fits, placed_row}
+use Rattle.isolation_laws.proofs.Calm.{Calm, calm_same, calm_quiet, calm_push}
+use Rattle.isolation_laws.proofs.Works.{AllWork, all_work, under_way, KeepsPlaced, swept_at_on, sweeping_none, work_on}
+use Rattle.isolation_laws.proofs.StoreMoves.{AskFits, keeps_same, keeps_stepped, marks_stepped}
+use Rattle.isolation_laws.proofs.CompletionSteps.{finish_next, undo_first, sweep_fits, placed_row}
 use Rattle.isolation_laws.proofs.SessionMoves.{work_kept}
-use Rattle.isolation_laws.proofs.UnderWayOfCompletions.{keeps_if, marks_if}
+use Rattle.isolation_laws.proofs.UnderWayOfCompletions.{keeps_if}
 
 -- ---- a sweep is opened
 opened_knows : (rows : List Row) (pairs : Pairs) (h : List Item) (txn epoch : ℕ) → IsSweeping (Some (sweep_open txn epoch)) rows pairs h
@@ -153,14 +151,17 @@ listed_knows w h txn listed count Table holds is knows = tt
 listed_knows w h txn listed count Marking holds is knows = tt
 listed_knows w h txn listed count (Listing (CommittedMark c)) holds is knows =
     let calm : Calm h (h ++ Step Janitor (KeysStep listed count) ∷ []) = calm_listing h listed count in
-    inl (c, record {
-      left = keys_of_version w.rows listed;
-      shape = refl;
-      placed = calm.on (Placed txn c) knows;
-      covered = λ k value wrote.
-          let row = placed_row w h txn c k value holds knows (sym (calm.writes txn k) ∙ wrote) in
-          inl (subst (λ q. k ∈ keys_of_version w.rows q) (keys_same txn listed is) (key_listed w.rows k txn row.0 row.1));
-    })
+    inl (
+      c,
+      record {
+        left = keys_of_version w.rows listed;
+        shape = refl;
+        placed = calm.on (Placed txn c) knows;
+        covered = λ k value wrote.
+            let row = placed_row w h txn c k value holds knows (sym (calm.writes txn k) ∙ wrote) in
+            inl (subst (λ q. k ∈ keys_of_version w.rows q) (keys_same txn listed is) (key_listed w.rows k txn row.0 row.1));
+      },
+    )
 listed_knows w h txn listed count (Listing InvalidMark) holds is knows = inr (keys_of_version w.rows listed, refl, knows, (Janitor, count, subst (λ q. Step Janitor (KeysStep q count) ∈ (h ++ Step Janitor (KeysStep listed count) ∷ [])) (sym (keys_same txn listed is)) (in_last (Step Janitor (KeysStep listed count)) h)))
 listed_knows w h txn listed count (Left asks) holds is knows = swept_at_on w.rows w.rows w.pairs w.pairs h (h ++ Step Janitor (KeysStep listed count) ∷ []) txn (Left asks) (keeps_same w.rows h (h ++ Step Janitor (KeysStep listed count) ∷ []) (calm_listing h listed count)) (λ marked. marked) knows
 listed_knows w h txn listed count Undecided holds is knows = tt

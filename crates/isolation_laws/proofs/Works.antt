@@ -1,10 +1,9 @@
 -- What one client has under way, and that it stays right where the history goes on and rows with shadows stay.
-use Rattle.std.proofs.Common.{◌≡◌, ◌≢◌, ℕ, Bool, true, false, List, [], ◌∷◌, ◌++◌, Option, Some, None, ◌⊎◌, inl, inr, refl, sym, ◌∙◌, ap, subst, arith}
-use Rattle.std.specs.Prelude.{slice_get, slice_set}
-use Rattle.std.proofs.lemmas.Option.{same_Some, none-some}
+use Rattle.std.proofs.Common.{◌≡◌, ℕ, Bool, true, false, List, Option, Some, None, ◌⊎◌, inl, inr, sym, ◌∙◌, subst}
+use Rattle.std.specs.Prelude.{slice_set}
+use Rattle.std.proofs.lemmas.Option.{none-some}
 use Rattle.stamp_base.specs.declared.stores.Mark.TheVariants.{Committed as CommittedMark, Invalid as InvalidMark}
-use Rattle.history_book.specs.Members.{◌∈◌}
-use Rattle.history_book.specs.Isolation.{Committed, Wrote, last_write, WasListed}
+use Rattle.history_book.specs.Isolation.{Committed, last_write}
 use Rattle.history_book.specs.declared.item.Item.{Item}
 use Rattle.history_book.specs.declared.item.Item.TheVariants.{Placed}
 use Rattle.store_parts.specs.Rows.{Row}
@@ -12,14 +11,12 @@ use Rattle.store_parts.specs.Pairs.{Pairs}
 use Rattle.client_parts.specs.declared.asks.Ask.{Ask}
 use Rattle.client_parts.specs.declared.resolve.SettlePoint.{SettlePoint}
 use Rattle.client_parts.specs.declared.resolve.SettlePoint.TheVariants as point
-use Rattle.client_parts.specs.declared.session.State.{State as SessionState}
 use Rattle.client_parts.specs.declared.session.State.TheVariants as phase
-use Rattle.client_parts.specs.Completion.{finish_asks, undo_asks}
 use Rattle.client_parts.specs.Resolve.{Settling}
 use Rattle.client_parts.specs.Sweep.{SweepPoint, Table, Marking, Listing, Left, Undecided, Sweeping}
-use Rattle.machine.specs.State.{Nothing, Reads, Settles, Completes, Client}
-use Rattle.isolation_laws.specs.Words.{ClientAt, TxnAt, Marked}
-use Rattle.isolation_laws.specs.UnderWay.{HasShadow, IsFinish, AreFinishing, IsUndo, AreUndoing, IsShownAt, IsOwnResolve, AreSettling, AreHeals, IsSweptAt, IsSweeping, UnderWayFacts}
+use Rattle.machine.specs.State.{Nothing, Settles, Completes, Client}
+use Rattle.isolation_laws.specs.Words.{ClientAt, Marked}
+use Rattle.isolation_laws.specs.UnderWay.{HasShadow, IsFinish, IsUndo, IsShownAt, IsOwnResolve, IsSweptAt, IsSweeping, UnderWayFacts}
 use Rattle.isolation_laws.proofs.Lookups.{client_set}
 use Rattle.isolation_laws.proofs.CommitsInFlight.{GoesOn}
 use Rattle.isolation_laws.proofs.Calm.{listed_goes_on}

@@ -1,20 +1,17 @@
 -- The cells, the commit table and what is under way where a session writes, and where its write fails.
-use Rattle.std.proofs.Common.{◌≡◌, ◌≢◌, ℕ, List, [], ◌∷◌, ◌++◌, Option, Some, None, ◌⊎◌, inl, inr, refl, sym, ◌∙◌, ap, subst, arith}
-use Rattle.std.specs.Prelude.{slice_get, slice_set}
+use Rattle.std.proofs.Common.{◌≡◌, ℕ, List, ◌++◌, Option, Some, None, ◌⊎◌, inl, inr, refl, sym, ◌∙◌, ap, subst}
 use Rattle.std.proofs.lemmas.Option.{same_Some, none-some}
 use Rattle.history_book.specs.Isolation.{Committed, last_write}
 use Rattle.history_book.specs.declared.item.Item.{Item}
-use Rattle.history_book.specs.declared.item.Item.TheVariants.{Write}
 use Rattle.store_parts.specs.declared.rows.Cell.{Cell}
 use Rattle.store_parts.specs.Rows.{Row, looked, put_row}
-use Rattle.client_parts.specs.declared.session.State.TheVariants as phase
 use Rattle.machine.specs.State.{Client, State}
 use Rattle.machine.specs.Clients.{client_aborted}
 use Rattle.machine.specs.Events.Write.{client_wrote}
-use Rattle.isolation_laws.specs.Words.{ClientAt, Begun, cell_with}
+use Rattle.isolation_laws.specs.Words.{cell_with}
 use Rattle.isolation_laws.specs.Pending.{Live}
 use Rattle.isolation_laws.specs.Cells.{CellFacts}
-use Rattle.isolation_laws.specs.UnderWay.{HasShadow, UnderWayFacts}
+use Rattle.isolation_laws.specs.UnderWay.{UnderWayFacts}
 use Rattle.isolation_laws.specs.Holds.{Holds}
 use Rattle.isolation_laws.proofs.Lookups.{client_set}
 use Rattle.isolation_laws.proofs.Owners.{begun_once, open_not_pending}
@@ -26,7 +23,7 @@ use Rattle.isolation_laws.proofs.LiveAfter.{live_by_clients}
 use Rattle.isolation_laws.proofs.Calm.{calm_same, calm_quiet, last_write-own, last_write-elsewhere, write_places_none}
 use Rattle.isolation_laws.proofs.CellsStay.{cells_calm}
 use Rattle.isolation_laws.proofs.CellsMove.{put_cases, IsWrite, cells_put}
-use Rattle.isolation_laws.proofs.Works.{Works, all_work, under_way, work_set, KeepsPlaced, work_on, sweeping_on}
+use Rattle.isolation_laws.proofs.Works.{all_work, under_way, work_set, KeepsPlaced, work_on, sweeping_on}
 use Rattle.isolation_laws.proofs.ClientWorks.{works_aborted, plain_open, works_plain}
 use Rattle.isolation_laws.proofs.StoreMoves.{keeps_same}
 use Rattle.isolation_laws.proofs.SessionMoves.{begun_by, open_is, unplaced_of, open_settles_none, under_way_moved}
@@ -78,8 +75,8 @@ under_way_wrote w h k holds =
     let keeps : KeepsPlaced w.rows (wrote_state w k).rows h g = keeps_put w h g k.key k.start k.value writes (unplaced_of w h k.it.session k.start k.it.c holds k.it.client_at k.it.is_open k.start_is) (bare_row_of w h k.it k.start k.key holds k.start_is) in
     under_way (wrote_state w k).clients w.sweep (wrote_state w k).rows w.pairs g
     (work_set w.clients (wrote_state w k).rows g k.it.session (client_wrote k.it.c k.key)
-      (works_plain (wrote_state w k).rows g (client_wrote k.it.c k.key) (plain_open (client_wrote k.it.c k.key) k.it.is_open) (λ x busy. open_settles_none w h k.it.session k.it.c holds k.it.client_at k.it.is_open x busy) (λ j t d offer. absurd (none-some (j, t, d) offer)))
-      (work_on w.clients w.rows (wrote_state w k).rows h g keeps writes.placed (all_work w.clients w.sweep w.rows w.pairs h holds.under_way)))
+    (works_plain (wrote_state w k).rows g (client_wrote k.it.c k.key) (plain_open (client_wrote k.it.c k.key) k.it.is_open) (λ x busy. open_settles_none w h k.it.session k.it.c holds k.it.client_at k.it.is_open x busy) (λ j t d offer. absurd (none-some (j, t, d) offer)))
+    (work_on w.clients w.rows (wrote_state w k).rows h g keeps writes.placed (all_work w.clients w.sweep w.rows w.pairs h holds.under_way)))
     (sweeping_on w.sweep w.rows (wrote_state w k).rows w.pairs w.pairs h g keeps (λ t marked. marked) holds.under_way.sweeping)
 
 -- ---- a write that failed: its transaction is over
@@ -101,13 +98,13 @@ failed_cells w h k rows (inl same) holds = subst (λ (rs : List Row). CellFacts 
     (cells_calm w.clients (write_failed_state w k).clients w.nodes w.nodes w.rows w.pairs h h (λ t live. inl (live_by_clients w.clients (write_failed_state w k).clients w.nodes (fewer_open_write_failed w k) t live)) (calm_same h) holds.cells)
 failed_cells w h k rows (inr put) holds = subst (λ (rs : List Row). CellFacts (write_failed_state w k).clients w.nodes rs w.pairs h) (sym put)
     (cells_put w.clients (write_failed_state w k).clients w.nodes w.nodes w.rows w.pairs h h k.it.session k.key k.start k.value
-      (live_by_clients w.clients (write_failed_state w k).clients w.nodes (fewer_open_write_failed w k))
-      (unwritten h k.key k.start)
-      (begun_by w h k.it.session k.start k.it.c holds k.it.client_at k.it.is_open k.start_is)
-      (unplaced_of w h k.it.session k.start k.it.c holds k.it.client_at k.it.is_open k.start_is)
-      (bare_row_of w h k.it k.start k.key holds k.start_is)
-      (λ live. absurd (failed_not_live w h k holds live))
-      holds.cells)
+    (live_by_clients w.clients (write_failed_state w k).clients w.nodes (fewer_open_write_failed w k))
+    (unwritten h k.key k.start)
+    (begun_by w h k.it.session k.start k.it.c holds k.it.client_at k.it.is_open k.start_is)
+    (unplaced_of w h k.it.session k.start k.it.c holds k.it.client_at k.it.is_open k.start_is)
+    (bare_row_of w h k.it k.start k.key holds k.start_is)
+    (λ live. absurd (failed_not_live w h k holds live))
+    holds.cells)
 
 pub cells_write_failed : (w : State) (h : List Item) (k : WriteFailed w) → Holds w h → CellFacts (write_failed_state w k).clients w.nodes k.rows w.pairs (h ++ k.items)
 cells_write_failed w h k holds = cells_calm (write_failed_state w k).clients (write_failed_state w k).clients w.nodes w.nodes k.rows w.pairs h (h ++ k.items) (λ t live. inl live) (calm_quiet h k.items k.quiet) (failed_cells w h k k.rows k.rows_are holds)
