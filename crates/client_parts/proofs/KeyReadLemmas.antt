@@ -1,4 +1,4 @@
--- Public laws, which the proofs of crates above cite: what a read passes over, and how soon it ends.
+-- What a read passes over, and how soon it ends.
 use Rattle.std.proofs.Common.{rules, ◌≡◌, ◌⊎◌, ℕ, ◌+◌, ◌*◌, ◌<◌, ◌≤◌, ◌==◌, nat_lt, Bool, true, false, ◌||◌, cond, is_some, List, [], ◌∷◌, ◌++◌, Option, None, Some, length, All, refl, ap, arith, inl, inr}
 use Rattle.std.specs.List.{take_while}
 use Rattle.std.proofs.lemmas.List.Sums.{take_while-cons}

@@ -1,4 +1,4 @@
 pub mod CompletionLemmas
 pub mod CutReadLemmas
-pub mod KeyReadLemmas
+mod KeyReadLemmas
 pub mod WriteListLemmas
