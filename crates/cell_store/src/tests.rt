@@ -1,13 +1,12 @@
-// Each call under each fate, and a key with some hundred versions.
+// Each call where it works and where it fails, and a key with some hundred versions.
 ghost use Rattle.std.specs.Prelude.{◌≡◌};
 ghost use Rattle.cell_store.specs.Calls.{looked};
 
 use crate::{Cell, Cells, StoreError, StoreFault};
 use port_io::{CalmWeather, Fate, OneFate};
 use stamp_base::{KeyNo, Stamp, Value};
+use std::alloc::Global;
 use std::test::Fail;
-
-const FATES: [Fate; 3] = [Fate::Works, Fate::FailsUnchanged, Fate::FailsApplied];
 
 fn stamp(number: u64) -> Result<Stamp, &'static str> {
     Stamp::new(number).ok_or("a stamp")
@@ -66,105 +65,83 @@ fn set_shadow(
 }
 
 #[test]
-fn changes_under_each_fate(rt: HostRuntime) -> Result<(), Fail> {
-    let (k, v, c) = (KeyNo::LAST, stamp(Stamp::GREATEST)?, stamp(5)?);
-    let (old, new) = (value(b"old")?, value(b"new")?);
-    for fate in FATES {
-        let applies = fate != Fate::FailsUnchanged;
-        let works = fate == Fate::Works;
-        let told = if works {
-            Ok(())
-        } else {
-            Err(StoreError::StoreFault)
-        };
-        let faulted = if works { Ok(()) } else { Err(StoreFault) };
-        let mut cells = Cells::new(rt.alloc());
-
-        assert_eq!(rt; put(&mut cells, fate, k, v, old), Some(told));
-        assert_eq!(rt; cell_at(&cells, k, v).is_some(), applies);
-
-        put(&mut cells, Fate::Works, k, v, old).ok_or("a shadow")??;
-        assert_eq!(rt; put(&mut cells, fate, k, v, new), Some(told));
-        let there = cell_at(&cells, k, v).ok_or("no cell")?;
-        assert_eq!(rt; there.value, if applies { new } else { old });
-        assert_eq!(rt; there.shadow, None);
-
-        let removed = cells.remove_bare(&mut OneFate::new(fate), k, v);
-        assert_eq!(rt; removed, faulted);
-        assert_eq!(rt; cell_at(&cells, k, v).is_some(), !applies);
-
-        put(&mut cells, Fate::Works, k, v, old).ok_or("a shadow")??;
-        assert_eq!(rt; set_shadow(&mut cells, fate, k, v, c), Some(faulted));
-        let there = cell_at(&cells, k, v).ok_or("no cell")?;
-        assert_eq!(rt; there.shadow, if applies { Some(c) } else { None });
-    }
-    Ok(())
-}
-
-#[test]
-fn answers_under_each_fate(rt: HostRuntime) -> Result<(), Fail> {
-    let (k, v) = (KeyNo::FIRST, stamp(1)?);
+fn each_call_works(rt: HostRuntime) -> Result<(), Fail> {
+    let (key, version, commit) = (KeyNo::LAST, stamp(1)?, stamp(Stamp::GREATEST)?);
+    let mut calm = CalmWeather::new();
     let mut cells = Cells::new(rt.alloc());
-    put(&mut cells, Fate::Works, k, v, value(b"x")?).ok_or("a shadow")??;
-    for fate in FATES {
-        let works = fate == Fate::Works;
-        let mut weather = OneFate::new(fate);
-        assert_eq!(rt; cells.look(&mut weather, k, v).is_ok(), works);
-        assert_eq!(rt; cells.newest(&mut weather, k, v).is_ok(), works);
-        assert_eq!(rt; cells.fetch(&mut weather, k, v).is_ok(), works);
-        assert_eq!(rt; cells.fetch_front(&mut weather, k, v).is_ok(), works);
-        assert_eq!(rt; cells.keys_of(&mut weather, v).is_ok(), works);
-    }
-    Ok(())
-}
-
-// Versions 200, 199, and so on down to 1 of one key, of which those that 10 divides are committed 5 later.
-#[test]
-fn versions_of_one_key(rt: HostRuntime) -> Result<(), Fail> {
-    let key = KeyNo::new(7).ok_or("a key")?;
-    let mut cells = Cells::new(rt.alloc());
-    for number in (1..201u64).rev() {
-        let version = stamp(number)?;
-        put(&mut cells, Fate::Works, key, version, value(b"x")?).ok_or("a shadow")??;
-        if number % 10 == 0 {
-            set_shadow(&mut cells, Fate::Works, key, version, stamp(number + 5)?).ok_or(
-                "a shadow",
-            )??;
-        }
-    }
-    let mut calm = OneFate::new(Fate::Works);
-    // Up to 43, the first with a shadow below 43 is 30, since 40 was committed at 45.
-    for (start, versions, last) in [
-        (1, 1, 1),
-        (10, 10, 1),
-        (15, 15, 1),
-        (16, 16, 10),
-        (43, 43, 30),
-        (500, 200, 200),
-    ] {
-        let front = cells.fetch_front(&mut calm, key, stamp(start)?)?;
-        let newest = cells.newest(&mut calm, key, stamp(start)?)?;
-        assert_eq!(rt; front.versions, versions, "up to {start}");
-        assert_eq!(rt;
-            front.cells.len() as u64,
-            versions - last + 1,
-            "up to {start}"
-        );
-        assert_eq!(rt; front.cells.first().copied(), newest, "up to {start}");
-        assert_eq!(rt;
-            newest.map(|cell| cell.version.value()),
-            Some(versions),
-            "up to {start}"
-        );
-    }
-    let whole = cells.fetch(&mut calm, key, stamp(43)?)?;
-    assert_eq!(rt; whole.len(), 43);
-    assert_eq!(rt; whole.last().map(|cell| cell.version.value()), Some(1));
-    // The version's keys: one, and none above the last version.
+    put(&mut cells, Fate::Works, key, version, value(b"old")?).ok_or("a shadow")??;
+    put(&mut cells, Fate::Works, key, version, value(b"new")?).ok_or("a shadow")??;
+    set_shadow(&mut cells, Fate::Works, key, version, commit).ok_or("a shadow")??;
+    cells.remove_bare(&mut calm, key, version)?;
+    let cell = Some(Cell {
+        version,
+        value: value(b"new")?,
+        shadow: Some(commit),
+    });
+    assert_eq!(rt; cell_at(&cells, key, version), cell);
+    assert_eq!(rt; cells.newest(&mut calm, key, commit)?, cell);
+    assert_eq!(rt; cells.fetch(&mut calm, key, commit)?.first().copied(), cell);
     assert_eq!(rt;
-        cells.keys_of(&mut calm, stamp(200)?)?.as_slice(),
+        cells.keys_of(&mut calm, version)?.as_slice(),
         [key].as_slice()
     );
-    assert_eq!(rt; cells.keys_of(&mut calm, stamp(201)?)?.len(), 0);
+    Ok(())
+}
+
+#[test]
+fn each_call_fails(rt: HostRuntime) -> Result<(), Fail> {
+    let (key, version) = (KeyNo::FIRST, stamp(3)?);
+    let mut weather = OneFate::new(Fate::FailsApplied);
+    let mut cells = Cells::new(rt.alloc());
+    let told = put(&mut cells, Fate::FailsApplied, key, version, value(b"x")?);
+    assert_eq!(rt; told, Some(Err(StoreError::StoreFault)));
+    let told = set_shadow(&mut cells, Fate::FailsUnchanged, key, version, version);
+    assert_eq!(rt; told, Some(Err(StoreFault)));
+    assert_eq!(rt;
+        cell_at(&cells, key, version).is_some_and(|cell| cell.shadow.is_none()),
+        true
+    );
+    assert_eq!(rt; cells.look(&mut weather, key, version), Err(StoreFault));
+    assert_eq!(rt; cells.newest(&mut weather, key, version), Err(StoreFault));
+    assert_eq!(rt; cells.fetch(&mut weather, key, version).is_ok(), false);
+    assert_eq!(rt;
+        cells.fetch_front(&mut weather, key, version).is_ok(),
+        false
+    );
+    assert_eq!(rt; cells.keys_of(&mut weather, version).is_ok(), false);
+    assert_eq!(rt;
+        cells.remove_bare(&mut weather, key, version),
+        Err(StoreFault)
+    );
+    assert_eq!(rt; cell_at(&cells, key, version), None);
+    Ok(())
+}
+
+/// Versions 200, 199, and so on down to 1 of the key, of which those that 10 divides are committed 5 later.
+fn two_hundred(alloc: Global, key: KeyNo) -> Result<Cells, Fail> {
+    let mut cells = Cells::new(alloc);
+    let value = value(b"x")?;
+    for number in (1..201u64).rev() {
+        let version = stamp(number)?;
+        put(&mut cells, Fate::Works, key, version, value).ok_or("a shadow")??;
+        if number % 10 == 0 {
+            let commit = stamp(number + 5)?;
+            set_shadow(&mut cells, Fate::Works, key, version, commit).ok_or("a shadow")??;
+        }
+    }
+    Ok(cells)
+}
+
+// Up to 43, the first with a shadow below 43 is 30, since 40 was committed at 45.
+#[test]
+fn fronts_of_one_key(rt: HostRuntime) -> Result<(), Fail> {
+    let key = KeyNo::new(7).ok_or("a key")?;
+    let cells = two_hundred(rt.alloc(), key)?;
+    for (start, versions, last) in [(15, 15, 1), (16, 16, 10), (43, 43, 30), (500, 200, 200)] {
+        let front = cells.fetch_front(&mut CalmWeather::new(), key, stamp(start)?)?;
+        assert_eq!(rt; front.versions, versions, "up to {start}");
+        let end = front.cells.last().map(|cell| cell.version.value());
+        assert_eq!(rt; end, Some(last), "up to {start}");
+    }
     Ok(())
 }
