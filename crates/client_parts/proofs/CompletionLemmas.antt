@@ -1,4 +1,4 @@
--- Public laws, which the proofs of crates above cite: what a completion asks, in which order, and for which keys.
+-- Public laws, for the proofs of crates above: what a completion asks, in which order, and for which keys.
 use Rattle.std.proofs.Common.{◌≡◌, ℕ, zero, suc, ◌↔◌, List, [], ◌∷◌, None, Some, length, drop, refl, ap, inl, inr}
 use Rattle.history_book.specs.Members.{◌∈◌}
 use Rattle.client_parts.specs.declared.asks.Ask.{Ask}
