@@ -52,9 +52,9 @@ ReadsNothing c = (r : Reading) → c.under_way ≡ Reads r → ⊥
 pub fewer_reading_set : (clients : List Client) (s : ℕ) (old c : Client) → ClientAt clients s old → (c ≡ old) ⊎ ReadsNothing c → FewerReading clients (slice_set clients s c)
 fewer_reading_set clients s old c at new q d r there reads = elim (client_set clients s q c d there) [
   | inl here ↦ elim new [
-      | inl same ↦ subst (λ (x : Client). ClientAt clients q x) (sym (here.1 ∙ same)) (subst (λ p. ClientAt clients p old) (sym here.0) at)
-      | inr none ↦ absurd (none r (sym (ap (λ (x : Client). x.under_way) here.1) ∙ reads))
-    ]
+    | inl same ↦ subst (λ (x : Client). ClientAt clients q x) (sym (here.1 ∙ same)) (subst (λ p. ClientAt clients p old) (sym here.0) at)
+    | inr none ↦ absurd (none r (sym (ap (λ (x : Client). x.under_way) here.1) ∙ reads))
+  ]
   | inr other ↦ other.1
 ]
 

@@ -99,8 +99,8 @@ covered_front b u [] falling covered = covered
 covered_front b u (c ∷ cs) falling covered = elim (cases_Bool (is_below b c.shadow)) [
   | inl some ↦ rw some (covered_cut b u c cs falling some covered)
   | inr none ↦ rw none (elim (covered_cases b u c cs covered) [
-      | inl here ↦ inl (among_head u c (front_of b cs) here)
-      | inr (inl later) ↦ covered_later b u c (front_of b cs) (covered_front b u cs (falls_tail c cs falling) later)
-      | inr (inr below) ↦ absurd (omega (arith, below, no_floor b c none))
-    ])
+    | inl here ↦ inl (among_head u c (front_of b cs) here)
+    | inr (inl later) ↦ covered_later b u c (front_of b cs) (covered_front b u cs (falls_tail c cs falling) later)
+    | inr (inr below) ↦ absurd (omega (arith, below, no_floor b c none))
+  ])
 ]

@@ -50,10 +50,11 @@ put_settled : (w : State) (it : AtDrawn w) (by : Settled) (pairs : Pairs) → re
 put_settled w it by pairs = ap (λ (i : InstanceEntry). record (with_post w it.node (Some i)) { pairs = pairs }) (settled_left w it by)
 
 put_placed : (w : State) (it : AtDrawn w) (by : Settled) (items : List Item) → (by ≡ how.Placed) ⊎ (by ≡ how.Faulted) → mark_of w.pairs it.start ≡ None → AllQuiet items → ComesTo w (record (with_post w it.node (Some (instance_settle it.i it.session by).left)) { pairs = put_over w.pairs it.start (CommittedMark it.commit) None }) (item.Placed it.start it.commit ∷ items)
-put_placed w it by items by_is free quiet =
-    (OfPlaced (record { it = it; free = free; by = by; by_is = by_is; items = items; quiet = quiet }),
-    put_settled w it by (put_over w.pairs it.start (CommittedMark it.commit) None) ∙ ap (λ (m : Option Mark). record (with_post w it.node (Some (moved it.i it.session it.held (progress.Settled it.commit by)))) { pairs = put_over w.pairs it.start (CommittedMark it.commit) m }) (sym free),
-    refl)
+put_placed w it by items by_is free quiet = (
+  OfPlaced (record { it = it; free = free; by = by; by_is = by_is; items = items; quiet = quiet }),
+  put_settled w it by (put_over w.pairs it.start (CommittedMark it.commit) None) ∙ ap (λ (m : Option Mark). record (with_post w it.node (Some (moved it.i it.session it.held (progress.Settled it.commit by)))) { pairs = put_over w.pairs it.start (CommittedMark it.commit) m }) (sym free),
+  refl,
+)
 
 put_unplaced : (w : State) (it : AtDrawn w) (by : Settled) (items : List Item) → (by ≡ how.Invalid) ⊎ (by ≡ how.Faulted) → AllQuiet items → ComesTo w (record (with_post w it.node (Some (instance_settle it.i it.session by).left)) { pairs = w.pairs }) items
 put_unplaced w it by items by_is quiet = (OfNotPlaced (record { it = it; by = by; by_is = by_is; items = items; quiet = quiet }), put_settled w it by w.pairs, refl)
@@ -98,44 +99,52 @@ answer_none : (w : State) (node session : ℕ) (i : InstanceEntry) (c : Client) 
 answer_none w node session i c at client_at = decide_still w node session (Some i) c (cause.NoRequest session) at client_at
 
 answer_waits : (w : State) (node session asker start : ℕ) (i : InstanceEntry) (held : Held) (c : Client) → Served w node session i held c → held.request ≡ Begin asker → held.progress ≡ progress.Drawn start → (least : Option ℕ) → least_unsettled i.requests start ≡ least → ComesBy w (answer_step w node session i c (answer_begin i session held start least) (Some (start, None)))
-answer_waits w node session asker start i held c served asks drawn None settled = (OfAnsweredBegin (record {
-  node = node;
-  session = session;
-  asker = asker;
-  start = start;
-  i = i;
-  held = held;
-  c = c;
-  at = served.at;
-  has = served.has;
-  request_is = asks;
-  drawn = drawn;
-  settled = settled;
-  client_at = served.client_at;
-}), refl, refl)
+answer_waits w node session asker start i held c served asks drawn None settled = (
+  OfAnsweredBegin (record {
+    node = node;
+    session = session;
+    asker = asker;
+    start = start;
+    i = i;
+    held = held;
+    c = c;
+    at = served.at;
+    has = served.has;
+    request_is = asks;
+    drawn = drawn;
+    settled = settled;
+    client_at = served.client_at;
+  }),
+  refl,
+  refl,
+)
 answer_waits w node session asker start i held c served asks drawn (Some commit) settled =
     still w w.seen (slice_set w.nodes node (Some (not_yet_told i session held))) _ _ (omega arith) (nodes_alike w.nodes node i (not_yet_told i session held) served.at (alike_told i session held (record held { told_not_yet = true }) served.has refl refl)) (told_quiet (was_told_not_yet i session) (item.Refused (Session session) (cause.NotYet commit)) refl) (client_back w session w.seen c (slice_set w.nodes node (Some (not_yet_told i session held))) served.client_at)
 
 answer_settled : (w : State) (node session asker start commit : ℕ) (keys : List ℕ) (by : Settled) (i : InstanceEntry) (held : Held) (c : Client) → Served w node session i held c → held.request ≡ Commit asker start keys → held.progress ≡ progress.Settled commit by → (x : Item) → Quiet x → ComesTo w (with_client (with_post w node (Some (without_request i session))) session (unless_gone c (answered_client by c commit))) (x ∷ [])
-answer_settled w node session asker start commit keys by i held c served asks settled x quiet = (OfAnsweredCommit (record {
-  node = node;
-  session = session;
-  asker = asker;
-  start = start;
-  commit = commit;
-  keys = keys;
-  by = by;
-  i = i;
-  held = held;
-  c = c;
-  at = served.at;
-  has = served.has;
-  request_is = asks;
-  settled = settled;
-  client_at = served.client_at;
-  items = x ∷ [];
-  quiet = one_quiet x quiet;
-}), refl, refl)
+answer_settled w node session asker start commit keys by i held c served asks settled x quiet = (
+  OfAnsweredCommit (record {
+    node = node;
+    session = session;
+    asker = asker;
+    start = start;
+    commit = commit;
+    keys = keys;
+    by = by;
+    i = i;
+    held = held;
+    c = c;
+    at = served.at;
+    has = served.has;
+    request_is = asks;
+    settled = settled;
+    client_at = served.client_at;
+    items = x ∷ [];
+    quiet = one_quiet x quiet;
+  }),
+  refl,
+  refl,
+)
 
 answer_held_request : (w : State) (node session : ℕ) (i : InstanceEntry) (held : Held) (c : Client) → Served w node session i held c → (request : Request) → held.request ≡ request → (p : Progress) → held.progress ≡ p → ComesBy w (answer_step w node session i c (answer_if_ready i session held request p) (stamps_by request p))
 answer_held_request w node session i held c served (Begin asker) asks (progress.Drawn start) stands = answer_waits w node session asker start i held c served asks stands (least_unsettled i.requests start) refl

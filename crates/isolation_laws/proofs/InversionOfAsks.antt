@@ -59,13 +59,17 @@ all_crashed_quiet node term (held ∷ others) (c ∷ clients) = All-append Quiet
 
 pub crash_at : (w : State) (node : ℕ) (post : Option InstanceEntry) → slice_get w.nodes node ≡ Some post → ComesBy w (for_clients w node (crash_on node post w.clients))
 crash_at w node None at = still_post w node w.seen None _ at (omega arith) (refusal_quiet (Node node) (cause.NoOracle node))
-crash_at w node (Some i) at = (OfCrashed (record {
-  node = node;
-  i = i;
-  at = at;
-  items = item.Crash node i.term ∷ all_crashed_items node i.term i.requests w.clients;
-  quiet = All-cons Quiet (item.Crash node i.term) (all_crashed_items node i.term i.requests w.clients) refl (all_crashed_quiet node i.term i.requests w.clients);
-}), refl, refl)
+crash_at w node (Some i) at = (
+  OfCrashed (record {
+    node = node;
+    i = i;
+    at = at;
+    items = item.Crash node i.term ∷ all_crashed_items node i.term i.requests w.clients;
+    quiet = All-cons Quiet (item.Crash node i.term) (all_crashed_items node i.term i.requests w.clients) refl (all_crashed_quiet node i.term i.requests w.clients);
+  }),
+  refl,
+  refl,
+)
 
 -- ---- the asks of a session
 abbrev pub for_ask : State → ℕ → ℕ → Effect (Client × Option InstanceEntry) → Step
@@ -102,29 +106,37 @@ ask_begin_at w session node c post at client_at = begin_comes w session node c p
 
 commit_slots : (w : State) (session node start : ℕ) (c : Client) (i : InstanceEntry) → InstanceAt w.nodes node i → ClientAt w.clients session c → work_refusal c.entry.state (is_reading c) ≡ None → c.entry.start ≡ Some start → c.entry.keys ≢ [] → (full : Bool) → ComesBy w (for_ask w session node (asked_by session c (item.AskCommit session node start) (asked_if i (Commit session start c.entry.keys) full) (asked_if i (Commit session start c.entry.keys) full).answer))
 commit_slots w session node start c i at client_at go begun written true = ask_still w session node (Some i) c _ at client_at (refusal_quiet (Session session) (cause.Full (in_flight i)))
-commit_slots w session node start c i at client_at go begun written false = (OfAskedCommit (record {
-  session = session;
-  node = node;
-  start = start;
-  c = c;
-  i = i;
-  client_at = client_at;
-  at = at;
-  is_open = (work_open c.entry.state (is_reading c) go).0;
-  idle = (work_open c.entry.state (is_reading c) go).1;
-  start_is = begun;
-  written = written;
-  items = item.AskCommit session node start ∷ [];
-  quiet = one_quiet (item.AskCommit session node start) refl;
-}), refl, refl)
+commit_slots w session node start c i at client_at go begun written false = (
+  OfAskedCommit (record {
+    session = session;
+    node = node;
+    start = start;
+    c = c;
+    i = i;
+    client_at = client_at;
+    at = at;
+    is_open = (work_open c.entry.state (is_reading c) go).0;
+    idle = (work_open c.entry.state (is_reading c) go).1;
+    start_is = begun;
+    written = written;
+    items = item.AskCommit session node start ∷ [];
+    quiet = one_quiet (item.AskCommit session node start) refl;
+  }),
+  refl,
+  refl,
+)
 
 commit_keys : (w : State) (session node start : ℕ) (c : Client) (post : Option InstanceEntry) → slice_get w.nodes node ≡ Some post → ClientAt w.clients session c → work_refusal c.entry.state (is_reading c) ≡ None → c.entry.start ≡ Some start → (keys : List ℕ) → c.entry.keys ≡ keys → ComesBy w (for_ask w session node (commit_of session node c start keys post))
-commit_keys w session node start c post at client_at go begun [] none = (OfEndedReadOnly (record {
-  it = open_by_work w session c client_at go;
-  none = none;
-  items = item.End session start ReadOnly ∷ [];
-  quiet = one_quiet (item.End session start ReadOnly) refl;
-}), ap (λ (nodes : List (Option InstanceEntry)). record w { nodes = nodes; clients = slice_set w.clients session (client_freed c) }) (set_same w.nodes node post at), refl)
+commit_keys w session node start c post at client_at go begun [] none = (
+  OfEndedReadOnly (record {
+    it = open_by_work w session c client_at go;
+    none = none;
+    items = item.End session start ReadOnly ∷ [];
+    quiet = one_quiet (item.End session start ReadOnly) refl;
+  }),
+  ap (λ (nodes : List (Option InstanceEntry)). record w { nodes = nodes; clients = slice_set w.clients session (client_freed c) }) (set_same w.nodes node post at),
+  refl,
+)
 commit_keys w session node start c None at client_at go begun (key ∷ keys) some = ask_still w session node None c _ at client_at (refusal_quiet (Session session) (cause.NoOracle node))
 commit_keys w session node start c (Some i) at client_at go begun (key ∷ keys) some = commit_slots w session node start c i at client_at go begun (λ none. cc) (in_flight i == i.slots)
 

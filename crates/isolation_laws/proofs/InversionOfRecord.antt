@@ -58,7 +58,6 @@ alike_stopped i why is = record {
   requests = λ s new has. (new, has, refl, refl);
 }
 
-
 -- what stands at the node was put back, beside another master record
 put_back : (w : State) (node seen : ℕ) (post : Option InstanceEntry) (master : MasterRecord) → slice_get w.nodes node ≡ Some post → record (with_post w node post) { seen = seen; master = master } ≡ record w { seen = seen; master = master }
 put_back w node seen post master at = ap (λ (nodes : List (Option InstanceEntry)). record w { seen = seen; nodes = nodes; master = master }) (set_same w.nodes node post at)
@@ -69,28 +68,36 @@ take_still : (w : State) (node reading : ℕ) (items : List Item) → slice_get 
 take_still w node reading items vacant quiet = still_post w node (max w.seen reading) None items vacant (max_at_least w.seen reading) quiet
 
 take_why : (w : State) (node reading : ℕ) (fate : Fate) → slice_get w.nodes node ≡ Some None → (why : Option TakeRefused) → take_refused (rules_of w.setup) w.master reading ≡ why → let grant : Grant = granted (rules_of w.setup) w.master reading in ComesBy w (for_record (with_reading w reading) node (take_by w.setup node reading (fated fate w.master (unless_refused why w.master (held_by node grant))) (kept_items fate why (take_item node reading grant ∷ [])) (answered fate take.StoreFault why grant)))
-take_why w node reading Works vacant None free = (OfGranted (record {
-  node = node;
-  reading = reading;
-  vacant = vacant;
-  free = free;
-  failed = false;
-  items = take_item node reading (granted (rules_of w.setup) w.master reading) ∷ [];
-  quiet = one_quiet (take_item node reading (granted (rules_of w.setup) w.master reading)) refl;
-}), refl, refl)
+take_why w node reading Works vacant None free = (
+  OfGranted (record {
+    node = node;
+    reading = reading;
+    vacant = vacant;
+    free = free;
+    failed = false;
+    items = take_item node reading (granted (rules_of w.setup) w.master reading) ∷ [];
+    quiet = one_quiet (take_item node reading (granted (rules_of w.setup) w.master reading)) refl;
+  }),
+  refl,
+  refl,
+)
 take_why w node reading Works vacant (Some take.StoreFault) free = take_still w node reading _ vacant (one_quiet (item.Fault (Node node) Master) refl)
 take_why w node reading Works vacant (Some (take.Early at until)) free = take_still w node reading _ vacant (refusal_quiet (Node node) (cause.Early at until))
 take_why w node reading Works vacant (Some (take.Spent ceiling)) free = take_still w node reading _ vacant (refusal_quiet (Node node) (cause.Spent ceiling))
 take_why w node reading FailsUnchanged vacant why free = take_still w node reading _ vacant (one_quiet (item.Fault (Node node) Master) refl)
-take_why w node reading FailsApplied vacant None free = (OfGranted (record {
-  node = node;
-  reading = reading;
-  vacant = vacant;
-  free = free;
-  failed = true;
-  items = take_item node reading (granted (rules_of w.setup) w.master reading) ∷ item.Fault (Node node) Master ∷ [];
-  quiet = two_quiet (take_item node reading (granted (rules_of w.setup) w.master reading)) (item.Fault (Node node) Master) refl refl;
-}), put_back w node (max w.seen reading) None (held_by node (granted (rules_of w.setup) w.master reading)) vacant, refl)
+take_why w node reading FailsApplied vacant None free = (
+  OfGranted (record {
+    node = node;
+    reading = reading;
+    vacant = vacant;
+    free = free;
+    failed = true;
+    items = take_item node reading (granted (rules_of w.setup) w.master reading) ∷ item.Fault (Node node) Master ∷ [];
+    quiet = two_quiet (take_item node reading (granted (rules_of w.setup) w.master reading)) (item.Fault (Node node) Master) refl refl;
+  }),
+  put_back w node (max w.seen reading) None (held_by node (granted (rules_of w.setup) w.master reading)) vacant,
+  refl,
+)
 take_why w node reading FailsApplied vacant (Some why) free = take_still w node reading _ vacant (one_quiet (item.Fault (Node node) Master) refl)
 
 pub take_at : (w : State) (node reading : ℕ) (fate : Fate) (post : Option InstanceEntry) → slice_get w.nodes node ≡ Some post → ComesBy w (for_record (with_reading w reading) node (take_on w.setup node reading fate post w.master))
@@ -111,30 +118,38 @@ renew_still : (w : State) (node reading : ℕ) (i : InstanceEntry) (items : List
 renew_still w node reading i items at quiet = still_post w node (max w.seen reading) (Some i) items at (max_at_least w.seen reading) quiet
 
 renew_why : (w : State) (node reading : ℕ) (fate : Fate) (i : InstanceEntry) → InstanceAt w.nodes node i → (why : Option RenewRefused) → renew_refused w.master i.term ≡ why → let until : ℕ = renewed_until (rules_of w.setup) w.master reading in ComesBy w (for_record (with_reading w reading) node (renew_by node reading i (fated fate w.master (unless_refused why w.master (record w.master { until = until }))) (kept_items fate why (item.Renew node reading i.term until ∷ [])) (answered fate renew.StoreFault why until)))
-renew_why w node reading Works i at None free = (OfRenewed (record {
-  node = node;
-  reading = reading;
-  i = i;
-  at = at;
-  own = renew_own w.master i.term free;
-  failed = false;
-  items = item.Renew node reading i.term (renewed_until (rules_of w.setup) w.master reading) ∷ [];
-  quiet = one_quiet (item.Renew node reading i.term (renewed_until (rules_of w.setup) w.master reading)) refl;
-}), refl, refl)
+renew_why w node reading Works i at None free = (
+  OfRenewed (record {
+    node = node;
+    reading = reading;
+    i = i;
+    at = at;
+    own = renew_own w.master i.term free;
+    failed = false;
+    items = item.Renew node reading i.term (renewed_until (rules_of w.setup) w.master reading) ∷ [];
+    quiet = one_quiet (item.Renew node reading i.term (renewed_until (rules_of w.setup) w.master reading)) refl;
+  }),
+  refl,
+  refl,
+)
 renew_why w node reading Works i at (Some renew.StoreFault) free = renew_still w node reading i _ at (one_quiet (item.Fault (Node node) Master) refl)
 renew_why w node reading Works i at (Some (renew.Replaced found)) free =
     still w (max w.seen reading) (slice_set w.nodes node (Some (instance_stopped i (cause.Replaced found)))) _ _ (max_at_least w.seen reading) (nodes_alike w.nodes node i (instance_stopped i (cause.Replaced found)) at (alike_stopped i (cause.Replaced found) tt)) (refusal_quiet (Node node) (cause.Replaced found)) refl
 renew_why w node reading FailsUnchanged i at why free = renew_still w node reading i _ at (one_quiet (item.Fault (Node node) Master) refl)
-renew_why w node reading FailsApplied i at None free = (OfRenewed (record {
-  node = node;
-  reading = reading;
-  i = i;
-  at = at;
-  own = renew_own w.master i.term free;
-  failed = true;
-  items = item.Renew node reading i.term (renewed_until (rules_of w.setup) w.master reading) ∷ item.Fault (Node node) Master ∷ [];
-  quiet = two_quiet (item.Renew node reading i.term (renewed_until (rules_of w.setup) w.master reading)) (item.Fault (Node node) Master) refl refl;
-}), put_back w node (max w.seen reading) (Some i) (record w.master { until = renewed_until (rules_of w.setup) w.master reading }) at, refl)
+renew_why w node reading FailsApplied i at None free = (
+  OfRenewed (record {
+    node = node;
+    reading = reading;
+    i = i;
+    at = at;
+    own = renew_own w.master i.term free;
+    failed = true;
+    items = item.Renew node reading i.term (renewed_until (rules_of w.setup) w.master reading) ∷ item.Fault (Node node) Master ∷ [];
+    quiet = two_quiet (item.Renew node reading i.term (renewed_until (rules_of w.setup) w.master reading)) (item.Fault (Node node) Master) refl refl;
+  }),
+  put_back w node (max w.seen reading) (Some i) (record w.master { until = renewed_until (rules_of w.setup) w.master reading }) at,
+  refl,
+)
 renew_why w node reading FailsApplied i at (Some why) free = renew_still w node reading i _ at (one_quiet (item.Fault (Node node) Master) refl)
 
 pub renew_at_post : (w : State) (node reading : ℕ) (fate : Fate) (post : Option InstanceEntry) → slice_get w.nodes node ≡ Some post → ComesBy w (for_record (with_reading w reading) node (renew_on w.setup node reading fate post w.master))
@@ -159,30 +174,38 @@ extend_stops : (w : State) (node : ℕ) (i : InstanceEntry) (why : Cause) (items
 extend_stops w node i why items at is quiet = still w w.seen (slice_set w.nodes node (Some (instance_stopped i why))) _ items (omega arith) (nodes_alike w.nodes node i (instance_stopped i why) at (alike_stopped i why is)) quiet refl
 
 extend_why : (w : State) (node : ℕ) (fate : Fate) (i : InstanceEntry) → InstanceAt w.nodes node i → (why : Option ExtendRefused) → extend_refused (rules_of w.setup) w.master i.term ≡ why → let ceiling : ℕ = w.master.ceiling + w.setup.range in ComesBy w (for_record w node (extend_by node i (fated fate w.master (unless_refused why w.master (record w.master { ceiling = ceiling }))) (kept_items fate why (item.Extend node i.term ceiling ∷ [])) (answered fate extend.StoreFault why ceiling)))
-extend_why w node Works i at None free = (OfExtended (record {
-  node = node;
-  i = i;
-  at = at;
-  own = (extend_room w i.term free).0;
-  room = (extend_room w i.term free).1;
-  failed = false;
-  items = item.Extend node i.term (w.master.ceiling + w.setup.range) ∷ [];
-  quiet = one_quiet (item.Extend node i.term (w.master.ceiling + w.setup.range)) refl;
-}), refl, refl)
+extend_why w node Works i at None free = (
+  OfExtended (record {
+    node = node;
+    i = i;
+    at = at;
+    own = (extend_room w i.term free).0;
+    room = (extend_room w i.term free).1;
+    failed = false;
+    items = item.Extend node i.term (w.master.ceiling + w.setup.range) ∷ [];
+    quiet = one_quiet (item.Extend node i.term (w.master.ceiling + w.setup.range)) refl;
+  }),
+  refl,
+  refl,
+)
 extend_why w node Works i at (Some extend.StoreFault) free = extend_still w node i _ at (one_quiet (item.Fault (Node node) Master) refl)
 extend_why w node Works i at (Some (extend.Replaced found)) free = extend_stops w node i (cause.Replaced found) _ at tt (refusal_quiet (Node node) (cause.Replaced found))
 extend_why w node Works i at (Some (extend.Spent ceiling)) free = extend_stops w node i (cause.Spent ceiling) _ at tt (refusal_quiet (Node node) (cause.Spent ceiling))
 extend_why w node FailsUnchanged i at why free = extend_still w node i _ at (one_quiet (item.Fault (Node node) Master) refl)
-extend_why w node FailsApplied i at None free = (OfExtended (record {
-  node = node;
-  i = i;
-  at = at;
-  own = (extend_room w i.term free).0;
-  room = (extend_room w i.term free).1;
-  failed = true;
-  items = item.Extend node i.term (w.master.ceiling + w.setup.range) ∷ item.Fault (Node node) Master ∷ [];
-  quiet = two_quiet (item.Extend node i.term (w.master.ceiling + w.setup.range)) (item.Fault (Node node) Master) refl refl;
-}), put_back w node w.seen (Some i) (record w.master { ceiling = w.master.ceiling + w.setup.range }) at, refl)
+extend_why w node FailsApplied i at None free = (
+  OfExtended (record {
+    node = node;
+    i = i;
+    at = at;
+    own = (extend_room w i.term free).0;
+    room = (extend_room w i.term free).1;
+    failed = true;
+    items = item.Extend node i.term (w.master.ceiling + w.setup.range) ∷ item.Fault (Node node) Master ∷ [];
+    quiet = two_quiet (item.Extend node i.term (w.master.ceiling + w.setup.range)) (item.Fault (Node node) Master) refl refl;
+  }),
+  put_back w node w.seen (Some i) (record w.master { ceiling = w.master.ceiling + w.setup.range }) at,
+  refl,
+)
 extend_why w node FailsApplied i at (Some why) free = extend_still w node i _ at (one_quiet (item.Fault (Node node) Master) refl)
 
 pub extend_at_post : (w : State) (node : ℕ) (fate : Fate) (post : Option InstanceEntry) → slice_get w.nodes node ≡ Some post → ComesBy w (for_record w node (extend_on w.setup node fate post w.master))

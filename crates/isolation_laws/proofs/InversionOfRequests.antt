@@ -43,21 +43,25 @@ at_least_max a b = omega arith
 
 -- the request is over by a refusal
 ended : (w : State) (node session seen : ℕ) (i : InstanceEntry) (held : Held) (c : Client) (why : Cause) → Served w node session i held c → (held.progress ≡ progress.Asked) ⊎ (held.progress ≡ progress.Accepted) → w.seen ≤ seen → ComesTo w (record (with_client (with_post w node (Some (without_request i session))) session (after_refusal held.request c)) { seen = seen }) (item.Refused (Session session) why ∷ [])
-ended w node session seen i held c why served undrawn up = (OfEnded (record {
-  node = node;
-  session = session;
-  i = i;
-  held = held;
-  c = c;
-  at = served.at;
-  has = served.has;
-  undrawn = undrawn;
-  client_at = served.client_at;
-  seen = seen;
-  up = up;
-  items = item.Refused (Session session) why ∷ [];
-  quiet = refusal_quiet (Session session) why;
-}), refl, refl)
+ended w node session seen i held c why served undrawn up = (
+  OfEnded (record {
+    node = node;
+    session = session;
+    i = i;
+    held = held;
+    c = c;
+    at = served.at;
+    has = served.has;
+    undrawn = undrawn;
+    client_at = served.client_at;
+    seen = seen;
+    up = up;
+    items = item.Refused (Session session) why ∷ [];
+    quiet = refusal_quiet (Session session) why;
+  }),
+  refl,
+  refl,
+)
 
 -- ---- accept
 abbrev accept_step : State → ℕ → ℕ → ℕ → Held → Client → InstanceStep (Unit {0}) → Step
@@ -78,7 +82,8 @@ epoch_cases i (Commit session start keys) = elim (old_if (nat_le start i.epoch) 
 accept_timely : (w : State) (node session reading : ℕ) (i : InstanceEntry) (held : Held) (c : Client) → Served w node session i held c → held.progress ≡ progress.Asked → w.seen ≤ reading + w.setup.skew → (in_time : Bool) → nat_lt reading i.until ≡ in_time → ComesBy w (accept_step w node session reading held c (accept_unless i session held (if in_time then epoch_refusal i held.request else Some (cause.Expired reading i.until))))
 accept_timely w node session reading i held c served asked steady false late = ended w node session (max w.seen reading) i held c (cause.Expired reading i.until) served (inl asked) (at_least_max w.seen reading)
 accept_timely w node session reading i held c served asked steady true before = elim (epoch_cases i held.request) [
-  | inl new ↦ subst (λ (f : Option Cause). ComesBy w (accept_step w node session reading held c (accept_unless i session held f))) (sym new) (OfAccepted (record {
+  | inl new ↦ subst (λ (f : Option Cause). ComesBy w (accept_step w node session reading held c (accept_unless i session held f))) (sym new) (
+    OfAccepted (record {
       node = node;
       session = session;
       reading = reading;
@@ -92,7 +97,10 @@ accept_timely w node session reading i held c served asked steady true before = 
       steady = steady;
       items = item.Accept session node i.term reading ∷ [];
       quiet = one_quiet (item.Accept session node i.term reading) refl;
-    }), client_back w session (max w.seen reading) c (slice_set w.nodes node (Some (moved i session held progress.Accepted))) served.client_at, refl)
+    }),
+    client_back w session (max w.seen reading) c (slice_set w.nodes node (Some (moved i session held progress.Accepted))) served.client_at,
+    refl,
+  )
   | inr old ↦ subst (λ (f : Option Cause). ComesBy w (accept_step w node session reading held c (accept_unless i session held f))) (sym old.1) (ended w node session (max w.seen reading) i held c (cause.OldEpoch old.0 i.epoch) served (inl asked) (at_least_max w.seen reading))
 ]
 
@@ -146,17 +154,21 @@ drawn_same node term stamp (Commit session start keys) = refl
 
 decide_room : (w : State) (node session : ℕ) (i : InstanceEntry) (held : Held) (c : Client) → Served w node session i held c → StopOf i.stop → held.progress ≡ progress.Accepted → request_verdict i.buckets held.request ≡ Free → (spent : Bool) → (i.last == i.ceiling) ≡ spent → ComesBy w (decide_step w node session held c (if spent then out_of_stamps i session held i.stop else decide_drawn i session held (i.last + 1)))
 decide_room w node session i held c served stop accepted free true full = decide_out w node session i held c served accepted i.stop stop
-decide_room w node session i held c served stop accepted free false room = (OfDrew (record {
-  node = node;
-  session = session;
-  i = i;
-  held = held;
-  at = served.at;
-  has = served.has;
-  accepted = accepted;
-  room = λ same. eqb-false i.last i.ceiling room same;
-  free = free;
-}), client_back w session w.seen c (slice_set w.nodes node (Some (decide_drawn i session held (i.last + 1)).left)) served.client_at, drawn_same node i.term (i.last + 1) held.request)
+decide_room w node session i held c served stop accepted free false room = (
+  OfDrew (record {
+    node = node;
+    session = session;
+    i = i;
+    held = held;
+    at = served.at;
+    has = served.has;
+    accepted = accepted;
+    room = λ same. eqb-false i.last i.ceiling room same;
+    free = free;
+  }),
+  client_back w session w.seen c (slice_set w.nodes node (Some (decide_drawn i session held (i.last + 1)).left)) served.client_at,
+  drawn_same node i.term (i.last + 1) held.request,
+)
 
 decide_verdict : (w : State) (node session : ℕ) (i : InstanceEntry) (held : Held) (c : Client) → Served w node session i held c → StopOf i.stop → held.progress ≡ progress.Accepted → (v : Verdict) → request_verdict i.buckets held.request ≡ v → ComesBy w (decide_step w node session held c (verdict_by i session held v))
 decide_verdict w node session i held c served stop accepted Free is = decide_room w node session i held c served stop accepted is (i.last == i.ceiling) refl

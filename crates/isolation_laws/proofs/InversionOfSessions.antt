@@ -55,11 +55,15 @@ open_by_work w session c at go = at_open w session c at (work_open c.entry.state
 abort_comes : (w : State) (session : ℕ) (c : Client) → ClientAt w.clients session c → (why : Option Cause) → work_refusal c.entry.state (is_reading c) ≡ why → (start : Option ℕ) → ComesBy w (for_client w session (abort_by session c why start))
 abort_comes w session c at (Some why) go start = still_client w session c _ at (refusal_quiet (Session session) why)
 abort_comes w session c at None go None = still_client w session c [] at none_quiet
-abort_comes w session c at None go (Some start) = (OfAborted (record {
-  it = open_by_work w session c at go;
-  items = item.End session start ending.Aborted ∷ [];
-  quiet = one_quiet (item.End session start ending.Aborted) refl;
-}), refl, refl)
+abort_comes w session c at None go (Some start) = (
+  OfAborted (record {
+    it = open_by_work w session c at go;
+    items = item.End session start ending.Aborted ∷ [];
+    quiet = one_quiet (item.End session start ending.Aborted) refl;
+  }),
+  refl,
+  refl,
+)
 
 pub abort_at : (w : State) (session : ℕ) (c : Client) → ClientAt w.clients session c → ComesBy w (for_client w session (abort_on session c))
 abort_at w session c at = abort_comes w session c at (work_refusal c.entry.state (is_reading c)) refl c.entry.start
@@ -67,13 +71,17 @@ abort_at w session c at = abort_comes w session c at (work_refusal c.entry.state
 -- ---- vanish
 vanish_comes : (w : State) (session : ℕ) (c : Client) → ClientAt w.clients session c → (why : Option Cause) → ComesBy w (for_client w session (vanish_by session c why))
 vanish_comes w session c at (Some why) = still_client w session c _ at (refusal_quiet (Session session) why)
-vanish_comes w session c at None = (OfVanished (record {
-  session = session;
-  c = c;
-  client_at = at;
-  items = item.Vanish session ∷ [];
-  quiet = one_quiet (item.Vanish session) refl;
-}), refl, refl)
+vanish_comes w session c at None = (
+  OfVanished (record {
+    session = session;
+    c = c;
+    client_at = at;
+    items = item.Vanish session ∷ [];
+    quiet = one_quiet (item.Vanish session) refl;
+  }),
+  refl,
+  refl,
+)
 
 pub vanish_at : (w : State) (session : ℕ) (c : Client) → ClientAt w.clients session c → ComesBy w (for_client w session (vanish_on session c))
 vanish_at w session c at = vanish_comes w session c at (vanish_refusal c.entry.state)
@@ -84,17 +92,21 @@ write_may None key go = refl
 write_may (Some why) key go = absurd (cc)
 
 write_failed : (w : State) (session start key : ℕ) (value : List ℕ) (c : Client) → ClientAt w.clients session c → work_refusal c.entry.state (is_reading c) ≡ None → c.entry.start ≡ Some start → (rows : List Row) → (rows ≡ w.rows) ⊎ (rows ≡ put_row w.rows key start value) → ComesBy w (for_cells w session (write_by session start key value FailsApplied c rows))
-write_failed w session start key value c at go begun rows rows_are = (OfWriteFailed (record {
-  it = open_by_work w session c at go;
-  start = start;
-  key = key;
-  value = value;
-  start_is = begun;
-  rows = rows;
-  rows_are = rows_are;
-  items = item.Fault (Session session) Cells ∷ item.End session start ending.Aborted ∷ [];
-  quiet = two_quiet (item.Fault (Session session) Cells) (item.End session start ending.Aborted) refl refl;
-}), refl, refl)
+write_failed w session start key value c at go begun rows rows_are = (
+  OfWriteFailed (record {
+    it = open_by_work w session c at go;
+    start = start;
+    key = key;
+    value = value;
+    start_is = begun;
+    rows = rows;
+    rows_are = rows_are;
+    items = item.Fault (Session session) Cells ∷ item.End session start ending.Aborted ∷ [];
+    quiet = two_quiet (item.Fault (Session session) Cells) (item.End session start ending.Aborted) refl refl;
+  }),
+  refl,
+  refl,
+)
 
 write_fated : (w : State) (session start key : ℕ) (value : List ℕ) (fate : Fate) (c : Client) → ClientAt w.clients session c → work_refusal c.entry.state (is_reading c) ≡ None → c.entry.start ≡ Some start → ComesBy w (for_cells w session (write_by session start key value fate c (fated fate w.rows (put_row w.rows key start value))))
 write_fated w session start key value Works c at go begun = (OfWrote (record { it = open_by_work w session c at go; start = start; key = key; value = value; start_is = begun }), refl, refl)
@@ -111,31 +123,39 @@ write_at w session key value fate c at = write_comes w session key value fate c 
 
 -- ---- fetch
 fetch_failed : (w : State) (session : ℕ) (c : Client) → ClientAt w.clients session c → work_refusal c.entry.state (is_reading c) ≡ None → ComesTo w (with_client w session (record c { heal = None })) (item.Fault (Session session) Cells ∷ [])
-fetch_failed w session c at go = (OfReadDropped (record {
-  session = session;
-  c = c;
-  under_way = c.under_way;
-  client_at = at;
-  under_way_is = inl (refl, (work_open c.entry.state (is_reading c) go).1);
-  heal = None;
-  heal_is = inr refl;
-  pairs = w.pairs;
-  pairs_are = inl refl;
-  items = item.Fault (Session session) Cells ∷ [];
-  quiet = one_quiet (item.Fault (Session session) Cells) refl;
-}), refl, refl)
+fetch_failed w session c at go = (
+  OfReadDropped (record {
+    session = session;
+    c = c;
+    under_way = c.under_way;
+    client_at = at;
+    under_way_is = inl (refl, (work_open c.entry.state (is_reading c) go).1);
+    heal = None;
+    heal_is = inr refl;
+    pairs = w.pairs;
+    pairs_are = inl refl;
+    items = item.Fault (Session session) Cells ∷ [];
+    quiet = one_quiet (item.Fault (Session session) Cells) refl;
+  }),
+  refl,
+  refl,
+)
 
 fetch_fated : (w : State) (session start epoch key : ℕ) (fate : Fate) (c : Client) → ClientAt w.clients session c → work_refusal c.entry.state (is_reading c) ≡ None → c.entry.start ≡ Some start → c.entry.epoch ≡ Some epoch → ComesBy w (for_client w session (fetch_by session start epoch key fate c (fetched w.rows key start)))
-fetch_fated w session start epoch key Works c at go begun known = (OfFetched (record {
-  it = open_by_work w session c at go;
-  key = key;
-  start = start;
-  epoch = epoch;
-  start_is = begun;
-  epoch_is = known;
-  first = item.Step (Session session) (step.Fetch key (length (fetched w.rows key start)));
-  quiet = refl;
-}), refl, refl)
+fetch_fated w session start epoch key Works c at go begun known = (
+  OfFetched (record {
+    it = open_by_work w session c at go;
+    key = key;
+    start = start;
+    epoch = epoch;
+    start_is = begun;
+    epoch_is = known;
+    first = item.Step (Session session) (step.Fetch key (length (fetched w.rows key start)));
+    quiet = refl;
+  }),
+  refl,
+  refl,
+)
 fetch_fated w session start epoch key FailsUnchanged c at go begun known = fetch_failed w session c at go
 fetch_fated w session start epoch key FailsApplied c at go begun known = fetch_failed w session c at go
 
@@ -162,17 +182,20 @@ offer_open phase.Gone reading heal offer has = absurd (cc)
 
 heal_one : (w : State) (session : ℕ) (c : Client) (offer : ℕ × ℕ × ℕ) → ClientAt w.clients session c → offer_of c ≡ Some offer → (applied : Bool) (items : List Item) → AllQuiet items → ComesTo w (record (with_client w session (record c { heal = None })) { rows = if applied then with_shadow w.rows offer.0 offer.1 offer.2 else w.rows }) items
 heal_one w session c offer at has applied items quiet =
-    let found = offer_open c.entry.state (is_reading c) c.heal offer has in
-    (OfHealed (record {
-      it = at_open w session c at found.0 found.1;
-      key = offer.0;
-      version = offer.1;
-      commit = offer.2;
-      offer = found.2;
-      applied = applied;
-      items = items;
-      quiet = quiet;
-    }), refl, refl)
+    let found = offer_open c.entry.state (is_reading c) c.heal offer has in (
+      OfHealed (record {
+        it = at_open w session c at found.0 found.1;
+        key = offer.0;
+        version = offer.1;
+        commit = offer.2;
+        offer = found.2;
+        applied = applied;
+        items = items;
+        quiet = quiet;
+      }),
+      refl,
+      refl,
+    )
 
 heal_comes : (w : State) (session : ℕ) (fate : Fate) (c : Client) → ClientAt w.clients session c → (offer : Option (ℕ × ℕ × ℕ)) → offer_of c ≡ offer → ComesBy w (for_cells w session (heal_at session fate c w.rows w.pairs offer))
 heal_comes w session fate c at None has = still_client w session c _ at (refusal_quiet (Session session) _)

@@ -38,30 +38,38 @@ same_rows w session c rows pairs same = ap (λ (r : List Row). record (with_clie
 
 -- ---- a read
 read_failed : (w : State) (session : ℕ) (c : Client) (r : Reading) (fate : Fate) (rows : List Row) (pairs : Pairs) → ClientAt w.clients session c → c.under_way ≡ Reads r → rows ≡ w.rows → MayHaveMarked w.pairs pairs → ComesTo w (record (with_client w session (record c { under_way = Nothing })) { rows = rows; pairs = pairs }) (effect_items (Session session) (read_ask r) (told_by (read_ask r) w.rows w.pairs) fate ++ item.Fault (Session session) (store_of (read_ask r)) ∷ [])
-read_failed w session c r fate rows pairs at under_way same marked = (OfReadDropped (record {
-  session = session;
-  c = c;
-  under_way = Nothing;
-  client_at = at;
-  under_way_is = inr ((r, under_way), refl);
-  heal = c.heal;
-  heal_is = inl refl;
-  pairs = pairs;
-  pairs_are = marked;
-  items = _;
-  quiet = failed_quiet (Session session) (read_ask r) (told_by (read_ask r) w.rows w.pairs) fate (store_of (read_ask r));
-}), same_rows w session (record c { under_way = Nothing }) rows pairs same, refl)
+read_failed w session c r fate rows pairs at under_way same marked = (
+  OfReadDropped (record {
+    session = session;
+    c = c;
+    under_way = Nothing;
+    client_at = at;
+    under_way_is = inr ((r, under_way), refl);
+    heal = c.heal;
+    heal_is = inl refl;
+    pairs = pairs;
+    pairs_are = marked;
+    items = _;
+    quiet = failed_quiet (Session session) (read_ask r) (told_by (read_ask r) w.rows w.pairs) fate (store_of (read_ask r));
+  }),
+  same_rows w session (record c { under_way = Nothing }) rows pairs same,
+  refl,
+)
 
 pub read_comes : (w : State) (session : ℕ) (fate : Fate) (c : Client) (r : Reading) → ClientAt w.clients session c → c.under_way ≡ Reads r → ComesBy w (for_stores w session (read_step session c r (met (Session session) (read_ask r) fate w.rows w.pairs)))
-read_comes w session Works c r at under_way = (OfReadStepped (record {
-  session = session;
-  c = c;
-  r = r;
-  client_at = at;
-  under_way = under_way;
-  first = step_item (Session session) (read_ask r) (told_by (read_ask r) w.rows w.pairs);
-  quiet = step_quiet (Session session) (read_ask r) (told_by (read_ask r) w.rows w.pairs) (resolve_no_list r.key r.cell.version r.point);
-}), same_rows w session (client_read c (read_turn w r)) (rows_after (read_ask r) w.rows) (pairs_after (read_ask r) w.pairs) (resolve_rows r.key r.cell.version r.point w.rows), refl)
+read_comes w session Works c r at under_way = (
+  OfReadStepped (record {
+    session = session;
+    c = c;
+    r = r;
+    client_at = at;
+    under_way = under_way;
+    first = step_item (Session session) (read_ask r) (told_by (read_ask r) w.rows w.pairs);
+    quiet = step_quiet (Session session) (read_ask r) (told_by (read_ask r) w.rows w.pairs) (resolve_no_list r.key r.cell.version r.point);
+  }),
+  same_rows w session (client_read c (read_turn w r)) (rows_after (read_ask r) w.rows) (pairs_after (read_ask r) w.pairs) (resolve_rows r.key r.cell.version r.point w.rows),
+  refl,
+)
 read_comes w session FailsUnchanged c r at under_way = read_failed w session c r FailsUnchanged w.rows w.pairs at under_way refl (inl refl)
 read_comes w session FailsApplied c r at under_way = read_failed w session c r FailsApplied (rows_after (read_ask r) w.rows) (pairs_after (read_ask r) w.pairs) at under_way (resolve_rows r.key r.cell.version r.point w.rows) (resolve_marks r.key r.cell.version r.point w.pairs)
 
@@ -77,26 +85,33 @@ abbrev pub IsResolve : Client → Settling → Type 0
 IsResolve c x = (c.under_way ≡ Settles x) ⊎ ((c.under_way ≡ Nothing) × (own_resolve c.entry.start c.entry.keys ≡ Settles x))
 
 settle_failed : (w : State) (session : ℕ) (c : Client) (x : Settling) (fate : Fate) (rows : List Row) (pairs : Pairs) → ClientAt w.clients session c → c.entry.state ≡ phase.OpenOutcome → rows ≡ w.rows → MayHaveMarked w.pairs pairs → ComesTo w (record (with_client w session (record c { under_way = Nothing })) { rows = rows; pairs = pairs }) (effect_items (Session session) (settle_ask x) (told_by (settle_ask x) w.rows w.pairs) fate ++ item.Fault (Session session) (store_of (settle_ask x)) ∷ [])
-settle_failed w session c x fate rows pairs at is_open same marked = (OfOutcomeFailed (record {
-  it = record { session = session; c = c; client_at = at; is_open = is_open };
-  pairs = pairs;
-  pairs_are = marked;
-  items = _;
-  quiet = failed_quiet (Session session) (settle_ask x) (told_by (settle_ask x) w.rows w.pairs) fate (store_of (settle_ask x));
-}), same_rows w session (record c { under_way = Nothing }) rows pairs same, refl)
+settle_failed w session c x fate rows pairs at is_open same marked = (
+  OfOutcomeFailed (record {
+    it = record { session = session; c = c; client_at = at; is_open = is_open };
+    pairs = pairs;
+    pairs_are = marked;
+    items = _;
+    quiet = failed_quiet (Session session) (settle_ask x) (told_by (settle_ask x) w.rows w.pairs) fate (store_of (settle_ask x));
+  }),
+  same_rows w session (record c { under_way = Nothing }) rows pairs same,
+  refl,
+)
 
 pub settle_comes : (w : State) (session : ℕ) (fate : Fate) (c : Client) (x : Settling) → ClientAt w.clients session c → c.entry.state ≡ phase.OpenOutcome → IsResolve c x → ComesBy w (for_stores w session (settle_step session c x (met (Session session) (settle_ask x) fate w.rows w.pairs)))
 settle_comes w session Works c x at is_open work =
     let answer : Told = told_by (settle_ask x) w.rows w.pairs in
     let first : Item = step_item (Session session) (settle_ask x) answer in
-    let rest : List Item = settle_items session c.entry.start (settle_turn x answer) in
-    (OfOutcome (record {
-      it = record { session = session; c = c; client_at = at; is_open = is_open };
-      x = x;
-      work = work;
-      items = first ∷ rest;
-      quiet = All-cons Quiet first rest (step_quiet (Session session) (settle_ask x) answer (resolve_no_list x.key x.txn x.point)) (settle_quiet session c.entry.start (settle_turn x answer));
-    }), same_rows w session (client_settled c x (settle_turn x answer)) (rows_after (settle_ask x) w.rows) (pairs_after (settle_ask x) w.pairs) (resolve_rows x.key x.txn x.point w.rows), refl)
+    let rest : List Item = settle_items session c.entry.start (settle_turn x answer) in (
+      OfOutcome (record {
+        it = record { session = session; c = c; client_at = at; is_open = is_open };
+        x = x;
+        work = work;
+        items = first ∷ rest;
+        quiet = All-cons Quiet first rest (step_quiet (Session session) (settle_ask x) answer (resolve_no_list x.key x.txn x.point)) (settle_quiet session c.entry.start (settle_turn x answer));
+      }),
+      same_rows w session (client_settled c x (settle_turn x answer)) (rows_after (settle_ask x) w.rows) (pairs_after (settle_ask x) w.pairs) (resolve_rows x.key x.txn x.point w.rows),
+      refl,
+    )
 settle_comes w session FailsUnchanged c x at is_open work = settle_failed w session c x FailsUnchanged w.rows w.pairs at is_open refl (inl refl)
 settle_comes w session FailsApplied c x at is_open work = settle_failed w session c x FailsApplied (rows_after (settle_ask x) w.rows) (pairs_after (settle_ask x) w.pairs) at is_open (resolve_rows x.key x.txn x.point w.rows) (resolve_marks x.key x.txn x.point w.pairs)
 
@@ -109,37 +124,45 @@ pub record IsCompletion (c : Client) (asked : Ask) (asks : List Ask) : Type 0 wh
   pub no_list : NoList asked
 
 complete_failed : (w : State) (session : ℕ) (c : Client) (asked : Ask) (asks : List Ask) (applied : Bool) (items : List Item) → ClientAt w.clients session c → IsCompletion c asked asks → AllQuiet items → ComesTo w (record (with_client w session (client_freed c)) { rows = if applied then rows_after asked w.rows else w.rows; pairs = if applied then pairs_after asked w.pairs else w.pairs }) items
-complete_failed w session c asked asks applied items at is quiet = (OfCompleted (record {
-  session = session;
-  undo = is.undo;
-  c = c;
-  asked = asked;
-  asks = asks;
-  client_at = at;
-  completing = is.completing;
-  under_way = is.under_way;
-  applied = applied;
-  left = client_freed c;
-  left_is = inr refl;
-  items = items;
-  quiet = quiet;
-}), refl, refl)
+complete_failed w session c asked asks applied items at is quiet = (
+  OfCompleted (record {
+    session = session;
+    undo = is.undo;
+    c = c;
+    asked = asked;
+    asks = asks;
+    client_at = at;
+    completing = is.completing;
+    under_way = is.under_way;
+    applied = applied;
+    left = client_freed c;
+    left_is = inr refl;
+    items = items;
+    quiet = quiet;
+  }),
+  refl,
+  refl,
+)
 
 pub complete_comes : (w : State) (session : ℕ) (fate : Fate) (c : Client) (asked : Ask) (asks : List Ask) → ClientAt w.clients session c → IsCompletion c asked asks → ComesBy w (for_stores w session (complete_step c asked asks (met (Session session) asked fate w.rows w.pairs)))
-complete_comes w session Works c asked asks at is = (OfCompleted (record {
-  session = session;
-  undo = is.undo;
-  c = c;
-  asked = asked;
-  asks = asks;
-  client_at = at;
-  completing = is.completing;
-  under_way = is.under_way;
-  applied = true;
-  left = after_asks c asks;
-  left_is = inl (refl, refl);
-  items = step_item (Session session) asked (told_by asked w.rows w.pairs) ∷ [];
-  quiet = one_quiet (step_item (Session session) asked (told_by asked w.rows w.pairs)) (step_quiet (Session session) asked (told_by asked w.rows w.pairs) is.no_list);
-}), refl, refl)
+complete_comes w session Works c asked asks at is = (
+  OfCompleted (record {
+    session = session;
+    undo = is.undo;
+    c = c;
+    asked = asked;
+    asks = asks;
+    client_at = at;
+    completing = is.completing;
+    under_way = is.under_way;
+    applied = true;
+    left = after_asks c asks;
+    left_is = inl (refl, refl);
+    items = step_item (Session session) asked (told_by asked w.rows w.pairs) ∷ [];
+    quiet = one_quiet (step_item (Session session) asked (told_by asked w.rows w.pairs)) (step_quiet (Session session) asked (told_by asked w.rows w.pairs) is.no_list);
+  }),
+  refl,
+  refl,
+)
 complete_comes w session FailsUnchanged c asked asks at is = complete_failed w session c asked asks false _ at is (failed_quiet (Session session) asked (told_by asked w.rows w.pairs) FailsUnchanged (store_of asked))
 complete_comes w session FailsApplied c asked asks at is = complete_failed w session c asked asks true _ at is (failed_quiet (Session session) asked (told_by asked w.rows w.pairs) FailsApplied (store_of asked))

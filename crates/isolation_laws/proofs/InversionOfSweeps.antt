@@ -50,44 +50,60 @@ undecided_quiet s true = refusal_quiet Janitor (cause.Undecided s.txn s.epoch)
 undecided_quiet s false = none_quiet
 
 swept : (w : State) (s : Sweeping) (asked : Ask) → w.sweep ≡ Some s → sweep_ask s ≡ Some asked → NoList asked → (fate : Fate) → ComesBy w (on_swept w (sweep_met s asked (met Janitor asked fate w.rows w.pairs)))
-swept w s asked is_open asks no_list Works = (OfSwept (record {
-  s = s;
-  asked = asked;
-  is_open = is_open;
-  asks = asks;
-  no_list = no_list;
-  items = (step_item Janitor asked (told_by asked w.rows w.pairs) ∷ []) ++ undecided_items s (is_undecided (sweep_told s (told_by asked w.rows w.pairs)));
-  quiet = All-append Quiet (step_item Janitor asked (told_by asked w.rows w.pairs) ∷ []) (undecided_items s (is_undecided (sweep_told s (told_by asked w.rows w.pairs)))) (one_quiet (step_item Janitor asked (told_by asked w.rows w.pairs)) (step_quiet Janitor asked (told_by asked w.rows w.pairs) no_list)) (undecided_quiet s (is_undecided (sweep_told s (told_by asked w.rows w.pairs))));
-}), refl, refl)
-swept w s asked is_open asks no_list FailsUnchanged = (OfSweepFailed (record {
-  s = s;
-  asked = asked;
-  is_open = is_open;
-  asks = asks;
-  applied = false;
-  items = item.Fault Janitor (store_of asked) ∷ [];
-  quiet = one_quiet (item.Fault Janitor (store_of asked)) refl;
-}), refl, refl)
-swept w s asked is_open asks no_list FailsApplied = (OfSweepFailed (record {
-  s = s;
-  asked = asked;
-  is_open = is_open;
-  asks = asks;
-  applied = true;
-  items = _;
-  quiet = failed_quiet Janitor asked (told_by asked w.rows w.pairs) FailsApplied (store_of asked);
-}), refl, refl)
+swept w s asked is_open asks no_list Works = (
+  OfSwept (record {
+    s = s;
+    asked = asked;
+    is_open = is_open;
+    asks = asks;
+    no_list = no_list;
+    items = (step_item Janitor asked (told_by asked w.rows w.pairs) ∷ []) ++ undecided_items s (is_undecided (sweep_told s (told_by asked w.rows w.pairs)));
+    quiet = All-append Quiet (step_item Janitor asked (told_by asked w.rows w.pairs) ∷ []) (undecided_items s (is_undecided (sweep_told s (told_by asked w.rows w.pairs)))) (one_quiet (step_item Janitor asked (told_by asked w.rows w.pairs)) (step_quiet Janitor asked (told_by asked w.rows w.pairs) no_list)) (undecided_quiet s (is_undecided (sweep_told s (told_by asked w.rows w.pairs))));
+  }),
+  refl,
+  refl,
+)
+swept w s asked is_open asks no_list FailsUnchanged = (
+  OfSweepFailed (record {
+    s = s;
+    asked = asked;
+    is_open = is_open;
+    asks = asks;
+    applied = false;
+    items = item.Fault Janitor (store_of asked) ∷ [];
+    quiet = one_quiet (item.Fault Janitor (store_of asked)) refl;
+  }),
+  refl,
+  refl,
+)
+swept w s asked is_open asks no_list FailsApplied = (
+  OfSweepFailed (record {
+    s = s;
+    asked = asked;
+    is_open = is_open;
+    asks = asks;
+    applied = true;
+    items = _;
+    quiet = failed_quiet Janitor asked (told_by asked w.rows w.pairs) FailsApplied (store_of asked);
+  }),
+  refl,
+  refl,
+)
 
 listing_failed : (w : State) (s : Sweeping) (txn : ℕ) → w.sweep ≡ Some s → sweep_ask s ≡ Some (ask.Keys txn) → ComesTo w (record w { sweep = None }) (item.Fault Janitor Cells ∷ [])
-listing_failed w s txn is_open asks = (OfSweepFailed (record {
-  s = s;
-  asked = ask.Keys txn;
-  is_open = is_open;
-  asks = asks;
-  applied = false;
-  items = item.Fault Janitor Cells ∷ [];
-  quiet = one_quiet (item.Fault Janitor Cells) refl;
-}), refl, refl)
+listing_failed w s txn is_open asks = (
+  OfSweepFailed (record {
+    s = s;
+    asked = ask.Keys txn;
+    is_open = is_open;
+    asks = asks;
+    applied = false;
+    items = item.Fault Janitor Cells ∷ [];
+    quiet = one_quiet (item.Fault Janitor Cells) refl;
+  }),
+  refl,
+  refl,
+)
 
 sweep_lists_keys : (w : State) (s : Sweeping) (txn : ℕ) → w.sweep ≡ Some s → sweep_ask s ≡ Some (ask.Keys txn) → (fate : Fate) → ComesBy w (on_swept w (sweep_lists s txn fate w.rows w.pairs))
 sweep_lists_keys w s txn is_open asks Works = (OfSweepListed (record { s = s; txn = txn; count = length (keys_of_version w.rows txn); is_open = is_open; asks = asks }), refl, refl)

@@ -131,9 +131,9 @@ fresh_kept w h o holds = fresh_by w h (told_by_outcome w o) holds (stamping w o)
 pub apart_of_drawn : (h : List Item) → ArePlaced h → DrawnApart h → Apart h
 apart_of_drawn h placed drawn = record {
   apart = λ t c u d k v x one two differ wrote other.
-    let a = placed.drawn t c one in
-    let b = placed.drawn u d two in
-    drawn.apart a.0 b.0 a.1 b.1 a.2 b.2 t c u d k v x a.3 b.3 differ wrote other;
+      let a = placed.drawn t c one in
+      let b = placed.drawn u d two in
+      drawn.apart a.0 b.0 a.1 b.1 a.2 b.2 t c u d k v x a.3 b.3 differ wrote other;
 }
 
 pub apart_kept : (w : State) (h : List Item) (o : Outcome w) → Holds w h → Apart (h ++ told_by_outcome w o)

@@ -102,7 +102,8 @@ resolved_on w h nodes rows pairs g s k b e t LastLook rely holds o is = (
   (λ c placed less. elim (rely.placed b t c placed less) [
     | inl old ↦ rely.shadows k t c old (is.1 c old less)
     | inr new ↦ absurd (new.unmarked (is.0 (markable w h s b e t holds o new.comes)))
-  ]))
+  ]),
+)
 
 pub open_now_begun : (w : State) (h : List Item) (s b e : ℕ) → Holds w h → OpenAt w.clients s b e → Begun h s b
 open_now_begun w h s b e holds o = open_begun w.clients h s b o.client holds.requests.have_begun o.at o.state_is o.start_is

@@ -97,4 +97,3 @@ reading_set clients nodes rows pairs g s b e old c at same o now reading = recor
 
 pub reads_same : (r x : Reading) → Reads r ≡ Reads x → r ≡ x
 reads_same r x same = cc
-

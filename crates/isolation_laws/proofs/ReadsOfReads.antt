@@ -118,8 +118,8 @@ reads_turn w h pairs x s b e k c turn quiet at o marks good holds =
         lasting = turn_lasting w h pairs x s b e k turn quiet rely un good holds;
       };
       rights = subst (AtEach (RightRead g)) (append_assoc h (x ∷ []) (read_items s b k turn))
-        (turn_rights w h g pairs (h ++ x ∷ []) s b e k turn un (unwritten_quiet h (x ∷ []) (all_one x quiet)) good
-        (rights_more g h (x ∷ []) (quiet_no_reads (x ∷ []) (all_one x quiet)) (right_kept w h w.nodes w.rows pairs g rely holds)));
+          (turn_rights w h g pairs (h ++ x ∷ []) s b e k turn un (unwritten_quiet h (x ∷ []) (all_one x quiet)) good
+          (rights_more g h (x ∷ []) (quiet_no_reads (x ∷ []) (all_one x quiet)) (right_kept w h w.nodes w.rows pairs g rely holds)));
     }
 
 -- ---- a step of a read

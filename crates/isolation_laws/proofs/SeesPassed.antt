@@ -117,9 +117,9 @@ lasting_first : (w : State) (h : List Item) (pairs : Pairs) (b k d u : ℕ) (val
 lasting_first w h pairs b k d u value cell cs holds sees placed comes wrote = elim (marked_or_not pairs u) [
   | inl marked ↦ inr (inl marked)
   | inr unmarked ↦ elim (covered_upto b u cell cs sees.falling (sees.coming u value comes unmarked wrote)) [
-      | inl here ↦ absurd (pending_unplaced w.nodes h u d holds.numbers.placed holds.requests.pending (pending_coming w.nodes b u comes) (subst (λ v. Committed h v d) here placed))
-      | inr below ↦ inr (inr below)
-    ]
+    | inl here ↦ absurd (pending_unplaced w.nodes h u d holds.numbers.placed holds.requests.pending (pending_coming w.nodes b u comes) (subst (λ v. Committed h v d) here placed))
+    | inr below ↦ inr (inr below)
+  ]
 ]
 
 -- a first cell that is placed below the start

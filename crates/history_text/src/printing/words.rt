@@ -1,9 +1,9 @@
+// The parts that items share. Each adds its text at the end of the line.
 ghost use Rattle.std.specs.Prelude.{◌≡◌, ◌+◌, ◌≤◌, ◌++◌, length, decimal};
 ghost use Rattle.history_text.specs.Words.{node_text, session_text, key_text, actor_text, stage_text, store_text};
 ghost use Rattle.stamp_base.specs.Ranges.{IsKey, IsNode, IsSession};
 ghost use Rattle.history_text.specs.Fits.{FitsActor};
 
-// The parts that items share. Each adds its text at the end of the line.
 use crate::line::LineBuf;
 use history_book::Actor;
 use stamp_base::{KeyNo, NodeNo, SessionNo, Stage, Store};
