@@ -1,7 +1,7 @@
 //! The commit table: the marks of transactions, and places for the marks that must not want memory.
 #![tactic(auto)]
 
-ghost use Rattle.std.specs.Prelude.{◌≡◌, None, IfOk, IsTrue, OnErr, OnOk};
+ghost use Rattle.std.specs.Prelude.{◌≡◌, IfOk, IsTrue, OnErr, OnOk};
 ghost use Rattle.std.specs.FinMap as map;
 ghost use Rattle.std.specs.FinSet as set;
 ghost use Rattle.commit_table.specs.Calls.{mark_of, put_answer, put_pair, without_committed, IsOneCall, UnlessNoMemory, OnNoMemory, fated};

@@ -1,7 +1,7 @@
 //! The lease of an oracle's instance, and the test that clock readings are steady.
 #![tactic(auto)]
 
-ghost use Rattle.std.specs.Prelude.{◌≡◌, ◌+◌, ◌<◌, ◌≤◌, ◌↔◌, List, ◌++◌, ◌∷◌, [], ℕ, All, max, IsTrue, IsOk, OnOk, IfErr};
+ghost use Rattle.std.specs.Prelude.{◌≡◌, ◌+◌, ◌<◌, ◌≤◌, ◌↔◌, List, ◌++◌, ◌∷◌, [], ℕ, All, max, IsTrue, IsOk, IfErr};
 ghost use Rattle.lease_keeper.specs.Steady.{Steady};
 
 use std::marker::Model;

@@ -1,8 +1,8 @@
 //! The master record: which node has the oracle, until when, and which stamps its term may draw.
 #![tactic(auto)]
 
-ghost use Rattle.std.specs.Prelude.{◌≡◌, ◌≤◌, ◌<◌, ◌+◌, ◌^◌, ◌↔◌, IfOk, IsSome, None, if◌then◌else◌};
-ghost use Rattle.master_record.specs.Calls.{MasterRecord, Leasing, free_record, take_refused, granted, taken, held_by, is_spent, renew_refused, renewed_until, renewed, extend_refused, extended, unless_some, answered, AsksOnce, IsWithin, IsStampRange, fated, works};
+ghost use Rattle.std.specs.Prelude.{◌≡◌, ◌≤◌, ◌<◌, ◌+◌, ◌^◌, ◌↔◌, IfOk, IsSome, if◌then◌else◌};
+ghost use Rattle.master_record.specs.Calls.{free_record, take_refused, granted, taken, held_by, is_spent, renew_refused, renewed_until, renewed, extend_refused, extended, unless_some, answered, AsksOnce, IsWithin, IsStampRange, fated, works};
 
 use port_io::{Fate, Store, Weather};
 use stamp_base::{NodeNo, Stamp, Term};

@@ -5,8 +5,11 @@ use stamp_base::Term;
 #[derive(Clone, Copy, Debug, PartialEq, Eq)]
 pub struct Grant {
     pub term: Term,
+    /// The greatest stamp that earlier terms may draw.
     pub epoch: u64,
+    /// The end of the lease, in ticks of the clock.
     pub until: u64,
+    /// The greatest stamp that this term may draw.
     pub ceiling: u64,
 }
 

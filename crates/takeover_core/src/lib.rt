@@ -1,7 +1,7 @@
 //! The posts of the nodes: which node has an oracle's instance, and of which term.
 #![tactic(auto)]
 
-ghost use Rattle.std.specs.Prelude.{◌≡◌, ◌<◌, ◌≤◌, MatchResult, None, Some, length};
+ghost use Rattle.std.specs.Prelude.{◌≡◌, ◌<◌, ◌≤◌, MatchResult, length};
 ghost use Rattle.oracle_parts.specs.PostSteps as step;
 
 use history_book::Cause;
