@@ -1,5 +1,5 @@
 -- Laws that other crates cite: what a fetch gives of rows in order, and of rows one behind another.
-use Rattle.std.proofs.Common.{◌≡◌, ℕ, zero, suc, ◌<◌, ◌≤◌, ◌==◌, nat_le, true, false, ◌&&◌, ◌↔◌, List, [], ◌∷◌, ◌++◌, length, get_or, append-nil, append_assoc, Some, ◌⊎◌, inl, inr, refl, sym, subst, ap, ◌∙◌, arith}
+use Rattle.std.proofs.Common.{◌≡◌, ℕ, zero, suc, ◌<◌, ◌≤◌, ◌==◌, nat_le, true, false, ◌&&◌, ◌↔◌, List, [], ◌∷◌, ◌++◌, append-nil, append_assoc, Some, ◌⊎◌, inl, inr, sym, subst, ap, ◌∙◌, arith}
 use Rattle.std.specs.List.{All, AllPairs, Contains}
 use Rattle.std.proofs.lemmas.Bool.{cases_Bool}
 use Rattle.std.proofs.lemmas.Bool.Decides.{nat_tests}
@@ -8,7 +8,7 @@ use Rattle.std.proofs.lemmas.List.Quantifiers.{all_pairs_push}
 use Rattle.std.proofs.lemmas.Option.{same_Some}
 use Rattle.store_parts.specs.declared.rows.Cell.{Cell}
 use Rattle.store_parts.specs.Rows.{Row, cell_of, fetched, looked, is_below, front_of, IsBelowAll, AreOrdered, AreFalling, AreUpto}
-use Rattle.store_parts.proofs.RowLaws.{is_row-cases, looked-here, looked-past, looked-version, below_none, none_looked}
+use Rattle.store_parts.proofs.RowLaws.{is_row-cases, looked-here, looked-past, below_none, none_looked}
 
 -- the row is a fetched one, or it is not
 row_cases : (r : Row) (k upto : ℕ) → ((((r.key == k) && nat_le r.version upto) ≡ true) × (r.key ≡ k) × (r.version ≤ upto)) ⊎ ((((r.key == k) && nat_le r.version upto) ≡ false) × (r.key ≡ k → r.version ≤ upto → ⊥))

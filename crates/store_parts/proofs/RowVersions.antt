@@ -1,5 +1,5 @@
 -- Laws that other crates cite: the keys of a version's rows, and what a removal leaves at its own place.
-use Rattle.std.proofs.Common.{◌≡◌, ℕ, ◌<◌, ◌==◌, nat_eq, true, false, ◌↔◌, List, [], ◌∷◌, Option, Some, None, is_some, IsSome, ◌⊎◌, inl, inr, refl, sym, ap, ◌∙◌, arith}
+use Rattle.std.proofs.Common.{◌≡◌, ℕ, ◌==◌, nat_eq, true, false, ◌↔◌, List, [], ◌∷◌, Option, Some, None, is_some, IsSome, ◌⊎◌, inl, inr, refl, sym, ◌∙◌, arith}
 use Rattle.std.specs.Ordering.{nat_cmp}
 use Rattle.std.specs.declared.cmp.Ordering.TheVariants.{Less}
 use Rattle.std.specs.List.{Contains, AllByRecursion, list_any}
@@ -10,8 +10,8 @@ use Rattle.std.proofs.lemmas.Cmp.{nat_eq_equiv}
 use Rattle.std.proofs.lemmas.Map.Views.{list_any-from_Contains, Contains-from_any}
 use Rattle.std.proofs.lemmas.Map.Keys.{IsStrictlyIncreasing-from_sorted}
 use Rattle.store_parts.specs.declared.rows.Cell.{Cell}
-use Rattle.store_parts.specs.Rows.{Row, cell_of, looked, unless_bare, put_row, without_bare, keys_of_version, IsBare, IsBelowAll, AreOrdered}
-use Rattle.store_parts.proofs.RowLaws.{is_row-cases, looked-here, looked-past, below_none}
+use Rattle.store_parts.specs.Rows.{Row, looked, unless_bare, put_row, without_bare, keys_of_version, IsBare, IsBelowAll, AreOrdered}
+use Rattle.store_parts.proofs.RowLaws.{is_row-cases, looked-past, below_none}
 
 version_cases : (r : Row) (t : ℕ) → (((r.version == t) ≡ true) × (r.version ≡ t)) ⊎ (((r.version == t) ≡ false) × (r.version ≡ t → ⊥))
 version_cases r t = elim (cases_eq r.version t) [
