@@ -1,11 +1,11 @@
-pub mod ReadingLemmas
-pub mod NumberLemmas
-pub mod WordTexts
-pub mod NodeTexts
-pub mod RequestTexts
-pub mod SessionTexts
-pub mod StepTexts
-pub mod CauseTexts
-pub mod ActorTexts
+mod ReadingLemmas
+mod NumberLemmas
+mod WordTexts
+mod NodeTexts
+mod RequestTexts
+mod SessionTexts
+mod StepTexts
+mod CauseTexts
+mod ActorTexts
 pub mod RoundTrip
-pub mod LineLemmas
+mod LineLemmas

@@ -1,4 +1,4 @@
--- What is written is read again, and no two items have one text.
+-- Public laws, which the audit cites. What is written is read again, and no two items have one text.
 use Rattle.std.proofs.Common.{◌≡◌, [], ◌∷◌, Some, refl, sym, ap, ◌∙◌}
 use Rattle.std.proofs.lemmas.Option.{same_Some}
 use Rattle.std.proofs.lemmas.List.{append_cancel_right}

@@ -3,6 +3,10 @@ use Rattle.std.specs.Prelude.{ℕ, suc, ◌+◌, ◌-◌, ◌*◌, ◌/◌, ◌=
 use Rattle.std.specs.Cmp.Lexicographic.{pointwise}
 use Rattle.std.specs.List.{list_all}
 use Rattle.std.specs.Option.{option_or}
+use Rattle.stamp_base.specs.declared.numbers.TheConstants.KeyNo as keys
+use Rattle.stamp_base.specs.declared.numbers.TheConstants.NodeNo as nodes
+use Rattle.stamp_base.specs.declared.numbers.TheConstants.SessionNo as sessions
+use Rattle.stamp_base.specs.declared.numbers.TheConstants.Stamp as stamps
 use Rattle.history_book.specs.declared.item.Actor.{Actor}
 use Rattle.history_book.specs.declared.item.Actor.TheVariants.{Clock, Node, Session, Janitor}
 
@@ -56,16 +60,16 @@ abbrev pub ranged : ℕ → ℕ → ℕ → Option ℕ
 ranged low high n = if nat_le low n && nat_le n high then Some n else None
 
 unfoldable pub node_of : ℕ → Option ℕ
-node_of n = ranged 0 7 n
+node_of n = ranged 0 (nodes.COUNT - 1) n
 
 unfoldable pub session_of : ℕ → Option ℕ
-session_of n = ranged 0 15 n
+session_of n = ranged 0 (sessions.COUNT - 1) n
 
 unfoldable pub key_of : ℕ → Option ℕ
-key_of n = ranged 0 4095 n
+key_of n = ranged 0 (keys.COUNT - 1) n
 
 unfoldable pub stamp_of : ℕ → Option ℕ
-stamp_of n = ranged 1 4611686018427387904 n
+stamp_of n = ranged 1 stamps.GREATEST n
 
 unfoldable pub term_of : ℕ → Option ℕ
 term_of n = ranged 1 18446744073709551615 n

@@ -7,9 +7,9 @@ mod kinds;
 mod steps;
 mod words;
 
-use history_book::Item;
 use crate::line::LineBuf;
 use causes::print_refused;
+use history_book::Item;
 use kinds::{
     print_accept, print_ask_begin, print_ask_commit, print_begin, print_committed, print_crash,
     print_draw, print_end, print_extend, print_fault, print_mark, print_note, print_placed,

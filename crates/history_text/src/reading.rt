@@ -12,10 +12,10 @@ mod sessions;
 mod steps;
 mod words;
 
-use history_book::Item;
 use crate::line::LineBuf;
 use crate::printing::print_body;
 use actors::actor_kind;
+use history_book::Item;
 use nodes::node_kind;
 use requests::request_kind;
 use sessions::session_kind;

@@ -1,4 +1,4 @@
--- The last ask in a list, found from its end.
+-- Public laws, which the judge above cites. The last ask in a list, found from its end.
 use Rattle.std.proofs.Common.{◌≡◌, ◌≤◌, ℕ, zero, suc, Bool, true, false, ◌||◌, not, if◌then◌else◌, List, [], ◌∷◌, Some, length, take, drop, slice_get, refl, ap, arith}
 use Rattle.std.proofs.lemmas.Option.{same_Some}
 use Rattle.history_book.specs.Isolation.{before_ask, has_ask, asks}

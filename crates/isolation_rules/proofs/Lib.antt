@@ -4,6 +4,6 @@ pub mod PlaceLemmas
 pub mod StampedLaw
 pub mod FreshLaw
 pub mod WriteLemmas
-pub mod BestLemmas
+mod BestLemmas
 pub mod ReadLemmas
 pub mod WalkLemmas

@@ -1,4 +1,4 @@
--- Places in a list, and what stands before one.
+-- Public laws, which the judge above cites. Places in a list, and what stands before one.
 use Rattle.std.proofs.Common.{◌≡◌, ◌≤◌, ◌<◌, ℕ, zero, suc, List, [], ◌∷◌, Option, Some, None, length, take, slice_get, IsSomeAnd, inl, inr, refl, sym, ap, subst, arith}
 use Rattle.std.proofs.lemmas.Option.{same_Some}
 use Rattle.history_book.specs.Members.{◌∈◌}

@@ -1,4 +1,4 @@
--- The order and range of the pairs that break a rule, and what passing a place means.
+-- Public laws, which the judge above cites. The order and range of the pairs that break a rule, and what passing a place means.
 use Rattle.std.proofs.Common.{◌≡◌, ◌≢◌, ◌≤◌, ◌<◌, ℕ, List, Option, Some, IfSome, true, length, take, slice_get, inl, inr, refl, subst, arith}
 use Rattle.std.proofs.lemmas.Option.{slice_get_within}
 use Rattle.history_book.specs.Isolation.{RightRead}

@@ -1,4 +1,4 @@
--- The place of a last write, and listed keys.
+-- Public laws, which the judge above cites. The place of a last write, and listed keys.
 use Rattle.std.proofs.Common.{◌≡◌, ◌||◌, ◌<◌, ℕ, zero, suc, Bool, true, false, List, [], ◌∷◌, Option, Some, None, inl, inr, refl, ap, subst, ◌∙◌, arith}
 use Rattle.std.specs.List.{list_any}
 use Rattle.std.specs.Option.{option_or}

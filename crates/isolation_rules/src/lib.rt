@@ -1,4 +1,4 @@
-// The rules of isolation as pairs of items that break them, and a plain walk that finds the least pair.
+//! The rules of isolation as pairs of items that break them, and a plain walk that finds the least pair.
 #![tactic(auto)]
 
 mod apart;

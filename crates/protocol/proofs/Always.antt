@@ -1,4 +1,4 @@
--- Each event keeps what holds, so each history is isolated and explained.
+-- Public laws. Each event keeps what holds, so each history is isolated and explained.
 use Rattle.std.proofs.Common.{◌≡◌, ℕ, ◌+◌, Bool, true, false, List, [], ◌∷◌, ◌++◌, append_assoc, Option, Some, None, refl, ap, ◌∙◌, slice_get}
 use Rattle.std.specs.Option.{option_or}
 use Rattle.std.proofs.lemmas.Bool.{eq-eqb}

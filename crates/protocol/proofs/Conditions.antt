@@ -1,4 +1,4 @@
--- What the calls on the cells ask for holds in every state.
+-- Public laws. What the calls on the cells ask for holds in every state.
 use Rattle.std.proofs.Common.{◌≡◌, ℕ, List, Option, Some, None, IfSome, refl, sym, subst, slice_get}
 use Rattle.history_book.specs.Isolation.{last_write}
 use Rattle.history_book.specs.declared.item.Item.{Item}

@@ -17,8 +17,7 @@ pub const PLAIN_HISTORY: &str =
     "take a reading=0 term=1 epoch=0 until=10 ceiling=100\nask-begin s0 a\ndraw s0 a term=1 start=1\nbegin s0 start=1\nwrite s0 start=1 k0 v\nask-commit s0 a start=1\ndraw s0 a term=1 start=1 commit=2\nplaced start=1 commit=2\ncommitted s0 start=1 commit=2\nask-begin s1 a\ndraw s1 a term=1 start=3\nbegin s1 start=3\nread s1 start=3 k0 from=1 v\nend s1 start=3 read-only\n";
 
 /// A transaction that writes 64 keys, then one more, then one of the 64 again.
-const MANY_KEYS: &str =
-    "a take\ns0 begin a\n\
+const MANY_KEYS: &str = "a take\ns0 begin a\n\
         s0 write k0 v\ns0 write k1 v\ns0 write k2 v\ns0 write k3 v\ns0 write k4 v\ns0 write k5 v\ns0 write k6 v\ns0 write k7 v\n\
         s0 write k8 v\ns0 write k9 v\ns0 write k10 v\ns0 write k11 v\ns0 write k12 v\ns0 write k13 v\ns0 write k14 v\ns0 write k15 v\n\
         s0 write k16 v\ns0 write k17 v\ns0 write k18 v\ns0 write k19 v\ns0 write k20 v\ns0 write k21 v\ns0 write k22 v\ns0 write k23 v\n\

@@ -5,9 +5,8 @@ ghost use Rattle.history_book.specs.declared.item.Item.TheVariants.{Refused};
 ghost use Rattle.history_text.specs.Fits.{FitsCause, FitsItem};
 
 use super::words::{print_actor, print_node, print_one, print_two};
-use history_book::Cause;
-use history_book::Actor;
 use crate::line::LineBuf;
+use history_book::{Actor, Cause};
 use stamp_base::{NodeNo, Term};
 
 pub fn print_refused(actor: Actor, cause: Cause, line: &mut LineBuf)

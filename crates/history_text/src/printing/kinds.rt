@@ -1,15 +1,15 @@
+// A function for each kind of item: it leaves the item's words in the line, and nothing else.
 ghost use Rattle.std.specs.Prelude.{◌≡◌, ◌+◌, ◌≤◌, ◌++◌, length};
 ghost use Rattle.history_text.specs.Text.{body_of, note_text, answer_text, commit_text, ending_text};
 ghost use Rattle.history_book.specs.declared.item.Item.TheVariants as item;
 ghost use Rattle.history_text.specs.Fits.{FitsAnswer, FitsCommit, FitsItem, FitsNote};
 
-// A function for each kind of item: it leaves the item's words in the line, and nothing else.
 use super::words::{
     print_actor, print_key, print_node, print_one, print_session, print_stage, print_store,
 };
-use history_book::{Actor, Ending, Found, Note};
 use crate::line::LineBuf;
-use stamp_base::{Store, KeyNo, NodeNo, SessionNo, Stamp, Term, Value};
+use history_book::{Actor, Ending, Found, Note};
+use stamp_base::{KeyNo, NodeNo, SessionNo, Stamp, Store, Term, Value};
 
 pub fn print_note(actor: Actor, note: Note, line: &mut LineBuf)
     ensures text { line.new ≡ body_of (item.Note actor note) }

@@ -6,8 +6,8 @@ ghost use Rattle.history_book.specs.declared.item.StoreStep.TheVariants.{Get, Ma
 ghost use Rattle.history_text.specs.Fits.{FitsEntry, FitsItem, FitsMark, FitsSeen, FitsStep};
 
 use super::words::{print_actor, print_key, print_one, print_two};
-use history_book::{Actor, Seen, StoreStep};
 use crate::line::LineBuf;
+use history_book::{Actor, Seen, StoreStep};
 use stamp_base::{KeyNo, Mark, Stamp, TxnId};
 
 pub fn print_step(actor: Actor, what: StoreStep, line: &mut LineBuf)

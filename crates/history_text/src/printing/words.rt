@@ -1,12 +1,12 @@
+// The parts that items share. Each adds its text at the end of the line.
 ghost use Rattle.std.specs.Prelude.{◌≡◌, ◌+◌, ◌≤◌, ◌++◌, length, decimal};
 ghost use Rattle.history_text.specs.Words.{node_text, session_text, key_text, actor_text, stage_text, store_text};
 ghost use Rattle.stamp_base.specs.Ranges.{IsKey, IsNode, IsSession};
 ghost use Rattle.history_text.specs.Fits.{FitsActor};
 
-// The parts that items share. Each adds its text at the end of the line.
-use history_book::Actor;
 use crate::line::LineBuf;
-use stamp_base::{Store, KeyNo, NodeNo, SessionNo, Stage};
+use history_book::Actor;
+use stamp_base::{KeyNo, NodeNo, SessionNo, Stage, Store};
 
 /// A name and its number, as one text.
 pub fn print_one(name: &[u8], number: u64, line: &mut LineBuf)

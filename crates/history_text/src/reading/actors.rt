@@ -1,13 +1,12 @@
+// The items of any actor, as reading finds them.
 ghost use Rattle.std.specs.Prelude.{◌≡◌};
 ghost use Rattle.history_text.specs.ReadActors.{actor_kind_at, note_item_at, mark_item_at, step_item_at, refused_at, fault_at, note_at, note_kind_at, post_at, await_at, hold_at, free_at, stage_at, store_at};
 
-// The items of any actor, as reading finds them.
 use super::causes::cause;
 use super::steps::step;
 use super::words::{actor, field, is_word, name, split_word, stamp_of};
 use history_book::{Item, Note};
-use stamp_base::Store;
-use stamp_base::Stage;
+use stamp_base::{Stage, Store};
 
 /// The items of any actor.
 #[tactic(auto, unfolding(crate::specs::ReadActors::actor_kind_at))]

@@ -1,7 +1,7 @@
+// The causes, as reading finds them.
 ghost use Rattle.std.specs.Prelude.{◌≡◌};
 ghost use Rattle.history_text.specs.ReadCauses.{cause_at, transaction_cause_at, lease_cause_at, place_cause_at, plain_cause_at, conflict_at, hidden_at, old_epoch_at, expired_at, replaced_at, spent_at, no_stamp_at, invalid_at, open_at, crashed_at, not_yet_at, no_request_at, no_oracle_at, full_at, early_at, holding_at, undecided_at};
 
-// The causes, as reading finds them.
 use super::words::{
     after, field, is_word, key_of, letter, node_of, session_of, split_word, stamp_of, term_of,
 };

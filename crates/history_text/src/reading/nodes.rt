@@ -1,7 +1,7 @@
+// The items of the clock and of the nodes, as reading finds them.
 ghost use Rattle.std.specs.Prelude.{◌≡◌};
 ghost use Rattle.history_text.specs.ReadNodes.{node_kind_at, tick_at, take_at, renew_at, extend_at, crash_at};
 
-// The items of the clock and of the nodes, as reading finds them.
 use super::words::{field, is_word, letter, node_of, number, term_of};
 use history_book::Item;
 

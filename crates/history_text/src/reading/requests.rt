@@ -1,7 +1,7 @@
+// The items of requests, and of placed commits, as reading finds them.
 ghost use Rattle.std.specs.Prelude.{◌≡◌};
 ghost use Rattle.history_text.specs.ReadRequests.{request_kind_at, ask_begin_at, ask_commit_at, accept_at, draw_at, placed_at, drawn_at, no_commit_at, commit_at};
 
-// The items of requests, and of placed commits, as reading finds them.
 use super::words::{after, field, is_word, letter, node_of, session_of, stamp_of, term_of};
 use history_book::Item;
 use stamp_base::Stamp;

@@ -1,7 +1,7 @@
+// The items of sessions, as reading finds them.
 ghost use Rattle.std.specs.Prelude.{◌≡◌};
 ghost use Rattle.history_text.specs.ReadSessions.{session_kind_at, begin_at, write_at, read_at, committed_at, end_at, vanish_at, answer_at, no_answer_at, found_at, ending_at};
 
-// The items of sessions, as reading finds them.
 use super::words::{after, field, is_word, key_of, session_of, stamp_of, value};
 use history_book::{Ending, Found, Item};
 

@@ -1,7 +1,7 @@
+// The steps on the stores, as reading finds them.
 ghost use Rattle.std.specs.Prelude.{◌≡◌};
 ghost use Rattle.history_text.specs.ReadSteps.{step_at, cell_step_at, table_step_at, fetch_at, get_at, mark_found_at, look_at, shadow_at, remove_at, erase_at, keys_at, put_found_at, entry_at, marked_at, mark_at, committed_at, seen_at, shadowed_at};
 
-// The steps on the stores, as reading finds them.
 use super::words::{after, field, is_word, key_of, number, split_word, stamp_of};
 use history_book::{Seen, StoreStep};
 use stamp_base::Mark;

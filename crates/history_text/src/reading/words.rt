@@ -1,8 +1,8 @@
+// The parts that items share, as reading finds them at the front of some bytes.
 ghost use Rattle.std.specs.Prelude.{◌≡◌, ◌+◌, ◌≤◌, length};
 ghost use Rattle.std.specs.Option.{option_map};
 ghost use Rattle.history_text.specs.ReadWords.{word_len, first_word, after_word, is_word, after_text, number_from, field_at, letter_at, node_of, session_of, key_of, stamp_of, term_of, value_at, name_at, node_actor_at, session_actor_at, actor_at};
 
-// The parts that items share, as reading finds them at the front of some bytes.
 use history_book::Actor;
 use stamp_base::{KeyNo, Name, NodeNo, SessionNo, Stamp, Term, Value};
 
