@@ -2,11 +2,12 @@
 use Rattle.std.proofs.Common.{◌≡◌, ℕ, suc, ◌==◌, nat_lt, Bool, true, false, cond, List, [], ◌∷◌, Option, None, Some, refl, ap, arith}
 use Rattle.std.proofs.lemmas.Bool.{lt-leb, leb-true}
 use Rattle.store_parts.specs.declared.rows.Cell.{Cell}
+use Rattle.store_parts.specs.Rows.{is_below, front_of}
 use Rattle.client_parts.specs.declared.resolve.Outcome.TheVariants.{Committed, Dead}
 use Rattle.client_parts.specs.declared.key_read.Next.TheVariants.{Done as NextDone}
 use Rattle.client_parts.specs.declared.asks.Told.{Told}
 use Rattle.client_parts.specs.Resolve.{SettleTurn, Goes, Decides, settle_turn}
-use Rattle.client_parts.specs.KeyRead.{is_late, is_below, front_of, is_passed, after_passed, Reading, ReadTurn, Asks, Answers, settling_of, turn_at, read_over, read_by, read_told, next_of}
+use Rattle.client_parts.specs.KeyRead.{is_late, is_passed, after_passed, Reading, ReadTurn, Asks, Answers, settling_of, turn_at, read_over, read_by, read_told, next_of}
 use Rattle.client_parts.specs.CutReads.{IsCut, IsCutTurn, read_after, CutReadsAreWhole}
 
 passed_over : (start : ℕ) (own : Bool) (shadow : Option ℕ) → cond own false (is_late start shadow) ≡ true → is_below start shadow ≡ false

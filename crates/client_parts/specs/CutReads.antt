@@ -2,7 +2,8 @@
 use Rattle.std.specs.Prelude.{◌≡◌, ℕ, List, [], ◌∷◌}
 use Rattle.client_parts.specs.declared.asks.Told.{Told}
 use Rattle.store_parts.specs.declared.rows.Cell.{Cell}
-use Rattle.client_parts.specs.KeyRead.{front_of, Reading, ReadTurn, Asks, Answers, read_over, read_told, read_ask, next_of}
+use Rattle.store_parts.specs.Rows.{front_of}
+use Rattle.client_parts.specs.KeyRead.{Reading, ReadTurn, Asks, Answers, read_over, read_told, read_ask, next_of}
 
 -- the same read, but that its older cells are the front of the other's
 abbrev pub IsCut : Reading → Reading → Type 0

@@ -50,16 +50,6 @@ abbrev pub is_late : ℕ → Option ℕ → Bool
 is_late start None = false
 is_late start (Some commit) = nat_le start commit
 
--- a shadow below the start: the cell decides by itself, and no read comes further
-abbrev pub is_below : ℕ → Option ℕ → Bool
-is_below start None = false
-is_below start (Some commit) = nat_lt commit start
-
--- the cells down to the first that decides by itself, that one included; all of them where there is none
-unfoldable pub front_of : ℕ → List Cell → List Cell
-front_of start [] = []
-front_of start (c ∷ cs) = if is_below start c.shadow then c ∷ [] else c ∷ front_of start cs
-
 -- another's cell that is passed over without an ask
 abbrev pub is_passed : ℕ → Cell → Bool
 is_passed start c = if c.version == start then false else is_late start c.shadow
