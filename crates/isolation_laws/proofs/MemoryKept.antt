@@ -1,32 +1,28 @@
 -- Every outcome keeps the facts on the conflict memory.
-use Rattle.std.proofs.Common.{◌≡◌, ◌≢◌, ℕ, zero, suc, ◌+◌, ◌<◌, ◌≤◌, Bool, true, false, List, [], ◌∷◌, ◌++◌, append_assoc, Option, Some, None, ◌⊎◌, inl, inr, refl, sym, ◌∙◌, ap, subst, arith}
-use Rattle.std.specs.Prelude.{slice_get, slice_set}
-use Rattle.std.proofs.lemmas.List.{append-nil}
+use Rattle.std.proofs.Common.{◌≡◌, ℕ, ◌+◌, Bool, true, false, List, [], ◌∷◌, ◌++◌, append_assoc, Option, Some, inl, inr, refl, sym, ◌∙◌, ap, subst, arith}
+use Rattle.std.specs.Prelude.{slice_set}
 use Rattle.std.proofs.lemmas.List.Elements.{All-nil, All-cons}
-use Rattle.std.proofs.lemmas.Bool.{cases_eq}
 use Rattle.history_book.specs.declared.item.Item.{Item}
 use Rattle.history_book.specs.declared.item.Actor.TheVariants.{Janitor}
 use Rattle.history_book.specs.declared.item.StoreStep.TheVariants.{Keys}
 use Rattle.history_book.specs.declared.item.Item.TheVariants.{AskBegin, Begin, Draw, Write, Read, Placed, Step}
-use Rattle.store_parts.specs.Record.{granted}
 use Rattle.client_parts.specs.KeyRead.{ReadTurn, Asks, Answers}
 use Rattle.oracle_parts.specs.Buckets.{contents}
 use Rattle.oracle_parts.specs.Instance.{InstanceEntry}
 use Rattle.machine.specs.State.{State}
-use Rattle.machine.specs.Events.Take.{rules_of, instance_of}
 use Rattle.machine.specs.Events.Fetch.{read_items, found_of}
-use Rattle.isolation_laws.specs.Words.{InstanceAt, DrewCommit, HasDrawn, recorded_by, recorded_in, recorded}
+use Rattle.isolation_laws.specs.Words.{InstanceAt, HasDrawn, recorded}
 use Rattle.isolation_laws.specs.Quiet.{Quiet, AllQuiet}
 use Rattle.isolation_laws.specs.Memory.{AreRecorded, MemoryFacts}
 use Rattle.isolation_laws.specs.Holds.{Holds}
 use Rattle.isolation_laws.proofs.Lookups.{instance_changed}
 use Rattle.isolation_laws.proofs.RecordedCommits.{recorded_none}
-use Rattle.isolation_laws.proofs.MemoryStays.{IsRememberedAs, SameMemory, remembered_same, remembered_set, remembered_ended, remembered_alike, RecordsNothing, nothing_quiet, nothing_push, nothing_more, nothing_twice, recorded_same, memory_same}
+use Rattle.isolation_laws.proofs.MemoryStays.{SameMemory, remembered_same, remembered_set, remembered_ended, remembered_alike, RecordsNothing, nothing_quiet, nothing_push, nothing_more, nothing_twice, memory_same}
 use Rattle.isolation_laws.proofs.MemoryOfDraws.{memory_drew}
 use Rattle.isolation_laws.proofs.NumbersOfItems.{begin_is_no_draw, write_is_no_draw, read_is_no_draw, placed_is_no_draw}
 use Rattle.isolation_laws.proofs.RequestsOfItems.{wrote_open}
 use Rattle.isolation_laws.specs.Words.{epoch_or_none}
-use Rattle.isolation_laws.proofs.Outcomes.{Granted, granted_nodes, granted_state, Renewed, renewed_nodes, renewed_state, Extended, extended_nodes, extended_state, WroteOne, wrote_state, wrote_items, fetched_turn, read_turn, fetched_items, read_stepped_items, Outcome, OfStill, OfGranted, OfRenewed, OfExtended, OfCrashed, OfAskedBegin, OfAskedCommit, OfAccepted, OfEnded, OfDrew, OfPlaced, OfNotPlaced, OfAnsweredBegin, OfAnsweredCommit, OfEndedReadOnly, OfWrote, OfWriteFailed, OfAborted, OfVanished, OfHealed, OfFetched, OfReadDropped, OfReadStepped, OfOutcome, OfOutcomeFailed, OfCompleted, OfSweepOpened, OfSwept, OfSweepListed, OfSweepFailed, left_by, told_by_outcome}
+use Rattle.isolation_laws.proofs.Outcomes.{Granted, granted_nodes, granted_state, Renewed, renewed_nodes, renewed_state, Extended, extended_nodes, extended_state, WroteOne, wrote_items, fetched_turn, read_turn, Outcome, OfStill, OfGranted, OfRenewed, OfExtended, OfCrashed, OfAskedBegin, OfAskedCommit, OfAccepted, OfEnded, OfDrew, OfPlaced, OfNotPlaced, OfAnsweredBegin, OfAnsweredCommit, OfEndedReadOnly, OfWrote, OfWriteFailed, OfAborted, OfVanished, OfHealed, OfFetched, OfReadDropped, OfReadStepped, OfOutcome, OfOutcomeFailed, OfCompleted, OfSweepOpened, OfSwept, OfSweepListed, OfSweepFailed, left_by, told_by_outcome}
 
 -- ---- the record
 -- a new instance begins with empty buckets, and nothing was drawn in its term

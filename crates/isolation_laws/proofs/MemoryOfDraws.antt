@@ -1,11 +1,10 @@
 -- The conflict memory where a stamp is drawn: its instance records the keys, and a free verdict keeps commits of one key
 -- apart.
-use Rattle.std.proofs.Common.{◌≡◌, ◌≢◌, ℕ, zero, suc, ◌+◌, ◌<◌, ◌≤◌, List, [], ◌∷◌, ◌++◌, Option, Some, None, ◌⊎◌, inl, inr, refl, sym, ◌∙◌, ap, subst, arith, Contains}
+use Rattle.std.proofs.Common.{◌≡◌, ◌≢◌, ℕ, ◌+◌, ◌<◌, ◌≤◌, List, [], ◌++◌, Option, Some, None, ◌⊎◌, inl, inr, refl, sym, ◌∙◌, ap, subst, arith, Contains}
 use Rattle.std.specs.Option.{IsSomeAnd, option_or}
 use Rattle.std.proofs.lemmas.Bool.{cases_eq}
 use Rattle.std.proofs.lemmas.List.{append-nil}
 use Rattle.std.proofs.lemmas.Option.{same_Some, none-some}
-use Rattle.history_book.specs.Members.{◌∈◌}
 use Rattle.history_book.specs.Isolation.{Wrote, last_write}
 use Rattle.history_book.specs.declared.item.Item.{Item}
 use Rattle.history_book.specs.declared.item.Item.TheVariants.{Draw, Write}
@@ -14,16 +13,15 @@ use Rattle.oracle_parts.specs.declared.buckets.Verdict.{Verdict}
 use Rattle.oracle_parts.specs.declared.buckets.Verdict.TheVariants.{Free}
 use Rattle.oracle_parts.specs.declared.instance.Request.{Request}
 use Rattle.oracle_parts.specs.declared.instance.Request.TheVariants.{Begin as BeginRequest, Commit}
-use Rattle.oracle_parts.specs.Buckets.{contents, last_commit, verdict, record_pairs, IsShown, CommitsRise}
-use Rattle.oracle_parts.specs.Instance.{InstanceEntry}
+use Rattle.oracle_parts.specs.Buckets.{contents, last_commit, verdict, record_pairs, IsShown}
 use Rattle.oracle_parts.specs.InstanceSteps.{pairs_by, request_verdict}
 use Rattle.oracle_parts.proofs.BucketVerdicts.{verdict_shown, record_pairs-append}
 use Rattle.oracle_parts.proofs.LastCommits.{last_commit_greatest}
 use Rattle.machine.specs.State.{State}
-use Rattle.isolation_laws.specs.Words.{InstanceAt, DrewCommit, HasDrawn, drawn_stamp, written_keys, recorded, recorded_by}
+use Rattle.isolation_laws.specs.Words.{DrewCommit, written_keys, recorded, recorded_by}
 use Rattle.isolation_laws.specs.Memory.{AreRecorded, DrawnApart, MemoryFacts}
 use Rattle.isolation_laws.specs.Holds.{Holds}
-use Rattle.isolation_laws.proofs.Outcomes.{Drew, drew_instance, drew_state, drew_items}
+use Rattle.isolation_laws.proofs.Outcomes.{Drew, drew_state, drew_items}
 use Rattle.isolation_laws.proofs.Owners.{drawn_once}
 use Rattle.isolation_laws.proofs.Pushed.{recorded-push}
 use Rattle.isolation_laws.proofs.RecordedCommits.{recorded_contains, recorded_rise, recorded_by_own, recorded_by_other, wrote_key}

@@ -1,26 +1,24 @@
 -- The conflict memory stays where no commit is drawn: instances keep their buckets, and items record nothing.
-use Rattle.std.proofs.Common.{◌≡◌, ◌≢◌, ℕ, ◌+◌, ◌<◌, ◌==◌, Bool, true, false, if◌then◌else◌, List, [], ◌∷◌, ◌++◌, append_assoc, Option, Some, None, ◌⊎◌, inl, inr, refl, sym, ◌∙◌, ap, subst, arith}
+use Rattle.std.proofs.Common.{◌≡◌, ℕ, ◌==◌, List, [], ◌∷◌, ◌++◌, append_assoc, Option, Some, None, inl, inr, refl, sym, ◌∙◌, ap, subst}
 use Rattle.std.specs.Prelude.{slice_set}
 use Rattle.std.specs.Option.{option_or}
-use Rattle.std.proofs.lemmas.Bool.{cases_Bool, cases_eq, eqb-true}
+use Rattle.std.proofs.lemmas.Bool.{cases_Bool, eqb-true}
 use Rattle.std.proofs.lemmas.List.{append-nil}
-use Rattle.std.proofs.lemmas.Option.{none-some}
-use Rattle.history_book.specs.Members.{◌∈◌}
 use Rattle.history_book.specs.Isolation.{Wrote, last_write, written_by}
 use Rattle.history_book.specs.declared.item.Item.{Item}
 use Rattle.history_book.specs.declared.item.Item.TheVariants.{Draw, Write}
 use Rattle.history_book.proofs.HistoryLemmas.{last_write-push}
-use Rattle.history_book.proofs.MemberLemmas.{in_front, in_old}
+use Rattle.history_book.proofs.MemberLemmas.{in_old}
 use Rattle.stamp_base.specs.SetupNumbers.{SetupNumbers}
 use Rattle.oracle_parts.specs.Buckets.{contents}
 use Rattle.oracle_parts.specs.Instance.{InstanceEntry}
 use Rattle.isolation_laws.specs.Words.{InstanceAt, DrewCommit, HasDrawn, keys_with, written_keys, recorded_by, recorded}
 use Rattle.isolation_laws.specs.Quiet.{AllQuiet}
-use Rattle.isolation_laws.specs.Memory.{AreRecorded, DrawnApart, MemoryFacts}
+use Rattle.isolation_laws.specs.Memory.{AreRecorded, MemoryFacts}
 use Rattle.isolation_laws.proofs.Lookups.{instance_changed, instance_ended}
 use Rattle.isolation_laws.proofs.Outcomes.{AlikeNodes}
 use Rattle.isolation_laws.proofs.NumbersOfItems.{NoDraw}
-use Rattle.isolation_laws.proofs.Pushed.{old_draw, drawn_on, last_write-quiet, written_keys-push, written_keys-quiet, recorded-quiet, recorded-push}
+use Rattle.isolation_laws.proofs.Pushed.{old_draw, drawn_on, last_write-quiet, written_keys-push, recorded-quiet, recorded-push}
 
 -- ---- instances with the same memory
 pub record IsRememberedAs (i j : InstanceEntry) : Type 0 where

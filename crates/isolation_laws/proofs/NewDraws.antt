@@ -1,27 +1,26 @@
 -- A stamp that is drawn now is new, and lies where the instances of its term, of later and of earlier ones say.
-use Rattle.std.proofs.Common.{◌≡◌, ◌≢◌, ℕ, zero, suc, ◌+◌, ◌<◌, ◌≤◌, List, [], ◌∷◌, ◌++◌, Option, Some, None, ◌⊎◌, inl, inr, refl, sym, ◌∙◌, ap, subst, arith}
-use Rattle.std.specs.Prelude.{slice_get, slice_set}
+use Rattle.std.proofs.Common.{◌≡◌, ℕ, ◌+◌, ◌<◌, ◌≤◌, List, [], ◌∷◌, ◌++◌, Option, Some, ◌⊎◌, inl, inr, refl, sym, ◌∙◌, ap, subst, arith}
 use Rattle.std.proofs.lemmas.Option.{same_Some, none-some}
-use Rattle.history_book.specs.Members.{◌∈◌, AtEach}
+use Rattle.history_book.specs.Members.{◌∈◌}
 use Rattle.history_book.specs.Isolation.{Committed}
 use Rattle.history_book.specs.declared.item.Found.{Found}
 use Rattle.history_book.specs.declared.item.Item.{Item}
 use Rattle.history_book.specs.declared.item.Item.TheVariants.{Begin, Draw, Write, Read, Placed}
-use Rattle.history_book.proofs.MemberLemmas.{in_front, in_push, in_old, in_last, AtEach-push}
+use Rattle.history_book.proofs.MemberLemmas.{in_push, in_old, AtEach-push}
 use Rattle.store_parts.specs.Record.{MasterRecord}
 use Rattle.oracle_parts.specs.declared.instance.Progress.TheVariants as progress
 use Rattle.oracle_parts.specs.declared.instance.Request.{Request}
 use Rattle.oracle_parts.specs.declared.instance.Request.TheVariants.{Begin as BeginRequest, Commit}
-use Rattle.oracle_parts.specs.Instance.{InstanceEntry, session_of}
+use Rattle.oracle_parts.specs.Instance.{session_of}
 use Rattle.machine.specs.State.{State}
 use Rattle.machine.specs.Events.Decide.{draw_item}
-use Rattle.isolation_laws.specs.Words.{InstanceAt, HeldBy, Begun, DrewStart, DrewCommit, HasDrawn, drawn_stamp}
-use Rattle.isolation_laws.specs.Pending.{InFlight, Taken, Pending}
-use Rattle.isolation_laws.specs.Numbers.{AreRanges, AreDrawn, IsNewDraw, AreNewDraws, AreBegun, ArePlaced, NumberFacts}
-use Rattle.isolation_laws.specs.Requests.{AreRequests, ArePending, AreAccepted}
+use Rattle.isolation_laws.specs.Words.{Begun, HasDrawn, drawn_stamp}
+use Rattle.isolation_laws.specs.Pending.{Taken, Pending}
+use Rattle.isolation_laws.specs.Numbers.{AreRanges, AreDrawn, IsNewDraw, AreNewDraws, AreBegun, NumberFacts}
+use Rattle.isolation_laws.specs.Requests.{AreRequests, AreAccepted}
 use Rattle.isolation_laws.specs.Holds.{Holds}
 use Rattle.isolation_laws.proofs.Lookups.{held_by}
-use Rattle.isolation_laws.proofs.Outcomes.{Drew, drew_instance, drew_state, drew_items}
+use Rattle.isolation_laws.proofs.Outcomes.{Drew, drew_state, drew_items}
 use Rattle.isolation_laws.proofs.NumbersStay.{begun_on, start_on, placed_on}
 use Rattle.isolation_laws.proofs.NumbersOfDraws.{start_drawn, commit_drawn, asker_of, draw_item_is, drew_cases, drew_room, drew_ranges, drew_leases}
 

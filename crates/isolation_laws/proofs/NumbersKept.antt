@@ -1,14 +1,13 @@
 -- Every outcome keeps the facts on stamps, terms and leases.
-use Rattle.std.proofs.Common.{◌≡◌, ◌≢◌, ℕ, zero, suc, ◌+◌, ◌<◌, ◌≤◌, max, Bool, true, false, IsTrue, List, [], ◌∷◌, ◌++◌, append_assoc, Option, Some, None, ◌⊎◌, inl, inr, refl, sym, ◌∙◌, ap, subst, arith}
-use Rattle.std.specs.Prelude.{slice_get, slice_set}
+use Rattle.std.proofs.Common.{◌≡◌, ℕ, ◌≤◌, max, IsTrue, List, [], ◌∷◌, ◌++◌, append_assoc, Option, Some, refl, sym, ◌∙◌, ap, subst, arith}
+use Rattle.std.specs.Prelude.{slice_set}
 use Rattle.std.proofs.lemmas.List.{append-nil}
 use Rattle.std.proofs.lemmas.List.Elements.{All-nil, All-cons}
-use Rattle.std.proofs.lemmas.Option.{same_Some, none-some}
-use Rattle.history_book.specs.declared.item.Found.{Found}
+use Rattle.std.proofs.lemmas.Option.{same_Some}
 use Rattle.history_book.specs.declared.item.Item.{Item}
 use Rattle.history_book.specs.declared.item.Actor.TheVariants.{Janitor}
 use Rattle.history_book.specs.declared.item.StoreStep.TheVariants.{Keys}
-use Rattle.history_book.specs.declared.item.Item.TheVariants.{AskBegin, Begin, Draw, Write, Read, Placed, Step}
+use Rattle.history_book.specs.declared.item.Item.TheVariants.{AskBegin, Begin, Write, Read, Placed, Step}
 use Rattle.history_book.proofs.MemberLemmas.{in_front}
 use Rattle.stamp_base.specs.SetupNumbers.{SetupNumbers}
 use Rattle.store_parts.specs.Record.{MasterRecord}
@@ -16,23 +15,22 @@ use Rattle.client_parts.specs.declared.session.State.{State as SessionState}
 use Rattle.client_parts.specs.declared.session.State.TheVariants as phase
 use Rattle.client_parts.specs.SessionSteps.{has_transaction}
 use Rattle.client_parts.specs.KeyRead.{ReadTurn, Asks, Answers}
-use Rattle.oracle_parts.specs.declared.instance.Progress.{Progress}
 use Rattle.oracle_parts.specs.declared.instance.Progress.TheVariants as progress
 use Rattle.oracle_parts.specs.declared.instance.Request.{Request}
 use Rattle.oracle_parts.specs.declared.instance.Request.TheVariants.{Begin as BeginRequest, Commit}
 use Rattle.oracle_parts.specs.Instance.{InstanceEntry, session_of}
 use Rattle.machine.specs.State.{Client, State}
 use Rattle.machine.specs.Events.Fetch.{read_items, found_of}
-use Rattle.isolation_laws.specs.Words.{InstanceAt, HeldBy, ClientAt, OpenAt, Begun, DrewStart, DrewCommit}
+use Rattle.isolation_laws.specs.Words.{InstanceAt, ClientAt, Begun, DrewStart, DrewCommit}
 use Rattle.isolation_laws.specs.Pending.{InFlight, Has, Pending}
 use Rattle.isolation_laws.specs.Quiet.{Quiet, AllQuiet}
 use Rattle.isolation_laws.specs.Numbers.{NumberFacts}
-use Rattle.isolation_laws.specs.Requests.{HaveBegun, AreRequests, AreStarting}
+use Rattle.isolation_laws.specs.Requests.{HaveBegun, AreRequests}
 use Rattle.isolation_laws.specs.Holds.{Holds}
 use Rattle.isolation_laws.proofs.Lookups.{held_by}
 use Rattle.isolation_laws.proofs.Owners.{has_drew}
-use Rattle.isolation_laws.proofs.Outcomes.{AlikeNodes, Still, Granted, Renewed, Extended, Crashed, AskedBegin, AskedCommit, Accepted, Ended, Drew, AtDrawn, PlacedOne, NotPlaced, AnsweredBegin, AnsweredCommit, EndedReadOnly, WroteOne, WriteFailed, Aborted, Vanished, Healed, Fetched, ReadDropped, ReadStepped, OutcomeStepped, OutcomeFailed, CompletedOne, SweepOpened, SweptOne, SweepListed, SweepFailed, fetched_turn, read_turn, asked_begin_items, placed_items, answered_begin_items, wrote_items, fetched_items, read_stepped_items, sweep_listed_items, placed_state, not_placed_state, asked_begin_state, asked_commit_state, accepted_state, ended_state, crashed_state, answered_begin_state, answered_commit_state, Outcome, OfStill, OfGranted, OfRenewed, OfExtended, OfCrashed, OfAskedBegin, OfAskedCommit, OfAccepted, OfEnded, OfDrew, OfPlaced, OfNotPlaced, OfAnsweredBegin, OfAnsweredCommit, OfEndedReadOnly, OfWrote, OfWriteFailed, OfAborted, OfVanished, OfHealed, OfFetched, OfReadDropped, OfReadStepped, OfOutcome, OfOutcomeFailed, OfCompleted, OfSweepOpened, OfSwept, OfSweepListed, OfSweepFailed, left_by, told_by_outcome}
-use Rattle.isolation_laws.proofs.NumbersStay.{SameNumbers, IsNumberedAs, numbered_same, numbered_set, numbered_ended, numbered_alike, ranges_same, leases_same, drawn_same, numbers_quiet}
+use Rattle.isolation_laws.proofs.Outcomes.{AskedBegin, AtDrawn, PlacedOne, AnsweredBegin, WroteOne, Fetched, ReadStepped, SweepListed, fetched_turn, read_turn, asked_begin_items, placed_items, answered_begin_items, wrote_items, fetched_items, read_stepped_items, sweep_listed_items, placed_state, asked_begin_state, answered_begin_state, Outcome, OfStill, OfGranted, OfRenewed, OfExtended, OfCrashed, OfAskedBegin, OfAskedCommit, OfAccepted, OfEnded, OfDrew, OfPlaced, OfNotPlaced, OfAnsweredBegin, OfAnsweredCommit, OfEndedReadOnly, OfWrote, OfWriteFailed, OfAborted, OfVanished, OfHealed, OfFetched, OfReadDropped, OfReadStepped, OfOutcome, OfOutcomeFailed, OfCompleted, OfSweepOpened, OfSwept, OfSweepListed, OfSweepFailed, left_by, told_by_outcome}
+use Rattle.isolation_laws.proofs.NumbersStay.{SameNumbers, IsNumberedAs, numbered_same, numbered_set, numbered_ended, numbered_alike, numbers_quiet}
 use Rattle.isolation_laws.proofs.NumbersOfRecord.{numbers_granted, numbers_renewed, numbers_extended}
 use Rattle.isolation_laws.proofs.NewDraws.{numbers_drew}
 use Rattle.isolation_laws.proofs.NumbersOfItems.{NoDraw, begin_is_no_draw, write_is_no_draw, read_is_no_draw, placed_is_no_draw, drawn_push, new_push, FitsBegun, begun_push, fits_begin, fits_write, fits_read, fits_placed, placed_push, placed_fits}

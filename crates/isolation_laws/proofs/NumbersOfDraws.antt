@@ -1,26 +1,15 @@
 -- Stamps, terms and leases where a stamp is drawn: it is the next one of its instance, above all of its term, and new.
-use Rattle.std.proofs.Common.{◌≡◌, ◌≢◌, ℕ, zero, suc, ◌+◌, ◌<◌, ◌≤◌, Bool, true, false, List, [], ◌∷◌, ◌++◌, Option, Some, None, ◌⊎◌, inl, inr, refl, sym, ◌∙◌, ap, subst, arith}
-use Rattle.std.specs.Prelude.{slice_get, slice_set}
-use Rattle.std.proofs.lemmas.Option.{same_Some, none-some}
-use Rattle.history_book.specs.Members.{◌∈◌, AtEach}
-use Rattle.history_book.specs.Isolation.{Committed}
-use Rattle.history_book.specs.declared.item.Found.{Found}
-use Rattle.history_book.specs.declared.item.Item.{Item}
-use Rattle.history_book.specs.declared.item.Item.TheVariants.{Begin, Draw, Write, Read, Placed}
-use Rattle.history_book.proofs.MemberLemmas.{in_front, in_push, AtEach-push}
-use Rattle.oracle_parts.specs.declared.instance.Progress.TheVariants as progress
+use Rattle.std.proofs.Common.{◌≡◌, ◌≢◌, ℕ, ◌+◌, ◌≤◌, Option, Some, None, ◌⊎◌, inl, inr, refl, sym, ◌∙◌, ap, subst, arith}
+use Rattle.history_book.specs.declared.item.Item.TheVariants.{Draw}
 use Rattle.oracle_parts.specs.declared.instance.Request.{Request}
 use Rattle.oracle_parts.specs.declared.instance.Request.TheVariants.{Begin as BeginRequest, Commit}
 use Rattle.oracle_parts.specs.Instance.{InstanceEntry}
 use Rattle.machine.specs.State.{State}
 use Rattle.machine.specs.Events.Decide.{draw_item}
-use Rattle.isolation_laws.specs.Words.{InstanceAt, Begun, DrewCommit, HasDrawn, drawn_stamp}
-use Rattle.isolation_laws.specs.Pending.{InFlight, Taken, Pending}
-use Rattle.isolation_laws.specs.Numbers.{AreRanges, AreLeases, AreDrawn, IsNewDraw, AreNewDraws, AreBegun, ArePlaced, NumberFacts}
-use Rattle.isolation_laws.specs.Holds.{Holds}
-use Rattle.isolation_laws.proofs.Lookups.{instance_changed, one_instance, held_by}
-use Rattle.isolation_laws.proofs.Outcomes.{Drew, drew_instance, drew_state, drew_items}
-use Rattle.isolation_laws.proofs.NumbersStay.{begun_on, start_on, placed_on}
+use Rattle.isolation_laws.specs.Words.{InstanceAt, drawn_stamp}
+use Rattle.isolation_laws.specs.Numbers.{AreRanges, AreLeases}
+use Rattle.isolation_laws.proofs.Lookups.{instance_changed}
+use Rattle.isolation_laws.proofs.Outcomes.{Drew, drew_instance, drew_state}
 
 -- ---- what is drawn: its stamp, and the start that it is drawn for
 abbrev pub start_drawn : Request → ℕ → ℕ

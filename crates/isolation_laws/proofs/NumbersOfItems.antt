@@ -1,15 +1,12 @@
 -- Stamps, terms and leases where a begin, a write, a read or a placed commit is appended: each is of what was drawn or begun.
-use Rattle.std.proofs.Common.{◌≡◌, ◌≢◌, ℕ, zero, suc, ◌+◌, ◌<◌, ◌≤◌, true, List, [], ◌∷◌, ◌++◌, append_assoc, Option, Some, None, ◌⊎◌, inl, inr, refl, sym, ◌∙◌, ap, subst, arith, IsTrue}
-use Rattle.std.proofs.lemmas.Option.{same_Some, none-some}
-use Rattle.history_book.specs.Members.{◌∈◌, AtEach}
-use Rattle.history_book.specs.Isolation.{Committed}
+use Rattle.std.proofs.Common.{◌≡◌, ℕ, List, [], ◌∷◌, ◌++◌, Option, Some, inl, inr, refl, subst}
 use Rattle.history_book.specs.declared.item.Found.{Found}
 use Rattle.history_book.specs.declared.item.Item.{Item}
 use Rattle.history_book.specs.declared.item.Item.TheVariants.{Begin, Draw, Write, Read, Placed}
-use Rattle.history_book.proofs.MemberLemmas.{in_front, in_back, in_last, in_push, in_old, AtEach-push}
+use Rattle.history_book.proofs.MemberLemmas.{in_push, in_old, AtEach-push}
 use Rattle.store_parts.specs.Record.{MasterRecord}
 use Rattle.oracle_parts.specs.Instance.{InstanceEntry}
-use Rattle.isolation_laws.specs.Words.{InstanceAt, Begun, DrewStart, DrewCommit, drawn_stamp}
+use Rattle.isolation_laws.specs.Words.{Begun, DrewStart, DrewCommit}
 use Rattle.isolation_laws.specs.Numbers.{AreDrawn, IsNewDraw, AreNewDraws, AreBegun, ArePlaced}
 use Rattle.isolation_laws.proofs.NumbersStay.{begun_on, start_on, placed_on}
 

@@ -1,21 +1,18 @@
 -- Stamps, terms and leases where the master record moves: a take, a renewal, an extension.
-use Rattle.std.proofs.Common.{◌≡◌, ◌≢◌, ℕ, zero, suc, ◌+◌, ◌<◌, ◌≤◌, ◌^◌, max, nat_lt, Bool, true, false, ◌&&◌, if◌then◌else◌, List, [], ◌∷◌, ◌++◌, Option, Some, None, is_some, ◌⊎◌, inl, inr, refl, sym, ◌∙◌, ap, subst, arith}
-use Rattle.std.specs.Prelude.{slice_get, slice_set, IsSome}
-use Rattle.std.proofs.lemmas.Bool.{cases_Bool, ltb-false}
-use Rattle.std.proofs.lemmas.Option.{same_Some, none-some}
-use Rattle.history_book.specs.Members.{◌∈◌}
+use Rattle.std.proofs.Common.{◌≡◌, ◌≢◌, ℕ, ◌+◌, ◌<◌, ◌≤◌, max, nat_lt, Bool, true, false, ◌&&◌, if◌then◌else◌, List, ◌++◌, Option, Some, None, is_some, ◌⊎◌, inl, inr, refl, sym, ◌∙◌, ap, subst, arith}
+use Rattle.std.specs.Prelude.{slice_set, IsSome}
+use Rattle.std.proofs.lemmas.Bool.{ltb-false}
+use Rattle.std.proofs.lemmas.Option.{none-some}
 use Rattle.history_book.specs.declared.item.Item.{Item}
-use Rattle.history_book.specs.declared.item.Item.TheVariants.{Draw}
 use Rattle.stamp_base.specs.SetupNumbers.{SetupNumbers}
-use Rattle.store_parts.specs.declared.record.Grant.{Grant}
 use Rattle.store_parts.specs.declared.record.TakeRefused.{TakeRefused}
-use Rattle.store_parts.specs.declared.record.TakeRefused.TheVariants.{Early, Spent}
-use Rattle.store_parts.specs.Record.{Leasing, MasterRecord, is_early, is_spent, take_refused, granted, held_by, renewed_until}
+use Rattle.store_parts.specs.declared.record.TakeRefused.TheVariants.{Early}
+use Rattle.store_parts.specs.Record.{Leasing, MasterRecord, is_early, take_refused, granted, held_by, renewed_until}
 use Rattle.oracle_parts.specs.Instance.{InstanceEntry}
 use Rattle.oracle_parts.specs.InstanceSteps.{instance_renewed, instance_widened}
 use Rattle.machine.specs.State.{State}
 use Rattle.machine.specs.Events.Take.{rules_of, instance_of}
-use Rattle.isolation_laws.specs.Words.{InstanceAt, drawn_stamp}
+use Rattle.isolation_laws.specs.Words.{InstanceAt}
 use Rattle.isolation_laws.specs.Quiet.{AllQuiet}
 use Rattle.isolation_laws.specs.Numbers.{AreRanges, AreLeases, AreDrawn, NumberFacts}
 use Rattle.isolation_laws.specs.Holds.{Holds}

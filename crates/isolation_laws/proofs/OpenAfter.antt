@@ -1,7 +1,7 @@
 -- What each outcome makes of the open transactions: one more where a begin is answered, and else fewer.
-use Rattle.std.proofs.Common.{◌≡◌, ◌≢◌, ℕ, zero, suc, Bool, true, false, List, [], ◌∷◌, Option, Some, None, ◌⊎◌, inl, inr, refl, sym, ◌∙◌, ap, subst, arith}
-use Rattle.std.specs.Prelude.{slice_get, slice_set, slice_index_or}
-use Rattle.std.proofs.lemmas.Option.{same_Some, none-some}
+use Rattle.std.proofs.Common.{◌≡◌, ℕ, zero, suc, Bool, true, false, List, [], ◌∷◌, Option, Some, None, ◌⊎◌, inl, inr, refl, sym, ◌∙◌, ap, subst}
+use Rattle.std.specs.Prelude.{slice_set, slice_index_or}
+use Rattle.std.proofs.lemmas.Option.{same_Some}
 use Rattle.client_parts.specs.declared.asks.Ask.{Ask}
 use Rattle.client_parts.specs.declared.resolve.Outcome.TheVariants as outcome
 use Rattle.client_parts.specs.declared.session.State.{State as SessionState}
@@ -17,7 +17,7 @@ use Rattle.oracle_parts.specs.declared.instance.Settled.TheVariants as how
 use Rattle.machine.specs.State.{Client, State}
 use Rattle.machine.specs.Clients.{client_freed, client_aborted, client_committed, client_opened, client_begun, unless_gone, unless_gone_by, after_refusal}
 use Rattle.machine.specs.StoreSteps.{told_by}
-use Rattle.machine.specs.Events.Crash.{after_loss, crashed_client, crashed_clients}
+use Rattle.machine.specs.Events.Crash.{after_loss, crashed_clients}
 use Rattle.machine.specs.Events.Fetch.{client_read}
 use Rattle.machine.specs.Events.Step.{client_settled, after_asks}
 use Rattle.machine.specs.Events.Write.{client_wrote}

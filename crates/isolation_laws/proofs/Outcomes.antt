@@ -11,7 +11,7 @@ use Rattle.history_book.specs.declared.item.Item.{Item}
 use Rattle.history_book.specs.declared.item.Item.TheVariants as item
 use Rattle.store_parts.specs.Rows.{Row, put_row, fetched, front_of, with_shadow, keys_of_version}
 use Rattle.store_parts.specs.Pairs.{Pairs, mark_of, put_pair}
-use Rattle.store_parts.specs.Record.{MasterRecord, take_refused, granted, held_by, is_spent, renewed_until}
+use Rattle.store_parts.specs.Record.{take_refused, granted, held_by, is_spent, renewed_until}
 use Rattle.client_parts.specs.declared.asks.Ask.{Ask}
 use Rattle.client_parts.specs.declared.asks.Ask.TheVariants.{Keys as KeysAsk}
 use Rattle.client_parts.specs.declared.session.State.TheVariants as phase
@@ -21,7 +21,6 @@ use Rattle.client_parts.specs.Sweep.{Sweeping, sweep_open, sweep_ask, sweep_told
 use Rattle.oracle_parts.specs.declared.buckets.Verdict.TheVariants.{Free}
 use Rattle.oracle_parts.specs.declared.instance.Held.{Held}
 use Rattle.oracle_parts.specs.declared.instance.Progress.TheVariants as progress
-use Rattle.oracle_parts.specs.declared.instance.Request.{Request}
 use Rattle.oracle_parts.specs.declared.instance.Request.TheVariants.{Begin, Commit}
 use Rattle.oracle_parts.specs.declared.instance.Settled.{Settled}
 use Rattle.oracle_parts.specs.declared.instance.Settled.TheVariants as how
@@ -31,7 +30,7 @@ use Rattle.oracle_parts.specs.InstanceSteps.{without_request, moved, just_asked,
 use Rattle.machine.specs.State.{UnderWay, Nothing, Reads, Settles, Completes, Client, State}
 use Rattle.machine.specs.Clients.{is_reading, client_begun, client_asked, client_freed, client_aborted, client_committed, client_opened, client_vanished, unless_gone, after_refusal}
 use Rattle.machine.specs.StoreSteps.{rows_after, pairs_after, told_by}
-use Rattle.machine.specs.Events.Take.{rules_of, instance_of, take_item}
+use Rattle.machine.specs.Events.Take.{rules_of, instance_of}
 use Rattle.machine.specs.Events.Crash.{crashed_clients}
 use Rattle.machine.specs.Events.Decide.{draw_item}
 use Rattle.machine.specs.Events.Write.{client_wrote}

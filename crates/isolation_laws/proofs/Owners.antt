@@ -1,7 +1,7 @@
 -- What follows from several facts at once: whose a transaction is, what still may be placed, and what can come below a start.
-use Rattle.std.proofs.Common.{◌≡◌, ◌≢◌, ℕ, zero, suc, ◌+◌, ◌<◌, ◌≤◌, Bool, true, false, IsTrue, List, [], ◌∷◌, Option, Some, None, ◌⊎◌, inl, inr, refl, sym, ◌∙◌, ap, subst, arith, take}
+use Rattle.std.proofs.Common.{◌≡◌, ℕ, zero, suc, ◌+◌, ◌<◌, ◌≤◌, List, [], ◌∷◌, Option, Some, None, ◌⊎◌, inl, inr, refl, sym, ◌∙◌, ap, subst, arith, take}
 use Rattle.std.specs.Prelude.{slice_get}
-use Rattle.std.proofs.lemmas.Option.{same_Some, none-some}
+use Rattle.std.proofs.lemmas.Option.{same_Some}
 use Rattle.history_book.specs.Members.{◌∈◌, AtEach}
 use Rattle.history_book.specs.Isolation.{Committed, Wrote, Apart, NewStamps, Stamped}
 use Rattle.history_book.specs.declared.item.Item.{Item}
@@ -15,11 +15,11 @@ use Rattle.oracle_parts.specs.declared.instance.Progress.TheVariants as progress
 use Rattle.oracle_parts.specs.declared.instance.Request.TheVariants.{Commit}
 use Rattle.oracle_parts.specs.Instance.{InstanceEntry}
 use Rattle.machine.specs.State.{Client}
-use Rattle.isolation_laws.specs.Words.{InstanceAt, HeldBy, ClientAt, OpenAt, Begun, DrewStart, DrewCommit, HasDrawn, drawn_stamp}
+use Rattle.isolation_laws.specs.Words.{InstanceAt, HeldBy, ClientAt, OpenAt, Begun, DrewCommit, drawn_stamp}
 use Rattle.isolation_laws.specs.Pending.{Stage, Waits, Taken, Has, InFlight, stage_of, Pending, IsStageBelow, ComesBelow, IsPending, IsOpen, Live}
 use Rattle.isolation_laws.specs.Numbers.{AreRanges, AreLeases, AreDrawn, IsNewDraw, AreNewDraws, AreBegun, ArePlaced}
 use Rattle.isolation_laws.specs.Requests.{AreRequests, WaitsFor, IsDrawnSoFar, ArePending, AreAccepted, AreOpen}
-use Rattle.isolation_laws.specs.Begins.{AreSettledBelow, IsPast}
+use Rattle.isolation_laws.specs.Begins.{AreSettledBelow}
 use Rattle.isolation_laws.proofs.Lookups.{one_client}
 
 -- ---- two members of a list in which something holds at each place

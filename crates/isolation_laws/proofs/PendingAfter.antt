@@ -1,9 +1,8 @@
 -- What each outcome makes of the commits in flight: one more that waits, one that is taken, one that has its commit while
 -- the others of its instance see a later last stamp, or fewer.
-use Rattle.std.proofs.Common.{◌≡◌, ◌≢◌, ℕ, zero, suc, ◌+◌, ◌<◌, ◌≤◌, Bool, true, false, List, [], ◌∷◌, Option, Some, None, ◌⊎◌, inl, inr, refl, sym, ◌∙◌, ap, subst, arith}
-use Rattle.std.specs.Prelude.{slice_get, slice_set, slice_index_or, replicate}
+use Rattle.std.proofs.Common.{◌≡◌, ◌≢◌, ℕ, zero, suc, ◌+◌, ◌<◌, Bool, true, false, List, Option, Some, None, ◌⊎◌, inl, inr, refl, sym, ◌∙◌, ap, subst, arith}
+use Rattle.std.specs.Prelude.{slice_set, slice_index_or, replicate}
 use Rattle.std.proofs.lemmas.Option.{same_Some, none-some}
-use Rattle.stamp_base.specs.SetupNumbers.{SetupNumbers}
 use Rattle.store_parts.specs.declared.record.Grant.{Grant}
 use Rattle.oracle_parts.specs.declared.instance.Held.{Held}
 use Rattle.oracle_parts.specs.declared.instance.Progress.{Progress}
@@ -18,8 +17,8 @@ use Rattle.store_parts.specs.Record.{granted, renewed_until}
 use Rattle.machine.specs.Events.Take.{rules_of, instance_of}
 use Rattle.isolation_laws.specs.Words.{InstanceAt, HeldBy}
 use Rattle.isolation_laws.specs.Pending.{Stage, Waits, Taken, Has, InFlight, stage_of, Pending, IsStageBelow, ComesBelow, IsPending}
-use Rattle.isolation_laws.proofs.Lookups.{instance_set, instance_changed, instance_ended, heldby_set, heldby_ended, heldby_changed, IsNow}
-use Rattle.isolation_laws.proofs.Outcomes.{Alike, AlikeNodes, Still, still_state, Granted, granted_nodes, granted_state, Renewed, renewed_nodes, renewed_state, Extended, extended_nodes, extended_state, Crashed, crashed_state, AskedBegin, asked_begin_state, AskedCommit, asked_commit_state, Accepted, accepted_state, Ended, ended_state, Drew, drew_instance, drew_state, AtDrawn, PlacedOne, placed_state, NotPlaced, not_placed_state, AnsweredBegin, answered_begin_state, AnsweredCommit, answered_commit_state}
+use Rattle.isolation_laws.proofs.Lookups.{instance_changed, instance_ended, heldby_ended, heldby_changed}
+use Rattle.isolation_laws.proofs.Outcomes.{Alike, Still, Granted, granted_nodes, granted_state, Renewed, renewed_nodes, renewed_state, Extended, extended_nodes, extended_state, Crashed, crashed_state, AskedBegin, asked_begin_state, AskedCommit, asked_commit_state, Accepted, accepted_state, Ended, ended_state, Drew, drew_instance, drew_state, PlacedOne, placed_state, NotPlaced, not_placed_state, AnsweredBegin, answered_begin_state, AnsweredCommit, answered_commit_state}
 
 -- a commit in flight at an instance
 pub record PendingIn (i : InstanceEntry) (q : InFlight) : Type 0 where

@@ -1,20 +1,18 @@
 -- What a history has after more items: what it had, and what they bring. Quiet items bring nothing that a fact reads.
-use Rattle.std.proofs.Common.{◌≡◌, ◌≢◌, ℕ, zero, suc, ◌==◌, Bool, true, false, IsTrue, if◌then◌else◌, List, [], ◌∷◌, ◌++◌, append_assoc, Option, Some, None, ◌⊎◌, inl, inr, refl, sym, ◌∙◌, ap, subst, arith, All}
+use Rattle.std.proofs.Common.{◌≡◌, ℕ, ◌==◌, true, false, if◌then◌else◌, List, [], ◌∷◌, ◌++◌, append_assoc, Option, Some, None, ◌⊎◌, inl, inr, refl, sym, ◌∙◌, ap, subst}
 use Rattle.std.specs.Option.{option_or}
 use Rattle.std.proofs.lemmas.List.{append-nil}
 use Rattle.std.proofs.lemmas.List.Elements.{All-head, All-tail}
 use Rattle.history_book.specs.Members.{◌∈◌}
 use Rattle.history_book.specs.Isolation.{Committed, last_write, written_by, WasListed}
-use Rattle.history_book.specs.declared.item.Actor.{Actor}
 use Rattle.history_book.specs.declared.item.Found.{Found}
 use Rattle.history_book.specs.declared.item.StoreStep.TheVariants.{Keys}
 use Rattle.history_book.specs.declared.item.Item.{Item}
 use Rattle.history_book.specs.declared.item.Item.TheVariants.{AskBegin, Draw, Begin, Write, Read, Placed, Step}
-use Rattle.history_book.proofs.MemberLemmas.{in_front, in_back, in_last, in_push}
+use Rattle.history_book.proofs.MemberLemmas.{in_front}
 use Rattle.history_book.proofs.HistoryLemmas.{last_write-push}
-use Rattle.oracle_parts.specs.declared.buckets.Recorded.{Recorded}
 use Rattle.oracle_parts.specs.Buckets.{pairs_of}
-use Rattle.isolation_laws.specs.Words.{Begun, DrewStart, DrewCommit, HasDrawn, keys_with, keys_from, written_keys, recorded_by, recorded_in, recorded}
+use Rattle.isolation_laws.specs.Words.{Begun, HasDrawn, keys_with, keys_from, written_keys, recorded_by, recorded_in, recorded}
 use Rattle.isolation_laws.specs.Quiet.{Quiet, AllQuiet}
 
 pub not_true : false ≡ true → ⊥

@@ -1,6 +1,6 @@
 -- Requests and the sessions that wait for them, where an instance or a client changes.
-use Rattle.std.proofs.Common.{◌≡◌, ◌≢◌, ℕ, zero, suc, Bool, true, false, IsTrue, List, [], ◌∷◌, Option, Some, None, ◌⊎◌, inl, inr, refl, sym, ◌∙◌, ap, subst, arith}
-use Rattle.std.specs.Prelude.{slice_get, slice_set, slice_index_or}
+use Rattle.std.proofs.Common.{◌≡◌, ◌≢◌, ℕ, zero, suc, Bool, List, [], ◌∷◌, Option, Some, None, ◌⊎◌, inl, inr, refl, sym, ◌∙◌, ap, subst}
+use Rattle.std.specs.Prelude.{slice_set, slice_index_or}
 use Rattle.std.proofs.lemmas.Bool.{cases_eq}
 use Rattle.std.proofs.lemmas.Option.{same_Some, none-some}
 use Rattle.client_parts.specs.declared.session.State.{State as SessionState}
@@ -11,11 +11,10 @@ use Rattle.oracle_parts.specs.declared.instance.Request.{Request}
 use Rattle.oracle_parts.specs.declared.instance.Request.TheVariants.{Begin, Commit}
 use Rattle.oracle_parts.specs.Instance.{InstanceEntry, held_of, with_request, session_of}
 use Rattle.machine.specs.State.{Client}
-use Rattle.machine.specs.Events.Crash.{after_loss, crashed_clients}
+use Rattle.machine.specs.Events.Crash.{crashed_clients}
 use Rattle.isolation_laws.specs.Words.{InstanceAt, HeldBy, ClientAt}
 use Rattle.isolation_laws.specs.Requests.{WaitsFor, AreRequests}
-use Rattle.isolation_laws.proofs.Lookups.{instance_changed, instance_ended, client_set, one_client, held_set, set_found, set_other}
-use Rattle.isolation_laws.proofs.OpenAfter.{crashed_at}
+use Rattle.isolation_laws.proofs.Lookups.{instance_changed, instance_ended, one_client, held_set, set_found, set_other}
 
 -- ---- instances with the same requests or fewer
 -- each request that is held was held, by the same node and session

@@ -1,19 +1,15 @@
 -- Outcomes that bring no further begin, draw, write or placed commit keep the facts on sessions and requests.
-use Rattle.std.proofs.Common.{◌≡◌, ◌≢◌, ℕ, zero, suc, ◌+◌, ◌<◌, ◌≤◌, max, Bool, true, false, IsTrue, List, [], ◌∷◌, ◌++◌, append_assoc, Option, Some, None, ◌⊎◌, inl, inr, refl, sym, ◌∙◌, ap, subst, arith}
-use Rattle.std.specs.Prelude.{slice_get, slice_set}
-use Rattle.history_book.specs.Isolation.{Committed}
+use Rattle.std.proofs.Common.{List, Option, sym, ◌∙◌}
 use Rattle.history_book.specs.declared.item.Item.{Item}
 use Rattle.history_book.specs.declared.item.Item.TheVariants.{Begin}
-use Rattle.oracle_parts.specs.declared.instance.Settled.TheVariants as how
 use Rattle.oracle_parts.specs.Instance.{InstanceEntry}
 use Rattle.machine.specs.State.{Client, State}
-use Rattle.isolation_laws.specs.Words.{Begun, HasDrawn, written_keys}
-use Rattle.isolation_laws.specs.Pending.{InFlight, Pending}
-use Rattle.isolation_laws.specs.Requests.{HaveBegun, AreRequests, AreStarting, ArePending, AreSettled, AreAccepted, AreOpen, AreKeys, RequestFacts}
+use Rattle.isolation_laws.specs.Pending.{InFlight}
+use Rattle.isolation_laws.specs.Requests.{HaveBegun, AreRequests, AreStarting, ArePending, AreSettled, AreOpen, AreKeys, RequestFacts}
 use Rattle.isolation_laws.specs.Holds.{Holds}
 use Rattle.isolation_laws.proofs.PendingAfter.{FewerPending}
 use Rattle.isolation_laws.proofs.OpenAfter.{FewerOpen}
-use Rattle.isolation_laws.proofs.CommitsInFlight.{LeavesAlone, StaysPending, pending_fewer, FewerStanding, IsSettledNow, IsAcceptedNow, IsDrawnNow, SettledAt, settled_fewer, accepted_fewer, starting_fewer, open_fewer}
+use Rattle.isolation_laws.proofs.CommitsInFlight.{StaysPending, pending_fewer, FewerStanding, IsSettledNow, IsAcceptedNow, IsDrawnNow, settled_fewer, accepted_fewer, starting_fewer, open_fewer}
 use Rattle.isolation_laws.proofs.Silent.{Silent, silent_drawn}
 
 -- what an outcome leaves of requests and sessions

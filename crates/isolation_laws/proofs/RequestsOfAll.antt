@@ -1,5 +1,5 @@
 -- Every outcome keeps the facts on sessions and requests.
-use Rattle.std.proofs.Common.{◌≡◌, ℕ, List, [], ◌∷◌, ◌++◌, Option}
+use Rattle.std.proofs.Common.{List, ◌++◌, Option}
 use Rattle.history_book.specs.declared.item.Item.{Item}
 use Rattle.history_book.specs.declared.item.Actor.TheVariants.{Janitor}
 use Rattle.oracle_parts.specs.Instance.{InstanceEntry}
@@ -8,7 +8,7 @@ use Rattle.isolation_laws.specs.Quiet.{AllQuiet}
 use Rattle.isolation_laws.specs.Requests.{RequestFacts}
 use Rattle.isolation_laws.specs.Holds.{Holds}
 use Rattle.isolation_laws.proofs.Outcomes.{Outcome, OfStill, OfGranted, OfRenewed, OfExtended, OfCrashed, OfAskedBegin, OfAskedCommit, OfAccepted, OfEnded, OfDrew, OfPlaced, OfNotPlaced, OfAnsweredBegin, OfAnsweredCommit, OfEndedReadOnly, OfWrote, OfWriteFailed, OfAborted, OfVanished, OfHealed, OfFetched, OfReadDropped, OfReadStepped, OfOutcome, OfOutcomeFailed, OfCompleted, OfSweepOpened, OfSwept, OfSweepListed, OfSweepFailed, left_by, told_by_outcome, fetched_turn, read_turn}
-use Rattle.isolation_laws.proofs.Silent.{Silent, silent_same, silent_quiet, silent_push, silent_turn, ask_says, listing_says}
+use Rattle.isolation_laws.proofs.Silent.{silent_quiet, silent_push, silent_turn, ask_says, listing_says}
 use Rattle.isolation_laws.proofs.RequestsKept.{Leaves, requests_silent}
 use Rattle.isolation_laws.proofs.RequestsOfNodes.{leaves_still, leaves_granted, leaves_renewed, leaves_extended, leaves_crashed, leaves_asked_begin, leaves_ended, leaves_answered_commit}
 use Rattle.isolation_laws.proofs.RequestsOfClients.{leaves_read_only, leaves_write_failed, leaves_aborted, leaves_healed, leaves_fetched, leaves_dropped, leaves_read, leaves_vanished, leaves_outcome, leaves_outcome_failed, leaves_completed, leaves_alone}

@@ -1,13 +1,12 @@
 -- What outcomes leave of requests and sessions, where one client alone changes.
-use Rattle.std.proofs.Common.{◌≡◌, ◌≢◌, ℕ, zero, suc, Bool, true, false, IsTrue, List, [], ◌∷◌, ◌++◌, Option, Some, None, ◌⊎◌, inl, inr, refl, sym, ◌∙◌, ap, subst}
-use Rattle.std.specs.Prelude.{slice_get, slice_set}
-use Rattle.std.proofs.lemmas.Option.{same_Some, none-some}
+use Rattle.std.proofs.Common.{◌≡◌, ℕ, IsTrue, List, Option, ◌⊎◌, inl, inr, refl, sym, ◌∙◌, ap, subst}
+use Rattle.std.specs.Prelude.{slice_set}
+use Rattle.std.proofs.lemmas.Option.{same_Some}
 use Rattle.history_book.specs.declared.item.Item.{Item}
 use Rattle.client_parts.specs.declared.session.State.{State as SessionState}
 use Rattle.client_parts.specs.declared.session.State.TheVariants as phase
 use Rattle.client_parts.specs.SessionSteps.{has_transaction}
-use Rattle.client_parts.specs.KeyRead.{ReadTurn, Asks, Answers}
-use Rattle.client_parts.specs.Resolve.{Settling, SettleTurn, Goes, Decides, settle_ask, settle_turn}
+use Rattle.client_parts.specs.Resolve.{SettleTurn, settle_ask, settle_turn}
 use Rattle.oracle_parts.specs.declared.instance.Progress.{Progress}
 use Rattle.oracle_parts.specs.declared.instance.Request.{Request}
 use Rattle.oracle_parts.specs.declared.instance.Request.TheVariants.{Begin, Commit}
@@ -16,7 +15,7 @@ use Rattle.machine.specs.State.{Client, State}
 use Rattle.machine.specs.StoreSteps.{told_by}
 use Rattle.machine.specs.Clients.{client_freed, client_aborted, client_vanished}
 use Rattle.machine.specs.Events.Fetch.{client_read}
-use Rattle.machine.specs.Events.Step.{client_settled, after_asks}
+use Rattle.machine.specs.Events.Step.{client_settled}
 use Rattle.machine.specs.Events.Write.{client_wrote}
 use Rattle.isolation_laws.specs.Words.{InstanceAt, HeldBy, ClientAt}
 use Rattle.isolation_laws.specs.Requests.{WaitsFor, AreRequests, HasAsked}
@@ -25,7 +24,7 @@ use Rattle.isolation_laws.proofs.Outcomes.{EndedReadOnly, read_only_state, Write
 use Rattle.isolation_laws.proofs.PendingAfter.{FewerPending}
 use Rattle.isolation_laws.proofs.OpenAfter.{FewerOpen, read_keeps_entry, fewer_open_read_only, fewer_open_write_failed, fewer_open_aborted, fewer_open_vanished, fewer_open_healed, fewer_open_fetched, fewer_open_dropped, fewer_open_read, fewer_open_outcome, fewer_open_outcome_failed, fewer_open_completed}
 use Rattle.isolation_laws.proofs.ClientsAfter.{begun_kept, KeepsStart, has_none, has_by, aborted_keeps, freed_keeps, settled_keeps, asks_keep, KeysClient, keys_client, keys_set, keys_closed, gone_closed, keys_aborted, keys_freed, keys_settled, keys_asks}
-use Rattle.isolation_laws.proofs.RequestsAfter.{WaitsForNone, free_waits, open_waits, outcome_waits, completing_waits, requests_client, requests_idle}
+use Rattle.isolation_laws.proofs.RequestsAfter.{WaitsForNone, open_waits, outcome_waits, completing_waits, requests_client, requests_idle}
 use Rattle.isolation_laws.proofs.Standing.{standing_same}
 use Rattle.isolation_laws.proofs.CommitsInFlight.{IsSettledNow, IsAcceptedNow, IsDrawnNow}
 use Rattle.isolation_laws.proofs.RequestsKept.{Leaves}

@@ -1,28 +1,21 @@
 -- Sessions and requests where a stamp is drawn, and where a commit is settled.
-use Rattle.std.proofs.Common.{◌≡◌, ◌≢◌, ℕ, zero, suc, ◌+◌, ◌<◌, ◌≤◌, List, [], ◌∷◌, ◌++◌, append_assoc, Option, Some, None, ◌⊎◌, inl, inr, refl, sym, ◌∙◌, ap, subst, arith}
-use Rattle.std.specs.Prelude.{slice_get, slice_set}
+use Rattle.std.proofs.Common.{◌≡◌, ℕ, ◌+◌, List, ◌++◌, Option, Some, None, ◌⊎◌, inl, inr, refl, sym, ◌∙◌, ap, subst, arith}
 use Rattle.std.proofs.lemmas.Option.{same_Some, none-some}
 use Rattle.history_book.specs.Members.{◌∈◌}
-use Rattle.history_book.specs.Isolation.{Committed}
 use Rattle.history_book.specs.declared.item.Item.{Item}
-use Rattle.history_book.specs.declared.item.Item.TheVariants.{Begin, Draw, Write, Placed}
-use Rattle.history_book.proofs.MemberLemmas.{in_front, in_back, in_last, in_push}
-use Rattle.oracle_parts.specs.declared.instance.Held.{Held}
-use Rattle.oracle_parts.specs.declared.instance.Progress.{Progress}
+use Rattle.history_book.specs.declared.item.Item.TheVariants.{Begin, Draw, Write}
+use Rattle.history_book.proofs.MemberLemmas.{in_front, in_last, in_push}
 use Rattle.oracle_parts.specs.declared.instance.Progress.TheVariants as progress
 use Rattle.oracle_parts.specs.declared.instance.Request.{Request}
 use Rattle.oracle_parts.specs.declared.instance.Request.TheVariants.{Begin as BeginRequest, Commit}
-use Rattle.oracle_parts.specs.declared.instance.Settled.{Settled}
-use Rattle.oracle_parts.specs.declared.instance.Settled.TheVariants as how
-use Rattle.oracle_parts.specs.Instance.{InstanceEntry, held_of, with_request, session_of}
-use Rattle.oracle_parts.specs.InstanceSteps.{moved}
-use Rattle.machine.specs.State.{Client, State}
+use Rattle.oracle_parts.specs.Instance.{InstanceEntry}
+use Rattle.machine.specs.State.{State}
 use Rattle.machine.specs.Events.Decide.{draw_item}
-use Rattle.isolation_laws.specs.Words.{InstanceAt, HeldBy, ClientAt, OpenAt, Begun, DrewStart, DrewCommit, HasDrawn, drawn_stamp, written_keys}
-use Rattle.isolation_laws.specs.Pending.{Stage, Waits, Taken, Has, InFlight, Pending, IsPending}
-use Rattle.isolation_laws.specs.Requests.{HaveBegun, AreRequests, AreStarting, IsDrawnSoFar, ArePending, IsSettled, AreSettled, AreAccepted, AreOpen, AreKeys, RequestFacts}
+use Rattle.isolation_laws.specs.Words.{InstanceAt, HeldBy, OpenAt, Begun, DrewStart, DrewCommit, HasDrawn, written_keys}
+use Rattle.isolation_laws.specs.Pending.{Stage, Taken, InFlight, Pending}
+use Rattle.isolation_laws.specs.Requests.{AreStarting, IsDrawnSoFar, ArePending, RequestFacts}
 use Rattle.isolation_laws.specs.Holds.{Holds}
-use Rattle.isolation_laws.proofs.Lookups.{held_by, held_set, one_held, instance_changed, one_instance}
+use Rattle.isolation_laws.proofs.Lookups.{held_by, held_set, instance_changed}
 use Rattle.isolation_laws.proofs.Owners.{begun_once, open_not_pending, so_far_unplaced}
 use Rattle.isolation_laws.proofs.Outcomes.{Drew, drew_instance, drew_state, drew_items}
 use Rattle.isolation_laws.proofs.PendingAfter.{IsOlder, IsDrawnNow as IsDrawnQ, pending_drew}
@@ -30,7 +23,7 @@ use Rattle.isolation_laws.proofs.NumbersKept.{open_begun}
 use Rattle.isolation_laws.proofs.ClientsAfter.{have_on, written_keys-no_write}
 use Rattle.isolation_laws.proofs.RequestsAfter.{requests_fewer}
 use Rattle.isolation_laws.proofs.Standing.{standing_drew, held_drew}
-use Rattle.isolation_laws.proofs.CommitsInFlight.{LeavesAlone, GoesOn, goes_on, StaysPending, PendingOne, pending_one, pending_on, are_pending, FewerStanding, IsSettledNow, IsAcceptedNow, IsDrawnNow, SettledAt, settled_fewer, accepted_fewer, starting_fewer, open_fewer}
+use Rattle.isolation_laws.proofs.CommitsInFlight.{goes_on, StaysPending, PendingOne, pending_one, pending_on, are_pending, IsSettledNow, IsAcceptedNow, settled_fewer, accepted_fewer, open_fewer}
 use Rattle.isolation_laws.proofs.NumbersOfDraws.{start_drawn, commit_drawn, asker_of, draw_item_is, drew_room}
 use Rattle.isolation_laws.proofs.NewDraws.{older_stamp, new_draw, drew_taken, drew_begun_old, drew_placed_old}
 

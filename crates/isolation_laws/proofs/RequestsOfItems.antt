@@ -1,29 +1,25 @@
 -- Sessions and requests where a begin is answered, and where a value is written; and every outcome.
-use Rattle.std.proofs.Common.{◌≡◌, ◌≢◌, ℕ, zero, suc, ◌+◌, ◌<◌, ◌≤◌, Bool, true, false, IsTrue, List, [], ◌∷◌, ◌++◌, append_assoc, Option, Some, None, ◌⊎◌, inl, inr, refl, sym, ◌∙◌, ap, subst, arith}
-use Rattle.std.specs.Prelude.{slice_get, slice_set}
+use Rattle.std.proofs.Common.{◌≡◌, ℕ, IsTrue, List, [], ◌∷◌, ◌++◌, Some, None, ◌⊎◌, inl, inr, refl, sym, ◌∙◌, ap, subst, arith}
 use Rattle.std.proofs.lemmas.Bool.{cases_eq}
-use Rattle.std.proofs.lemmas.Option.{same_Some, none-some}
-use Rattle.history_book.specs.Members.{◌∈◌}
+use Rattle.std.proofs.lemmas.Option.{same_Some}
 use Rattle.history_book.specs.Isolation.{Committed}
 use Rattle.history_book.specs.declared.item.Item.{Item}
-use Rattle.history_book.specs.declared.item.Item.TheVariants.{AskBegin, Begin, Draw, Write, Placed, Step}
-use Rattle.history_book.specs.declared.item.Actor.TheVariants.{Janitor}
+use Rattle.history_book.specs.declared.item.Item.TheVariants.{Begin, Draw, Write, Placed}
 use Rattle.history_book.proofs.MemberLemmas.{in_front, in_last, in_push, in_old}
 use Rattle.client_parts.specs.declared.session.State.{State as SessionState}
 use Rattle.client_parts.specs.declared.session.State.TheVariants as phase
 use Rattle.client_parts.specs.SessionSteps.{has_transaction, key_added}
-use Rattle.oracle_parts.specs.declared.instance.Progress.{Progress}
 use Rattle.oracle_parts.specs.declared.instance.Progress.TheVariants as progress
 use Rattle.oracle_parts.specs.declared.instance.Request.{Request}
-use Rattle.oracle_parts.specs.declared.instance.Request.TheVariants.{Begin as BeginRequest, Commit}
-use Rattle.oracle_parts.specs.Instance.{InstanceEntry, held_of, session_of}
+use Rattle.oracle_parts.specs.declared.instance.Request.TheVariants.{Begin as BeginRequest}
+use Rattle.oracle_parts.specs.Instance.{InstanceEntry, session_of}
 use Rattle.oracle_parts.specs.InstanceSteps.{without_request}
 use Rattle.machine.specs.State.{Client, State}
 use Rattle.machine.specs.Clients.{client_begun, unless_gone}
 use Rattle.machine.specs.Events.Write.{client_wrote}
 use Rattle.isolation_laws.specs.Words.{InstanceAt, HeldBy, ClientAt, epoch_or_none, OpenAt, Begun, DrewStart, HasDrawn, written_keys}
-use Rattle.isolation_laws.specs.Pending.{InFlight, Pending, IsPending}
-use Rattle.isolation_laws.specs.Requests.{HaveBegun, AreRequests, AreStarting, ArePending, AreSettled, AreOpen, AreKeys, HasAsked, RequestFacts}
+use Rattle.isolation_laws.specs.Pending.{IsPending}
+use Rattle.isolation_laws.specs.Requests.{AreKeys, HasAsked, RequestFacts}
 use Rattle.isolation_laws.specs.Holds.{Holds}
 use Rattle.isolation_laws.proofs.Lookups.{held_by, client_set, instance_changed, heldby_ended}
 use Rattle.isolation_laws.proofs.Owners.{begun_once, drawn_once, open_not_pending}
@@ -34,7 +30,7 @@ use Rattle.isolation_laws.proofs.NumbersKept.{open_begun, drew_start}
 use Rattle.isolation_laws.proofs.ClientsAfter.{BegunClient, begun_set, begun_kept, have_on, KeysClient, keys_client, keys_set, written_keys-no_write, written_keys-own, written_keys-other, written_keys-none}
 use Rattle.isolation_laws.proofs.RequestsAfter.{requests_over, requests_idle, open_waits}
 use Rattle.isolation_laws.proofs.Standing.{standing_same, standing_over}
-use Rattle.isolation_laws.proofs.CommitsInFlight.{GoesOn, goes_on, StaysPending, pending_fewer, IsSettledNow, IsAcceptedNow, IsDrawnNow, SettledAt, settled_fewer, accepted_fewer, starting_fewer, open_fewer}
+use Rattle.isolation_laws.proofs.CommitsInFlight.{GoesOn, goes_on, pending_fewer, IsSettledNow, IsAcceptedNow, IsDrawnNow, settled_fewer, accepted_fewer, starting_fewer, open_fewer}
 
 -- ---- a begin that is answered
 begin_is : (r u s t : ℕ) → Begin r u ≡ Begin s t → (r ≡ s) × (u ≡ t)

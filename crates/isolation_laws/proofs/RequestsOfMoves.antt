@@ -1,29 +1,22 @@
 -- Sessions and requests where a commit is asked, a request is accepted, a stamp is drawn, a commit is settled.
-use Rattle.std.proofs.Common.{◌≡◌, ◌≢◌, ℕ, zero, suc, ◌+◌, ◌<◌, ◌≤◌, nat_le, if◌then◌else◌, Bool, true, false, IsTrue, List, [], ◌∷◌, ◌++◌, Option, Some, None, ◌⊎◌, inl, inr, refl, sym, ◌∙◌, ap, subst, arith}
-use Rattle.std.specs.Prelude.{slice_get, slice_set}
+use Rattle.std.proofs.Common.{◌≡◌, ℕ, ◌<◌, ◌≤◌, nat_le, if◌then◌else◌, Bool, true, false, List, ◌++◌, Some, None, inl, inr, refl, sym, ◌∙◌, ap, subst, arith}
 use Rattle.std.proofs.lemmas.Bool.{leb-false}
 use Rattle.std.proofs.lemmas.Option.{same_Some, none-some}
-use Rattle.history_book.specs.Members.{◌∈◌}
-use Rattle.history_book.specs.Isolation.{Committed}
 use Rattle.history_book.specs.declared.cause.Cause.TheVariants.{OldEpoch}
 use Rattle.history_book.specs.declared.item.Item.{Item}
-use Rattle.history_book.specs.declared.item.Item.TheVariants.{Begin, Draw, Placed}
+use Rattle.history_book.specs.declared.item.Item.TheVariants.{Begin}
 use Rattle.client_parts.specs.declared.session.State.TheVariants as phase
-use Rattle.client_parts.specs.SessionSteps.{has_transaction, asked_state}
-use Rattle.oracle_parts.specs.declared.instance.Held.{Held}
-use Rattle.oracle_parts.specs.declared.instance.Progress.{Progress}
+use Rattle.client_parts.specs.SessionSteps.{asked_state}
 use Rattle.oracle_parts.specs.declared.instance.Progress.TheVariants as progress
 use Rattle.oracle_parts.specs.declared.instance.Request.{Request}
-use Rattle.oracle_parts.specs.declared.instance.Request.TheVariants.{Begin as BeginRequest, Commit}
-use Rattle.oracle_parts.specs.declared.instance.Settled.{Settled}
-use Rattle.oracle_parts.specs.declared.instance.Settled.TheVariants as how
-use Rattle.oracle_parts.specs.Instance.{InstanceEntry, held_of, session_of}
+use Rattle.oracle_parts.specs.declared.instance.Request.TheVariants.{Commit}
+use Rattle.oracle_parts.specs.Instance.{InstanceEntry, session_of}
 use Rattle.oracle_parts.specs.InstanceSteps.{moved, epoch_refusal}
 use Rattle.machine.specs.State.{Client, State}
 use Rattle.machine.specs.Clients.{client_asked}
-use Rattle.isolation_laws.specs.Words.{InstanceAt, HeldBy, ClientAt, epoch_or_none, OpenAt, Begun, DrewCommit, HasDrawn, written_keys}
-use Rattle.isolation_laws.specs.Pending.{Stage, Waits, Taken, Has, InFlight, Pending, IsPending}
-use Rattle.isolation_laws.specs.Requests.{HaveBegun, AreRequests, IsDrawnSoFar, ArePending, AreAccepted, AreKeys, HasAsked, RequestFacts}
+use Rattle.isolation_laws.specs.Words.{HeldBy, ClientAt, epoch_or_none, OpenAt, Begun, HasDrawn, written_keys}
+use Rattle.isolation_laws.specs.Pending.{Stage, Waits, InFlight, Pending}
+use Rattle.isolation_laws.specs.Requests.{IsDrawnSoFar, AreAccepted, RequestFacts}
 use Rattle.isolation_laws.specs.Holds.{Holds}
 use Rattle.isolation_laws.proofs.Lookups.{held_by, held_set, instance_changed}
 use Rattle.isolation_laws.proofs.Owners.{accepts_now, begun_below_last}
@@ -34,7 +27,7 @@ use Rattle.isolation_laws.proofs.NumbersKept.{open_begun}
 use Rattle.isolation_laws.proofs.ClientsAfter.{begun_kept, has_by, KeysClient, keys_client, keys_set}
 use Rattle.isolation_laws.proofs.RequestsAfter.{open_waits, new_held, requests_new, requests_fewer}
 use Rattle.isolation_laws.proofs.Standing.{standing_asked_commit, standing_accepted, held_accepted}
-use Rattle.isolation_laws.proofs.CommitsInFlight.{LeavesAlone, StaysPending, PendingOne, pending_one, pending_on, are_pending, IsSettledNow, IsAcceptedNow, IsDrawnNow, accepted_fewer}
+use Rattle.isolation_laws.proofs.CommitsInFlight.{PendingOne, pending_one, pending_on, are_pending, IsSettledNow, IsAcceptedNow, IsDrawnNow, accepted_fewer}
 use Rattle.isolation_laws.proofs.Silent.{Silent, silent_drawn, silent_quiet}
 use Rattle.isolation_laws.proofs.RequestsKept.{have_silent, keys_silent, stays_silent, starting_silent, settled_silent, open_silent}
 

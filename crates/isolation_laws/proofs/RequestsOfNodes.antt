@@ -1,33 +1,30 @@
 -- What outcomes leave of requests and sessions, where nodes change: the record's, a crash, an ask, the end of a request.
-use Rattle.std.proofs.Common.{◌≡◌, ◌≢◌, ℕ, zero, suc, ◌+◌, ◌<◌, ◌≤◌, max, Bool, true, false, IsTrue, List, [], ◌∷◌, ◌++◌, Option, Some, None, ◌⊎◌, inl, inr, refl, sym, ◌∙◌, ap, subst, arith}
-use Rattle.std.specs.Prelude.{slice_get, slice_set, slice_index_or}
-use Rattle.std.proofs.lemmas.Option.{same_Some, none-some}
+use Rattle.std.proofs.Common.{◌≡◌, ℕ, IsTrue, List, Some, ◌⊎◌, inl, inr, refl, sym, ◌∙◌, ap, subst}
+use Rattle.std.specs.Prelude.{slice_set}
 use Rattle.history_book.specs.declared.item.Item.{Item}
 use Rattle.client_parts.specs.declared.session.State.{State as SessionState}
 use Rattle.client_parts.specs.declared.session.State.TheVariants as phase
 use Rattle.client_parts.specs.SessionSteps.{has_transaction, asked_state}
 use Rattle.oracle_parts.specs.declared.instance.Held.{Held}
-use Rattle.oracle_parts.specs.declared.instance.Progress.{Progress}
-use Rattle.oracle_parts.specs.declared.instance.Progress.TheVariants as progress
 use Rattle.oracle_parts.specs.declared.instance.Request.{Request}
 use Rattle.oracle_parts.specs.declared.instance.Request.TheVariants.{Begin, Commit}
 use Rattle.oracle_parts.specs.declared.instance.Settled.{Settled}
 use Rattle.oracle_parts.specs.declared.instance.Settled.TheVariants as how
-use Rattle.oracle_parts.specs.Instance.{InstanceEntry, held_of, session_of}
+use Rattle.oracle_parts.specs.Instance.{InstanceEntry, held_of}
 use Rattle.oracle_parts.specs.InstanceSteps.{without_request}
 use Rattle.machine.specs.State.{Client, State}
 use Rattle.machine.specs.Clients.{client_asked, client_freed, client_aborted, client_committed, client_opened, unless_gone, unless_gone_by, after_refusal}
-use Rattle.machine.specs.Events.Crash.{after_loss, crashed_clients}
-use Rattle.isolation_laws.specs.Words.{InstanceAt, HeldBy, ClientAt, Begun}
-use Rattle.isolation_laws.specs.Requests.{HaveBegun, WaitsFor, AreRequests, HasAsked, AreKeys}
+use Rattle.machine.specs.Events.Crash.{after_loss}
+use Rattle.isolation_laws.specs.Words.{InstanceAt, ClientAt}
+use Rattle.isolation_laws.specs.Requests.{HaveBegun, WaitsFor, HasAsked, AreKeys}
 use Rattle.isolation_laws.specs.Holds.{Holds}
 use Rattle.isolation_laws.proofs.Lookups.{held_by, one_client}
 use Rattle.isolation_laws.proofs.Outcomes.{Still, still_state, Granted, granted_state, Renewed, renewed_state, Extended, extended_state, Crashed, crashed_state, AskedBegin, asked_begin_state, Ended, ended_state, AnsweredCommit, answered_client, answered_commit_state}
 use Rattle.isolation_laws.proofs.PendingAfter.{FewerPending, fewer_still, fewer_granted, fewer_renewed, fewer_extended, fewer_crashed, fewer_asked_begin, fewer_ended_one, fewer_answered_commit}
 use Rattle.isolation_laws.proofs.OpenAfter.{FewerOpen, gone_cases, crashed_at, fewer_open_crashed, fewer_open_asked_begin, fewer_open_ended, fewer_open_answered_commit}
-use Rattle.isolation_laws.proofs.ClientsAfter.{BegunClient, begun_set, begun_kept, KeepsStart, has_none, has_by, aborted_keeps, committed_keeps, opened_keeps, freed_keeps, KeysClient, keys_client, keys_set, keys_closed, asking_closed, gone_closed, keys_aborted, keys_freed, keys_committed, keys_opened}
+use Rattle.isolation_laws.proofs.ClientsAfter.{BegunClient, begun_set, begun_kept, KeepsStart, has_none, has_by, aborted_keeps, committed_keeps, opened_keeps, freed_keeps, KeysClient, keys_client, keys_set, keys_closed, asking_closed, keys_aborted, keys_freed, keys_committed, keys_opened}
 use Rattle.isolation_laws.proofs.RequestsAfter.{requests_fewer, free_waits, requests_over, requests_crashed, new_held, requests_new}
-use Rattle.isolation_laws.proofs.Standing.{standing_same, standing_alike, held_alike, standing_ended, standing_granted, held_granted, standing_renewed, held_renewed, standing_extended, held_extended, standing_asked_begin, standing_over}
+use Rattle.isolation_laws.proofs.Standing.{standing_alike, held_alike, standing_ended, standing_granted, held_granted, standing_renewed, held_renewed, standing_extended, held_extended, standing_asked_begin, standing_over}
 use Rattle.isolation_laws.proofs.CommitsInFlight.{IsSettledNow, IsAcceptedNow, IsDrawnNow}
 use Rattle.isolation_laws.proofs.RequestsKept.{Leaves}
 

@@ -1,39 +1,35 @@
 -- Sessions and requests where a commit is settled: it is in flight no more.
-use Rattle.std.proofs.Common.{◌≡◌, ◌≢◌, ℕ, zero, suc, ◌+◌, ◌<◌, ◌≤◌, List, [], ◌∷◌, ◌++◌, append_assoc, Option, Some, None, ◌⊎◌, inl, inr, refl, sym, ◌∙◌, ap, subst, arith}
-use Rattle.std.specs.Prelude.{slice_get, slice_set}
-use Rattle.std.proofs.lemmas.Bool.{cases_eq}
-use Rattle.std.proofs.lemmas.Option.{same_Some, none-some}
+use Rattle.std.proofs.Common.{◌≡◌, ◌≢◌, ℕ, List, [], ◌∷◌, ◌++◌, append_assoc, Option, Some, ◌⊎◌, inl, inr, refl, sym, ◌∙◌, ap, subst}
+use Rattle.std.specs.Prelude.{slice_set}
+use Rattle.std.proofs.lemmas.Option.{same_Some}
 use Rattle.history_book.specs.Members.{◌∈◌}
 use Rattle.history_book.specs.Isolation.{Committed}
 use Rattle.history_book.specs.declared.item.Item.{Item}
-use Rattle.history_book.specs.declared.item.Item.TheVariants.{Begin, Draw, Write, Placed}
-use Rattle.history_book.proofs.MemberLemmas.{in_front, in_back, in_last, in_push, in_old}
-use Rattle.oracle_parts.specs.declared.instance.Held.{Held}
-use Rattle.oracle_parts.specs.declared.instance.Progress.{Progress}
+use Rattle.history_book.specs.declared.item.Item.TheVariants.{Begin, Draw, Placed}
+use Rattle.history_book.proofs.MemberLemmas.{in_front, in_last, in_push, in_old}
 use Rattle.oracle_parts.specs.declared.instance.Progress.TheVariants as progress
-use Rattle.oracle_parts.specs.declared.instance.Request.{Request}
-use Rattle.oracle_parts.specs.declared.instance.Request.TheVariants.{Begin as BeginRequest, Commit}
+use Rattle.oracle_parts.specs.declared.instance.Request.TheVariants.{Commit}
 use Rattle.oracle_parts.specs.declared.instance.Settled.{Settled}
 use Rattle.oracle_parts.specs.declared.instance.Settled.TheVariants as how
-use Rattle.oracle_parts.specs.Instance.{InstanceEntry, held_of, with_request, session_of}
+use Rattle.oracle_parts.specs.Instance.{InstanceEntry, held_of}
 use Rattle.oracle_parts.specs.InstanceSteps.{moved}
-use Rattle.machine.specs.State.{Client, State}
-use Rattle.isolation_laws.specs.Words.{InstanceAt, HeldBy, ClientAt, OpenAt, Begun, DrewStart, DrewCommit, HasDrawn, written_keys}
-use Rattle.isolation_laws.specs.Pending.{Stage, Waits, Taken, Has, InFlight, Pending, IsPending}
-use Rattle.isolation_laws.specs.Quiet.{Quiet, AllQuiet}
-use Rattle.isolation_laws.specs.Requests.{HaveBegun, AreRequests, AreStarting, IsDrawnSoFar, ArePending, IsSettled, AreSettled, AreAccepted, AreOpen, AreKeys, RequestFacts}
+use Rattle.machine.specs.State.{State}
+use Rattle.isolation_laws.specs.Words.{InstanceAt, HeldBy, Begun, HasDrawn, written_keys}
+use Rattle.isolation_laws.specs.Pending.{InFlight, Pending}
+use Rattle.isolation_laws.specs.Quiet.{AllQuiet}
+use Rattle.isolation_laws.specs.Requests.{ArePending, IsSettled, AreSettled, RequestFacts}
 use Rattle.isolation_laws.specs.Holds.{Holds}
 use Rattle.isolation_laws.proofs.Lookups.{held_by, held_set, one_held, instance_changed, one_instance}
 use Rattle.isolation_laws.proofs.Owners.{begun_once, has_drew}
 use Rattle.isolation_laws.proofs.Outcomes.{AtDrawn, PlacedOne, placed_state, placed_items, NotPlaced, not_placed_state}
-use Rattle.isolation_laws.proofs.PendingAfter.{StaysElsewhere, pending_placed, fewer_placed, fewer_not_placed}
+use Rattle.isolation_laws.proofs.PendingAfter.{StaysElsewhere, pending_placed, fewer_not_placed}
 use Rattle.isolation_laws.proofs.Pushed.{old_begin, old_draw, old_placed, written_keys-quiet}
 use Rattle.isolation_laws.proofs.ClientsAfter.{have_on, written_keys-no_write}
 use Rattle.isolation_laws.proofs.RequestsAfter.{requests_fewer}
 use Rattle.isolation_laws.proofs.Standing.{standing_placed, standing_not_placed, held_placed, held_not_placed}
 use Rattle.isolation_laws.proofs.NumbersKept.{in_flight_of, drawn_pending, drew_commit}
-use Rattle.isolation_laws.proofs.CommitsInFlight.{LeavesAlone, GoesOn, goes_on, StaysPending, PendingOne, pending_one, pending_on, are_pending, FewerStanding, IsSettledNow, IsAcceptedNow, IsDrawnNow, SettledAt, SettledOne, settled_one, settled_on, are_settled, accepted_fewer, starting_fewer, open_fewer}
-use Rattle.isolation_laws.proofs.Silent.{Silent, silent_drawn, silent_quiet}
+use Rattle.isolation_laws.proofs.CommitsInFlight.{GoesOn, pending_one, pending_on, are_pending, IsAcceptedNow, IsDrawnNow, SettledAt, SettledOne, settled_one, settled_on, are_settled, accepted_fewer, starting_fewer, open_fewer}
+use Rattle.isolation_laws.proofs.Silent.{Silent, silent_quiet}
 use Rattle.isolation_laws.proofs.RequestsKept.{have_silent, keys_silent, pending_silent, starting_silent, open_silent}
 
 -- ---- the item that places it

@@ -1,5 +1,5 @@
 -- A read that passes a cell over sees the rest, and what it answers is visible and lasts.
-use Rattle.std.proofs.Common.{◌≡◌, ◌≢◌, ℕ, zero, suc, ◌<◌, ◌≤◌, ◌==◌, ◌||◌, is_some, Bool, true, false, if◌then◌else◌, List, [], ◌∷◌, Option, Some, None, ◌⊎◌, inl, inr, refl, sym, ◌∙◌, ap, subst, arith}
+use Rattle.std.proofs.Common.{◌≡◌, ℕ, suc, ◌<◌, ◌≤◌, ◌==◌, ◌||◌, is_some, Bool, true, false, if◌then◌else◌, List, [], ◌∷◌, Option, Some, None, ◌⊎◌, inl, inr, refl, sym, ◌∙◌, ap, subst, arith}
 use Rattle.std.proofs.lemmas.Bool.{cases_Bool, ltb-true, leb-true, leb-false, ne_eqb}
 use Rattle.std.proofs.lemmas.Option.{none-some}
 use Rattle.stamp_base.specs.declared.stores.Mark.{Mark}
@@ -10,9 +10,8 @@ use Rattle.history_book.specs.declared.item.Item.{Item}
 use Rattle.store_parts.specs.declared.rows.Cell.{Cell}
 use Rattle.store_parts.specs.Rows.{is_below}
 use Rattle.store_parts.specs.Pairs.{Pairs, mark_of}
-use Rattle.client_parts.specs.declared.key_read.Answer.{Answer}
 use Rattle.client_parts.specs.declared.resolve.SettlePoint.TheVariants.{Table}
-use Rattle.client_parts.specs.KeyRead.{Reading, ReadTurn, Asks, Answers, found_none, found_cell, is_late, is_passed, after_passed, turn_at, read_over}
+use Rattle.client_parts.specs.KeyRead.{Reading, ReadTurn, Asks, Answers, found_cell, is_late, is_passed, after_passed, turn_at, read_over}
 use Rattle.oracle_parts.specs.Instance.{InstanceEntry}
 use Rattle.machine.specs.State.{State}
 use Rattle.machine.specs.Events.Fetch.{found_of}

@@ -1,6 +1,6 @@
 -- What each outcome leaves of the requests that stand somewhere.
-use Rattle.std.proofs.Common.{◌≡◌, ◌≢◌, ℕ, zero, suc, ◌+◌, ◌<◌, ◌≤◌, Bool, true, false, List, [], ◌∷◌, ◌++◌, Option, Some, None, ◌⊎◌, inl, inr, refl, sym, ◌∙◌, ap, subst, arith}
-use Rattle.std.specs.Prelude.{slice_get, slice_set}
+use Rattle.std.proofs.Common.{◌≡◌, ℕ, ◌+◌, ◌≤◌, Bool, true, false, List, Option, Some, None, inl, inr, refl, sym, ◌∙◌, ap, subst, arith}
+use Rattle.std.specs.Prelude.{slice_set}
 use Rattle.std.proofs.lemmas.Option.{same_Some, none-some}
 use Rattle.store_parts.specs.Record.{granted, renewed_until}
 use Rattle.oracle_parts.specs.declared.instance.Held.{Held}
@@ -9,14 +9,14 @@ use Rattle.oracle_parts.specs.declared.instance.Progress.TheVariants as progress
 use Rattle.oracle_parts.specs.declared.instance.Request.{Request}
 use Rattle.oracle_parts.specs.declared.instance.Request.TheVariants.{Begin, Commit}
 use Rattle.oracle_parts.specs.Instance.{InstanceEntry, held_of, with_request}
-use Rattle.oracle_parts.specs.InstanceSteps.{without_request, moved, just_asked, instance_widened, instance_renewed}
+use Rattle.oracle_parts.specs.InstanceSteps.{without_request, just_asked, instance_widened, instance_renewed}
 use Rattle.machine.specs.State.{State}
 use Rattle.machine.specs.Events.Take.{rules_of, instance_of}
 use Rattle.isolation_laws.specs.Words.{InstanceAt, HeldBy}
 use Rattle.isolation_laws.proofs.Lookups.{instance_changed, instance_ended, held_set}
 use Rattle.isolation_laws.proofs.PendingAfter.{new_holds_none}
-use Rattle.isolation_laws.proofs.Outcomes.{AlikeNodes, Still, Granted, granted_nodes, granted_state, Renewed, renewed_nodes, renewed_state, Extended, extended_nodes, extended_state, Crashed, crashed_state, AskedBegin, asked_begin_state, AskedCommit, asked_commit_state, Accepted, accepted_state, Ended, ended_state, Drew, drew_instance, drew_state, PlacedOne, placed_state, NotPlaced, not_placed_state, AnsweredBegin, answered_begin_state, AnsweredCommit, answered_commit_state}
-use Rattle.isolation_laws.proofs.RequestsAfter.{FewerHeld, held_changed, held_ended_at, held_moved, held_over}
+use Rattle.isolation_laws.proofs.Outcomes.{AlikeNodes, Granted, granted_nodes, granted_state, Renewed, renewed_nodes, renewed_state, Extended, extended_nodes, extended_state, AskedBegin, asked_begin_state, AskedCommit, asked_commit_state, Accepted, accepted_state, Drew, drew_instance, drew_state, PlacedOne, placed_state, NotPlaced, not_placed_state}
+use Rattle.isolation_laws.proofs.RequestsAfter.{FewerHeld, held_changed, held_moved}
 use Rattle.isolation_laws.proofs.CommitsInFlight.{FewerStanding}
 
 -- ---- all as it was

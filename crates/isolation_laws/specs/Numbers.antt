@@ -1,10 +1,10 @@
 -- Stamps, terms and leases: what the instances and the master record have to do with what was drawn.
-use Rattle.std.specs.Prelude.{◌≡◌, ◌≢◌, ℕ, ◌+◌, ◌<◌, ◌≤◌, List, Option, None, Some, IsSome}
+use Rattle.std.specs.Prelude.{◌≡◌, ◌≢◌, ℕ, ◌+◌, ◌<◌, ◌≤◌, List, Option, Some, IsSome}
 use Rattle.history_book.specs.Members.{◌∈◌, AtEach}
 use Rattle.history_book.specs.Isolation.{Committed}
 use Rattle.history_book.specs.declared.item.Found.{Found}
 use Rattle.history_book.specs.declared.item.Item.{Item}
-use Rattle.history_book.specs.declared.item.Item.TheVariants.{Begin, Draw, Write, Read}
+use Rattle.history_book.specs.declared.item.Item.TheVariants.{Draw, Write, Read}
 use Rattle.stamp_base.specs.SetupNumbers.{SetupNumbers}
 use Rattle.store_parts.specs.Record.{MasterRecord}
 use Rattle.oracle_parts.specs.Instance.{InstanceEntry}

@@ -1,6 +1,6 @@
 -- Reads under way, and reads of the past, against commits that can still arrive.
-use Rattle.std.specs.Prelude.{◌≡◌, ◌≢◌, ℕ, ◌<◌, ◌≤◌, ◌⊎◌, nat_lt, Bool, true, false, IsTrue, if◌then◌else◌, All, List, [], ◌∷◌, Option, None, Some}
-use Rattle.std.specs.List.{AllPairs, Any}
+use Rattle.std.specs.Prelude.{◌≡◌, ℕ, ◌<◌, ◌≤◌, ◌⊎◌, if◌then◌else◌, All, List, [], ◌∷◌, Option, None, Some}
+use Rattle.std.specs.List.{Any}
 use Rattle.history_book.specs.Members.{◌∈◌}
 use Rattle.history_book.specs.Isolation.{Committed, Wrote, last_write, WasListed}
 use Rattle.history_book.specs.declared.item.Found.{Found}

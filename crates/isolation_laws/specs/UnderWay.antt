@@ -1,5 +1,5 @@
 -- What sessions and the janitor have under way: completions, the resolve of an own commit, offered shadows, sweeps.
-use Rattle.std.specs.Prelude.{◌≡◌, ◌≢◌, ℕ, ◌⊎◌, true, false, List, [], ◌∷◌, Option, None, Some}
+use Rattle.std.specs.Prelude.{◌≡◌, ◌≢◌, ℕ, ◌⊎◌, true, false, List, [], ◌∷◌, Option, Some}
 use Rattle.history_book.specs.Members.{◌∈◌}
 use Rattle.history_book.specs.Isolation.{Committed, Wrote, WasListed}
 use Rattle.history_book.specs.declared.item.Item.{Item}

@@ -1,5 +1,5 @@
 -- The words in which the facts are told: what stands where in a state, and what a history has.
-use Rattle.std.specs.Prelude.{◌≡◌, ◌≢◌, ℕ, ◌<◌, ◌≤◌, ◌==◌, Bool, true, false, IsTrue, if◌then◌else◌, List, [], ◌∷◌, ◌++◌, slice_get, Option, None, Some}
+use Rattle.std.specs.Prelude.{◌≡◌, ℕ, ◌==◌, if◌then◌else◌, List, [], ◌∷◌, ◌++◌, slice_get, Option, None, Some}
 use Rattle.stamp_base.specs.declared.stores.Mark.TheVariants.{Committed as CommittedMark, Invalid as InvalidMark}
 use Rattle.history_book.specs.Members.{◌∈◌}
 use Rattle.history_book.specs.declared.item.Item.{Item}
@@ -8,14 +8,14 @@ use Rattle.store_parts.specs.declared.rows.Cell.{Cell}
 use Rattle.store_parts.specs.Pairs.{Pairs, mark_of}
 use Rattle.client_parts.specs.declared.session.State.{State as SessionState}
 use Rattle.client_parts.specs.declared.session.State.TheVariants as phase
-use Rattle.client_parts.specs.SessionSteps.{SessionEntry, key_added, has_transaction}
+use Rattle.client_parts.specs.SessionSteps.{key_added}
 use Rattle.oracle_parts.specs.declared.buckets.Recorded.{Recorded}
 use Rattle.oracle_parts.specs.declared.instance.Held.{Held}
 use Rattle.oracle_parts.specs.declared.instance.Progress.{Progress}
 use Rattle.oracle_parts.specs.declared.instance.Request.{Request}
 use Rattle.oracle_parts.specs.Buckets.{pairs_of}
 use Rattle.oracle_parts.specs.Instance.{InstanceEntry, held_of}
-use Rattle.machine.specs.State.{UnderWay, Client}
+use Rattle.machine.specs.State.{Client}
 
 -- ---- what stands where
 -- the node has this instance

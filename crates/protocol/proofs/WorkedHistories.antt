@@ -1,11 +1,8 @@
 -- The small histories, gone through place by place.
-use Rattle.std.proofs.Common.{◌≡◌, ℕ, ◌<◌, ◌≤◌, List, [], ◌∷◌, Option, Some, None, inl, inr, refl, subst, ap, arith}
-use Rattle.std.proofs.lemmas.Option.{same_Some}
+use Rattle.std.proofs.Common.{◌≡◌, ℕ, ◌<◌, [], ◌∷◌, Some, inl, inr, refl, subst, arith}
 use Rattle.history_book.specs.Members.{◌∈◌, AtEach}
 use Rattle.history_book.specs.Isolation.{last_write, NewStamps, Apart, Stamped, StartsAbove, Fresh, Isolated, before_ask, has_ask}
-use Rattle.history_book.specs.declared.item.Found.{Found}
-use Rattle.history_book.specs.declared.item.Item.{Item}
-use Rattle.history_book.specs.declared.item.Item.TheVariants.{AskBegin, Begin, Write, Read, Placed}
+use Rattle.history_book.specs.declared.item.Item.TheVariants.{AskBegin, Begin, Placed}
 use Rattle.history_book.proofs.MemberLemmas.{AtEach-push}
 use Rattle.store_parts.specs.Rows.{put_row, with_shadow, without_bare}
 use Rattle.protocol.specs.CommitStep.{latest_of, with_latest, all_latest, conflict, all_shadowed, all_erased}

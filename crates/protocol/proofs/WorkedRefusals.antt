@@ -1,5 +1,5 @@
 -- The small histories whose refusals are to be shown, gone through place by place.
-use Rattle.std.proofs.Common.{◌≡◌, ℕ, ◌<◌, List, [], ◌∷◌, Option, Some, None, inl, inr, refl, sym, ap, ◌∙◌, subst, arith}
+use Rattle.std.proofs.Common.{◌≡◌, ℕ, List, [], ◌∷◌, Some, inl, inr, refl, sym, ap, subst, arith}
 use Rattle.std.proofs.lemmas.Option.{same_Some}
 use Rattle.history_book.specs.Members.{◌∈◌, AtEach}
 use Rattle.history_book.specs.Isolation.{last_write}
@@ -10,7 +10,6 @@ use Rattle.history_book.specs.declared.item.Item.{Item}
 use Rattle.history_book.specs.declared.item.Item.TheVariants.{Write, Draw, AskCommit, Refused}
 use Rattle.history_book.proofs.MemberLemmas.{AtEach-push}
 use Rattle.protocol.specs.Explained.{Ask, last_ask, Shown, ShownConflict, Explained}
-use Rattle.protocol.specs.Machine.{history_after}
 use Rattle.protocol.specs.WorkedHistories.{p, conflict_events, conflict_history, refused_for_three}
 use Rattle.protocol.proofs.Always.{history_explained}
 use Rattle.protocol.proofs.WorkedHistories.{conflict_row}
