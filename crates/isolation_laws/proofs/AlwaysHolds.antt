@@ -9,8 +9,9 @@ use Rattle.oracle_parts.specs.Instance.{InstanceEntry}
 use Rattle.machine.specs.declared.event.Event.{Event}
 use Rattle.machine.specs.declared.event.Event.TheVariants as event
 use Rattle.machine.specs.State.{Client, State, opening}
-use Rattle.machine.specs.Machine.{Step, at_post, at_client, at_both, stepped, Move, state_after, items_after, history_after, reading_of, seen_after, AreSteady, Steady}
+use Rattle.machine.specs.Machine.{Step, at_post, at_client, at_both, stepped, Move, state_after, items_after, history_after, reading_of, seen_after, IsSteadyAt, AreSteady, Steady}
 use Rattle.isolation_laws.specs.Holds.{Holds}
+use Rattle.isolation_laws.specs.Sound.{Sound, Stands}
 use Rattle.isolation_laws.proofs.Outcomes.{Outcome, OfStill, left_by, told_by_outcome}
 use Rattle.isolation_laws.proofs.NumbersKept.{numbers_kept}
 use Rattle.isolation_laws.proofs.RequestsOfAll.{requests_kept}
@@ -20,7 +21,7 @@ use Rattle.isolation_laws.proofs.UnderWayKept.{under_way_kept}
 use Rattle.isolation_laws.proofs.BeginsKept.{begins_kept}
 use Rattle.isolation_laws.proofs.ReadsKept.{reads_kept, right_reads_kept}
 use Rattle.isolation_laws.proofs.InversionParts.{ComesBy}
-use Rattle.isolation_laws.proofs.Inversion.{Sound, comes_to}
+use Rattle.isolation_laws.proofs.Inversion.{comes_to}
 use Rattle.isolation_laws.proofs.InversionSound.{sound_kept, opening_sound}
 use Rattle.isolation_laws.proofs.IsolatedStamps.{stamped_kept, fresh_kept, apart_kept}
 use Rattle.isolation_laws.proofs.Opening.{opening_holds}
@@ -85,13 +86,8 @@ seen_goes_up w (event.SweepOpen node txn) fate = post_seen w w.seen _ refl (λ p
 seen_goes_up w event.SweepStep fate = refl
 
 -- ---- one move
--- the facts, and what each event also needs
-pub record HoldsSoundly (w : State) (h : List Item) : Type 0 where
-  pub holds : Holds w h
-  pub sound : Sound w
-
 -- what comes to an outcome keeps them
-come_soundly : (w : State) (h : List Item) (step : Step) → HoldsSoundly w h → ComesBy w step → HoldsSoundly step.state (h ++ step.items)
+come_soundly : (w : State) (h : List Item) (step : Step) → Stands w h → ComesBy w step → Stands step.state (h ++ step.items)
 come_soundly w h step both (o, state, items) = record {
   holds = subst (λ (v : State). Holds v (h ++ step.items)) (sym state) (subst (λ (xs : List Item). Holds (left_by w o) (h ++ xs)) (sym items) (holds_kept w h o both.holds));
   sound = subst (λ (v : State). Sound v) (sym state) (sound_kept w o both.sound);
@@ -100,21 +96,41 @@ come_soundly w h step both (o, state, items) = record {
 setup_stays : (w : State) (step : Step) → ComesBy w step → step.state.setup ≡ w.setup
 setup_stays w step (o, state, items) = ap (λ (v : State). v.setup) state ∙ setup_kept w o
 
--- ---- all moves
-always_from : (w : State) (h : List Item) (moves : List Move) → HoldsSoundly w h → AreSteady w.setup.skew w.seen moves → Holds (state_after w moves) (h ++ items_after w moves)
-unfolding state_after items_after AreSteady
-always_from w h [] both steady = subst (λ (xs : List Item). Holds w xs) (sym (append-nil h)) both.holds
-always_from w h (move ∷ moves) both steady =
-    let step : Step = stepped w move.event move.fate in
-    let comes : ComesBy w step = comes_to w h move.event move.fate both.holds both.sound steady.0 in
-    let after : HoldsSoundly step.state (h ++ step.items) = come_soundly w h step both comes in
-    let skew : AreSteady step.state.setup.skew (seen_after w.seen (reading_of move.event)) moves = subst (λ (setup : SetupNumbers). AreSteady setup.skew (seen_after w.seen (reading_of move.event)) moves) (sym (setup_stays w step comes)) steady.1 in
-    let still_steady : AreSteady step.state.setup.skew step.state.seen moves = subst (λ (seen : ℕ). AreSteady step.state.setup.skew seen moves) (sym (seen_goes_up w move.event move.fate)) skew in
-    subst (λ (xs : List Item). Holds (state_after step.state moves) xs) (append_assoc h step.items (items_after step.state moves)) (always_from step.state (h ++ step.items) moves after still_steady)
+-- a move with a steady reading keeps them
+pub comes_by : (w : State) (h : List Item) (e : Event) (fate : Fate) → Stands w h → IsSteadyAt w.setup.skew w.seen (reading_of e) → ComesBy w (stepped w e fate)
+comes_by w h e fate both steady = comes_to w h e fate both.holds both.sound steady
 
-pub always_holds : (setup : SetupNumbers) (moves : List Move) → Steady setup moves → AreInRange setup → Holds (state_after (opening setup) moves) (history_after setup moves)
-always_holds setup moves steady in_range = always_from (opening setup) [] moves (record { holds = opening_holds setup in_range; sound = opening_sound setup }) steady
+pub facts_stay : (w : State) (h : List Item) (e : Event) (fate : Fate) → Stands w h → IsSteadyAt w.setup.skew w.seen (reading_of e) → Stands (stepped w e fate).state (h ++ (stepped w e fate).items)
+facts_stay w h e fate both steady = come_soundly w h (stepped w e fate) both (comes_by w h e fate both steady)
+
+-- and leaves the rest of the readings steady
+pub steady_stays : (w : State) (h : List Item) (move : Move) (moves : List Move) → Stands w h → AreSteady w.setup.skew w.seen (move ∷ moves) → AreSteady (stepped w move.event move.fate).state.setup.skew (stepped w move.event move.fate).state.seen moves
+unfolding AreSteady
+steady_stays w h move moves both steady =
+    let step : Step = stepped w move.event move.fate in
+    let skew : AreSteady step.state.setup.skew (seen_after w.seen (reading_of move.event)) moves = subst (λ (setup : SetupNumbers). AreSteady setup.skew (seen_after w.seen (reading_of move.event)) moves) (sym (setup_stays w step (comes_by w h move.event move.fate both steady.0))) steady.1 in
+    subst (λ (seen : ℕ). AreSteady step.state.setup.skew seen moves) (sym (seen_goes_up w move.event move.fate)) skew
+
+pub steady_now : (w : State) (move : Move) (moves : List Move) → AreSteady w.setup.skew w.seen (move ∷ moves) → IsSteadyAt w.setup.skew w.seen (reading_of move.event)
+unfolding AreSteady
+steady_now w move moves steady = steady.0
+
+-- ---- all moves
+pub stands_after : (w : State) (h : List Item) (moves : List Move) → Stands w h → AreSteady w.setup.skew w.seen moves → Stands (state_after w moves) (h ++ items_after w moves)
+unfolding state_after items_after
+stands_after w h [] both steady = subst (λ (xs : List Item). Stands w xs) (sym (append-nil h)) both
+stands_after w h (move ∷ moves) both steady =
+    let step : Step = stepped w move.event move.fate in
+    let after : Stands step.state (h ++ step.items) = facts_stay w h move.event move.fate both (steady_now w move moves steady) in
+    subst (λ (xs : List Item). Stands (state_after step.state moves) xs) (append_assoc h step.items (items_after step.state moves)) (stands_after step.state (h ++ step.items) moves after (steady_stays w h move moves both steady))
+
+-- ---- from the opening on
+pub stands_at_first : (setup : SetupNumbers) → AreInRange setup → Stands (opening setup) []
+stands_at_first setup in_range = record { holds = opening_holds setup in_range; sound = opening_sound setup }
+
+pub always_stands : (setup : SetupNumbers) (moves : List Move) → AreInRange setup → Steady setup moves → Stands (state_after (opening setup) moves) (history_after setup moves)
+always_stands setup moves in_range steady = stands_after (opening setup) [] moves (stands_at_first setup in_range) steady
 
 -- every history is snapshot isolated
-pub histories_are_isolated : (setup : SetupNumbers) (moves : List Move) → Steady setup moves → AreInRange setup → Isolated (history_after setup moves)
-histories_are_isolated setup moves steady in_range = (always_holds setup moves steady in_range).isolated
+pub histories_are_isolated : (setup : SetupNumbers) (moves : List Move) → AreInRange setup → Steady setup moves → Isolated (history_after setup moves)
+histories_are_isolated setup moves in_range steady = (always_stands setup moves in_range steady).holds.isolated

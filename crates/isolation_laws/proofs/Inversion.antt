@@ -28,20 +28,16 @@ use Rattle.machine.specs.Events.Vanish.{vanish_on}
 use Rattle.machine.specs.Events.SweepOpen.{sweep_open_on}
 use Rattle.isolation_laws.specs.Words.{ClientAt}
 use Rattle.isolation_laws.specs.Holds.{Holds}
+use Rattle.isolation_laws.specs.Sound.{AreStops, SweepAsks, Sound}
 use Rattle.isolation_laws.proofs.InversionParts.{ComesTo, ComesBy, none_quiet, one_quiet, still, still_all, nodes_same}
 use Rattle.isolation_laws.proofs.InversionOfSessions.{for_client, for_cells, abort_at, vanish_at, write_at, fetch_at, heal_at_client}
 use Rattle.isolation_laws.proofs.InversionOfRecord.{for_record, take_at, renew_at_post, extend_at_post}
 use Rattle.isolation_laws.proofs.InversionOfAsks.{for_clients, crash_at, for_ask, ask_begin_at, ask_commit_at}
-use Rattle.isolation_laws.proofs.InversionOfRequests.{for_request, accept_at, AreStops, decide_at}
+use Rattle.isolation_laws.proofs.InversionOfRequests.{for_request, accept_at, decide_at}
 use Rattle.isolation_laws.proofs.InversionOfAnswers.{for_table, put_at, answer_at}
 use Rattle.isolation_laws.proofs.InversionOfSteps.{for_stores}
 use Rattle.isolation_laws.proofs.InversionOfWork.{step_at_client}
-use Rattle.isolation_laws.proofs.InversionOfSweeps.{SweepAsks, for_sweep, sweep_open_at_post, sweep_step_at}
-
--- what each event also needs: a refusal that is kept is the master record's, and an open sweep asks something
-pub record Sound (w : State) : Type 0 where
-  pub stops : AreStops w.nodes
-  pub sweeps : SweepAsks w.sweep
+use Rattle.isolation_laws.proofs.InversionOfSweeps.{for_sweep, sweep_open_at_post, sweep_step_at}
 
 -- ---- what names no node or session does nothing
 nothing_done : (w : State) (seen : ℕ) → w.seen ≤ seen → ComesTo w (record w { seen = seen }) []

@@ -26,7 +26,8 @@ use Rattle.machine.specs.Events.Accept.{accept_by, accept_request, accept_on}
 use Rattle.machine.specs.Events.Decide.{draw_item, decide_by, decide_request, decide_on}
 use Rattle.isolation_laws.specs.Words.{InstanceAt, ClientAt}
 use Rattle.isolation_laws.specs.Quiet.{Quiet, AllQuiet}
-use Rattle.isolation_laws.proofs.Outcomes.{StopOf, OfAccepted, OfEnded, OfDrew}
+use Rattle.isolation_laws.specs.Sound.{StopOf, AreStops}
+use Rattle.isolation_laws.proofs.Outcomes.{OfAccepted, OfEnded, OfDrew}
 use Rattle.isolation_laws.proofs.InversionParts.{ComesTo, ComesBy, none_quiet, one_quiet, refusal_quiet, still, still_both, client_back, nodes_alike, alike_told}
 
 abbrev pub for_request : State → ℕ → ℕ → Effect (Option InstanceEntry × Client) → Step
@@ -188,10 +189,6 @@ decide_found : (w : State) (node session : ℕ) (i : InstanceEntry) (c : Client)
 decide_found w node session i c at client_at stop None has = decide_still w node session (Some i) c (cause.NoRequest session) at client_at
 decide_found w node session i c at client_at stop (Some held) has =
     subst (λ (f : Option Held). ComesBy w (decide_step w node session held c (decide_held i session f))) (sym has) (decide_progress w node session i held c (record { at = at; client_at = client_at; has = has }) stop held.progress refl)
-
--- each instance's refusal that is kept is the master record's
-pub record AreStops (nodes : List (Option InstanceEntry)) : Type 0 where
-  pub stop : (n : ℕ) (i : InstanceEntry) → InstanceAt nodes n i → StopOf i.stop
 
 pub decide_at : (w : State) (node session : ℕ) (post : Option InstanceEntry) (c : Client) → AreStops w.nodes → slice_get w.nodes node ≡ Some post → ClientAt w.clients session c → ComesBy w (for_request w node session (decide_on node session post c))
 decide_at w node session None c stops at client_at = decide_still w node session None c (cause.NoOracle node) at client_at

@@ -20,13 +20,10 @@ use Rattle.machine.specs.Machine.{Step, step_by, on_swept}
 use Rattle.machine.specs.Events.SweepOpen.{sweep_open_on}
 use Rattle.machine.specs.Events.SweepStep.{undecided_items, sweep_met, sweep_at, sweep_lists, sweep_step_on}
 use Rattle.isolation_laws.specs.Quiet.{Quiet, AllQuiet}
+use Rattle.isolation_laws.specs.Sound.{SweepAsks}
 use Rattle.isolation_laws.proofs.Outcomes.{OfSweepOpened, OfSwept, OfSweepListed, OfSweepFailed}
 use Rattle.isolation_laws.proofs.InversionParts.{ComesTo, ComesBy, none_quiet, one_quiet, refusal_quiet, still_all}
 use Rattle.isolation_laws.proofs.InversionOfCalls.{NoList, step_quiet, failed_quiet}
-
--- an open sweep asks something
-pub record SweepAsks (sweep : Option Sweeping) : Type 0 where
-  pub asks : (s : Sweeping) → sweep ≡ Some s → sweep_ask s ≡ None → ⊥
 
 -- the sweep was put back
 still_sweep : (w : State) (sweep : Option Sweeping) (items : List Item) → w.sweep ≡ sweep → AllQuiet items → ComesTo w (record w { sweep = sweep }) items

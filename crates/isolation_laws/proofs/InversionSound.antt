@@ -10,11 +10,9 @@ use Rattle.oracle_parts.specs.Instance.{InstanceEntry}
 use Rattle.machine.specs.State.{State, opening}
 use Rattle.machine.specs.Events.SweepStep.{still_open, sweep_left}
 use Rattle.isolation_laws.specs.Words.{InstanceAt}
+use Rattle.isolation_laws.specs.Sound.{StopOf, AreStops, SweepAsks, Sound}
 use Rattle.isolation_laws.proofs.Lookups.{instance_changed, instance_ended}
-use Rattle.isolation_laws.proofs.Outcomes.{StopOf, AlikeNodes, Granted, granted_nodes, Renewed, renewed_nodes, Extended, extended_nodes, Outcome, OfStill, OfGranted, OfRenewed, OfExtended, OfCrashed, OfAskedBegin, OfAskedCommit, OfAccepted, OfEnded, OfDrew, OfPlaced, OfNotPlaced, OfAnsweredBegin, OfAnsweredCommit, OfEndedReadOnly, OfWrote, OfWriteFailed, OfAborted, OfVanished, OfHealed, OfFetched, OfReadDropped, OfReadStepped, OfOutcome, OfOutcomeFailed, OfCompleted, OfSweepOpened, OfSwept, OfSweepListed, OfSweepFailed, left_by}
-use Rattle.isolation_laws.proofs.InversionOfRequests.{AreStops}
-use Rattle.isolation_laws.proofs.InversionOfSweeps.{SweepAsks}
-use Rattle.isolation_laws.proofs.Inversion.{Sound}
+use Rattle.isolation_laws.proofs.Outcomes.{AlikeNodes, Granted, granted_nodes, Renewed, renewed_nodes, Extended, extended_nodes, Outcome, OfStill, OfGranted, OfRenewed, OfExtended, OfCrashed, OfAskedBegin, OfAskedCommit, OfAccepted, OfEnded, OfDrew, OfPlaced, OfNotPlaced, OfAnsweredBegin, OfAnsweredCommit, OfEndedReadOnly, OfWrote, OfWriteFailed, OfAborted, OfVanished, OfHealed, OfFetched, OfReadDropped, OfReadStepped, OfOutcome, OfOutcomeFailed, OfCompleted, OfSweepOpened, OfSwept, OfSweepListed, OfSweepFailed, left_by}
 
 -- ---- kept refusals
 stops_put : (nodes : List (Option InstanceEntry)) (n : ℕ) (j : InstanceEntry) → AreStops nodes → StopOf j.stop → AreStops (slice_set nodes n (Some j))

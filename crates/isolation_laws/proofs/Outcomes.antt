@@ -26,7 +26,7 @@ use Rattle.oracle_parts.specs.declared.instance.Settled.{Settled}
 use Rattle.oracle_parts.specs.declared.instance.Settled.TheVariants as how
 use Rattle.oracle_parts.specs.Buckets.{record_pairs}
 use Rattle.oracle_parts.specs.Instance.{InstanceEntry, held_of, with_request, least_unsettled}
-use Rattle.oracle_parts.specs.InstanceSteps.{without_request, moved, just_asked, pairs_by, epoch_refusal, request_verdict, instance_widened, instance_renewed, IsStop}
+use Rattle.oracle_parts.specs.InstanceSteps.{without_request, moved, just_asked, pairs_by, epoch_refusal, request_verdict, instance_widened, instance_renewed}
 use Rattle.machine.specs.State.{UnderWay, Nothing, Reads, Settles, Completes, Client, State}
 use Rattle.machine.specs.Clients.{is_reading, client_begun, client_asked, client_freed, client_aborted, client_committed, client_opened, client_vanished, unless_gone, after_refusal}
 use Rattle.machine.specs.StoreSteps.{rows_after, pairs_after, told_by}
@@ -38,14 +38,10 @@ use Rattle.machine.specs.Events.Fetch.{client_read, read_items}
 use Rattle.machine.specs.Events.Step.{client_settled, own_resolve, after_asks}
 use Rattle.machine.specs.Events.SweepStep.{sweep_left}
 use Rattle.isolation_laws.specs.Words.{InstanceAt, ClientAt}
+use Rattle.isolation_laws.specs.Sound.{StopOf}
 use Rattle.isolation_laws.specs.Quiet.{Quiet, AllQuiet}
 
 -- ---- what changes nothing that a fact reads
--- a refusal that is kept is the master record's
-abbrev pub StopOf : Option Cause → Type 0
-StopOf None = Unit {0}
-StopOf (Some why) = IsStop why
-
 -- the same but for the refusal that is kept and for what requests were told
 pub record Alike (i j : InstanceEntry) : Type 0 where
   pub term : j.term ≡ i.term

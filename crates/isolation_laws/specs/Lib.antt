@@ -9,3 +9,4 @@ pub mod UnderWay
 pub mod Begins
 pub mod Reads
 pub mod Holds
+pub mod Sound

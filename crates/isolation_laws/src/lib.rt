@@ -1,3 +1,31 @@
 //! Why every history of the machine is snapshot isolated: the facts that tie each state to its history, and that every
 //! event keeps them.
 #![tactic(auto)]
+
+ghost use Rattle.std.specs.Prelude.{List, [], ◌++◌};
+ghost use Rattle.history_book.specs.Isolation.{Isolated};
+ghost use Rattle.history_book.specs.declared.item.Item.{Item};
+ghost use Rattle.stamp_base.specs.SetupNumbers.{SetupNumbers, AreInRange};
+ghost use Rattle.port_io.specs.declared.weather.Fate.{Fate};
+ghost use Rattle.machine.specs.declared.event.Event.{Event};
+ghost use Rattle.machine.specs.State.{State, opening};
+ghost use Rattle.machine.specs.Machine.{Move, Steady, IsSteadyAt, reading_of, stepped, state_after, history_after};
+ghost use Rattle.isolation_laws.specs.Sound.{Stands};
+
+/// Every history of the machine is snapshot isolated: for every setup in range, every list of events, each with any fate of
+/// its store call, any number of nodes and sessions, crashes, takeovers, marks and sweeps included. All that is asked for is
+/// that readings of the clocks are steady: none is behind an earlier one by more than the skew.
+pub fn always_isolated()
+    ensures { (setup : SetupNumbers) (moves : List Move) → AreInRange setup → Steady setup moves → Isolated (history_after setup moves) }
+{}
+
+/// All facts hold of the opening state and no history.
+pub fn facts_hold_at_first()
+    ensures { (setup : SetupNumbers) → AreInRange setup → Stands (opening setup) [] }
+{}
+
+/// Every event keeps all facts, whatever the fate of its store call.
+pub fn events_keep_the_facts()
+    ensures { (w : State) (h : List Item) (event : Event) (fate : Fate) → Stands w h → IsSteadyAt w.setup.skew w.seen (reading_of event) →
+        Stands (stepped w event fate).state (h ++ (stepped w event fate).items) }
+{}
