@@ -28,7 +28,7 @@ use Rattle.machine.specs.Events.Vanish.{vanish_on}
 use Rattle.machine.specs.Events.SweepOpen.{sweep_open_on}
 use Rattle.isolation_laws.specs.Words.{ClientAt}
 use Rattle.isolation_laws.specs.Holds.{Holds}
-use Rattle.isolation_laws.specs.Sound.{AreStops, SweepAsks, Sound}
+use Rattle.isolation_laws.specs.Sound.{Sound}
 use Rattle.isolation_laws.proofs.InversionParts.{ComesTo, ComesBy, none_quiet, one_quiet, still, still_all, nodes_same}
 use Rattle.isolation_laws.proofs.InversionOfSessions.{for_client, for_cells, abort_at, vanish_at, write_at, fetch_at, heal_at_client}
 use Rattle.isolation_laws.proofs.InversionOfRecord.{for_record, take_at, renew_at_post, extend_at_post}
