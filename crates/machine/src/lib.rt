@@ -3,5 +3,7 @@
 #![tactic(auto)]
 
 mod event;
+mod laws;
 
 pub use event::{Doing, Event};
+pub use laws::{events_leave_parts, seen_goes_up};

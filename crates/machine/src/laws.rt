@@ -1,0 +1,13 @@
+// What a reader of the machine's definitions may rely on, over every state, event and fate.
+ghost use Rattle.machine.specs.Laws.{SeenGoesUp, EventsLeaveParts};
+
+/// The greatest reading after an event is the greater of the one before it and the reading that the event hands in, where it
+/// hands in one.
+pub fn seen_goes_up()
+    ensures { SeenGoesUp }
+{}
+
+/// No event changes the setup, and what an event does not touch of the clients, nodes, sweep and stores stays as it was.
+pub fn events_leave_parts()
+    ensures { EventsLeaveParts }
+{}
