@@ -1,1 +1,2 @@
 mod PartsKept
+mod GoneStays

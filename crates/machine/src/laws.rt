@@ -1,5 +1,5 @@
 // What a reader of the machine's definitions may rely on, over every state, event and fate.
-ghost use Rattle.machine.specs.Laws.{SeenGoesUp, EventsLeaveParts};
+ghost use Rattle.machine.specs.Laws.{SeenGoesUp, EventsLeaveParts, GoneStaysGone};
 
 /// The greatest reading after an event is the greater of the one before it and the reading that the event hands in, where it
 /// hands in one.
@@ -10,4 +10,9 @@ pub fn seen_goes_up()
 /// No event changes the setup, and what an event does not touch of the clients, nodes, sweep and stores stays as it was.
 pub fn events_leave_parts()
     ensures { EventsLeaveParts }
+{}
+
+/// A session that has vanished stays so, whatever it is asked to do and whatever its request is told.
+pub fn gone_stays_gone()
+    ensures { GoneStaysGone }
 {}

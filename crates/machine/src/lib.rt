@@ -6,4 +6,4 @@ mod event;
 mod laws;
 
 pub use event::{Doing, Event};
-pub use laws::{events_leave_parts, seen_goes_up};
+pub use laws::{events_leave_parts, gone_stays_gone, seen_goes_up};
