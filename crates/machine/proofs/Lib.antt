@@ -1,2 +1,3 @@
 mod PartsKept
 mod GoneStays
+mod ToldOnce

@@ -1,5 +1,5 @@
 // What a reader of the machine's definitions may rely on, over every state, event and fate.
-ghost use Rattle.machine.specs.Laws.{SeenGoesUp, EventsLeaveParts, GoneStaysGone};
+ghost use Rattle.machine.specs.Laws.{SeenGoesUp, EventsLeaveParts, RequestsAreToldOnce, GoneStaysGone};
 
 /// The greatest reading after an event is the greater of the one before it and the reading that the event hands in, where it
 /// hands in one.
@@ -10,6 +10,12 @@ pub fn seen_goes_up()
 /// No event changes the setup, and what an event does not touch of the clients, nodes, sweep and stores stays as it was.
 pub fn events_leave_parts()
     ensures { EventsLeaveParts }
+{}
+
+/// A request is told NoStamp and NotYet once: where it was told already, a repeated one is answered and appends nothing. That
+/// it is told is kept with it; for NoStamp where the instance keeps Replaced or Spent alone, as `instances_keep_stops` says.
+pub fn requests_are_told_once()
+    ensures { RequestsAreToldOnce }
 {}
 
 /// A session that has vanished stays so, whatever it is asked to do and whatever its request is told.
