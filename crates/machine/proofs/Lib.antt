@@ -1,3 +1,6 @@
 mod PartsKept
 mod GoneStays
 mod ToldOnce
+mod Refusals
+mod PlainEvents
+mod StoreEvents
