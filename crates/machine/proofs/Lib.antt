@@ -4,3 +4,5 @@ mod ToldOnce
 mod Refusals
 mod PlainEvents
 mod StoreEvents
+mod AskedOnce
+mod LeftAll

@@ -1,5 +1,11 @@
 // What a reader of the machine's definitions may rely on, over every state, event and fate.
-ghost use Rattle.machine.specs.Laws.{SeenGoesUp, EventsLeaveParts, RequestsAreToldOnce, GoneStaysGone};
+ghost use Rattle.machine.specs.Laws.{RefusalsLeaveAll, SeenGoesUp, EventsLeaveParts, StoresAreAskedOnce, RequestsAreToldOnce, GoneStaysGone};
+
+/// A refusal that ends no request and no sweep, and that no instance keeps, changes nothing but the greatest reading; the
+/// actor is told the cause, and nothing else is appended.
+pub fn refusals_leave_all()
+    ensures { RefusalsLeaveAll }
+{}
 
 /// The greatest reading after an event is the greater of the one before it and the reading that the event hands in, where it
 /// hands in one.
@@ -10,6 +16,12 @@ pub fn seen_goes_up()
 /// No event changes the setup, and what an event does not touch of the clients, nodes, sweep and stores stays as it was.
 pub fn events_leave_parts()
     ensures { EventsLeaveParts }
+{}
+
+/// Where an event asks no store its fate does not matter. Where it asks one it fails exactly where the call does, by that
+/// store's fault.
+pub fn stores_are_asked_once()
+    ensures { StoresAreAskedOnce }
 {}
 
 /// A request is told NoStamp and NotYet once: where it was told already, a repeated one is answered and appends nothing. That

@@ -6,4 +6,7 @@ mod event;
 mod laws;
 
 pub use event::{Doing, Event};
-pub use laws::{events_leave_parts, gone_stays_gone, requests_are_told_once, seen_goes_up};
+pub use laws::{
+    events_leave_parts, gone_stays_gone, refusals_leave_all, requests_are_told_once, seen_goes_up,
+    stores_are_asked_once,
+};
