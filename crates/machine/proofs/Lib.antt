@@ -6,3 +6,4 @@ mod PlainEvents
 mod StoreEvents
 mod AskedOnce
 mod LeftAll
+mod StopsKept

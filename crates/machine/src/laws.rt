@@ -1,5 +1,11 @@
 // What a reader of the machine's definitions may rely on, over every state, event and fate.
-ghost use Rattle.machine.specs.Laws.{RefusalsLeaveAll, SeenGoesUp, EventsLeaveParts, StoresAreAskedOnce, RequestsAreToldOnce, GoneStaysGone};
+ghost use Rattle.machine.specs.Laws.{StopsAreKept, RefusalsLeaveAll, SeenGoesUp, EventsLeaveParts, StoresAreAskedOnce, RequestsAreToldOnce, GoneStaysGone};
+
+/// What an instance keeps of the master record's refusals is Replaced or Spent: so it is at the opening, and each event keeps
+/// it. The laws below that ask for it hold in each state that moves lead to.
+pub fn instances_keep_stops()
+    ensures { StopsAreKept }
+{}
 
 /// A refusal that ends no request and no sweep, and that no instance keeps, changes nothing but the greatest reading; the
 /// actor is told the cause, and nothing else is appended.

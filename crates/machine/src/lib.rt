@@ -7,6 +7,6 @@ mod laws;
 
 pub use event::{Doing, Event};
 pub use laws::{
-    events_leave_parts, gone_stays_gone, refusals_leave_all, requests_are_told_once, seen_goes_up,
-    stores_are_asked_once,
+    events_leave_parts, gone_stays_gone, instances_keep_stops, refusals_leave_all,
+    requests_are_told_once, seen_goes_up, stores_are_asked_once,
 };
