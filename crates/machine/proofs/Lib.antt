@@ -7,3 +7,4 @@ mod StoreEvents
 mod AskedOnce
 mod LeftAll
 mod StopsKept
+mod WorkedPaths

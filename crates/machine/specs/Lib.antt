@@ -6,3 +6,4 @@ pub mod Events
 pub mod Machine
 pub mod Readers
 pub mod Laws
+pub mod WorkedMoves

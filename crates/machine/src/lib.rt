@@ -4,9 +4,11 @@
 
 mod event;
 mod laws;
+mod worked;
 
 pub use event::{Doing, Event};
 pub use laws::{
     events_leave_parts, gone_stays_gone, instances_keep_stops, refusals_leave_all,
     requests_are_told_once, seen_goes_up, stores_are_asked_once,
 };
+pub use worked::boundaries_of_the_lease;
