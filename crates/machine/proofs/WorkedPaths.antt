@@ -9,8 +9,37 @@ use Rattle.oracle_parts.specs.Buckets.{kept_commit, replaced, added, without, ol
 use Rattle.oracle_parts.specs.Instance.{least_unsettled}
 use Rattle.machine.specs.Machine.{state_after, items_after, history_after}
 use Rattle.machine.specs.WorkedMoves as worked
+use Rattle.machine.specs.WorkedRefusals as alone
 
 pub boundary_row : history_after default_numbers worked.boundary_moves ≡ worked.boundary_items
 unfolding items_after record_pairs least_unsettled
 boundary_row = refl
 
+
+pub own_row : history_after default_numbers alone.own_moves ≡ alone.own_items
+unfolding items_after record_pairs least_unsettled put_row fetched front_of without_bare after_passed
+own_row = refl
+
+pub order_row : history_after default_numbers alone.order_moves ≡ alone.order_items
+unfolding items_after record_pairs least_unsettled
+order_row = refl
+
+pub end_row : history_after alone.one_range alone.end_moves ≡ alone.end_items
+unfolding items_after record_pairs least_unsettled
+end_row = refl
+
+pub fault_row : history_after default_numbers alone.fault_moves ≡ alone.fault_items
+unfolding items_after record_pairs least_unsettled put_row without_bare
+fault_row = refl
+
+pub range_row : history_after alone.two_stamps alone.range_moves ≡ alone.range_items
+unfolding items_after record_pairs least_unsettled put_row without_bare kept_commit verdict
+range_row = refl
+
+pub expired_row : history_after default_numbers (alone.late_moves 0) ≡ alone.late_items 0 alone.expired_late
+unfolding items_after record_pairs least_unsettled put_row without_bare fetched front_of after_passed
+expired_row = refl
+
+pub old_row : history_after default_numbers (alone.late_moves 1) ≡ alone.late_items 1 alone.old_late
+unfolding items_after record_pairs least_unsettled put_row without_bare fetched front_of after_passed
+old_row = refl

@@ -7,3 +7,4 @@ pub mod Machine
 pub mod Readers
 pub mod Laws
 pub mod WorkedMoves
+pub mod WorkedRefusals

@@ -11,4 +11,7 @@ pub use laws::{
     events_leave_parts, gone_stays_gone, instances_keep_stops, refusals_leave_all,
     requests_are_told_once, seen_goes_up, stores_are_asked_once,
 };
-pub use worked::boundaries_of_the_lease;
+pub use worked::{
+    boundaries_of_the_lease, end_of_the_stamps, faulted_take_and_write, late_begin, own_writes,
+    ranges, refusals_of_order,
+};

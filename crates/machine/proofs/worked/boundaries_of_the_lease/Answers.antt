@@ -1,4 +1,3 @@
-use Rattle.std.proofs.Common.{refl}
 use Rattle.machine.proofs.WorkedPaths.{boundary_row}
 use Rattle.machine.proofs.worked.boundaries_of_the_lease.Goals as goal
 
