@@ -8,3 +8,5 @@ mod AskedOnce
 mod LeftAll
 mod StopsKept
 mod WorkedPaths
+mod TableMoves
+mod WorkedTables

@@ -56,3 +56,10 @@ plain_moves = working (event.Take 0 0 ∷ begins 0 0 0 ++ event.Write 0 0 v ∷ 
 
 abbrev pub plain_items : List Item
 plain_items = item.Take 0 0 1 0 10 100 ∷ begun_items 0 0 1 0 1 ++ item.Write 0 1 0 v ∷ drawn_items 0 0 1 0 1 2 ++ placed_items 0 1 2 ++ item.Step (Session 0) (step.Shadow 0 1 2) ∷ item.Step (Session 0) (step.Remove 1) ∷ begun_items 1 0 1 0 3 ++ item.Step (Session 1) (step.Fetch 0 1) ∷ item.Read 1 3 0 (Some (record { from = 1; value = v })) ∷ item.End 1 3 ending.ReadOnly ∷ []
+
+-- ---- two transactions write one key, and the first to be decided commits
+abbrev pub conflict_moves : List Move
+conflict_moves = working (event.Take 0 0 ∷ begins 0 0 0 ++ begins 1 0 0 ++ event.Write 0 0 v ∷ event.Write 1 0 v ∷ draws 0 0 0 ++ places 0 0 ++ event.Step 0 ∷ event.Step 0 ∷ draws 1 0 0 ++ event.Step 1 ∷ [])
+
+abbrev pub conflict_items : List Item
+conflict_items = item.Take 0 0 1 0 10 100 ∷ begun_items 0 0 1 0 1 ++ begun_items 1 0 1 0 2 ++ item.Write 0 1 0 v ∷ item.Write 1 2 0 v ∷ drawn_items 0 0 1 0 1 3 ++ placed_items 0 1 3 ++ item.Step (Session 0) (step.Shadow 0 1 3) ∷ item.Step (Session 0) (step.Remove 1) ∷ item.AskCommit 1 0 2 ∷ item.Accept 1 0 1 0 ∷ item.Refused (Session 1) (cause.Conflict 0 3) ∷ item.Step (Session 1) (step.Erase 0 2) ∷ []

@@ -43,3 +43,14 @@ pub fn late_begin()
     ensures old_node { history_after default_numbers (alone.late_moves 0) ≡ alone.late_items 0 alone.expired_late }
     ensures new_node { history_after default_numbers (alone.late_moves 1) ≡ alone.late_items 1 alone.old_late }
 {}
+
+/// A transaction writes a key and commits: its cell gets the commit as its shadow, and its entry goes. Another one reads the
+/// key, and ends without asking a node.
+pub fn plain_path()
+    ensures { history_after default_numbers worked.plain_moves ≡ worked.plain_items }
+{}
+
+/// Two transactions write one key: the second to be decided is refused, and its cell is erased.
+pub fn conflict()
+    ensures { history_after default_numbers worked.conflict_moves ≡ worked.conflict_items }
+{}
