@@ -65,13 +65,34 @@ post_with node session fate found pairs (Some i) = put_with node session fate fo
 abbrev pub put_step : State → ℕ → ℕ → Fate → Option Mark → Step
 put_step w node session fate found = on_table w node (post_with node session fate found w.pairs)
 
--- ---- the history of moves, cut at one of them
-pub cut : (w : State) (first : List Move) (move : Move) (later : List Move) (s : Step) → after_move (state_after w first) move ≡ s → items_after w (first ++ move ∷ later) ≡ items_after w first ++ (s.items ++ items_after s.state later)
+-- ---- the history of moves, cut at some of them
+-- moves up to a cut, the move there, and its step as it is known
+pub record Cut : Type 0 where
+  pub first : List Move
+  pub move : Move
+  pub step : State → Step
+
+abbrev pub all_moves : List Cut → List Move → List Move
+all_moves [] last = last
+all_moves (c ∷ cuts) last = c.first ++ c.move ∷ all_moves cuts last
+
+abbrev pub all_items : State → List Cut → List Move → List Item
+all_items w [] last = items_after w last
+all_items w (c ∷ cuts) last = let s : Step = c.step (state_after w c.first) in items_after w c.first ++ (s.items ++ all_items s.state cuts last)
+
+-- each step is the one that is known
+abbrev pub AreSteps : State → List Cut → Type 0
+AreSteps w [] = Unit {0}
+AreSteps w (c ∷ cuts) = let s : Step = c.step (state_after w c.first) in (after_move (state_after w c.first) c.move ≡ s) × AreSteps s.state cuts
+
+cut : (w : State) (first : List Move) (move : Move) (later : List Move) (s : Step) → after_move (state_after w first) move ≡ s → items_after w (first ++ move ∷ later) ≡ items_after w first ++ (s.items ++ items_after s.state later)
 unfolding items_after state_after
 cut w [] move later s is = ap (λ (x : Step). x.items ++ items_after x.state later) is
 cut w (m ∷ first) move later s is =
     ap (λ (items : List Item). (after_move w m).items ++ items) (cut (after_move w m).state first move later s is) ∙ sym (append_assoc (after_move w m).items (items_after (after_move w m).state first) (s.items ++ items_after s.state later))
 
--- the items before the cut and of it are known
-pub after_cut : (before items now then : List Item) → now ≡ then → before ++ (items ++ now) ≡ before ++ (items ++ then)
-after_cut before items now then same = ap (λ (later : List Item). before ++ (items ++ later)) same
+pub cut_all : (w : State) (cuts : List Cut) (last : List Move) → AreSteps w cuts → items_after w (all_moves cuts last) ≡ all_items w cuts last
+cut_all w [] last are = refl
+cut_all w (c ∷ cuts) last are =
+    let s : Step = c.step (state_after w c.first) in
+    cut w c.first c.move (all_moves cuts last) s are.0 ∙ ap (λ (items : List Item). items_after w c.first ++ (s.items ++ items)) (cut_all s.state cuts last are.1)

@@ -43,3 +43,15 @@ expired_row = refl
 pub old_row : history_after default_numbers (alone.late_moves 1) ≡ alone.late_items 1 alone.old_late
 unfolding items_after record_pairs least_unsettled put_row without_bare fetched front_of after_passed
 old_row = refl
+
+pub forgotten_row : history_after alone.small_buckets (alone.hidden_moves 0) ≡ alone.hidden_items 0 alone.forgotten
+unfolding items_after record_pairs least_unsettled put_row without_bare kept_commit added without oldest verdict
+forgotten_row = refl
+
+pub unwritten_row : history_after alone.small_buckets (alone.hidden_moves 12) ≡ alone.hidden_items 12 alone.unwritten
+unfolding items_after record_pairs least_unsettled put_row without_bare kept_commit added without oldest verdict
+unwritten_row = refl
+
+pub kept_row : history_after alone.small_buckets (alone.hidden_moves 4) ≡ alone.hidden_items 4 alone.kept
+unfolding items_after record_pairs least_unsettled put_row without_bare kept_commit added without oldest verdict
+kept_row = refl

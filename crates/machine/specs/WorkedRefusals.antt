@@ -3,6 +3,7 @@ use Rattle.std.specs.Prelude.{ℕ, ◌^◌, List, [], ◌∷◌, ◌++◌, Optio
 use Rattle.stamp_base.specs.SetupNumbers.{SetupNumbers, default_numbers}
 use Rattle.stamp_base.specs.declared.stores.Store.TheVariants.{Cells, Master}
 use Rattle.port_io.specs.declared.weather.Fate.TheVariants.{Works, FailsApplied}
+use Rattle.history_book.specs.declared.cause.Cause.{Cause}
 use Rattle.history_book.specs.declared.cause.Cause.TheVariants as cause
 use Rattle.history_book.specs.declared.item.Actor.TheVariants.{Node, Session, Janitor}
 use Rattle.history_book.specs.declared.item.Ending.TheVariants as ending
@@ -66,3 +67,23 @@ expired_late = item.Refused (Session 0) (cause.Expired 12 10)
 
 abbrev pub old_late : Item
 old_late = item.Refused (Session 0) (cause.OldEpoch 1 100)
+
+-- ---- buckets of two: three commits on keys of one bucket, the first of which it forgets, and then a commit of an older start
+abbrev pub small_buckets : SetupNumbers
+small_buckets = record default_numbers { buckets = 4; width = 2 }
+
+abbrev pub hidden_moves : ℕ → List Move
+hidden_moves key = working (event.Take 0 0 ∷ begins 0 0 0 ++ begins 1 0 0 ++ begins 2 0 0 ++ begins 3 0 0 ++ event.Write 1 0 v ∷ event.Write 2 4 v ∷ event.Write 3 8 v ∷ event.Write 0 key v ∷ draws 1 0 0 ++ draws 2 0 0 ++ draws 3 0 0 ++ draws 0 0 0 ++ event.Step 0 ∷ [])
+
+abbrev pub hidden_items : ℕ → Cause → List Item
+hidden_items key why = item.Take 0 0 1 0 10 100 ∷ begun_items 0 0 1 0 1 ++ begun_items 1 0 1 0 2 ++ begun_items 2 0 1 0 3 ++ begun_items 3 0 1 0 4 ++ item.Write 1 2 0 v ∷ item.Write 2 3 4 v ∷ item.Write 3 4 8 v ∷ item.Write 0 1 key v ∷ drawn_items 1 0 1 0 2 5 ++ drawn_items 2 0 1 0 3 6 ++ drawn_items 3 0 1 0 4 7 ++ item.AskCommit 0 0 1 ∷ item.Accept 0 0 1 0 ∷ item.Refused (Session 0) why ∷ item.Step (Session 0) (step.Erase key 1) ∷ []
+
+-- the key that was forgotten, one that was never written, and one that is kept
+abbrev pub forgotten : Cause
+forgotten = cause.Hidden 0 5
+
+abbrev pub unwritten : Cause
+unwritten = cause.Hidden 12 5
+
+abbrev pub kept : Cause
+kept = cause.Conflict 4 6

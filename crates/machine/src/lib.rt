@@ -12,6 +12,7 @@ pub use laws::{
     requests_are_told_once, seen_goes_up, stores_are_asked_once,
 };
 pub use worked::{
-    boundaries_of_the_lease, conflict, end_of_the_stamps, faulted_take_and_write, late_begin,
-    own_writes, plain_path, ranges, refusals_of_order,
+    boundaries_of_the_lease, conflict, crash, end_of_the_stamps, faulted_put,
+    faulted_take_and_write, hidden, late_begin, late_draw, late_put, not_yet, own_writes,
+    plain_path, put_before_the_read, ranges, refusals_of_order, stray_mark, vanished_session,
 };

@@ -54,3 +54,57 @@ pub fn plain_path()
 pub fn conflict()
     ensures { history_after default_numbers worked.conflict_moves ≡ worked.conflict_items }
 {}
+
+/// A reader of a later term marks a transaction whose commit was drawn and not placed: the put finds the mark, the commit is
+/// invalid, and its cell is erased.
+pub fn late_put()
+    ensures { history_after default_numbers worked.late_put_moves ≡ worked.late_put_items }
+{}
+
+/// The put of the old node comes before the read of the new term: the reader finds the commit in the table.
+pub fn put_before_the_read()
+    ensures { history_after default_numbers worked.early_put_moves ≡ worked.early_put_items }
+{}
+
+/// A commit that was accepted in time is drawn and placed after a takeover, with a stamp of the old term.
+pub fn late_draw()
+    ensures { history_after default_numbers worked.late_draw_moves ≡ worked.late_draw_items }
+{}
+
+/// A reader asks the table before a commit is placed, and marks its place after it was completed and removed: the last look
+/// shows the shadow, so the mark does no harm.
+pub fn stray_mark()
+    ensures { history_after default_numbers worked.stray_moves ≡ worked.stray_items }
+{}
+
+/// A begin waits for the commit that was drawn below its start until it is settled, and is told so once.
+pub fn not_yet()
+    ensures { history_after default_numbers worked.wait_moves ≡ worked.wait_items }
+{}
+
+/// A crash leaves a commit that was drawn with an open outcome: its session marks the transaction and undoes it. A later reader
+/// finds no cell.
+pub fn crash()
+    ensures { history_after default_numbers worked.crash_moves ≡ worked.crash_items }
+{}
+
+/// A vanished session leaves a bare cell. A sweep by the epoch of its own term is undecided, and one by a later term marks the
+/// transaction and erases the cell.
+pub fn vanished_session()
+    ensures { history_after default_numbers worked.vanish_moves ≡ worked.vanish_items }
+{}
+
+/// A put that failed without effect: the session marks its own transaction, which is dead, and erases its cell. One that failed
+/// and took effect: the session finds its commit, and completes it.
+pub fn faulted_put()
+    ensures unchanged { history_after default_numbers worked.unplaced_moves ≡ worked.unplaced_items }
+    ensures applied { history_after default_numbers worked.unheard_moves ≡ worked.unheard_items }
+{}
+
+/// A bucket that keeps two keys forgets the first of three. A commit of an older start is refused by the water on the key that
+/// was forgotten and on one that was never written, and as a conflict on one that is kept.
+pub fn hidden()
+    ensures forgotten { history_after alone.small_buckets (alone.hidden_moves 0) ≡ alone.hidden_items 0 alone.forgotten }
+    ensures unwritten { history_after alone.small_buckets (alone.hidden_moves 12) ≡ alone.hidden_items 12 alone.unwritten }
+    ensures kept { history_after alone.small_buckets (alone.hidden_moves 4) ≡ alone.hidden_items 4 alone.kept }
+{}
