@@ -1,5 +1,5 @@
 -- Each event asks a store as its definition says, and fails exactly where its call does.
-use Rattle.std.proofs.Common.{◌≡◌, ℕ, List, [], Option, Some, None, Result, Ok, Err, refl, ap}
+use Rattle.std.proofs.Common.{◌≡◌, ℕ, Option, Some, None, Result, Ok, Err, refl, ap}
 use Rattle.std.specs.Prelude.{slice_get}
 use Rattle.stamp_base.specs.declared.stores.Store.{Store}
 use Rattle.port_io.specs.declared.weather.Fate.{Fate}
@@ -18,23 +18,14 @@ use Rattle.machine.specs.Machine.{Step, step_by, nothing, with_reading, with_pos
 use Rattle.machine.specs.Events.Take.{take_on, take_asks}
 use Rattle.machine.specs.Events.Renew.{renew_on, renew_asks}
 use Rattle.machine.specs.Events.Extend.{extend_on, extend_asks}
-use Rattle.machine.specs.Events.Crash.{crash_on}
-use Rattle.machine.specs.Events.AskBegin.{ask_begin_on}
-use Rattle.machine.specs.Events.AskCommit.{ask_commit_on}
-use Rattle.machine.specs.Events.Accept.{accept_on}
 use Rattle.machine.specs.Events.Decide.{decide_by, decide_request, decide_on}
 use Rattle.machine.specs.Events.Put.{put_on, put_asks}
-use Rattle.machine.specs.Events.Answer.{answer_on}
 use Rattle.machine.specs.Events.Write.{write_on, write_asks}
 use Rattle.machine.specs.Events.Fetch.{fetch_on, fetch_asks}
 use Rattle.machine.specs.Events.Step.{step_on, step_asks}
 use Rattle.machine.specs.Events.Heal.{heal_on, heal_asks}
-use Rattle.machine.specs.Events.Abort.{abort_on}
-use Rattle.machine.specs.Events.Vanish.{vanish_on}
-use Rattle.machine.specs.Events.SweepOpen.{sweep_open_on}
 use Rattle.machine.specs.Events.SweepStep.{sweep_step_on, sweep_step_asks}
-use Rattle.machine.specs.Laws.{IsFaultOf, AsksExactly, StoresAreAskedOnce}
-use Rattle.machine.proofs.Refusals.{Plain}
+use Rattle.machine.specs.Laws.{IsFaultOf, StoresAreAskedOnce}
 use Rattle.machine.proofs.PlainEvents.{plain_abort, plain_vanish, plain_sweep_open, plain_crash, plain_ask_begin, plain_ask_commit, plain_accept, plain_answer}
 use Rattle.machine.proofs.StoreEvents.{AskedOnce, asked_take, asked_renew, asked_extend, asked_put, asked_write, asked_fetch, asked_heal, asked_step, asked_sweep_step}
 

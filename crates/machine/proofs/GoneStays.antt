@@ -1,5 +1,5 @@
 -- A session that has vanished stays so, over each event.
-use Rattle.std.proofs.Common.{◌≡◌, ℕ, zero, suc, Bool, false, List, [], ◌∷◌, Option, Some, None, Result, Ok, Err, refl, sym, ◌∙◌, ap, subst}
+use Rattle.std.proofs.Common.{◌≡◌, ℕ, zero, suc, false, List, [], ◌∷◌, Option, Some, None, Result, Ok, Err, refl, sym, ◌∙◌, ap, subst}
 use Rattle.std.specs.Prelude.{slice_get, slice_set, IfSome}
 use Rattle.std.specs.Option.{option_or}
 use Rattle.std.proofs.lemmas.Option.{same_Some}
@@ -22,9 +22,8 @@ use Rattle.oracle_parts.specs.InstanceSteps.{instance_accept, instance_decide, i
 use Rattle.machine.specs.declared.event.Event.{Event}
 use Rattle.machine.specs.declared.event.Event.TheVariants as event
 use Rattle.machine.specs.State.{Client, State}
-use Rattle.machine.specs.Effect.{Effect}
 use Rattle.machine.specs.Clients.{is_reading, after_refusal, unless_gone_by, unless_gone}
-use Rattle.machine.specs.Machine.{Step, step_by, with_reading, with_post, with_client, at_post, at_client, at_both, stepped}
+use Rattle.machine.specs.Machine.{Step, step_by, with_reading, with_post, at_post, at_client, at_both, stepped}
 use Rattle.machine.specs.Events.Crash.{crashed_client, crashed_clients, after_loss, crash_on}
 use Rattle.machine.specs.Events.AskBegin.{ask_begin_by, ask_begin_on}
 use Rattle.machine.specs.Events.AskCommit.{ask_commit_by, ask_commit_on}
@@ -33,7 +32,7 @@ use Rattle.machine.specs.Events.Decide.{decide_by, decide_request, decide_on}
 use Rattle.machine.specs.Events.Answer.{answer_by, answer_request, answer_on}
 use Rattle.machine.specs.Events.Write.{write_open, write_on}
 use Rattle.machine.specs.Events.Fetch.{fetch_open, fetch_on}
-use Rattle.machine.specs.Events.Step.{StepParts, step_by as step_made, step_on}
+use Rattle.machine.specs.Events.Step.{step_by as step_made, step_on}
 use Rattle.machine.specs.Events.Heal.{offer_by, heal_at, heal_on}
 use Rattle.machine.specs.Events.Abort.{abort_by, abort_on}
 use Rattle.machine.specs.Events.Vanish.{vanish_by, vanish_on}

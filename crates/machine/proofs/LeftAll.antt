@@ -1,12 +1,12 @@
 -- Each event's refusals that leave all: the parts that it looked up are put back as they were.
-use Rattle.std.proofs.Common.{◌≡◌, ℕ, List, Option, Some, None, refl}
+use Rattle.std.proofs.Common.{◌≡◌, ℕ, Option, Some, None, refl}
 use Rattle.std.specs.Prelude.{slice_get, IfSome}
 use Rattle.port_io.specs.declared.weather.Fate.{Fate}
 use Rattle.oracle_parts.specs.Instance.{InstanceEntry}
 use Rattle.machine.specs.declared.event.Event.{Event}
 use Rattle.machine.specs.declared.event.Event.TheVariants as event
-use Rattle.machine.specs.State.{Client, State}
-use Rattle.machine.specs.Machine.{Step, step_by, with_reading, with_post, with_client, stepped}
+use Rattle.machine.specs.State.{State}
+use Rattle.machine.specs.Machine.{with_reading, with_post, with_client, stepped}
 use Rattle.machine.specs.Events.Take.{take_on}
 use Rattle.machine.specs.Events.Renew.{renew_on}
 use Rattle.machine.specs.Events.Extend.{extend_on}

@@ -1,6 +1,6 @@
 -- What each kind of event leaves of the parts that it does not touch. Each of the kinds is one by the parts that it looks
 -- up and puts back.
-use Rattle.std.proofs.Common.{◌≡◌, ℕ, Bool, true, false, List, Option, Some, None, refl, sym, ◌∙◌}
+use Rattle.std.proofs.Common.{◌≡◌, ℕ, Bool, true, false, List, Option, Some, None, refl}
 use Rattle.std.specs.Prelude.{slice_get}
 use Rattle.port_io.specs.declared.weather.Fate.{Fate}
 use Rattle.store_parts.specs.Rows.{Row}
@@ -12,7 +12,7 @@ use Rattle.machine.specs.declared.event.Event.{Event}
 use Rattle.machine.specs.declared.event.Event.TheVariants as event
 use Rattle.machine.specs.State.{Client, State}
 use Rattle.machine.specs.Effect.{Effect}
-use Rattle.machine.specs.Machine.{Step, step_by, with_reading, with_post, with_client, at_post, at_client, at_both, on_record, on_clients, on_ask, on_request, on_table, on_client, on_cells, on_stores, on_sweep, on_swept, stepped, reading_of, seen_after}
+use Rattle.machine.specs.Machine.{step_by, with_reading, with_post, with_client, at_post, at_client, at_both, on_record, on_clients, on_ask, on_request, on_table, on_client, on_cells, on_stores, on_sweep, on_swept, stepped, reading_of, seen_after}
 use Rattle.machine.specs.Events.Step.{StepParts}
 use Rattle.machine.specs.Events.SweepStep.{SweepParts}
 use Rattle.machine.specs.Events.Take.{take_on}

@@ -1,7 +1,6 @@
 -- The events that ask no store: which refusals leave all, and that no store fails.
-use Rattle.std.proofs.Common.{◌≡◌, ℕ, ◌+◌, ◌==◌, Bool, true, false, IsTrue, if◌then◌else◌, List, [], ◌∷◌, Option, Some, None, Result, Ok, Err, refl, sym, ap, subst}
+use Rattle.std.proofs.Common.{◌≡◌, ℕ, ◌+◌, ◌==◌, Bool, true, false, IsTrue, if◌then◌else◌, List, [], ◌∷◌, Option, Some, None, Result, Ok, Err, refl, sym, subst}
 use Rattle.std.specs.Prelude.{nat_lt, nat_le, IfSome}
-use Rattle.stamp_base.specs.declared.stores.Store.{Store}
 use Rattle.history_book.specs.declared.cause.Cause.{Cause}
 use Rattle.history_book.specs.declared.cause.Cause.TheVariants as cause
 use Rattle.history_book.specs.declared.item.Actor.TheVariants.{Node, Session, Janitor}
@@ -20,11 +19,10 @@ use Rattle.oracle_parts.specs.declared.instance.Progress.{Progress}
 use Rattle.oracle_parts.specs.declared.instance.Progress.TheVariants.{Asked, Accepted, Drawn, Settled}
 use Rattle.oracle_parts.specs.declared.instance.Request.{Request}
 use Rattle.oracle_parts.specs.declared.instance.Request.TheVariants.{Begin, Commit}
-use Rattle.oracle_parts.specs.Instance.{InstanceEntry, held_of, in_flight, with_request, session_of, was_told_not_yet, stamps_at, least_unsettled}
-use Rattle.oracle_parts.specs.InstanceSteps.{InstanceStep, IsStop, stays, just_asked, instance_ask, epoch_refusal, accept_refusal, accept_unless, accept_if_asked, accept_held, instance_accept, out_of_stamps, decide_drawn, decide_by as verdict_by, decide_if_accepted, decide_held, instance_decide, request_verdict, answer_begin, answer_if_ready, answer_held, instance_answer}
+use Rattle.oracle_parts.specs.Instance.{InstanceEntry, held_of, in_flight, with_request, session_of, stamps_at, least_unsettled}
+use Rattle.oracle_parts.specs.InstanceSteps.{InstanceStep, IsStop, stays, just_asked, instance_ask, epoch_refusal, accept_unless, accept_if_asked, accept_held, instance_accept, out_of_stamps, decide_drawn, decide_by as verdict_by, decide_if_accepted, decide_held, instance_decide, request_verdict, answer_begin, answer_if_ready, answer_held, instance_answer}
 use Rattle.machine.specs.State.{Client}
-use Rattle.machine.specs.Effect.{Effect, Refuses, Faults}
-use Rattle.machine.specs.Clients.{is_reading, client_aborted, client_asked, client_freed, client_vanished, after_refusal, unless_gone, client_begun, client_committed, client_opened}
+use Rattle.machine.specs.Clients.{is_reading, client_aborted, client_asked, client_freed, client_vanished, unless_gone, client_begun, client_committed}
 use Rattle.machine.specs.Events.Crash.{crashed_clients, all_crashed_items, crash_on}
 use Rattle.machine.specs.Events.AskBegin.{asked_by, begin_asked, ask_begin_by, ask_begin_on}
 use Rattle.machine.specs.Events.AskCommit.{commit_asked, commit_of, ask_commit_by, ask_commit_on}
@@ -35,7 +33,7 @@ use Rattle.machine.specs.Events.Abort.{abort_by, abort_on}
 use Rattle.machine.specs.Events.Vanish.{vanish_by, vanish_on}
 use Rattle.machine.specs.Events.SweepOpen.{sweep_open_at, sweep_open_on}
 use Rattle.machine.specs.Laws.{leaves_all, KeepsStop}
-use Rattle.machine.proofs.Refusals.{LeavesAll, Plain, plain_done, plain_refused, plain_ending}
+use Rattle.machine.proofs.Refusals.{Plain, plain_done, plain_refused, plain_ending}
 
 -- ---- sessions alone
 plain_abort_by : (session : ℕ) (c : Client) (why : Option Cause) (start : Option ℕ) → Plain c (abort_by session c why start)

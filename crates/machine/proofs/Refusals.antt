@@ -1,5 +1,5 @@
 -- A refusal that leaves all: what an effect has to leave of its parts, and what it is of the whole once they are put back.
-use Rattle.std.proofs.Common.{◌≡◌, ℕ, zero, suc, Bool, true, false, IsTrue, List, [], ◌∷◌, Option, Some, None, refl, sym, ◌∙◌, ap, subst}
+use Rattle.std.proofs.Common.{◌≡◌, ℕ, zero, suc, IsTrue, List, [], ◌∷◌, Option, Some, None, refl, sym, ◌∙◌, ap, subst}
 use Rattle.std.specs.Prelude.{slice_get, slice_set}
 use Rattle.std.proofs.lemmas.Option.{same_Some}
 use Rattle.stamp_base.specs.declared.stores.Store.{Store}
@@ -9,7 +9,7 @@ use Rattle.history_book.specs.declared.item.Item.{Item}
 use Rattle.history_book.specs.declared.item.Item.TheVariants.{Refused}
 use Rattle.oracle_parts.specs.Instance.{InstanceEntry}
 use Rattle.machine.specs.State.{Client, State}
-use Rattle.machine.specs.Effect.{Stop, Refuses, Faults, Effect, done, refused}
+use Rattle.machine.specs.Effect.{Refuses, Faults, Effect, done, refused}
 use Rattle.machine.specs.Machine.{Step, step_by, nothing, with_post, with_client, at_post, at_client, at_both}
 use Rattle.machine.specs.Laws.{leaves_all, TellsAlone}
 

@@ -1,5 +1,5 @@
 -- What an instance keeps of the master record's refusals is Replaced or Spent, in each state that moves lead to.
-use Rattle.std.proofs.Common.{◌≡◌, ℕ, zero, suc, ◌+◌, ◌==◌, Bool, true, false, if◌then◌else◌, List, [], ◌∷◌, Option, Some, None, Result, Ok, Err, refl, sym, ◌∙◌, ap, subst}
+use Rattle.std.proofs.Common.{◌≡◌, ℕ, zero, suc, ◌+◌, ◌==◌, Bool, true, false, if◌then◌else◌, List, [], ◌∷◌, Option, Some, None, Result, Ok, Err, refl, sym, ap, subst}
 use Rattle.std.specs.Prelude.{slice_get, slice_set, replicate, IfSome}
 use Rattle.std.specs.Option.{option_or}
 use Rattle.std.proofs.lemmas.Option.{same_Some, none-some}
@@ -17,8 +17,8 @@ use Rattle.store_parts.specs.declared.record.RenewRefused.{RenewRefused}
 use Rattle.store_parts.specs.declared.record.RenewRefused.TheVariants as renew
 use Rattle.store_parts.specs.declared.record.ExtendRefused.{ExtendRefused}
 use Rattle.store_parts.specs.declared.record.ExtendRefused.TheVariants as extend
-use Rattle.store_parts.specs.Record.{MasterRecord, take_refused, renew_refused, renewed_until, extend_refused, granted, taken, renewed, extended, answered}
-use Rattle.store_parts.specs.Pairs.{Pairs, mark_of, put_pair}
+use Rattle.store_parts.specs.Record.{MasterRecord, take_refused, renew_refused, renewed_until, extend_refused, granted, answered}
+use Rattle.store_parts.specs.Pairs.{Pairs, mark_of}
 use Rattle.oracle_parts.specs.declared.buckets.Verdict.{Verdict}
 use Rattle.oracle_parts.specs.declared.buckets.Verdict.TheVariants.{Free, Conflict, Hidden}
 use Rattle.oracle_parts.specs.declared.instance.Held.{Held}
@@ -31,17 +31,16 @@ use Rattle.oracle_parts.specs.declared.instance.Request.{Request}
 use Rattle.oracle_parts.specs.declared.instance.Request.TheVariants.{Begin, Commit}
 use Rattle.oracle_parts.specs.declared.instance.Settled as how
 use Rattle.oracle_parts.specs.Instance.{InstanceEntry, held_of, stamps_at}
-use Rattle.oracle_parts.specs.InstanceSteps.{InstanceStep, IsStop, instance_stopped, instance_ask, instance_accept, out_of_stamps, decide_drawn, decide_by as verdict_by, decide_if_accepted, decide_held, instance_decide, request_verdict, instance_settle, instance_answer}
+use Rattle.oracle_parts.specs.InstanceSteps.{InstanceStep, IsStop, instance_ask, instance_accept, out_of_stamps, decide_drawn, decide_by as verdict_by, decide_if_accepted, decide_held, instance_decide, request_verdict, instance_settle, instance_answer}
 use Rattle.oracle_parts.specs.InstanceLaws.{ChangesRequestsAlone}
 use Rattle.oracle_parts.proofs.InstanceMoves.{quiet_ask, quiet_accept, quiet_settle, quiet_answer}
 use Rattle.client_parts.specs.SessionSteps.{begin_refusal, work_refusal}
 use Rattle.machine.specs.declared.event.Event.{Event}
 use Rattle.machine.specs.declared.event.Event.TheVariants as event
-use Rattle.machine.specs.State.{Client, State, opening}
-use Rattle.machine.specs.Effect.{Effect}
+use Rattle.machine.specs.State.{Client, State}
 use Rattle.machine.specs.Clients.{is_reading}
-use Rattle.machine.specs.Machine.{Step, step_by, with_reading, with_post, with_client, at_post, at_both, stepped}
-use Rattle.machine.specs.Events.Take.{take_by, rules_of, take_item, take_on}
+use Rattle.machine.specs.Machine.{Step, with_reading, at_post, at_both, stepped}
+use Rattle.machine.specs.Events.Take.{take_by, rules_of, take_on}
 use Rattle.machine.specs.Events.Renew.{renew_by, renew_on}
 use Rattle.machine.specs.Events.Extend.{extend_by, extend_on}
 use Rattle.machine.specs.Events.Crash.{crash_on}
@@ -51,7 +50,7 @@ use Rattle.machine.specs.Events.Accept.{accept_by, accept_request, accept_on}
 use Rattle.machine.specs.Events.Decide.{decide_by, decide_request, decide_on}
 use Rattle.machine.specs.Events.Put.{to_place, put_by, put_commit, put_on}
 use Rattle.machine.specs.Events.Answer.{answer_by, answer_request, answer_on}
-use Rattle.machine.specs.Laws.{InstanceAt, KeepsStop, KeepStops, StopsAreKept, touches_nodes}
+use Rattle.machine.specs.Laws.{KeepsStop, KeepStops, StopsAreKept, touches_nodes}
 use Rattle.machine.proofs.PartsKept.{leaves_parts}
 
 abbrev AllKeep : List (Option InstanceEntry) → Type 0

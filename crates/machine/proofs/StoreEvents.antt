@@ -1,6 +1,5 @@
 -- The events that ask a store: which refusals leave all, and that the fate matters exactly where a store is asked.
-use Rattle.std.proofs.Common.{◌≡◌, ℕ, ◌+◌, ◌==◌, ◌^◌, Bool, true, false, IsTrue, if◌then◌else◌, List, [], ◌∷◌, ◌++◌, Option, Some, None, Result, Ok, Err, refl, sym, ap, subst}
-use Rattle.std.specs.Prelude.{nat_lt, is_some, ◌&&◌}
+use Rattle.std.proofs.Common.{◌≡◌, ℕ, ◌+◌, ◌==◌, Bool, true, false, if◌then◌else◌, List, [], ◌∷◌, Option, Some, None, Ok, Err, refl, sym, ap, subst}
 use Rattle.stamp_base.specs.SetupNumbers.{SetupNumbers}
 use Rattle.stamp_base.specs.declared.stores.Mark.{Mark}
 use Rattle.stamp_base.specs.declared.stores.Mark.TheVariants.{Committed}
@@ -8,7 +7,6 @@ use Rattle.stamp_base.specs.declared.stores.Store.{Store}
 use Rattle.stamp_base.specs.declared.stores.Store.TheVariants.{Cells, Table, Master}
 use Rattle.port_io.specs.declared.weather.Fate.{Fate}
 use Rattle.port_io.specs.declared.weather.Fate.TheVariants.{Works, FailsUnchanged, FailsApplied}
-use Rattle.port_io.specs.Fates.{fated}
 use Rattle.history_book.specs.declared.cause.Cause.{Cause}
 use Rattle.history_book.specs.declared.cause.Cause.TheVariants as cause
 use Rattle.history_book.specs.declared.item.Actor.{Actor}
@@ -22,34 +20,30 @@ use Rattle.store_parts.specs.declared.record.RenewRefused.TheVariants as renew
 use Rattle.store_parts.specs.declared.record.ExtendRefused.{ExtendRefused}
 use Rattle.store_parts.specs.declared.record.ExtendRefused.TheVariants as extend
 use Rattle.store_parts.specs.Record.{Leasing, MasterRecord, is_early, is_spent, take_refused, granted, held_by, renew_refused, renewed_until, extend_refused, unless_refused, answered}
-use Rattle.store_parts.specs.Rows.{Row, put_row, fetched, front_of, keys_of_version}
+use Rattle.store_parts.specs.Rows.{Row}
 use Rattle.store_parts.specs.Pairs.{Pairs, mark_of, put_pair}
-use Rattle.store_parts.specs.declared.rows.Cell.{Cell}
 use Rattle.client_parts.specs.declared.asks.Ask.{Ask}
 use Rattle.client_parts.specs.declared.asks.Ask.TheVariants as ask
 use Rattle.client_parts.specs.declared.asks.Told.{Told}
 use Rattle.client_parts.specs.SessionSteps.{work_refusal, step_refusal}
-use Rattle.client_parts.specs.Resolve.{Settling, settle_ask}
-use Rattle.client_parts.specs.KeyRead.{Reading, read_ask}
+use Rattle.client_parts.specs.Resolve.{settle_ask}
+use Rattle.client_parts.specs.KeyRead.{read_ask}
 use Rattle.client_parts.specs.Sweep.{Sweeping, sweep_ask, sweep_told, is_undecided}
-use Rattle.oracle_parts.specs.declared.instance.Held.{Held}
-use Rattle.oracle_parts.specs.declared.instance.Settled.TheVariants as how
 use Rattle.oracle_parts.specs.Instance.{InstanceEntry, held_of}
-use Rattle.oracle_parts.specs.InstanceSteps.{instance_settle}
 use Rattle.machine.specs.State.{UnderWay, Nothing, Reads, Settles, Completes, Client}
-use Rattle.machine.specs.Effect.{Stop, Refuses, Faults, Effect, done, refused, faulted, kept_items}
+use Rattle.machine.specs.Effect.{Stop, Faults, Effect, done, refused, kept_items}
 use Rattle.machine.specs.StoreSteps.{Met, met, store_of, told_by}
 use Rattle.machine.specs.Clients.{is_reading}
 use Rattle.machine.specs.Events.Take.{rules_of, take_by, take_item, take_on, take_asks}
 use Rattle.machine.specs.Events.Renew.{renew_by, renew_on, renew_asks}
 use Rattle.machine.specs.Events.Extend.{extend_by, extend_on, extend_asks}
 use Rattle.machine.specs.Events.Put.{to_place, put_by, put_commit, put_on, commit_asks, put_asks}
-use Rattle.machine.specs.Events.Write.{write_refused, write_by, write_open, write_on, open_asks, write_asks}
-use Rattle.machine.specs.Events.Fetch.{fetch_by, fetch_open, fetch_on, epoch_asks, fetch_asks}
+use Rattle.machine.specs.Events.Write.{write_refused, write_open, write_on, open_asks, write_asks}
+use Rattle.machine.specs.Events.Fetch.{fetch_open, fetch_on, epoch_asks, fetch_asks}
 use Rattle.machine.specs.Events.Step.{StepParts, work_of, next_of, step_at, step_by, step_on, store_asked, step_asks_by, step_asks}
 use Rattle.machine.specs.Events.Heal.{offer_of, no_offer_cause, heal_at, heal_on, offer_asks, heal_asks}
 use Rattle.machine.specs.Events.SweepStep.{SweepParts, undecided_stop, sweep_by, sweep_met, sweep_lists, sweep_at, sweep_step_on, sweep_step_asks}
-use Rattle.machine.specs.Laws.{leaves_all, IsFaultOf}
+use Rattle.machine.specs.Laws.{IsFaultOf}
 use Rattle.machine.proofs.Refusals.{LeavesAll, refusal_leaves, ending_leaves, fault_leaves, going_leaves}
 
 -- the fate does not matter where no store is asked, and where one is, the effect fails exactly where its call does

@@ -3,7 +3,6 @@
 use Rattle.std.proofs.Common.{◌≡◌, ℕ, zero, suc, ◌+◌, ◌==◌, Bool, true, false, if◌then◌else◌, List, [], ◌∷◌, Option, Some, None, Result, Ok, Err, refl, sym, ◌∙◌, ap, subst}
 use Rattle.std.specs.Prelude.{slice_get, slice_set, slice_index_or, IfSome}
 use Rattle.std.proofs.lemmas.Option.{same_Some}
-use Rattle.port_io.specs.declared.weather.Fate.{Fate}
 use Rattle.history_book.specs.declared.cause.Cause.{Cause}
 use Rattle.history_book.specs.declared.cause.Cause.TheVariants as cause
 use Rattle.history_book.specs.declared.item.Actor.TheVariants.{Session}
@@ -20,14 +19,13 @@ use Rattle.oracle_parts.specs.declared.instance.Progress.TheVariants.{Accepted, 
 use Rattle.oracle_parts.specs.declared.instance.Request.{Request}
 use Rattle.oracle_parts.specs.declared.instance.Request.TheVariants.{Begin, Commit}
 use Rattle.oracle_parts.specs.Instance.{InstanceEntry, held_of, no_stamp_of_held, was_told_no_stamp, not_yet_of_held, was_told_not_yet, stamps_at, least_unsettled}
-use Rattle.oracle_parts.specs.InstanceSteps.{IsStop, no_stamp_told, not_yet_told, out_of_stamps, decide_drawn, decide_by as verdict_by, decide_if_accepted, decide_held, instance_decide, request_verdict, answer_begin, answer_if_ready, answer_held, instance_answer}
-use Rattle.machine.specs.declared.event.Event.TheVariants as event
+use Rattle.oracle_parts.specs.InstanceSteps.{IsStop, out_of_stamps, decide_drawn, decide_by as verdict_by, decide_if_accepted, decide_held, instance_decide, request_verdict, answer_begin, answer_if_ready, answer_held, instance_answer}
 use Rattle.machine.specs.State.{Client, State}
-use Rattle.machine.specs.Effect.{Stop, Refuses, Effect}
-use Rattle.machine.specs.Machine.{Step, step_by, with_post, with_client, at_both, on_request, stepped}
+use Rattle.machine.specs.Effect.{Refuses, Effect}
+use Rattle.machine.specs.Machine.{Step, step_by, with_post, with_client, at_both, on_request}
 use Rattle.machine.specs.Events.Decide.{decide_by, decide_request, decide_on}
 use Rattle.machine.specs.Events.Answer.{answer_by, answer_request, answer_on}
-use Rattle.machine.specs.Laws.{InstanceAt, KeepsStop, TellsNoStampOnce, TellsNotYetOnce, RequestsAreToldOnce}
+use Rattle.machine.specs.Laws.{InstanceAt, KeepsStop, RequestsAreToldOnce}
 
 -- ---- what is found where it was put
 found_here : (xs : List (Option Held)) (session : ℕ) (held : Held) (now : Option Held) → slice_index_or xs session None ≡ Some held → slice_index_or (slice_set xs session now) session None ≡ now
@@ -157,10 +155,13 @@ not_yet_told_at w node session commit i is =
     looked_up w node session (Unit {0}) (cause.NotYet commit) (was_told_not_yet i session) (λ j. was_told_not_yet j session) (answer_on node session) i is (λ c. answer_tells_at node session commit i c (stamps_at i session))
 
 pub told_once : RequestsAreToldOnce
-told_once w node session i is = (record {
-  once = λ fate last. (no_stamp_told_at w node session last i is).once;
-  kept = λ keeps fate last left. (no_stamp_told_at w node session last i is).kept keeps left;
-}, record {
-  once = λ fate commit. (not_yet_told_at w node session commit i is).once;
-  kept = λ fate commit left. (not_yet_told_at w node session commit i is).kept tt left;
-})
+told_once w node session i is = (
+  record {
+    once = λ fate last. (no_stamp_told_at w node session last i is).once;
+    kept = λ keeps fate last left. (no_stamp_told_at w node session last i is).kept keeps left;
+  },
+  record {
+    once = λ fate commit. (not_yet_told_at w node session commit i is).once;
+    kept = λ fate commit left. (not_yet_told_at w node session commit i is).kept tt left;
+  },
+)

@@ -1,5 +1,5 @@
 -- The worked histories whose moves look at the commit table, cut at these moves.
-use Rattle.std.proofs.Common.{◌≡◌, ℕ, List, [], ◌∷◌, ◌++◌, Option, Some, None, refl, ap, ◌∙◌}
+use Rattle.std.proofs.Common.{◌≡◌, ℕ, List, [], ◌∷◌, ◌++◌, Option, Some, None, ap, ◌∙◌}
 use Rattle.std.specs.FinMap as map
 use Rattle.stamp_base.specs.SetupNumbers.{default_numbers}
 use Rattle.stamp_base.specs.declared.stores.Mark.{Mark}
@@ -10,13 +10,13 @@ use Rattle.store_parts.specs.Pairs.{Pairs, mark_of, put_pair}
 use Rattle.store_parts.specs.Rows.{put_row, fetched, front_of, looked, with_shadow, without_bare, keys_of_version}
 use Rattle.store_parts.proofs.PairLaws.{entry_or, mark_of-empty, mark_of-put_pair, committed_goes}
 use Rattle.client_parts.specs.KeyRead.{after_passed}
-use Rattle.oracle_parts.specs.Buckets.{kept_commit, replaced, added, without, oldest, record_pairs, verdict}
+use Rattle.oracle_parts.specs.Buckets.{kept_commit, added, record_pairs, verdict}
 use Rattle.oracle_parts.specs.Instance.{least_unsettled}
 use Rattle.machine.specs.State.{State, opening}
 use Rattle.machine.specs.declared.event.Event.{Event}
 use Rattle.machine.specs.declared.event.Event.TheVariants as event
 use Rattle.machine.specs.Events.Crash.{crashed_clients, all_crashed_items}
-use Rattle.machine.specs.Machine.{Move, Step, state_after, items_after, history_after}
+use Rattle.machine.specs.Machine.{state_after, items_after, history_after}
 use Rattle.machine.specs.WorkedMoves.{working, v, begins, draws, drawn_events, taken_over, reader_begins}
 use Rattle.machine.specs.WorkedMoves as worked
 use Rattle.machine.proofs.TableMoves.{put_step, session_step, janitor_step, Cut, cut_all}

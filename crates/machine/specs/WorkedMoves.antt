@@ -1,13 +1,12 @@
 -- Short lists of moves, and the items of which their histories consist. Nodes and sessions go by their numbers, and the
 -- setup is the default one where nothing else is said.
-use Rattle.std.specs.Prelude.{ℕ, List, [], ◌∷◌, ◌++◌, map, Option, None, Some}
-use Rattle.stamp_base.specs.declared.stores.Mark.TheVariants.{Committed, Invalid}
+use Rattle.std.specs.Prelude.{ℕ, List, [], ◌∷◌, ◌++◌, map, None, Some}
+use Rattle.stamp_base.specs.declared.stores.Mark.TheVariants.{Committed}
 use Rattle.stamp_base.specs.declared.stores.Store.TheVariants.{Table}
 use Rattle.port_io.specs.declared.weather.Fate.TheVariants.{Works, FailsUnchanged, FailsApplied}
 use Rattle.history_book.specs.declared.cause.Cause.TheVariants as cause
 use Rattle.history_book.specs.declared.item.Actor.TheVariants.{Node, Session, Janitor}
 use Rattle.history_book.specs.declared.item.Ending.TheVariants as ending
-use Rattle.history_book.specs.declared.item.Found.{Found}
 use Rattle.history_book.specs.declared.item.Seen.TheVariants as seen
 use Rattle.history_book.specs.declared.item.StoreStep.TheVariants as step
 use Rattle.history_book.specs.declared.item.Item.{Item}

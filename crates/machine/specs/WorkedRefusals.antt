@@ -1,8 +1,8 @@
 -- Short lists of moves without a look at the commit table, and the items of which their histories consist.
-use Rattle.std.specs.Prelude.{ℕ, ◌^◌, List, [], ◌∷◌, ◌++◌, Option, None, Some}
+use Rattle.std.specs.Prelude.{ℕ, ◌^◌, List, [], ◌∷◌, ◌++◌, None, Some}
 use Rattle.stamp_base.specs.SetupNumbers.{SetupNumbers, default_numbers}
 use Rattle.stamp_base.specs.declared.stores.Store.TheVariants.{Cells, Master}
-use Rattle.port_io.specs.declared.weather.Fate.TheVariants.{Works, FailsApplied}
+use Rattle.port_io.specs.declared.weather.Fate.TheVariants.{FailsApplied}
 use Rattle.history_book.specs.declared.cause.Cause.{Cause}
 use Rattle.history_book.specs.declared.cause.Cause.TheVariants as cause
 use Rattle.history_book.specs.declared.item.Actor.TheVariants.{Node, Session, Janitor}
