@@ -38,8 +38,8 @@ with_entry mark = put_pair map.empty 1 mark
 has_entry : (mark : Mark) → mark_of (with_entry mark) 1 ≡ Some mark
 has_entry mark = mark_of-put_pair map.empty 1 mark ∙ ap (λ (found : Option Mark). Some (entry_or found mark)) (mark_of-empty 1)
 
-abbrev start_state : State
-start_state = opening default_numbers
+abbrev opening_state : State
+opening_state = opening default_numbers
 
 abbrev after : State → Cut → State
 after w c = (c.step (state_after w c.first)).state
@@ -54,8 +54,8 @@ plain_cut = cut_put drawn_events Works None
 pub plain_row : history_after default_numbers worked.plain_moves ≡ worked.plain_items
 unfolding items_after state_after record_pairs least_unsettled put_row fetched front_of looked with_shadow without_bare keys_of_version kept_commit added verdict after_passed crashed_clients all_crashed_items
 plain_row =
-    let at_0 : State = before start_state plain_cut in
-    cut_all start_state (plain_cut ∷ []) (working (event.Answer 0 0 ∷ event.Step 0 ∷ event.Step 0 ∷ begins 1 0 0 ++ event.Fetch 1 0 ∷ event.AskCommit 1 0 ∷ [])) (ap (put_step at_0 0 0 Works) (mark_of-empty 1), tt)
+    let at_0 : State = before opening_state plain_cut in
+    cut_all opening_state (plain_cut ∷ []) (working (event.Answer 0 0 ∷ event.Step 0 ∷ event.Step 0 ∷ begins 1 0 0 ++ event.Fetch 1 0 ∷ event.AskCommit 1 0 ∷ [])) (ap (put_step at_0 0 0 Works) (mark_of-empty 1), tt)
 
 -- ---- conflict
 abbrev conflict_cut : Cut
@@ -64,8 +64,8 @@ conflict_cut = cut_put (event.Take 0 0 ∷ begins 0 0 0 ++ begins 1 0 0 ++ event
 pub conflict_row : history_after default_numbers worked.conflict_moves ≡ worked.conflict_items
 unfolding items_after state_after record_pairs least_unsettled put_row fetched front_of looked with_shadow without_bare keys_of_version kept_commit added verdict after_passed crashed_clients all_crashed_items
 conflict_row =
-    let at_0 : State = before start_state conflict_cut in
-    cut_all start_state (conflict_cut ∷ []) (working (event.Answer 0 0 ∷ event.Step 0 ∷ event.Step 0 ∷ draws 1 0 0 ++ event.Step 1 ∷ [])) (ap (put_step at_0 0 0 Works) (mark_of-empty 1), tt)
+    let at_0 : State = before opening_state conflict_cut in
+    cut_all opening_state (conflict_cut ∷ []) (working (event.Answer 0 0 ∷ event.Step 0 ∷ event.Step 0 ∷ draws 1 0 0 ++ event.Step 1 ∷ [])) (ap (put_step at_0 0 0 Works) (mark_of-empty 1), tt)
 
 -- ---- late put
 abbrev late_put_cut_1 : Cut
@@ -80,12 +80,12 @@ late_put_cut_3 = cut_put (event.Step 1 ∷ []) Works (Some Invalid)
 pub late_put_row : history_after default_numbers worked.late_put_moves ≡ worked.late_put_items
 unfolding items_after state_after record_pairs least_unsettled put_row fetched front_of looked with_shadow without_bare keys_of_version kept_commit added verdict after_passed crashed_clients all_crashed_items
 late_put_row =
-    let at_0 : State = before start_state late_put_cut_1 in
-    let w_1 : State = after start_state late_put_cut_1 in
+    let at_0 : State = before opening_state late_put_cut_1 in
+    let w_1 : State = after opening_state late_put_cut_1 in
     let at_1 : State = before w_1 late_put_cut_2 in
     let w_2 : State = after w_1 late_put_cut_2 in
     let at_2 : State = before w_2 late_put_cut_3 in
-    cut_all start_state (late_put_cut_1 ∷ late_put_cut_2 ∷ late_put_cut_3 ∷ []) (working (event.Answer 0 0 ∷ event.Step 0 ∷ [])) (ap (session_step at_0 1) (mark_of-empty 1), (ap (session_step at_1 1) (mark_of-empty 1), (ap (put_step at_2 0 0 Works) (has_entry Invalid), tt)))
+    cut_all opening_state (late_put_cut_1 ∷ late_put_cut_2 ∷ late_put_cut_3 ∷ []) (working (event.Answer 0 0 ∷ event.Step 0 ∷ [])) (ap (session_step at_0 1) (mark_of-empty 1), (ap (session_step at_1 1) (mark_of-empty 1), (ap (put_step at_2 0 0 Works) (has_entry Invalid), tt)))
 
 -- ---- early put
 abbrev early_put_cut_1 : Cut
@@ -97,10 +97,10 @@ early_put_cut_2 = cut_step (reader_begins ++ event.Fetch 1 0 ∷ []) 1 (Some (Co
 pub early_put_row : history_after default_numbers worked.early_put_moves ≡ worked.early_put_items
 unfolding items_after state_after record_pairs least_unsettled put_row fetched front_of looked with_shadow without_bare keys_of_version kept_commit added verdict after_passed crashed_clients all_crashed_items
 early_put_row =
-    let at_0 : State = before start_state early_put_cut_1 in
-    let w_1 : State = after start_state early_put_cut_1 in
+    let at_0 : State = before opening_state early_put_cut_1 in
+    let w_1 : State = after opening_state early_put_cut_1 in
     let at_1 : State = before w_1 early_put_cut_2 in
-    cut_all start_state (early_put_cut_1 ∷ early_put_cut_2 ∷ []) (working (event.Answer 0 0 ∷ event.Step 0 ∷ event.Step 0 ∷ [])) (ap (put_step at_0 0 0 Works) (mark_of-empty 1), (ap (session_step at_1 1) (has_entry (Committed 2)), tt))
+    cut_all opening_state (early_put_cut_1 ∷ early_put_cut_2 ∷ []) (working (event.Answer 0 0 ∷ event.Step 0 ∷ event.Step 0 ∷ [])) (ap (put_step at_0 0 0 Works) (mark_of-empty 1), (ap (session_step at_1 1) (has_entry (Committed 2)), tt))
 
 -- ---- late draw
 abbrev late_draw_cut : Cut
@@ -109,8 +109,8 @@ late_draw_cut = cut_put (event.Take 0 0 ∷ begins 0 0 0 ++ event.Write 0 0 v �
 pub late_draw_row : history_after default_numbers worked.late_draw_moves ≡ worked.late_draw_items
 unfolding items_after state_after record_pairs least_unsettled put_row fetched front_of looked with_shadow without_bare keys_of_version kept_commit added verdict after_passed crashed_clients all_crashed_items
 late_draw_row =
-    let at_0 : State = before start_state late_draw_cut in
-    cut_all start_state (late_draw_cut ∷ []) (working (event.Answer 0 0 ∷ event.Step 0 ∷ event.Step 0 ∷ reader_begins ++ event.Fetch 1 0 ∷ [])) (ap (put_step at_0 0 0 Works) (mark_of-empty 1), tt)
+    let at_0 : State = before opening_state late_draw_cut in
+    cut_all opening_state (late_draw_cut ∷ []) (working (event.Answer 0 0 ∷ event.Step 0 ∷ event.Step 0 ∷ reader_begins ++ event.Fetch 1 0 ∷ [])) (ap (put_step at_0 0 0 Works) (mark_of-empty 1), tt)
 
 -- ---- stray
 abbrev stray_cut_1 : Cut
@@ -125,12 +125,12 @@ stray_cut_3 = cut_step (event.Answer 0 0 ∷ event.Step 0 ∷ event.Step 0 ∷ [
 pub stray_row : history_after default_numbers worked.stray_moves ≡ worked.stray_items
 unfolding items_after state_after record_pairs least_unsettled put_row fetched front_of looked with_shadow without_bare keys_of_version kept_commit added verdict after_passed crashed_clients all_crashed_items
 stray_row =
-    let at_0 : State = before start_state stray_cut_1 in
-    let w_1 : State = after start_state stray_cut_1 in
+    let at_0 : State = before opening_state stray_cut_1 in
+    let w_1 : State = after opening_state stray_cut_1 in
     let at_1 : State = before w_1 stray_cut_2 in
     let w_2 : State = after w_1 stray_cut_2 in
     let at_2 : State = before w_2 stray_cut_3 in
-    cut_all start_state (stray_cut_1 ∷ stray_cut_2 ∷ stray_cut_3 ∷ []) (working (event.Step 1 ∷ [])) (ap (session_step at_0 1) (mark_of-empty 1), (ap (put_step at_1 0 0 Works) (mark_of-empty 1), (ap (session_step at_2 1) (committed_goes (with_entry (Committed 2)) 1 2 (has_entry (Committed 2))), tt)))
+    cut_all opening_state (stray_cut_1 ∷ stray_cut_2 ∷ stray_cut_3 ∷ []) (working (event.Step 1 ∷ [])) (ap (session_step at_0 1) (mark_of-empty 1), (ap (put_step at_1 0 0 Works) (mark_of-empty 1), (ap (session_step at_2 1) (committed_goes (with_entry (Committed 2)) 1 2 (has_entry (Committed 2))), tt)))
 
 -- ---- wait
 abbrev wait_cut : Cut
@@ -139,8 +139,8 @@ wait_cut = cut_put (drawn_events ++ begins 1 0 0 ++ event.Answer 0 1 ∷ []) Wor
 pub wait_row : history_after default_numbers worked.wait_moves ≡ worked.wait_items
 unfolding items_after state_after record_pairs least_unsettled put_row fetched front_of looked with_shadow without_bare keys_of_version kept_commit added verdict after_passed crashed_clients all_crashed_items
 wait_row =
-    let at_0 : State = before start_state wait_cut in
-    cut_all start_state (wait_cut ∷ []) (working (event.Answer 0 1 ∷ event.Answer 0 0 ∷ [])) (ap (put_step at_0 0 0 Works) (mark_of-empty 1), tt)
+    let at_0 : State = before opening_state wait_cut in
+    cut_all opening_state (wait_cut ∷ []) (working (event.Answer 0 1 ∷ event.Answer 0 0 ∷ [])) (ap (put_step at_0 0 0 Works) (mark_of-empty 1), tt)
 
 -- ---- unplaced
 abbrev unplaced_cut_1 : Cut
@@ -155,12 +155,12 @@ unplaced_cut_3 = cut_step [] 0 None
 pub unplaced_row : history_after default_numbers worked.unplaced_moves ≡ worked.unplaced_items
 unfolding items_after state_after record_pairs least_unsettled put_row fetched front_of looked with_shadow without_bare keys_of_version kept_commit added verdict after_passed crashed_clients all_crashed_items
 unplaced_row =
-    let at_0 : State = before start_state unplaced_cut_1 in
-    let w_1 : State = after start_state unplaced_cut_1 in
+    let at_0 : State = before opening_state unplaced_cut_1 in
+    let w_1 : State = after opening_state unplaced_cut_1 in
     let at_1 : State = before w_1 unplaced_cut_2 in
     let w_2 : State = after w_1 unplaced_cut_2 in
     let at_2 : State = before w_2 unplaced_cut_3 in
-    cut_all start_state (unplaced_cut_1 ∷ unplaced_cut_2 ∷ unplaced_cut_3 ∷ []) (working (event.Step 0 ∷ event.Step 0 ∷ [])) (ap (put_step at_0 0 0 FailsUnchanged) (mark_of-empty 1), (ap (session_step at_1 0) (mark_of-empty 1), (ap (session_step at_2 0) (mark_of-empty 1), tt)))
+    cut_all opening_state (unplaced_cut_1 ∷ unplaced_cut_2 ∷ unplaced_cut_3 ∷ []) (working (event.Step 0 ∷ event.Step 0 ∷ [])) (ap (put_step at_0 0 0 FailsUnchanged) (mark_of-empty 1), (ap (session_step at_1 0) (mark_of-empty 1), (ap (session_step at_2 0) (mark_of-empty 1), tt)))
 
 -- ---- unheard
 abbrev unheard_cut_1 : Cut
@@ -172,10 +172,10 @@ unheard_cut_2 = cut_step (event.Answer 0 0 ∷ event.Step 0 ∷ []) 0 (Some (Com
 pub unheard_row : history_after default_numbers worked.unheard_moves ≡ worked.unheard_items
 unfolding items_after state_after record_pairs least_unsettled put_row fetched front_of looked with_shadow without_bare keys_of_version kept_commit added verdict after_passed crashed_clients all_crashed_items
 unheard_row =
-    let at_0 : State = before start_state unheard_cut_1 in
-    let w_1 : State = after start_state unheard_cut_1 in
+    let at_0 : State = before opening_state unheard_cut_1 in
+    let w_1 : State = after opening_state unheard_cut_1 in
     let at_1 : State = before w_1 unheard_cut_2 in
-    cut_all start_state (unheard_cut_1 ∷ unheard_cut_2 ∷ []) (working (event.Step 0 ∷ event.Step 0 ∷ [])) (ap (put_step at_0 0 0 FailsApplied) (mark_of-empty 1), (ap (session_step at_1 0) (has_entry (Committed 2)), tt))
+    cut_all opening_state (unheard_cut_1 ∷ unheard_cut_2 ∷ []) (working (event.Step 0 ∷ event.Step 0 ∷ [])) (ap (put_step at_0 0 0 FailsApplied) (mark_of-empty 1), (ap (session_step at_1 0) (has_entry (Committed 2)), tt))
 
 -- ---- crash
 abbrev crash_cut_1 : Cut
@@ -187,10 +187,10 @@ crash_cut_2 = cut_step [] 0 None
 pub crash_row : history_after default_numbers worked.crash_moves ≡ worked.crash_items
 unfolding items_after state_after record_pairs least_unsettled put_row fetched front_of looked with_shadow without_bare keys_of_version kept_commit added verdict after_passed crashed_clients all_crashed_items
 crash_row =
-    let at_0 : State = before start_state crash_cut_1 in
-    let w_1 : State = after start_state crash_cut_1 in
+    let at_0 : State = before opening_state crash_cut_1 in
+    let w_1 : State = after opening_state crash_cut_1 in
     let at_1 : State = before w_1 crash_cut_2 in
-    cut_all start_state (crash_cut_1 ∷ crash_cut_2 ∷ []) (working (event.Step 0 ∷ event.Step 0 ∷ taken_over ++ reader_begins ++ event.Fetch 1 0 ∷ [])) (ap (session_step at_0 0) (mark_of-empty 1), (ap (session_step at_1 0) (mark_of-empty 1), tt))
+    cut_all opening_state (crash_cut_1 ∷ crash_cut_2 ∷ []) (working (event.Step 0 ∷ event.Step 0 ∷ taken_over ++ reader_begins ++ event.Fetch 1 0 ∷ [])) (ap (session_step at_0 0) (mark_of-empty 1), (ap (session_step at_1 0) (mark_of-empty 1), tt))
 
 -- ---- vanish
 abbrev vanish_cut_1 : Cut
@@ -205,9 +205,9 @@ vanish_cut_3 = cut_sweep [] None
 pub vanish_row : history_after default_numbers worked.vanish_moves ≡ worked.vanish_items
 unfolding items_after state_after record_pairs least_unsettled put_row fetched front_of looked with_shadow without_bare keys_of_version kept_commit added verdict after_passed crashed_clients all_crashed_items
 vanish_row =
-    let at_0 : State = before start_state vanish_cut_1 in
-    let w_1 : State = after start_state vanish_cut_1 in
+    let at_0 : State = before opening_state vanish_cut_1 in
+    let w_1 : State = after opening_state vanish_cut_1 in
     let at_1 : State = before w_1 vanish_cut_2 in
     let w_2 : State = after w_1 vanish_cut_2 in
     let at_2 : State = before w_2 vanish_cut_3 in
-    cut_all start_state (vanish_cut_1 ∷ vanish_cut_2 ∷ vanish_cut_3 ∷ []) (working (event.SweepStep ∷ event.SweepStep ∷ event.SweepStep ∷ [])) (ap (janitor_step at_0) (mark_of-empty 1), (ap (janitor_step at_1) (mark_of-empty 1), (ap (janitor_step at_2) (mark_of-empty 1), tt)))
+    cut_all opening_state (vanish_cut_1 ∷ vanish_cut_2 ∷ vanish_cut_3 ∷ []) (working (event.SweepStep ∷ event.SweepStep ∷ event.SweepStep ∷ [])) (ap (janitor_step at_0) (mark_of-empty 1), (ap (janitor_step at_1) (mark_of-empty 1), (ap (janitor_step at_2) (mark_of-empty 1), tt)))
