@@ -1,6 +1,7 @@
 -- What a reader of the machine's definitions may rely on, over every state, event and fate.
 use Rattle.std.specs.Prelude.{◌≡◌, ℕ, Bool, true, false, IsTrue, List, [], ◌∷◌, slice_get, Option, None, Some, IfSome}
 use Rattle.stamp_base.specs.declared.stores.Store.{Store}
+use Rattle.stamp_base.specs.SetupNumbers.{SetupNumbers}
 use Rattle.port_io.specs.declared.weather.Fate.{Fate}
 use Rattle.port_io.specs.declared.weather.Fate.TheVariants.{Works, FailsUnchanged, FailsApplied}
 use Rattle.history_book.specs.declared.cause.Cause.{Cause}
@@ -9,12 +10,30 @@ use Rattle.history_book.specs.declared.item.Actor.{Actor}
 use Rattle.history_book.specs.declared.item.Item.{Item}
 use Rattle.history_book.specs.declared.item.Item.TheVariants.{Refused}
 use Rattle.client_parts.specs.declared.session.State.TheVariants.{Gone}
+use Rattle.oracle_parts.specs.InstanceSteps.{IsStop}
 use Rattle.oracle_parts.specs.Instance.{InstanceEntry, was_told_no_stamp, was_told_not_yet}
 use Rattle.machine.specs.declared.event.Event.{Event}
 use Rattle.machine.specs.declared.event.Event.TheVariants as event
-use Rattle.machine.specs.State.{Client, State}
+use Rattle.machine.specs.State.{Client, State, opening}
 use Rattle.machine.specs.Effect.{Stop, Refuses, Faults}
 use Rattle.machine.specs.Machine.{stepped, asks, reading_of, seen_after}
+
+-- ---- refusals of the master record
+-- the node has this instance
+abbrev pub InstanceAt : State → ℕ → InstanceEntry → Type 0
+InstanceAt w node i = slice_get w.nodes node ≡ Some (Some i)
+
+-- the instance keeps Replaced or Spent, or nothing
+abbrev pub KeepsStop : InstanceEntry → Type 0
+KeepsStop i = IfSome i.stop IsStop
+
+abbrev pub KeepStops : State → Type 0
+KeepStops w = (node : ℕ) (i : InstanceEntry) → InstanceAt w node i → KeepsStop i
+
+-- so it is in each state that moves lead to
+pub record StopsAreKept : Type 0 where
+  pub opening : (setup : SetupNumbers) → KeepStops (opening setup)
+  pub after : (w : State) (e : Event) (fate : Fate) → KeepStops w → KeepStops (stepped w e fate).state
 
 -- ---- refusals
 -- the refusal ends no request and no sweep, and no instance keeps it
@@ -42,7 +61,7 @@ TellsAlone why items = (actor : Actor) × (items ≡ Refused actor why ∷ [])
 -- such a refusal changes nothing but the greatest reading, and is told
 abbrev pub RefusalsLeaveAll : Type 0
 RefusalsLeaveAll =
-    (w : State) (e : Event) (fate : Fate) (why : Cause) → (stepped w e fate).stop ≡ Some (Refuses why) → IsTrue (leaves_all why) → ((stepped w e fate).state ≡ state_seen w e) × TellsAlone why (stepped w e fate).items
+    (w : State) (e : Event) (fate : Fate) (why : Cause) → KeepStops w → (stepped w e fate).stop ≡ Some (Refuses why) → IsTrue (leaves_all why) → ((stepped w e fate).state ≡ state_seen w e) × TellsAlone why (stepped w e fate).items
 
 -- ---- readings
 -- the greatest reading is the greater of the last one and the event's
@@ -127,14 +146,10 @@ abbrev pub StoresAreAskedOnce : Type 0
 StoresAreAskedOnce = (w : State) (e : Event) → AsksExactly w e
 
 -- ---- what a request is told once
--- the node has this instance
-abbrev pub InstanceAt : State → ℕ → InstanceEntry → Type 0
-InstanceAt w node i = slice_get w.nodes node ≡ Some (Some i)
-
 -- a request that was told NoStamp is told it again by an answer alone, and one that is told it now was told from then on
 pub record TellsNoStampOnce (w : State) (node session : ℕ) (i : InstanceEntry) : Type 0 where
   pub once : (fate : Fate) (last : ℕ) → was_told_no_stamp i session ≡ true → (stepped w (event.Decide node session) fate).stop ≡ Some (Refuses (cause.NoStamp last)) → (stepped w (event.Decide node session) fate).items ≡ []
-  pub kept : (fate : Fate) (last : ℕ) (left : InstanceEntry) → (stepped w (event.Decide node session) fate).stop ≡ Some (Refuses (cause.NoStamp last)) → InstanceAt (stepped w (event.Decide node session) fate).state node left → was_told_no_stamp left session ≡ true
+  pub kept : KeepsStop i → (fate : Fate) (last : ℕ) (left : InstanceEntry) → (stepped w (event.Decide node session) fate).stop ≡ Some (Refuses (cause.NoStamp last)) → InstanceAt (stepped w (event.Decide node session) fate).state node left → was_told_no_stamp left session ≡ true
 
 pub record TellsNotYetOnce (w : State) (node session : ℕ) (i : InstanceEntry) : Type 0 where
   pub once : (fate : Fate) (commit : ℕ) → was_told_not_yet i session ≡ true → (stepped w (event.Answer node session) fate).stop ≡ Some (Refuses (cause.NotYet commit)) → (stepped w (event.Answer node session) fate).items ≡ []

@@ -6,3 +6,5 @@ pub mod Events
 pub mod Machine
 pub mod Readers
 pub mod Laws
+pub mod WorkedMoves
+pub mod WorkedRefusals

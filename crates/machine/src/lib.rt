@@ -3,5 +3,16 @@
 #![tactic(auto)]
 
 mod event;
+mod laws;
+mod worked;
 
 pub use event::{Doing, Event};
+pub use laws::{
+    events_leave_parts, gone_stays_gone, instances_keep_stops, refusals_leave_all,
+    requests_are_told_once, seen_goes_up, stores_are_asked_once,
+};
+pub use worked::{
+    boundaries_of_the_lease, conflict, crash, end_of_the_stamps, faulted_put,
+    faulted_take_and_write, hidden, late_begin, late_draw, late_put, not_yet, own_writes,
+    plain_path, put_before_the_read, ranges, refusals_of_order, stray_mark, vanished_session,
+};

@@ -1,0 +1,167 @@
+-- What each kind of event leaves of the parts that it does not touch. Each of the kinds is one by the parts that it looks
+-- up and puts back.
+use Rattle.std.proofs.Common.{◌≡◌, ℕ, Bool, true, false, List, Option, Some, None, refl}
+use Rattle.std.specs.Prelude.{slice_get}
+use Rattle.port_io.specs.declared.weather.Fate.{Fate}
+use Rattle.store_parts.specs.Rows.{Row}
+use Rattle.store_parts.specs.Pairs.{Pairs}
+use Rattle.store_parts.specs.Record.{MasterRecord}
+use Rattle.client_parts.specs.Sweep.{Sweeping}
+use Rattle.oracle_parts.specs.Instance.{InstanceEntry}
+use Rattle.machine.specs.declared.event.Event.{Event}
+use Rattle.machine.specs.declared.event.Event.TheVariants as event
+use Rattle.machine.specs.State.{Client, State}
+use Rattle.machine.specs.Effect.{Effect}
+use Rattle.machine.specs.Machine.{step_by, with_reading, with_post, with_client, at_post, at_client, at_both, on_record, on_clients, on_ask, on_request, on_table, on_client, on_cells, on_stores, on_sweep, on_swept, stepped, reading_of, seen_after}
+use Rattle.machine.specs.Events.Step.{StepParts}
+use Rattle.machine.specs.Events.SweepStep.{SweepParts}
+use Rattle.machine.specs.Events.Take.{take_on}
+use Rattle.machine.specs.Events.Renew.{renew_on}
+use Rattle.machine.specs.Events.Extend.{extend_on}
+use Rattle.machine.specs.Events.Crash.{crash_on}
+use Rattle.machine.specs.Events.AskBegin.{ask_begin_on}
+use Rattle.machine.specs.Events.AskCommit.{ask_commit_on}
+use Rattle.machine.specs.Events.Accept.{accept_on}
+use Rattle.machine.specs.Events.Decide.{decide_on}
+use Rattle.machine.specs.Events.Put.{put_on}
+use Rattle.machine.specs.Events.Answer.{answer_on}
+use Rattle.machine.specs.Events.Write.{write_on}
+use Rattle.machine.specs.Events.Fetch.{fetch_on}
+use Rattle.machine.specs.Events.Step.{step_on}
+use Rattle.machine.specs.Events.Heal.{heal_on}
+use Rattle.machine.specs.Events.Abort.{abort_on}
+use Rattle.machine.specs.Events.Vanish.{vanish_on}
+use Rattle.machine.specs.Events.SweepOpen.{sweep_open_on}
+use Rattle.machine.specs.Events.SweepStep.{sweep_step_on}
+use Rattle.machine.specs.Laws.{LeavesParts, touches_clients, touches_nodes, touches_sweep, touches_rows, touches_pairs, touches_master}
+
+-- the parts that are not touched, in the order clients, nodes, sweep, rows, pairs, master
+record Kept (c n s r p m : Bool) (old new : State) : Type 0 where
+  pub setup : new.setup ≡ old.setup
+  pub seen : new.seen ≡ old.seen
+  pub clients : c ≡ false → new.clients ≡ old.clients
+  pub nodes : n ≡ false → new.nodes ≡ old.nodes
+  pub sweep : s ≡ false → new.sweep ≡ old.sweep
+  pub rows : r ≡ false → new.rows ≡ old.rows
+  pub pairs : p ≡ false → new.pairs ≡ old.pairs
+  pub master : m ≡ false → new.master ≡ old.master
+
+all_kept : (clients nodes sweep rows pairs master : Bool) (w : State) → Kept clients nodes sweep rows pairs master w w
+all_kept clients nodes sweep rows pairs master w =
+    record { setup = refl; seen = refl; clients = λ _. refl; nodes = λ _. refl; sweep = λ _. refl; rows = λ _. refl; pairs = λ _. refl; master = λ _. refl }
+
+-- ---- the kinds of events
+record_at : (w : State) (node : ℕ) (f : Option InstanceEntry → Effect (Option InstanceEntry × MasterRecord)) (post : Option (Option InstanceEntry)) → Kept false true false false false true w (at_post w post (λ p. step_by (f p) (λ p. record (with_post w node p.0) { master = p.1 }))).state
+record_at w node f None = all_kept false true false false false true w
+record_at w node f (Some post) =
+    record { setup = refl; seen = refl; clients = λ _. refl; nodes = λ t. cc; sweep = λ _. refl; rows = λ _. refl; pairs = λ _. refl; master = λ t. cc }
+
+kept_record : (w : State) (node : ℕ) (f : Option InstanceEntry → Effect (Option InstanceEntry × MasterRecord)) → Kept false true false false false true w (on_record w node f).state
+kept_record w node f = record_at w node f (slice_get w.nodes node)
+
+clients_at : (w : State) (node : ℕ) (f : Option InstanceEntry → Effect (Option InstanceEntry × List Client)) (post : Option (Option InstanceEntry)) → Kept true true false false false false w (at_post w post (λ p. step_by (f p) (λ p. record (with_post w node p.0) { clients = p.1 }))).state
+clients_at w node f None = all_kept true true false false false false w
+clients_at w node f (Some post) =
+    record { setup = refl; seen = refl; clients = λ t. cc; nodes = λ t. cc; sweep = λ _. refl; rows = λ _. refl; pairs = λ _. refl; master = λ _. refl }
+
+kept_clients : (w : State) (node : ℕ) (f : Option InstanceEntry → Effect (Option InstanceEntry × List Client)) → Kept true true false false false false w (on_clients w node f).state
+kept_clients w node f = clients_at w node f (slice_get w.nodes node)
+
+ask_at : (w : State) (session node : ℕ) (f : Client → Option InstanceEntry → Effect (Client × Option InstanceEntry)) (post : Option (Option InstanceEntry)) (c : Option Client) → Kept true true false false false false w (at_both w post c (λ post c. step_by (f c post) (λ p. with_client (with_post w node p.1) session p.0))).state
+ask_at w session node f (Some post) (Some c) =
+    record { setup = refl; seen = refl; clients = λ t. cc; nodes = λ t. cc; sweep = λ _. refl; rows = λ _. refl; pairs = λ _. refl; master = λ _. refl }
+ask_at w session node f _ _ = all_kept true true false false false false w
+
+kept_ask : (w : State) (session node : ℕ) (f : Client → Option InstanceEntry → Effect (Client × Option InstanceEntry)) → Kept true true false false false false w (on_ask w session node f).state
+kept_ask w session node f = ask_at w session node f (slice_get w.nodes node) (slice_get w.clients session)
+
+kept_request : (w : State) (node session : ℕ) (f : Option InstanceEntry → Client → Effect (Option InstanceEntry × Client)) → Kept true true false false false false w (on_request w node session f).state
+kept_request w node session f = ask_at w session node (λ c post. let e = f post c in record { parts = (e.parts.1, e.parts.0); items = e.items; stop = e.stop }) (slice_get w.nodes node) (slice_get w.clients session)
+
+table_at : (w : State) (node : ℕ) (f : Option InstanceEntry → Effect (Option InstanceEntry × Pairs)) (post : Option (Option InstanceEntry)) → Kept false true false false true false w (at_post w post (λ p. step_by (f p) (λ p. record (with_post w node p.0) { pairs = p.1 }))).state
+table_at w node f None = all_kept false true false false true false w
+table_at w node f (Some post) =
+    record { setup = refl; seen = refl; clients = λ _. refl; nodes = λ t. cc; sweep = λ _. refl; rows = λ _. refl; pairs = λ t. cc; master = λ _. refl }
+
+kept_table : (w : State) (node : ℕ) (f : Option InstanceEntry → Effect (Option InstanceEntry × Pairs)) → Kept false true false false true false w (on_table w node f).state
+kept_table w node f = table_at w node f (slice_get w.nodes node)
+
+stores_at : (w : State) (session : ℕ) (f : Client → Effect StepParts) (c : Option Client) → Kept true false false true true false w (at_client w c (λ c. step_by (f c) (λ p. record (with_client w session p.0) { rows = p.1; pairs = p.2 }))).state
+stores_at w session f None = all_kept true false false true true false w
+stores_at w session f (Some c) =
+    record { setup = refl; seen = refl; clients = λ t. cc; nodes = λ _. refl; sweep = λ _. refl; rows = λ t. cc; pairs = λ t. cc; master = λ _. refl }
+
+kept_stores : (w : State) (session : ℕ) (f : Client → Effect StepParts) → Kept true false false true true false w (on_stores w session f).state
+kept_stores w session f = stores_at w session f (slice_get w.clients session)
+
+cells_at : (w : State) (session : ℕ) (f : Client → Effect (Client × List Row)) (c : Option Client) → Kept true false false true false false w (at_client w c (λ c. step_by (f c) (λ p. record (with_client w session p.0) { rows = p.1 }))).state
+cells_at w session f None = all_kept true false false true false false w
+cells_at w session f (Some c) =
+    record { setup = refl; seen = refl; clients = λ t. cc; nodes = λ _. refl; sweep = λ _. refl; rows = λ t. cc; pairs = λ _. refl; master = λ _. refl }
+
+kept_cells : (w : State) (session : ℕ) (f : Client → Effect (Client × List Row)) → Kept true false false true false false w (on_cells w session f).state
+kept_cells w session f = cells_at w session f (slice_get w.clients session)
+
+client_at : (w : State) (session : ℕ) (f : Client → Effect Client) (c : Option Client) → Kept true false false false false false w (at_client w c (λ c. step_by (f c) (λ p. with_client w session p))).state
+client_at w session f None = all_kept true false false false false false w
+client_at w session f (Some c) =
+    record { setup = refl; seen = refl; clients = λ t. cc; nodes = λ _. refl; sweep = λ _. refl; rows = λ _. refl; pairs = λ _. refl; master = λ _. refl }
+
+kept_client : (w : State) (session : ℕ) (f : Client → Effect Client) → Kept true false false false false false w (on_client w session f).state
+kept_client w session f = client_at w session f (slice_get w.clients session)
+
+sweep_at : (w : State) (f : Option InstanceEntry → Effect (Option Sweeping)) (post : Option (Option InstanceEntry)) → Kept false false true false false false w (at_post w post (λ p. step_by (f p) (λ p. record w { sweep = p }))).state
+sweep_at w f None = all_kept false false true false false false w
+sweep_at w f (Some post) =
+    record { setup = refl; seen = refl; clients = λ _. refl; nodes = λ _. refl; sweep = λ t. cc; rows = λ _. refl; pairs = λ _. refl; master = λ _. refl }
+
+kept_sweep : (w : State) (node : ℕ) (f : Option InstanceEntry → Effect (Option Sweeping)) → Kept false false true false false false w (on_sweep w node f).state
+kept_sweep w node f = sweep_at w f (slice_get w.nodes node)
+
+kept_swept : (w : State) (effect : Effect SweepParts) → Kept false false true true true false w (on_swept w effect).state
+kept_swept w effect =
+    record { setup = refl; seen = refl; clients = λ _. refl; nodes = λ _. refl; sweep = λ t. cc; rows = λ t. cc; pairs = λ t. cc; master = λ _. refl }
+
+-- ---- the state with the event's reading seen, and what the event keeps of it
+abbrev seen_state : State → Event → State
+seen_state w e = record w { seen = seen_after w.seen (reading_of e) }
+
+abbrev KeptBy : Event → State → State → Type 0
+KeptBy e old new = Kept (touches_clients e) (touches_nodes e) (touches_sweep e) (touches_rows e) (touches_pairs e) (touches_master e) old new
+
+kept_by : (w : State) (e : Event) (fate : Fate) → KeptBy e (seen_state w e) (stepped w e fate).state
+kept_by w (event.Tick to) fate = all_kept false false false false false false w
+kept_by w (event.Note actor note) fate = all_kept false false false false false false w
+kept_by w (event.Take node reading) fate = kept_record (with_reading w reading) node (λ post. take_on w.setup node reading fate post w.master)
+kept_by w (event.Renew node reading) fate = kept_record (with_reading w reading) node (λ post. renew_on w.setup node reading fate post w.master)
+kept_by w (event.Extend node) fate = kept_record w node (λ post. extend_on w.setup node fate post w.master)
+kept_by w (event.Crash node) fate = kept_clients w node (λ post. crash_on node post w.clients)
+kept_by w (event.AskBegin session node) fate = kept_ask w session node (ask_begin_on session node)
+kept_by w (event.AskCommit session node) fate = kept_ask w session node (ask_commit_on session node)
+kept_by w (event.Accept node session reading) fate = kept_request (with_reading w reading) node session (accept_on node session reading)
+kept_by w (event.Decide node session) fate = kept_request w node session (decide_on node session)
+kept_by w (event.Put node session) fate = kept_table w node (λ post. put_on node session fate post w.pairs)
+kept_by w (event.Answer node session) fate = kept_request w node session (answer_on node session)
+kept_by w (event.Write session key value) fate = kept_cells w session (λ c. write_on session key value fate c w.rows)
+kept_by w (event.Fetch session key) fate = kept_client w session (λ c. fetch_on session key fate c w.rows)
+kept_by w (event.Step session) fate = kept_stores w session (λ c. step_on session fate c w.rows w.pairs)
+kept_by w (event.Heal session) fate = kept_cells w session (λ c. heal_on session fate c w.rows w.pairs)
+kept_by w (event.Abort session) fate = kept_client w session (abort_on session)
+kept_by w (event.Vanish session) fate = kept_client w session (vanish_on session)
+kept_by w (event.SweepOpen node txn) fate = kept_sweep w node (λ post. sweep_open_on node txn post w.sweep)
+kept_by w event.SweepStep fate = kept_swept w (sweep_step_on fate w.sweep w.rows w.pairs)
+
+-- ---- the laws
+pub seen_up : (w : State) (e : Event) (fate : Fate) → (stepped w e fate).state.seen ≡ seen_after w.seen (reading_of e)
+seen_up w e fate = (kept_by w e fate).seen
+
+pub leaves_parts : (w : State) (e : Event) (fate : Fate) → LeavesParts e w (stepped w e fate).state
+leaves_parts w e fate = let k = kept_by w e fate in record {
+  setup = k.setup;
+  clients = k.clients;
+  nodes = k.nodes;
+  sweep = k.sweep;
+  rows = k.rows;
+  pairs = k.pairs;
+  master = k.master;
+}

@@ -1,0 +1,92 @@
+-- A refusal that leaves all: what an effect has to leave of its parts, and what it is of the whole once they are put back.
+use Rattle.std.proofs.Common.{◌≡◌, ℕ, zero, suc, IsTrue, List, [], ◌∷◌, Option, Some, None, refl, sym, ◌∙◌, ap, subst}
+use Rattle.std.specs.Prelude.{slice_get, slice_set}
+use Rattle.std.proofs.lemmas.Option.{same_Some}
+use Rattle.stamp_base.specs.declared.stores.Store.{Store}
+use Rattle.history_book.specs.declared.cause.Cause.{Cause}
+use Rattle.history_book.specs.declared.item.Actor.{Actor}
+use Rattle.history_book.specs.declared.item.Item.{Item}
+use Rattle.history_book.specs.declared.item.Item.TheVariants.{Refused}
+use Rattle.oracle_parts.specs.Instance.{InstanceEntry}
+use Rattle.machine.specs.State.{Client, State}
+use Rattle.machine.specs.Effect.{Refuses, Faults, Effect, done, refused}
+use Rattle.machine.specs.Machine.{Step, step_by, nothing, with_post, with_client, at_post, at_client, at_both}
+use Rattle.machine.specs.Laws.{leaves_all, TellsAlone}
+
+-- ---- of parts
+abbrev pub LeavesAll : {P : Type 0} → P → Effect P → Type 0
+LeavesAll old e = (why : Cause) → e.stop ≡ Some (Refuses why) → IsTrue (leaves_all why) → (e.parts ≡ old) × TellsAlone why e.items
+
+-- an event that asks no store: a refusal that leaves all does, and no store fails
+pub record Plain {P : Type 0} (old : P) (e : Effect P) : Type 0 where
+  pub leaves : LeavesAll old e
+  pub works : (store : Store) → e.stop ≡ Some (Faults store) → ⊥
+
+pub plain_done : {P : Type 0} (old parts : P) (items : List Item) → Plain old (done parts items)
+plain_done old parts items = record { leaves = λ why stop is. absurd (cc); works = λ store stop. absurd (cc) }
+
+pub refusal_leaves : {P : Type 0} (old : P) (actor : Actor) (cause : Cause) → LeavesAll old (refused old actor cause)
+refusal_leaves old actor cause why stop is = let same : cause ≡ why = cc in (refl, (actor, ap (λ (c : Cause). Refused actor c ∷ []) same))
+
+pub plain_refused : {P : Type 0} (old : P) (actor : Actor) (cause : Cause) → Plain old (refused old actor cause)
+plain_refused old actor cause = record { leaves = refusal_leaves old actor cause; works = λ store stop. absurd (cc) }
+
+-- a refusal that may change all
+pub ending_leaves : {P : Type 0} (old : P) (e : Effect P) (cause : Cause) → e.stop ≡ Some (Refuses cause) → (IsTrue (leaves_all cause) → ⊥) → LeavesAll old e
+ending_leaves old e cause stops ends why stop is = let same : why ≡ cause = cc in absurd (ends (subst (λ (c : Cause). IsTrue (leaves_all c)) same is))
+
+pub plain_ending : {P : Type 0} (old : P) (e : Effect P) (cause : Cause) → e.stop ≡ Some (Refuses cause) → (IsTrue (leaves_all cause) → ⊥) → Plain old e
+plain_ending old e cause stops ends = record { leaves = ending_leaves old e cause stops ends; works = λ store stop. absurd (cc) }
+
+pub fault_leaves : {P : Type 0} (old : P) (e : Effect P) (store : Store) → e.stop ≡ Some (Faults store) → LeavesAll old e
+fault_leaves old e store fails why stop is = absurd (cc)
+
+pub going_leaves : {P : Type 0} (old : P) (e : Effect P) → e.stop ≡ None → LeavesAll old e
+going_leaves old e goes why stop is = absurd (cc)
+
+-- ---- of the whole
+abbrev pub AllLeft : State → Step → Type 0
+AllLeft w s = (why : Cause) → s.stop ≡ Some (Refuses why) → IsTrue (leaves_all why) → (s.state ≡ w) × TellsAlone why s.items
+
+pub nothing_left : (w : State) → AllLeft w (nothing w)
+nothing_left w why stop is = absurd (cc)
+
+pub put_left : {P : Type 0} (w : State) (old : P) (whole : P → State) (e : Effect P) → whole old ≡ w → LeavesAll old e → AllLeft w (step_by e whole)
+put_left w old whole e same leaves why stop is = let left = leaves why stop is in (ap whole left.0 ∙ same, left.1)
+
+-- setting what is there changes nothing
+set_same : {X : Type 0} (xs : List X) (p : ℕ) (x : X) → slice_get xs p ≡ Some x → slice_set xs p x ≡ xs
+set_same [] p x there = absurd (cc)
+set_same (y ∷ ys) zero x there = ap (λ z. z ∷ ys) (sym (same_Some y x there))
+set_same (y ∷ ys) (suc p) x there = ap (λ zs. y ∷ zs) (set_same ys p x there)
+
+pub same_post : (w : State) (node : ℕ) (post : Option InstanceEntry) → slice_get w.nodes node ≡ Some post → with_post w node post ≡ w
+same_post w node post there = ap (λ (nodes : List (Option InstanceEntry)). record w { nodes = nodes }) (set_same w.nodes node post there)
+
+pub same_client : (w : State) (session : ℕ) (c : Client) → slice_get w.clients session ≡ Some c → with_client w session c ≡ w
+same_client w session c there = ap (λ (clients : List Client). record w { clients = clients }) (set_same w.clients session c there)
+
+pub same_both : (w : State) (node session : ℕ) (post : Option InstanceEntry) (c : Client) → slice_get w.nodes node ≡ Some post → slice_get w.clients session ≡ Some c → with_client (with_post w node post) session c ≡ w
+same_both w node session post c posted there = ap (λ (v : State). with_client v session c) (same_post w node post posted) ∙ same_client w session c there
+
+-- ---- the parts looked up
+post_left_by : (w : State) (node : ℕ) (f : Option InstanceEntry → Step) (found : Option (Option InstanceEntry)) → slice_get w.nodes node ≡ found → ((post : Option InstanceEntry) → slice_get w.nodes node ≡ Some post → AllLeft w (f post)) → AllLeft w (at_post w found f)
+post_left_by w node f None is each = nothing_left w
+post_left_by w node f (Some post) is each = each post is
+
+pub post_left : (w : State) (node : ℕ) (f : Option InstanceEntry → Step) → ((post : Option InstanceEntry) → slice_get w.nodes node ≡ Some post → AllLeft w (f post)) → AllLeft w (at_post w (slice_get w.nodes node) f)
+post_left w node f each = post_left_by w node f (slice_get w.nodes node) refl each
+
+client_left_by : (w : State) (session : ℕ) (f : Client → Step) (found : Option Client) → slice_get w.clients session ≡ found → ((c : Client) → slice_get w.clients session ≡ Some c → AllLeft w (f c)) → AllLeft w (at_client w found f)
+client_left_by w session f None is each = nothing_left w
+client_left_by w session f (Some c) is each = each c is
+
+pub client_left : (w : State) (session : ℕ) (f : Client → Step) → ((c : Client) → slice_get w.clients session ≡ Some c → AllLeft w (f c)) → AllLeft w (at_client w (slice_get w.clients session) f)
+client_left w session f each = client_left_by w session f (slice_get w.clients session) refl each
+
+both_left_by : (w : State) (node session : ℕ) (f : Option InstanceEntry → Client → Step) (post : Option (Option InstanceEntry)) (c : Option Client) → slice_get w.nodes node ≡ post → slice_get w.clients session ≡ c → ((p : Option InstanceEntry) (d : Client) → slice_get w.nodes node ≡ Some p → slice_get w.clients session ≡ Some d → AllLeft w (f p d)) → AllLeft w (at_both w post c f)
+both_left_by w node session f (Some p) (Some d) posted there each = each p d posted there
+both_left_by w node session f _ _ posted there each = nothing_left w
+
+pub both_left : (w : State) (node session : ℕ) (f : Option InstanceEntry → Client → Step) → ((p : Option InstanceEntry) (d : Client) → slice_get w.nodes node ≡ Some p → slice_get w.clients session ≡ Some d → AllLeft w (f p d)) → AllLeft w (at_both w (slice_get w.nodes node) (slice_get w.clients session) f)
+both_left w node session f each = both_left_by w node session f (slice_get w.nodes node) (slice_get w.clients session) refl refl each

@@ -1,0 +1,98 @@
+-- Moves that look at the commit table, one at a time: the step as a function of what the table has for the transaction, so
+-- that a lemma on the table may say what that is.
+use Rattle.std.proofs.Common.{◌≡◌, ℕ, List, [], ◌∷◌, ◌++◌, append_assoc, Option, Some, None, refl, sym, ap, ◌∙◌}
+use Rattle.stamp_base.specs.declared.stores.Mark.{Mark}
+use Rattle.stamp_base.specs.declared.stores.Mark.TheVariants.{Committed, Invalid}
+use Rattle.port_io.specs.declared.weather.Fate.{Fate}
+use Rattle.port_io.specs.declared.weather.Fate.TheVariants.{Works}
+use Rattle.port_io.specs.Fates.{fated}
+use Rattle.history_book.specs.declared.item.Actor.{Actor}
+use Rattle.history_book.specs.declared.item.Actor.TheVariants.{Session, Janitor}
+use Rattle.history_book.specs.declared.item.Item.{Item}
+use Rattle.store_parts.specs.Rows.{Row}
+use Rattle.store_parts.specs.Pairs.{Pairs, put_pair}
+use Rattle.client_parts.specs.declared.asks.Ask.{Ask}
+use Rattle.client_parts.specs.declared.asks.Ask.TheVariants as ask
+use Rattle.client_parts.specs.Resolve.{settle_ask}
+use Rattle.client_parts.specs.KeyRead.{read_ask}
+use Rattle.client_parts.specs.Sweep.{Sweeping, sweep_ask}
+use Rattle.oracle_parts.specs.Instance.{InstanceEntry, held_of}
+use Rattle.machine.specs.State.{UnderWay, Reads, Settles, Client, State}
+use Rattle.machine.specs.Effect.{Effect, done}
+use Rattle.machine.specs.StoreSteps.{Met, met, told_entry, told_mark, step_item}
+use Rattle.machine.specs.Machine.{Step, Move, after_move, items_after, state_after, on_table, on_stores, on_swept}
+use Rattle.machine.specs.Events.Put.{to_place, put_by}
+use Rattle.machine.specs.Events.Step.{StepParts, read_step, settle_step, work_of}
+use Rattle.machine.specs.Events.SweepStep.{SweepParts, sweep_met}
+
+-- ---- a step that works, by what the table has
+abbrev met_with : Actor → Ask → Option Mark → List Row → Pairs → Met
+met_with actor (ask.Get txn) found rows pairs =
+    record { rows = rows; pairs = pairs; items = step_item actor (ask.Get txn) (told_entry found) ∷ []; told = Some (told_entry found) }
+met_with actor (ask.Mark txn) found rows pairs =
+    record { rows = rows; pairs = put_pair pairs txn Invalid; items = step_item actor (ask.Mark txn) (told_mark found) ∷ []; told = Some (told_mark found) }
+met_with actor asked found rows pairs = met actor asked Works rows pairs
+
+abbrev step_with : ℕ → Client → Option Mark → List Row → Pairs → UnderWay → Effect StepParts
+step_with session c found rows pairs (Reads r) = read_step session c r (met_with (Session session) (read_ask r) found rows pairs)
+step_with session c found rows pairs (Settles x) = settle_step session c x (met_with (Session session) (settle_ask x) found rows pairs)
+step_with session c found rows pairs _ = done (c, rows, pairs) []
+
+abbrev pub session_step : State → ℕ → Option Mark → Step
+session_step w session found = on_stores w session (λ c. step_with session c found w.rows w.pairs (work_of c))
+
+abbrev sweep_asked : Sweeping → Option Mark → List Row → Pairs → Option Ask → Effect SweepParts
+sweep_asked s found rows pairs None = done (None, rows, pairs) []
+sweep_asked s found rows pairs (Some asked) = sweep_met s asked (met_with Janitor asked found rows pairs)
+
+abbrev sweep_with : State → Option Mark → Option Sweeping → Effect SweepParts
+sweep_with w found None = done (w.sweep, w.rows, w.pairs) []
+sweep_with w found (Some s) = sweep_asked s found w.rows w.pairs (sweep_ask s)
+
+abbrev pub janitor_step : State → Option Mark → Step
+janitor_step w found = on_swept w (sweep_with w found w.sweep)
+
+-- ---- a put under a fate, by what the table has
+abbrev put_with : ℕ → ℕ → Fate → Option Mark → InstanceEntry → Pairs → Option (ℕ × ℕ) → Effect (Option InstanceEntry × Pairs)
+put_with node session fate found i pairs None = done (Some i, pairs) []
+put_with node session fate found i pairs (Some stamps) =
+    put_by node session stamps.0 stamps.1 fate found i (fated fate pairs (put_pair pairs stamps.0 (Committed stamps.1)))
+
+abbrev post_with : ℕ → ℕ → Fate → Option Mark → Pairs → Option InstanceEntry → Effect (Option InstanceEntry × Pairs)
+post_with node session fate found pairs None = done (None, pairs) []
+post_with node session fate found pairs (Some i) = put_with node session fate found i pairs (to_place (held_of i session))
+
+abbrev pub put_step : State → ℕ → ℕ → Fate → Option Mark → Step
+put_step w node session fate found = on_table w node (post_with node session fate found w.pairs)
+
+-- ---- the history of moves, cut at some of them
+-- moves up to a cut, the move there, and its step as it is known
+pub record Cut : Type 0 where
+  pub first : List Move
+  pub move : Move
+  pub step : State → Step
+
+abbrev pub all_moves : List Cut → List Move → List Move
+all_moves [] last = last
+all_moves (c ∷ cuts) last = c.first ++ c.move ∷ all_moves cuts last
+
+abbrev pub all_items : State → List Cut → List Move → List Item
+all_items w [] last = items_after w last
+all_items w (c ∷ cuts) last = let s : Step = c.step (state_after w c.first) in items_after w c.first ++ (s.items ++ all_items s.state cuts last)
+
+-- each step is the one that is known
+abbrev pub AreSteps : State → List Cut → Type 0
+AreSteps w [] = Unit {0}
+AreSteps w (c ∷ cuts) = let s : Step = c.step (state_after w c.first) in (after_move (state_after w c.first) c.move ≡ s) × AreSteps s.state cuts
+
+cut : (w : State) (first : List Move) (move : Move) (later : List Move) (s : Step) → after_move (state_after w first) move ≡ s → items_after w (first ++ move ∷ later) ≡ items_after w first ++ (s.items ++ items_after s.state later)
+unfolding items_after state_after
+cut w [] move later s is = ap (λ (x : Step). x.items ++ items_after x.state later) is
+cut w (m ∷ first) move later s is =
+    ap (λ (items : List Item). (after_move w m).items ++ items) (cut (after_move w m).state first move later s is) ∙ sym (append_assoc (after_move w m).items (items_after (after_move w m).state first) (s.items ++ items_after s.state later))
+
+pub cut_all : (w : State) (cuts : List Cut) (last : List Move) → AreSteps w cuts → items_after w (all_moves cuts last) ≡ all_items w cuts last
+cut_all w [] last are = refl
+cut_all w (c ∷ cuts) last are =
+    let s : Step = c.step (state_after w c.first) in
+    cut w c.first c.move (all_moves cuts last) s are.0 ∙ ap (λ (items : List Item). items_after w c.first ++ (s.items ++ items)) (cut_all s.state cuts last are.1)

@@ -1,0 +1,213 @@
+-- The worked histories whose moves look at the commit table, cut at these moves.
+use Rattle.std.proofs.Common.{◌≡◌, ℕ, List, [], ◌∷◌, ◌++◌, Option, Some, None, ap, ◌∙◌}
+use Rattle.std.specs.FinMap as map
+use Rattle.stamp_base.specs.SetupNumbers.{default_numbers}
+use Rattle.stamp_base.specs.declared.stores.Mark.{Mark}
+use Rattle.stamp_base.specs.declared.stores.Mark.TheVariants.{Committed, Invalid}
+use Rattle.port_io.specs.declared.weather.Fate.{Fate}
+use Rattle.port_io.specs.declared.weather.Fate.TheVariants.{Works, FailsUnchanged, FailsApplied}
+use Rattle.store_parts.specs.Pairs.{Pairs, mark_of, put_pair}
+use Rattle.store_parts.specs.Rows.{put_row, fetched, front_of, looked, with_shadow, without_bare, keys_of_version}
+use Rattle.store_parts.proofs.PairLaws.{entry_or, mark_of-empty, mark_of-put_pair, committed_goes}
+use Rattle.client_parts.specs.KeyRead.{after_passed}
+use Rattle.oracle_parts.specs.Buckets.{kept_commit, added, record_pairs, verdict}
+use Rattle.oracle_parts.specs.Instance.{least_unsettled}
+use Rattle.machine.specs.State.{State, opening}
+use Rattle.machine.specs.declared.event.Event.{Event}
+use Rattle.machine.specs.declared.event.Event.TheVariants as event
+use Rattle.machine.specs.Events.Crash.{crashed_clients, all_crashed_items}
+use Rattle.machine.specs.Machine.{state_after, items_after, history_after}
+use Rattle.machine.specs.WorkedMoves.{working, v, begins, draws, drawn_events, taken_over, reader_begins}
+use Rattle.machine.specs.WorkedMoves as worked
+use Rattle.machine.proofs.TableMoves.{put_step, session_step, janitor_step, Cut, cut_all}
+
+-- ---- the cuts: a put of the first session's commit, a session's step and the janitor's
+abbrev cut_put : List Event → Fate → Option Mark → Cut
+cut_put first fate found = record { first = working first; move = record { event = event.Put 0 0; fate = fate }; step = λ w. put_step w 0 0 fate found }
+
+abbrev cut_step : List Event → ℕ → Option Mark → Cut
+cut_step first session found = record { first = working first; move = record { event = event.Step session; fate = Works }; step = λ w. session_step w session found }
+
+abbrev cut_sweep : List Event → Option Mark → Cut
+cut_sweep first found = record { first = working first; move = record { event = event.SweepStep; fate = Works }; step = λ w. janitor_step w found }
+
+-- ---- what the table has: the first session's entry, once it was put, and once it was removed
+abbrev with_entry : Mark → Pairs
+with_entry mark = put_pair map.empty 1 mark
+
+has_entry : (mark : Mark) → mark_of (with_entry mark) 1 ≡ Some mark
+has_entry mark = mark_of-put_pair map.empty 1 mark ∙ ap (λ (found : Option Mark). Some (entry_or found mark)) (mark_of-empty 1)
+
+abbrev opening_state : State
+opening_state = opening default_numbers
+
+abbrev after : State → Cut → State
+after w c = (c.step (state_after w c.first)).state
+
+abbrev before : State → Cut → State
+before w c = state_after w c.first
+
+-- ---- plain
+abbrev plain_cut : Cut
+plain_cut = cut_put drawn_events Works None
+
+pub plain_row : history_after default_numbers worked.plain_moves ≡ worked.plain_items
+unfolding items_after state_after record_pairs least_unsettled put_row fetched front_of looked with_shadow without_bare keys_of_version kept_commit added verdict after_passed crashed_clients all_crashed_items
+plain_row =
+    let at_0 : State = before opening_state plain_cut in
+    cut_all opening_state (plain_cut ∷ []) (working (event.Answer 0 0 ∷ event.Step 0 ∷ event.Step 0 ∷ begins 1 0 0 ++ event.Fetch 1 0 ∷ event.AskCommit 1 0 ∷ [])) (ap (put_step at_0 0 0 Works) (mark_of-empty 1), tt)
+
+-- ---- conflict
+abbrev conflict_cut : Cut
+conflict_cut = cut_put (event.Take 0 0 ∷ begins 0 0 0 ++ begins 1 0 0 ++ event.Write 0 0 v ∷ event.Write 1 0 v ∷ draws 0 0 0) Works None
+
+pub conflict_row : history_after default_numbers worked.conflict_moves ≡ worked.conflict_items
+unfolding items_after state_after record_pairs least_unsettled put_row fetched front_of looked with_shadow without_bare keys_of_version kept_commit added verdict after_passed crashed_clients all_crashed_items
+conflict_row =
+    let at_0 : State = before opening_state conflict_cut in
+    cut_all opening_state (conflict_cut ∷ []) (working (event.Answer 0 0 ∷ event.Step 0 ∷ event.Step 0 ∷ draws 1 0 0 ++ event.Step 1 ∷ [])) (ap (put_step at_0 0 0 Works) (mark_of-empty 1), tt)
+
+-- ---- late put
+abbrev late_put_cut_1 : Cut
+late_put_cut_1 = cut_step (drawn_events ++ taken_over ++ reader_begins ++ event.Fetch 1 0 ∷ []) 1 None
+
+abbrev late_put_cut_2 : Cut
+late_put_cut_2 = cut_step [] 1 None
+
+abbrev late_put_cut_3 : Cut
+late_put_cut_3 = cut_put (event.Step 1 ∷ []) Works (Some Invalid)
+
+pub late_put_row : history_after default_numbers worked.late_put_moves ≡ worked.late_put_items
+unfolding items_after state_after record_pairs least_unsettled put_row fetched front_of looked with_shadow without_bare keys_of_version kept_commit added verdict after_passed crashed_clients all_crashed_items
+late_put_row =
+    let at_0 : State = before opening_state late_put_cut_1 in
+    let w_1 : State = after opening_state late_put_cut_1 in
+    let at_1 : State = before w_1 late_put_cut_2 in
+    let w_2 : State = after w_1 late_put_cut_2 in
+    let at_2 : State = before w_2 late_put_cut_3 in
+    cut_all opening_state (late_put_cut_1 ∷ late_put_cut_2 ∷ late_put_cut_3 ∷ []) (working (event.Answer 0 0 ∷ event.Step 0 ∷ [])) (ap (session_step at_0 1) (mark_of-empty 1), (ap (session_step at_1 1) (mark_of-empty 1), (ap (put_step at_2 0 0 Works) (has_entry Invalid), tt)))
+
+-- ---- early put
+abbrev early_put_cut_1 : Cut
+early_put_cut_1 = cut_put (drawn_events ++ taken_over) Works None
+
+abbrev early_put_cut_2 : Cut
+early_put_cut_2 = cut_step (reader_begins ++ event.Fetch 1 0 ∷ []) 1 (Some (Committed 2))
+
+pub early_put_row : history_after default_numbers worked.early_put_moves ≡ worked.early_put_items
+unfolding items_after state_after record_pairs least_unsettled put_row fetched front_of looked with_shadow without_bare keys_of_version kept_commit added verdict after_passed crashed_clients all_crashed_items
+early_put_row =
+    let at_0 : State = before opening_state early_put_cut_1 in
+    let w_1 : State = after opening_state early_put_cut_1 in
+    let at_1 : State = before w_1 early_put_cut_2 in
+    cut_all opening_state (early_put_cut_1 ∷ early_put_cut_2 ∷ []) (working (event.Answer 0 0 ∷ event.Step 0 ∷ event.Step 0 ∷ [])) (ap (put_step at_0 0 0 Works) (mark_of-empty 1), (ap (session_step at_1 1) (has_entry (Committed 2)), tt))
+
+-- ---- late draw
+abbrev late_draw_cut : Cut
+late_draw_cut = cut_put (event.Take 0 0 ∷ begins 0 0 0 ++ event.Write 0 0 v ∷ event.AskCommit 0 0 ∷ event.Accept 0 0 0 ∷ taken_over ++ event.Decide 0 0 ∷ []) Works None
+
+pub late_draw_row : history_after default_numbers worked.late_draw_moves ≡ worked.late_draw_items
+unfolding items_after state_after record_pairs least_unsettled put_row fetched front_of looked with_shadow without_bare keys_of_version kept_commit added verdict after_passed crashed_clients all_crashed_items
+late_draw_row =
+    let at_0 : State = before opening_state late_draw_cut in
+    cut_all opening_state (late_draw_cut ∷ []) (working (event.Answer 0 0 ∷ event.Step 0 ∷ event.Step 0 ∷ reader_begins ++ event.Fetch 1 0 ∷ [])) (ap (put_step at_0 0 0 Works) (mark_of-empty 1), tt)
+
+-- ---- stray
+abbrev stray_cut_1 : Cut
+stray_cut_1 = cut_step (drawn_events ++ taken_over ++ reader_begins ++ event.Fetch 1 0 ∷ []) 1 None
+
+abbrev stray_cut_2 : Cut
+stray_cut_2 = cut_put [] Works None
+
+abbrev stray_cut_3 : Cut
+stray_cut_3 = cut_step (event.Answer 0 0 ∷ event.Step 0 ∷ event.Step 0 ∷ []) 1 None
+
+pub stray_row : history_after default_numbers worked.stray_moves ≡ worked.stray_items
+unfolding items_after state_after record_pairs least_unsettled put_row fetched front_of looked with_shadow without_bare keys_of_version kept_commit added verdict after_passed crashed_clients all_crashed_items
+stray_row =
+    let at_0 : State = before opening_state stray_cut_1 in
+    let w_1 : State = after opening_state stray_cut_1 in
+    let at_1 : State = before w_1 stray_cut_2 in
+    let w_2 : State = after w_1 stray_cut_2 in
+    let at_2 : State = before w_2 stray_cut_3 in
+    cut_all opening_state (stray_cut_1 ∷ stray_cut_2 ∷ stray_cut_3 ∷ []) (working (event.Step 1 ∷ [])) (ap (session_step at_0 1) (mark_of-empty 1), (ap (put_step at_1 0 0 Works) (mark_of-empty 1), (ap (session_step at_2 1) (committed_goes (with_entry (Committed 2)) 1 2 (has_entry (Committed 2))), tt)))
+
+-- ---- wait
+abbrev wait_cut : Cut
+wait_cut = cut_put (drawn_events ++ begins 1 0 0 ++ event.Answer 0 1 ∷ []) Works None
+
+pub wait_row : history_after default_numbers worked.wait_moves ≡ worked.wait_items
+unfolding items_after state_after record_pairs least_unsettled put_row fetched front_of looked with_shadow without_bare keys_of_version kept_commit added verdict after_passed crashed_clients all_crashed_items
+wait_row =
+    let at_0 : State = before opening_state wait_cut in
+    cut_all opening_state (wait_cut ∷ []) (working (event.Answer 0 1 ∷ event.Answer 0 0 ∷ [])) (ap (put_step at_0 0 0 Works) (mark_of-empty 1), tt)
+
+-- ---- unplaced
+abbrev unplaced_cut_1 : Cut
+unplaced_cut_1 = cut_put drawn_events FailsUnchanged None
+
+abbrev unplaced_cut_2 : Cut
+unplaced_cut_2 = cut_step (event.Answer 0 0 ∷ event.Step 0 ∷ []) 0 None
+
+abbrev unplaced_cut_3 : Cut
+unplaced_cut_3 = cut_step [] 0 None
+
+pub unplaced_row : history_after default_numbers worked.unplaced_moves ≡ worked.unplaced_items
+unfolding items_after state_after record_pairs least_unsettled put_row fetched front_of looked with_shadow without_bare keys_of_version kept_commit added verdict after_passed crashed_clients all_crashed_items
+unplaced_row =
+    let at_0 : State = before opening_state unplaced_cut_1 in
+    let w_1 : State = after opening_state unplaced_cut_1 in
+    let at_1 : State = before w_1 unplaced_cut_2 in
+    let w_2 : State = after w_1 unplaced_cut_2 in
+    let at_2 : State = before w_2 unplaced_cut_3 in
+    cut_all opening_state (unplaced_cut_1 ∷ unplaced_cut_2 ∷ unplaced_cut_3 ∷ []) (working (event.Step 0 ∷ event.Step 0 ∷ [])) (ap (put_step at_0 0 0 FailsUnchanged) (mark_of-empty 1), (ap (session_step at_1 0) (mark_of-empty 1), (ap (session_step at_2 0) (mark_of-empty 1), tt)))
+
+-- ---- unheard
+abbrev unheard_cut_1 : Cut
+unheard_cut_1 = cut_put drawn_events FailsApplied None
+
+abbrev unheard_cut_2 : Cut
+unheard_cut_2 = cut_step (event.Answer 0 0 ∷ event.Step 0 ∷ []) 0 (Some (Committed 2))
+
+pub unheard_row : history_after default_numbers worked.unheard_moves ≡ worked.unheard_items
+unfolding items_after state_after record_pairs least_unsettled put_row fetched front_of looked with_shadow without_bare keys_of_version kept_commit added verdict after_passed crashed_clients all_crashed_items
+unheard_row =
+    let at_0 : State = before opening_state unheard_cut_1 in
+    let w_1 : State = after opening_state unheard_cut_1 in
+    let at_1 : State = before w_1 unheard_cut_2 in
+    cut_all opening_state (unheard_cut_1 ∷ unheard_cut_2 ∷ []) (working (event.Step 0 ∷ event.Step 0 ∷ [])) (ap (put_step at_0 0 0 FailsApplied) (mark_of-empty 1), (ap (session_step at_1 0) (has_entry (Committed 2)), tt))
+
+-- ---- crash
+abbrev crash_cut_1 : Cut
+crash_cut_1 = cut_step (drawn_events ++ event.Crash 0 ∷ event.Step 0 ∷ []) 0 None
+
+abbrev crash_cut_2 : Cut
+crash_cut_2 = cut_step [] 0 None
+
+pub crash_row : history_after default_numbers worked.crash_moves ≡ worked.crash_items
+unfolding items_after state_after record_pairs least_unsettled put_row fetched front_of looked with_shadow without_bare keys_of_version kept_commit added verdict after_passed crashed_clients all_crashed_items
+crash_row =
+    let at_0 : State = before opening_state crash_cut_1 in
+    let w_1 : State = after opening_state crash_cut_1 in
+    let at_1 : State = before w_1 crash_cut_2 in
+    cut_all opening_state (crash_cut_1 ∷ crash_cut_2 ∷ []) (working (event.Step 0 ∷ event.Step 0 ∷ taken_over ++ reader_begins ++ event.Fetch 1 0 ∷ [])) (ap (session_step at_0 0) (mark_of-empty 1), (ap (session_step at_1 0) (mark_of-empty 1), tt))
+
+-- ---- vanish
+abbrev vanish_cut_1 : Cut
+vanish_cut_1 = cut_sweep (event.Take 0 0 ∷ begins 0 0 0 ++ event.Write 0 0 v ∷ event.Vanish 0 ∷ event.Fetch 0 0 ∷ event.SweepOpen 0 1 ∷ []) None
+
+abbrev vanish_cut_2 : Cut
+vanish_cut_2 = cut_sweep (event.SweepStep ∷ taken_over ++ event.SweepOpen 1 1 ∷ []) None
+
+abbrev vanish_cut_3 : Cut
+vanish_cut_3 = cut_sweep [] None
+
+pub vanish_row : history_after default_numbers worked.vanish_moves ≡ worked.vanish_items
+unfolding items_after state_after record_pairs least_unsettled put_row fetched front_of looked with_shadow without_bare keys_of_version kept_commit added verdict after_passed crashed_clients all_crashed_items
+vanish_row =
+    let at_0 : State = before opening_state vanish_cut_1 in
+    let w_1 : State = after opening_state vanish_cut_1 in
+    let at_1 : State = before w_1 vanish_cut_2 in
+    let w_2 : State = after w_1 vanish_cut_2 in
+    let at_2 : State = before w_2 vanish_cut_3 in
+    cut_all opening_state (vanish_cut_1 ∷ vanish_cut_2 ∷ vanish_cut_3 ∷ []) (working (event.SweepStep ∷ event.SweepStep ∷ event.SweepStep ∷ [])) (ap (janitor_step at_0) (mark_of-empty 1), (ap (janitor_step at_1) (mark_of-empty 1), (ap (janitor_step at_2) (mark_of-empty 1), tt)))

@@ -1,0 +1,5 @@
+use Rattle.machine.proofs.LeftAll.{refusals_left}
+use Rattle.machine.proofs.laws.refusals_leave_all.Goals as goal
+
+pub returns : goal.returns
+returns c = refusals_left
