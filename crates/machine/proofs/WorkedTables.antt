@@ -188,13 +188,18 @@ crash_cut_1 = cut_step (drawn_events ++ event.Crash 0 ∷ event.Step 0 ∷ []) 0
 abbrev crash_cut_2 : Cut
 crash_cut_2 = cut_step [] 0 None
 
+abbrev crash_cut_3 : Cut
+crash_cut_3 = cut_sweep (event.Step 0 ∷ event.Step 0 ∷ taken_over ++ reader_begins ++ event.Fetch 1 0 ∷ event.SweepOpen 1 1 ∷ []) (sweep_open 1 100) (Get 1) (Some Invalid)
+
 pub crash_row : history_after default_numbers worked.crash_moves ≡ worked.crash_items
-unfolding items_after state_after record_pairs least_unsettled put_row fetched front_of looked with_shadow without_bare keys_of_version kept_commit added verdict after_passed crashed_clients all_crashed_items
+unfolding items_after state_after record_pairs least_unsettled put_row fetched front_of looked without_bare keys_of_version kept_commit added verdict after_passed crashed_clients all_crashed_items
 crash_row =
     let at_0 : State = before opening_state crash_cut_1 in
     let w_1 : State = after opening_state crash_cut_1 in
     let at_1 : State = before w_1 crash_cut_2 in
-    cut_all opening_state (crash_cut_1 ∷ crash_cut_2 ∷ []) (working (event.Step 0 ∷ event.Step 0 ∷ taken_over ++ reader_begins ++ event.Fetch 1 0 ∷ [])) (ap (session_step at_0 0) (mark_of-empty 1), (ap (session_step at_1 0) (mark_of-empty 1), tt))
+    let w_2 : State = after w_1 crash_cut_2 in
+    let at_2 : State = before w_2 crash_cut_3 in
+    cut_all opening_state (crash_cut_1 ∷ crash_cut_2 ∷ crash_cut_3 ∷ []) (working (event.SweepStep ∷ [])) (ap (session_step at_0 0) (mark_of-empty 1), (ap (session_step at_1 0) (mark_of-empty 1), (janitor_gets at_2 (sweep_open 1 100) 1 (Some Invalid) refl refl (has_entry Invalid), tt)))
 
 -- ---- vanish
 abbrev vanish_cut_1 : Cut
