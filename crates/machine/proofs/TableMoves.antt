@@ -10,20 +10,21 @@ use Rattle.history_book.specs.declared.item.Actor.{Actor}
 use Rattle.history_book.specs.declared.item.Actor.TheVariants.{Session, Janitor}
 use Rattle.history_book.specs.declared.item.Item.{Item}
 use Rattle.store_parts.specs.Rows.{Row}
-use Rattle.store_parts.specs.Pairs.{Pairs, put_pair}
+use Rattle.store_parts.specs.Pairs.{Pairs, mark_of, put_pair}
 use Rattle.client_parts.specs.declared.asks.Ask.{Ask}
 use Rattle.client_parts.specs.declared.asks.Ask.TheVariants as ask
 use Rattle.client_parts.specs.Resolve.{settle_ask}
 use Rattle.client_parts.specs.KeyRead.{read_ask}
 use Rattle.client_parts.specs.Sweep.{Sweeping, sweep_ask}
 use Rattle.oracle_parts.specs.Instance.{InstanceEntry, held_of}
+use Rattle.machine.specs.declared.event.Event.TheVariants.{SweepStep}
 use Rattle.machine.specs.State.{UnderWay, Reads, Settles, Client, State}
 use Rattle.machine.specs.Effect.{Effect, done}
 use Rattle.machine.specs.StoreSteps.{Met, met, told_entry, told_mark, step_item}
 use Rattle.machine.specs.Machine.{Step, Move, after_move, items_after, state_after, on_table, on_stores, on_swept}
 use Rattle.machine.specs.Events.Put.{to_place, put_by}
 use Rattle.machine.specs.Events.Step.{StepParts, read_step, settle_step, work_of}
-use Rattle.machine.specs.Events.SweepStep.{SweepParts, sweep_met}
+use Rattle.machine.specs.Events.SweepStep.{sweep_met, sweep_at, sweep_step_on}
 
 -- ---- a step that works, by what the table has
 abbrev met_with : Actor → Ask → Option Mark → List Row → Pairs → Met
@@ -41,16 +42,20 @@ step_with session c found rows pairs _ = done (c, rows, pairs) []
 abbrev pub session_step : State → ℕ → Option Mark → Step
 session_step w session found = on_stores w session (λ c. step_with session c found w.rows w.pairs (work_of c))
 
-abbrev sweep_asked : Sweeping → Option Mark → List Row → Pairs → Option Ask → Effect SweepParts
-sweep_asked s found rows pairs None = done (None, rows, pairs) []
-sweep_asked s found rows pairs (Some asked) = sweep_met s asked (met_with Janitor asked found rows pairs)
+-- the janitor's get and mark, for a sweep that asks for it
+abbrev pub janitor_step : State → Sweeping → Ask → Option Mark → Step
+janitor_step w s asked found = on_swept w (sweep_met s asked (met_with Janitor asked found w.rows w.pairs))
 
-abbrev sweep_with : State → Option Mark → Option Sweeping → Effect SweepParts
-sweep_with w found None = done (w.sweep, w.rows, w.pairs) []
-sweep_with w found (Some s) = sweep_asked s found w.rows w.pairs (sweep_ask s)
+abbrev swept : Move
+swept = record { event = SweepStep; fate = Works }
 
-abbrev pub janitor_step : State → Option Mark → Step
-janitor_step w found = on_swept w (sweep_with w found w.sweep)
+pub janitor_gets : (w : State) (s : Sweeping) (txn : ℕ) (found : Option Mark) → w.sweep ≡ Some s → sweep_ask s ≡ Some (ask.Get txn) → mark_of w.pairs txn ≡ found → after_move w swept ≡ janitor_step w s (ask.Get txn) found
+janitor_gets w s txn found is asks has =
+    ap (λ (sweep : Option Sweeping). on_swept w (sweep_step_on Works sweep w.rows w.pairs)) is ∙ ap (λ (asked : Option Ask). on_swept w (sweep_at s Works w.rows w.pairs asked)) asks ∙ ap (janitor_step w s (ask.Get txn)) has
+
+pub janitor_marks : (w : State) (s : Sweeping) (txn : ℕ) (found : Option Mark) → w.sweep ≡ Some s → sweep_ask s ≡ Some (ask.Mark txn) → mark_of w.pairs txn ≡ found → after_move w swept ≡ janitor_step w s (ask.Mark txn) found
+janitor_marks w s txn found is asks has =
+    ap (λ (sweep : Option Sweeping). on_swept w (sweep_step_on Works sweep w.rows w.pairs)) is ∙ ap (λ (asked : Option Ask). on_swept w (sweep_at s Works w.rows w.pairs asked)) asks ∙ ap (janitor_step w s (ask.Mark txn)) has
 
 -- ---- a put under a fate, by what the table has
 abbrev put_with : ℕ → ℕ → Fate → Option Mark → InstanceEntry → Pairs → Option (ℕ × ℕ) → Effect (Option InstanceEntry × Pairs)

@@ -1,5 +1,5 @@
 -- The worked histories whose moves look at the commit table, cut at these moves.
-use Rattle.std.proofs.Common.{◌≡◌, ℕ, List, [], ◌∷◌, ◌++◌, Option, Some, None, ap, ◌∙◌}
+use Rattle.std.proofs.Common.{◌≡◌, ℕ, refl, List, [], ◌∷◌, ◌++◌, Option, Some, None, ap, ◌∙◌}
 use Rattle.std.specs.FinMap as map
 use Rattle.stamp_base.specs.SetupNumbers.{default_numbers}
 use Rattle.stamp_base.specs.declared.stores.Mark.{Mark}
@@ -9,7 +9,10 @@ use Rattle.port_io.specs.declared.weather.Fate.TheVariants.{Works, FailsUnchange
 use Rattle.store_parts.specs.Pairs.{Pairs, mark_of, put_pair}
 use Rattle.store_parts.specs.Rows.{put_row, fetched, front_of, looked, with_shadow, without_bare, keys_of_version}
 use Rattle.store_parts.proofs.PairLaws.{entry_or, mark_of-empty, mark_of-put_pair, committed_goes}
+use Rattle.client_parts.specs.declared.asks.Ask.{Ask}
+use Rattle.client_parts.specs.declared.asks.Ask.TheVariants.{Get, Mark as MarkAsk}
 use Rattle.client_parts.specs.KeyRead.{after_passed}
+use Rattle.client_parts.specs.Sweep.{Sweeping, Marking, sweep_open}
 use Rattle.oracle_parts.specs.Buckets.{kept_commit, added, record_pairs, verdict}
 use Rattle.oracle_parts.specs.Instance.{least_unsettled}
 use Rattle.machine.specs.State.{State, opening}
@@ -19,7 +22,7 @@ use Rattle.machine.specs.Events.Crash.{crashed_clients, all_crashed_items}
 use Rattle.machine.specs.Machine.{state_after, items_after, history_after}
 use Rattle.machine.specs.WorkedMoves.{working, v, begins, draws, drawn_events, taken_over, reader_begins}
 use Rattle.machine.specs.WorkedMoves as worked
-use Rattle.machine.proofs.TableMoves.{put_step, session_step, janitor_step, Cut, cut_all}
+use Rattle.machine.proofs.TableMoves.{put_step, session_step, janitor_step, janitor_gets, janitor_marks, Cut, cut_all}
 
 -- ---- the cuts: a put of the first session's commit, a session's step and the janitor's
 abbrev cut_put : List Event → Fate → Option Mark → Cut
@@ -28,8 +31,9 @@ cut_put first fate found = record { first = working first; move = record { event
 abbrev cut_step : List Event → ℕ → Option Mark → Cut
 cut_step first session found = record { first = working first; move = record { event = event.Step session; fate = Works }; step = λ w. session_step w session found }
 
-abbrev cut_sweep : List Event → Option Mark → Cut
-cut_sweep first found = record { first = working first; move = record { event = event.SweepStep; fate = Works }; step = λ w. janitor_step w found }
+abbrev cut_sweep : List Event → Sweeping → Ask → Option Mark → Cut
+cut_sweep first s asked found =
+    record { first = working first; move = record { event = event.SweepStep; fate = Works }; step = λ w. janitor_step w s asked found }
 
 -- ---- what the table has: the first session's entry, once it was put, and once it was removed
 abbrev with_entry : Mark → Pairs
@@ -184,30 +188,38 @@ crash_cut_1 = cut_step (drawn_events ++ event.Crash 0 ∷ event.Step 0 ∷ []) 0
 abbrev crash_cut_2 : Cut
 crash_cut_2 = cut_step [] 0 None
 
+abbrev crash_cut_3 : Cut
+crash_cut_3 = cut_sweep (event.Step 0 ∷ event.Step 0 ∷ taken_over ++ reader_begins ++ event.Fetch 1 0 ∷ event.SweepOpen 1 1 ∷ []) (sweep_open 1 100) (Get 1) (Some Invalid)
+
 pub crash_row : history_after default_numbers worked.crash_moves ≡ worked.crash_items
-unfolding items_after state_after record_pairs least_unsettled put_row fetched front_of looked with_shadow without_bare keys_of_version kept_commit added verdict after_passed crashed_clients all_crashed_items
+unfolding items_after state_after record_pairs least_unsettled put_row fetched front_of looked without_bare keys_of_version kept_commit added verdict after_passed crashed_clients all_crashed_items
 crash_row =
     let at_0 : State = before opening_state crash_cut_1 in
     let w_1 : State = after opening_state crash_cut_1 in
     let at_1 : State = before w_1 crash_cut_2 in
-    cut_all opening_state (crash_cut_1 ∷ crash_cut_2 ∷ []) (working (event.Step 0 ∷ event.Step 0 ∷ taken_over ++ reader_begins ++ event.Fetch 1 0 ∷ [])) (ap (session_step at_0 0) (mark_of-empty 1), (ap (session_step at_1 0) (mark_of-empty 1), tt))
+    let w_2 : State = after w_1 crash_cut_2 in
+    let at_2 : State = before w_2 crash_cut_3 in
+    cut_all opening_state (crash_cut_1 ∷ crash_cut_2 ∷ crash_cut_3 ∷ []) (working (event.SweepStep ∷ [])) (ap (session_step at_0 0) (mark_of-empty 1), (ap (session_step at_1 0) (mark_of-empty 1), (janitor_gets at_2 (sweep_open 1 100) 1 (Some Invalid) refl refl (has_entry Invalid), tt)))
 
 -- ---- vanish
 abbrev vanish_cut_1 : Cut
-vanish_cut_1 = cut_sweep (event.Take 0 0 ∷ begins 0 0 0 ++ event.Write 0 0 v ∷ event.Vanish 0 ∷ event.Fetch 0 0 ∷ event.SweepOpen 0 1 ∷ []) None
+vanish_cut_1 = cut_sweep (event.Take 0 0 ∷ begins 0 0 0 ++ event.Write 0 0 v ∷ event.Vanish 0 ∷ event.Fetch 0 0 ∷ event.SweepOpen 0 1 ∷ []) (sweep_open 1 0) (Get 1) None
 
 abbrev vanish_cut_2 : Cut
-vanish_cut_2 = cut_sweep (event.SweepStep ∷ taken_over ++ event.SweepOpen 1 1 ∷ []) None
+vanish_cut_2 = cut_sweep (event.SweepStep ∷ taken_over ++ event.SweepOpen 1 1 ∷ []) (sweep_open 1 100) (Get 1) None
+
+abbrev marking : Sweeping
+marking = record { txn = 1; epoch = 100; point = Marking }
 
 abbrev vanish_cut_3 : Cut
-vanish_cut_3 = cut_sweep [] None
+vanish_cut_3 = cut_sweep [] marking (MarkAsk 1) None
 
 pub vanish_row : history_after default_numbers worked.vanish_moves ≡ worked.vanish_items
-unfolding items_after state_after record_pairs least_unsettled put_row fetched front_of looked with_shadow without_bare keys_of_version kept_commit added verdict after_passed crashed_clients all_crashed_items
+unfolding items_after state_after record_pairs least_unsettled put_row without_bare keys_of_version
 vanish_row =
     let at_0 : State = before opening_state vanish_cut_1 in
     let w_1 : State = after opening_state vanish_cut_1 in
     let at_1 : State = before w_1 vanish_cut_2 in
     let w_2 : State = after w_1 vanish_cut_2 in
     let at_2 : State = before w_2 vanish_cut_3 in
-    cut_all opening_state (vanish_cut_1 ∷ vanish_cut_2 ∷ vanish_cut_3 ∷ []) (working (event.SweepStep ∷ event.SweepStep ∷ event.SweepStep ∷ [])) (ap (janitor_step at_0) (mark_of-empty 1), (ap (janitor_step at_1) (mark_of-empty 1), (ap (janitor_step at_2) (mark_of-empty 1), tt)))
+    cut_all opening_state (vanish_cut_1 ∷ vanish_cut_2 ∷ vanish_cut_3 ∷ []) (working (event.SweepStep ∷ event.SweepStep ∷ event.SweepStep ∷ [])) (janitor_gets at_0 (sweep_open 1 0) 1 None refl refl (mark_of-empty 1), (janitor_gets at_1 (sweep_open 1 100) 1 None refl refl (mark_of-empty 1), (janitor_marks at_2 marking 1 None refl refl (mark_of-empty 1), tt)))

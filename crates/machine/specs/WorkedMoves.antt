@@ -1,7 +1,7 @@
 -- Short lists of moves, and the items of which their histories consist. Nodes and sessions go by their numbers, and the
 -- setup is the default one where nothing else is said.
 use Rattle.std.specs.Prelude.{ℕ, List, [], ◌∷◌, ◌++◌, map, None, Some}
-use Rattle.stamp_base.specs.declared.stores.Mark.TheVariants.{Committed}
+use Rattle.stamp_base.specs.declared.stores.Mark.TheVariants.{Committed, Invalid}
 use Rattle.stamp_base.specs.declared.stores.Store.TheVariants.{Table}
 use Rattle.port_io.specs.declared.weather.Fate.TheVariants.{Works, FailsUnchanged, FailsApplied}
 use Rattle.history_book.specs.declared.cause.Cause.TheVariants as cause
@@ -150,12 +150,12 @@ unheard_moves = working drawn_events ++ record { event = event.Put 0 0; fate = F
 abbrev pub unheard_items : List Item
 unheard_items = first_drawn ++ item.Placed 1 2 ∷ item.Fault (Node 0) Table ∷ item.Refused (Session 0) (cause.Open 1) ∷ item.Step (Session 0) (step.Look 0 1 seen.Bare) ∷ item.Step (Session 0) (step.Get 1 (Some (Committed 2))) ∷ item.Committed 0 1 2 ∷ completed_items
 
--- ---- a crash before the put; a later reader finds no cell
+-- ---- a crash before the put; later a reader finds no cell, and the janitor the mark
 abbrev pub crash_moves : List Move
-crash_moves = working (drawn_events ++ event.Crash 0 ∷ event.Step 0 ∷ event.Step 0 ∷ event.Step 0 ∷ event.Step 0 ∷ event.Step 0 ∷ taken_over ++ reader_begins ++ event.Fetch 1 0 ∷ [])
+crash_moves = working (drawn_events ++ event.Crash 0 ∷ event.Step 0 ∷ event.Step 0 ∷ event.Step 0 ∷ event.Step 0 ∷ event.Step 0 ∷ taken_over ++ reader_begins ++ event.Fetch 1 0 ∷ event.SweepOpen 1 1 ∷ event.SweepStep ∷ event.SweepStep ∷ [])
 
 abbrev pub crash_items : List Item
-crash_items = first_drawn ++ item.Crash 0 1 ∷ item.Refused (Session 0) (cause.Open 1) ∷ resolved_dead ++ take_over_items ++ reader_begun ++ item.Step (Session 1) (step.Fetch 0 0) ∷ item.Read 1 101 0 None ∷ []
+crash_items = first_drawn ++ item.Crash 0 1 ∷ item.Refused (Session 0) (cause.Open 1) ∷ resolved_dead ++ take_over_items ++ reader_begun ++ item.Step (Session 1) (step.Fetch 0 0) ∷ item.Read 1 101 0 None ∷ item.Step Janitor (step.Get 1 (Some Invalid)) ∷ item.Step Janitor (step.Keys 1 0) ∷ []
 
 -- ---- a session vanishes with a bare cell, which a sweep of a later term erases
 abbrev pub vanish_moves : List Move

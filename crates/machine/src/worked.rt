@@ -83,7 +83,7 @@ pub fn not_yet()
 {}
 
 /// A crash leaves a commit that was drawn with an open outcome: its session marks the transaction and undoes it. A later reader
-/// finds no cell.
+/// finds no cell, and a sweep the mark.
 pub fn crash()
     ensures { history_after default_numbers worked.crash_moves ≡ worked.crash_items }
 {}
