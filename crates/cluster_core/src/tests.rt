@@ -17,7 +17,7 @@ fn assert_lines(rt: &impl Abort, history: &[Item], want: &[&str]) {
 
 #[test]
 fn plain_path(rt: HostRuntime) -> Result<(), Fail> {
-    let mut cluster = Cluster::open(rt.alloc(), Setup::DEFAULT)?;
+    let mut cluster = Cluster::open(rt.alloc(), Setup::default())?;
     let node = NodeNo::new(0).ok_or("a node")?;
     let writer = SessionNo::new(0).ok_or("a session")?;
     let reader = SessionNo::new(1).ok_or("a session")?;
@@ -54,7 +54,7 @@ fn plain_path(rt: HostRuntime) -> Result<(), Fail> {
 
 #[test]
 fn conflict(rt: HostRuntime) -> Result<(), Fail> {
-    let mut cluster = Cluster::open(rt.alloc(), Setup::DEFAULT)?;
+    let mut cluster = Cluster::open(rt.alloc(), Setup::default())?;
     let node = NodeNo::new(0).ok_or("a node")?;
     let first = SessionNo::new(0).ok_or("a session")?;
     let second = SessionNo::new(1).ok_or("a session")?;
@@ -77,7 +77,7 @@ fn conflict(rt: HostRuntime) -> Result<(), Fail> {
 // What is bare, or was committed after the start, is passed over. No version is below 1.
 #[test]
 fn versions_passed_over(rt: HostRuntime) -> Result<(), Fail> {
-    let mut cluster = Cluster::open(rt.alloc(), Setup::DEFAULT)?;
+    let mut cluster = Cluster::open(rt.alloc(), Setup::default())?;
     let node = NodeNo::new(0).ok_or("a node")?;
     let first = SessionNo::new(0).ok_or("a session")?;
     let early = SessionNo::new(1).ok_or("a session")?;
