@@ -56,7 +56,7 @@ pub calm_drew : (w : State) (h : List Item) (k : Drew w) → Calm h (h ++ drew_i
 calm_drew w h k = subst (λ (x : Item). Calm h (h ++ x ∷ [])) (sym (draw_item_is k.node k.i.term k.held.request (k.i.last + 1))) (calm_draw h (asker_of k.held.request) k.node k.i.term (start_drawn k.held.request (k.i.last + 1)) (commit_drawn k.held.request (k.i.last + 1)))
 
 -- ---- a begin is answered: its transaction has neither rows nor writes
-start_begun : (w : State) (h : List Item) (k : AnsweredBegin w) (s : ℕ) → Holds w h → Begun h s k.start → ⊥
+pub start_begun : (w : State) (h : List Item) (k : AnsweredBegin w) (s : ℕ) → Holds w h → Begun h s k.start → ⊥
 start_begun w h k s holds begun = holds.requests.starting.unbegun k.node k.session k.start s k.i k.at (begin_held w h k holds) begun
 
 start_no_row : (w : State) (h : List Item) (k : AnsweredBegin w) (j : ℕ) → Holds w h → looked w.rows j k.start ≡ None

@@ -46,7 +46,7 @@ settled_left w it by =
     ∙ (ap (λ (r : Request). (settle_if_drawn it.i it.session by it.held (unsettled_by r it.held.progress)).left) it.request_is
     ∙ ap (λ (p : Progress). (settle_if_drawn it.i it.session by it.held (unsettled_by (Commit it.asker it.start it.keys) p)).left) it.drawn)
 
-put_settled : (w : State) (it : AtDrawn w) (by : Settled) (pairs : Pairs) → record (with_post w it.node (Some (instance_settle it.i it.session by).left)) { pairs = pairs } ≡ record (with_post w it.node (Some (moved it.i it.session it.held (progress.Settled it.commit by)))) { pairs = pairs }
+pub put_settled : (w : State) (it : AtDrawn w) (by : Settled) (pairs : Pairs) → record (with_post w it.node (Some (instance_settle it.i it.session by).left)) { pairs = pairs } ≡ record (with_post w it.node (Some (moved it.i it.session it.held (progress.Settled it.commit by)))) { pairs = pairs }
 put_settled w it by pairs = ap (λ (i : InstanceEntry). record (with_post w it.node (Some i)) { pairs = pairs }) (settled_left w it by)
 
 put_placed : (w : State) (it : AtDrawn w) (by : Settled) (items : List Item) → (by ≡ how.Placed) ⊎ (by ≡ how.Faulted) → mark_of w.pairs it.start ≡ None → AllQuiet items → ComesTo w (record (with_post w it.node (Some (instance_settle it.i it.session by).left)) { pairs = put_over w.pairs it.start (CommittedMark it.commit) None }) (item.Placed it.start it.commit ∷ items)

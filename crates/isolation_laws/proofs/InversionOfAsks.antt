@@ -51,7 +51,7 @@ crashed_quiet : (node term : ℕ) (held : Option Held) (c : Client) → AllQuiet
 crashed_quiet node term None c = none_quiet
 crashed_quiet node term (Some held) c = loss_quiet node term held.request c
 
-all_crashed_quiet : (node term : ℕ) (requests : List (Option Held)) (clients : List Client) → AllQuiet (all_crashed_items node term requests clients)
+pub all_crashed_quiet : (node term : ℕ) (requests : List (Option Held)) (clients : List Client) → AllQuiet (all_crashed_items node term requests clients)
 unfolding all_crashed_items
 all_crashed_quiet node term [] clients = none_quiet
 all_crashed_quiet node term (held ∷ others) [] = none_quiet

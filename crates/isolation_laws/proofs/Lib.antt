@@ -78,3 +78,6 @@ pub mod IsolatedItems
 pub mod IsolatedStamps
 pub mod Opening
 pub mod AlwaysHolds
+pub mod NeverPlaced
+pub mod LostCommits
+pub mod ReadsAndTerms

@@ -10,3 +10,4 @@ pub mod Begins
 pub mod Reads
 pub mod Holds
 pub mod Sound
+pub mod Laws

@@ -12,6 +12,13 @@ ghost use Rattle.machine.specs.State.{State, opening};
 ghost use Rattle.machine.specs.Machine.{Move, Steady, IsSteadyAt, reading_of, stepped, state_after, history_after};
 ghost use Rattle.isolation_laws.specs.Sound.{Stands};
 
+mod consequences;
+
+pub use consequences::{
+    crashes_lose_commits, draws_keep_terms, faulted_puts_lose_commits, leases_are_of_the_term,
+    lost_is_never_placed, marked_is_never_placed, reads_give_what_commits,
+};
+
 /// Every history of the machine is snapshot isolated: for every setup in range, every list of events, each with any fate of
 /// its store call, any number of nodes and sessions, crashes, takeovers, marks and sweeps included. All that is asked for is
 /// that readings of the clocks are steady: none is behind an earlier one by more than the skew.

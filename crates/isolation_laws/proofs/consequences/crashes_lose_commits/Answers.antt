@@ -1,0 +1,5 @@
+use Rattle.isolation_laws.proofs.LostCommits.{crashes_lose}
+use Rattle.isolation_laws.proofs.consequences.crashes_lose_commits.Goals as goal
+
+pub returns : goal.returns
+returns c = crashes_lose

@@ -1,0 +1,5 @@
+use Rattle.isolation_laws.proofs.ReadsAndTerms.{reads_give_what_commits}
+use Rattle.isolation_laws.proofs.consequences.reads_give_what_commits.Goals as goal
+
+pub returns : goal.returns
+returns c = reads_give_what_commits
