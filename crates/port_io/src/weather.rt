@@ -55,7 +55,8 @@ pub trait Weather {
 /// The weather in which every store call has one fate: that of a call which was asked for it before.
 #[derive(Clone, Copy, Debug, PartialEq, Eq)]
 pub struct OneFate {
-    fate: Fate,
+    /// The fate of every call.
+    pub fate: Fate,
     faults: u64,
 }
 
@@ -65,6 +66,7 @@ impl OneFate {
     /// Each call has this fate, and none has failed.
     pub fn new(fate: Fate) -> OneFate
         ensures ahead { (store : Store) (n : ℕ) → ⟦<OneFate as Weather>⟧.ahead result store n ≡ fate }
+        ensures fate { result.fate ≡ fate }
         ensures faults { ⟦<OneFate as Weather>⟧.faults result ≡ 0 }
     {
         OneFate { fate, faults: 0 }
