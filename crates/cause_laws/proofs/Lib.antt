@@ -1,1 +1,5 @@
 pub mod Deeds
+pub mod RecordedDraws
+pub mod ShownOfRequests
+pub mod ShownOfDecisions
+pub mod ShownOfNodes

@@ -1,6 +1,6 @@
 -- How many asks at a node are open: asked, and neither answered, refused for good, nor lost by a crash.
-use Rattle.std.specs.Prelude.{ℕ, suc, ◌==◌, Bool, true, false, ◌&&◌, if◌then◌else◌, List}
-use Rattle.std.specs.List.{fold, sum_by, range_with_len}
+use Rattle.std.specs.Prelude.{ℕ, zero, suc, ◌+◌, ◌==◌, Bool, true, false, ◌&&◌, if◌then◌else◌, List}
+use Rattle.std.specs.List.{fold}
 use Rattle.history_book.specs.declared.cause.Cause.{Cause}
 use Rattle.history_book.specs.declared.cause.Cause.TheVariants as cause
 use Rattle.history_book.specs.declared.item.Actor.{Actor}
@@ -46,6 +46,11 @@ open_then n s count x = if asks_at n s x then suc count else if closes n s x the
 abbrev pub open_asks_of : List Item → ℕ → ℕ → ℕ
 open_asks_of h n s = fold (open_then n s) 0 h
 
+-- of so many sessions, from this one on
+unfoldable pub open_asks_from : List Item → ℕ → ℕ → ℕ → ℕ
+open_asks_from h n s zero = 0
+open_asks_from h n s (suc more) = open_asks_of h n s + open_asks_from h n (suc s) more
+
 -- how many asks at the node are open, of all 16 sessions
 abbrev pub open_asks : List Item → ℕ → ℕ
-open_asks h n = sum_by (open_asks_of h n) (range_with_len 0 16)
+open_asks h n = open_asks_from h n 0 16
