@@ -1,7 +1,8 @@
 -- What a history tells of a session's request after more items: items that tell nothing of it leave its words as they are,
 -- and make what stands since its ask and since its draw longer.
-use Rattle.std.proofs.Common.{◌≡◌, ℕ, ◌==◌, Bool, true, false, if◌then◌else◌, IsTrue, List, ◌∷◌, ◌++◌, None, Some, refl, ◌∙◌, ap}
+use Rattle.std.proofs.Common.{◌≡◌, ℕ, ◌==◌, Bool, true, false, if◌then◌else◌, IsTrue, List, [], ◌∷◌, ◌++◌, None, Some, refl, ◌∙◌, ap}
 use Rattle.std.specs.Prelude.{All}
+use Rattle.std.specs.Option.{option_or}
 use Rattle.std.proofs.lemmas.Bool.{ne_eqb}
 use Rattle.std.proofs.lemmas.List.Elements.{All-cons, All-weaker}
 use Rattle.history_book.specs.declared.item.Item.{Item}
@@ -14,7 +15,7 @@ use Rattle.cause_rules.specs.Asks.{ask_by, asks_for, term_by, draw_by, draws_for
 use Rattle.cause_rules.specs.Since.{last_told, since}
 use Rattle.cause_laws.specs.Due.{IsRefusal}
 use Rattle.cause_laws.proofs.Deeds.{Silent, AllSilent, ask_item}
-use Rattle.cause_laws.proofs.SinceWords.{last_told-same, since-more}
+use Rattle.cause_laws.proofs.SinceWords.{last_told-push, since-push, last_told-same, since-more}
 
 -- ---- items that tell nothing of the session
 pub record Mute (s : ℕ) (x : Item) : Type 0 where
@@ -104,3 +105,16 @@ other_accept s r node term reading other = record { ask = refl; asks = refl; ter
 pub other_draw : (s n term : ℕ) (request : Request) (stamp : ℕ) → (session_of request ≡ s → ⊥) → Mute s (draw_item n term request stamp)
 other_draw s n term (Begin r) stamp other = record { ask = refl; asks = refl; term = refl; draw = none_unless r s (stamp, None) other; draws = ne_eqb r s other }
 other_draw s n term (Commit r start keys) stamp other = record { ask = refl; asks = refl; term = refl; draw = none_unless r s (start, Some stamp) other; draws = ne_eqb r s other }
+
+-- ---- one more item, which is no ask of the session
+since_ask-push : (h : List Item) (x : Item) (s : ℕ) → asks_for s x ≡ false → since_ask (h ++ x ∷ []) s ≡ since_ask h s ++ x ∷ []
+since_ask-push h x s none = since-push (asks_for s) h x ∙ ap (λ (b : Bool). if b then [] else since_ask h s ++ x ∷ []) none
+
+pub its_ask-push : (h : List Item) (x : Item) (s : ℕ) → its_ask (h ++ x ∷ []) s ≡ option_or (ask_by s x) (its_ask h s)
+its_ask-push h x s = last_told-push (ask_by s) h x
+
+pub its_term-push : (h : List Item) (x : Item) (s : ℕ) → asks_for s x ≡ false → its_term (h ++ x ∷ []) s ≡ option_or (term_by s x) (its_term h s)
+its_term-push h x s none = ap (λ part. last_told (term_by s) part) (since_ask-push h x s none) ∙ last_told-push (term_by s) (since_ask h s) x
+
+pub its_draw-push : (h : List Item) (x : Item) (s : ℕ) → asks_for s x ≡ false → its_draw (h ++ x ∷ []) s ≡ option_or (draw_by s x) (its_draw h s)
+its_draw-push h x s none = ap (λ part. last_told (draw_by s) part) (since_ask-push h x s none) ∙ last_told-push (draw_by s) (since_ask h s) x

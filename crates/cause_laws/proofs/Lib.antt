@@ -1,3 +1,5 @@
 pub mod Deeds
 pub mod SinceWords
 pub mod AskWords
+pub mod RequestsTold
+pub mod RequestsWere
