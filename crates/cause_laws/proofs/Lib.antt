@@ -3,3 +3,4 @@ pub mod SinceWords
 pub mod AskWords
 pub mod RequestsTold
 pub mod RequestsWere
+pub mod DeedsMute

@@ -69,7 +69,7 @@ waits_not (Commit s start keys) c waits gone asking committing = elim waits [ in
 idle_waits_not : (request : Request) (c : Client) → (c.entry.state ≡ phase.Free) ⊎ (c.entry.state ≡ phase.Open) → WaitsFor request c → ⊥
 idle_waits_not request c idle waits = elim idle [
   | inl free ↦ waits_not request c waits (λ is. cc) (λ is. cc) (λ is. cc)
-  | inr open ↦ waits_not request c waits (λ is. cc) (λ is. cc) (λ is. cc)
+  | inr opened ↦ waits_not request c waits (λ is. cc) (λ is. cc) (λ is. cc)
 ]
 
 abbrev pub Unheld : List (Option InstanceEntry) → ℕ → Type 0
