@@ -3,3 +3,8 @@ pub mod RecordedDraws
 pub mod ShownOfRequests
 pub mod ShownOfDecisions
 pub mod ShownOfNodes
+pub mod SinceWords
+pub mod AskWords
+pub mod RequestsTold
+pub mod RequestsWere
+pub mod DeedsMute
