@@ -3,6 +3,8 @@ pub mod RecordedDraws
 pub mod ShownOfRequests
 pub mod ShownOfDecisions
 pub mod ShownOfNodes
+pub mod ShownOfLosses
+pub mod DueIsShown
 pub mod SinceWords
 pub mod AskWords
 pub mod RequestsTold
