@@ -10,3 +10,4 @@ pub mod AskWords
 pub mod RequestsTold
 pub mod RequestsWere
 pub mod DeedsMute
+pub mod AsksKept
