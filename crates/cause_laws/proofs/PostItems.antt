@@ -3,13 +3,11 @@ use Rattle.std.proofs.Common.{◌≡◌, ◌≢◌, ℕ, Bool, true, false, List
 use Rattle.std.proofs.lemmas.List.Elements.{All-nil, All-cons, All-weaker}
 use Rattle.history_book.specs.declared.item.Item.{Item}
 use Rattle.history_book.specs.declared.item.Item.TheVariants as item
+use Rattle.isolation_laws.proofs.Pushed.{not_true}
 use Rattle.cause_rules.specs.Posts.{takes_for, crashes_for, TookLast, LeasedUntil, StandsSince, HasNone}
 use Rattle.cause_laws.specs.Due.{IsRefusal}
 use Rattle.cause_laws.proofs.Deeds.{Silent, AllSilent}
 use Rattle.cause_laws.proofs.PostWords.{NoTakes, NoCrashes, took_on, leased_on, stands_on, none_on}
-
-not_true : false ≡ true → ⊥
-not_true same = cc
 
 -- neither a take nor a crash of any node
 abbrev pub is_calm : Item → Bool

@@ -8,7 +8,7 @@ use Rattle.history_book.specs.Members.{◌∈◌}
 use Rattle.history_book.specs.declared.item.Item.{Item}
 use Rattle.history_book.specs.declared.item.Item.TheVariants as item
 use Rattle.history_book.proofs.MemberLemmas.{in_front}
-use Rattle.isolation_laws.proofs.Pushed.{in_append}
+use Rattle.isolation_laws.proofs.Pushed.{in_append, not_true}
 use Rattle.cause_rules.specs.Since.{told_then, since_then, since}
 use Rattle.cause_rules.specs.Posts.{take_by, takes_for, crashes_for, last_take, since_take, TookLast, LeasedUntil, StandsSince, HasNone, TermTaken, LeaseGiven, CeilingGiven}
 
@@ -77,12 +77,9 @@ not_crashed : (n term : ℕ) (items : List Item) → NoCrashes n items → item.
 unfolding ◌∈◌
 not_crashed n term [] none m = m
 not_crashed n term (x ∷ items) none m = elim m [
-  | inl is ↦ true_not (sym (eq-eqb n n refl) ∙ (ap (crashes_for n) is ∙ All-head (λ (y : Item). crashes_for n y ≡ false) x items none))
+  | inl is ↦ not_true (sym (All-head (λ (y : Item). crashes_for n y ≡ false) x items none) ∙ (ap (crashes_for n) (sym is) ∙ eq-eqb n n refl))
   | inr deeper ↦ not_crashed n term items (All-tail (λ (y : Item). crashes_for n y ≡ false) x items none) deeper
 ]
-  where
-    true_not : true ≡ false → ⊥
-    true_not same = cc
 
 pub stands_on : (h items : List Item) (n : ℕ) → NoTakes n items → NoCrashes n items → StandsSince h n → StandsSince (h ++ items) n
 stands_on h items n takes crashes stands term m =
