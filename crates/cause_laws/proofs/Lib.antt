@@ -11,3 +11,10 @@ pub mod RequestsTold
 pub mod RequestsWere
 pub mod DeedsMute
 pub mod AsksKept
+pub mod PostWords
+pub mod PostItems
+pub mod PostMoves
+pub mod TakenKept
+pub mod VacantKept
+pub mod StopsShown
+pub mod LastsKept
