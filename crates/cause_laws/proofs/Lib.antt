@@ -18,3 +18,5 @@ pub mod TakenKept
 pub mod VacantKept
 pub mod StopsShown
 pub mod LastsKept
+pub mod ShownAtFirst
+pub mod LongerHistories

@@ -2,6 +2,8 @@
 use Rattle.std.specs.Prelude.{List}
 use Rattle.history_book.specs.declared.item.Item.{Item}
 use Rattle.machine.specs.State.{State}
+use Rattle.cause_rules.specs.Explained.{Explained}
+use Rattle.isolation_laws.specs.Sound.{Stands}
 use Rattle.cause_laws.specs.Requests.{AreAsked, AreFaulted, AreOpenAsks}
 use Rattle.cause_laws.specs.Nodes.{AreTaken, AreVacant, AreShownStops, AreLasts}
 use Rattle.cause_laws.specs.Stores.{IsRecordShown, AreMarked, AreGone}
@@ -17,3 +19,10 @@ pub record Shows (w : State) (h : List Item) : Type 0 where
   pub master : IsRecordShown w.master h
   pub marked : AreMarked w.pairs h
   pub gone : AreGone w.clients h
+
+-- the state w is reached with the history h: the facts of isolation hold, the history shows the state, and each of its
+-- refusals is shown
+pub record Tells (w : State) (h : List Item) : Type 0 where
+  pub stands : Stands w h
+  pub shows : Shows w h
+  pub explained : Explained w.setup h
