@@ -1,15 +1,19 @@
 -- What it is for an event to do a deed, and what leaves the nodes as they were.
-use Rattle.std.proofs.Common.{◌≡◌, ℕ, Bool, true, false, if◌then◌else◌, List, [], ◌∷◌, Option, Some, None, refl}
+use Rattle.std.proofs.Common.{◌≡◌, ℕ, Bool, true, false, IsTrue, if◌then◌else◌, List, [], ◌∷◌, Option, Some, None, refl}
 use Rattle.std.specs.Prelude.{slice_get, slice_set}
 use Rattle.std.proofs.lemmas.List.Elements.{All-nil, All-cons}
 use Rattle.history_book.specs.declared.cause.Cause.{Cause}
-use Rattle.history_book.specs.declared.item.Actor.TheVariants.{Node}
+use Rattle.history_book.specs.declared.item.Actor.TheVariants.{Node, Session}
 use Rattle.history_book.specs.declared.item.Item.{Item}
 use Rattle.history_book.specs.declared.item.Item.TheVariants as item
+use Rattle.client_parts.specs.declared.session.State.{State as SessionState}
+use Rattle.client_parts.specs.declared.session.State.TheVariants as phase
+use Rattle.client_parts.specs.SessionSteps.{work_refusal}
 use Rattle.oracle_parts.specs.Instance.{InstanceEntry}
 use Rattle.machine.specs.State.{State}
 use Rattle.machine.specs.Effect.{Effect}
 use Rattle.machine.specs.Machine.{Step}
+use Rattle.cause_rules.specs.OpenAsks.{ends_request}
 use Rattle.isolation_laws.proofs.Lookups.{set_same}
 use Rattle.cause_laws.proofs.Deeds.{Silent, AllSilent, OfRested, DeedOf}
 
@@ -39,6 +43,24 @@ node_silent node why = one_silent (item.Refused (Node node) why) refl
 pub once_silent : (told : Bool) (x : Item) → Silent x → AllSilent (if told then [] else x ∷ [])
 once_silent true x silent = none_silent
 once_silent false x silent = one_silent x silent
+
+-- ---- refusals of a session that end no request
+abbrev pub Mild : Option Cause → Type 0
+Mild None = Unit {0}
+Mild (Some why) = IsTrue (if ends_request why then false else true)
+
+pub mild_silent : (session : ℕ) (why : Cause) → Mild (Some why) → AllSilent (item.Refused (Session session) why ∷ [])
+mild_silent session why mild = one_silent (item.Refused (Session session) why) mild
+
+pub work_mild : (state : SessionState) (reading : Bool) → Mild (work_refusal state reading)
+work_mild phase.Open false = tt
+work_mild phase.Open true = refl
+work_mild phase.Free reading = refl
+work_mild phase.Asking reading = refl
+work_mild phase.Committing reading = refl
+work_mild phase.OpenOutcome reading = refl
+work_mild (phase.Completing undo) reading = refl
+work_mild phase.Gone reading = refl
 
 -- ---- the nodes stay as they were
 pub rests : (w : State) (nodes : List (Option InstanceEntry)) (items : List Item) → nodes ≡ w.nodes → AllSilent items → DeedOf w nodes items

@@ -1,3 +1,4 @@
 pub mod Deeds
 pub mod DeedParts
 pub mod DeedsOfRecord
+pub mod DeedsOfAsks
