@@ -2,3 +2,4 @@ pub mod Deeds
 pub mod DeedParts
 pub mod DeedsOfRecord
 pub mod DeedsOfAsks
+pub mod DeedsOfRequests
