@@ -3,3 +3,4 @@ pub mod DeedParts
 pub mod DeedsOfRecord
 pub mod DeedsOfAsks
 pub mod DeedsOfRequests
+pub mod DeedsOfAnswers
