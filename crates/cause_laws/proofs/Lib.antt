@@ -4,3 +4,5 @@ pub mod DeedsOfRecord
 pub mod DeedsOfAsks
 pub mod DeedsOfRequests
 pub mod DeedsOfAnswers
+pub mod DeedsOfSessions
+pub mod DeedsOfSteps
