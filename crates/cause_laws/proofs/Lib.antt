@@ -6,3 +6,4 @@ pub mod DeedsOfRequests
 pub mod DeedsOfAnswers
 pub mod DeedsOfSessions
 pub mod DeedsOfSteps
+pub mod DeedsDone
