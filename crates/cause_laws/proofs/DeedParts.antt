@@ -21,7 +21,7 @@ use Rattle.cause_laws.proofs.Deeds.{Silent, AllSilent, OfRested, DeedOf}
 abbrev pub DeedBy : State → Step → Type 0
 DeedBy w step = DeedOf w step.state.nodes step.items
 
--- so does an effect on a node and another part
+-- the effect on a node, beside another part, does what a deed does
 abbrev pub DeedIn : {Q : Type 0} → State → ℕ → Effect (Option InstanceEntry × Q) → Type 0
 DeedIn w node effect = DeedOf w (slice_set w.nodes node effect.parts.0) effect.items
 
@@ -55,12 +55,7 @@ mild_silent session why mild = one_silent (item.Refused (Session session) why) m
 pub work_mild : (state : SessionState) (reading : Bool) → Mild (work_refusal state reading)
 work_mild phase.Open false = tt
 work_mild phase.Open true = refl
-work_mild phase.Free reading = refl
-work_mild phase.Asking reading = refl
-work_mild phase.Committing reading = refl
-work_mild phase.OpenOutcome reading = refl
-work_mild (phase.Completing undo) reading = refl
-work_mild phase.Gone reading = refl
+work_mild _ reading = refl
 
 -- ---- the nodes stay as they were
 pub rests : (w : State) (nodes : List (Option InstanceEntry)) (items : List Item) → nodes ≡ w.nodes → AllSilent items → DeedOf w nodes items

@@ -1,5 +1,5 @@
 -- Each event of the machine does to the nodes what one deed does.
-use Rattle.std.proofs.Common.{◌≡◌, ℕ, List, [], ◌∷◌, Option, Some, None, refl}
+use Rattle.std.proofs.Common.{◌≡◌, ℕ, List, [], Option, Some, None, refl}
 use Rattle.std.specs.Prelude.{slice_get}
 use Rattle.port_io.specs.declared.weather.Fate.{Fate}
 use Rattle.history_book.specs.declared.item.Item.{Item}
@@ -26,7 +26,6 @@ use Rattle.machine.specs.Events.Heal.{heal_on}
 use Rattle.machine.specs.Events.Abort.{abort_on}
 use Rattle.machine.specs.Events.Vanish.{vanish_on}
 use Rattle.machine.specs.Events.SweepOpen.{sweep_open_on}
-use Rattle.machine.specs.Events.SweepStep.{sweep_step_on}
 use Rattle.isolation_laws.specs.Words.{ClientAt}
 use Rattle.isolation_laws.specs.Sound.{Stands}
 use Rattle.isolation_laws.proofs.InversionOfRecord.{for_record}

@@ -3,7 +3,6 @@ use Rattle.std.proofs.Common.{◌≡◌, ℕ, true, if◌then◌else◌, List, [
 use Rattle.std.specs.Prelude.{slice_get, slice_set}
 use Rattle.stamp_base.specs.declared.stores.Mark.{Mark}
 use Rattle.stamp_base.specs.declared.stores.Mark.TheVariants.{Committed as CommittedMark, Invalid as InvalidMark}
-use Rattle.stamp_base.specs.declared.stores.Store.TheVariants.{Table}
 use Rattle.port_io.specs.declared.weather.Fate.{Fate}
 use Rattle.port_io.specs.declared.weather.Fate.TheVariants.{Works, FailsUnchanged, FailsApplied}
 use Rattle.port_io.specs.Fates.{fated}
@@ -21,12 +20,11 @@ use Rattle.oracle_parts.specs.declared.instance.Request.{Request}
 use Rattle.oracle_parts.specs.declared.instance.Request.TheVariants.{Begin, Commit}
 use Rattle.oracle_parts.specs.declared.instance.Settled.{Settled}
 use Rattle.oracle_parts.specs.declared.instance.Settled.TheVariants as how
-use Rattle.oracle_parts.specs.Instance.{InstanceEntry, held_of, was_told_not_yet, stamps_by, stamps_of_held, least_unsettled}
+use Rattle.oracle_parts.specs.Instance.{InstanceEntry, held_of, was_told_not_yet, stamps_at, least_unsettled}
 use Rattle.oracle_parts.specs.InstanceSteps.{InstanceStep, instance_settle, answer_begin, answer_if_ready, answer_held}
 use Rattle.machine.specs.State.{Client, State}
-use Rattle.machine.specs.Effect.{Effect, refused}
 use Rattle.machine.specs.Events.Put.{to_place_by, to_place, put_by, put_commit, put_on}
-use Rattle.machine.specs.Events.Answer.{answer_by, answer_on}
+use Rattle.machine.specs.Events.Answer.{answer_by, answer_request, answer_on}
 use Rattle.isolation_laws.specs.Words.{InstanceAt, Marked}
 use Rattle.isolation_laws.specs.Holds.{Holds}
 use Rattle.isolation_laws.proofs.Outcomes.{AtDrawn}
@@ -73,10 +71,7 @@ put_request : (w : State) (h : List Item) (it : Serving w) (fate : Fate) → Hol
 put_request w h it fate holds (Commit asker start keys) asks (progress.Drawn commit) stands =
     let drawn : AtDrawn w = record { node = it.node; session = it.session; asker = asker; start = start; commit = commit; keys = keys; i = it.i; held = it.held; at = it.at; has = it.has; request_is = asks; drawn = stands } in
     put_fated w h drawn fate (mark_of w.pairs start) (fated fate w.pairs (put_pair w.pairs start (CommittedMark commit))) holds refl
-put_request w h it fate holds (Commit asker start keys) asks progress.Asked stands = no_request w it.node (Some it.i) it.session it.at
-put_request w h it fate holds (Commit asker start keys) asks progress.Accepted stands = no_request w it.node (Some it.i) it.session it.at
-put_request w h it fate holds (Commit asker start keys) asks (progress.Settled commit by) stands = no_request w it.node (Some it.i) it.session it.at
-put_request w h it fate holds (Begin asker) asks p stands = no_request w it.node (Some it.i) it.session it.at
+put_request w h it fate holds _ asks _ stands = no_request w it.node (Some it.i) it.session it.at
 
 put_found : (w : State) (h : List Item) (node session : ℕ) (fate : Fate) (i : InstanceEntry) → Holds w h → InstanceAt w.nodes node i → (found : Option Held) → held_of i session ≡ found → DeedIn w node (put_commit node session fate i w.pairs (to_place found))
 put_found w h node session fate i holds at None has = no_request w node (Some i) session at
@@ -88,19 +83,14 @@ pub put_deed : (w : State) (h : List Item) (node session : ℕ) (fate : Fate) (p
 put_deed w h node session fate None holds at = rests_at w node None _ at (node_silent node (cause.NoOracle node))
 put_deed w h node session fate (Some i) holds at = put_found w h node session fate i holds at (held_of i session) refl
 
--- ---- answer
--- by the request's stamps, and what the instance makes of it
-abbrev answered_on : ℕ → ℕ → InstanceEntry → Client → InstanceStep Reply → Option (ℕ × Option ℕ) → Effect (Option InstanceEntry × Client)
-answered_on node session i c taken None = refused (Some i, c) (Node node) (cause.NoRequest session)
-answered_on node session i c taken (Some stamps) = answer_by node session stamps.0 c i taken.left taken.answer
-
-abbrev AnswerDoes : (w : State) → Serving w → Client → InstanceStep Reply → Option (ℕ × Option ℕ) → Type 0
-AnswerDoes w it c taken stamps = DeedIn w it.node (answered_on it.node it.session it.i c taken stamps)
+-- ---- answer: what it names as the start, its deed does not read
+abbrev AnswerDoes : (w : State) → Serving w → Client → ℕ → InstanceStep Reply → Type 0
+AnswerDoes w it c start taken = DeedIn w it.node (answer_by it.node it.session start c it.i taken.left taken.answer)
 
 -- a begin has its start, or has to wait for a commit
-answer_waits : (w : State) (it : Serving w) (c : Client) (start : ℕ) (least : Option ℕ) → AnswerDoes w it c (answer_begin it.i it.session it.held start least) (Some (start, None))
-answer_waits w it c start None = ended w it (item.Begin it.session start) refl
-answer_waits w it c start (Some commit) = record {
+answer_waits : (w : State) (it : Serving w) (c : Client) (start stamp : ℕ) (least : Option ℕ) → AnswerDoes w it c start (answer_begin it.i it.session it.held stamp least)
+answer_waits w it c start stamp None = ended w it (item.Begin it.session stamp) refl
+answer_waits w it c start stamp (Some commit) = record {
   deed = OfTold (record {
     it = it;
     told = record it.held { told_not_yet = true };
@@ -113,24 +103,23 @@ answer_waits w it c start (Some commit) = record {
   tells = refl;
 }
 
-answer_request : (w : State) (it : Serving w) (c : Client) (request : Request) (p : Progress) → AnswerDoes w it c (answer_if_ready it.i it.session it.held request p) (stamps_by request p)
-answer_request w it c (Begin asker) (progress.Drawn start) = answer_waits w it c start (least_unsettled it.i.requests start)
-answer_request w it c (Begin asker) progress.Asked = no_request w it.node (Some it.i) it.session it.at
-answer_request w it c (Begin asker) progress.Accepted = no_request w it.node (Some it.i) it.session it.at
-answer_request w it c (Begin asker) (progress.Settled commit by) = no_request w it.node (Some it.i) it.session it.at
-answer_request w it c (Commit asker start keys) progress.Asked = no_request w it.node (Some it.i) it.session it.at
-answer_request w it c (Commit asker start keys) progress.Accepted = no_request w it.node (Some it.i) it.session it.at
-answer_request w it c (Commit asker start keys) (progress.Drawn commit) = no_request w it.node (Some it.i) it.session it.at
-answer_request w it c (Commit asker start keys) (progress.Settled commit how.Placed) = ended w it (item.Committed it.session start commit) refl
-answer_request w it c (Commit asker start keys) (progress.Settled commit how.Invalid) = refused_for_good w it (cause.Invalid start) refl
-answer_request w it c (Commit asker start keys) (progress.Settled commit how.Faulted) = refused_for_good w it (cause.Open start) refl
+answer_progress : (w : State) (it : Serving w) (c : Client) (start : ℕ) (request : Request) (p : Progress) → AnswerDoes w it c start (answer_if_ready it.i it.session it.held request p)
+answer_progress w it c start (Begin asker) (progress.Drawn stamp) = answer_waits w it c start stamp (least_unsettled it.i.requests stamp)
+answer_progress w it c start (Commit asker t keys) (progress.Settled commit how.Placed) = ended w it (item.Committed it.session start commit) refl
+answer_progress w it c start (Commit asker t keys) (progress.Settled commit how.Invalid) = refused_for_good w it (cause.Invalid start) refl
+answer_progress w it c start (Commit asker t keys) (progress.Settled commit how.Faulted) = refused_for_good w it (cause.Open start) refl
+answer_progress w it c start _ _ = no_request w it.node (Some it.i) it.session it.at
 
-answer_found : (w : State) (node session : ℕ) (i : InstanceEntry) (c : Client) → InstanceAt w.nodes node i → (found : Option Held) → held_of i session ≡ found → DeedIn w node (answered_on node session i c (answer_held i session found) (stamps_of_held found))
-answer_found w node session i c at None has = no_request w node (Some i) session at
-answer_found w node session i c at (Some held) has =
+answer_found : (w : State) (node session start : ℕ) (i : InstanceEntry) (c : Client) → InstanceAt w.nodes node i → (found : Option Held) → held_of i session ≡ found → DeedIn w node (answer_by node session start c i (answer_held i session found).left (answer_held i session found).answer)
+answer_found w node session start i c at None has = no_request w node (Some i) session at
+answer_found w node session start i c at (Some held) has =
     let it : Serving w = record { node = node; session = session; i = i; held = held; at = at; has = has } in
-    answer_request w it c held.request held.progress
+    answer_progress w it c start held.request held.progress
+
+answer_stamps : (w : State) (node session : ℕ) (i : InstanceEntry) (c : Client) → InstanceAt w.nodes node i → (stamps : Option (ℕ × Option ℕ)) → DeedIn w node (answer_request node session i c stamps)
+answer_stamps w node session i c at None = no_request w node (Some i) session at
+answer_stamps w node session i c at (Some stamps) = answer_found w node session stamps.0 i c at (held_of i session) refl
 
 pub answer_deed : (w : State) (node session : ℕ) (post : Option InstanceEntry) (c : Client) → slice_get w.nodes node ≡ Some post → DeedIn w node (answer_on node session post c)
 answer_deed w node session None c at = rests_at w node None _ at (node_silent node (cause.NoOracle node))
-answer_deed w node session (Some i) c at = answer_found w node session i c at (held_of i session) refl
+answer_deed w node session (Some i) c at = answer_stamps w node session i c at (stamps_at i session)

@@ -1,5 +1,5 @@
 -- What a crash and the asks of a session do.
-use Rattle.std.proofs.Common.{◌≡◌, ℕ, suc, ◌==◌, Bool, true, false, if◌then◌else◌, List, [], ◌∷◌, ◌++◌, Option, Some, None, ◌⊎◌, inl, inr, refl, sym, ◌∙◌, ap, subst}
+use Rattle.std.proofs.Common.{◌≡◌, ℕ, suc, ◌==◌, Bool, true, false, if◌then◌else◌, List, [], ◌∷◌, Option, Some, None, ◌⊎◌, inl, inr, refl, sym, ◌∙◌, ap, subst}
 use Rattle.std.specs.Prelude.{slice_get, slice_set, slice_index_or, All, Ok}
 use Rattle.std.proofs.lemmas.List.Elements.{All-nil, All-cons, All-append}
 use Rattle.history_book.specs.declared.cause.Cause.{Cause}
@@ -26,7 +26,7 @@ use Rattle.isolation_laws.specs.Words.{InstanceAt, ClientAt}
 use Rattle.isolation_laws.specs.Requests.{WaitsFor, AreRequests}
 use Rattle.isolation_laws.proofs.Lookups.{held_by, one_client}
 use Rattle.isolation_laws.proofs.InversionOfSessions.{work_open}
-use Rattle.cause_laws.proofs.Deeds.{Silent, AllSilent, IsLossOf, OfCrashed, OfAsked, DeedOf}
+use Rattle.cause_laws.proofs.Deeds.{IsLossOf, OfCrashed, OfAsked, ask_item, DeedOf}
 use Rattle.cause_laws.proofs.DeedParts.{DeedIn, none_silent, one_silent, node_silent, Mild, mild_silent, work_mild, rests_at}
 
 -- ---- crash: each session that is told something has its request there
@@ -35,12 +35,7 @@ AllLosses i items = All (IsLossOf i) items
 
 heard_losses : (i : InstanceEntry) (state : SessionState) (items : List Item) → AllLosses i items → AllLosses i (loss_heard state items)
 heard_losses i phase.Gone items losses = All-nil (IsLossOf i)
-heard_losses i phase.Free items losses = losses
-heard_losses i phase.Asking items losses = losses
-heard_losses i phase.Open items losses = losses
-heard_losses i phase.Committing items losses = losses
-heard_losses i phase.OpenOutcome items losses = losses
-heard_losses i (phase.Completing undo) items losses = losses
+heard_losses i _ items losses = losses
 
 one_loss : (i : InstanceEntry) (session : ℕ) (why : Cause) (held : Held) → held_of i session ≡ Some held → AllLosses i (item.Refused (Session session) why ∷ [])
 one_loss i session why held has = All-cons (IsLossOf i) (item.Refused (Session session) why) [] (held, has) (All-nil (IsLossOf i))
@@ -108,48 +103,33 @@ holds_none w session node c i at client_at may requests (Some held) has =
     absurd (may_not_wait waits.0.entry.state (subst MayAsk (sym state) may) (waits_in held.request waits.0 waits.2))
 
 -- ---- the asks of a session
--- so does an effect on a client and the node that it asks
-abbrev pub DeedOfAsk : State → ℕ → Effect (Client × Option InstanceEntry) → Type 0
+-- the effect on a client and the node that it asks does what a deed does
+abbrev DeedOfAsk : State → ℕ → Effect (Client × Option InstanceEntry) → Type 0
 DeedOfAsk w node effect = DeedOf w (slice_set w.nodes node effect.parts.1) effect.items
 
 -- the ask of a request, by whether the slots are full
-abbrev asked_if : InstanceEntry → Request → Bool → InstanceStep (Unit {0})
-asked_if i request full = if full then stays i (cause.Full (in_flight i)) else record { left = with_request i (session_of request) (Some (just_asked request)); answer = Ok tt }
-
-begin_slots : (w : State) (session node : ℕ) (c : Client) (i : InstanceEntry) → InstanceAt w.nodes node i → held_of i session ≡ None → (full : Bool) → DeedOfAsk w node (asked_by session c (item.AskBegin session node) (asked_if i (Begin session) full) (asked_if i (Begin session) full).answer)
-begin_slots w session node c i at none true = rests_at w node (Some i) _ at (one_silent (item.Refused (Session session) (cause.Full (in_flight i))) refl)
-begin_slots w session node c i at none false = record {
-  deed = OfAsked (record { node = node; i = i; at = at; request = Begin session; none = none });
+slots_do : (w : State) (session node : ℕ) (c : Client) (i : InstanceEntry) (request : Request) → InstanceAt w.nodes node i → held_of i (session_of request) ≡ None → (full : Bool) → let taken : InstanceStep (Unit {0}) = if full then stays i (cause.Full (in_flight i)) else record { left = with_request i (session_of request) (Some (just_asked request)); answer = Ok tt } in DeedOfAsk w node (asked_by session c (ask_item node request) taken taken.answer)
+slots_do w session node c i request at none true = rests_at w node (Some i) _ at (mild_silent session (cause.Full (in_flight i)) refl)
+slots_do w session node c i request at none false = record {
+  deed = OfAsked (record { node = node; i = i; at = at; request = request; none = none });
   leaves = refl;
   tells = refl;
 }
 
 -- by what the session's state says
 begin_phase : (w : State) (session node : ℕ) (c : Client) (post : Option InstanceEntry) → slice_get w.nodes node ≡ Some post → ClientAt w.clients session c → AreRequests w.nodes w.clients → (state : SessionState) → c.entry.state ≡ state → DeedOfAsk w node (ask_begin_by session node c post (begin_refusal state))
-begin_phase w session node c None at client_at requests phase.Free is = rests_at w node None _ at (one_silent (item.Refused (Session session) (cause.NoOracle node)) refl)
-begin_phase w session node c (Some i) at client_at requests phase.Free is = begin_slots w session node c i at (holds_none w session node c i at client_at (inl is) requests (held_of i session) refl) (in_flight i == i.slots)
-begin_phase w session node c post at client_at requests phase.Gone is = rests_at w node post _ at (one_silent (item.Refused (Session session) cause.Gone) refl)
-begin_phase w session node c post at client_at requests phase.Asking is = rests_at w node post _ at (one_silent (item.Refused (Session session) cause.Busy) refl)
-begin_phase w session node c post at client_at requests phase.Open is = rests_at w node post _ at (one_silent (item.Refused (Session session) cause.Busy) refl)
-begin_phase w session node c post at client_at requests phase.Committing is = rests_at w node post _ at (one_silent (item.Refused (Session session) cause.Busy) refl)
-begin_phase w session node c post at client_at requests phase.OpenOutcome is = rests_at w node post _ at (one_silent (item.Refused (Session session) cause.Busy) refl)
-begin_phase w session node c post at client_at requests (phase.Completing undo) is = rests_at w node post _ at (one_silent (item.Refused (Session session) cause.Busy) refl)
+begin_phase w session node c None at client_at requests phase.Free is = rests_at w node None _ at (mild_silent session (cause.NoOracle node) refl)
+begin_phase w session node c (Some i) at client_at requests phase.Free is = slots_do w session node c i (Begin session) at (holds_none w session node c i at client_at (inl is) requests (held_of i session) refl) (in_flight i == i.slots)
+begin_phase w session node c post at client_at requests phase.Gone is = rests_at w node post _ at (mild_silent session cause.Gone refl)
+begin_phase w session node c post at client_at requests _ is = rests_at w node post _ at (mild_silent session cause.Busy refl)
 
 pub ask_begin_deed : (w : State) (session node : ℕ) (post : Option InstanceEntry) (c : Client) → slice_get w.nodes node ≡ Some post → ClientAt w.clients session c → AreRequests w.nodes w.clients → DeedOfAsk w node (ask_begin_on session node c post)
 ask_begin_deed w session node post c at client_at requests = begin_phase w session node c post at client_at requests c.entry.state refl
 
-commit_slots : (w : State) (session node start : ℕ) (c : Client) (i : InstanceEntry) → InstanceAt w.nodes node i → held_of i session ≡ None → (full : Bool) → DeedOfAsk w node (asked_by session c (item.AskCommit session node start) (asked_if i (Commit session start c.entry.keys) full) (asked_if i (Commit session start c.entry.keys) full).answer)
-commit_slots w session node start c i at none true = rests_at w node (Some i) _ at (one_silent (item.Refused (Session session) (cause.Full (in_flight i))) refl)
-commit_slots w session node start c i at none false = record {
-  deed = OfAsked (record { node = node; i = i; at = at; request = Commit session start c.entry.keys; none = none });
-  leaves = refl;
-  tells = refl;
-}
-
 commit_keys : (w : State) (session node start : ℕ) (c : Client) (post : Option InstanceEntry) → slice_get w.nodes node ≡ Some post → ClientAt w.clients session c → c.entry.state ≡ phase.Open → AreRequests w.nodes w.clients → (keys : List ℕ) → DeedOfAsk w node (commit_of session node c start keys post)
 commit_keys w session node start c post at client_at is requests [] = rests_at w node post _ at (one_silent (item.End session start ReadOnly) refl)
-commit_keys w session node start c None at client_at is requests (key ∷ keys) = rests_at w node None _ at (one_silent (item.Refused (Session session) (cause.NoOracle node)) refl)
-commit_keys w session node start c (Some i) at client_at is requests (key ∷ keys) = commit_slots w session node start c i at (holds_none w session node c i at client_at (inr is) requests (held_of i session) refl) (in_flight i == i.slots)
+commit_keys w session node start c None at client_at is requests (key ∷ keys) = rests_at w node None _ at (mild_silent session (cause.NoOracle node) refl)
+commit_keys w session node start c (Some i) at client_at is requests (key ∷ keys) = slots_do w session node c i (Commit session start c.entry.keys) at (holds_none w session node c i at client_at (inr is) requests (held_of i session) refl) (in_flight i == i.slots)
 
 commit_work : (w : State) (session node : ℕ) (c : Client) (post : Option InstanceEntry) → slice_get w.nodes node ≡ Some post → ClientAt w.clients session c → AreRequests w.nodes w.clients → (why : Option Cause) → work_refusal c.entry.state (is_reading c) ≡ why → Mild why → (start : Option ℕ) → DeedOfAsk w node (ask_commit_by session node c post why start)
 commit_work w session node c post at client_at requests (Some why) go mild start = rests_at w node post _ at (mild_silent session why mild)

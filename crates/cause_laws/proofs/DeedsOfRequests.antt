@@ -1,5 +1,5 @@
 -- What a node's acceptance and decision of a request do.
-use Rattle.std.proofs.Common.{◌≡◌, ◌≢◌, ℕ, ◌+◌, ◌==◌, Bool, true, false, IsTrue, if◌then◌else◌, List, [], ◌∷◌, Option, Some, None, refl, sym, subst}
+use Rattle.std.proofs.Common.{◌≡◌, ℕ, ◌+◌, ◌==◌, Bool, true, false, IsTrue, if◌then◌else◌, [], ◌∷◌, Option, Some, None, refl, sym, ap, subst}
 use Rattle.std.specs.Prelude.{slice_get, slice_set, nat_lt, nat_le}
 use Rattle.std.proofs.lemmas.Bool.{eqb-false}
 use Rattle.history_book.specs.declared.cause.Cause.{Cause}
@@ -60,9 +60,7 @@ accept_timely w it reading c asked true = accept_epoch w it reading c asked it.h
 
 accept_progress : (w : State) (it : Serving w) (reading : ℕ) (c : Client) (p : Progress) → it.held.progress ≡ p → AcceptDoes w it reading c (accept_if_asked it.i it.session reading it.held p)
 accept_progress w it reading c progress.Asked is = accept_timely w it reading c is (nat_lt reading it.i.until)
-accept_progress w it reading c progress.Accepted is = no_request w it.node (Some it.i) it.session it.at
-accept_progress w it reading c (progress.Drawn stamp) is = no_request w it.node (Some it.i) it.session it.at
-accept_progress w it reading c (progress.Settled commit how) is = no_request w it.node (Some it.i) it.session it.at
+accept_progress w it reading c _ is = no_request w it.node (Some it.i) it.session it.at
 
 accept_found : (w : State) (node session reading : ℕ) (i : InstanceEntry) (c : Client) → InstanceAt w.nodes node i → (found : Option Held) → held_of i session ≡ found → DeedIn w node (accept_request node session reading i c found)
 accept_found w node session reading i c at None has = no_request w node (Some i) session at
@@ -96,16 +94,16 @@ decide_out w it c (Some (cause.Replaced found)) is = refused_for_good w it (caus
 decide_out w it c (Some (cause.Spent ceiling)) is = refused_for_good w it (cause.Spent ceiling) refl
 decide_out w it c (Some _) is = absurd is
 
-drawn_same : (node term stamp : ℕ) (request : Request) → draw_item node term request (stamp_of (decided_by request stamp)) ∷ [] ≡ draw_item node term request stamp ∷ []
-drawn_same node term stamp (Begin session) = refl
-drawn_same node term stamp (Commit session start keys) = refl
+stamp_is : (request : Request) (stamp : ℕ) → stamp_of (decided_by request stamp) ≡ stamp
+stamp_is (Begin session) stamp = refl
+stamp_is (Commit session start keys) stamp = refl
 
 decide_room : (w : State) (it : Serving w) (c : Client) → StopOf it.i.stop → it.held.progress ≡ progress.Accepted → (spent : Bool) → (it.i.last == it.i.ceiling) ≡ spent → DecideDoes w it c (if spent then out_of_stamps it.i it.session it.held it.i.stop else decide_drawn it.i it.session it.held (it.i.last + 1))
 decide_room w it c stop accepted true full = decide_out w it c it.i.stop stop
 decide_room w it c stop accepted false room = record {
   deed = OfDrew (record { it = it; accepted = accepted; room = λ same. eqb-false it.i.last it.i.ceiling room same });
   leaves = refl;
-  tells = drawn_same it.node it.i.term (it.i.last + 1) it.held.request;
+  tells = ap (λ (stamp : ℕ). draw_item it.node it.i.term it.held.request stamp ∷ []) (stamp_is it.held.request (it.i.last + 1));
 }
 
 decide_verdict : (w : State) (it : Serving w) (c : Client) → StopOf it.i.stop → it.held.progress ≡ progress.Accepted → (v : Verdict) → DecideDoes w it c (verdict_by it.i it.session it.held v)
@@ -115,9 +113,7 @@ decide_verdict w it c stop accepted (Hidden key water) = refused_for_good w it (
 
 decide_progress : (w : State) (it : Serving w) (c : Client) → StopOf it.i.stop → (p : Progress) → it.held.progress ≡ p → DecideDoes w it c (decide_if_accepted it.i it.session it.held p)
 decide_progress w it c stop progress.Accepted is = decide_verdict w it c stop is (request_verdict it.i.buckets it.held.request)
-decide_progress w it c stop progress.Asked is = no_request w it.node (Some it.i) it.session it.at
-decide_progress w it c stop (progress.Drawn stamp) is = no_request w it.node (Some it.i) it.session it.at
-decide_progress w it c stop (progress.Settled commit how) is = no_request w it.node (Some it.i) it.session it.at
+decide_progress w it c stop _ is = no_request w it.node (Some it.i) it.session it.at
 
 decide_found : (w : State) (node session : ℕ) (i : InstanceEntry) (c : Client) → InstanceAt w.nodes node i → StopOf i.stop → (found : Option Held) → held_of i session ≡ found → DeedIn w node (decide_request node session i c found)
 decide_found w node session i c at stop None has = no_request w node (Some i) session at

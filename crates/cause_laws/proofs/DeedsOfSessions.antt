@@ -1,6 +1,5 @@
--- What the events of a session alone, and of the janitor, tell: silent items, but where a session learns its own commit.
-use Rattle.std.proofs.Common.{◌≡◌, ℕ, Bool, true, false, ◌||◌, if◌then◌else◌, List, [], ◌∷◌, ◌++◌, Option, Some, None, refl, sym, ◌∙◌, length}
-use Rattle.std.specs.Prelude.{nat_lt}
+-- What an abort, a vanish, a write, a fetch and a heal tell, and a step on the stores: silent items.
+use Rattle.std.proofs.Common.{ℕ, Bool, true, false, if◌then◌else◌, List, [], ◌∷◌, ◌++◌, Option, Some, None, refl, length}
 use Rattle.std.specs.Option.{option_or}
 use Rattle.std.proofs.lemmas.List.Elements.{All-cons, All-append}
 use Rattle.stamp_base.specs.declared.stores.Mark.{Mark}
@@ -24,11 +23,11 @@ use Rattle.client_parts.specs.declared.asks.Told.{Told}
 use Rattle.client_parts.specs.declared.asks.Told.TheVariants as told
 use Rattle.client_parts.specs.declared.session.State.{State as SessionState}
 use Rattle.client_parts.specs.declared.session.State.TheVariants as phase
-use Rattle.client_parts.specs.SessionSteps.{work_refusal, key_refusal, has_key, vanish_refusal}
+use Rattle.client_parts.specs.SessionSteps.{work_refusal, key_refusal, vanish_refusal}
 use Rattle.client_parts.specs.KeyRead.{ReadTurn, Asks, Answers}
 use Rattle.machine.specs.State.{Client}
 use Rattle.machine.specs.Clients.{is_reading}
-use Rattle.machine.specs.StoreSteps.{Met, entry_of, mark_item, step_item, mark_kept, effect_items, items_met, met, told_by, store_of}
+use Rattle.machine.specs.StoreSteps.{Met, entry_of, mark_item, step_item, mark_kept, items_met, met, told_by, store_of}
 use Rattle.machine.specs.Events.Abort.{abort_by, abort_on}
 use Rattle.machine.specs.Events.Vanish.{vanish_by, vanish_on}
 use Rattle.machine.specs.Events.Write.{write_refused, write_by, write_open, write_on}

@@ -1,4 +1,5 @@
--- What the next step of a session and the events of the janitor do: the nodes stay, and a session may learn its own commit.
+-- What the next step of a session and the events of the janitor do: the nodes stay, and a session may learn its own
+-- commit.
 use Rattle.std.proofs.Common.{◌≡◌, ℕ, Bool, true, false, if◌then◌else◌, List, [], ◌∷◌, ◌++◌, Option, Some, None, refl, length}
 use Rattle.std.proofs.lemmas.List.Elements.{All-append}
 use Rattle.stamp_base.specs.declared.stores.Store.TheVariants.{Cells}
@@ -72,12 +73,7 @@ settle_tells w session c x m at is_open silent (Some answer) = settle_decides w 
 -- a resolve is made where the outcome is open, and nowhere else
 resolve_open : (state : SessionState) (e : SessionEntry) (work : UnderWay) (x : Settling) → ((y : Settling) → work ≡ Settles y → state ≡ phase.OpenOutcome) → work_by state e work ≡ Settles x → state ≡ phase.OpenOutcome
 resolve_open phase.OpenOutcome e work x only is = refl
-resolve_open phase.Free e work x only is = only x is
-resolve_open phase.Asking e work x only is = only x is
-resolve_open phase.Open e work x only is = only x is
-resolve_open phase.Committing e work x only is = only x is
-resolve_open (phase.Completing undo) e work x only is = only x is
-resolve_open phase.Gone e work x only is = only x is
+resolve_open _ e work x only is = only x is
 
 -- ---- the next step
 step_does : (w : State) (session : ℕ) (fate : Fate) (c : Client) → ClientAt w.clients session c → (work : UnderWay) → ((x : Settling) → work ≡ Settles x → c.entry.state ≡ phase.OpenOutcome) → DeedOf w w.nodes (step_at session fate c w.rows w.pairs work).items
@@ -101,10 +97,7 @@ step_mild : (state : SessionState) (reading : Bool) → Mild (step_refusal state
 step_mild phase.Gone reading = refl
 step_mild phase.OpenOutcome reading = tt
 step_mild (phase.Completing undo) reading = tt
-step_mild phase.Free reading = idle_mild reading
-step_mild phase.Asking reading = idle_mild reading
-step_mild phase.Open reading = idle_mild reading
-step_mild phase.Committing reading = idle_mild reading
+step_mild _ reading = idle_mild reading
 
 step_may : (w : State) (session : ℕ) (fate : Fate) (c : Client) → ClientAt w.clients session c → ((x : Settling) → work_of c ≡ Settles x → c.entry.state ≡ phase.OpenOutcome) → (why : Option Cause) → Mild why → DeedOf w w.nodes (step_unless session fate c w.rows w.pairs why).items
 step_may w session fate c at only (Some why) mild = rests_all w _ (mild_silent session why mild)
