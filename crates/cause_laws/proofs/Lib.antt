@@ -20,3 +20,11 @@ pub mod StopsShown
 pub mod LastsKept
 pub mod ShownAtFirst
 pub mod LongerHistories
+pub mod DeedParts
+pub mod DeedsOfRecord
+pub mod DeedsOfAsks
+pub mod DeedsOfRequests
+pub mod DeedsOfAnswers
+pub mod DeedsOfSessions
+pub mod DeedsOfSteps
+pub mod DeedsDone
