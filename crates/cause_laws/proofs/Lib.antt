@@ -1,1 +1,4 @@
 pub mod Deeds
+pub mod DueItems
+pub mod DueOfRecord
+pub mod DueOfRequests
