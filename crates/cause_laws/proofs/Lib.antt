@@ -4,3 +4,6 @@ pub mod DueOfRecord
 pub mod DueOfRequests
 pub mod DueOfAnswers
 pub mod DueOfCrashes
+pub mod DueOfSessions
+pub mod DueOfSteps
+pub mod DuesDone
