@@ -28,3 +28,11 @@ pub mod DeedsOfAnswers
 pub mod DeedsOfSessions
 pub mod DeedsOfSteps
 pub mod DeedsDone
+pub mod DueItems
+pub mod DueOfRecord
+pub mod DueOfRequests
+pub mod DueOfAnswers
+pub mod DueOfCrashes
+pub mod DueOfSessions
+pub mod DueOfSteps
+pub mod DuesDone
