@@ -5,3 +5,4 @@ pub mod RequestsTold
 pub mod RequestsWere
 pub mod DeedsMute
 pub mod AsksKept
+pub mod OpenWords
