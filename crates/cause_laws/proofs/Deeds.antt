@@ -112,13 +112,16 @@ pub record Crashed (w : State) : Type 0 where
   pub told : List Item
   pub losses : All (IsLossOf i) told
 
--- a session asked
+-- a session asked, which waited for nothing
 pub record Asked (w : State) : Type 0 where
   pub node : ℕ
   pub i : InstanceEntry
   pub at : InstanceAt w.nodes node i
   pub request : Request
   pub none : held_of i (session_of request) ≡ None
+  pub c : Client
+  pub client_at : ClientAt w.clients (session_of request) c
+  pub idle : (c.entry.state ≡ phase.Free) ⊎ (c.entry.state ≡ phase.Open)
 
 abbrev pub ask_item : ℕ → Request → Item
 ask_item node (Begin session) = item.AskBegin session node
