@@ -108,10 +108,19 @@ abbrev DeedOfAsk : State → ℕ → Effect (Client × Option InstanceEntry) →
 DeedOfAsk w node effect = DeedOf w (slice_set w.nodes node effect.parts.1) effect.items
 
 -- the ask of a request, by whether the slots are full
-slots_do : (w : State) (session node : ℕ) (c : Client) (i : InstanceEntry) (request : Request) → InstanceAt w.nodes node i → held_of i (session_of request) ≡ None → (full : Bool) → let taken : InstanceStep (Unit {0}) = if full then stays i (cause.Full (in_flight i)) else record { left = with_request i (session_of request) (Some (just_asked request)); answer = Ok tt } in DeedOfAsk w node (asked_by session c (ask_item node request) taken taken.answer)
-slots_do w session node c i request at none true = rests_at w node (Some i) _ at (mild_silent session (cause.Full (in_flight i)) refl)
-slots_do w session node c i request at none false = record {
-  deed = OfAsked (record { node = node; i = i; at = at; request = request; none = none });
+slots_do : (w : State) (session node : ℕ) (c : Client) (i : InstanceEntry) (request : Request) → InstanceAt w.nodes node i → ClientAt w.clients (session_of request) c → MayAsk c.entry.state → AreRequests w.nodes w.clients → (full : Bool) → let taken : InstanceStep (Unit {0}) = if full then stays i (cause.Full (in_flight i)) else record { left = with_request i (session_of request) (Some (just_asked request)); answer = Ok tt } in DeedOfAsk w node (asked_by session c (ask_item node request) taken taken.answer)
+slots_do w session node c i request at client_at may requests true = rests_at w node (Some i) _ at (mild_silent session (cause.Full (in_flight i)) refl)
+slots_do w session node c i request at client_at may requests false = record {
+  deed = OfAsked (record {
+    node = node;
+    i = i;
+    at = at;
+    request = request;
+    none = holds_none w (session_of request) node c i at client_at may requests (held_of i (session_of request)) refl;
+    c = c;
+    client_at = client_at;
+    idle = may;
+  });
   leaves = refl;
   tells = refl;
 }
@@ -119,7 +128,7 @@ slots_do w session node c i request at none false = record {
 -- by what the session's state says
 begin_phase : (w : State) (session node : ℕ) (c : Client) (post : Option InstanceEntry) → slice_get w.nodes node ≡ Some post → ClientAt w.clients session c → AreRequests w.nodes w.clients → (state : SessionState) → c.entry.state ≡ state → DeedOfAsk w node (ask_begin_by session node c post (begin_refusal state))
 begin_phase w session node c None at client_at requests phase.Free is = rests_at w node None _ at (mild_silent session (cause.NoOracle node) refl)
-begin_phase w session node c (Some i) at client_at requests phase.Free is = slots_do w session node c i (Begin session) at (holds_none w session node c i at client_at (inl is) requests (held_of i session) refl) (in_flight i == i.slots)
+begin_phase w session node c (Some i) at client_at requests phase.Free is = slots_do w session node c i (Begin session) at client_at (inl is) requests (in_flight i == i.slots)
 begin_phase w session node c post at client_at requests phase.Gone is = rests_at w node post _ at (mild_silent session cause.Gone refl)
 begin_phase w session node c post at client_at requests _ is = rests_at w node post _ at (mild_silent session cause.Busy refl)
 
@@ -129,7 +138,7 @@ ask_begin_deed w session node post c at client_at requests = begin_phase w sessi
 commit_keys : (w : State) (session node start : ℕ) (c : Client) (post : Option InstanceEntry) → slice_get w.nodes node ≡ Some post → ClientAt w.clients session c → c.entry.state ≡ phase.Open → AreRequests w.nodes w.clients → (keys : List ℕ) → DeedOfAsk w node (commit_of session node c start keys post)
 commit_keys w session node start c post at client_at is requests [] = rests_at w node post _ at (one_silent (item.End session start ReadOnly) refl)
 commit_keys w session node start c None at client_at is requests (key ∷ keys) = rests_at w node None _ at (mild_silent session (cause.NoOracle node) refl)
-commit_keys w session node start c (Some i) at client_at is requests (key ∷ keys) = slots_do w session node c i (Commit session start c.entry.keys) at (holds_none w session node c i at client_at (inr is) requests (held_of i session) refl) (in_flight i == i.slots)
+commit_keys w session node start c (Some i) at client_at is requests (key ∷ keys) = slots_do w session node c i (Commit session start c.entry.keys) at client_at (inr is) requests (in_flight i == i.slots)
 
 commit_work : (w : State) (session node : ℕ) (c : Client) (post : Option InstanceEntry) → slice_get w.nodes node ≡ Some post → ClientAt w.clients session c → AreRequests w.nodes w.clients → (why : Option Cause) → work_refusal c.entry.state (is_reading c) ≡ why → Mild why → (start : Option ℕ) → DeedOfAsk w node (ask_commit_by session node c post why start)
 commit_work w session node c post at client_at requests (Some why) go mild start = rests_at w node post _ at (mild_silent session why mild)
