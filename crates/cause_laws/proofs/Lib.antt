@@ -7,3 +7,4 @@ pub mod DueOfCrashes
 pub mod DueOfSessions
 pub mod DueOfSteps
 pub mod DuesDone
+pub mod RecordShown
