@@ -37,3 +37,4 @@ pub mod DueOfSessions
 pub mod DueOfSteps
 pub mod DuesDone
 pub mod OpenWords
+pub mod RecordShown
