@@ -17,7 +17,7 @@ use Rattle.machine.specs.State.{Client}
 use Rattle.isolation_laws.specs.Words.{Marked, HasRecord, cell_with}
 use Rattle.isolation_laws.specs.Pending.{Live}
 use Rattle.isolation_laws.specs.Cells.{IsSwept, AreShadowed, CellFacts}
-use Rattle.isolation_laws.proofs.Owners.{one_commit}
+use Rattle.isolation_laws.proofs.OnceEach.{one_commit}
 use Rattle.isolation_laws.proofs.CommitsInFlight.{GoesOn}
 use Rattle.isolation_laws.proofs.Calm.{Calm, listed_goes_on}
 

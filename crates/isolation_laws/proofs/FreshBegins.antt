@@ -15,7 +15,8 @@ use Rattle.isolation_laws.specs.Words.{InstanceAt, HeldBy}
 use Rattle.isolation_laws.specs.Begins.{AreFreshBegins}
 use Rattle.isolation_laws.specs.Holds.{Holds}
 use Rattle.isolation_laws.proofs.Lookups.{instance_changed, heldby_changed}
-use Rattle.isolation_laws.proofs.Outcomes.{AskedBegin, asked_begin_state, asked_begin_items, AskedCommit, asked_commit_state, Accepted, accepted_state, Drew, drew_instance, drew_state, drew_items}
+use Rattle.isolation_laws.proofs.OutcomesOfRequests.{AskedBegin, asked_begin_state, asked_begin_items, AskedCommit, asked_commit_state, Accepted, accepted_state}
+use Rattle.isolation_laws.proofs.OutcomesOfStamps.{Drew, drew_instance, drew_state, drew_items}
 use Rattle.isolation_laws.proofs.Owners.{accepts_now, placed_below_last}
 use Rattle.isolation_laws.proofs.CommitsInFlight.{FewerStanding, IsAcceptedNow, IsDrawnNow}
 use Rattle.isolation_laws.proofs.RequestsAfter.{FewerHeld, HoldsNew, new_held, none_held, free_waits}

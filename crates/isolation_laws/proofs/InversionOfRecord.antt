@@ -32,7 +32,8 @@ use Rattle.isolation_laws.specs.Words.{InstanceAt}
 use Rattle.isolation_laws.specs.Quiet.{AllQuiet}
 use Rattle.isolation_laws.specs.Sound.{StopOf}
 use Rattle.isolation_laws.proofs.Lookups.{set_same}
-use Rattle.isolation_laws.proofs.Outcomes.{Alike, OfGranted, OfRenewed, OfExtended}
+use Rattle.isolation_laws.proofs.OutcomesOfRecord.{Alike}
+use Rattle.isolation_laws.proofs.Outcomes.{OfGranted, OfRenewed, OfExtended}
 use Rattle.isolation_laws.proofs.InversionParts.{ComesTo, ComesBy, one_quiet, two_quiet, refusal_quiet, still, still_post, nodes_alike}
 
 -- the effect on a node and the master record

@@ -27,7 +27,8 @@ use Rattle.machine.specs.Events.Fetch.{fetch_by, fetch_open, fetch_on}
 use Rattle.machine.specs.Events.Heal.{offer_by, offer_of, heal_at, heal_on}
 use Rattle.isolation_laws.specs.Words.{ClientAt}
 use Rattle.isolation_laws.specs.Quiet.{AllQuiet}
-use Rattle.isolation_laws.proofs.Outcomes.{AtOpen, OfAborted, OfVanished, OfWrote, OfWriteFailed, OfFetched, OfReadDropped, OfHealed}
+use Rattle.isolation_laws.proofs.OutcomesOfSessions.{AtOpen}
+use Rattle.isolation_laws.proofs.Outcomes.{OfAborted, OfVanished, OfWrote, OfWriteFailed, OfFetched, OfReadDropped, OfHealed}
 use Rattle.isolation_laws.proofs.InversionParts.{ComesTo, ComesBy, none_quiet, one_quiet, two_quiet, refusal_quiet, still_client, at_open}
 
 -- the effect on a client, and on the cells with it

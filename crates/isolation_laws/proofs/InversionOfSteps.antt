@@ -24,7 +24,8 @@ use Rattle.machine.specs.Events.Fetch.{client_read}
 use Rattle.machine.specs.Events.Step.{StepParts, read_step, settle_items, client_settled, settle_step, complete_step, own_resolve, after_asks}
 use Rattle.isolation_laws.specs.Words.{ClientAt}
 use Rattle.isolation_laws.specs.Quiet.{Quiet, AllQuiet}
-use Rattle.isolation_laws.proofs.Outcomes.{OfReadStepped, OfReadDropped, OfOutcome, OfOutcomeFailed, OfCompleted, MayHaveMarked, read_turn}
+use Rattle.isolation_laws.proofs.OutcomesOfWork.{MayHaveMarked, read_turn}
+use Rattle.isolation_laws.proofs.Outcomes.{OfReadStepped, OfReadDropped, OfOutcome, OfOutcomeFailed, OfCompleted}
 use Rattle.isolation_laws.proofs.InversionParts.{ComesTo, ComesBy, none_quiet, one_quiet}
 use Rattle.isolation_laws.proofs.InversionOfCalls.{NoList, step_quiet, failed_quiet, resolve_no_list, resolve_rows, resolve_marks}
 

@@ -16,7 +16,9 @@ use Rattle.machine.specs.Machine.{Step, with_post, with_client}
 use Rattle.isolation_laws.specs.Words.{InstanceAt, ClientAt}
 use Rattle.isolation_laws.specs.Quiet.{Quiet, AllQuiet}
 use Rattle.isolation_laws.proofs.Lookups.{set_same, instance_changed, held_set}
-use Rattle.isolation_laws.proofs.Outcomes.{Alike, AlikeNodes, AtOpen, Outcome, OfStill, left_by, told_by_outcome}
+use Rattle.isolation_laws.proofs.OutcomesOfRecord.{Alike, AlikeNodes}
+use Rattle.isolation_laws.proofs.OutcomesOfSessions.{AtOpen}
+use Rattle.isolation_laws.proofs.Outcomes.{Outcome, OfStill, left_by, told_by_outcome}
 
 -- the state and the items are those of an outcome
 abbrev pub ComesTo : (w : State) → State → List Item → Type 0

@@ -4,8 +4,11 @@ use Rattle.oracle_parts.specs.Instance.{InstanceEntry}
 use Rattle.machine.specs.State.{Client, State}
 use Rattle.isolation_laws.specs.Words.{epoch_or_none}
 use Rattle.isolation_laws.specs.Pending.{Waits, Taken, IsPending, Live}
-use Rattle.isolation_laws.proofs.Outcomes.{AskedCommit, asked_commit_state, Accepted, accepted_state, Drew, drew_state, AnsweredBegin, answered_begin_state}
-use Rattle.isolation_laws.proofs.PendingAfter.{FewerPending, pending_asked_commit, pending_accepted, pending_drew, fewer_answered_begin}
+use Rattle.isolation_laws.proofs.OutcomesOfRequests.{AskedCommit, asked_commit_state, Accepted, accepted_state}
+use Rattle.isolation_laws.proofs.OutcomesOfStamps.{Drew, drew_state, AnsweredBegin, answered_begin_state}
+use Rattle.isolation_laws.proofs.PendingAfter.{FewerPending}
+use Rattle.isolation_laws.proofs.PendingFewer.{fewer_answered_begin}
+use Rattle.isolation_laws.proofs.PendingMoved.{pending_asked_commit, pending_accepted, pending_drew}
 use Rattle.isolation_laws.proofs.OpenAfter.{FewerOpen, fewer_is_open, fewer_open_asked_commit, open_answered_begin}
 use Rattle.isolation_laws.proofs.RequestsOfMoves.{opens}
 

@@ -20,9 +20,12 @@ use Rattle.isolation_laws.proofs.RecordedCommits.{recorded_none}
 use Rattle.isolation_laws.proofs.MemoryStays.{SameMemory, remembered_same, remembered_set, remembered_ended, remembered_alike, RecordsNothing, nothing_quiet, nothing_push, nothing_more, nothing_twice, memory_same}
 use Rattle.isolation_laws.proofs.MemoryOfDraws.{memory_drew}
 use Rattle.isolation_laws.proofs.NumbersOfItems.{begin_is_no_draw, write_is_no_draw, read_is_no_draw, placed_is_no_draw}
-use Rattle.isolation_laws.proofs.RequestsOfItems.{wrote_open}
+use Rattle.isolation_laws.proofs.RequestsOfWrites.{wrote_open}
 use Rattle.isolation_laws.specs.Words.{epoch_or_none}
-use Rattle.isolation_laws.proofs.Outcomes.{Granted, granted_nodes, granted_state, Renewed, renewed_nodes, renewed_state, Extended, extended_nodes, extended_state, WroteOne, wrote_items, fetched_turn, read_turn, Outcome, OfStill, OfGranted, OfRenewed, OfExtended, OfCrashed, OfAskedBegin, OfAskedCommit, OfAccepted, OfEnded, OfDrew, OfPlaced, OfNotPlaced, OfAnsweredBegin, OfAnsweredCommit, OfEndedReadOnly, OfWrote, OfWriteFailed, OfAborted, OfVanished, OfHealed, OfFetched, OfReadDropped, OfReadStepped, OfOutcome, OfOutcomeFailed, OfCompleted, OfSweepOpened, OfSwept, OfSweepListed, OfSweepFailed, left_by, told_by_outcome}
+use Rattle.isolation_laws.proofs.OutcomesOfRecord.{Granted, granted_nodes, granted_state, Renewed, renewed_nodes, renewed_state, Extended, extended_nodes, extended_state}
+use Rattle.isolation_laws.proofs.OutcomesOfSessions.{WroteOne, wrote_items}
+use Rattle.isolation_laws.proofs.OutcomesOfWork.{fetched_turn, read_turn}
+use Rattle.isolation_laws.proofs.Outcomes.{Outcome, OfStill, OfGranted, OfRenewed, OfExtended, OfCrashed, OfAskedBegin, OfAskedCommit, OfAccepted, OfEnded, OfDrew, OfPlaced, OfNotPlaced, OfAnsweredBegin, OfAnsweredCommit, OfEndedReadOnly, OfWrote, OfWriteFailed, OfAborted, OfVanished, OfHealed, OfFetched, OfReadDropped, OfReadStepped, OfOutcome, OfOutcomeFailed, OfCompleted, OfSweepOpened, OfSwept, OfSweepListed, OfSweepFailed, left_by, told_by_outcome}
 
 -- ---- the record
 -- a new instance begins with empty buckets, and nothing was drawn in its term

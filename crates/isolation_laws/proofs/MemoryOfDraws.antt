@@ -21,8 +21,8 @@ use Rattle.machine.specs.State.{State}
 use Rattle.isolation_laws.specs.Words.{DrewCommit, written_keys, recorded, recorded_by}
 use Rattle.isolation_laws.specs.Memory.{AreRecorded, DrawnApart, MemoryFacts}
 use Rattle.isolation_laws.specs.Holds.{Holds}
-use Rattle.isolation_laws.proofs.Outcomes.{Drew, drew_state, drew_items}
-use Rattle.isolation_laws.proofs.Owners.{drawn_once}
+use Rattle.isolation_laws.proofs.OutcomesOfStamps.{Drew, drew_state, drew_items}
+use Rattle.isolation_laws.proofs.OnceEach.{drawn_once}
 use Rattle.isolation_laws.proofs.Pushed.{recorded-push}
 use Rattle.isolation_laws.proofs.RecordedCommits.{recorded_contains, recorded_rise, recorded_by_own, recorded_by_other, wrote_key}
 use Rattle.isolation_laws.proofs.MemoryStays.{unwritten}

@@ -20,7 +20,7 @@ use Rattle.isolation_laws.specs.Numbers.{AreRanges, AreDrawn, IsNewDraw, AreNewD
 use Rattle.isolation_laws.specs.Requests.{AreRequests, AreAccepted}
 use Rattle.isolation_laws.specs.Holds.{Holds}
 use Rattle.isolation_laws.proofs.Lookups.{held_by}
-use Rattle.isolation_laws.proofs.Outcomes.{Drew, drew_state, drew_items}
+use Rattle.isolation_laws.proofs.OutcomesOfStamps.{Drew, drew_state, drew_items}
 use Rattle.isolation_laws.proofs.NumbersStay.{begun_on, start_on, placed_on}
 use Rattle.isolation_laws.proofs.NumbersOfDraws.{start_drawn, commit_drawn, asker_of, draw_item_is, drew_cases, drew_room, drew_ranges, drew_leases}
 

@@ -29,9 +29,16 @@ use Rattle.isolation_laws.specs.Requests.{HaveBegun, AreRequests}
 use Rattle.isolation_laws.specs.Holds.{Holds}
 use Rattle.isolation_laws.proofs.Lookups.{held_by}
 use Rattle.isolation_laws.proofs.Owners.{has_drew}
-use Rattle.isolation_laws.proofs.Outcomes.{AskedBegin, AtDrawn, PlacedOne, AnsweredBegin, WroteOne, Fetched, ReadStepped, SweepListed, fetched_turn, read_turn, asked_begin_items, placed_items, answered_begin_items, wrote_items, fetched_items, read_stepped_items, sweep_listed_items, placed_state, asked_begin_state, answered_begin_state, Outcome, OfStill, OfGranted, OfRenewed, OfExtended, OfCrashed, OfAskedBegin, OfAskedCommit, OfAccepted, OfEnded, OfDrew, OfPlaced, OfNotPlaced, OfAnsweredBegin, OfAnsweredCommit, OfEndedReadOnly, OfWrote, OfWriteFailed, OfAborted, OfVanished, OfHealed, OfFetched, OfReadDropped, OfReadStepped, OfOutcome, OfOutcomeFailed, OfCompleted, OfSweepOpened, OfSwept, OfSweepListed, OfSweepFailed, left_by, told_by_outcome}
+use Rattle.isolation_laws.proofs.OutcomesOfRequests.{AskedBegin, asked_begin_items, asked_begin_state}
+use Rattle.isolation_laws.proofs.OutcomesOfStamps.{AtDrawn, PlacedOne, AnsweredBegin, placed_items, answered_begin_items, placed_state, answered_begin_state}
+use Rattle.isolation_laws.proofs.OutcomesOfSessions.{WroteOne, wrote_items}
+use Rattle.isolation_laws.proofs.OutcomesOfWork.{Fetched, ReadStepped, fetched_turn, read_turn, fetched_items, read_stepped_items}
+use Rattle.isolation_laws.proofs.OutcomesOfSweeps.{SweepListed, sweep_listed_items}
+use Rattle.isolation_laws.proofs.Outcomes.{Outcome, OfStill, OfGranted, OfRenewed, OfExtended, OfCrashed, OfAskedBegin, OfAskedCommit, OfAccepted, OfEnded, OfDrew, OfPlaced, OfNotPlaced, OfAnsweredBegin, OfAnsweredCommit, OfEndedReadOnly, OfWrote, OfWriteFailed, OfAborted, OfVanished, OfHealed, OfFetched, OfReadDropped, OfReadStepped, OfOutcome, OfOutcomeFailed, OfCompleted, OfSweepOpened, OfSwept, OfSweepListed, OfSweepFailed, left_by, told_by_outcome}
 use Rattle.isolation_laws.proofs.NumbersStay.{SameNumbers, IsNumberedAs, numbered_same, numbered_set, numbered_ended, numbered_alike, numbers_quiet}
-use Rattle.isolation_laws.proofs.NumbersOfRecord.{numbers_granted, numbers_renewed, numbers_extended}
+use Rattle.isolation_laws.proofs.NumbersOfTakes.{numbers_granted}
+use Rattle.isolation_laws.proofs.NumbersOfRenewals.{numbers_renewed}
+use Rattle.isolation_laws.proofs.NumbersOfRanges.{numbers_extended}
 use Rattle.isolation_laws.proofs.NewDraws.{numbers_drew}
 use Rattle.isolation_laws.proofs.NumbersOfItems.{NoDraw, begin_is_no_draw, write_is_no_draw, read_is_no_draw, placed_is_no_draw, drawn_push, new_push, FitsBegun, begun_push, fits_begin, fits_write, fits_read, fits_placed, placed_push, placed_fits}
 

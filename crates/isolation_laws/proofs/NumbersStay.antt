@@ -15,7 +15,7 @@ use Rattle.isolation_laws.specs.Words.{InstanceAt, Begun, DrewStart, DrewCommit}
 use Rattle.isolation_laws.specs.Quiet.{Quiet, AllQuiet}
 use Rattle.isolation_laws.specs.Numbers.{AreRanges, AreLeases, AreDrawn, IsNewDraw, AreNewDraws, AreBegun, ArePlaced, NumberFacts}
 use Rattle.isolation_laws.proofs.Lookups.{instance_changed, instance_ended}
-use Rattle.isolation_laws.proofs.Outcomes.{AlikeNodes}
+use Rattle.isolation_laws.proofs.OutcomesOfRecord.{AlikeNodes}
 use Rattle.isolation_laws.proofs.Pushed.{not_true, old_begin, old_draw, old_write, old_read, old_placed}
 
 -- ---- instances with the same numbers

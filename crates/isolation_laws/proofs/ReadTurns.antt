@@ -26,9 +26,10 @@ use Rattle.isolation_laws.specs.Reads.{SeesAll, IsResolvedTo, IsReading}
 use Rattle.isolation_laws.specs.Holds.{Holds}
 use Rattle.isolation_laws.proofs.StoresStay.{MarksStay, marks_put, marks_after, shadows_same}
 use Rattle.isolation_laws.proofs.ReadersRely.{RelyOn, sees_on, markable, open_now_begun}
-use Rattle.isolation_laws.proofs.Unwritten.{unwritten_same, rely_unwritten}
+use Rattle.isolation_laws.proofs.Calm.{calm_same}
 use Rattle.isolation_laws.proofs.ReadsStay.{same_comes}
 use Rattle.isolation_laws.proofs.SeesPassed.{LetsGo, goes_late, sees_rest, answer_first, TurnRight, OwnListed, over_right}
+use Rattle.isolation_laws.proofs.ReadsLonger.{rely_calm}
 
 -- what a turn of the resolve says of the version is true
 abbrev pub Tells : State → Pairs → List Item → ℕ → ℕ → ℕ → ℕ → SettleTurn → Type 0
@@ -106,7 +107,7 @@ tells_at w h s k b e cell cs LastLook holds o sees resolved = tells_look w h s k
 -- with more marks it sees the same
 pub sees_marked : (w : State) (h : List Item) (pairs : Pairs) (s b e k : ℕ) (cells : List Cell) → Holds w h → OpenAt w.clients s b e → MarksStay w.pairs pairs → SeesAll w.nodes w.pairs h b k cells → SeesAll w.nodes pairs h b k cells
 sees_marked w h pairs s b e k cells holds o marks sees =
-    let rely : RelyOn w h w.nodes w.rows pairs h = rely_unwritten w h h w.nodes w.rows pairs (unwritten_same h) (same_comes w h) (shadows_same h w.rows) marks in
+    let rely : RelyOn w h w.nodes w.rows pairs h = rely_calm w h h w.nodes w.rows pairs (calm_same h) (same_comes w h) (shadows_same h w.rows) marks in
     sees_on w h w.nodes w.rows pairs h s b k cells rely (open_now_begun w h s b e holds o) sees
 
 passes_on : (w : State) (h : List Item) (pairs : Pairs) (r : Reading) → Holds w h → OwnListed h r.start r.key → LetsGo w.nodes pairs h r.start r.cell.version → SeesAll w.nodes pairs h r.start r.key (r.cell ∷ r.older) → TurnRight w h pairs r.start r.epoch r.key (read_over r.key r.start r.epoch r.older)

@@ -21,7 +21,7 @@ use Rattle.isolation_laws.specs.Pending.{ComesBelow, IsPending}
 use Rattle.isolation_laws.specs.UnderWay.{HasShadow}
 use Rattle.isolation_laws.specs.Reads.{IsCovered, SeesAll, IsResolvedTo, IsReading, AreReading, Outlasts}
 use Rattle.isolation_laws.specs.Holds.{Holds}
-use Rattle.isolation_laws.proofs.Owners.{coming_is_markable}
+use Rattle.isolation_laws.proofs.ComingBelow.{coming_is_markable}
 use Rattle.isolation_laws.proofs.CommitsInFlight.{GoesOn}
 use Rattle.isolation_laws.proofs.NumbersKept.{open_begun}
 

@@ -26,14 +26,19 @@ use Rattle.isolation_laws.specs.Quiet.{AllQuiet}
 use Rattle.isolation_laws.specs.Reads.{ReadFacts}
 use Rattle.isolation_laws.specs.Holds.{Holds}
 use Rattle.isolation_laws.proofs.Lookups.{one_client}
-use Rattle.isolation_laws.proofs.Outcomes.{AtOpen, Accepted, accepted_state, PlacedOne, placed_state, placed_items, WroteOne, wrote_state, wrote_items, WriteFailed}
-use Rattle.isolation_laws.proofs.Owners.{begun_once, open_unplaced, accepts_now, begun_below_last}
+use Rattle.isolation_laws.proofs.OutcomesOfRequests.{Accepted, accepted_state}
+use Rattle.isolation_laws.proofs.OutcomesOfStamps.{PlacedOne, placed_state, placed_items}
+use Rattle.isolation_laws.proofs.OutcomesOfSessions.{AtOpen, WroteOne, wrote_state, wrote_items, WriteFailed}
+use Rattle.isolation_laws.proofs.OnceEach.{begun_once}
+use Rattle.isolation_laws.proofs.Owners.{open_unplaced, accepts_now, begun_below_last}
 use Rattle.isolation_laws.proofs.Pushed.{not_true, in_append, quiet_in, last_write-quiet}
-use Rattle.isolation_laws.proofs.PendingAfter.{FewerPending, fewer_comes, fewer_placed, comes_accepted}
+use Rattle.isolation_laws.proofs.PendingAfter.{FewerPending}
+use Rattle.isolation_laws.proofs.PendingFewer.{fewer_comes, fewer_settled}
+use Rattle.isolation_laws.proofs.PendingMoved.{comes_accepted}
 use Rattle.isolation_laws.proofs.CommitsInFlight.{goes_on}
 use Rattle.isolation_laws.proofs.NumbersKept.{in_flight_of, drawn_pending, drew_commit}
 use Rattle.isolation_laws.proofs.RequestsOfSettled.{Places, places}
-use Rattle.isolation_laws.proofs.RequestsOfItems.{wrote_open, wrote_not_pending, write_no_placed}
+use Rattle.isolation_laws.proofs.RequestsOfWrites.{wrote_open, wrote_not_pending, write_no_placed}
 use Rattle.isolation_laws.proofs.StoresStay.{ShadowsStay, marks_put, shadows_same, shadows_put}
 use Rattle.isolation_laws.proofs.ReadersRely.{WasComing, IsReader, IsWritten, RelyOn, open_now_begun, reading_kept, lasts_on, right_kept}
 use Rattle.isolation_laws.proofs.ClientsReading.{FewerReading, reading_fewer, idle_reads}
@@ -140,7 +145,7 @@ rely_placed w h k holds =
         | inl old ↦ inl old
         | inr new ↦ inr (placed_comes w h k b u d holds new.0 new.1 less)
       ];
-      comes = none_comes w h (placed_state w k).nodes (fewer_placed w k);
+      comes = none_comes w h (placed_state w k).nodes (fewer_settled w k.it k.by);
       marks = marks_put w.pairs k.it.start (CommittedMark k.it.commit);
       writes = λ u key written. placed_writes h k.items k.it.start k.it.commit u key k.quiet;
       shadows = shadows_same h w.rows;

@@ -16,9 +16,10 @@ use Rattle.isolation_laws.specs.Pending.{Stage, Taken, InFlight, Pending}
 use Rattle.isolation_laws.specs.Requests.{AreStarting, IsDrawnSoFar, ArePending, RequestFacts}
 use Rattle.isolation_laws.specs.Holds.{Holds}
 use Rattle.isolation_laws.proofs.Lookups.{held_by, held_set, instance_changed}
-use Rattle.isolation_laws.proofs.Owners.{begun_once, open_not_pending, so_far_unplaced}
-use Rattle.isolation_laws.proofs.Outcomes.{Drew, drew_instance, drew_state, drew_items}
-use Rattle.isolation_laws.proofs.PendingAfter.{IsOlder, IsDrawnNow as IsDrawnQ, pending_drew}
+use Rattle.isolation_laws.proofs.OnceEach.{begun_once}
+use Rattle.isolation_laws.proofs.Owners.{open_not_pending, so_far_unplaced}
+use Rattle.isolation_laws.proofs.OutcomesOfStamps.{Drew, drew_instance, drew_state, drew_items}
+use Rattle.isolation_laws.proofs.PendingMoved.{IsOlder, IsDrawnNow as IsDrawnQ, pending_drew}
 use Rattle.isolation_laws.proofs.NumbersKept.{open_begun}
 use Rattle.isolation_laws.proofs.ClientsAfter.{have_on, written_keys-no_write}
 use Rattle.isolation_laws.proofs.RequestsAfter.{requests_fewer}

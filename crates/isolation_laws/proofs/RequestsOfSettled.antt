@@ -20,13 +20,14 @@ use Rattle.isolation_laws.specs.Quiet.{AllQuiet}
 use Rattle.isolation_laws.specs.Requests.{ArePending, IsSettled, AreSettled, RequestFacts}
 use Rattle.isolation_laws.specs.Holds.{Holds}
 use Rattle.isolation_laws.proofs.Lookups.{held_by, held_set, one_held, instance_changed, one_instance}
-use Rattle.isolation_laws.proofs.Owners.{begun_once, has_drew}
-use Rattle.isolation_laws.proofs.Outcomes.{AtDrawn, PlacedOne, placed_state, placed_items, NotPlaced, not_placed_state}
-use Rattle.isolation_laws.proofs.PendingAfter.{StaysElsewhere, pending_placed, fewer_not_placed}
+use Rattle.isolation_laws.proofs.OnceEach.{begun_once}
+use Rattle.isolation_laws.proofs.Owners.{has_drew}
+use Rattle.isolation_laws.proofs.OutcomesOfStamps.{AtDrawn, PlacedOne, placed_state, placed_items, NotPlaced, not_placed_state}
+use Rattle.isolation_laws.proofs.PendingFewer.{StaysElsewhere, pending_settled, fewer_settled}
 use Rattle.isolation_laws.proofs.Pushed.{old_begin, old_draw, old_placed, written_keys-quiet}
 use Rattle.isolation_laws.proofs.ClientsAfter.{have_on, written_keys-no_write}
 use Rattle.isolation_laws.proofs.RequestsAfter.{requests_fewer}
-use Rattle.isolation_laws.proofs.Standing.{standing_placed, standing_not_placed, held_placed, held_not_placed}
+use Rattle.isolation_laws.proofs.Standing.{standing_settled, held_settled}
 use Rattle.isolation_laws.proofs.NumbersKept.{in_flight_of, drawn_pending, drew_commit}
 use Rattle.isolation_laws.proofs.CommitsInFlight.{GoesOn, pending_one, pending_on, are_pending, IsAcceptedNow, IsDrawnNow, SettledAt, SettledOne, settled_one, settled_on, are_settled, accepted_fewer, starting_fewer, open_fewer}
 use Rattle.isolation_laws.proofs.Silent.{Silent, silent_quiet}
@@ -162,7 +163,7 @@ placed_pending w h k holds =
     let g : List Item = h ++ placed_items w k in
     let all : Places h g k.it.start k.it.commit = places h k.items k.it.start k.it.commit k.quiet in
     are_pending (placed_state w k).nodes g (λ q p.
-    let stays : StaysElsewhere w.nodes k.it.node k.it.session q = pending_placed w k q p in
+    let stays : StaysElsewhere w.nodes k.it.node k.it.session q = pending_settled w k.it k.by q p in
     pending_on h g q all.on (record {
       alone = record {
         undrawn = λ drew. places_drawn h g k.it.start k.it.commit q.start all drew;
@@ -177,11 +178,11 @@ requests_placed w h k holds =
     let all : Places h g k.it.start k.it.commit = places h k.items k.it.start k.it.commit k.quiet in
     record {
       have_begun = have_on w.clients h (placed_items w k) holds.requests.have_begun;
-      requests = requests_fewer w.nodes (placed_state w k).nodes w.clients (held_placed w k) holds.requests.requests;
-      starting = starting_fewer w.nodes (placed_state w k).nodes h g (standing_placed IsDrawnNow w k (λ is. is)) all.on (λ n s t r i at held begun. all.begun r t begun) holds.requests.starting;
+      requests = requests_fewer w.nodes (placed_state w k).nodes w.clients (held_settled w k.it k.by) holds.requests.requests;
+      starting = starting_fewer w.nodes (placed_state w k).nodes h g (standing_settled IsDrawnNow w k.it k.by (λ is. is)) all.on (λ n s t r i at held begun. all.begun r t begun) holds.requests.starting;
       pending = placed_pending w h k holds;
       settled = placed_settled w h k holds;
-      accepted = accepted_fewer w.nodes (placed_state w k).nodes (standing_placed IsAcceptedNow w k (λ is. is)) holds.requests.accepted;
+      accepted = accepted_fewer w.nodes (placed_state w k).nodes (standing_settled IsAcceptedNow w k.it k.by (λ is. is)) holds.requests.accepted;
       opened = open_fewer w.clients w.clients h g (λ s t e o. o) (λ s t e o drew. places_drawn h g k.it.start k.it.commit t all drew) holds.requests.opened;
       keys = record { written = λ s t c at is start. holds.requests.keys.written s t c at is start ∙ sym (all.keys t); some = holds.requests.keys.some };
     }
@@ -197,14 +198,14 @@ requests_not_placed w h k holds =
     let silent : Silent h g = silent_quiet h k.items k.quiet in
     record {
       have_begun = have_silent w.clients h g silent holds.requests.have_begun;
-      requests = requests_fewer w.nodes (not_placed_state w k).nodes w.clients (held_not_placed w k) holds.requests.requests;
-      starting = starting_silent w.nodes (not_placed_state w k).nodes h g silent (standing_not_placed IsDrawnNow w k (λ is. is)) holds.requests.starting;
-      pending = pending_silent w.nodes (not_placed_state w k).nodes h g silent (fewer_not_placed w k) holds.requests.pending;
+      requests = requests_fewer w.nodes (not_placed_state w k).nodes w.clients (held_settled w k.it k.by) holds.requests.requests;
+      starting = starting_silent w.nodes (not_placed_state w k).nodes h g silent (standing_settled IsDrawnNow w k.it k.by (λ is. is)) holds.requests.starting;
+      pending = pending_silent w.nodes (not_placed_state w k).nodes h g silent (fewer_settled w k.it k.by) holds.requests.pending;
       settled = are_settled (not_placed_state w k).nodes g (λ n s t c by j at. elim (settled_now w k.it k.by n s t c by j at) [
         | inl now ↦ settled_here w h g k.it k.by n s t c by j.term silent.on holds (is_unplaced_so w h g k.it k.by k.by_is silent holds) now
         | inr was ↦ subst (λ term. SettledOne g n s term t c by) (sym was.2) (settled_on h g n s was.0.term t c by silent.on (λ d is placed. silent.placed t d placed) (settled_one w.nodes h n s t c by was.0 holds.requests.settled was.1))
       ]);
-      accepted = accepted_fewer w.nodes (not_placed_state w k).nodes (standing_not_placed IsAcceptedNow w k (λ is. is)) holds.requests.accepted;
+      accepted = accepted_fewer w.nodes (not_placed_state w k).nodes (standing_settled IsAcceptedNow w k.it k.by (λ is. is)) holds.requests.accepted;
       opened = open_silent w.clients w.clients h g silent (λ s t e o. o) holds.requests.opened;
       keys = keys_silent w.clients h g silent holds.requests.keys;
     }

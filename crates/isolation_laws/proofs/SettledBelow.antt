@@ -20,7 +20,8 @@ use Rattle.isolation_laws.specs.Pending.{InFlight, Has, Pending}
 use Rattle.isolation_laws.specs.Begins.{AreSettledBelow, IsPast}
 use Rattle.isolation_laws.specs.Holds.{Holds}
 use Rattle.isolation_laws.proofs.Lookups.{instance_changed, one_instance, heldby_changed, heldby_ended}
-use Rattle.isolation_laws.proofs.Outcomes.{Granted, granted_nodes, granted_state, Extended, extended_nodes, extended_state, Drew, drew_instance, drew_state, AnsweredBegin, answered_begin_state}
+use Rattle.isolation_laws.proofs.OutcomesOfRecord.{Granted, granted_nodes, granted_state, Extended, extended_nodes, extended_state}
+use Rattle.isolation_laws.proofs.OutcomesOfStamps.{Drew, drew_instance, drew_state, AnsweredBegin, answered_begin_state}
 use Rattle.isolation_laws.proofs.Owners.{begun_below_last, has_drew}
 use Rattle.isolation_laws.proofs.OpenAfter.{FewerOpen, open_answered_begin}
 use Rattle.isolation_laws.proofs.PendingAfter.{new_holds_none}

@@ -26,8 +26,8 @@ use Rattle.machine.specs.StoreSteps.{rows_after, pairs_after}
 use Rattle.isolation_laws.specs.Words.{Marked}
 use Rattle.isolation_laws.specs.UnderWay.{HasShadow, IsSweptAt}
 use Rattle.isolation_laws.specs.Holds.{Holds}
-use Rattle.isolation_laws.proofs.Outcomes.{MayHaveMarked, CompletedOne}
-use Rattle.isolation_laws.proofs.Owners.{one_commit}
+use Rattle.isolation_laws.proofs.OutcomesOfWork.{MayHaveMarked, CompletedOne}
+use Rattle.isolation_laws.proofs.OnceEach.{one_commit}
 
 -- ---- the table
 abbrev pub MarksStay : Pairs → Pairs → Type 0

@@ -30,7 +30,8 @@ use Rattle.isolation_laws.proofs.Lookups.{held_by, one_client}
 use Rattle.isolation_laws.proofs.Pushed.{last_write-quiet}
 use Rattle.isolation_laws.proofs.Owners.{not_in_flight, pending_unplaced}
 use Rattle.isolation_laws.proofs.OpenAfter.{crashed_at}
-use Rattle.isolation_laws.proofs.Outcomes.{Crashed, crashed_state, AskedBegin, asked_begin_state, asked_begin_items, AskedCommit, asked_commit_state, Ended, ended_state, AtDrawn, PlacedOne, placed_state, placed_items, AnsweredBegin, answered_begin_state, answered_begin_items, answered_client, AnsweredCommit, answered_commit_state}
+use Rattle.isolation_laws.proofs.OutcomesOfRequests.{Crashed, crashed_state, AskedBegin, asked_begin_state, asked_begin_items, AskedCommit, asked_commit_state, Ended, ended_state}
+use Rattle.isolation_laws.proofs.OutcomesOfStamps.{AtDrawn, PlacedOne, placed_state, placed_items, AnsweredBegin, answered_begin_state, answered_begin_items, answered_client, AnsweredCommit, answered_commit_state}
 use Rattle.isolation_laws.proofs.NumbersKept.{in_flight_of, drawn_pending}
 use Rattle.isolation_laws.proofs.RequestsOfSettled.{Places, places}
 use Rattle.isolation_laws.proofs.Calm.{Calm, calm_same, calm_quiet, calm_push, last_write-other}
@@ -59,7 +60,7 @@ under_way_crashed w h k holds = under_way_calm w h (h ++ k.items) (crashed_state
 
 -- ---- asks
 pub calm_ask : (h : List Item) (s n : ℕ) → Calm h (h ++ AskBegin s n ∷ [])
-calm_ask h s n = calm_push h (AskBegin s n) (λ r u j v is. cc) (λ u c is. cc)
+calm_ask h s n = calm_push h (AskBegin s n) (record { writes = λ u k. refl; placed = λ u c is. cc })
 
 pub under_way_asked_begin : (w : State) (h : List Item) (k : AskedBegin w) → Holds w h → UnderWayFacts (asked_begin_state w k).clients w.sweep w.rows w.pairs (h ++ asked_begin_items w k)
 under_way_asked_begin w h k holds = under_way_client w h (h ++ asked_begin_items w k) k.session (client_asked k.c) holds (calm_ask h k.session k.node) (works_asked w.rows h k.c)
@@ -109,7 +110,7 @@ under_way_ended w h k holds = under_way_client w h (h ++ k.items) k.session (aft
 
 -- ---- answers
 pub calm_begin : (h : List Item) (s t : ℕ) → Calm h (h ++ BeginItem s t ∷ [])
-calm_begin h s t = calm_push h (BeginItem s t) (λ r u j v is. cc) (λ u c is. cc)
+calm_begin h s t = calm_push h (BeginItem s t) (record { writes = λ u k. refl; placed = λ u c is. cc })
 
 pub under_way_answered_begin : (w : State) (h : List Item) (k : AnsweredBegin w) → Holds w h → UnderWayFacts (answered_begin_state w k).clients w.sweep w.rows w.pairs (h ++ answered_begin_items w k)
 under_way_answered_begin w h k holds = under_way_client w h (h ++ answered_begin_items w k) k.session (unless_gone k.c (client_begun k.c k.start k.i.epoch)) holds (calm_begin h k.session k.start)
@@ -145,7 +146,7 @@ is_placing h items t c quiet =
       placed = brings.placed;
       here = brings.here;
       writes = λ u k. subst (λ (g : List Item). last_write g u k ≡ last_write h u k) (append_assoc h (Placed t c ∷ []) items)
-          (last_write-quiet (h ++ Placed t c ∷ []) items u k quiet ∙ last_write-other h (Placed t c) u k (λ s v j value is. cc));
+          (last_write-quiet (h ++ Placed t c ∷ []) items u k quiet ∙ last_write-other h (Placed t c) u k refl);
     }
 
 -- the transaction in flight is no session's that completes, or whose outcome is open

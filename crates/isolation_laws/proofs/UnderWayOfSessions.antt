@@ -15,7 +15,8 @@ use Rattle.machine.specs.StoreSteps.{told_by}
 use Rattle.machine.specs.Events.Fetch.{client_read}
 use Rattle.isolation_laws.specs.UnderWay.{UnderWayFacts}
 use Rattle.isolation_laws.specs.Holds.{Holds}
-use Rattle.isolation_laws.proofs.Outcomes.{EndedReadOnly, read_only_state, Aborted, aborted_state, Vanished, vanished_state, Healed, healed_state, Fetched, fetched_turn, fetched_state, fetched_items, ReadDropped, read_dropped_state, ReadStepped, read_turn, read_stepped_state, read_stepped_items}
+use Rattle.isolation_laws.proofs.OutcomesOfSessions.{EndedReadOnly, read_only_state, Aborted, aborted_state, Vanished, vanished_state, Healed, healed_state}
+use Rattle.isolation_laws.proofs.OutcomesOfWork.{Fetched, fetched_turn, fetched_state, fetched_items, ReadDropped, read_dropped_state, ReadStepped, read_turn, read_stepped_state, read_stepped_items}
 use Rattle.isolation_laws.proofs.Calm.{calm_same, calm_quiet, calm_turn}
 use Rattle.isolation_laws.proofs.Works.{Works, KeepsPlaced}
 use Rattle.isolation_laws.proofs.ClientWorks.{works_freed, works_vanished, works_aborted, plain_open, works_plain, plain_reading, TurnHeals, read_over_heals, works_read}

@@ -1,14 +1,11 @@
--- Sessions and requests where a begin is answered, and where a value is written; and every outcome.
-use Rattle.std.proofs.Common.{◌≡◌, ℕ, IsTrue, List, [], ◌∷◌, ◌++◌, Some, None, ◌⊎◌, inl, inr, refl, sym, ◌∙◌, ap, subst, arith}
-use Rattle.std.proofs.lemmas.Bool.{cases_eq}
+-- Sessions and requests where a begin is answered.
+use Rattle.std.proofs.Common.{[], ◌≡◌, ℕ, IsTrue, List, ◌∷◌, ◌++◌, Some, None, ◌⊎◌, inl, inr, refl, sym, ◌∙◌, ap, subst, arith}
 use Rattle.std.proofs.lemmas.Option.{same_Some}
-use Rattle.history_book.specs.Isolation.{Committed}
 use Rattle.history_book.specs.declared.item.Item.{Item}
-use Rattle.history_book.specs.declared.item.Item.TheVariants.{Begin, Draw, Write, Placed}
+use Rattle.history_book.specs.declared.item.Item.TheVariants.{Begin, Draw, Placed}
 use Rattle.history_book.proofs.MemberLemmas.{in_front, in_last, in_push, in_old}
-use Rattle.client_parts.specs.declared.session.State.{State as SessionState}
 use Rattle.client_parts.specs.declared.session.State.TheVariants as phase
-use Rattle.client_parts.specs.SessionSteps.{has_transaction, key_added}
+use Rattle.client_parts.specs.SessionSteps.{has_transaction}
 use Rattle.oracle_parts.specs.declared.instance.Progress.TheVariants as progress
 use Rattle.oracle_parts.specs.declared.instance.Request.{Request}
 use Rattle.oracle_parts.specs.declared.instance.Request.TheVariants.{Begin as BeginRequest}
@@ -16,21 +13,19 @@ use Rattle.oracle_parts.specs.Instance.{InstanceEntry, session_of}
 use Rattle.oracle_parts.specs.InstanceSteps.{without_request}
 use Rattle.machine.specs.State.{Client, State}
 use Rattle.machine.specs.Clients.{client_begun, unless_gone}
-use Rattle.machine.specs.Events.Write.{client_wrote}
-use Rattle.isolation_laws.specs.Words.{InstanceAt, HeldBy, ClientAt, epoch_or_none, OpenAt, Begun, DrewStart, HasDrawn, written_keys}
-use Rattle.isolation_laws.specs.Pending.{IsPending}
-use Rattle.isolation_laws.specs.Requests.{AreKeys, HasAsked, RequestFacts}
+use Rattle.isolation_laws.specs.Words.{InstanceAt, HeldBy, Begun, DrewStart, HasDrawn, written_keys}
+use Rattle.isolation_laws.specs.Requests.{HasAsked, RequestFacts}
 use Rattle.isolation_laws.specs.Holds.{Holds}
-use Rattle.isolation_laws.proofs.Lookups.{held_by, client_set, instance_changed, heldby_ended}
-use Rattle.isolation_laws.proofs.Owners.{begun_once, drawn_once, open_not_pending}
-use Rattle.isolation_laws.proofs.Outcomes.{AnsweredBegin, answered_begin_state, answered_begin_items, WroteOne, wrote_state, wrote_items}
-use Rattle.isolation_laws.proofs.PendingAfter.{fewer_answered_begin}
-use Rattle.isolation_laws.proofs.OpenAfter.{gone_cases, open_answered_begin, fewer_open_wrote}
-use Rattle.isolation_laws.proofs.NumbersKept.{open_begun, drew_start}
-use Rattle.isolation_laws.proofs.ClientsAfter.{BegunClient, begun_set, begun_kept, have_on, KeysClient, keys_client, keys_set, written_keys-no_write, written_keys-own, written_keys-other, written_keys-none}
-use Rattle.isolation_laws.proofs.RequestsAfter.{requests_over, requests_idle, open_waits}
-use Rattle.isolation_laws.proofs.Standing.{standing_same, standing_over}
-use Rattle.isolation_laws.proofs.CommitsInFlight.{GoesOn, goes_on, pending_fewer, IsSettledNow, IsAcceptedNow, IsDrawnNow, settled_fewer, accepted_fewer, starting_fewer, open_fewer}
+use Rattle.isolation_laws.proofs.Lookups.{held_by, instance_changed, heldby_ended}
+use Rattle.isolation_laws.proofs.OnceEach.{drawn_once}
+use Rattle.isolation_laws.proofs.OutcomesOfStamps.{AnsweredBegin, answered_begin_state, answered_begin_items}
+use Rattle.isolation_laws.proofs.PendingFewer.{fewer_answered_begin}
+use Rattle.isolation_laws.proofs.OpenAfter.{gone_cases, open_answered_begin}
+use Rattle.isolation_laws.proofs.NumbersKept.{drew_start}
+use Rattle.isolation_laws.proofs.ClientsAfter.{BegunClient, begun_set, have_on, KeysClient, keys_client, keys_set, written_keys-no_write, written_keys-none}
+use Rattle.isolation_laws.proofs.RequestsAfter.{requests_over}
+use Rattle.isolation_laws.proofs.Standing.{standing_over}
+use Rattle.isolation_laws.proofs.CommitsInFlight.{GoesOn, goes_on, pending_fewer, IsSettledNow, IsAcceptedNow, IsDrawnNow, settled_fewer, accepted_fewer}
 
 -- ---- a begin that is answered
 begin_is : (r u s t : ℕ) → Begin r u ≡ Begin s t → (r ≡ s) × (u ≡ t)
@@ -62,7 +57,7 @@ begin_held w h k holds = record {
 start_unbegun : (w : State) (h : List Item) (k : AnsweredBegin w) (r : ℕ) → Holds w h → Begun h r k.start → ⊥
 start_unbegun w h k r holds begun = holds.requests.starting.unbegun k.node k.session k.start r k.i k.at (begin_held w h k holds) begun
 
-open_not_asked : HasAsked phase.Open → ⊥
+pub open_not_asked : HasAsked phase.Open → ⊥
 open_not_asked (inl is) = cc
 open_not_asked (inr is) = cc
 
@@ -151,75 +146,4 @@ requests_answered_begin w h k holds =
         written = λ s t c at is start. holds.requests.keys.written s t c at is start ∙ sym (begin_writes_none h k.session k.start t);
         some = holds.requests.keys.some;
       });
-    }
-
--- ---- a value that is written
-wrote_begun : (w : State) (h : List Item) (k : WroteOne w) → Holds w h → Begun h k.it.session k.start
-wrote_begun w h k holds = open_begun w.clients h k.it.session k.start k.it.c holds.requests.have_begun k.it.client_at k.it.is_open k.start_is
-
-pub wrote_open : (w : State) (k : WroteOne w) → OpenAt w.clients k.it.session k.start (epoch_or_none k.it.c.entry.epoch)
-wrote_open w k = record { client = k.it.c; at = k.it.client_at; state_is = k.it.is_open; start_is = k.start_is; epoch_is = refl }
-
--- no commit in flight is of the transaction that writes
-pub wrote_not_pending : (w : State) (h : List Item) (k : WroteOne w) → Holds w h → IsPending w.nodes k.start → ⊥
-wrote_not_pending w h k holds p = open_not_pending w.nodes w.clients h k.it.session k.start (epoch_or_none k.it.c.entry.epoch) holds.isolated.stamped holds.requests.requests holds.requests.pending (wrote_begun w h k holds) (wrote_open w k) p
-
-write_no_begin : (h : List Item) (s t k : ℕ) (value : List ℕ) (r u : ℕ) → Begun (h ++ Write s t k value ∷ []) r u → Begun h r u
-write_no_begin h s t k value r u m = in_old (Begin r u) (Write s t k value) h (λ is. cc) m
-
-write_no_drawn : (h : List Item) (s t k : ℕ) (value : List ℕ) (u : ℕ) → HasDrawn (h ++ Write s t k value ∷ []) u → HasDrawn h u
-write_no_drawn h s t k value u (r, n, term, c, m) = (r, n, term, c, in_old (Draw r n term u (Some c)) (Write s t k value) h (λ is. cc) m)
-
-pub write_no_placed : (h : List Item) (s t k : ℕ) (value : List ℕ) (u c : ℕ) → Committed (h ++ Write s t k value ∷ []) u c → Committed h u c
-write_no_placed h s t k value u c m = in_old (Placed u c) (Write s t k value) h (λ is. cc) m
-
-has_in : (state : SessionState) → (state ≡ phase.Open) ⊎ HasAsked state → IsTrue (has_transaction state)
-has_in state (inl is) = subst (λ s. IsTrue (has_transaction s)) (sym is) refl
-has_in state (inr (inl is)) = subst (λ s. IsTrue (has_transaction s)) (sym is) refl
-has_in state (inr (inr is)) = subst (λ s. IsTrue (has_transaction s)) (sym is) refl
-
-has_begun_so : (w : State) (h : List Item) (s t : ℕ) (c : Client) → Holds w h → ClientAt w.clients s c → (c.entry.state ≡ phase.Open) ⊎ HasAsked c.entry.state → c.entry.start ≡ Some t → Begun h s t
-has_begun_so w h s t c holds at is start =
-    let begun = holds.requests.have_begun.begun s c at (has_in c.entry.state is) in
-    subst (Begun h s) (same_Some begun.0 t (sym begun.1 ∙ start)) begun.2
-
-open_not_asked_so : (state : SessionState) → state ≡ phase.Open → HasAsked state → ⊥
-open_not_asked_so state is asked = open_not_asked (subst HasAsked is asked)
-
-wrote_keys : (w : State) (h : List Item) (k : WroteOne w) → Holds w h → AreKeys (wrote_state w k).clients (h ++ wrote_items w k)
-wrote_keys w h k holds =
-    let g : List Item = h ++ wrote_items w k in
-    record {
-      written = λ s t c at is start. elim (client_set w.clients k.it.session s (client_wrote k.it.c k.key) c at) [
-        | inl here ↦
-            let same : t ≡ k.start = same_Some t k.start (sym start ∙ (ap (λ x. x.entry.start) here.1 ∙ k.start_is)) in
-            ap (λ x. x.entry.keys) here.1 ∙ (ap (λ ks. key_added ks k.key) (holds.requests.keys.written k.it.session k.start k.it.c k.it.client_at (inl k.it.is_open) k.start_is)
-            ∙ (sym (written_keys-own h k.it.session k.start k.key k.value) ∙ ap (written_keys g) (sym same)))
-        | inr there ↦ elim (cases_eq k.start t) [
-          | inl mine ↦ absurd (there.0 (begun_once h s k.it.session t holds.isolated.stamped (has_begun_so w h s t c holds there.1 is start) (subst (Begun h k.it.session) mine (wrote_begun w h k holds))))
-          | inr other ↦ holds.requests.keys.written s t c there.1 is start ∙ sym (written_keys-other h k.it.session k.start t k.key k.value other)
-        ]
-      ];
-      some = λ s c at asked. elim (client_set w.clients k.it.session s (client_wrote k.it.c k.key) c at) [
-        | inl here ↦ absurd (open_not_asked_so k.it.c.entry.state k.it.is_open (subst (λ (x : Client). HasAsked x.entry.state) here.1 asked))
-        | inr there ↦ holds.requests.keys.some s c there.1 asked
-      ];
-    }
-
-pub requests_wrote : (w : State) (h : List Item) (k : WroteOne w) → Holds w h → RequestFacts w.nodes (wrote_state w k).clients (h ++ wrote_items w k)
-requests_wrote w h k holds =
-    let g : List Item = h ++ wrote_items w k in
-    let on : GoesOn h g = goes_on h (wrote_items w k) in
-    record {
-      have_begun = have_on (wrote_state w k).clients h (wrote_items w k) (begun_kept w.clients h k.it.session k.it.c (client_wrote k.it.c k.key) k.it.client_at (λ has. (has, refl)) holds.requests.have_begun);
-      requests = requests_idle w.nodes w.clients k.it.session k.it.c (client_wrote k.it.c k.key) phase.Open k.it.client_at k.it.is_open open_waits holds.requests.requests;
-      starting = starting_fewer w.nodes w.nodes h g (standing_same IsDrawnNow w.nodes) on (λ n s t r i at held begun. write_no_begin h k.it.session k.start k.key k.value r t begun) holds.requests.starting;
-      pending = pending_fewer w.nodes w.nodes h g (λ q p. p) on (λ q p. record {
-        alone = record { undrawn = write_no_drawn h k.it.session k.start k.key k.value q.start; unplaced = λ c placed. write_no_placed h k.it.session k.start k.key k.value q.start c placed };
-        keys = written_keys-other h k.it.session k.start q.start k.key k.value (λ same. wrote_not_pending w h k holds (record { coming = q; pending = p; start_is = sym same }));
-      }) holds.requests.pending;
-      settled = settled_fewer w.nodes w.nodes h g (standing_same IsSettledNow w.nodes) on (λ n s t c d i at placed. write_no_placed h k.it.session k.start k.key k.value t d placed) holds.requests.settled;
-      accepted = holds.requests.accepted;
-      opened = open_fewer w.clients (wrote_state w k).clients h g (fewer_open_wrote w k) (λ s t e o drew. write_no_drawn h k.it.session k.start k.key k.value t drew) holds.requests.opened;
-      keys = wrote_keys w h k holds;
     }
