@@ -13,7 +13,7 @@ use Rattle.machine.specs.Machine.{Step, at_post, at_client, at_both, stepped, Mo
 use Rattle.isolation_laws.specs.Holds.{Holds}
 use Rattle.isolation_laws.specs.Sound.{Sound, Stands}
 use Rattle.isolation_laws.proofs.Outcomes.{Outcome, OfStill, left_by, told_by_outcome}
-use Rattle.isolation_laws.proofs.NumbersKept.{numbers_kept}
+use Rattle.isolation_laws.proofs.NumbersOfAll.{numbers_kept}
 use Rattle.isolation_laws.proofs.RequestsOfAll.{requests_kept}
 use Rattle.isolation_laws.proofs.MemoryKept.{memory_kept}
 use Rattle.isolation_laws.proofs.CellsKept.{cells_kept}

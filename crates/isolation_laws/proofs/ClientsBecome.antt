@@ -13,7 +13,7 @@ use Rattle.machine.specs.Clients.{client_freed, client_aborted, client_committed
 use Rattle.machine.specs.Events.Crash.{after_loss}
 use Rattle.isolation_laws.specs.Requests.{WaitsFor}
 use Rattle.isolation_laws.proofs.OutcomesOfStamps.{answered_client}
-use Rattle.isolation_laws.proofs.OpenAfter.{gone_cases}
+use Rattle.isolation_laws.proofs.ClientsOpen.{gone_cases}
 use Rattle.isolation_laws.proofs.ClientsAfter.{KeepsStart, has_by, aborted_keeps, committed_keeps, opened_keeps, freed_keeps, KeysClient, keys_aborted, keys_freed, keys_committed, keys_opened}
 
 -- ---- the client of a request that is lost, refused or answered

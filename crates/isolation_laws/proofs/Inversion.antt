@@ -30,8 +30,10 @@ use Rattle.isolation_laws.specs.Words.{ClientAt}
 use Rattle.isolation_laws.specs.Holds.{Holds}
 use Rattle.isolation_laws.specs.Sound.{Sound}
 use Rattle.isolation_laws.proofs.InversionParts.{ComesTo, ComesBy, none_quiet, one_quiet, still, still_all, nodes_same}
-use Rattle.isolation_laws.proofs.InversionOfSessions.{for_client, for_cells, abort_at, vanish_at, write_at, fetch_at, heal_at_client}
-use Rattle.isolation_laws.proofs.InversionOfRecord.{for_record, take_at, renew_at_post, extend_at_post}
+use Rattle.isolation_laws.proofs.InversionOfSessions.{for_client, for_cells, abort_at, vanish_at, write_at, heal_at_client}
+use Rattle.isolation_laws.proofs.InversionOfFetches.{fetch_at}
+use Rattle.isolation_laws.proofs.InversionOfRecord.{for_record, take_at, renew_at_post}
+use Rattle.isolation_laws.proofs.InversionOfExtensions.{extend_at_post}
 use Rattle.isolation_laws.proofs.InversionOfAsks.{for_clients, crash_at, for_ask, ask_begin_at, ask_commit_at}
 use Rattle.isolation_laws.proofs.InversionOfRequests.{for_request, accept_at, decide_at}
 use Rattle.isolation_laws.proofs.InversionOfAnswers.{for_table, put_at, answer_at}

@@ -10,6 +10,7 @@ pub mod Pushed
 pub mod PendingAfter
 pub mod PendingFewer
 pub mod PendingMoved
+pub mod ClientsOpen
 pub mod OpenAfter
 pub mod OnceEach
 pub mod Owners
@@ -20,9 +21,11 @@ pub mod NumbersOfTakes
 pub mod NumbersOfRenewals
 pub mod NumbersOfRanges
 pub mod NumbersOfDraws
+pub mod NewStamps
 pub mod NewDraws
 pub mod NumbersOfItems
 pub mod NumbersKept
+pub mod NumbersOfAll
 pub mod ClientsAfter
 pub mod RequestsAfter
 pub mod CommitsInFlight
@@ -34,6 +37,7 @@ pub mod RequestsOfNodes
 pub mod RequestsOfClients
 pub mod RequestsOfMoves
 pub mod RequestsOfDraws
+pub mod SettledNow
 pub mod RequestsOfSettled
 pub mod RequestsOfBegins
 pub mod RequestsOfWrites
@@ -78,7 +82,9 @@ pub mod ReadsOfReads
 pub mod ReadsKept
 pub mod InversionParts
 pub mod InversionOfSessions
+pub mod InversionOfFetches
 pub mod InversionOfRecord
+pub mod InversionOfExtensions
 pub mod InversionOfAsks
 pub mod InversionOfRequests
 pub mod InversionOfAnswers
@@ -90,6 +96,7 @@ pub mod Inversion
 pub mod InversionSound
 pub mod IsolatedItems
 pub mod IsolatedStamps
+pub mod OpeningSessions
 pub mod Opening
 pub mod AlwaysHolds
 pub mod NeverPlaced

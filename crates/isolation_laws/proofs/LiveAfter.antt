@@ -9,7 +9,8 @@ use Rattle.isolation_laws.proofs.OutcomesOfStamps.{Drew, drew_state, AnsweredBeg
 use Rattle.isolation_laws.proofs.PendingAfter.{FewerPending}
 use Rattle.isolation_laws.proofs.PendingFewer.{fewer_answered_begin}
 use Rattle.isolation_laws.proofs.PendingMoved.{pending_asked_commit, pending_accepted, pending_drew}
-use Rattle.isolation_laws.proofs.OpenAfter.{FewerOpen, fewer_is_open, fewer_open_asked_commit, open_answered_begin}
+use Rattle.isolation_laws.proofs.ClientsOpen.{FewerOpen}
+use Rattle.isolation_laws.proofs.OpenAfter.{fewer_is_open, fewer_open_asked_commit, open_answered_begin}
 use Rattle.isolation_laws.proofs.RequestsOfMoves.{opens}
 
 abbrev pub FewerLive : List Client → List (Option InstanceEntry) → List Client → List (Option InstanceEntry) → Type 0

@@ -27,7 +27,8 @@ use Rattle.isolation_laws.proofs.Pushed.{recorded-push}
 use Rattle.isolation_laws.proofs.RecordedCommits.{recorded_contains, recorded_rise, recorded_by_own, recorded_by_other, wrote_key}
 use Rattle.isolation_laws.proofs.MemoryStays.{unwritten}
 use Rattle.isolation_laws.proofs.NumbersOfDraws.{start_drawn, commit_drawn, asker_of, draw_item_is, drew_cases, drew_room}
-use Rattle.isolation_laws.proofs.NewDraws.{new_draw, drew_or, drew_within}
+use Rattle.isolation_laws.proofs.NewStamps.{new_draw, drew_within}
+use Rattle.isolation_laws.proofs.NewDraws.{drew_or}
 use Rattle.isolation_laws.proofs.RequestsOfDraws.{drew_keys, DrawsFor, draws_commit, drawing, drawing_pending}
 
 -- ---- what the draw records

@@ -25,7 +25,7 @@ use Rattle.isolation_laws.specs.Reads.{IsReading, Outlasts, AreLastingReads}
 use Rattle.isolation_laws.specs.Holds.{Holds}
 use Rattle.isolation_laws.proofs.OutcomesOfWork.{Fetched, fetched_turn, fetched_state, fetched_items, ReadStepped, read_turn, read_stepped_state, read_stepped_items}
 use Rattle.isolation_laws.proofs.Pushed.{not_true, in_append}
-use Rattle.isolation_laws.proofs.OpenAfter.{read_keeps_entry}
+use Rattle.isolation_laws.proofs.ClientsOpen.{read_keeps_entry}
 use Rattle.isolation_laws.proofs.ClientsReading.{nothing_reads}
 use Rattle.isolation_laws.proofs.StoresStay.{MarksStay, marks_same, marks_after, shadows_same}
 use Rattle.isolation_laws.proofs.Calm.{Calm, calm_quiet, calm_turn}

@@ -37,7 +37,7 @@ use Rattle.isolation_laws.proofs.PendingFewer.{fewer_comes, fewer_settled}
 use Rattle.isolation_laws.proofs.PendingMoved.{comes_accepted}
 use Rattle.isolation_laws.proofs.CommitsInFlight.{goes_on}
 use Rattle.isolation_laws.proofs.NumbersKept.{in_flight_of, drawn_pending, drew_commit}
-use Rattle.isolation_laws.proofs.RequestsOfSettled.{Places, places}
+use Rattle.isolation_laws.proofs.SettledNow.{Places, places}
 use Rattle.isolation_laws.proofs.RequestsOfWrites.{wrote_open, wrote_not_pending, write_no_placed}
 use Rattle.isolation_laws.proofs.StoresStay.{ShadowsStay, marks_put, shadows_same, shadows_put}
 use Rattle.isolation_laws.proofs.ReadersRely.{WasComing, IsReader, IsWritten, RelyOn, open_now_begun, reading_kept, lasts_on, right_kept}

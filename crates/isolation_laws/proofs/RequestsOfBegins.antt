@@ -20,7 +20,8 @@ use Rattle.isolation_laws.proofs.Lookups.{held_by, instance_changed, heldby_ende
 use Rattle.isolation_laws.proofs.OnceEach.{drawn_once}
 use Rattle.isolation_laws.proofs.OutcomesOfStamps.{AnsweredBegin, answered_begin_state, answered_begin_items}
 use Rattle.isolation_laws.proofs.PendingFewer.{fewer_answered_begin}
-use Rattle.isolation_laws.proofs.OpenAfter.{gone_cases, open_answered_begin}
+use Rattle.isolation_laws.proofs.ClientsOpen.{gone_cases}
+use Rattle.isolation_laws.proofs.OpenAfter.{open_answered_begin}
 use Rattle.isolation_laws.proofs.NumbersKept.{drew_start}
 use Rattle.isolation_laws.proofs.ClientsAfter.{BegunClient, begun_set, have_on, KeysClient, keys_client, keys_set, written_keys-no_write, written_keys-none}
 use Rattle.isolation_laws.proofs.RequestsAfter.{requests_over}

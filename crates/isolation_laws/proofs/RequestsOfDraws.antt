@@ -26,7 +26,8 @@ use Rattle.isolation_laws.proofs.RequestsAfter.{requests_fewer}
 use Rattle.isolation_laws.proofs.Standing.{standing_drew, held_drew}
 use Rattle.isolation_laws.proofs.CommitsInFlight.{goes_on, StaysPending, PendingOne, pending_one, pending_on, are_pending, IsSettledNow, IsAcceptedNow, settled_fewer, accepted_fewer, open_fewer}
 use Rattle.isolation_laws.proofs.NumbersOfDraws.{start_drawn, commit_drawn, asker_of, draw_item_is, drew_room}
-use Rattle.isolation_laws.proofs.NewDraws.{older_stamp, new_draw, drew_taken, drew_begun_old, drew_placed_old}
+use Rattle.isolation_laws.proofs.NewStamps.{older_stamp, new_draw, drew_taken}
+use Rattle.isolation_laws.proofs.NewDraws.{drew_begun_old, drew_placed_old}
 
 -- ---- what the draw brings
 write_is_draw : (s u k : ℕ) (v : List ℕ) (r n term t : ℕ) (c : Option ℕ) → Draw r n term t c ≡ Write s u k v → ⊥

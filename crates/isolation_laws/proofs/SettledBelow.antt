@@ -23,7 +23,8 @@ use Rattle.isolation_laws.proofs.Lookups.{instance_changed, one_instance, heldby
 use Rattle.isolation_laws.proofs.OutcomesOfRecord.{Granted, granted_nodes, granted_state, Extended, extended_nodes, extended_state}
 use Rattle.isolation_laws.proofs.OutcomesOfStamps.{Drew, drew_instance, drew_state, AnsweredBegin, answered_begin_state}
 use Rattle.isolation_laws.proofs.Owners.{begun_below_last, has_drew}
-use Rattle.isolation_laws.proofs.OpenAfter.{FewerOpen, open_answered_begin}
+use Rattle.isolation_laws.proofs.ClientsOpen.{FewerOpen}
+use Rattle.isolation_laws.proofs.OpenAfter.{open_answered_begin}
 use Rattle.isolation_laws.proofs.PendingAfter.{new_holds_none}
 use Rattle.isolation_laws.proofs.NumbersKept.{drew_start}
 use Rattle.isolation_laws.proofs.NumbersStay.{SameNumbers}

@@ -33,7 +33,7 @@ use Rattle.isolation_laws.proofs.OpenAfter.{crashed_at}
 use Rattle.isolation_laws.proofs.OutcomesOfRequests.{Crashed, crashed_state, AskedBegin, asked_begin_state, asked_begin_items, AskedCommit, asked_commit_state, Ended, ended_state}
 use Rattle.isolation_laws.proofs.OutcomesOfStamps.{AtDrawn, PlacedOne, placed_state, placed_items, AnsweredBegin, answered_begin_state, answered_begin_items, answered_client, AnsweredCommit, answered_commit_state}
 use Rattle.isolation_laws.proofs.NumbersKept.{in_flight_of, drawn_pending}
-use Rattle.isolation_laws.proofs.RequestsOfSettled.{Places, places}
+use Rattle.isolation_laws.proofs.SettledNow.{Places, places}
 use Rattle.isolation_laws.proofs.Calm.{Calm, calm_same, calm_quiet, calm_push, last_write-other}
 use Rattle.isolation_laws.proofs.CellsMove.{IsPlacing}
 use Rattle.isolation_laws.proofs.Works.{Works, AllWork, under_way, KeepsPlaced, works_on, sweeping_on}
