@@ -16,8 +16,8 @@ use Rattle.isolation_laws.proofs.OutcomesOfRecord.{Renewed, renewed_nodes}
 use Rattle.isolation_laws.proofs.OutcomesOfWork.{fetched_turn, read_turn}
 use Rattle.isolation_laws.proofs.Outcomes.{Outcome, OfStill, OfGranted, OfRenewed, OfExtended, OfCrashed, OfAskedBegin, OfAskedCommit, OfAccepted, OfEnded, OfDrew, OfPlaced, OfNotPlaced, OfAnsweredBegin, OfAnsweredCommit, OfEndedReadOnly, OfWrote, OfWriteFailed, OfAborted, OfVanished, OfHealed, OfFetched, OfReadDropped, OfReadStepped, OfOutcome, OfOutcomeFailed, OfCompleted, OfSweepOpened, OfSwept, OfSweepListed, OfSweepFailed, left_by, told_by_outcome}
 use Rattle.isolation_laws.proofs.Lookups.{instance_changed}
-use Rattle.isolation_laws.proofs.NumbersStay.{SameNumbers, IsNumberedAs, numbered_same, numbered_set, numbered_ended, numbered_alike}
-use Rattle.isolation_laws.proofs.ClientsOpen.{FewerOpen}
+use Rattle.isolation_laws.proofs.NumbersStay.{SameNumbers, IsNumberedAs, numbered_same, numbered_set, numbered_ended, numbered_alike, numbered}
+use Rattle.isolation_laws.proofs.ClientsOpen.{FewerOpen, same_open}
 use Rattle.isolation_laws.proofs.OpenAfter.{fewer_open_crashed, fewer_open_asked_begin, fewer_open_asked_commit, fewer_open_ended, fewer_open_answered_commit, fewer_open_read_only, fewer_open_wrote, fewer_open_write_failed, fewer_open_aborted, fewer_open_vanished, fewer_open_healed, fewer_open_fetched, fewer_open_dropped, fewer_open_read, fewer_open_outcome, fewer_open_outcome_failed, fewer_open_completed}
 use Rattle.isolation_laws.proofs.CommitsInFlight.{FewerStanding, IsAcceptedNow, IsDrawnNow}
 use Rattle.isolation_laws.proofs.RequestsAfter.{FewerHeld, held_ended_at, held_changed, held_over}
@@ -49,15 +49,9 @@ begins_stay w h items clients opens none holds = begins_on w h items w.nodes cli
 begins_alone : (w : State) (h items : List Item) (clients : List Client) → FewerOpen w.clients clients → AllQuiet items → Holds w h → BeginFacts clients w.nodes (h ++ items)
 begins_alone w h items clients opens quiet holds = begins_stay w h items clients opens (λ s. quiet_no_ask s items quiet) holds
 
-same_open : (clients : List Client) → FewerOpen clients clients
-same_open clients s t e o = o
-
 -- a request is over
 over : (nodes : List (Option InstanceEntry)) (n s : ℕ) (i : InstanceEntry) → InstanceAt nodes n i → Fewer nodes (slice_set nodes n (Some (without_request i s)))
 over nodes n s i at = record { held = held_changed nodes n i (without_request i s) at (held_over i s); accepted = standing_over IsAcceptedNow nodes n s i at; drawn = standing_over IsDrawnNow nodes n s i at }
-
-numbered : (i j : InstanceEntry) → j.term ≡ i.term → j.epoch ≡ i.epoch → j.last ≡ i.last → j.ceiling ≡ i.ceiling → j.until ≡ i.until → IsNumberedAs i j
-numbered i j term epoch last ceiling until = record { term = term; epoch = epoch; last = last; ceiling = ceiling; until = until }
 
 at_node : (w : State) (n : ℕ) (i j : InstanceEntry) → InstanceAt w.nodes n i → j.term ≡ i.term → j.epoch ≡ i.epoch → j.last ≡ i.last → j.ceiling ≡ i.ceiling → j.until ≡ i.until → SameNumbers w.nodes (slice_set w.nodes n (Some j))
 at_node w n i j at term epoch last ceiling until = numbered_set w.nodes n i j at (numbered i j term epoch last ceiling until)

@@ -2,7 +2,6 @@
 use Rattle.std.proofs.Common.{◌≡◌, ℕ, List, [], ◌∷◌, ◌++◌, append_assoc, Some, None, inl, inr, refl, sym, ◌∙◌, ap, subst}
 use Rattle.std.specs.Option.{option_or}
 use Rattle.std.proofs.lemmas.List.{append-nil}
-use Rattle.std.proofs.lemmas.List.Elements.{All-nil, All-cons}
 use Rattle.std.proofs.lemmas.Bool.{cases_eq, eq-eqb, ne_eqb}
 use Rattle.history_book.specs.Isolation.{Committed, last_write, written_by, WasListed}
 use Rattle.history_book.specs.declared.item.StoreStep.TheVariants.{Keys}
@@ -16,7 +15,7 @@ use Rattle.oracle_parts.specs.declared.instance.Request.TheVariants.{Begin as Be
 use Rattle.machine.specs.Events.Decide.{draw_item}
 use Rattle.machine.specs.Events.Fetch.{found_of, read_items}
 use Rattle.isolation_laws.specs.Quiet.{Quiet, AllQuiet}
-use Rattle.isolation_laws.proofs.Pushed.{old_placed, last_write-quiet}
+use Rattle.isolation_laws.proofs.Pushed.{old_placed, last_write-quiet, one_quiet}
 use Rattle.isolation_laws.proofs.CommitsInFlight.{GoesOn, goes_on}
 
 pub record Calm (h g : List Item) : Type 0 where
@@ -76,7 +75,7 @@ calm_read h s b k (Answers a) = calm_push h (Read s b k (found_of a.found)) (rec
 -- a quiet item, and what a read has come to
 pub calm_turn : (h : List Item) (x : Item) (s b k : ℕ) (turn : ReadTurn) → Quiet x → Calm h (h ++ x ∷ read_items s b k turn)
 calm_turn h x s b k turn quiet =
-    let one : Calm h (h ++ x ∷ []) = calm_quiet h (x ∷ []) (All-cons Quiet x [] quiet (All-nil Quiet)) in
+    let one : Calm h (h ++ x ∷ []) = calm_quiet h (x ∷ []) (one_quiet x quiet) in
     subst (λ g. Calm h g) (append_assoc h (x ∷ []) (read_items s b k turn)) (calm_more h (h ++ x ∷ []) ((h ++ x ∷ []) ++ read_items s b k turn) one (calm_read (h ++ x ∷ []) s b k turn))
 
 -- ---- a write

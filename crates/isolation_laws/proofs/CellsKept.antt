@@ -26,7 +26,7 @@ use Rattle.isolation_laws.proofs.OutcomesOfWork.{read_turn, fetched_turn}
 use Rattle.isolation_laws.proofs.Outcomes.{Outcome, OfStill, OfGranted, OfRenewed, OfExtended, OfCrashed, OfAskedBegin, OfAskedCommit, OfAccepted, OfEnded, OfDrew, OfPlaced, OfNotPlaced, OfAnsweredBegin, OfAnsweredCommit, OfEndedReadOnly, OfWrote, OfWriteFailed, OfAborted, OfVanished, OfHealed, OfFetched, OfReadDropped, OfReadStepped, OfOutcome, OfOutcomeFailed, OfCompleted, OfSweepOpened, OfSwept, OfSweepListed, OfSweepFailed, left_by, told_by_outcome}
 use Rattle.isolation_laws.proofs.PendingFewer.{fewer_still, fewer_granted, fewer_renewed, fewer_extended, fewer_crashed, fewer_asked_begin, fewer_ended_one, fewer_settled, fewer_answered_commit}
 use Rattle.isolation_laws.proofs.OpenAfter.{fewer_open_crashed, fewer_open_asked_begin, fewer_open_ended, fewer_open_answered_commit, fewer_open_read_only, fewer_open_aborted, fewer_open_vanished, fewer_open_healed, fewer_open_fetched, fewer_open_dropped, fewer_open_read, fewer_open_outcome, fewer_open_outcome_failed, fewer_open_completed}
-use Rattle.isolation_laws.proofs.RequestsOfBegins.{begin_held}
+use Rattle.isolation_laws.proofs.RequestsOfBegins.{begin_held, start_unbegun}
 use Rattle.isolation_laws.proofs.LiveAfter.{FewerLive, fewer_live, same_live, live_by_clients, live_by_nodes, live_asked_commit, live_accepted, live_drew, live_answered_begin}
 use Rattle.isolation_laws.proofs.Calm.{Calm, calm_none, calm_quiet, calm_turn, calm_draw}
 use Rattle.isolation_laws.proofs.WrittenKeys.{last_write-none}
@@ -53,18 +53,15 @@ pub calm_drew : (w : State) (h : List Item) (k : Drew w) → Calm h (h ++ drew_i
 calm_drew w h k = calm_draw h k.node k.i.term k.held.request (k.i.last + 1)
 
 -- ---- a begin is answered: its transaction has neither rows nor writes
-pub start_begun : (w : State) (h : List Item) (k : AnsweredBegin w) (s : ℕ) → Holds w h → Begun h s k.start → ⊥
-start_begun w h k s holds begun = holds.requests.starting.unbegun k.node k.session k.start s k.i k.at (begin_held w h k holds) begun
-
 start_no_row : (w : State) (h : List Item) (k : AnsweredBegin w) (j : ℕ) → Holds w h → looked w.rows j k.start ≡ None
 start_no_row w h k j holds = by (looked w.rows j k.start) refl
   where
     by : (found : Option Cell) → looked w.rows j k.start ≡ found → looked w.rows j k.start ≡ None
     by None e = e
-    by (Some cell) e = let was = holds.cells.rows_are.begun j k.start cell e in absurd (start_begun w h k was.0 holds was.1)
+    by (Some cell) e = let was = holds.cells.rows_are.begun j k.start cell e in absurd (start_unbegun w h k was.0 holds was.1)
 
 start_no_write : (w : State) (h : List Item) (k : AnsweredBegin w) (j : ℕ) → Holds w h → last_write h k.start j ≡ None
-start_no_write w h k j holds = last_write-none h k.start j (λ s value m. let was = holds.numbers.begun.writes s k.start j value m in start_begun w h k was.0 holds was.1)
+start_no_write w h k j holds = last_write-none h k.start j (λ s value m. let was = holds.numbers.begun.writes s k.start j value m in start_unbegun w h k was.0 holds was.1)
 
 cells_answered_begin : (w : State) (h : List Item) (k : AnsweredBegin w) → Holds w h → CellFacts (answered_begin_state w k).clients (answered_begin_state w k).nodes w.rows w.pairs (h ++ answered_begin_items w k)
 cells_answered_begin w h k holds = cells_calm w.clients (answered_begin_state w k).clients w.nodes (answered_begin_state w k).nodes w.rows w.pairs h (h ++ answered_begin_items w k)

@@ -117,3 +117,6 @@ read_keeps_entry c (Answers a) = refl
 
 pub read_opens : (c : Client) (turn : ReadTurn) → OpensNothing c (client_read c turn)
 read_opens c turn = let same = read_keeps_entry c turn in inr (ap (λ e. e.state) same, ap (λ e. e.start) same, ap (λ e. e.epoch) same)
+
+pub same_open : (clients : List Client) → FewerOpen clients clients
+same_open clients s t e o = o

@@ -29,7 +29,7 @@ use Rattle.machine.specs.Events.SweepOpen.{sweep_open_on}
 use Rattle.isolation_laws.specs.Words.{ClientAt}
 use Rattle.isolation_laws.specs.Holds.{Holds}
 use Rattle.isolation_laws.specs.Sound.{Sound}
-use Rattle.isolation_laws.proofs.InversionParts.{ComesTo, ComesBy, none_quiet, one_quiet, still, still_all, nodes_same}
+use Rattle.isolation_laws.proofs.InversionParts.{ComesTo, ComesBy, none_quiet, still, still_all, nodes_same}
 use Rattle.isolation_laws.proofs.InversionOfSessions.{for_client, for_cells, abort_at, vanish_at, write_at, heal_at_client}
 use Rattle.isolation_laws.proofs.InversionOfFetches.{fetch_at}
 use Rattle.isolation_laws.proofs.InversionOfRecord.{for_record, take_at, renew_at_post}
@@ -40,6 +40,8 @@ use Rattle.isolation_laws.proofs.InversionOfAnswers.{for_table, put_at, answer_a
 use Rattle.isolation_laws.proofs.InversionOfSteps.{for_stores}
 use Rattle.isolation_laws.proofs.InversionOfWork.{step_at_client}
 use Rattle.isolation_laws.proofs.InversionOfSweeps.{for_sweep, sweep_open_at_post, sweep_step_at}
+use Rattle.isolation_laws.proofs.Orders.{max_left}
+use Rattle.isolation_laws.proofs.Pushed.{one_quiet}
 
 -- ---- what names no node or session does nothing
 nothing_done : (w : State) (seen : ℕ) → w.seen ≤ seen → ComesTo w (record w { seen = seen }) []
@@ -47,9 +49,6 @@ nothing_done w seen up = still w seen w.nodes (record w { seen = seen }) [] up (
 
 nothing_at_all : (w : State) → ComesTo w w []
 nothing_at_all w = still_all w w [] none_quiet refl
-
-max_left : (a b : ℕ) → a ≤ max a b
-max_left a b = omega arith
 
 -- ---- the parts that an event looks up
 post_comes : (w left : State) (node : ℕ) (f : Option InstanceEntry → Step) → ComesTo w left [] → ((post : Option InstanceEntry) → slice_get w.nodes node ≡ Some post → ComesBy w (f post)) → (found : Option (Option InstanceEntry)) → slice_get w.nodes node ≡ found → ComesBy w (at_post left found f)

@@ -24,8 +24,9 @@ use Rattle.machine.specs.Events.Extend.{extend_by, extend_on}
 use Rattle.isolation_laws.specs.Words.{InstanceAt}
 use Rattle.isolation_laws.specs.Quiet.{AllQuiet}
 use Rattle.isolation_laws.proofs.Outcomes.{OfExtended}
-use Rattle.isolation_laws.proofs.InversionParts.{ComesTo, ComesBy, one_quiet, two_quiet, refusal_quiet, still, still_post, nodes_alike}
+use Rattle.isolation_laws.proofs.InversionParts.{ComesTo, ComesBy, two_quiet, refusal_quiet, still, still_post, nodes_alike}
 use Rattle.isolation_laws.proofs.InversionOfRecord.{for_record, alike_stopped, put_back}
+use Rattle.isolation_laws.proofs.Pushed.{one_quiet}
 
 -- ---- extend
 if_room : {E : Type 0} (own spent : Bool) (full other : E) → (if own then (if spent then Some full else None) else Some other) ≡ None → (own ≡ true) × (spent ≡ false)

@@ -16,8 +16,9 @@ use Rattle.machine.specs.Machine.{with_client}
 use Rattle.machine.specs.Events.Fetch.{fetch_by, fetch_open, fetch_on}
 use Rattle.isolation_laws.specs.Words.{ClientAt}
 use Rattle.isolation_laws.proofs.Outcomes.{OfFetched, OfReadDropped}
-use Rattle.isolation_laws.proofs.InversionParts.{ComesTo, ComesBy, none_quiet, one_quiet, refusal_quiet, still_client}
+use Rattle.isolation_laws.proofs.InversionParts.{ComesTo, ComesBy, none_quiet, refusal_quiet, still_client}
 use Rattle.isolation_laws.proofs.InversionOfSessions.{for_client, work_open, open_by_work}
+use Rattle.isolation_laws.proofs.Pushed.{one_quiet}
 
 -- ---- fetch
 fetch_failed : (w : State) (session : ℕ) (c : Client) → ClientAt w.clients session c → work_refusal c.entry.state (is_reading c) ≡ None → ComesTo w (with_client w session (record c { heal = None })) (item.Fault (Session session) Cells ∷ [])

@@ -31,14 +31,13 @@ use Rattle.isolation_laws.specs.Sound.{StopOf}
 use Rattle.isolation_laws.proofs.Lookups.{set_same}
 use Rattle.isolation_laws.proofs.OutcomesOfRecord.{Alike}
 use Rattle.isolation_laws.proofs.Outcomes.{OfGranted, OfRenewed}
-use Rattle.isolation_laws.proofs.InversionParts.{ComesTo, ComesBy, one_quiet, two_quiet, refusal_quiet, still, still_post, nodes_alike}
+use Rattle.isolation_laws.proofs.InversionParts.{ComesTo, ComesBy, two_quiet, refusal_quiet, still, still_post, nodes_alike}
+use Rattle.isolation_laws.proofs.Orders.{max_left}
+use Rattle.isolation_laws.proofs.Pushed.{one_quiet}
 
 -- the effect on a node and the master record
 abbrev pub for_record : State → ℕ → Effect (Option InstanceEntry × MasterRecord) → Step
 for_record w node effect = step_by effect (λ (p : Option InstanceEntry × MasterRecord). record (with_post w node p.0) { master = p.1 })
-
-max_at_least : (a b : ℕ) → a ≤ max a b
-max_at_least a b = omega arith
 
 -- the instance keeps a refusal of the master record
 stop_kept : (old : Option Cause) (why : Cause) → IsStop why → StopOf old → StopOf (option_or old (Some why))
@@ -64,7 +63,7 @@ put_back w node seen post master at = ap (λ (nodes : List (Option InstanceEntry
 -- ---- take
 -- nothing was granted
 take_still : (w : State) (node reading : ℕ) (items : List Item) → slice_get w.nodes node ≡ Some None → AllQuiet items → ComesTo w (record (with_post (with_reading w reading) node None) { master = w.master }) items
-take_still w node reading items vacant quiet = still_post w node (max w.seen reading) None items vacant (max_at_least w.seen reading) quiet
+take_still w node reading items vacant quiet = still_post w node (max w.seen reading) None items vacant (max_left w.seen reading) quiet
 
 take_why : (w : State) (node reading : ℕ) (fate : Fate) → slice_get w.nodes node ≡ Some None → (why : Option TakeRefused) → take_refused (rules_of w.setup) w.master reading ≡ why → let grant : Grant = granted (rules_of w.setup) w.master reading in ComesBy w (for_record (with_reading w reading) node (take_by w.setup node reading (fated fate w.master (unless_refused why w.master (held_by node grant))) (kept_items fate why (take_item node reading grant ∷ [])) (answered fate take.StoreFault why grant)))
 take_why w node reading Works vacant None free = (
@@ -101,7 +100,7 @@ take_why w node reading FailsApplied vacant (Some why) free = take_still w node 
 
 pub take_at : (w : State) (node reading : ℕ) (fate : Fate) (post : Option InstanceEntry) → slice_get w.nodes node ≡ Some post → ComesBy w (for_record (with_reading w reading) node (take_on w.setup node reading fate post w.master))
 take_at w node reading fate None at = take_why w node reading fate at (take_refused (rules_of w.setup) w.master reading) refl
-take_at w node reading fate (Some i) at = still_post w node (max w.seen reading) (Some i) _ at (max_at_least w.seen reading) (refusal_quiet (Node node) (cause.Holding i.term))
+take_at w node reading fate (Some i) at = still_post w node (max w.seen reading) (Some i) _ at (max_left w.seen reading) (refusal_quiet (Node node) (cause.Holding i.term))
 
 -- ---- renew
 -- the record has the instance's term where it refuses nothing
@@ -114,7 +113,7 @@ renew_own r term go = eqb-true r.term term (if_own (r.term == term) (renew.Repla
 
 -- nothing was renewed
 renew_still : (w : State) (node reading : ℕ) (i : InstanceEntry) (items : List Item) → InstanceAt w.nodes node i → AllQuiet items → ComesTo w (record (with_post (with_reading w reading) node (Some i)) { master = w.master }) items
-renew_still w node reading i items at quiet = still_post w node (max w.seen reading) (Some i) items at (max_at_least w.seen reading) quiet
+renew_still w node reading i items at quiet = still_post w node (max w.seen reading) (Some i) items at (max_left w.seen reading) quiet
 
 renew_why : (w : State) (node reading : ℕ) (fate : Fate) (i : InstanceEntry) → InstanceAt w.nodes node i → (why : Option RenewRefused) → renew_refused w.master i.term ≡ why → let until : ℕ = renewed_until (rules_of w.setup) w.master reading in ComesBy w (for_record (with_reading w reading) node (renew_by node reading i (fated fate w.master (unless_refused why w.master (record w.master { until = until }))) (kept_items fate why (item.Renew node reading i.term until ∷ [])) (answered fate renew.StoreFault why until)))
 renew_why w node reading Works i at None free = (
@@ -133,7 +132,7 @@ renew_why w node reading Works i at None free = (
 )
 renew_why w node reading Works i at (Some renew.StoreFault) free = renew_still w node reading i _ at (one_quiet (item.Fault (Node node) Master) refl)
 renew_why w node reading Works i at (Some (renew.Replaced found)) free =
-    still w (max w.seen reading) (slice_set w.nodes node (Some (instance_stopped i (cause.Replaced found)))) _ _ (max_at_least w.seen reading) (nodes_alike w.nodes node i (instance_stopped i (cause.Replaced found)) at (alike_stopped i (cause.Replaced found) tt)) (refusal_quiet (Node node) (cause.Replaced found)) refl
+    still w (max w.seen reading) (slice_set w.nodes node (Some (instance_stopped i (cause.Replaced found)))) _ _ (max_left w.seen reading) (nodes_alike w.nodes node i (instance_stopped i (cause.Replaced found)) at (alike_stopped i (cause.Replaced found) tt)) (refusal_quiet (Node node) (cause.Replaced found)) refl
 renew_why w node reading FailsUnchanged i at why free = renew_still w node reading i _ at (one_quiet (item.Fault (Node node) Master) refl)
 renew_why w node reading FailsApplied i at None free = (
   OfRenewed (record {
@@ -152,5 +151,5 @@ renew_why w node reading FailsApplied i at None free = (
 renew_why w node reading FailsApplied i at (Some why) free = renew_still w node reading i _ at (one_quiet (item.Fault (Node node) Master) refl)
 
 pub renew_at_post : (w : State) (node reading : ℕ) (fate : Fate) (post : Option InstanceEntry) → slice_get w.nodes node ≡ Some post → ComesBy w (for_record (with_reading w reading) node (renew_on w.setup node reading fate post w.master))
-renew_at_post w node reading fate None at = still_post w node (max w.seen reading) None _ at (max_at_least w.seen reading) (refusal_quiet (Node node) (cause.NoOracle node))
+renew_at_post w node reading fate None at = still_post w node (max w.seen reading) None _ at (max_left w.seen reading) (refusal_quiet (Node node) (cause.NoOracle node))
 renew_at_post w node reading fate (Some i) at = renew_why w node reading fate i at (renew_refused w.master i.term) refl

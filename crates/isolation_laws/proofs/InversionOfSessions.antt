@@ -27,7 +27,8 @@ use Rattle.isolation_laws.specs.Words.{ClientAt}
 use Rattle.isolation_laws.specs.Quiet.{AllQuiet}
 use Rattle.isolation_laws.proofs.OutcomesOfSessions.{AtOpen}
 use Rattle.isolation_laws.proofs.Outcomes.{OfAborted, OfVanished, OfWrote, OfWriteFailed, OfHealed}
-use Rattle.isolation_laws.proofs.InversionParts.{ComesTo, ComesBy, none_quiet, one_quiet, two_quiet, refusal_quiet, still_client, at_open}
+use Rattle.isolation_laws.proofs.InversionParts.{ComesTo, ComesBy, none_quiet, two_quiet, refusal_quiet, still_client, at_open}
+use Rattle.isolation_laws.proofs.Pushed.{one_quiet}
 
 -- the effect on a client, and on the cells with it
 abbrev pub for_client : State → ℕ → Effect Client → Step

@@ -26,8 +26,9 @@ use Rattle.isolation_laws.specs.Words.{ClientAt}
 use Rattle.isolation_laws.specs.Quiet.{Quiet, AllQuiet}
 use Rattle.isolation_laws.proofs.OutcomesOfWork.{MayHaveMarked, read_turn}
 use Rattle.isolation_laws.proofs.Outcomes.{OfReadStepped, OfReadDropped, OfOutcome, OfOutcomeFailed, OfCompleted}
-use Rattle.isolation_laws.proofs.InversionParts.{ComesTo, ComesBy, none_quiet, one_quiet}
+use Rattle.isolation_laws.proofs.InversionParts.{ComesTo, ComesBy, none_quiet}
 use Rattle.isolation_laws.proofs.InversionOfCalls.{NoList, step_quiet, failed_quiet, resolve_no_list, resolve_rows, resolve_marks}
+use Rattle.isolation_laws.proofs.Pushed.{one_quiet}
 
 -- the effect on a client and the stores
 abbrev pub for_stores : State → ℕ → Effect StepParts → Step

@@ -5,6 +5,7 @@ pub mod OutcomesOfSessions
 pub mod OutcomesOfWork
 pub mod OutcomesOfSweeps
 pub mod Outcomes
+pub mod Orders
 pub mod Lookups
 pub mod Pushed
 pub mod PendingAfter

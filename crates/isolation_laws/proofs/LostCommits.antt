@@ -26,7 +26,7 @@ use Rattle.isolation_laws.specs.Holds.{Holds}
 use Rattle.isolation_laws.specs.Sound.{Stands}
 use Rattle.isolation_laws.specs.Laws.{IsLost}
 use Rattle.isolation_laws.proofs.Lookups.{instance_ended}
-use Rattle.isolation_laws.proofs.Pushed.{old_placed}
+use Rattle.isolation_laws.proofs.Pushed.{old_placed, one_quiet}
 use Rattle.isolation_laws.proofs.OnceEach.{begun_once}
 use Rattle.isolation_laws.proofs.Owners.{open_not_pending, pending_unplaced, has_held}
 use Rattle.isolation_laws.proofs.OutcomesOfRequests.{Crashed, crashed_state}
@@ -34,7 +34,6 @@ use Rattle.isolation_laws.proofs.OutcomesOfStamps.{AtDrawn, NotPlaced, not_place
 use Rattle.isolation_laws.proofs.NumbersKept.{open_begun}
 use Rattle.isolation_laws.proofs.PendingFewer.{fewer_crashed, pending_settled}
 use Rattle.isolation_laws.proofs.OpenAfter.{fewer_open_crashed, fewer_is_open}
-use Rattle.isolation_laws.proofs.InversionParts.{one_quiet}
 use Rattle.isolation_laws.proofs.InversionOfAsks.{for_clients, all_crashed_quiet}
 use Rattle.isolation_laws.proofs.InversionOfAnswers.{for_table, put_settled}
 

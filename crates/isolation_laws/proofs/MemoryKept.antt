@@ -26,6 +26,7 @@ use Rattle.isolation_laws.proofs.OutcomesOfRecord.{Granted, granted_nodes, grant
 use Rattle.isolation_laws.proofs.OutcomesOfSessions.{WroteOne, wrote_items}
 use Rattle.isolation_laws.proofs.OutcomesOfWork.{fetched_turn, read_turn}
 use Rattle.isolation_laws.proofs.Outcomes.{Outcome, OfStill, OfGranted, OfRenewed, OfExtended, OfCrashed, OfAskedBegin, OfAskedCommit, OfAccepted, OfEnded, OfDrew, OfPlaced, OfNotPlaced, OfAnsweredBegin, OfAnsweredCommit, OfEndedReadOnly, OfWrote, OfWriteFailed, OfAborted, OfVanished, OfHealed, OfFetched, OfReadDropped, OfReadStepped, OfOutcome, OfOutcomeFailed, OfCompleted, OfSweepOpened, OfSwept, OfSweepListed, OfSweepFailed, left_by, told_by_outcome}
+use Rattle.isolation_laws.proofs.Pushed.{one_quiet}
 
 -- ---- the record
 -- a new instance begins with empty buckets, and nothing was drawn in its term
@@ -73,7 +74,7 @@ read_nothing h s b k (Answers a) = nothing_push h (Read s b k (found_of a.found)
 first_then : (h : List Item) (x : Item) (s b k : ℕ) (turn : ReadTurn) → Quiet x → RecordsNothing h (h ++ x ∷ read_items s b k turn)
 first_then h x s b k turn quiet =
     subst (λ all. RecordsNothing h all) (append_assoc h (x ∷ []) (read_items s b k turn))
-    (nothing_twice h (h ++ x ∷ []) ((h ++ x ∷ []) ++ read_items s b k turn) (nothing_quiet h (x ∷ []) (All-cons Quiet x [] quiet (All-nil Quiet))) (read_nothing (h ++ x ∷ []) s b k turn))
+    (nothing_twice h (h ++ x ∷ []) ((h ++ x ∷ []) ++ read_items s b k turn) (nothing_quiet h (x ∷ []) (one_quiet x quiet)) (read_nothing (h ++ x ∷ []) s b k turn))
 
 on_read : (w : State) (h : List Item) (x : Item) (s b k : ℕ) (turn : ReadTurn) → Quiet x → Holds w h → MemoryFacts w.setup w.nodes (h ++ x ∷ read_items s b k turn)
 on_read w h x s b k turn quiet holds = memory_same w.setup w.nodes w.nodes h (h ++ x ∷ read_items s b k turn) (remembered_same w.nodes) (first_then h x s b k turn quiet) holds.memory

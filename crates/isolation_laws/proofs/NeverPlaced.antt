@@ -27,9 +27,9 @@ use Rattle.isolation_laws.proofs.StoresStay.{MarksStay, marks_put, marks_after, 
 use Rattle.isolation_laws.proofs.PendingFewer.{fewer_still, fewer_granted, fewer_renewed, fewer_extended, fewer_crashed, fewer_asked_begin, fewer_ended_one, fewer_settled, fewer_answered_commit}
 use Rattle.isolation_laws.proofs.OpenAfter.{fewer_open_crashed, fewer_open_asked_begin, fewer_open_ended, fewer_open_answered_commit, fewer_open_read_only, fewer_open_wrote, fewer_open_write_failed, fewer_open_aborted, fewer_open_vanished, fewer_open_healed, fewer_open_fetched, fewer_open_dropped, fewer_open_read, fewer_open_outcome, fewer_open_outcome_failed, fewer_open_completed}
 use Rattle.isolation_laws.proofs.LiveAfter.{fewer_live, live_by_clients, live_by_nodes, live_asked_commit, live_accepted, live_drew, live_answered_begin}
-use Rattle.isolation_laws.proofs.CellsKept.{start_begun}
 use Rattle.isolation_laws.proofs.NumbersKept.{in_flight_of, drawn_pending}
 use Rattle.isolation_laws.proofs.AlwaysHolds.{comes_by, facts_stay, steady_now, steady_stays}
+use Rattle.isolation_laws.proofs.RequestsOfBegins.{start_unbegun}
 
 -- ---- what an outcome places
 placed_same : (t c u d : ℕ) → Placed t c ≡ Placed u d → t ≡ u
@@ -85,7 +85,7 @@ live_kept w h (OfPlaced k) s t holds begun live = live_by_nodes w.clients w.node
 live_kept w h (OfNotPlaced k) s t holds begun live = live_by_nodes w.clients w.nodes _ (fewer_settled w k.it k.by) t live
 live_kept w h (OfAnsweredBegin k) s t holds begun live = elim (live_answered_begin w k t live) [
   | inl old ↦ old
-  | inr now ↦ absurd (start_begun w h k s holds (subst (Begun h s) now begun))
+  | inr now ↦ absurd (start_unbegun w h k s holds (subst (Begun h s) now begun))
 ]
 live_kept w h (OfAnsweredCommit k) s t holds begun live = fewer_live w.clients _ w.nodes _ (fewer_open_answered_commit w k) (fewer_answered_commit w k) t live
 live_kept w h (OfEndedReadOnly k) s t holds begun live = live_by_clients w.clients _ w.nodes (fewer_open_read_only w k) t live

@@ -16,8 +16,8 @@ use Rattle.isolation_laws.specs.Numbers.{AreDrawn, IsNewDraw, AreNewDraws, AreBe
 use Rattle.isolation_laws.specs.Holds.{Holds}
 use Rattle.isolation_laws.proofs.OutcomesOfStamps.{Drew, drew_state, drew_items}
 use Rattle.isolation_laws.proofs.NumbersStay.{begun_on, start_on, placed_on}
-use Rattle.isolation_laws.proofs.NumbersOfDraws.{start_drawn, commit_drawn, asker_of, draw_item_is, drew_cases, drew_room, drew_ranges, drew_leases}
-use Rattle.isolation_laws.proofs.NewStamps.{new_draw, drew_taken, start_above, stamp_is, new_now, parts_of, stamp_up_to, stamp_low, stamp_over, stamp_between}
+use Rattle.isolation_laws.proofs.NumbersOfDraws.{start_drawn, commit_drawn, asker_of, draw_item_is, drew_cases, drew_room, drew_ranges, drew_leases, stamp_drawn}
+use Rattle.isolation_laws.proofs.NewStamps.{new_draw, drew_taken, start_above, new_now, parts_of, stamp_up_to, stamp_low, stamp_over, stamp_between}
 
 -- ---- a longer history has the draw, and what it had
 pub drew_or : (w : State) (k : Drew w) (h : List Item) (s m term u : ℕ) (d : Option ℕ) → Draw s m term u d ∈ (h ++ new_draw w k ∷ []) → (Draw s m term u d ∈ h) ⊎ ((term ≡ k.i.term) × (u ≡ start_drawn k.held.request (k.i.last + 1)) × (d ≡ commit_drawn k.held.request (k.i.last + 1)))
@@ -57,7 +57,7 @@ drew_drawn w k h holds =
     let drawn = holds.numbers.drawn in
     let room : k.i.last + 1 ≤ k.i.ceiling = drew_room w k ranges in
     let above : k.i.epoch < start_drawn k.held.request (k.i.last + 1) = start_above w k k.held.request refl ranges holds.requests.requests holds.requests.accepted in
-    let is : drawn_stamp (start_drawn k.held.request (k.i.last + 1)) (commit_drawn k.held.request (k.i.last + 1)) ≡ k.i.last + 1 = stamp_is k.held.request (k.i.last + 1) in
+    let is : drawn_stamp (start_drawn k.held.request (k.i.last + 1)) (commit_drawn k.held.request (k.i.last + 1)) ≡ k.i.last + 1 = stamp_drawn k.held.request (k.i.last + 1) in
     record {
       counted = λ s m term t commit drew. elim (drew_or w k h s m term t commit drew) [
         | inl old ↦ drawn.counted s m term t commit old

@@ -16,24 +16,22 @@ use Rattle.isolation_laws.specs.Pending.{Taken, Pending}
 use Rattle.isolation_laws.specs.Numbers.{AreRanges, AreDrawn, IsNewDraw}
 use Rattle.isolation_laws.specs.Requests.{AreRequests, AreAccepted}
 use Rattle.isolation_laws.specs.Holds.{Holds}
-use Rattle.isolation_laws.proofs.Lookups.{held_by}
+use Rattle.isolation_laws.proofs.Lookups.{held_by, commit_own}
 use Rattle.isolation_laws.proofs.OutcomesOfStamps.{Drew}
-use Rattle.isolation_laws.proofs.NumbersOfDraws.{start_drawn, commit_drawn, asker_of, drew_room}
+use Rattle.isolation_laws.proofs.NumbersOfDraws.{start_drawn, commit_drawn, asker_of, drew_room, stamp_drawn}
+use Rattle.isolation_laws.proofs.Orders.{three_ways}
 
 -- the draw, as an item
 abbrev pub new_draw : (w : State) → Drew w → Item
 new_draw w k = draw_item k.node k.i.term k.held.request (k.i.last + 1)
 
 -- ---- the commit that draws was taken by its instance
-asks_own : (request : Request) (s r t : ℕ) (keys : List ℕ) → request ≡ Commit r t keys → session_of request ≡ s → request ≡ Commit s t keys
-asks_own request s r t keys is own = is ∙ ap (λ q. Commit q t keys) (ap session_of (sym is) ∙ own)
-
 pub drew_taken : (w : State) (k : Drew w) (r t : ℕ) (keys : List ℕ) → AreRequests w.nodes w.clients → k.held.request ≡ Commit r t keys → Pending w.nodes (record { session = k.session; node = k.node; term = k.i.term; start = t; keys = keys; stage = Taken k.i.last })
 drew_taken w k r t keys requests is = record {
   instance_of = k.i;
   progress_of = progress.Accepted;
   at = k.at;
-  held = record { held = k.held; has = k.has; asks = asks_own k.held.request k.session r t keys is (requests.own k.node k.session k.i k.held.request k.held.progress k.at (held_by k.i k.session k.held k.has)); stands = k.accepted };
+  held = record { held = k.held; has = k.has; asks = commit_own k.held.request k.session r t keys is (requests.own k.node k.session k.i k.held.request k.held.progress k.at (held_by k.i k.session k.held k.has)); stands = k.accepted };
   term_is = refl;
   stage_is = refl;
 }
@@ -47,16 +45,9 @@ pub start_above : (w : State) (k : Drew w) (request : Request) → k.held.reques
 start_above w k (BeginRequest r) is ranges requests accepted = omega (arith, ranges.above k.node k.i k.at)
 start_above w k (Commit r t keys) is ranges requests accepted = (drew_within w k r t keys requests accepted is).0
 
-pub stamp_is : (request : Request) (stamp : ℕ) → drawn_stamp (start_drawn request stamp) (commit_drawn request stamp) ≡ stamp
-stamp_is (BeginRequest session) stamp = refl
-stamp_is (Commit session start keys) stamp = refl
-
-three : (p q : ℕ) → (p < q) ⊎ ((p ≡ q) ⊎ (q < p))
-three p q = grind arith
-
 -- ---- the stamp differs from all before, and is above those of its term
 pub older_stamp : (w : State) (k : Drew w) (h : List Item) (s m term u : ℕ) (d : Option ℕ) → AreRanges w.nodes w.master → AreDrawn w.nodes w.master h → Draw s m term u d ∈ h → (drawn_stamp u d ≤ k.i.last) ⊎ ((k.i.ceiling < drawn_stamp u d) × (k.i.term < term))
-older_stamp w k h s m term u d ranges drawn drew = elim (three term k.i.term) [
+older_stamp w k h s m term u d ranges drawn drew = elim (three_ways term k.i.term) [
   | inl less ↦ inl (omega (arith, drawn.earlier s m term u k.node d k.i drew k.at less, ranges.above k.node k.i k.at))
   | inr (inl same) ↦ inl (drawn.same s m term u k.node d k.i drew k.at same).1
   | inr (inr more) ↦ inr ((drawn.later s m term u k.node d k.i drew k.at more).0, more)
@@ -72,11 +63,11 @@ commit_new w k h (Commit r t keys) is holds c drawn = (
 pub new_now : (w : State) (k : Drew w) (h : List Item) (request : Request) → k.held.request ≡ request → Holds w h → IsNewDraw h (Draw (asker_of request) k.node k.i.term (start_drawn request (k.i.last + 1)) (commit_drawn request (k.i.last + 1)))
 new_now w k h request is holds = (
   (λ r m other u d drew same. elim (older_stamp w k h r m other u d holds.numbers.ranges holds.numbers.drawn drew) [
-    | inl low ↦ omega (arith, low, same, stamp_is request (k.i.last + 1))
-    | inr high ↦ omega (arith, high.0, same, stamp_is request (k.i.last + 1), drew_room w k holds.numbers.ranges)
+    | inl low ↦ omega (arith, low, same, stamp_drawn request (k.i.last + 1))
+    | inr high ↦ omega (arith, high.0, same, stamp_drawn request (k.i.last + 1), drew_room w k holds.numbers.ranges)
   ]),
   (λ r m u d drew. elim (older_stamp w k h r m k.i.term u d holds.numbers.ranges holds.numbers.drawn drew) [
-    | inl low ↦ omega (arith, low, stamp_is request (k.i.last + 1))
+    | inl low ↦ omega (arith, low, stamp_drawn request (k.i.last + 1))
     | inr high ↦ absurd (omega (arith, high.1))
   ]),
   commit_new w k h request is holds,

@@ -25,11 +25,12 @@ use Rattle.isolation_laws.specs.Quiet.{Quiet, AllQuiet}
 use Rattle.isolation_laws.specs.Numbers.{NumberFacts}
 use Rattle.isolation_laws.specs.Requests.{HaveBegun, AreRequests}
 use Rattle.isolation_laws.specs.Holds.{Holds}
-use Rattle.isolation_laws.proofs.Lookups.{held_by}
+use Rattle.isolation_laws.proofs.Lookups.{held_by, commit_own, begin_own}
 use Rattle.isolation_laws.proofs.Owners.{has_drew}
 use Rattle.isolation_laws.proofs.OutcomesOfStamps.{AtDrawn, AnsweredBegin}
 use Rattle.isolation_laws.proofs.NumbersStay.{SameNumbers, IsNumberedAs, numbered_same, numbered_set, numbers_quiet}
 use Rattle.isolation_laws.proofs.NumbersOfItems.{NoDraw, read_is_no_draw, drawn_push, new_push, FitsBegun, begun_push, fits_read, placed_push}
+use Rattle.isolation_laws.proofs.Pushed.{one_quiet}
 
 -- ---- one item that is not quiet, and quiet ones behind it
 abbrev pub FitsPlaced : List Item → Item → Type 0
@@ -57,12 +58,6 @@ open_begun clients h s t c have at is start =
     subst (Begun h s) (same_Some begun.0 t (sym begun.1 ∙ start)) begun.2
 
 -- ---- requests as they stand
-begin_own : (request : Request) (r s : ℕ) → request ≡ BeginRequest r → session_of request ≡ s → request ≡ BeginRequest s
-begin_own request r s is own = is ∙ ap BeginRequest (ap session_of (sym is) ∙ own)
-
-commit_own : (request : Request) (s r t : ℕ) (keys : List ℕ) → request ≡ Commit r t keys → session_of request ≡ s → request ≡ Commit s t keys
-commit_own request s r t keys is own = is ∙ ap (λ q. Commit q t keys) (ap session_of (sym is) ∙ own)
-
 pub drew_start : (w : State) (h : List Item) (k : AnsweredBegin w) → Holds w h → DrewStart h k.session k.node k.i.term k.start
 drew_start w h k holds =
     holds.requests.starting.drawn k.node k.session k.start k.i k.at (record {
@@ -98,7 +93,7 @@ read_item_numbers setup seen nodes master h s b k r (Answers a) begun facts =
 -- a quiet item, and then what a read has come to
 pub first_then : (setup : SetupNumbers) (seen : ℕ) (nodes : List (Option InstanceEntry)) (master : MasterRecord) (h : List Item) (x : Item) (s b k r : ℕ) (turn : ReadTurn) → Quiet x → Begun h r b → NumberFacts setup seen nodes master h → NumberFacts setup seen nodes master (h ++ x ∷ read_items s b k turn)
 first_then setup seen nodes master h x s b k r turn quiet begun facts =
-    let one : NumberFacts setup seen nodes master (h ++ x ∷ []) = numbers_quiet setup seen seen nodes nodes master h (x ∷ []) (numbered_same nodes) (omega arith) (All-cons Quiet x [] quiet (All-nil Quiet)) facts in
+    let one : NumberFacts setup seen nodes master (h ++ x ∷ []) = numbers_quiet setup seen seen nodes nodes master h (x ∷ []) (numbered_same nodes) (omega arith) (one_quiet x quiet) facts in
     subst (λ all. NumberFacts setup seen nodes master all) (append_assoc h (x ∷ []) (read_items s b k turn))
     (read_item_numbers setup seen nodes master (h ++ x ∷ []) s b k r turn (in_front (Begin r b) h (x ∷ []) begun) one)
 
@@ -109,12 +104,5 @@ quiet_one w h nodes seen items same up quiet holds = numbers_quiet w.setup w.see
 pub here : (w : State) (h items : List Item) → AllQuiet items → Holds w h → NumberFacts w.setup w.seen w.nodes w.master (h ++ items)
 here w h items quiet holds = quiet_one w h w.nodes w.seen items (numbered_same w.nodes) (omega arith) quiet holds
 
--- an instance whose requests alone have changed
-pub numbered : (i j : InstanceEntry) → j.term ≡ i.term → j.epoch ≡ i.epoch → j.last ≡ i.last → j.ceiling ≡ i.ceiling → j.until ≡ i.until → IsNumberedAs i j
-numbered i j term epoch last ceiling until = record { term = term; epoch = epoch; last = last; ceiling = ceiling; until = until }
-
 pub at_node : (w : State) (n : ℕ) (i j : InstanceEntry) → InstanceAt w.nodes n i → IsNumberedAs i j → SameNumbers w.nodes (slice_set w.nodes n (Some j))
 at_node w n i j at same = numbered_set w.nodes n i j at same
-
-pub max_left : (a b : ℕ) → a ≤ max a b
-max_left a b = grind arith

@@ -9,12 +9,6 @@ use Rattle.isolation_laws.specs.Numbers.{AreRanges, AreDrawn, NumberFacts, AreLe
 use Rattle.isolation_laws.proofs.NumbersStay.{numbered_same, numbers_quiet}
 
 -- ---- a take that is not early
-pub max_left : (a b : ℕ) → a ≤ max a b
-max_left a b = grind arith
-
-pub max_right : (a b : ℕ) → b ≤ max a b
-max_right a b = grind arith
-
 pub below_or_at : (a b : ℕ) → a ≤ b → (a < b) ⊎ (a ≡ b)
 below_or_at a b within = grind arith
 
@@ -42,9 +36,6 @@ drawn_under nodes old new h term ceiling drawn = record {
 }
 
 -- ---- a renewal: instance and record get the same end of the lease, or the record alone
-pub max_within : (a b c : ℕ) → a ≤ c → b ≤ c → max a b ≤ c
-max_within a b c low high = grind arith
-
 -- ranges, leases and draws moved, over the same history
 pub numbers_moved : (setup : SetupNumbers) (seen later : ℕ) (old new : List (Option InstanceEntry)) (master after : MasterRecord) (h : List Item) → AreRanges new after → AreLeases setup later new after → AreDrawn new after h → NumberFacts setup seen old master h → NumberFacts setup later new after h
 numbers_moved setup seen later old new master after h ranges leases drawn facts =

@@ -16,13 +16,14 @@ use Rattle.isolation_laws.proofs.OutcomesOfSessions.{WroteOne, wrote_items}
 use Rattle.isolation_laws.proofs.OutcomesOfWork.{Fetched, ReadStepped, fetched_turn, read_turn, fetched_items, read_stepped_items}
 use Rattle.isolation_laws.proofs.OutcomesOfSweeps.{SweepListed, sweep_listed_items}
 use Rattle.isolation_laws.proofs.Outcomes.{Outcome, OfStill, OfGranted, OfRenewed, OfExtended, OfCrashed, OfAskedBegin, OfAskedCommit, OfAccepted, OfEnded, OfDrew, OfPlaced, OfNotPlaced, OfAnsweredBegin, OfAnsweredCommit, OfEndedReadOnly, OfWrote, OfWriteFailed, OfAborted, OfVanished, OfHealed, OfFetched, OfReadDropped, OfReadStepped, OfOutcome, OfOutcomeFailed, OfCompleted, OfSweepOpened, OfSwept, OfSweepListed, OfSweepFailed, left_by, told_by_outcome}
-use Rattle.isolation_laws.proofs.NumbersStay.{numbered_same, numbered_ended, numbered_alike}
+use Rattle.isolation_laws.proofs.NumbersStay.{numbered_same, numbered_ended, numbered_alike, numbered}
 use Rattle.isolation_laws.proofs.NumbersOfTakes.{numbers_granted}
 use Rattle.isolation_laws.proofs.NumbersOfRenewals.{numbers_renewed}
 use Rattle.isolation_laws.proofs.NumbersOfRanges.{numbers_extended}
 use Rattle.isolation_laws.proofs.NewDraws.{numbers_drew}
 use Rattle.isolation_laws.proofs.NumbersOfItems.{begin_is_no_draw, write_is_no_draw, placed_is_no_draw, fits_begin, fits_write, fits_placed, placed_fits}
-use Rattle.isolation_laws.proofs.NumbersKept.{loud_numbers, open_begun, drew_start, drew_commit, first_then, quiet_one, here, numbered, at_node, max_left}
+use Rattle.isolation_laws.proofs.NumbersKept.{loud_numbers, open_begun, drew_start, drew_commit, first_then, quiet_one, here, at_node}
+use Rattle.isolation_laws.proofs.Orders.{max_left}
 
 -- ---- every outcome
 numbers_asked_begin : (w : State) (h : List Item) (k : AskedBegin w) → Holds w h → NumberFacts w.setup w.seen (asked_begin_state w k).nodes w.master (h ++ asked_begin_items w k)

@@ -28,7 +28,7 @@ pub draw_item_is : (node term : ℕ) (request : Request) (stamp : ℕ) → draw_
 draw_item_is node term (BeginRequest session) stamp = refl
 draw_item_is node term (Commit session start keys) stamp = refl
 
-stamp_drawn : (request : Request) (stamp : ℕ) → drawn_stamp (start_drawn request stamp) (commit_drawn request stamp) ≡ stamp
+pub stamp_drawn : (request : Request) (stamp : ℕ) → drawn_stamp (start_drawn request stamp) (commit_drawn request stamp) ≡ stamp
 stamp_drawn (BeginRequest session) stamp = refl
 stamp_drawn (Commit session start keys) stamp = refl
 

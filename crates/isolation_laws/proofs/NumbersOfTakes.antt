@@ -16,7 +16,8 @@ use Rattle.isolation_laws.specs.Numbers.{AreRanges, AreLeases, AreDrawn, NumberF
 use Rattle.isolation_laws.specs.Holds.{Holds}
 use Rattle.isolation_laws.proofs.Lookups.{instance_changed}
 use Rattle.isolation_laws.proofs.OutcomesOfRecord.{Granted, granted_nodes, granted_state}
-use Rattle.isolation_laws.proofs.NumbersMoved.{max_left, max_right, below_or_at, numbers_told, ranges_under, drawn_under, numbers_moved}
+use Rattle.isolation_laws.proofs.NumbersMoved.{below_or_at, numbers_told, ranges_under, drawn_under, numbers_moved}
+use Rattle.isolation_laws.proofs.Orders.{max_left, max_right}
 
 -- ---- a take that is not early
 not_early : (b : Bool) (r : MasterRecord) (reading : ℕ) (other : Option TakeRefused) → (if b then Some (Early reading r.until) else other) ≡ None → b ≡ false

@@ -135,3 +135,7 @@ numbers_quiet setup seen later old new master h items same up quiet facts = reco
   begun = begun_quiet h items quiet facts.begun;
   placed = placed_quiet h items quiet facts.placed;
 }
+
+-- an instance whose requests alone have changed
+pub numbered : (i j : InstanceEntry) → j.term ≡ i.term → j.epoch ≡ i.epoch → j.last ≡ i.last → j.ceiling ≡ i.ceiling → j.until ≡ i.until → IsNumberedAs i j
+numbered i j term epoch last ceiling until = record { term = term; epoch = epoch; last = last; ceiling = ceiling; until = until }

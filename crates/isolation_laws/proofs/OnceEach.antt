@@ -8,6 +8,7 @@ use Rattle.history_book.specs.declared.item.Item.{Item}
 use Rattle.history_book.specs.declared.item.Item.TheVariants.{Begin, Draw, Placed}
 use Rattle.isolation_laws.specs.Words.{Begun, DrewCommit, drawn_stamp}
 use Rattle.isolation_laws.specs.Numbers.{IsNewDraw, AreNewDraws}
+use Rattle.isolation_laws.proofs.Orders.{three_ways}
 
 -- ---- two members of a list in which something holds at each place
 pub place_of : {X : Type 0} (x : X) (xs : List X) → x ∈ xs → (p : ℕ) × (slice_get xs p ≡ Some x)
@@ -24,9 +25,6 @@ in_take x [] p q at below = absurd (cc)
 in_take x (y ∷ ys) p zero at below = absurd (omega (arith, below))
 in_take x (y ∷ ys) zero (suc q) at below = inl (sym (same_Some y x at))
 in_take x (y ∷ ys) (suc p) (suc q) at below = inr (in_take x ys p q at (omega (arith, below)))
-
-pub three_ways : (p q : ℕ) → (p < q) ⊎ ((p ≡ q) ⊎ (q < p))
-three_ways p q = grind arith
 
 -- of two members the one stands in the part before the other, or they are the same
 pub two_places : {X : Type 0} (P : List X → X → Type 0) (xs : List X) (x y : X) → AtEach P xs → x ∈ xs → y ∈ xs → (x ≡ y) ⊎ (((before : List X) × (x ∈ before) × P before y) ⊎ ((before : List X) × (y ∈ before) × P before x))

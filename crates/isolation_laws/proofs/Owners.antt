@@ -19,7 +19,8 @@ use Rattle.isolation_laws.specs.Pending.{Stage, Waits, Taken, Has, InFlight, sta
 use Rattle.isolation_laws.specs.Numbers.{AreRanges, AreLeases, AreDrawn, AreBegun, ArePlaced}
 use Rattle.isolation_laws.specs.Requests.{AreRequests, WaitsFor, IsDrawnSoFar, ArePending, AreAccepted, AreOpen}
 use Rattle.isolation_laws.proofs.Lookups.{one_client}
-use Rattle.isolation_laws.proofs.OnceEach.{three_ways, begun_once}
+use Rattle.isolation_laws.proofs.OnceEach.{begun_once}
+use Rattle.isolation_laws.proofs.Orders.{three_ways}
 pub use Rattle.isolation_laws.proofs.OnceEach.{drawn_once}
 
 -- ---- whose a transaction is

@@ -90,7 +90,7 @@ none_more_ended i s q p = record {
 pub other_than_ended : (i : InstanceEntry) (s : ℕ) (q : InFlight) → PendingIn (without_request i s) q → q.session ≢ s
 other_than_ended i s q p = (heldby_ended i s q.session (Commit q.session q.start q.keys) p.progress_of p.held).0
 
-begin_is_no_commit : (r s t : ℕ) (keys : List ℕ) → Begin r ≡ Commit s t keys → ⊥
+pub begin_is_no_commit : (r s t : ℕ) (keys : List ℕ) → Begin r ≡ Commit s t keys → ⊥
 begin_is_no_commit r s t keys same = cc
 
 -- a begin was asked
@@ -119,3 +119,6 @@ no_request_held (suc n) (suc s) held found = no_request_held n s held found
 -- a new instance holds no request
 pub new_holds_none : (grant : Grant) (node count width slots s : ℕ) (request : Request) (p : Progress) → HeldBy (instance_new grant node count width slots) s request p → ⊥
 new_holds_none grant node count width slots s request p h = no_request_held 16 s h.held h.has
+
+pub drawn_same : (a b : ℕ) → progress.Drawn a ≡ progress.Drawn b → a ≡ b
+drawn_same a b same = cc

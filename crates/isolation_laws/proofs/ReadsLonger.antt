@@ -17,8 +17,8 @@ use Rattle.isolation_laws.specs.Words.{ClientAt, epoch_or_none, OpenAt, Begun}
 use Rattle.isolation_laws.specs.Reads.{SeesAll, IsResolvedTo, IsReading, AreReading}
 use Rattle.isolation_laws.proofs.Lookups.{set_found, set_other, client_set, one_client}
 use Rattle.isolation_laws.proofs.CommitsInFlight.{GoesOn}
-use Rattle.isolation_laws.proofs.ReadersRely.{RelyOn, listed_so}
-use Rattle.isolation_laws.proofs.Calm.{Calm}
+use Rattle.isolation_laws.proofs.ReadersRely.{RelyOn}
+use Rattle.isolation_laws.proofs.Calm.{Calm, listed_goes_on}
 use Rattle.isolation_laws.specs.Pending.{ComesBelow}
 use Rattle.isolation_laws.proofs.StoresStay.{MarksStay, ShadowsStay}
 
@@ -40,7 +40,7 @@ visible_longer h g b k (Some found) un is = record {
 pub right_longer : (h g before : List Item) (b k : ℕ) (answer : Option Found) (own : Option (List ℕ)) → Calm h g → GoesOn h before → RightAnswer h h b k answer own → RightAnswer g before b k answer own
 right_longer h g before b k answer None un on is = visible_longer h g b k answer un is
 right_longer h g before b k answer (Some own) un on (inl mine) = inl mine
-right_longer h g before b k answer (Some own) un on (inr (listed, visible)) = inr (listed_so h before b on listed, visible_longer h g b k answer un visible)
+right_longer h g before b k answer (Some own) un on (inr (listed, visible)) = inr (listed_goes_on h before b on listed, visible_longer h g b k answer un visible)
 
 sees_longer : (nodes : List (Option InstanceEntry)) (pairs : Pairs) (h g : List Item) (b k : ℕ) (cells : List Cell) → Calm h g → SeesAll nodes pairs h b k cells → SeesAll nodes pairs g b k cells
 sees_longer nodes pairs h g b k cells un sees = record {
@@ -63,7 +63,7 @@ pub reading_longer : (nodes : List (Option InstanceEntry)) (rows : List Row) (pa
 reading_longer nodes rows pairs h g b e r un is = record {
   start_is = is.start_is;
   epoch_is = is.epoch_is;
-  own = λ value wrote. listed_so h g b un.on (is.own value (sym (un.writes b r.key) ∙ wrote));
+  own = λ value wrote. listed_goes_on h g b un.on (is.own value (sym (un.writes b r.key) ∙ wrote));
   sees = sees_longer nodes pairs h g b r.key (r.cell ∷ r.older) un is.sees;
   resolved = resolved_longer pairs rows h g r.key b e r.cell.version r.point un is.resolved;
 }

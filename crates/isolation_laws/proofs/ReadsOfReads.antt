@@ -24,7 +24,7 @@ use Rattle.isolation_laws.specs.Quiet.{Quiet, AllQuiet}
 use Rattle.isolation_laws.specs.Reads.{IsReading, Outlasts, AreLastingReads}
 use Rattle.isolation_laws.specs.Holds.{Holds}
 use Rattle.isolation_laws.proofs.OutcomesOfWork.{Fetched, fetched_turn, fetched_state, fetched_items, ReadStepped, read_turn, read_stepped_state, read_stepped_items}
-use Rattle.isolation_laws.proofs.Pushed.{not_true, in_append}
+use Rattle.isolation_laws.proofs.Pushed.{not_true, in_append, one_quiet}
 use Rattle.isolation_laws.proofs.ClientsOpen.{read_keeps_entry}
 use Rattle.isolation_laws.proofs.ClientsReading.{nothing_reads}
 use Rattle.isolation_laws.proofs.StoresStay.{MarksStay, marks_same, marks_after, shadows_same}
@@ -103,9 +103,6 @@ turn_rights w h g pairs before s b e k (Answers a) un prior good rights =
     AtEach-push (RightRead g) before (Read s b k (found_of a.found)) rights
     (subst (RightAnswer g before b k (found_of a.found)) (sym (prior.writes b k)) (right_longer h g before b k (found_of a.found) (last_write h b k) un prior.on good.right))
 
-all_one : (x : Item) → Quiet x → AllQuiet (x ∷ [])
-all_one x quiet = All-cons Quiet x [] quiet (All-nil Quiet)
-
 -- ---- a turn of a read, whatever it comes to
 pub reads_turn : (w : State) (h : List Item) (pairs : Pairs) (x : Item) (s b e k : ℕ) (c : Client) (turn : ReadTurn) → Quiet x → ClientAt w.clients s c → OpenAt w.clients s b e → MarksStay w.pairs pairs → GoodTurn w h pairs b e k turn → Holds w h → ReadsRight (slice_set w.clients s (client_read c turn)) w.nodes w.rows pairs (h ++ x ∷ read_items s b k turn)
 reads_turn w h pairs x s b e k c turn quiet at o marks good holds =
@@ -118,8 +115,8 @@ reads_turn w h pairs x s b e k c turn quiet at o marks good holds =
         lasting = turn_lasting w h pairs x s b e k turn quiet rely un good holds;
       };
       rights = subst (AtEach (RightRead g)) (append_assoc h (x ∷ []) (read_items s b k turn))
-          (turn_rights w h g pairs (h ++ x ∷ []) s b e k turn un (calm_quiet h (x ∷ []) (all_one x quiet)) good
-          (rights_more g h (x ∷ []) (quiet_no_reads (x ∷ []) (all_one x quiet)) (right_kept w h w.nodes w.rows pairs g rely holds)));
+          (turn_rights w h g pairs (h ++ x ∷ []) s b e k turn un (calm_quiet h (x ∷ []) (one_quiet x quiet)) good
+          (rights_more g h (x ∷ []) (quiet_no_reads (x ∷ []) (one_quiet x quiet)) (right_kept w h w.nodes w.rows pairs g rely holds)));
     }
 
 -- ---- a step of a read

@@ -38,10 +38,11 @@ use Rattle.isolation_laws.proofs.PendingMoved.{comes_accepted}
 use Rattle.isolation_laws.proofs.CommitsInFlight.{goes_on}
 use Rattle.isolation_laws.proofs.NumbersKept.{in_flight_of, drawn_pending, drew_commit}
 use Rattle.isolation_laws.proofs.SettledNow.{Places, places}
-use Rattle.isolation_laws.proofs.RequestsOfWrites.{wrote_open, wrote_not_pending, write_no_placed}
+use Rattle.isolation_laws.proofs.RequestsOfWrites.{wrote_open, wrote_not_pending}
 use Rattle.isolation_laws.proofs.StoresStay.{ShadowsStay, marks_put, shadows_same, shadows_put}
 use Rattle.isolation_laws.proofs.ReadersRely.{WasComing, IsReader, IsWritten, RelyOn, open_now_begun, reading_kept, lasts_on, right_kept}
 use Rattle.isolation_laws.proofs.ClientsReading.{FewerReading, reading_fewer, idle_reads}
+use Rattle.isolation_laws.proofs.Calm.{write_places_none}
 
 -- ---- items that answer no read
 abbrev pub NoReads : List Item → Type 0
@@ -178,7 +179,7 @@ written_other w h k u holds (inr (inr reader)) same = idle_no_reader w h k holds
 pub rely_wrote : (w : State) (h : List Item) (k : WroteOne w) → Holds w h → RelyOn w h w.nodes (wrote_state w k).rows w.pairs (h ++ wrote_items w k)
 rely_wrote w h k holds = record {
   on = goes_on h (wrote_items w k);
-  placed = λ b u d placed less. inl (write_no_placed h k.it.session k.start k.key k.value u d placed);
+  placed = λ b u d placed less. inl (write_places_none h k.it.session k.start k.key k.value u d placed);
   comes = same_comes w h;
   marks = λ u marked. marked;
   writes = λ u key written. last_write-push h (Write k.it.session k.start k.key k.value) u key ∙ ap (λ o. option_or o (last_write h u key)) (other_write k.start u k.key key k.value k.it.session (written_other w h k u holds written));

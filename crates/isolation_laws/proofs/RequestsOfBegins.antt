@@ -16,7 +16,7 @@ use Rattle.machine.specs.Clients.{client_begun, unless_gone}
 use Rattle.isolation_laws.specs.Words.{InstanceAt, HeldBy, Begun, DrewStart, HasDrawn, written_keys}
 use Rattle.isolation_laws.specs.Requests.{HasAsked, RequestFacts}
 use Rattle.isolation_laws.specs.Holds.{Holds}
-use Rattle.isolation_laws.proofs.Lookups.{held_by, instance_changed, heldby_ended}
+use Rattle.isolation_laws.proofs.Lookups.{held_by, instance_changed, heldby_ended, begin_own}
 use Rattle.isolation_laws.proofs.OnceEach.{drawn_once}
 use Rattle.isolation_laws.proofs.OutcomesOfStamps.{AnsweredBegin, answered_begin_state, answered_begin_items}
 use Rattle.isolation_laws.proofs.PendingFewer.{fewer_answered_begin}
@@ -42,10 +42,6 @@ no_drawn_begin h s t u (r, n, term, c, m) = (r, n, term, c, in_old (Draw r n ter
 begin_writes_none : (h : List Item) (s t u : ℕ) → written_keys (h ++ Begin s t ∷ []) u ≡ written_keys h u
 begin_writes_none h s t u = written_keys-no_write h (Begin s t) u (λ r v k value is. cc)
 
--- the begin as it is held
-begin_own : (request : Request) (r s : ℕ) → request ≡ BeginRequest r → session_of request ≡ s → request ≡ BeginRequest s
-begin_own request r s is own = is ∙ ap BeginRequest (ap session_of (sym is) ∙ own)
-
 pub begin_held : (w : State) (h : List Item) (k : AnsweredBegin w) → Holds w h → HeldBy k.i k.session (BeginRequest k.session) (progress.Drawn k.start)
 begin_held w h k holds = record {
   held = k.held;
@@ -55,7 +51,7 @@ begin_held w h k holds = record {
 }
 
 -- the start was begun by nobody
-start_unbegun : (w : State) (h : List Item) (k : AnsweredBegin w) (r : ℕ) → Holds w h → Begun h r k.start → ⊥
+pub start_unbegun : (w : State) (h : List Item) (k : AnsweredBegin w) (r : ℕ) → Holds w h → Begun h r k.start → ⊥
 start_unbegun w h k r holds begun = holds.requests.starting.unbegun k.node k.session k.start r k.i k.at (begin_held w h k holds) begun
 
 pub open_not_asked : HasAsked phase.Open → ⊥

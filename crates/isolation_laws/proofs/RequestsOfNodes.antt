@@ -21,7 +21,7 @@ use Rattle.isolation_laws.proofs.OutcomesOfRequests.{Crashed, crashed_state, Ask
 use Rattle.isolation_laws.proofs.OutcomesOfStamps.{AnsweredCommit, answered_client, answered_commit_state}
 use Rattle.isolation_laws.proofs.PendingAfter.{FewerPending}
 use Rattle.isolation_laws.proofs.PendingFewer.{fewer_still, fewer_granted, fewer_renewed, fewer_extended, fewer_crashed, fewer_asked_begin, fewer_ended_one, fewer_answered_commit, same_pending}
-use Rattle.isolation_laws.proofs.ClientsOpen.{FewerOpen}
+use Rattle.isolation_laws.proofs.ClientsOpen.{FewerOpen, same_open}
 use Rattle.isolation_laws.proofs.OpenAfter.{crashed_at, fewer_open_crashed, fewer_open_asked_begin, fewer_open_ended, fewer_open_answered_commit}
 use Rattle.isolation_laws.proofs.ClientsAfter.{BegunClient, begun_set, begun_kept, has_none, KeysClient, keys_client, keys_set, keys_closed, asking_closed}
 use Rattle.isolation_laws.proofs.RequestsAfter.{requests_fewer, free_waits, requests_over, requests_crashed, new_held, requests_new, FewerHeld}
@@ -29,9 +29,6 @@ use Rattle.isolation_laws.proofs.Standing.{standing_alike, held_alike, standing_
 use Rattle.isolation_laws.proofs.CommitsInFlight.{IsSettledNow, IsAcceptedNow, IsDrawnNow, FewerStanding}
 use Rattle.isolation_laws.proofs.RequestsKept.{Leaves}
 use Rattle.isolation_laws.proofs.ClientsBecome.{Becomes, becomes_same, loss_becomes, refusal_becomes, answer_becomes}
-
-same_open : (clients : List Client) → FewerOpen clients clients
-same_open clients s t e o = o
 
 -- ---- the record, and what changes nothing
 -- nodes that hold the same requests or fewer, for the same clients

@@ -26,6 +26,7 @@ use Rattle.isolation_laws.proofs.RequestsAfter.{requests_idle, open_waits}
 use Rattle.isolation_laws.proofs.Standing.{standing_same}
 use Rattle.isolation_laws.proofs.CommitsInFlight.{GoesOn, goes_on, pending_fewer, IsSettledNow, IsDrawnNow, settled_fewer, starting_fewer, open_fewer}
 use Rattle.isolation_laws.proofs.RequestsOfBegins.{open_not_asked}
+use Rattle.isolation_laws.proofs.Calm.{write_places_none}
 
 -- ---- a value that is written
 wrote_begun : (w : State) (h : List Item) (k : WroteOne w) → Holds w h → Begun h k.it.session k.start
@@ -43,9 +44,6 @@ write_no_begin h s t k value r u m = in_old (Begin r u) (Write s t k value) h (�
 
 write_no_drawn : (h : List Item) (s t k : ℕ) (value : List ℕ) (u : ℕ) → HasDrawn (h ++ Write s t k value ∷ []) u → HasDrawn h u
 write_no_drawn h s t k value u (r, n, term, c, m) = (r, n, term, c, in_old (Draw r n term u (Some c)) (Write s t k value) h (λ is. cc) m)
-
-pub write_no_placed : (h : List Item) (s t k : ℕ) (value : List ℕ) (u c : ℕ) → Committed (h ++ Write s t k value ∷ []) u c → Committed h u c
-write_no_placed h s t k value u c m = in_old (Placed u c) (Write s t k value) h (λ is. cc) m
 
 has_in : (state : SessionState) → (state ≡ phase.Open) ⊎ HasAsked state → IsTrue (has_transaction state)
 has_in state (inl is) = subst (λ s. IsTrue (has_transaction s)) (sym is) refl
@@ -89,10 +87,10 @@ requests_wrote w h k holds =
       requests = requests_idle w.nodes w.clients k.it.session k.it.c (client_wrote k.it.c k.key) phase.Open k.it.client_at k.it.is_open open_waits holds.requests.requests;
       starting = starting_fewer w.nodes w.nodes h g (standing_same IsDrawnNow w.nodes) on (λ n s t r i at held begun. write_no_begin h k.it.session k.start k.key k.value r t begun) holds.requests.starting;
       pending = pending_fewer w.nodes w.nodes h g (λ q p. p) on (λ q p. record {
-        alone = record { undrawn = write_no_drawn h k.it.session k.start k.key k.value q.start; unplaced = λ c placed. write_no_placed h k.it.session k.start k.key k.value q.start c placed };
+        alone = record { undrawn = write_no_drawn h k.it.session k.start k.key k.value q.start; unplaced = λ c placed. write_places_none h k.it.session k.start k.key k.value q.start c placed };
         keys = written_keys-other h k.it.session k.start q.start k.key k.value (λ same. wrote_not_pending w h k holds (record { coming = q; pending = p; start_is = sym same }));
       }) holds.requests.pending;
-      settled = settled_fewer w.nodes w.nodes h g (standing_same IsSettledNow w.nodes) on (λ n s t c d i at placed. write_no_placed h k.it.session k.start k.key k.value t d placed) holds.requests.settled;
+      settled = settled_fewer w.nodes w.nodes h g (standing_same IsSettledNow w.nodes) on (λ n s t c d i at placed. write_places_none h k.it.session k.start k.key k.value t d placed) holds.requests.settled;
       accepted = holds.requests.accepted;
       opened = open_fewer w.clients (wrote_state w k).clients h g (fewer_open_wrote w k) (λ s t e o drew. write_no_drawn h k.it.session k.start k.key k.value t drew) holds.requests.opened;
       keys = wrote_keys w h k holds;

@@ -2,7 +2,7 @@ pub mod PartsKept
 mod GoneClients
 mod GoneStays
 mod ToldOnce
-mod Refusals
+pub mod Refusals
 mod StandingAnswers
 mod PlainEvents
 mod StoreAsked
