@@ -27,6 +27,7 @@ use Rattle.isolation_laws.proofs.Outcomes.{OfExtended}
 use Rattle.isolation_laws.proofs.InversionParts.{ComesTo, ComesBy, two_quiet, refusal_quiet, still, still_post, nodes_alike}
 use Rattle.isolation_laws.proofs.InversionOfRecord.{for_record, alike_stopped, put_back}
 use Rattle.isolation_laws.proofs.Pushed.{one_quiet}
+use Rattle.isolation_laws.proofs.OutcomesOfRecord.{Extended}
 
 -- ---- extend
 if_room : {E : Type 0} (own spent : Bool) (full other : E) → (if own then (if spent then Some full else None) else Some other) ≡ None → (own ≡ true) × (spent ≡ false)
@@ -45,18 +46,22 @@ extend_still w node i items at quiet = still_post w node w.seen (Some i) items a
 extend_stops : (w : State) (node : ℕ) (i : InstanceEntry) (why : Cause) (items : List Item) → InstanceAt w.nodes node i → IsStop why → AllQuiet items → ComesTo w (record (with_post w node (Some (instance_stopped i why))) { master = w.master }) items
 extend_stops w node i why items at is quiet = still w w.seen (slice_set w.nodes node (Some (instance_stopped i why))) _ items (omega arith) (nodes_alike w.nodes node i (instance_stopped i why) at (alike_stopped i why is)) quiet refl
 
+-- the outcome of an extension for which there is room
+abbrev extended : (w : State) (node : ℕ) (i : InstanceEntry) (failed : Bool) (items : List Item) → InstanceAt w.nodes node i → extend_refused (rules_of w.setup) w.master i.term ≡ None → AllQuiet items → Extended w
+extended w node i failed items at free quiet = record {
+  node = node;
+  i = i;
+  at = at;
+  own = (extend_room w i.term free).0;
+  room = (extend_room w i.term free).1;
+  failed = failed;
+  items = items;
+  quiet = quiet;
+}
+
 extend_why : (w : State) (node : ℕ) (fate : Fate) (i : InstanceEntry) → InstanceAt w.nodes node i → (why : Option ExtendRefused) → extend_refused (rules_of w.setup) w.master i.term ≡ why → let ceiling : ℕ = w.master.ceiling + w.setup.range in ComesBy w (for_record w node (extend_by node i (fated fate w.master (unless_refused why w.master (record w.master { ceiling = ceiling }))) (kept_items fate why (item.Extend node i.term ceiling ∷ [])) (answered fate extend.StoreFault why ceiling)))
 extend_why w node Works i at None free = (
-  OfExtended (record {
-    node = node;
-    i = i;
-    at = at;
-    own = (extend_room w i.term free).0;
-    room = (extend_room w i.term free).1;
-    failed = false;
-    items = item.Extend node i.term (w.master.ceiling + w.setup.range) ∷ [];
-    quiet = one_quiet (item.Extend node i.term (w.master.ceiling + w.setup.range)) refl;
-  }),
+  OfExtended (extended w node i false (item.Extend node i.term (w.master.ceiling + w.setup.range) ∷ []) at free (one_quiet (item.Extend node i.term (w.master.ceiling + w.setup.range)) refl)),
   refl,
   refl,
 )
@@ -65,16 +70,7 @@ extend_why w node Works i at (Some (extend.Replaced found)) free = extend_stops 
 extend_why w node Works i at (Some (extend.Spent ceiling)) free = extend_stops w node i (cause.Spent ceiling) _ at tt (refusal_quiet (Node node) (cause.Spent ceiling))
 extend_why w node FailsUnchanged i at why free = extend_still w node i _ at (one_quiet (item.Fault (Node node) Master) refl)
 extend_why w node FailsApplied i at None free = (
-  OfExtended (record {
-    node = node;
-    i = i;
-    at = at;
-    own = (extend_room w i.term free).0;
-    room = (extend_room w i.term free).1;
-    failed = true;
-    items = item.Extend node i.term (w.master.ceiling + w.setup.range) ∷ item.Fault (Node node) Master ∷ [];
-    quiet = two_quiet (item.Extend node i.term (w.master.ceiling + w.setup.range)) (item.Fault (Node node) Master) refl refl;
-  }),
+  OfExtended (extended w node i true (item.Extend node i.term (w.master.ceiling + w.setup.range) ∷ item.Fault (Node node) Master ∷ []) at free (two_quiet (item.Extend node i.term (w.master.ceiling + w.setup.range)) (item.Fault (Node node) Master) refl refl)),
   put_back w node w.seen (Some i) (record w.master { ceiling = w.master.ceiling + w.setup.range }) at,
   refl,
 )

@@ -29,7 +29,7 @@ use Rattle.isolation_laws.specs.Words.{InstanceAt}
 use Rattle.isolation_laws.specs.Quiet.{AllQuiet}
 use Rattle.isolation_laws.specs.Sound.{StopOf}
 use Rattle.isolation_laws.proofs.Lookups.{set_same}
-use Rattle.isolation_laws.proofs.OutcomesOfRecord.{Alike}
+use Rattle.isolation_laws.proofs.OutcomesOfRecord.{Renewed, Granted, Alike}
 use Rattle.isolation_laws.proofs.Outcomes.{OfGranted, OfRenewed}
 use Rattle.isolation_laws.proofs.InversionParts.{ComesTo, ComesBy, two_quiet, refusal_quiet, still, still_post, nodes_alike}
 use Rattle.isolation_laws.proofs.Orders.{max_left}
@@ -65,17 +65,21 @@ put_back w node seen post master at = ap (λ (nodes : List (Option InstanceEntry
 take_still : (w : State) (node reading : ℕ) (items : List Item) → slice_get w.nodes node ≡ Some None → AllQuiet items → ComesTo w (record (with_post (with_reading w reading) node None) { master = w.master }) items
 take_still w node reading items vacant quiet = still_post w node (max w.seen reading) None items vacant (max_left w.seen reading) quiet
 
+-- the outcome of a take that is free
+abbrev taken : (w : State) (node reading : ℕ) (failed : Bool) (items : List Item) → slice_get w.nodes node ≡ Some None → take_refused (rules_of w.setup) w.master reading ≡ None → AllQuiet items → Granted w
+taken w node reading failed items vacant free quiet = record {
+  node = node;
+  reading = reading;
+  vacant = vacant;
+  free = free;
+  failed = failed;
+  items = items;
+  quiet = quiet;
+}
+
 take_why : (w : State) (node reading : ℕ) (fate : Fate) → slice_get w.nodes node ≡ Some None → (why : Option TakeRefused) → take_refused (rules_of w.setup) w.master reading ≡ why → let grant : Grant = granted (rules_of w.setup) w.master reading in ComesBy w (for_record (with_reading w reading) node (take_by w.setup node reading (fated fate w.master (unless_refused why w.master (held_by node grant))) (kept_items fate why (take_item node reading grant ∷ [])) (answered fate take.StoreFault why grant)))
 take_why w node reading Works vacant None free = (
-  OfGranted (record {
-    node = node;
-    reading = reading;
-    vacant = vacant;
-    free = free;
-    failed = false;
-    items = take_item node reading (granted (rules_of w.setup) w.master reading) ∷ [];
-    quiet = one_quiet (take_item node reading (granted (rules_of w.setup) w.master reading)) refl;
-  }),
+  OfGranted (taken w node reading false (take_item node reading (granted (rules_of w.setup) w.master reading) ∷ []) vacant free (one_quiet (take_item node reading (granted (rules_of w.setup) w.master reading)) refl)),
   refl,
   refl,
 )
@@ -84,15 +88,7 @@ take_why w node reading Works vacant (Some (take.Early at until)) free = take_st
 take_why w node reading Works vacant (Some (take.Spent ceiling)) free = take_still w node reading _ vacant (refusal_quiet (Node node) (cause.Spent ceiling))
 take_why w node reading FailsUnchanged vacant why free = take_still w node reading _ vacant (one_quiet (item.Fault (Node node) Master) refl)
 take_why w node reading FailsApplied vacant None free = (
-  OfGranted (record {
-    node = node;
-    reading = reading;
-    vacant = vacant;
-    free = free;
-    failed = true;
-    items = take_item node reading (granted (rules_of w.setup) w.master reading) ∷ item.Fault (Node node) Master ∷ [];
-    quiet = two_quiet (take_item node reading (granted (rules_of w.setup) w.master reading)) (item.Fault (Node node) Master) refl refl;
-  }),
+  OfGranted (taken w node reading true (take_item node reading (granted (rules_of w.setup) w.master reading) ∷ item.Fault (Node node) Master ∷ []) vacant free (two_quiet (take_item node reading (granted (rules_of w.setup) w.master reading)) (item.Fault (Node node) Master) refl refl)),
   put_back w node (max w.seen reading) None (held_by node (granted (rules_of w.setup) w.master reading)) vacant,
   refl,
 )
@@ -115,18 +111,22 @@ renew_own r term go = eqb-true r.term term (if_own (r.term == term) (renew.Repla
 renew_still : (w : State) (node reading : ℕ) (i : InstanceEntry) (items : List Item) → InstanceAt w.nodes node i → AllQuiet items → ComesTo w (record (with_post (with_reading w reading) node (Some i)) { master = w.master }) items
 renew_still w node reading i items at quiet = still_post w node (max w.seen reading) (Some i) items at (max_left w.seen reading) quiet
 
+-- the outcome of a renewal of the record's own instance
+abbrev renewed : (w : State) (node reading : ℕ) (i : InstanceEntry) (failed : Bool) (items : List Item) → InstanceAt w.nodes node i → renew_refused w.master i.term ≡ None → AllQuiet items → Renewed w
+renewed w node reading i failed items at free quiet = record {
+  node = node;
+  reading = reading;
+  i = i;
+  at = at;
+  own = renew_own w.master i.term free;
+  failed = failed;
+  items = items;
+  quiet = quiet;
+}
+
 renew_why : (w : State) (node reading : ℕ) (fate : Fate) (i : InstanceEntry) → InstanceAt w.nodes node i → (why : Option RenewRefused) → renew_refused w.master i.term ≡ why → let until : ℕ = renewed_until (rules_of w.setup) w.master reading in ComesBy w (for_record (with_reading w reading) node (renew_by node reading i (fated fate w.master (unless_refused why w.master (record w.master { until = until }))) (kept_items fate why (item.Renew node reading i.term until ∷ [])) (answered fate renew.StoreFault why until)))
 renew_why w node reading Works i at None free = (
-  OfRenewed (record {
-    node = node;
-    reading = reading;
-    i = i;
-    at = at;
-    own = renew_own w.master i.term free;
-    failed = false;
-    items = item.Renew node reading i.term (renewed_until (rules_of w.setup) w.master reading) ∷ [];
-    quiet = one_quiet (item.Renew node reading i.term (renewed_until (rules_of w.setup) w.master reading)) refl;
-  }),
+  OfRenewed (renewed w node reading i false (item.Renew node reading i.term (renewed_until (rules_of w.setup) w.master reading) ∷ []) at free (one_quiet (item.Renew node reading i.term (renewed_until (rules_of w.setup) w.master reading)) refl)),
   refl,
   refl,
 )
@@ -135,16 +135,7 @@ renew_why w node reading Works i at (Some (renew.Replaced found)) free =
     still w (max w.seen reading) (slice_set w.nodes node (Some (instance_stopped i (cause.Replaced found)))) _ _ (max_left w.seen reading) (nodes_alike w.nodes node i (instance_stopped i (cause.Replaced found)) at (alike_stopped i (cause.Replaced found) tt)) (refusal_quiet (Node node) (cause.Replaced found)) refl
 renew_why w node reading FailsUnchanged i at why free = renew_still w node reading i _ at (one_quiet (item.Fault (Node node) Master) refl)
 renew_why w node reading FailsApplied i at None free = (
-  OfRenewed (record {
-    node = node;
-    reading = reading;
-    i = i;
-    at = at;
-    own = renew_own w.master i.term free;
-    failed = true;
-    items = item.Renew node reading i.term (renewed_until (rules_of w.setup) w.master reading) ∷ item.Fault (Node node) Master ∷ [];
-    quiet = two_quiet (item.Renew node reading i.term (renewed_until (rules_of w.setup) w.master reading)) (item.Fault (Node node) Master) refl refl;
-  }),
+  OfRenewed (renewed w node reading i true (item.Renew node reading i.term (renewed_until (rules_of w.setup) w.master reading) ∷ item.Fault (Node node) Master ∷ []) at free (two_quiet (item.Renew node reading i.term (renewed_until (rules_of w.setup) w.master reading)) (item.Fault (Node node) Master) refl refl)),
   put_back w node (max w.seen reading) (Some i) (record w.master { until = renewed_until (rules_of w.setup) w.master reading }) at,
   refl,
 )
