@@ -1,5 +1,5 @@
 -- What ties state and history holds after every list of moves with steady readings; so each history is snapshot isolated.
-use Rattle.std.proofs.Common.{◌≡◌, ℕ, max, List, [], ◌∷◌, ◌++◌, append_assoc, Option, Some, None, refl, sym, ◌∙◌, ap, subst}
+use Rattle.std.proofs.Common.{◌≡◌, ℕ, List, [], ◌∷◌, ◌++◌, append_assoc, Option, Some, None, refl, sym, ◌∙◌, ap, subst}
 use Rattle.std.proofs.lemmas.List.{append-nil}
 use Rattle.stamp_base.specs.SetupNumbers.{SetupNumbers, AreInRange}
 use Rattle.port_io.specs.declared.weather.Fate.{Fate}
@@ -7,7 +7,6 @@ use Rattle.history_book.specs.Isolation.{Isolated}
 use Rattle.history_book.specs.declared.item.Item.{Item}
 use Rattle.oracle_parts.specs.Instance.{InstanceEntry}
 use Rattle.machine.specs.declared.event.Event.{Event}
-use Rattle.machine.specs.declared.event.Event.TheVariants as event
 use Rattle.machine.specs.State.{Client, State, opening}
 use Rattle.machine.specs.Machine.{Step, at_post, at_client, at_both, stepped, Move, state_after, items_after, history_after, reading_of, seen_after, IsSteadyAt, AreSteady, Steady}
 use Rattle.isolation_laws.specs.Holds.{Holds}

@@ -1,8 +1,7 @@
 -- Every outcome keeps the facts on the cells and the commit table.
-use Rattle.std.proofs.Common.{◌≡◌, ℕ, ◌+◌, if◌then◌else◌, Bool, true, false, List, [], ◌∷◌, ◌++◌, Option, Some, None, inl, inr, refl, sym, ◌∙◌, ap, subst}
+use Rattle.std.proofs.Common.{◌≡◌, ℕ, ◌+◌, if◌then◌else◌, Bool, true, false, List, ◌++◌, Option, Some, None, inl, inr, refl, ◌∙◌, ap, subst}
 use Rattle.history_book.specs.Isolation.{last_write}
 use Rattle.history_book.specs.declared.item.Item.{Item}
-use Rattle.history_book.specs.declared.item.Item.TheVariants.{Write, Draw}
 use Rattle.store_parts.specs.declared.rows.Cell.{Cell}
 use Rattle.store_parts.specs.Rows.{Row, looked, with_shadow}
 use Rattle.store_parts.specs.Pairs.{Pairs}
@@ -14,19 +13,17 @@ use Rattle.client_parts.specs.KeyRead.{settling_of}
 use Rattle.oracle_parts.specs.Instance.{InstanceEntry}
 use Rattle.machine.specs.State.{Client, State}
 use Rattle.machine.specs.StoreSteps.{rows_after, pairs_after}
-use Rattle.isolation_laws.specs.Words.{Begun}
 use Rattle.isolation_laws.specs.Quiet.{AllQuiet}
 use Rattle.isolation_laws.specs.Cells.{CellFacts}
 use Rattle.isolation_laws.specs.Holds.{Holds}
 use Rattle.isolation_laws.proofs.NumbersKept.{in_flight_of, drawn_pending}
-use Rattle.isolation_laws.proofs.NumbersOfDraws.{start_drawn, commit_drawn, asker_of, draw_item_is}
 use Rattle.isolation_laws.proofs.OutcomesOfStamps.{Drew, drew_items, PlacedOne, placed_state, placed_items, AnsweredBegin, answered_begin_state, answered_begin_items}
 use Rattle.isolation_laws.proofs.OutcomesOfSessions.{Healed}
 use Rattle.isolation_laws.proofs.OutcomesOfWork.{read_turn, fetched_turn}
 use Rattle.isolation_laws.proofs.Outcomes.{Outcome, OfStill, OfGranted, OfRenewed, OfExtended, OfCrashed, OfAskedBegin, OfAskedCommit, OfAccepted, OfEnded, OfDrew, OfPlaced, OfNotPlaced, OfAnsweredBegin, OfAnsweredCommit, OfEndedReadOnly, OfWrote, OfWriteFailed, OfAborted, OfVanished, OfHealed, OfFetched, OfReadDropped, OfReadStepped, OfOutcome, OfOutcomeFailed, OfCompleted, OfSweepOpened, OfSwept, OfSweepListed, OfSweepFailed, left_by, told_by_outcome}
 use Rattle.isolation_laws.proofs.PendingFewer.{fewer_still, fewer_granted, fewer_renewed, fewer_extended, fewer_crashed, fewer_asked_begin, fewer_ended_one, fewer_settled, fewer_answered_commit}
 use Rattle.isolation_laws.proofs.OpenAfter.{fewer_open_crashed, fewer_open_asked_begin, fewer_open_ended, fewer_open_answered_commit, fewer_open_read_only, fewer_open_aborted, fewer_open_vanished, fewer_open_healed, fewer_open_fetched, fewer_open_dropped, fewer_open_read, fewer_open_outcome, fewer_open_outcome_failed, fewer_open_completed}
-use Rattle.isolation_laws.proofs.RequestsOfBegins.{begin_held, start_unbegun}
+use Rattle.isolation_laws.proofs.RequestsOfBegins.{start_unbegun}
 use Rattle.isolation_laws.proofs.LiveAfter.{FewerLive, fewer_live, same_live, live_by_clients, live_by_nodes, live_asked_commit, live_accepted, live_drew, live_answered_begin}
 use Rattle.isolation_laws.proofs.Calm.{Calm, calm_none, calm_quiet, calm_turn, calm_draw}
 use Rattle.isolation_laws.proofs.WrittenKeys.{last_write-none}

@@ -1,5 +1,5 @@
 -- What a take and a renewal come to.
-use Rattle.std.proofs.Common.{[], ◌≡◌, ℕ, ◌≤◌, ◌==◌, max, Bool, true, false, if◌then◌else◌, List, ◌∷◌, Option, Some, None, refl, ap, arith}
+use Rattle.std.proofs.Common.{[], ◌≡◌, ℕ, ◌==◌, max, Bool, true, false, if◌then◌else◌, List, ◌∷◌, Option, Some, None, refl, ap}
 use Rattle.std.specs.Prelude.{slice_get, slice_set}
 use Rattle.std.specs.Option.{option_or}
 use Rattle.std.proofs.lemmas.Bool.{eqb-true}

@@ -3,7 +3,7 @@ use Rattle.std.proofs.Common.{◌≡◌, ℕ, List, Option, Some, ◌⊎◌, inl
 use Rattle.oracle_parts.specs.Instance.{InstanceEntry}
 use Rattle.machine.specs.State.{Client, State}
 use Rattle.isolation_laws.specs.Words.{epoch_or_none}
-use Rattle.isolation_laws.specs.Pending.{Waits, Taken, IsPending, Live}
+use Rattle.isolation_laws.specs.Pending.{Waits, Taken, Live}
 use Rattle.isolation_laws.proofs.OutcomesOfRequests.{AskedCommit, asked_commit_state, Accepted, accepted_state}
 use Rattle.isolation_laws.proofs.OutcomesOfStamps.{Drew, drew_state, AnsweredBegin, answered_begin_state}
 use Rattle.isolation_laws.proofs.PendingAfter.{FewerPending}

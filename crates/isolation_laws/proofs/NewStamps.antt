@@ -1,5 +1,5 @@
 -- A stamp that is drawn now is new: it differs from all before, and is above those of its term.
-use Rattle.std.proofs.Common.{◌≡◌, ℕ, ◌+◌, ◌<◌, ◌≤◌, List, Option, Some, ◌⊎◌, inl, inr, refl, sym, ◌∙◌, ap, arith}
+use Rattle.std.proofs.Common.{◌≡◌, ℕ, ◌+◌, ◌<◌, ◌≤◌, List, Option, Some, ◌⊎◌, inl, inr, refl, arith}
 use Rattle.std.proofs.lemmas.Option.{same_Some, none-some}
 use Rattle.history_book.specs.Members.{◌∈◌}
 use Rattle.history_book.specs.declared.item.Item.{Item}
@@ -8,7 +8,6 @@ use Rattle.store_parts.specs.Record.{MasterRecord}
 use Rattle.oracle_parts.specs.declared.instance.Progress.TheVariants as progress
 use Rattle.oracle_parts.specs.declared.instance.Request.{Request}
 use Rattle.oracle_parts.specs.declared.instance.Request.TheVariants.{Begin as BeginRequest, Commit}
-use Rattle.oracle_parts.specs.Instance.{session_of}
 use Rattle.machine.specs.State.{State}
 use Rattle.machine.specs.Events.Decide.{draw_item}
 use Rattle.isolation_laws.specs.Words.{HasDrawn, drawn_stamp}

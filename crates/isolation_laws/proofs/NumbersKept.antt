@@ -1,8 +1,8 @@
 -- What keeps the facts on stamps, terms and leases: one item that is not quiet, requests as they stand, reads, quiet items.
-use Rattle.std.proofs.Common.{[], ◌≡◌, ℕ, ◌≤◌, max, IsTrue, List, ◌∷◌, ◌++◌, append_assoc, Option, Some, refl, sym, ◌∙◌, ap, subst, arith}
+use Rattle.std.proofs.Common.{[], ◌≡◌, ℕ, ◌≤◌, IsTrue, List, ◌∷◌, ◌++◌, append_assoc, Option, Some, refl, sym, ◌∙◌, subst, arith}
 use Rattle.std.specs.Prelude.{slice_set}
 use Rattle.std.proofs.lemmas.List.{append-nil}
-use Rattle.std.proofs.lemmas.List.Elements.{All-nil, All-cons}
+use Rattle.std.proofs.lemmas.List.Elements.{All-nil}
 use Rattle.std.proofs.lemmas.Option.{same_Some}
 use Rattle.history_book.specs.declared.item.Item.{Item}
 use Rattle.history_book.specs.declared.item.Item.TheVariants.{Begin, Read, Placed}
@@ -14,9 +14,7 @@ use Rattle.client_parts.specs.declared.session.State.TheVariants as phase
 use Rattle.client_parts.specs.SessionSteps.{has_transaction}
 use Rattle.client_parts.specs.KeyRead.{ReadTurn, Asks, Answers}
 use Rattle.oracle_parts.specs.declared.instance.Progress.TheVariants as progress
-use Rattle.oracle_parts.specs.declared.instance.Request.{Request}
-use Rattle.oracle_parts.specs.declared.instance.Request.TheVariants.{Begin as BeginRequest, Commit}
-use Rattle.oracle_parts.specs.Instance.{InstanceEntry, session_of}
+use Rattle.oracle_parts.specs.Instance.{InstanceEntry}
 use Rattle.machine.specs.State.{Client, State}
 use Rattle.machine.specs.Events.Fetch.{read_items, found_of}
 use Rattle.isolation_laws.specs.Words.{InstanceAt, ClientAt, Begun, DrewStart, DrewCommit}

@@ -1,5 +1,5 @@
 -- Stamps, terms and leases under a master record that went up, over the same instances.
-use Rattle.std.proofs.Common.{◌≡◌, ℕ, ◌+◌, ◌<◌, ◌≤◌, max, List, ◌++◌, Option, ◌⊎◌, arith}
+use Rattle.std.proofs.Common.{◌≡◌, ℕ, ◌<◌, ◌≤◌, List, ◌++◌, Option, ◌⊎◌, arith}
 use Rattle.history_book.specs.declared.item.Item.{Item}
 use Rattle.stamp_base.specs.SetupNumbers.{SetupNumbers}
 use Rattle.store_parts.specs.Record.{MasterRecord}

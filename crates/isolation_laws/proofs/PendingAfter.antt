@@ -11,7 +11,6 @@ use Rattle.oracle_parts.specs.declared.instance.Request.TheVariants.{Begin, Comm
 use Rattle.oracle_parts.specs.declared.instance.Settled.{Settled}
 use Rattle.oracle_parts.specs.Instance.{InstanceEntry, with_request, instance_new, held_of}
 use Rattle.oracle_parts.specs.InstanceSteps.{without_request, moved, just_asked}
-use Rattle.machine.specs.Events.Take.{instance_of}
 use Rattle.isolation_laws.specs.Words.{InstanceAt, HeldBy}
 use Rattle.isolation_laws.specs.Pending.{Stage, InFlight, stage_of, Pending}
 use Rattle.isolation_laws.proofs.Lookups.{instance_changed, instance_ended, heldby_ended, heldby_changed}

@@ -2,11 +2,10 @@
 -- came before. Then reads under way see all that they saw, and past reads stay right.
 use Rattle.std.proofs.Common.{◌≡◌, ℕ, ◌<◌, ◌≤◌, List, ◌∷◌, Option, Some, None, ◌⊎◌, inl, inr, sym, ◌∙◌, arith}
 use Rattle.history_book.specs.Members.{◌∈◌, AtEach}
-use Rattle.history_book.specs.Isolation.{Committed, Wrote, last_write, WasListed, Candidate, Newest, Visible, RightAnswer, RightRead}
+use Rattle.history_book.specs.Isolation.{Committed, Wrote, last_write, Candidate, Newest, Visible, RightAnswer, RightRead}
 use Rattle.history_book.specs.declared.item.Found.{Found}
-use Rattle.history_book.specs.declared.item.StoreStep.TheVariants.{Keys}
 use Rattle.history_book.specs.declared.item.Item.{Item}
-use Rattle.history_book.specs.declared.item.Item.TheVariants.{Read, Placed, Step}
+use Rattle.history_book.specs.declared.item.Item.TheVariants.{Read, Placed}
 use Rattle.history_book.proofs.MemberLemmas.{AtEach-weaker}
 use Rattle.store_parts.specs.declared.rows.Cell.{Cell}
 use Rattle.store_parts.specs.Rows.{Row}

@@ -1,5 +1,5 @@
 -- What outcomes leave of requests and sessions, where one client alone changes.
-use Rattle.std.proofs.Common.{◌≡◌, ℕ, IsTrue, List, Option, ◌⊎◌, inl, inr, refl, sym, ◌∙◌, ap, subst}
+use Rattle.std.proofs.Common.{◌≡◌, ℕ, IsTrue, List, ◌⊎◌, inl, inr, refl, sym, ◌∙◌, ap, subst}
 use Rattle.std.specs.Prelude.{slice_set}
 use Rattle.std.proofs.lemmas.Option.{same_Some}
 use Rattle.history_book.specs.declared.item.Item.{Item}
@@ -22,7 +22,6 @@ use Rattle.isolation_laws.specs.Requests.{WaitsFor, AreRequests, HasAsked}
 use Rattle.isolation_laws.specs.Holds.{Holds}
 use Rattle.isolation_laws.proofs.OutcomesOfSessions.{EndedReadOnly, read_only_state, WriteFailed, write_failed_state, Aborted, aborted_state, Vanished, vanished_state, Healed, healed_state}
 use Rattle.isolation_laws.proofs.OutcomesOfWork.{Fetched, fetched_turn, fetched_state, ReadDropped, read_dropped_state, read_turn, ReadStepped, read_stepped_state, OutcomeStepped, outcome_state, OutcomeFailed, outcome_failed_state, CompletedOne, completed_state}
-use Rattle.isolation_laws.proofs.PendingAfter.{FewerPending}
 use Rattle.isolation_laws.proofs.ClientsOpen.{FewerOpen, read_keeps_entry}
 use Rattle.isolation_laws.proofs.OpenAfter.{fewer_open_read_only, fewer_open_write_failed, fewer_open_aborted, fewer_open_vanished, fewer_open_healed, fewer_open_fetched, fewer_open_dropped, fewer_open_read, fewer_open_outcome, fewer_open_outcome_failed, fewer_open_completed}
 use Rattle.isolation_laws.proofs.ClientsAfter.{begun_kept, KeepsStart, has_none, has_by, aborted_keeps, freed_keeps, settled_keeps, asks_keep, KeysClient, keys_client, keys_set, keys_closed, gone_closed, keys_aborted, keys_freed, keys_settled, keys_asks}

@@ -2,9 +2,8 @@
 use Rattle.std.proofs.Common.{[], ◌≡◌, ℕ, IsTrue, List, ◌∷◌, ◌++◌, Some, ◌⊎◌, inl, inr, refl, sym, ◌∙◌, ap, subst}
 use Rattle.std.proofs.lemmas.Bool.{cases_eq}
 use Rattle.std.proofs.lemmas.Option.{same_Some}
-use Rattle.history_book.specs.Isolation.{Committed}
 use Rattle.history_book.specs.declared.item.Item.{Item}
-use Rattle.history_book.specs.declared.item.Item.TheVariants.{Begin, Draw, Write, Placed}
+use Rattle.history_book.specs.declared.item.Item.TheVariants.{Begin, Draw, Write}
 use Rattle.history_book.proofs.MemberLemmas.{in_old}
 use Rattle.client_parts.specs.declared.session.State.{State as SessionState}
 use Rattle.client_parts.specs.declared.session.State.TheVariants as phase

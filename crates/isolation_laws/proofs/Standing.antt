@@ -9,7 +9,7 @@ use Rattle.oracle_parts.specs.declared.instance.Progress.{Progress}
 use Rattle.oracle_parts.specs.declared.instance.Progress.TheVariants as progress
 use Rattle.oracle_parts.specs.declared.instance.Request.{Request}
 use Rattle.oracle_parts.specs.declared.instance.Request.TheVariants.{Begin, Commit}
-use Rattle.oracle_parts.specs.Instance.{InstanceEntry, held_of, with_request}
+use Rattle.oracle_parts.specs.Instance.{InstanceEntry, with_request}
 use Rattle.oracle_parts.specs.InstanceSteps.{without_request, just_asked, instance_widened, instance_renewed}
 use Rattle.machine.specs.State.{State}
 use Rattle.machine.specs.Events.Take.{rules_of, instance_of}

@@ -26,7 +26,7 @@ use Rattle.isolation_laws.specs.Requests.{WaitsFor, IsSettled}
 use Rattle.isolation_laws.specs.Quiet.{AllQuiet}
 use Rattle.isolation_laws.specs.UnderWay.{UnderWayFacts}
 use Rattle.isolation_laws.specs.Holds.{Holds}
-use Rattle.isolation_laws.proofs.Lookups.{held_by, one_client}
+use Rattle.isolation_laws.proofs.Lookups.{held_by}
 use Rattle.isolation_laws.proofs.Pushed.{last_write-quiet}
 use Rattle.isolation_laws.proofs.Owners.{not_in_flight, pending_unplaced}
 use Rattle.isolation_laws.proofs.OpenAfter.{crashed_at}

@@ -7,9 +7,9 @@ use Rattle.history_book.specs.declared.item.Item.{Item}
 use Rattle.store_parts.specs.Rows.{Row, with_shadow}
 use Rattle.client_parts.specs.declared.resolve.Outcome.TheVariants as outcome
 use Rattle.client_parts.specs.declared.session.State.TheVariants as phase
-use Rattle.client_parts.specs.Resolve.{Settling, SettleTurn, Goes, Decides, settle_turn}
+use Rattle.client_parts.specs.Resolve.{SettleTurn, Goes, Decides, settle_turn}
 use Rattle.client_parts.specs.KeyRead.{Reading, ReadTurn, Answers, settling_of, found_by, read_by, read_ask}
-use Rattle.machine.specs.State.{UnderWay, Nothing, Settles, Client, State}
+use Rattle.machine.specs.State.{UnderWay, Nothing, Client, State}
 use Rattle.machine.specs.Clients.{client_freed, client_aborted, client_vanished}
 use Rattle.machine.specs.StoreSteps.{told_by}
 use Rattle.machine.specs.Events.Fetch.{client_read}
