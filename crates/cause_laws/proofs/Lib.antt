@@ -6,3 +6,4 @@ pub mod RequestsWere
 pub mod DeedsMute
 pub mod AsksKept
 pub mod OpenWords
+pub mod HeldCounts
