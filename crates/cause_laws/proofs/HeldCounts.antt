@@ -114,6 +114,9 @@ pub shape_request : (setup : SetupNumbers) (i : InstanceEntry) (s : ℕ) (now : 
 shape_request setup i s now shape = (shape.0, length-set i.requests s now ∙ shape.1)
 
 -- ---- the facts
+pub shaped_of : (setup : SetupNumbers) (nodes : List (Option InstanceEntry)) (h : List Item) → AreOpenAsks setup nodes h → AllShaped setup nodes
+shaped_of setup nodes h asks n i at = (asks.slots n i at, asks.sixteen n i at)
+
 pub open_asks_by : (setup : SetupNumbers) (nodes new : List (Option InstanceEntry)) (h items : List Item) → AreOpenAsks setup nodes h → AllCame nodes items new → AllShaped setup new → AreOpenAsks setup new (h ++ items)
 open_asks_by setup nodes new h items asks came shaped = record {
   each = λ m s now at. let from : Came nodes items m s now = came m s now at in

@@ -7,3 +7,4 @@ pub mod DeedsMute
 pub mod AsksKept
 pub mod OpenWords
 pub mod HeldCounts
+pub mod OpenAsksKept
