@@ -38,3 +38,5 @@ pub mod DueOfSteps
 pub mod DuesDone
 pub mod OpenWords
 pub mod RecordShown
+pub mod HeldCounts
+pub mod OpenAsksKept
