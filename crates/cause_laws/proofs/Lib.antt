@@ -8,3 +8,4 @@ pub mod DueOfSessions
 pub mod DueOfSteps
 pub mod DuesDone
 pub mod RecordShown
+pub mod MarksShown
