@@ -40,3 +40,4 @@ pub mod OpenWords
 pub mod RecordShown
 pub mod HeldCounts
 pub mod OpenAsksKept
+pub mod MarksShown
