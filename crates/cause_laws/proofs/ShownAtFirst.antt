@@ -30,6 +30,7 @@ none_marked t marked = none-some InvalidMark (sym (map.get-empty nat_cmp t) ∙ 
 
 pub shown_at_first : (setup : SetupNumbers) → Shows (opening setup) []
 shown_at_first setup = record {
+  sixteen = refl;
   asked = record {
     asked = λ n s i request p at. absurd (none_at setup.nodes n i at);
     accepted = λ n s i request p at. absurd (none_at setup.nodes n i at);
