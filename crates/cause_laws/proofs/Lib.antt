@@ -8,3 +8,4 @@ pub mod AsksKept
 pub mod OpenWords
 pub mod HeldCounts
 pub mod OpenAsksKept
+pub mod ClientsStay
