@@ -1,5 +1,5 @@
 -- The system has 16 clients from the opening on: an event puts clients back, and adds or drops none.
-use Rattle.std.proofs.Common.{◌≡◌, ℕ, max, suc, List, [], ◌∷◌, length, Option, None, Some, refl, ap}
+use Rattle.std.proofs.Common.{◌≡◌, ℕ, suc, List, [], ◌∷◌, length, Option, None, Some, refl, ap}
 use Rattle.std.specs.Prelude.{slice_get}
 use Rattle.std.proofs.lemmas.List.{length-set, length-replicate}
 use Rattle.stamp_base.specs.SetupNumbers.{SetupNumbers}
