@@ -1,5 +1,5 @@
 -- How many requests of a session are held at a node after a deed, by what its items do to the asks that are open there.
-use Rattle.std.proofs.Common.{◌≡◌, ◌≢◌, ℕ, suc, ◌<◌, ◌==◌, Bool, true, false, if◌then◌else◌, is_some, length, List, [], ◌∷◌, ◌++◌, Option, None, Some, ◌⊎◌, inl, inr, refl, sym, ◌∙◌, ap, subst}
+use Rattle.std.proofs.Common.{◌≡◌, ◌≢◌, ℕ, ◌<◌, ◌==◌, Bool, true, false, if◌then◌else◌, is_some, length, List, ◌++◌, Option, None, Some, ◌⊎◌, inl, inr, refl, sym, ◌∙◌, ap, subst}
 use Rattle.std.specs.Prelude.{slice_get, slice_set, All}
 use Rattle.std.specs.List.{fold}
 use Rattle.std.proofs.lemmas.Bool.{cases_lt, eqb-true, eqb-false}
@@ -12,7 +12,7 @@ use Rattle.oracle_parts.specs.declared.instance.Progress.{Progress}
 use Rattle.oracle_parts.specs.declared.instance.Request.{Request}
 use Rattle.oracle_parts.specs.Instance.{InstanceEntry, held_of, with_request}
 use Rattle.oracle_parts.proofs.InstanceRequests.{held_of-with_request_same, held_of-with_request_other}
-use Rattle.cause_rules.specs.OpenAsks.{open_then, open_asks_of}
+use Rattle.cause_rules.specs.OpenAsks.{open_then}
 use Rattle.isolation_laws.specs.Words.{InstanceAt, HeldBy}
 use Rattle.isolation_laws.proofs.Lookups.{set_cases, instance_changed, instance_ended, held_by}
 use Rattle.cause_laws.specs.Requests.{held_count, AreOpenAsks}
@@ -83,10 +83,10 @@ calm_stays nodes items m calm s post at = open_kept m s (held_count post s) item
 pub came_at : (nodes : List (Option InstanceEntry)) (items : List Item) (n : ℕ) (old now : Option InstanceEntry) → slice_get nodes n ≡ Some old → ((s : ℕ) → fold (open_then n s) (held_count old s) items ≡ held_count now s) → ((m : ℕ) → m ≢ n → Stays nodes items m) → AllCame nodes items (slice_set nodes n now)
 came_at nodes items n old now at here stays m s post there = elim (set_cases nodes n m now post there) [
   | inl same ↦ record {
-      post = old;
-      at = subst (λ (k : ℕ). slice_get nodes k ≡ Some old) (sym same.0) at;
-      leads = subst (λ (k : ℕ). fold (open_then k s) (held_count old s) items ≡ held_count post s) (sym same.0) (here s ∙ ap (λ (x : Option InstanceEntry). held_count x s) (sym same.1));
-    }
+    post = old;
+    at = subst (λ (k : ℕ). slice_get nodes k ≡ Some old) (sym same.0) at;
+    leads = subst (λ (k : ℕ). fold (open_then k s) (held_count old s) items ≡ held_count post s) (sym same.0) (here s ∙ ap (λ (x : Option InstanceEntry). held_count x s) (sym same.1));
+  }
   | inr other ↦ record { post = post; at = other.1; leads = stays m other.0 s post other.1 }
 ]
 

@@ -41,3 +41,4 @@ pub mod RecordShown
 pub mod HeldCounts
 pub mod OpenAsksKept
 pub mod MarksShown
+pub mod ClientsStay

@@ -1,12 +1,11 @@
 -- Each deed keeps that a session's asks at a node are open exactly where the node holds its request.
-use Rattle.std.proofs.Common.{◌≡◌, ◌≢◌, ℕ, ◌+◌, suc, ◌<◌, ◌==◌, Bool, true, false, ◌&&◌, List, [], ◌∷◌, ◌++◌, length, Option, None, Some, ◌⊎◌, inl, inr, refl, sym, ◌∙◌, ap, subst}
+use Rattle.std.proofs.Common.{◌≡◌, ◌≢◌, ℕ, ◌+◌, suc, ◌<◌, Bool, true, false, ◌&&◌, List, [], ◌∷◌, ◌++◌, length, Option, None, Some, inl, inr, refl, sym, ◌∙◌, ap, subst}
 use Rattle.std.specs.Prelude.{slice_get, slice_set, All}
 use Rattle.std.specs.List.{fold}
 use Rattle.std.proofs.lemmas.Bool.{ne_eqb}
 use Rattle.std.proofs.lemmas.List.{length-replicate}
 use Rattle.std.proofs.lemmas.List.Elements.{All-nil, All-cons, All-append, All-weaker}
 use Rattle.std.proofs.lemmas.Option.{slice_get_within}
-use Rattle.stamp_base.specs.SetupNumbers.{SetupNumbers}
 use Rattle.history_book.specs.declared.item.Actor.TheVariants.{Node, Session}
 use Rattle.history_book.specs.declared.item.Item.{Item}
 use Rattle.history_book.specs.declared.item.Item.TheVariants as item
@@ -17,7 +16,7 @@ use Rattle.oracle_parts.specs.declared.instance.Progress.TheVariants as progress
 use Rattle.oracle_parts.specs.declared.instance.Request.{Request}
 use Rattle.oracle_parts.specs.declared.instance.Settled.{Settled}
 use Rattle.oracle_parts.specs.declared.instance.Settled.TheVariants as how
-use Rattle.oracle_parts.specs.Instance.{InstanceEntry, held_of, with_request, session_of}
+use Rattle.oracle_parts.specs.Instance.{InstanceEntry, with_request, session_of}
 use Rattle.oracle_parts.specs.InstanceSteps.{without_request, just_asked, decide_drawn, instance_widened, instance_renewed, instance_stopped}
 use Rattle.oracle_parts.proofs.InstanceRequests.{held_of-instance_new}
 use Rattle.machine.specs.State.{State}
@@ -29,8 +28,8 @@ use Rattle.isolation_laws.specs.Sound.{Stands}
 use Rattle.isolation_laws.proofs.Lookups.{held_by}
 use Rattle.cause_laws.specs.Requests.{held_count, AreOpenAsks}
 use Rattle.cause_laws.specs.Shows.{Shows}
-use Rattle.cause_laws.proofs.Deeds.{Took, Crashed, Asked, Serving, SettledOne, Ended, Learned, Deed, OfRested, OfTook, OfRenewed, OfWidened, OfStopped, OfCrashed, OfAsked, OfAccepted, OfDrew, OfSettled, OfTold, OfEnded, OfLearned, IsLossOf, took_nodes, took_items, fault_if, fault_of, renewed_to, widened_to, ask_item, nodes_by, items_by}
-use Rattle.cause_laws.proofs.OpenWords.{Keeps, open_kept, Calm, calm_keeps, all_calm_keep, none_keeps, closed, silent_calm, all_silent_calm, draw_calm, ask_of_other, ask_elsewhere, ask_opens, crash_elsewhere, crash_closes, ends_no_ask, ends_closes, ends_of_other}
+use Rattle.cause_laws.proofs.Deeds.{Took, Crashed, Asked, Serving, Ended, Learned, Deed, OfRested, OfTook, OfRenewed, OfWidened, OfStopped, OfCrashed, OfAsked, OfAccepted, OfDrew, OfSettled, OfTold, OfEnded, OfLearned, IsLossOf, took_nodes, took_items, fault_if, fault_of, renewed_to, widened_to, ask_item, nodes_by, items_by}
+use Rattle.cause_laws.proofs.OpenWords.{Keeps, open_kept, Calm, calm_keeps, all_calm_keep, none_keeps, closed, all_silent_calm, draw_calm, ask_of_other, ask_elsewhere, ask_opens, crash_elsewhere, crash_closes, ends_no_ask, ends_closes, ends_of_other}
 use Rattle.cause_laws.proofs.HeldCounts.{same_or_other, count_of, held_within, count_other, count_now, count_same, no_count, AllCame, came_all, calm_stays, came_at, came_calm, AllShaped, shaped_put, shaped_ended, shape_request, shaped_of, open_asks_by}
 use Rattle.cause_laws.proofs.RequestsWere.{serving_alone, learned_unheld}
 
@@ -58,7 +57,7 @@ came_took : (w : State) (k : Took w) (failed : Bool) → AllCame w.nodes (took_i
 came_took w k true m s now at = came_all w.nodes (took_items w k) (λ m. calm_stays w.nodes (took_items w k) m (took_calm w k m)) m s now at
 came_took w k false m s now at =
     came_calm w.nodes (took_items w k) k.node None (Some (instance_of w.setup k.node (granted (rules_of w.setup) w.master k.reading))) k.vacant (took_calm w k)
-      (λ r. ap count_of (held_of-instance_new (granted (rules_of w.setup) w.master k.reading) k.node w.setup.buckets w.setup.width w.setup.slots r)) m s now at
+    (λ r. ap count_of (held_of-instance_new (granted (rules_of w.setup) w.master k.reading) k.node w.setup.buckets w.setup.width w.setup.slots r)) m s now at
 
 no_requests : Option Held
 no_requests = None
@@ -75,18 +74,18 @@ loss_no_ask n s i _ loss = absurd loss
 loss_keeps : (w : State) (h : List Item) (k : Crashed w) (m s : ℕ) (post : Option InstanceEntry) → Stands w h → m ≢ k.node → slice_get w.nodes m ≡ Some post → (x : Item) → IsLossOf k.i x → Keeps m s (held_count post s) x
 loss_keeps w h k m s post stands other at (item.Refused (Session r) why) loss =
     unheld_keeps w.nodes m s r post (item.Refused (Session r) why) at refl
-      (λ differ. record { asks = refl; closes_none = ap (λ b. b && ends_request why) (ne_eqb r s (λ same. differ (sym same))) })
-      (λ j request p there holds. other (stands.holds.requests.requests.one m k.node r j k.i request loss.0.request p loss.0.progress there k.at holds (held_by k.i r loss.0 loss.1)))
+    (λ differ. record { asks = refl; closes_none = ap (λ b. b && ends_request why) (ne_eqb r s (λ same. differ (sym same))) })
+    (λ j request p there holds. other (stands.holds.requests.requests.one m k.node r j k.i request loss.0.request p loss.0.progress there k.at holds (held_by k.i r loss.0 loss.1)))
 loss_keeps w h k m s post stands other at _ loss = absurd loss
 
 came_crashed : (w : State) (h : List Item) (k : Crashed w) → Stands w h → AllCame w.nodes (item.Crash k.node k.i.term ∷ k.told) (slice_set w.nodes k.node None)
 came_crashed w h k stands =
     let crash : Item = item.Crash k.node k.i.term in
     came_at w.nodes (crash ∷ k.told) k.node (Some k.i) None k.at
-      (λ s. ap (λ count. fold (open_then k.node s) count k.told) (crash_closes k.node s (held_count (Some k.i) s) k.i.term)
-        ∙ open_kept k.node s 0 k.told (All-weaker (IsLossOf k.i) (Keeps k.node s 0) (λ x loss. none_keeps k.node s x (loss_no_ask k.node s k.i x loss)) k.told k.losses))
-      (λ m other s post at. ap (λ count. fold (open_then m s) count k.told) (calm_keeps m s (held_count post s) crash (crash_elsewhere m s k.node k.i.term (λ same. other (sym same))))
-        ∙ open_kept m s (held_count post s) k.told (All-weaker (IsLossOf k.i) (Keeps m s (held_count post s)) (loss_keeps w h k m s post stands other at) k.told k.losses))
+    (λ s. ap (λ count. fold (open_then k.node s) count k.told) (crash_closes k.node s (held_count (Some k.i) s) k.i.term)
+    ∙ open_kept k.node s 0 k.told (All-weaker (IsLossOf k.i) (Keeps k.node s 0) (λ x loss. none_keeps k.node s x (loss_no_ask k.node s k.i x loss)) k.told k.losses))
+    (λ m other s post at. ap (λ count. fold (open_then m s) count k.told) (calm_keeps m s (held_count post s) crash (crash_elsewhere m s k.node k.i.term (λ same. other (sym same))))
+    ∙ open_kept m s (held_count post s) k.told (All-weaker (IsLossOf k.i) (Keeps m s (held_count post s)) (loss_keeps w h k m s post stands other at) k.told k.losses))
 
 -- ---- an ask
 came_asked : (w : State) (k : Asked w) → session_of k.request < length k.i.requests → AllCame w.nodes (ask_item k.node k.request ∷ []) (nodes_by w (OfAsked k))
@@ -95,12 +94,12 @@ came_asked w k within =
     let x : Item = ask_item k.node k.request in
     let held : Option Held = Some (just_asked k.request) in
     came_at w.nodes (x ∷ []) k.node (Some k.i) (Some (with_request k.i r held)) k.at
-      (λ s. elim (same_or_other s r) [
-        | inl same ↦ subst (λ (y : ℕ). open_then k.node y (held_count (Some k.i) y) x ≡ held_count (Some (with_request k.i r held)) y) (sym same)
-            (ask_opens k.node (held_count (Some k.i) r) k.request ∙ (ap (λ o. suc (count_of o)) k.none ∙ sym (count_now k.i r held within)))
-        | inr other ↦ calm_keeps k.node s (held_count (Some k.i) s) x (ask_of_other k.node s k.node k.request (λ same. other (sym same))) ∙ sym (count_other k.i r s held other)
-      ])
-      (λ m other. calm_stays w.nodes (x ∷ []) m (λ s. one_calm m s x (ask_elsewhere m s k.node k.request (λ same. other (sym same)))))
+    (λ s. elim (same_or_other s r) [
+      | inl same ↦ subst (λ (y : ℕ). open_then k.node y (held_count (Some k.i) y) x ≡ held_count (Some (with_request k.i r held)) y) (sym same)
+          (ask_opens k.node (held_count (Some k.i) r) k.request ∙ (ap (λ o. suc (count_of o)) k.none ∙ sym (count_now k.i r held within)))
+      | inr other ↦ calm_keeps k.node s (held_count (Some k.i) s) x (ask_of_other k.node s k.node k.request (λ same. other (sym same))) ∙ sym (count_other k.i r s held other)
+    ])
+    (λ m other. calm_stays w.nodes (x ∷ []) m (λ s. one_calm m s x (ask_elsewhere m s k.node k.request (λ same. other (sym same)))))
 
 -- ---- a put that has ended
 fault_of_calm : (m s node : ℕ) (by : Settled) → All (Calm m s) (fault_of by node)
@@ -113,24 +112,24 @@ came_ended : (w : State) (h : List Item) (k : Ended w) → Stands w h → AllCam
 came_ended w h k stands =
     let it : Serving w = k.it in
     came_at w.nodes (k.last ∷ []) it.node (Some it.i) (Some (without_request it.i it.session)) it.at
-      (λ s. elim (same_or_other s it.session) [
-        | inl same ↦ subst (λ (y : ℕ). open_then it.node y (held_count (Some it.i) y) k.last ≡ held_count (Some (without_request it.i it.session)) y) (sym same)
-            (closed it.node it.session (held_count (Some it.i) it.session) k.last (ends_no_ask it.node it.session it.session k.last k.ends) (ends_closes it.node it.session k.last k.ends)
-            ∙ sym (count_now it.i it.session None (held_within it.i it.session it.held it.has)))
-        | inr other ↦ calm_keeps it.node s (held_count (Some it.i) s) k.last (ends_of_other it.node it.session s k.last k.ends other) ∙ sym (count_other it.i it.session s None other)
-      ])
-      (λ m other s post at. unheld_keeps w.nodes m s it.session post k.last at (ends_no_ask m it.session s k.last k.ends) (ends_of_other m it.session s k.last k.ends)
-        (λ j request p there holds. other ((serving_alone w h it stands).one m j request p there holds)))
+    (λ s. elim (same_or_other s it.session) [
+      | inl same ↦ subst (λ (y : ℕ). open_then it.node y (held_count (Some it.i) y) k.last ≡ held_count (Some (without_request it.i it.session)) y) (sym same)
+          (closed it.node it.session (held_count (Some it.i) it.session) k.last (ends_no_ask it.node it.session it.session k.last k.ends) (ends_closes it.node it.session k.last k.ends)
+          ∙ sym (count_now it.i it.session None (held_within it.i it.session it.held it.has)))
+      | inr other ↦ calm_keeps it.node s (held_count (Some it.i) s) k.last (ends_of_other it.node it.session s k.last k.ends other) ∙ sym (count_other it.i it.session s None other)
+    ])
+    (λ m other s post at. unheld_keeps w.nodes m s it.session post k.last at (ends_no_ask m it.session s k.last k.ends) (ends_of_other m it.session s k.last k.ends)
+    (λ j request p there holds. other ((serving_alone w h it stands).one m j request p there holds)))
 
 came_learned : (w : State) (h : List Item) (k : Learned w) → Stands w h → AllCame w.nodes (k.steps ++ item.Committed k.session k.start k.commit ∷ []) w.nodes
 came_learned w h k stands =
     let last : Item = item.Committed k.session k.start k.commit in
     came_all w.nodes (k.steps ++ last ∷ []) (λ m s post at.
-      let keeps : Keeps m s (held_count post s) last =
-        unheld_keeps w.nodes m s k.session post last at refl (ends_of_other m k.session s last refl) (learned_unheld w h k stands m) in
-      open_kept m s (held_count post s) (k.steps ++ last ∷ [])
-        (All-append (Keeps m s (held_count post s)) k.steps (last ∷ []) (all_calm_keep m s (held_count post s) k.steps (all_silent_calm m s k.steps k.silent))
-          (All-cons (Keeps m s (held_count post s)) last [] keeps (All-nil (Keeps m s (held_count post s))))))
+    let keeps : Keeps m s (held_count post s) last =
+    unheld_keeps w.nodes m s k.session post last at refl (ends_of_other m k.session s last refl) (learned_unheld w h k stands m) in
+    open_kept m s (held_count post s) (k.steps ++ last ∷ [])
+    (All-append (Keeps m s (held_count post s)) k.steps (last ∷ []) (all_calm_keep m s (held_count post s) k.steps (all_silent_calm m s k.steps k.silent))
+    (All-cons (Keeps m s (held_count post s)) last [] keeps (All-nil (Keeps m s (held_count post s))))))
 
 shaped_request_put : (w : State) (n : ℕ) (i : InstanceEntry) (r : ℕ) (now : Option Held) → InstanceAt w.nodes n i → AllShaped w.setup w.nodes → AllShaped w.setup (slice_set w.nodes n (Some (with_request i r now)))
 shaped_request_put w n i r now at all = shaped_put w.setup w.nodes n (with_request i r now) all (shape_request w.setup i r now (all n i at))
@@ -154,10 +153,10 @@ came_by w h (OfAccepted k) stands sixteen shaped =
 came_by w h (OfDrew k) stands sixteen shaped =
     let stamp : ℕ = k.it.i.last + 1 in
     came_calm w.nodes (draw_item k.it.node k.it.i.term k.it.held.request stamp ∷ []) k.it.node (Some k.it.i) (Some (decide_drawn k.it.i k.it.session k.it.held stamp).left) k.it.at
-      (λ m s. one_calm m s (draw_item k.it.node k.it.i.term k.it.held.request stamp) (draw_calm m s k.it.node k.it.i.term stamp k.it.held.request)) (count_same k.it.i k.it.session k.it.held (record k.it.held { progress = progress.Drawn stamp }) k.it.has)
+    (λ m s. one_calm m s (draw_item k.it.node k.it.i.term k.it.held.request stamp) (draw_calm m s k.it.node k.it.i.term stamp k.it.held.request)) (count_same k.it.i k.it.session k.it.held (record k.it.held { progress = progress.Drawn stamp }) k.it.has)
 came_by w h (OfSettled k) stands sixteen shaped =
     came_calm w.nodes (k.effects ++ fault_of k.by k.it.node) k.it.node (Some k.it.i) _ k.it.at
-      (λ m s. All-append (Calm m s) k.effects (fault_of k.by k.it.node) (all_silent_calm m s k.effects k.silent) (fault_of_calm m s k.it.node k.by)) (count_same k.it.i k.it.session k.it.held (record k.it.held { progress = progress.Settled k.commit k.by }) k.it.has)
+    (λ m s. All-append (Calm m s) k.effects (fault_of k.by k.it.node) (all_silent_calm m s k.effects k.silent) (fault_of_calm m s k.it.node k.by)) (count_same k.it.i k.it.session k.it.held (record k.it.held { progress = progress.Settled k.commit k.by }) k.it.has)
 came_by w h (OfTold k) stands sixteen shaped =
     came_calm w.nodes k.items k.it.node (Some k.it.i) (Some (with_request k.it.i k.it.session (Some k.told))) k.it.at (λ m s. all_silent_calm m s k.items k.silent) (count_same k.it.i k.it.session k.it.held k.told k.it.has)
 came_by w h (OfEnded k) stands sixteen shaped = came_ended w h k stands
