@@ -8,4 +8,8 @@ pub mod DueOfSessions
 pub mod DueOfSteps
 pub mod DuesDone
 pub mod RecordShown
+pub mod MarksTold
 pub mod MarksShown
+pub mod GoneOnly
+pub mod GoneOfSessions
+pub mod GoneShown
