@@ -27,7 +27,7 @@ use Rattle.machine.specs.Events.Fetch.{fetch_on}
 use Rattle.machine.specs.Events.Step.{step_on}
 use Rattle.machine.specs.Events.Heal.{heal_on}
 use Rattle.machine.specs.Events.Abort.{abort_on}
-use Rattle.machine.specs.Events.Vanish.{vanish_by, vanish_on}
+use Rattle.machine.specs.Events.Vanish.{vanish_by}
 use Rattle.machine.proofs.PartsKept.{leaves_parts}
 use Rattle.isolation_laws.specs.Words.{ClientAt}
 use Rattle.isolation_laws.specs.Sound.{Stands}

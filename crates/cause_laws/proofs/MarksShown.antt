@@ -1,23 +1,16 @@
 -- The history goes on to show the marks of the commit table.
-use Rattle.std.proofs.Common.{◌≡◌, ◌≢◌, ℕ, Bool, true, false, List, [], ◌∷◌, ◌++◌, Option, Some, None, ◌⊎◌, inl, inr, refl, sym, ◌∙◌, ap, subst}
+use Rattle.std.proofs.Common.{◌≡◌, ℕ, false, List, [], ◌∷◌, ◌++◌, Option, Some, None, refl, sym, subst}
 use Rattle.std.specs.Prelude.{slice_get}
-use Rattle.std.proofs.lemmas.Bool.{cases_eq}
-use Rattle.std.proofs.lemmas.Option.{same_Some}
 use Rattle.stamp_base.specs.declared.stores.Mark.{Mark}
-use Rattle.stamp_base.specs.declared.stores.Mark.TheVariants.{Committed as CommittedMark, Invalid as InvalidMark}
+use Rattle.stamp_base.specs.declared.stores.Mark.TheVariants.{Committed as CommittedMark}
 use Rattle.port_io.specs.declared.weather.Fate.{Fate}
 use Rattle.port_io.specs.declared.weather.Fate.TheVariants.{Works, FailsUnchanged, FailsApplied}
 use Rattle.port_io.specs.Fates.{fated}
-use Rattle.history_book.specs.Members.{◌∈◌}
 use Rattle.history_book.specs.declared.cause.Cause.{Cause}
-use Rattle.history_book.specs.declared.item.Actor.{Actor}
 use Rattle.history_book.specs.declared.item.Actor.TheVariants.{Session, Janitor}
 use Rattle.history_book.specs.declared.item.Item.{Item}
-use Rattle.history_book.specs.declared.item.Item.TheVariants as item
-use Rattle.history_book.proofs.MemberLemmas.{in_front, in_back, in_last}
 use Rattle.store_parts.specs.Rows.{Row}
-use Rattle.store_parts.specs.Pairs.{Pairs, mark_of, put_pair, without_committed}
-use Rattle.store_parts.proofs.PairLaws.{entry_or, mark_of-put_pair, mark_of-put_pair_other, unless_committed, mark_of-without_committed, mark_of-without_committed_other}
+use Rattle.store_parts.specs.Pairs.{Pairs, mark_of, put_pair}
 use Rattle.client_parts.specs.declared.asks.Ask.{Ask}
 use Rattle.client_parts.specs.declared.asks.Ask.TheVariants as ask
 use Rattle.client_parts.specs.declared.asks.Told.{Told}
@@ -31,16 +24,14 @@ use Rattle.machine.specs.declared.event.Event.TheVariants as event
 use Rattle.machine.specs.State.{UnderWay, Nothing, Reads, Settles, Completes, Client, State}
 use Rattle.machine.specs.Clients.{is_reading}
 use Rattle.machine.specs.Effect.{Effect}
-use Rattle.machine.specs.StoreSteps.{Met, met, told_mark, entry_of, mark_item, mark_kept, pairs_after, told_by, items_met}
+use Rattle.machine.specs.StoreSteps.{Met, met}
 use Rattle.machine.specs.Machine.{Step, at_post, at_client, stepped}
 use Rattle.machine.specs.Laws.{touches_pairs}
 use Rattle.machine.specs.Events.Put.{to_place, put_by, put_commit, put_on}
 use Rattle.machine.specs.Events.Step.{StepParts, read_by, settle_by, complete_by, work_of, step_at, step_by, step_on}
 use Rattle.machine.specs.Events.SweepStep.{SweepParts, sweep_by, sweep_lists, sweep_at, sweep_step_on}
 use Rattle.machine.proofs.PartsKept.{leaves_parts}
-use Rattle.isolation_laws.specs.Words.{Marked}
 use Rattle.isolation_laws.specs.Sound.{Stands}
-use Rattle.isolation_laws.proofs.StoresStay.{committed_not_invalid}
 use Rattle.cause_laws.specs.Stores.{AreMarked}
 use Rattle.cause_laws.proofs.MarksTold.{MarksTold, marks_same, marks_behind, marked_on, placed_marks, met_marks}
 

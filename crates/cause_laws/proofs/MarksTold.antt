@@ -1,18 +1,13 @@
 -- What a call on the stores leaves of the marks of the commit table, with what it tells: a mark is placed with its item, also where
 -- the call failed.
-use Rattle.std.proofs.Common.{◌≡◌, ◌≢◌, ℕ, Bool, true, false, List, [], ◌∷◌, ◌++◌, Option, Some, None, ◌⊎◌, inl, inr, refl, sym, ◌∙◌, ap, subst}
-use Rattle.std.specs.Prelude.{slice_get}
+use Rattle.std.proofs.Common.{◌≡◌, ℕ, List, [], ◌∷◌, ◌++◌, Option, Some, None, ◌⊎◌, inl, inr, refl, sym, ◌∙◌, subst}
 use Rattle.std.proofs.lemmas.Bool.{cases_eq}
-use Rattle.std.proofs.lemmas.Option.{same_Some}
 use Rattle.stamp_base.specs.declared.stores.Mark.{Mark}
 use Rattle.stamp_base.specs.declared.stores.Mark.TheVariants.{Committed as CommittedMark, Invalid as InvalidMark}
 use Rattle.port_io.specs.declared.weather.Fate.{Fate}
 use Rattle.port_io.specs.declared.weather.Fate.TheVariants.{Works, FailsUnchanged, FailsApplied}
-use Rattle.port_io.specs.Fates.{fated}
 use Rattle.history_book.specs.Members.{◌∈◌}
-use Rattle.history_book.specs.declared.cause.Cause.{Cause}
 use Rattle.history_book.specs.declared.item.Actor.{Actor}
-use Rattle.history_book.specs.declared.item.Actor.TheVariants.{Session, Janitor}
 use Rattle.history_book.specs.declared.item.Item.{Item}
 use Rattle.history_book.specs.declared.item.Item.TheVariants as item
 use Rattle.history_book.proofs.MemberLemmas.{in_front, in_back, in_last}
@@ -22,25 +17,8 @@ use Rattle.store_parts.proofs.PairLaws.{entry_or, mark_of-put_pair, mark_of-put_
 use Rattle.client_parts.specs.declared.asks.Ask.{Ask}
 use Rattle.client_parts.specs.declared.asks.Ask.TheVariants as ask
 use Rattle.client_parts.specs.declared.asks.Told.{Told}
-use Rattle.client_parts.specs.KeyRead.{Reading, read_ask}
-use Rattle.client_parts.specs.Resolve.{Settling, settle_ask}
-use Rattle.client_parts.specs.SessionSteps.{step_refusal}
-use Rattle.client_parts.specs.Sweep.{Sweeping, sweep_ask}
-use Rattle.oracle_parts.specs.Instance.{InstanceEntry, held_of}
-use Rattle.machine.specs.declared.event.Event.{Event}
-use Rattle.machine.specs.declared.event.Event.TheVariants as event
-use Rattle.machine.specs.State.{UnderWay, Nothing, Reads, Settles, Completes, Client, State}
-use Rattle.machine.specs.Clients.{is_reading}
-use Rattle.machine.specs.Effect.{Effect}
-use Rattle.machine.specs.StoreSteps.{Met, met, told_mark, entry_of, mark_item, mark_kept, pairs_after, told_by, items_met}
-use Rattle.machine.specs.Machine.{Step, at_post, at_client, stepped}
-use Rattle.machine.specs.Laws.{touches_pairs}
-use Rattle.machine.specs.Events.Put.{to_place, put_by, put_commit, put_on}
-use Rattle.machine.specs.Events.Step.{StepParts, read_by, settle_by, complete_by, work_of, step_at, step_by, step_on}
-use Rattle.machine.specs.Events.SweepStep.{SweepParts, sweep_by, sweep_lists, sweep_at, sweep_step_on}
-use Rattle.machine.proofs.PartsKept.{leaves_parts}
+use Rattle.machine.specs.StoreSteps.{Met, met, told_mark, pairs_after, told_by, items_met}
 use Rattle.isolation_laws.specs.Words.{Marked}
-use Rattle.isolation_laws.specs.Sound.{Stands}
 use Rattle.isolation_laws.proofs.StoresStay.{committed_not_invalid}
 use Rattle.cause_laws.specs.Stores.{AreMarked}
 
