@@ -42,3 +42,8 @@ pub mod HeldCounts
 pub mod OpenAsksKept
 pub mod MarksShown
 pub mod ClientsStay
+pub mod MarksTold
+pub mod MarksShown
+pub mod GoneOnly
+pub mod GoneOfSessions
+pub mod GoneShown
