@@ -43,7 +43,7 @@ pub mod OpenAsksKept
 pub mod MarksShown
 pub mod ClientsStay
 pub mod MarksTold
-pub mod MarksShown
 pub mod GoneOnly
 pub mod GoneOfSessions
 pub mod GoneShown
+pub mod AlwaysExplained
