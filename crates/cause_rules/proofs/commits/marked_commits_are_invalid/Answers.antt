@@ -1,0 +1,9 @@
+use Rattle.cause_rules.proofs.WorkedLosses.{marked, other_invalid, other_marked}
+use Rattle.cause_rules.proofs.commits.marked_commits_are_invalid.Goals as goal
+
+pub returns : goal.returns
+returns c = record {
+  marked = marked;
+  other_marked = other_marked;
+  other_told = other_invalid;
+}
