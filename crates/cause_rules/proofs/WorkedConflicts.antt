@@ -1,5 +1,5 @@
 -- The short histories of conflicts.
-use Rattle.std.proofs.Common.{◌≡◌, ℕ, ◌<◌, Some, inl, inr, refl, sym, ◌∙◌, subst, arith, Contains}
+use Rattle.std.proofs.Common.{◌≡◌, ℕ, ◌<◌, [], ◌∷◌, Some, inl, inr, refl, sym, ◌∙◌, subst, arith, Contains}
 use Rattle.std.proofs.lemmas.Option.{same_Some}
 use Rattle.stamp_base.specs.SetupNumbers.{default_numbers}
 use Rattle.history_book.specs.Members.{◌∈◌}
@@ -10,8 +10,8 @@ use Rattle.history_book.specs.declared.item.Item.TheVariants.{Draw}
 use Rattle.cause_rules.specs.Written.{keys_from, written_keys}
 use Rattle.cause_rules.specs.Commits.{ShownConflict}
 use Rattle.cause_rules.specs.Explained.{Explained}
-use Rattle.cause_rules.specs.WorkedCommits.{Conflicting, conflicting, before_conflict, conflict_told}
-use Rattle.cause_rules.proofs.WorkedRefusals.{of_each, only_key, shown_explains, explained_shows}
+use Rattle.cause_rules.specs.WorkedCommits.{Conflicting, conflicting, before_conflict, conflict_told, before_draw, conflict_told_first}
+use Rattle.cause_rules.proofs.WorkedRefusals.{of_each, only_key, shown_explains, explained_shows, explained_between}
 
 pub above : Explained default_numbers (conflict_told conflicting)
 unfolding keys_from ◌∈◌
@@ -76,3 +76,12 @@ not_of_the_writer e = let same : 5 ≡ 0 = only_key 5 0 (told_of (record conflic
 pub not_its_own : Explained default_numbers (conflict_told (record conflicting { own = 5 })) → ⊥
 unfolding keys_from
 not_its_own e = let same : 5 ≡ 0 = only_key 5 0 (told_of (record conflicting { own = 5 }) e).own in absurd (omega (arith, same))
+
+abbrev NoDraw : Item → Type 0
+NoDraw (Draw session node term start commit) = ⊥
+NoDraw _ = Unit {0}
+
+pub drawn_later : Explained default_numbers conflict_told_first → ⊥
+drawn_later e =
+    let shown : ShownConflict before_draw 1 0 3 = explained_between default_numbers before_draw (Session 1) (cause.Conflict 0 3) (Draw 0 0 1 1 (Some 3) ∷ []) e in
+    of_each NoDraw (Draw shown.drawn.0 shown.drawn.1 shown.term shown.writer (Some 3)) before_draw (tt, (tt, (tt, (tt, tt)))) shown.drawn.2

@@ -1,5 +1,5 @@
 -- The short histories of marks, of open outcomes and of begins that are lost.
-use Rattle.std.proofs.Common.{◌≡◌, ℕ, ◌==◌, not, Bool, true, false, List, [], Some, inl, inr, refl, sym, ◌∙◌, subst, arith}
+use Rattle.std.proofs.Common.{◌≡◌, ℕ, ◌==◌, not, Bool, true, false, List, [], ◌∷◌, Some, inl, inr, refl, sym, ◌∙◌, subst, arith}
 use Rattle.std.specs.List.{list_all}
 use Rattle.std.proofs.lemmas.Option.{same_Some}
 use Rattle.stamp_base.specs.SetupNumbers.{default_numbers}
@@ -8,14 +8,14 @@ use Rattle.history_book.specs.Members.{◌∈◌}
 use Rattle.history_book.specs.declared.cause.Cause.TheVariants as cause
 use Rattle.history_book.specs.declared.item.Actor.TheVariants.{Node, Session}
 use Rattle.history_book.specs.declared.item.Item.{Item}
-use Rattle.history_book.specs.declared.item.Item.TheVariants.{Mark, Fault, Crash}
+use Rattle.history_book.specs.declared.item.Item.TheVariants.{AskCommit, Mark, Fault, Crash}
 use Rattle.cause_rules.specs.Asks.{its_node, since_ask, since_draw}
 use Rattle.cause_rules.specs.Commits.{ShownInvalid, ShownOpen, ShownCrashed}
 use Rattle.cause_rules.specs.Explained.{Explained}
 use Rattle.cause_rules.specs.WorkedHistories.{crash_of, table_fault, master_fault}
-use Rattle.cause_rules.specs.WorkedCommits.{before_invalid, invalid_told, before_open, open_told}
+use Rattle.cause_rules.specs.WorkedCommits.{before_invalid, invalid_told, invalid_told_first, before_open, open_told}
 use Rattle.cause_rules.specs.WorkedRequests.{before_crashed, crashed_told}
-use Rattle.cause_rules.proofs.WorkedRefusals.{of_each, passes, shown_explains, explained_shows}
+use Rattle.cause_rules.proofs.WorkedRefusals.{of_each, passes, shown_explains, explained_shows, explained_between}
 
 -- ---- marks
 pub marked : Explained default_numbers (invalid_told 1 1 1)
@@ -41,6 +41,15 @@ other_marked e = let same : 1 ≡ 2 = (invalid_of 1 2 1 e).1 in absurd (omega (a
 
 pub other_invalid : Explained default_numbers (invalid_told 1 2 2) → ⊥
 other_invalid e = let same : 1 ≡ 2 = (invalid_of 1 2 2 e).0 in absurd (omega (arith, same))
+
+abbrev NoMark : Item → Type 0
+NoMark (Mark actor start) = ⊥
+NoMark _ = Unit {0}
+
+pub marked_later : Explained default_numbers invalid_told_first → ⊥
+marked_later e =
+    let shown : ShownInvalid (AskCommit 0 0 1 ∷ []) 0 1 = explained_between default_numbers (AskCommit 0 0 1 ∷ []) (Session 0) (cause.Invalid 1) (Mark (Session 1) 1 ∷ []) e in
+    of_each NoMark (Mark shown.actor 1) (AskCommit 0 0 1 ∷ []) (tt, tt) shown.marked
 
 -- ---- open outcomes
 pub faulted : Explained default_numbers (open_told [] [] (table_fault 0) 1)

@@ -93,6 +93,15 @@ to_the_end = shown_explains default_numbers (before_no_stamp drawn_out) (Session
   drawn = inr (1, (0, 0, inr (inr (inl refl))));
 })
 
+pub ended_by_a_start : Explained default_numbers (no_stamp_told (record drawn_out { ceiling = 1; last = 1 }))
+unfolding ◌∈◌
+ended_by_a_start = shown_explains default_numbers (before_no_stamp (record drawn_out { ceiling = 1; last = 1 })) (Session 2) (cause.NoStamp 1) refl (record {
+  term = 1;
+  term_is = refl;
+  end = inl (0, 0, 0, 10, inl refl);
+  drawn = inl (0, 0, inr (inl refl));
+})
+
 abbrev OnlyCeiling : ℕ → ℕ → Item → Type 0
 OnlyCeiling taken last (Take node reading term epoch until ceiling) = (term ≡ taken) × (ceiling ≡ last)
 OnlyCeiling taken last (Extend node term ceiling) = ⊥

@@ -5,7 +5,7 @@ use Rattle.history_book.specs.declared.cause.Cause.TheVariants as cause
 use Rattle.history_book.specs.declared.item.Actor.TheVariants.{Session}
 use Rattle.history_book.specs.declared.item.Item.{Item}
 use Rattle.history_book.specs.declared.item.Item.TheVariants.{AskCommit, Accept, Draw, Write, Mark}
-use Rattle.cause_rules.specs.WorkedHistories.{told, v}
+use Rattle.cause_rules.specs.WorkedHistories.{told, told_between, v}
 
 -- ---- a conflict on the key 0
 -- the transaction 1 wrote a key, and its commit 3 was drawn in a term; another one wrote a key, and asks to commit in the
@@ -25,6 +25,13 @@ before_conflict c = Write 0 1 c.written v ∷ Write 1 c.start c.own v ∷ Draw 0
 
 abbrev pub conflict_told : Conflicting → List Item
 conflict_told c = told (before_conflict c) (Session 1) (cause.Conflict 0 c.by)
+
+-- the commit is drawn only after the session was told of it
+abbrev pub before_draw : List Item
+before_draw = Write 0 1 0 v ∷ Write 1 2 0 v ∷ AskCommit 1 0 2 ∷ Accept 1 0 1 0 ∷ []
+
+abbrev pub conflict_told_first : List Item
+conflict_told_first = told_between before_draw (Session 1) (cause.Conflict 0 3) (Draw 0 0 1 1 (Some 3) ∷ [])
 
 -- ---- a key that is hidden
 -- four buckets of a width: the keys 0, 4 and 8 share one, and 1 has another
@@ -60,6 +67,10 @@ before_invalid asked marked = AskCommit 0 0 asked ∷ Mark (Session 1) marked �
 
 abbrev pub invalid_told : ℕ → ℕ → ℕ → List Item
 invalid_told asked marked start = told (before_invalid asked marked) (Session 0) (cause.Invalid start)
+
+-- the transaction is marked only after its session was told
+abbrev pub invalid_told_first : List Item
+invalid_told_first = told_between (AskCommit 0 0 1 ∷ []) (Session 0) (cause.Invalid 1) (Mark (Session 1) 1 ∷ [])
 
 -- ---- an open outcome
 -- the transaction 1 asks the node 0 to commit, and its commit is drawn; with what comes before the ask, between the two, and

@@ -3,7 +3,7 @@ ghost use Rattle.std.specs.Prelude.{[]};
 ghost use Rattle.stamp_base.specs.SetupNumbers.{default_numbers};
 ghost use Rattle.cause_rules.specs.Explained.{Explained};
 ghost use Rattle.cause_rules.specs.WorkedHistories.{crash_of, table_fault, master_fault};
-ghost use Rattle.cause_rules.specs.WorkedCommits.{conflicting, conflict_told, buckets_of, hiding, hidden_told, invalid_told, open_told};
+ghost use Rattle.cause_rules.specs.WorkedCommits.{conflicting, conflict_told, conflict_told_first, buckets_of, hiding, hidden_told, invalid_told, invalid_told_first, open_told};
 
 /// A conflict is a commit above the start, drawn in the term of the request, of a transaction that wrote the key that was
 /// written here too.
@@ -13,6 +13,7 @@ pub fn conflicts_are_above_the_start()
     ensures below_the_start { Explained default_numbers (conflict_told (record conflicting { start = 4 })) → ⊥ }
     ensures other_term { Explained default_numbers (conflict_told (record conflicting { drawn_in = 2 })) → ⊥ }
     ensures not_drawn { Explained default_numbers (conflict_told (record conflicting { by = 4 })) → ⊥ }
+    ensures drawn_later { Explained default_numbers conflict_told_first → ⊥ }
     ensures not_of_the_writer { Explained default_numbers (conflict_told (record conflicting { written = 5 })) → ⊥ }
     ensures not_its_own { Explained default_numbers (conflict_told (record conflicting { own = 5 })) → ⊥ }
 {}
@@ -36,6 +37,7 @@ pub fn marked_commits_are_invalid()
     ensures marked { Explained default_numbers (invalid_told 1 1 1) }
     ensures other_marked { Explained default_numbers (invalid_told 1 2 1) → ⊥ }
     ensures other_told { Explained default_numbers (invalid_told 1 2 2) → ⊥ }
+    ensures marked_later { Explained default_numbers invalid_told_first → ⊥ }
 {}
 
 /// An outcome is open where a call of the node on the table failed after the draw, or the node crashed after the ask.

@@ -42,7 +42,7 @@ pub fn early_takes_meet_a_lease()
     ensures end_never_given { Explained default_numbers (early_told 11 11) → ⊥ }
 {}
 
-/// What would show a cause shows it to those alone whom it can meet: a session, a node or the janitor, and never the clock.
+/// A cause is told to those alone whom it can meet, and never to the clock, however well the history would show it to another.
 pub fn causes_are_told_to_whom_they_meet()
     ensures early_to_a_session { Explained default_numbers (told before_early (actor.Session 1) (cause.Early 11 10)) → ⊥ }
     ensures holding_to_a_session { Explained default_numbers (told (taken_then []) (actor.Session 0) (cause.Holding 1)) → ⊥ }

@@ -40,6 +40,7 @@ pub fn replaced_terms_have_a_later_one()
 /// There is no stamp where a range of the term ends at one that was drawn in the term.
 pub fn ranges_are_drawn_to_their_end()
     ensures to_the_end { Explained default_numbers (no_stamp_told drawn_out) }
+    ensures ended_by_a_start { Explained default_numbers (no_stamp_told (record drawn_out { ceiling = 1; last = 1 })) }
     ensures stamp_left { Explained default_numbers (no_stamp_told (record drawn_out { ceiling = 3; last = 3 })) → ⊥ }
     ensures below_the_ceiling { Explained default_numbers (no_stamp_told (record drawn_out { ceiling = 3 })) → ⊥ }
     ensures range_of_another_term { Explained default_numbers (no_stamp_told (record drawn_out { taken = 2 })) → ⊥ }
