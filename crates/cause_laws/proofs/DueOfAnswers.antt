@@ -1,5 +1,5 @@
 -- The refusals of a put and of an answer are due.
-use Rattle.std.proofs.Common.{◌≡◌, ℕ, List, [], ◌∷◌, Option, Some, None, refl, sym, subst}
+use Rattle.std.proofs.Common.{◌≡◌, ℕ, List, Option, Some, None, refl}
 use Rattle.std.specs.Prelude.{slice_get}
 use Rattle.stamp_base.specs.declared.stores.Mark.{Mark}
 use Rattle.port_io.specs.declared.weather.Fate.{Fate}
@@ -18,10 +18,10 @@ use Rattle.oracle_parts.specs.declared.instance.Settled.TheVariants as how
 use Rattle.oracle_parts.specs.Instance.{InstanceEntry, held_of, was_told_not_yet, stamps_by, stamps_of_held, least_unsettled}
 use Rattle.oracle_parts.specs.InstanceSteps.{InstanceStep, answer_begin, answer_if_ready, answer_held}
 use Rattle.machine.specs.State.{Client, State}
-use Rattle.machine.specs.Effect.{Effect, refused}
 use Rattle.machine.specs.Events.Put.{to_place, put_by, put_commit, put_on}
-use Rattle.machine.specs.Events.Answer.{answer_by, answer_on}
+use Rattle.machine.specs.Events.Answer.{answer_on}
 use Rattle.isolation_laws.specs.Words.{InstanceAt}
+use Rattle.isolation_laws.proofs.InversionOfAnswers.{answered_on}
 use Rattle.cause_laws.specs.Due.{AreDue}
 use Rattle.cause_laws.proofs.DueItems.{two_free, all_due, plain_due, refusal_due, once_due}
 use Rattle.cause_laws.proofs.DueOfRequests.{no_request_due, Serving, serves_held}
@@ -44,10 +44,6 @@ put_on_due w node session fate (Some i) at = put_due w node session fate i (to_p
 
 -- ---- answer
 -- by the request's stamps, and what the instance makes of it
-abbrev answered_on : ℕ → ℕ → InstanceEntry → Client → InstanceStep Reply → Option (ℕ × Option ℕ) → Effect (Option InstanceEntry × Client)
-answered_on node session i c taken None = refused (Some i, c) (Node node) (cause.NoRequest session)
-answered_on node session i c taken (Some stamps) = answer_by node session stamps.0 c i taken.left taken.answer
-
 abbrev answer_due_by : State → ℕ → ℕ → InstanceEntry → Client → InstanceStep Reply → Option (ℕ × Option ℕ) → Type 0
 answer_due_by w node session i c taken stamps = AreDue w (answered_on node session i c taken stamps).items
 

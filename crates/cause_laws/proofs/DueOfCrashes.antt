@@ -1,10 +1,8 @@
 -- What a crash tells the sessions whose requests it has lost is due.
-use Rattle.std.proofs.Common.{◌≡◌, ℕ, zero, suc, List, [], ◌∷◌, ◌++◌, Option, Some, None, inl, inr, refl, sym, ◌∙◌, ap, subst}
+use Rattle.std.proofs.Common.{◌≡◌, ℕ, zero, suc, List, [], ◌∷◌, Option, Some, None, inr, refl, sym, ap, subst}
 use Rattle.std.specs.Prelude.{slice_get, slice_index_or, take, All}
 use Rattle.std.proofs.lemmas.Option.{same_Some}
 use Rattle.std.proofs.lemmas.List.Elements.{All-nil, All-cons, All-take, All-head, All-tail, All-append}
-use Rattle.history_book.specs.Members.{AtEach}
-use Rattle.history_book.specs.declared.cause.Cause.{Cause}
 use Rattle.history_book.specs.declared.cause.Cause.TheVariants as cause
 use Rattle.history_book.specs.declared.item.Actor.TheVariants.{Node, Session}
 use Rattle.history_book.specs.declared.item.Item.{Item}
@@ -14,13 +12,13 @@ use Rattle.client_parts.specs.declared.session.State.TheVariants as phase
 use Rattle.oracle_parts.specs.declared.instance.Held.{Held}
 use Rattle.oracle_parts.specs.declared.instance.Request.{Request}
 use Rattle.oracle_parts.specs.declared.instance.Request.TheVariants.{Begin, Commit}
-use Rattle.oracle_parts.specs.Instance.{InstanceEntry, held_of, session_of}
+use Rattle.oracle_parts.specs.Instance.{InstanceEntry, session_of}
 use Rattle.machine.specs.State.{Client, State}
 use Rattle.machine.specs.Events.Crash.{loss_heard, loss_items, crashed_items, all_crashed_items, crash_on}
 use Rattle.isolation_laws.specs.Words.{InstanceAt}
 use Rattle.isolation_laws.specs.Requests.{AreRequests}
 use Rattle.isolation_laws.proofs.Lookups.{held_by}
-use Rattle.cause_laws.specs.Due.{cause_of_loss, IsRefusal, DueLoss, Due, AreDue}
+use Rattle.cause_laws.specs.Due.{cause_of_loss, IsRefusal, Due, AreDue}
 use Rattle.cause_laws.proofs.DueItems.{refusal_due}
 
 -- the item tells a session of a request among these that was lost

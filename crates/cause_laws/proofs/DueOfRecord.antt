@@ -1,8 +1,7 @@
 -- The refusals of a take, a renewal and an extension are due.
-use Rattle.std.proofs.Common.{◌≡◌, ◌≢◌, ℕ, ◌+◌, ◌<◌, ◌^◌, ◌==◌, ◌&&◌, Bool, true, false, if◌then◌else◌, List, [], ◌∷◌, Option, Some, None, refl, sym, ◌∙◌, ap, subst, arith}
-use Rattle.std.specs.Prelude.{slice_get, nat_lt, is_some, IsSome}
+use Rattle.std.proofs.Common.{◌≡◌, ◌≢◌, ℕ, ◌+◌, ◌<◌, ◌^◌, ◌==◌, Bool, true, false, if◌then◌else◌, [], ◌∷◌, Option, Some, None, refl, sym, ◌∙◌, subst, arith}
+use Rattle.std.specs.Prelude.{slice_get, nat_lt, is_some}
 use Rattle.std.proofs.lemmas.Bool.{and_parts, eqb-false, ltb-true}
-use Rattle.stamp_base.specs.declared.stores.Store.TheVariants.{Master}
 use Rattle.port_io.specs.declared.weather.Fate.{Fate}
 use Rattle.port_io.specs.declared.weather.Fate.TheVariants.{Works, FailsUnchanged, FailsApplied}
 use Rattle.history_book.specs.declared.cause.Cause.TheVariants as cause
@@ -15,7 +14,7 @@ use Rattle.store_parts.specs.declared.record.RenewRefused.{RenewRefused}
 use Rattle.store_parts.specs.declared.record.RenewRefused.TheVariants as renew
 use Rattle.store_parts.specs.declared.record.ExtendRefused.{ExtendRefused}
 use Rattle.store_parts.specs.declared.record.ExtendRefused.TheVariants as extend
-use Rattle.store_parts.specs.Record.{MasterRecord, take_refused, granted, renew_refused, renewed_until, extend_refused, is_early, is_spent, answered}
+use Rattle.store_parts.specs.Record.{MasterRecord, take_refused, granted, renew_refused, extend_refused, is_early, is_spent, answered}
 use Rattle.oracle_parts.specs.Instance.{InstanceEntry}
 use Rattle.machine.specs.State.{State}
 use Rattle.machine.specs.Effect.{kept_items}
@@ -24,7 +23,7 @@ use Rattle.machine.specs.Events.Renew.{renew_by, renew_on}
 use Rattle.machine.specs.Events.Extend.{extend_by, extend_on}
 use Rattle.isolation_laws.specs.Words.{InstanceAt}
 use Rattle.cause_laws.specs.Due.{DueEarly, DueSpent, DueOvertaken, AreDue}
-use Rattle.cause_laws.proofs.DueItems.{one_free, two_free, all_due, plain_due, refusal_due}
+use Rattle.cause_laws.proofs.DueItems.{two_free, all_due, plain_due, refusal_due}
 
 -- ---- take
 early_spent : (early spent : Bool) (reading until ceiling at found : ℕ) → (if early then Some (take.Early reading until) else if spent then Some (take.Spent ceiling) else None) ≡ Some (take.Early at found) → (early ≡ true) × (reading ≡ at) × (until ≡ found)

@@ -1,5 +1,5 @@
 -- The refusals of an acceptance and a decision are due.
-use Rattle.std.proofs.Common.{◌≡◌, ℕ, ◌+◌, ◌≤◌, ◌==◌, Bool, true, false, if◌then◌else◌, List, [], ◌∷◌, Option, Some, None, ◌⊎◌, inl, inr, refl, sym, subst}
+use Rattle.std.proofs.Common.{◌≡◌, ℕ, ◌+◌, ◌≤◌, ◌==◌, Bool, true, false, if◌then◌else◌, [], ◌∷◌, Option, Some, None, refl, sym, subst}
 use Rattle.std.specs.Prelude.{slice_get, nat_lt, nat_le}
 use Rattle.std.proofs.lemmas.Bool.{eqb-true, ltb-false, leb-true}
 use Rattle.std.proofs.lemmas.Option.{same_Some}
@@ -20,10 +20,9 @@ use Rattle.oracle_parts.specs.InstanceSteps.{InstanceStep, IsStop, epoch_refusal
 use Rattle.machine.specs.State.{Client, State}
 use Rattle.machine.specs.Events.Accept.{accept_by, accept_request, accept_on}
 use Rattle.machine.specs.Events.Decide.{draw_item, decide_by, decide_request, decide_on}
-use Rattle.isolation_laws.specs.Words.{InstanceAt, HeldBy}
+use Rattle.isolation_laws.specs.Words.{InstanceAt}
 use Rattle.isolation_laws.specs.Sound.{StopOf, AreStops}
-use Rattle.isolation_laws.proofs.Lookups.{held_by}
-use Rattle.cause_laws.specs.Due.{Serves, DueOldEpoch, DueExpired, DueNow, AreDue}
+use Rattle.cause_laws.specs.Due.{Serves, AreDue}
 use Rattle.cause_laws.proofs.DueItems.{plain_due, refusal_due, no_row_due, once_due}
 
 -- what a node is told where the session has no such request

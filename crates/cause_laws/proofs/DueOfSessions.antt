@@ -1,6 +1,6 @@
 -- The refusals of a session's asks, of its writes and fetches, of its abort and its vanishing are due.
 use Rattle.std.proofs.Common.{◌≡◌, ℕ, ◌==◌, ◌||◌, Bool, true, false, if◌then◌else◌, List, [], ◌∷◌, Option, Some, None, ◌⊎◌, inl, inr, refl, sym, subst}
-use Rattle.std.specs.Prelude.{slice_get, length, nat_lt, Ok}
+use Rattle.std.specs.Prelude.{slice_get, length, nat_lt}
 use Rattle.std.specs.Option.{option_or}
 use Rattle.std.proofs.lemmas.Bool.{eqb-true}
 use Rattle.std.proofs.lemmas.Option.{same_Some}
@@ -17,11 +17,10 @@ use Rattle.store_parts.specs.Rows.{Row, fetched}
 use Rattle.client_parts.specs.declared.session.State.{State as SessionState}
 use Rattle.client_parts.specs.declared.session.State.TheVariants as phase
 use Rattle.client_parts.specs.KeyRead.{ReadTurn, Asks, Answers}
-use Rattle.client_parts.specs.SessionSteps.{begin_refusal, work_refusal, step_refusal, vanish_refusal, key_refusal, has_key}
+use Rattle.client_parts.specs.SessionSteps.{begin_refusal, work_refusal, vanish_refusal, key_refusal, has_key}
 use Rattle.oracle_parts.specs.declared.instance.Request.{Request}
 use Rattle.oracle_parts.specs.declared.instance.Request.TheVariants.{Begin, Commit}
-use Rattle.oracle_parts.specs.Instance.{InstanceEntry, in_flight, session_of, with_request}
-use Rattle.oracle_parts.specs.InstanceSteps.{InstanceStep, stays, just_asked}
+use Rattle.oracle_parts.specs.Instance.{InstanceEntry, in_flight}
 use Rattle.machine.specs.State.{Client, State}
 use Rattle.machine.specs.Clients.{is_reading}
 use Rattle.machine.specs.Events.AskBegin.{asked_by, ask_begin_by, ask_begin_on}
@@ -31,6 +30,7 @@ use Rattle.machine.specs.Events.Vanish.{vanish_by, vanish_on}
 use Rattle.machine.specs.Events.Write.{write_refused, write_by, write_open, write_on}
 use Rattle.machine.specs.Events.Fetch.{read_items, fetch_by, fetch_open, fetch_on}
 use Rattle.isolation_laws.specs.Words.{InstanceAt, ClientAt}
+use Rattle.isolation_laws.proofs.InversionOfAsks.{asked_if}
 use Rattle.cause_laws.specs.Due.{NeedsNoRow, AreDue}
 use Rattle.cause_laws.proofs.DueItems.{DueAnyway, AllDue, none_free, one_free, two_free, all_due, none_due, plain_due, refusal_due, no_row_due}
 
@@ -85,10 +85,6 @@ write_own c key why (Some first) work is = work_own c.entry.state (is_reading c)
 write_own c key why None work is = room_own c.entry.state (has_key c.entry.keys key || nat_lt (length c.entry.keys) KEY_LIMIT) why is
 
 -- ---- the asks
--- the ask of a request, by whether the slots are full
-abbrev asked_if : InstanceEntry → Request → Bool → InstanceStep (Unit {0})
-asked_if i request full = if full then stays i (cause.Full (in_flight i)) else record { left = with_request i (session_of request) (Some (just_asked request)); answer = Ok tt }
-
 slots_due : (w : State) (session node : ℕ) (c : Client) (i : InstanceEntry) (request : Request) (x : Item) → DueAnyway w x → InstanceAt w.nodes node i → (full : Bool) → (in_flight i == i.slots) ≡ full → AreDue w (asked_by session c x (asked_if i request full) (asked_if i request full).answer).items
 slots_due w session node c i request x free at true is = refusal_due w (Session session) (cause.Full (in_flight i)) (record { node = node; i = i; at = at; held = refl; all = eqb-true (in_flight i) i.slots is })
 slots_due w session node c i request x free at false is = plain_due w x free

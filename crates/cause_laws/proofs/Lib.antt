@@ -40,3 +40,12 @@ pub mod DueOfSteps
 pub mod DuesDone
 pub mod OpenWords
 pub mod RecordShown
+pub mod HeldCounts
+pub mod OpenAsksKept
+pub mod MarksShown
+pub mod ClientsStay
+pub mod MarksTold
+pub mod GoneOnly
+pub mod GoneOfSessions
+pub mod GoneShown
+pub mod AlwaysExplained

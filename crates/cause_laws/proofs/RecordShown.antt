@@ -1,6 +1,6 @@
 -- The history goes on to show the master record: what changed it is told before any fault.
-use Rattle.std.proofs.Common.{◌≡◌, ℕ, ◌+◌, Bool, true, false, List, [], ◌∷◌, ◌++◌, Option, Some, None, ◌⊎◌, inl, inr, refl, sym, ◌∙◌, ap, subst}
-use Rattle.std.specs.Prelude.{slice_get, is_some, IsSome}
+use Rattle.std.proofs.Common.{◌≡◌, ℕ, ◌+◌, false, List, [], ◌∷◌, ◌++◌, Option, Some, None, inl, inr, refl, sym, subst}
+use Rattle.std.specs.Prelude.{slice_get, IsSome}
 use Rattle.port_io.specs.declared.weather.Fate.{Fate}
 use Rattle.port_io.specs.declared.weather.Fate.TheVariants.{Works, FailsUnchanged, FailsApplied}
 use Rattle.port_io.specs.Fates.{fated}
@@ -27,7 +27,6 @@ use Rattle.machine.specs.Events.Take.{rules_of, take_item, take_by, take_on}
 use Rattle.machine.specs.Events.Renew.{renew_by, renew_on}
 use Rattle.machine.specs.Events.Extend.{extend_by, extend_on}
 use Rattle.machine.proofs.PartsKept.{leaves_parts}
-use Rattle.isolation_laws.specs.Words.{InstanceAt}
 use Rattle.isolation_laws.specs.Sound.{Stands}
 use Rattle.isolation_laws.proofs.InversionOfRecord.{for_record}
 use Rattle.cause_rules.specs.Posts.{TermTaken, LeaseGiven, CeilingGiven}

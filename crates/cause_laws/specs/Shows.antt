@@ -1,5 +1,5 @@
--- All that the history shows of the state, so that refusals can be told by it.
-use Rattle.std.specs.Prelude.{List}
+-- All that the history shows of the state, so that refusals can be told by it. There are 16 clients, one for each session.
+use Rattle.std.specs.Prelude.{◌≡◌, ℕ, List, length}
 use Rattle.history_book.specs.declared.item.Item.{Item}
 use Rattle.machine.specs.State.{State}
 use Rattle.cause_rules.specs.Explained.{Explained}
@@ -9,6 +9,7 @@ use Rattle.cause_laws.specs.Nodes.{AreTaken, AreVacant, AreShownStops, AreLasts}
 use Rattle.cause_laws.specs.Stores.{IsRecordShown, AreMarked, AreGone}
 
 pub record Shows (w : State) (h : List Item) : Type 0 where
+  pub sixteen : length w.clients ≡ 16
   pub asked : AreAsked w.nodes h
   pub faulted : AreFaulted w.nodes h
   pub open_asks : AreOpenAsks w.setup w.nodes h
