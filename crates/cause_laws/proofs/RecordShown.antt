@@ -7,7 +7,6 @@ use Rattle.port_io.specs.Fates.{fated}
 use Rattle.history_book.specs.Members.{◌∈◌}
 use Rattle.history_book.specs.declared.item.Item.{Item}
 use Rattle.history_book.specs.declared.item.Item.TheVariants as item
-use Rattle.history_book.proofs.MemberLemmas.{in_front, in_back}
 use Rattle.store_parts.specs.declared.record.Grant.{Grant}
 use Rattle.store_parts.specs.declared.record.TakeRefused.{TakeRefused}
 use Rattle.store_parts.specs.declared.record.TakeRefused.TheVariants as take
@@ -29,7 +28,6 @@ use Rattle.machine.specs.Events.Extend.{extend_by, extend_on}
 use Rattle.machine.proofs.PartsKept.{leaves_parts}
 use Rattle.isolation_laws.specs.Sound.{Stands}
 use Rattle.isolation_laws.proofs.InversionOfRecord.{for_record}
-use Rattle.cause_rules.specs.Posts.{TermTaken, LeaseGiven, CeilingGiven}
 use Rattle.cause_laws.specs.Stores.{IsRecordShown}
 use Rattle.cause_laws.proofs.PostWords.{term_taken_on, lease_given_on, ceiling_given_on}
 use Rattle.cause_laws.proofs.LongerHistories.{in_second}
