@@ -1,0 +1,3 @@
+pub mod KeptItems
+pub mod Placed
+pub mod Replies

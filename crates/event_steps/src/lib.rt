@@ -1,0 +1,29 @@
+//! The events as code: each over the parts that it touches, exact to the machine's definition of that event.
+#![tactic(auto)]
+
+mod accepting;
+mod answering;
+mod begin_asking;
+mod client;
+mod clock;
+mod commit_asking;
+mod deciding;
+mod extending;
+mod ledger;
+mod putting;
+mod renewing;
+mod stopped;
+mod taking;
+
+pub use accepting::accept;
+pub use answering::answer;
+pub use begin_asking::ask_begin;
+pub use client::Client;
+pub use clock::{note, tick};
+pub use commit_asking::ask_commit;
+pub use deciding::decide;
+pub use extending::extend;
+pub use putting::put;
+pub use renewing::renew;
+pub use stopped::Stopped;
+pub use taking::take;
