@@ -1,5 +1,6 @@
 pub mod Deeds
 pub mod RecordedDraws
+pub mod HiddenWaters
 pub mod ShownOfRequests
 pub mod ShownOfDecisions
 pub mod ShownOfNodes

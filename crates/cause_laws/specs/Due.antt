@@ -1,5 +1,5 @@
 -- What a refusal says of the state that it is made in: the state is as the cause tells.
-use Rattle.std.specs.Prelude.{◌≡◌, ◌≢◌, ℕ, ◌+◌, ◌<◌, ◌≤◌, ◌^◌, ◌⊎◌, All, List, [], ◌∷◌, slice_get, Option, None, Some, IsSome}
+use Rattle.std.specs.Prelude.{◌≡◌, ◌≢◌, ℕ, ◌+◌, ◌<◌, ◌≤◌, ◌^◌, ◌⊎◌, All, List, [], ◌∷◌, slice_get, None, Some, IsSome}
 use Rattle.stamp_base.specs.SetupNumbers.{SetupNumbers}
 use Rattle.history_book.specs.Members.{AtEach}
 use Rattle.history_book.specs.declared.cause.Cause.{Cause}
@@ -143,7 +143,7 @@ DueToNode w n (cause.Early reading until) = DueEarly w reading until
 DueToNode w n (cause.Spent ceiling) = DueSpent w ceiling
 DueToNode w n (cause.Replaced found) = DueOvertaken w n found
 DueToNode w n (cause.Holding term) = DueHolding w n term
-DueToNode w n (cause.NoOracle node) = DueNone w node
+DueToNode w n (cause.NoOracle node) = (node ≡ n) × DueNone w node
 DueToNode w n _ = ⊥
 
 abbrev pub DueToJanitor : State → Cause → Type 0
