@@ -1,6 +1,5 @@
 -- What holds at each place of a history and of the items behind it holds at each place of both.
-use Rattle.std.proofs.Common.{◌≡◌, ℕ, suc, List, [], ◌∷◌, ◌++◌, append_assoc, Some, refl, sym, ◌∙◌, ap, subst, take}
-use Rattle.std.specs.Prelude.{slice_get}
+use Rattle.std.proofs.Common.{suc, List, [], ◌∷◌, ◌++◌, append_assoc, refl, sym, subst, take}
 use Rattle.std.proofs.lemmas.List.{append-nil}
 use Rattle.history_book.specs.Members.{AtEach}
 use Rattle.history_book.proofs.MemberLemmas.{AtEach-push}

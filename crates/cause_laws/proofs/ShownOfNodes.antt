@@ -1,20 +1,16 @@
 -- What is due of a node, of a session that asks and of a sweep is shown.
-use Rattle.std.proofs.Common.{◌≡◌, ◌≢◌, ℕ, zero, suc, ◌+◌, ◌<◌, ◌≤◌, ◌^◌, Bool, true, false, if◌then◌else◌, List, [], ◌∷◌, Option, None, Some, ◌⊎◌, inl, inr, refl, sym, ◌∙◌, ap, subst, arith}
-use Rattle.std.specs.Prelude.{IsSome, is_some, length, slice_get, slice_index_or, count_by}
+use Rattle.std.proofs.Common.{◌≡◌, ◌≢◌, ℕ, zero, suc, ◌+◌, ◌<◌, ◌≤◌, if◌then◌else◌, List, [], ◌∷◌, Option, None, Some, inl, inr, refl, ◌∙◌, ap, subst, arith}
+use Rattle.std.specs.Prelude.{IsSome, is_some, length, slice_index_or, count_by}
 use Rattle.std.proofs.lemmas.Bool.{cases_lt}
 use Rattle.std.proofs.lemmas.List.Recursion.{is_count_by}
-use Rattle.stamp_base.specs.SetupNumbers.{SetupNumbers}
 use Rattle.history_book.specs.declared.item.Item.{Item}
 use Rattle.oracle_parts.specs.declared.instance.Held.{Held}
-use Rattle.oracle_parts.specs.Instance.{InstanceEntry, held_of, in_flight}
-use Rattle.store_parts.specs.Record.{MasterRecord}
+use Rattle.oracle_parts.specs.Instance.{in_flight}
 use Rattle.machine.specs.State.{State}
 use Rattle.cause_rules.specs.OpenAsks.{open_asks_of, open_asks_from, open_asks}
 use Rattle.cause_rules.specs.Posts.{TookLast, HasNone, TermTaken, LeaseGiven, CeilingGiven}
 use Rattle.cause_rules.specs.Refusals.{ShownFull, ShownGone, ShownEarly, ShownSpent, ShownHolding, ShownOvertaken}
-use Rattle.isolation_laws.specs.Words.{InstanceAt}
 use Rattle.isolation_laws.specs.Sound.{Stands}
-use Rattle.cause_laws.specs.Requests.{held_count}
 use Rattle.cause_laws.specs.Shows.{Shows}
 use Rattle.cause_laws.specs.Due.{DueFull, DueGone, DueNone, DueEarly, DueSpent, DueHolding, DueOvertaken}
 
