@@ -38,7 +38,7 @@ to_node w h n (cause.Early reading until) stands shows due = early_shown w h rea
 to_node w h n (cause.Spent ceiling) stands shows due = spent_record_shown w h ceiling stands shows due
 to_node w h n (cause.Replaced found) stands shows due = overtaken_shown w h n found stands shows due
 to_node w h n (cause.Holding term) stands shows due = holding_shown w h n term shows due
-to_node w h n (cause.NoOracle node) stands shows due = none_shown w h node shows due
+to_node w h n (cause.NoOracle node) stands shows due = (due.0, none_shown w h node shows due.1)
 to_node w h n _ stands shows due = absurd due
 
 to_janitor : (w : State) (h : List Item) (why : Cause) → Shows w h → DueToJanitor w why → ShownToJanitor h why

@@ -18,6 +18,8 @@ use Rattle.cause_rules.proofs.WorkedRefusals.{of_each, shown_explains, explained
 pub taken_later : Explained default_numbers (replaced_told 1 2)
 unfolding ◌∈◌
 taken_later = shown_explains default_numbers (before_replaced 1) (Session 0) (cause.Replaced 2) refl (record {
+  node = 0;
+  node_is = refl;
   term = 1;
   term_is = refl;
   later = omega arith;
@@ -87,6 +89,8 @@ node_by_a_term_never_taken e = never_three 1 (overtaken_of 0 3 (record { term = 
 pub to_the_end : Explained default_numbers (no_stamp_told drawn_out)
 unfolding ◌∈◌
 to_the_end = shown_explains default_numbers (before_no_stamp drawn_out) (Session 2) (cause.NoStamp 2) refl (record {
+  node = 0;
+  node_is = refl;
   term = 1;
   term_is = refl;
   end = inl (0, 0, 0, 10, inl refl);
@@ -96,6 +100,8 @@ to_the_end = shown_explains default_numbers (before_no_stamp drawn_out) (Session
 pub ended_by_a_start : Explained default_numbers (no_stamp_told (record drawn_out { ceiling = 1; last = 1 }))
 unfolding ◌∈◌
 ended_by_a_start = shown_explains default_numbers (before_no_stamp (record drawn_out { ceiling = 1; last = 1 })) (Session 2) (cause.NoStamp 1) refl (record {
+  node = 0;
+  node_is = refl;
   term = 1;
   term_is = refl;
   end = inl (0, 0, 0, 10, inl refl);

@@ -39,6 +39,13 @@ before_replaced accepted_in = Take 0 0 1 0 10 100 ∷ Take 1 12 2 100 22 200 ∷
 abbrev pub replaced_told : ℕ → ℕ → List Item
 replaced_told accepted_in found = told (before_replaced accepted_in) (Session 0) (cause.Replaced found)
 
+-- it is accepted in the term 1, and was not asked for
+abbrev pub before_replaced_unasked : List Item
+before_replaced_unasked = Take 0 0 1 0 10 100 ∷ Take 1 12 2 100 22 200 ∷ Accept 0 0 1 0 ∷ []
+
+abbrev pub replaced_told_unasked : List Item
+replaced_told_unasked = told before_replaced_unasked (Session 0) (cause.Replaced 2)
+
 -- after the same takes a node is told of a term
 abbrev pub overtaken_told : ℕ → ℕ → List Item
 overtaken_told node found = told two_takes (Node node) (cause.Replaced found)
@@ -62,6 +69,13 @@ before_no_stamp c =
 
 abbrev pub no_stamp_told : Drawn → List Item
 no_stamp_told c = told (before_no_stamp c) (Session 2) (cause.NoStamp c.last)
+
+-- the begin was not asked for
+abbrev pub before_no_stamp_unasked : List Item
+before_no_stamp_unasked = Take 0 0 1 0 10 2 ∷ Draw 0 0 1 1 None ∷ Draw 0 0 1 1 (Some 2) ∷ Accept 2 0 1 0 ∷ []
+
+abbrev pub no_stamp_told_unasked : List Item
+no_stamp_told_unasked = told before_no_stamp_unasked (Session 2) (cause.NoStamp 2)
 
 -- ---- the end of all stamps
 -- the greatest ceiling that leaves room for a further range of 100 stamps
