@@ -162,11 +162,14 @@ no_room = shown_explains default_numbers (Take 0 0 1 0 10 (last_room + 1) ∷ []
 
 pub no_room_after_extension : Explained default_numbers (spent_told_after_extension (last_room + 1))
 unfolding ◌∈◌
-no_room_after_extension = shown_explains default_numbers (Take 0 0 1 0 10 100 ∷ Extend 0 1 (last_room + 1) ∷ []) (Session 0) (cause.Spent (last_room + 1)) refl (record {
-  term = 1;
-  given = inr (0, inr (inl refl));
-  past = omega arith;
-})
+no_room_after_extension = shown_explains default_numbers (Take 0 0 1 0 10 100 ∷ Extend 0 1 (last_room + 1) ∷ AskBegin 0 0 ∷ []) (Session 0) (cause.Spent (last_room + 1)) refl (
+  (0, refl),
+  record {
+    term = 1;
+    given = inr (0, inr (inl refl));
+    past = omega arith;
+  },
+)
 
 spent_shown : (ceiling spent : ℕ) → Explained default_numbers (spent_told ceiling spent) → ShownSpent default_numbers (Take 0 0 1 0 10 ceiling ∷ []) spent
 spent_shown ceiling spent = explained_shows default_numbers (Take 0 0 1 0 10 ceiling ∷ []) (Node 0) (cause.Spent spent)

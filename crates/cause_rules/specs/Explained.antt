@@ -9,6 +9,7 @@ use Rattle.history_book.specs.declared.item.Actor.{Actor}
 use Rattle.history_book.specs.declared.item.Actor.TheVariants.{Session, Node, Janitor, Clock}
 use Rattle.history_book.specs.declared.item.Item.{Item}
 use Rattle.history_book.specs.declared.item.Item.TheVariants.{Refused}
+use Rattle.cause_rules.specs.Asks.{HasAsked}
 use Rattle.cause_rules.specs.Posts.{HasNone}
 use Rattle.cause_rules.specs.Commits.{ShownConflict, ShownHidden, ShownOldEpoch, ShownExpired, ShownReplaced, ShownNoStamp, ShownInvalid, ShownOpen, ShownCrashed, ShownNotYet}
 use Rattle.cause_rules.specs.Refusals.{ShownFull, ShownGone, ShownEarly, ShownSpent, ShownHolding, ShownOvertaken}
@@ -20,7 +21,7 @@ ShownToSession setup h s (cause.Hidden key water) = ShownHidden setup h s key wa
 ShownToSession setup h s (cause.OldEpoch start epoch) = ShownOldEpoch h s start epoch
 ShownToSession setup h s (cause.Expired reading until) = ShownExpired h s reading until
 ShownToSession setup h s (cause.Replaced found) = ShownReplaced h s found
-ShownToSession setup h s (cause.Spent ceiling) = ShownSpent setup h ceiling
+ShownToSession setup h s (cause.Spent ceiling) = HasAsked h s × ShownSpent setup h ceiling
 ShownToSession setup h s (cause.NoStamp last) = ShownNoStamp h s last
 ShownToSession setup h s (cause.Invalid start) = ShownInvalid h s start
 ShownToSession setup h s (cause.Open start) = ShownOpen h s start

@@ -86,6 +86,13 @@ last_room = 2 ^ 62 - 100
 abbrev pub spent_told : ℕ → ℕ → List Item
 spent_told ceiling spent = told (Take 0 0 1 0 10 ceiling ∷ []) (Node 0) (cause.Spent spent)
 
--- an extension gave the ceiling, and a session is told of it
+-- an extension gave the ceiling, and a session that asked is told of it
 abbrev pub spent_told_after_extension : ℕ → List Item
-spent_told_after_extension ceiling = told (Take 0 0 1 0 10 100 ∷ Extend 0 1 ceiling ∷ []) (Session 0) (cause.Spent ceiling)
+spent_told_after_extension ceiling = told (Take 0 0 1 0 10 100 ∷ Extend 0 1 ceiling ∷ AskBegin 0 0 ∷ []) (Session 0) (cause.Spent ceiling)
+
+-- it is told so without having asked
+abbrev pub before_spent_unasked : List Item
+before_spent_unasked = Take 0 0 1 0 10 100 ∷ Extend 0 1 (last_room + 1) ∷ []
+
+abbrev pub spent_told_unasked : List Item
+spent_told_unasked = told before_spent_unasked (Session 0) (cause.Spent (last_room + 1))

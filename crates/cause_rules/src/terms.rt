@@ -2,7 +2,7 @@
 ghost use Rattle.std.specs.Prelude.{◌+◌};
 ghost use Rattle.stamp_base.specs.SetupNumbers.{default_numbers};
 ghost use Rattle.cause_rules.specs.Explained.{Explained};
-ghost use Rattle.cause_rules.specs.WorkedTerms.{old_told, expired_told, replaced_told, replaced_told_unasked, overtaken_told, drawn_out, no_stamp_told, no_stamp_told_unasked, last_room, spent_told, spent_told_after_extension};
+ghost use Rattle.cause_rules.specs.WorkedTerms.{old_told, expired_told, replaced_told, replaced_told_unasked, overtaken_told, drawn_out, no_stamp_told, no_stamp_told_unasked, last_room, spent_told, spent_told_after_extension, spent_told_unasked};
 
 /// A start is old by the epoch of the last take of its node, which it does not pass.
 pub fn epochs_are_those_of_the_last_take()
@@ -55,4 +55,5 @@ pub fn spent_stamps_leave_no_range()
     ensures after_an_extension { Explained default_numbers (spent_told_after_extension (last_room + 1)) }
     ensures room_left { Explained default_numbers (spent_told last_room last_room) → ⊥ }
     ensures not_given { Explained default_numbers (spent_told (last_room + 2) (last_room + 1)) → ⊥ }
+    ensures not_asked { Explained default_numbers spent_told_unasked → ⊥ }
 {}
