@@ -6,7 +6,7 @@ use Rattle.history_book.specs.Members.{◌∈◌}
 use Rattle.history_book.specs.declared.cause.Cause.TheVariants as cause
 use Rattle.history_book.specs.declared.item.Actor.TheVariants.{Node, Session}
 use Rattle.history_book.specs.declared.item.Item.{Item}
-use Rattle.history_book.specs.declared.item.Item.TheVariants.{Take, Extend, Draw}
+use Rattle.history_book.specs.declared.item.Item.TheVariants.{AskBegin, Take, Extend, Draw}
 use Rattle.cause_rules.specs.Posts.{Taken, last_take, CeilingGiven}
 use Rattle.cause_rules.specs.Commits.{ShownReplaced, ShownNoStamp, StampDrawn}
 use Rattle.cause_rules.specs.Refusals.{ShownOvertaken, ShownSpent}

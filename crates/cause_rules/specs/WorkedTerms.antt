@@ -1,5 +1,5 @@
 -- Short histories of what is told of a term: its epoch, its lease, its range, and the term after it.
-use Rattle.std.specs.Prelude.{ℕ, ◌-◌, ◌^◌, List, [], ◌∷◌, None, Some}
+use Rattle.std.specs.Prelude.{◌+◌, ℕ, ◌-◌, ◌^◌, List, [], ◌∷◌, None, Some}
 use Rattle.history_book.specs.declared.cause.Cause.TheVariants as cause
 use Rattle.history_book.specs.declared.item.Actor.TheVariants.{Node, Session}
 use Rattle.history_book.specs.declared.item.Item.{Item}
