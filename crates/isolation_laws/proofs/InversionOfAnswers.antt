@@ -31,9 +31,11 @@ use Rattle.machine.specs.Events.Put.{to_place_by, to_place, put_by, put_commit, 
 use Rattle.machine.specs.Events.Answer.{answer_by, answer_on}
 use Rattle.isolation_laws.specs.Words.{InstanceAt, ClientAt}
 use Rattle.isolation_laws.specs.Quiet.{Quiet, AllQuiet}
-use Rattle.isolation_laws.proofs.Outcomes.{AtDrawn, answered_client, OfPlaced, OfNotPlaced, OfAnsweredBegin, OfAnsweredCommit}
-use Rattle.isolation_laws.proofs.InversionParts.{ComesTo, ComesBy, none_quiet, one_quiet, refusal_quiet, still, still_post, client_back, nodes_alike, alike_told}
+use Rattle.isolation_laws.proofs.OutcomesOfStamps.{AtDrawn, answered_client}
+use Rattle.isolation_laws.proofs.Outcomes.{OfPlaced, OfNotPlaced, OfAnsweredBegin, OfAnsweredCommit}
+use Rattle.isolation_laws.proofs.InversionParts.{ComesTo, ComesBy, none_quiet, refusal_quiet, still, still_post, client_back, nodes_alike, alike_told}
 use Rattle.isolation_laws.proofs.InversionOfRequests.{for_request, Served, decide_still, told_quiet}
+use Rattle.isolation_laws.proofs.Pushed.{one_quiet}
 
 -- ---- put
 abbrev pub for_table : State → ℕ → Effect (Option InstanceEntry × Pairs) → Step
@@ -88,7 +90,7 @@ put_at w node session fate (Some i) at = put_found w node session fate i at (hel
 
 -- ---- answer
 -- by the request's stamps, and what the instance makes of it
-abbrev answered_on : ℕ → ℕ → InstanceEntry → Client → InstanceStep Reply → Option (ℕ × Option ℕ) → Effect (Option InstanceEntry × Client)
+abbrev pub answered_on : ℕ → ℕ → InstanceEntry → Client → InstanceStep Reply → Option (ℕ × Option ℕ) → Effect (Option InstanceEntry × Client)
 answered_on node session i c taken None = refused (Some i, c) (Node node) (cause.NoRequest session)
 answered_on node session i c taken (Some stamps) = answer_by node session stamps.0 c i taken.left taken.answer
 

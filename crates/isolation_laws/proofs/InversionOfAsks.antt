@@ -27,8 +27,9 @@ use Rattle.isolation_laws.specs.Words.{InstanceAt, ClientAt}
 use Rattle.isolation_laws.specs.Quiet.{Quiet, AllQuiet}
 use Rattle.isolation_laws.proofs.Lookups.{set_same}
 use Rattle.isolation_laws.proofs.Outcomes.{OfCrashed, OfAskedBegin, OfAskedCommit, OfEndedReadOnly}
-use Rattle.isolation_laws.proofs.InversionParts.{ComesTo, ComesBy, none_quiet, one_quiet, refusal_quiet, still_post, still_both}
+use Rattle.isolation_laws.proofs.InversionParts.{ComesTo, ComesBy, none_quiet, refusal_quiet, still_post, still_both}
 use Rattle.isolation_laws.proofs.InversionOfSessions.{work_open, open_by_work}
+use Rattle.isolation_laws.proofs.Pushed.{one_quiet}
 
 -- ---- crash
 abbrev pub for_clients : State → ℕ → Effect (Option InstanceEntry × List Client) → Step
@@ -76,7 +77,7 @@ abbrev pub for_ask : State → ℕ → ℕ → Effect (Client × Option Instance
 for_ask w session node effect = step_by effect (λ (p : Client × Option InstanceEntry). with_client (with_post w node p.1) session p.0)
 
 -- the ask of a request, by whether the slots are full
-abbrev asked_if : InstanceEntry → Request → Bool → InstanceStep (Unit {0})
+abbrev pub asked_if : InstanceEntry → Request → Bool → InstanceStep (Unit {0})
 asked_if i request full = if full then stays i (cause.Full (in_flight i)) else record { left = with_request i (session_of request) (Some (just_asked request)); answer = Ok tt }
 
 -- both were put back

@@ -1,21 +1,20 @@
 -- The words in which the facts are told: what stands where in a state, and what a history has.
-use Rattle.std.specs.Prelude.{◌≡◌, ℕ, ◌==◌, if◌then◌else◌, List, [], ◌∷◌, ◌++◌, slice_get, Option, None, Some}
+use Rattle.std.specs.Prelude.{◌≡◌, ℕ, List, slice_get, Option, None, Some}
 use Rattle.stamp_base.specs.declared.stores.Mark.TheVariants.{Committed as CommittedMark, Invalid as InvalidMark}
 use Rattle.history_book.specs.Members.{◌∈◌}
 use Rattle.history_book.specs.declared.item.Item.{Item}
-use Rattle.history_book.specs.declared.item.Item.TheVariants.{Begin, Draw, Write}
+use Rattle.history_book.specs.declared.item.Item.TheVariants.{Begin, Draw}
 use Rattle.store_parts.specs.declared.rows.Cell.{Cell}
 use Rattle.store_parts.specs.Pairs.{Pairs, mark_of}
 use Rattle.client_parts.specs.declared.session.State.{State as SessionState}
 use Rattle.client_parts.specs.declared.session.State.TheVariants as phase
-use Rattle.client_parts.specs.SessionSteps.{key_added}
-use Rattle.oracle_parts.specs.declared.buckets.Recorded.{Recorded}
 use Rattle.oracle_parts.specs.declared.instance.Held.{Held}
 use Rattle.oracle_parts.specs.declared.instance.Progress.{Progress}
 use Rattle.oracle_parts.specs.declared.instance.Request.{Request}
-use Rattle.oracle_parts.specs.Buckets.{pairs_of}
 use Rattle.oracle_parts.specs.Instance.{InstanceEntry, held_of}
 use Rattle.machine.specs.State.{Client}
+pub use Rattle.cause_rules.specs.Written.{keys_with, written_keys, recorded_by, recorded}
+unfoldable pub use Rattle.cause_rules.specs.Written.{keys_from, recorded_in}
 
 -- ---- what stands where
 -- the node has this instance
@@ -70,32 +69,6 @@ HasDrawn h t = (s : ℕ) × (n : ℕ) × (term : ℕ) × (c : ℕ) × DrewCommit
 abbrev pub drawn_stamp : ℕ → Option ℕ → ℕ
 drawn_stamp t None = t
 drawn_stamp t (Some c) = c
-
--- the write list after an item
-abbrev pub keys_with : List ℕ → ℕ → Item → List ℕ
-keys_with keys t (Write session start key value) = if start == t then key_added keys key else keys
-keys_with keys t _ = keys
-
-unfoldable pub keys_from : List ℕ → ℕ → List Item → List ℕ
-keys_from keys t [] = keys
-keys_from keys t (x ∷ xs) = keys_from (keys_with keys t x) t xs
-
--- the keys that the transaction wrote, each once, in the order of their first writes
-abbrev pub written_keys : List Item → ℕ → List ℕ
-written_keys h t = keys_from [] t h
-
--- what a draw in the term records, by all writes of the history
-abbrev pub recorded_by : List Item → ℕ → Item → List Recorded
-recorded_by h term (Draw session node drawn_in t (Some c)) = if drawn_in == term then pairs_of (written_keys h t) c else []
-recorded_by h term _ = []
-
-unfoldable pub recorded_in : List Item → ℕ → List Item → List Recorded
-recorded_in h term [] = []
-recorded_in h term (x ∷ xs) = recorded_by h term x ++ recorded_in h term xs
-
--- the pairs that the commits drawn in a term record, in order
-abbrev pub recorded : List Item → ℕ → List Recorded
-recorded h term = recorded_in h term h
 
 -- ---- what the stores have
 -- the cell of a version with this shadow, where a value was written

@@ -1,0 +1,127 @@
+-- What is due of a request is shown: by its ask, its term and its draw, and by the facts of isolation.
+use Rattle.std.proofs.Common.{◌≡◌, ◌≢◌, ℕ, List, Option, None, Some, refl, sym, ◌∙◌, ap, subst, Contains}
+use Rattle.std.specs.Option.{option_or}
+use Rattle.history_book.specs.declared.item.Item.{Item}
+use Rattle.oracle_parts.specs.declared.buckets.Verdict.{Verdict}
+use Rattle.oracle_parts.specs.declared.buckets.Verdict.TheVariants.{Conflict, Hidden}
+use Rattle.oracle_parts.specs.declared.instance.Progress.{Progress}
+use Rattle.oracle_parts.specs.declared.instance.Progress.TheVariants as progress
+use Rattle.oracle_parts.specs.declared.instance.Request.{Request}
+use Rattle.oracle_parts.specs.declared.instance.Request.TheVariants.{Begin, Commit}
+use Rattle.oracle_parts.specs.Buckets.{Bucket, contents, verdict, IsShown}
+use Rattle.oracle_parts.specs.Instance.{InstanceEntry}
+use Rattle.oracle_parts.proofs.BucketVerdicts.{verdict_shown}
+use Rattle.machine.specs.State.{State}
+use Rattle.cause_rules.specs.Asks.{Ask, its_ask, its_term, its_draw, its_start, its_node, start_asked, start_drawn, node_asked}
+use Rattle.cause_rules.specs.Written.{written_keys, recorded}
+use Rattle.cause_rules.specs.Commits.{ShownConflict, ShownHidden, ShownOldEpoch, ShownExpired}
+use Rattle.cause_rules.specs.Posts.{TookLast, LeasedUntil}
+use Rattle.isolation_laws.specs.Words.{HeldBy}
+use Rattle.isolation_laws.specs.Pending.{InFlight, Pending, Taken}
+use Rattle.isolation_laws.specs.Sound.{Stands}
+use Rattle.isolation_laws.proofs.RecordedCommits.{recorded_rise}
+use Rattle.cause_laws.specs.Requests.{ask_for}
+use Rattle.cause_laws.specs.Shows.{Shows}
+use Rattle.cause_laws.specs.Due.{Serves, DueVerdict, DueOldEpoch, DueExpired}
+use Rattle.cause_laws.proofs.RecordedDraws.{last_drawn, drawn_at}
+
+-- ---- the ask of a request
+asks : (w : State) (h : List Item) (s : ℕ) (i : InstanceEntry) (request : Request) (p : Progress) → Shows w h → (serves : Serves w s i request p) → its_ask h s ≡ Some (ask_for serves.node request)
+asks w h s i request p shows serves = shows.asked.asked serves.node s i request p serves.at serves.holds
+
+asked_of : (n : ℕ) (r : Request) → node_asked (Some (ask_for n r)) ≡ Some n
+asked_of n (Begin session) = refl
+asked_of n (Commit session start keys) = refl
+
+pub node_of : (w : State) (h : List Item) (s : ℕ) (i : InstanceEntry) (request : Request) (p : Progress) → Shows w h → (serves : Serves w s i request p) → its_node h s ≡ Some serves.node
+node_of w h s i request p shows serves = ap node_asked (asks w h s i request p shows serves) ∙ asked_of serves.node request
+
+pub start_of : (w : State) (h : List Item) (s asker start : ℕ) (keys : List ℕ) (i : InstanceEntry) (p : Progress) → Shows w h → Serves w s i (Commit asker start keys) p → its_start h s ≡ Some start
+start_of w h s asker start keys i p shows serves = ap (λ (ask : Option Ask). option_or (start_asked ask) (start_drawn (its_draw h s))) (asks w h s i (Commit asker start keys) p shows serves)
+
+pub start_of_begin : (w : State) (h : List Item) (s asker start : ℕ) (i : InstanceEntry) → Shows w h → Serves w s i (Begin asker) (progress.Drawn start) → its_start h s ≡ Some start
+start_of_begin w h s asker start i shows serves =
+    let drew : its_draw h s ≡ Some (start, None) = shows.asked.drawn serves.node s i (Begin asker) (progress.Drawn start) (start, None) serves.at serves.holds refl in
+    ap (λ (ask : Option Ask). option_or (start_asked ask) (start_drawn (its_draw h s))) (asks w h s i (Begin asker) (progress.Drawn start) shows serves) ∙ ap (λ (d : Option (ℕ × Option ℕ)). start_drawn d) drew
+
+pub accepted_not_asked : progress.Accepted ≢ progress.Asked
+accepted_not_asked same = cc
+
+pub drawn_not_asked : (stamp : ℕ) → progress.Drawn stamp ≢ progress.Asked
+drawn_not_asked stamp same = cc
+
+pub term_of : (w : State) (h : List Item) (s : ℕ) (i : InstanceEntry) (request : Request) (p : Progress) → Shows w h → Serves w s i request p → p ≢ progress.Asked → its_term h s ≡ Some i.term
+term_of w h s i request p shows serves past = shows.asked.accepted serves.node s i request p serves.at serves.holds past
+
+-- ---- the verdict of the buckets
+-- a commit that was accepted asks for the keys that its transaction wrote
+keys_of : (w : State) (h : List Item) (s asker start : ℕ) (keys : List ℕ) (i : InstanceEntry) → Stands w h → Serves w s i (Commit asker start keys) progress.Accepted → keys ≡ written_keys h start
+keys_of w h s asker start keys i stands serves =
+    let own : asker ≡ s = stands.holds.requests.requests.own serves.node s i (Commit asker start keys) progress.Accepted serves.at serves.holds in
+    let held : HeldBy i s (Commit s start keys) progress.Accepted = subst (λ r. HeldBy i s (Commit r start keys) progress.Accepted) own serves.holds in
+    let q : InFlight = record { session = s; node = serves.node; term = i.term; start = start; keys = keys; stage = Taken i.last } in
+    let pending : Pending w.nodes q = record { instance_of = i; progress_of = progress.Accepted; at = serves.at; held = held; term_is = refl; stage_is = refl } in
+    (stands.holds.requests.pending.keys q pending).0
+
+-- what the buckets say is shown by what was drawn in the term
+told : (w : State) (h : List Item) (s : ℕ) (why : Verdict) → Stands w h → (due : DueVerdict w s why) → IsShown w.setup.buckets w.setup.width (recorded h due.i.term) due.start due.keys why
+told w h s why stands due =
+    let setup = stands.holds.in_range in
+    let buckets : due.i.buckets ≡ contents w.setup.buckets w.setup.width (recorded h due.i.term) = stands.holds.memory.recorded.hold due.serves.node due.i due.serves.at in
+    let judged : verdict (contents w.setup.buckets w.setup.width (recorded h due.i.term)) due.start due.keys ≡ why = ap (λ (bs : List Bucket). verdict bs due.start due.keys) (sym buckets) ∙ due.judged in
+    subst (λ v. IsShown w.setup.buckets w.setup.width (recorded h due.i.term) due.start due.keys v) judged
+    (verdict_shown w.setup.buckets w.setup.width (recorded h due.i.term) due.start due.keys setup.buckets.0 setup.width.0 (recorded_rise h due.i.term stands.holds.numbers.new))
+
+pub conflict_shown : (w : State) (h : List Item) (s key by : ℕ) → Stands w h → Shows w h → DueVerdict w s (Conflict key by) → ShownConflict h s key by
+conflict_shown w h s key by stands shows due =
+    let is = told w h s (Conflict key by) stands due in
+    let from = last_drawn h due.i.term key by is.1 in
+    record {
+      start = due.start;
+      start_is = start_of w h s due.asker due.start due.keys due.i progress.Accepted shows due.serves;
+      own = subst (λ ks. Contains ks key) (keys_of w h s due.asker due.start due.keys due.i stands due.serves) is.0;
+      term = due.i.term;
+      term_is = term_of w h s due.i (Commit due.asker due.start due.keys) progress.Accepted shows due.serves accepted_not_asked;
+      above = is.2;
+      writer = from.writer;
+      drawn = (from.session, from.node, from.drawn);
+      wrote = from.wrote;
+    }
+
+pub hidden_shown : (w : State) (h : List Item) (s key water : ℕ) → Stands w h → Shows w h → DueVerdict w s (Hidden key water) → ShownHidden w.setup h s key water
+hidden_shown w h s key water stands shows due =
+    let is = told w h s (Hidden key water) stands due in
+    let from = drawn_at h due.i.term w.setup.buckets _ water is.2 in
+    record {
+      start = due.start;
+      start_is = start_of w h s due.asker due.start due.keys due.i progress.Accepted shows due.serves;
+      own = subst (λ ks. Contains ks key) (keys_of w h s due.asker due.start due.keys due.i stands due.serves) is.0;
+      term = due.i.term;
+      term_is = term_of w h s due.i (Commit due.asker due.start due.keys) progress.Accepted shows due.serves accepted_not_asked;
+      forgotten = is.1;
+      above = is.3;
+      writer = from.writer;
+      drawn = from.drawn;
+      other = from.other;
+      wrote = from.wrote;
+      same_bucket = from.there;
+    }
+
+-- ---- acceptance
+pub old_epoch_shown : (w : State) (h : List Item) (s start epoch : ℕ) → Shows w h → DueOldEpoch w s start epoch → ShownOldEpoch h s start epoch
+old_epoch_shown w h s start epoch shows due = record {
+  start_is = start_of w h s due.asker start due.keys due.i progress.Asked shows due.serves;
+  node = due.serves.node;
+  node_is = node_of w h s due.i (Commit due.asker start due.keys) progress.Asked shows due.serves;
+  term = due.i.term;
+  took = subst (λ e. TookLast h due.serves.node due.i.term e) due.epoch_is (shows.taken.took due.serves.node due.i due.serves.at);
+  old = due.old;
+}
+
+pub expired_shown : (w : State) (h : List Item) (s reading until : ℕ) → Shows w h → DueExpired w s reading until → ShownExpired h s reading until
+expired_shown w h s reading until shows due = record {
+  node = due.serves.node;
+  node_is = node_of w h s due.i due.request progress.Asked shows due.serves;
+  leased = subst (λ u. LeasedUntil h due.serves.node u) due.until_is (shows.taken.leased due.serves.node due.i due.serves.at);
+  over = due.over;
+}

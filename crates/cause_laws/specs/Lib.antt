@@ -1,0 +1,5 @@
+pub mod Due
+pub mod Requests
+pub mod Nodes
+pub mod Stores
+pub mod Shows

@@ -1,0 +1,109 @@
+-- What shows the refusals of a request: by its ask, its node, its term and its start.
+use Rattle.std.specs.Prelude.{◌≡◌, ℕ, ◌<◌, ◌≤◌, List, ◌⊎◌, None, Some, Contains}
+use Rattle.stamp_base.specs.SetupNumbers.{SetupNumbers}
+use Rattle.stamp_base.specs.declared.stores.Store.TheVariants.{Table}
+use Rattle.history_book.specs.Members.{◌∈◌}
+use Rattle.history_book.specs.Isolation.{Committed}
+use Rattle.history_book.specs.declared.item.Actor.{Actor}
+use Rattle.history_book.specs.declared.item.Actor.TheVariants.{Node}
+use Rattle.history_book.specs.declared.item.Item.{Item}
+use Rattle.history_book.specs.declared.item.Item.TheVariants.{Draw, Mark, Fault, Crash}
+use Rattle.oracle_parts.specs.Buckets.{place_of, bucket_of, contents, kept_commit}
+use Rattle.cause_rules.specs.Asks.{its_node, its_term, its_draw, its_start, since_ask, since_draw}
+use Rattle.cause_rules.specs.Posts.{TookLast, LeasedUntil, TermTaken, CeilingGiven}
+use Rattle.cause_rules.specs.Written.{written_keys, recorded}
+
+-- the transaction's commit was drawn in the term
+abbrev pub CommitDrawn : List Item → ℕ → ℕ → ℕ → Type 0
+CommitDrawn h term writer commit = (s : ℕ) × (n : ℕ) × (Draw s n term writer (Some commit) ∈ h)
+
+-- a stamp was drawn in the term, as a start or as a commit
+abbrev pub StampDrawn : List Item → ℕ → ℕ → Type 0
+StampDrawn h term stamp = ((s : ℕ) × (n : ℕ) × (Draw s n term stamp None ∈ h)) ⊎ ((writer : ℕ) × CommitDrawn h term writer stamp)
+
+-- a key that the transaction wrote was committed above its start, in its term
+pub record ShownConflict (h : List Item) (s key by : ℕ) : Type 0 where
+  pub start : ℕ
+  pub start_is : its_start h s ≡ Some start
+  pub own : Contains (written_keys h start) key
+  pub term : ℕ
+  pub term_is : its_term h s ≡ Some term
+  pub above : start < by
+  pub writer : ℕ
+  pub drawn : CommitDrawn h term writer by
+  pub wrote : Contains (written_keys h writer) key
+
+-- a key that the transaction wrote is not remembered, and a commit above its start is the last that the key's bucket has
+-- forgotten
+pub record ShownHidden (setup : SetupNumbers) (h : List Item) (s key water : ℕ) : Type 0 where
+  pub start : ℕ
+  pub start_is : its_start h s ≡ Some start
+  pub own : Contains (written_keys h start) key
+  pub term : ℕ
+  pub term_is : its_term h s ≡ Some term
+  pub forgotten : kept_commit (bucket_of (contents setup.buckets setup.width (recorded h term)) key).kept key ≡ None
+  pub above : start < water
+  pub writer : ℕ
+  pub drawn : CommitDrawn h term writer water
+  pub other : ℕ
+  pub wrote : Contains (written_keys h writer) other
+  pub same_bucket : place_of setup.buckets other ≡ place_of setup.buckets key
+
+-- the transaction began in an earlier term than the one that its node took last
+pub record ShownOldEpoch (h : List Item) (s start epoch : ℕ) : Type 0 where
+  pub start_is : its_start h s ≡ Some start
+  pub node : ℕ
+  pub node_is : its_node h s ≡ Some node
+  pub term : ℕ
+  pub took : TookLast h node term epoch
+  pub old : start ≤ epoch
+
+-- the lease of its node was over
+pub record ShownExpired (h : List Item) (s reading until : ℕ) : Type 0 where
+  pub node : ℕ
+  pub node_is : its_node h s ≡ Some node
+  pub leased : LeasedUntil h node until
+  pub over : until ≤ reading
+
+-- a later term than its own was taken
+pub record ShownReplaced (h : List Item) (s found : ℕ) : Type 0 where
+  pub term : ℕ
+  pub term_is : its_term h s ≡ Some term
+  pub later : term < found
+  pub taken : TermTaken h found
+
+-- the range of its term is drawn to its end
+pub record ShownNoStamp (h : List Item) (s last : ℕ) : Type 0 where
+  pub term : ℕ
+  pub term_is : its_term h s ≡ Some term
+  pub end : CeilingGiven h term last
+  pub drawn : StampDrawn h term last
+
+-- the transaction was marked
+pub record ShownInvalid (h : List Item) (s start : ℕ) : Type 0 where
+  pub start_is : its_start h s ≡ Some start
+  pub actor : Actor
+  pub marked : Mark actor start ∈ h
+
+-- its node's call on the commit table failed after the draw, or its node crashed after the ask
+pub record ShownOpen (h : List Item) (s start : ℕ) : Type 0 where
+  pub start_is : its_start h s ≡ Some start
+  pub node : ℕ
+  pub node_is : its_node h s ≡ Some node
+  pub lost : ((commit : ℕ) × (its_draw h s ≡ Some (start, Some commit)) × (Fault (Node node) Table ∈ since_draw h s)) ⊎ ((term : ℕ) × (Crash node term ∈ since_ask h s))
+
+-- its node crashed after the ask
+pub record ShownCrashed (h : List Item) (s node term : ℕ) : Type 0 where
+  pub node_is : its_node h s ≡ Some node
+  pub crashed : Crash node term ∈ since_ask h s
+
+-- a commit was drawn below its start in its term, and is not placed
+pub record ShownNotYet (h : List Item) (s commit : ℕ) : Type 0 where
+  pub start : ℕ
+  pub start_is : its_start h s ≡ Some start
+  pub term : ℕ
+  pub term_is : its_term h s ≡ Some term
+  pub writer : ℕ
+  pub drawn : CommitDrawn h term writer commit
+  pub below : commit < start
+  pub unplaced : (t : ℕ) → Committed h t commit → ⊥

@@ -1,0 +1,13 @@
+pub mod Since
+pub mod Written
+pub mod Asks
+pub mod Posts
+pub mod OpenAsks
+pub mod Commits
+pub mod Refusals
+pub mod Explained
+pub mod WorkedHistories
+pub mod WorkedCommits
+pub mod WorkedTerms
+pub mod WorkedRequests
+pub mod WorkedNodes
