@@ -1,0 +1,3 @@
+pub mod KeptItems
+pub mod PlacedMarks
+pub mod WorkSteps

@@ -1,6 +1,7 @@
 -- The change that a failed call made all the same.
 use Rattle.std.specs.Prelude.{ℕ, List, [], ◌∷◌, Option, None, Some, Result, Ok, Err}
 use Rattle.stamp_base.specs.SetupNumbers.{SetupNumbers}
+use Rattle.stamp_base.specs.declared.stores.Mark.{Mark}
 use Rattle.port_io.specs.declared.weather.Fate.{Fate}
 use Rattle.port_io.specs.declared.weather.Fate.TheVariants.{FailsApplied}
 use Rattle.history_book.specs.declared.item.Item.{Item}
@@ -8,7 +9,7 @@ use Rattle.store_parts.specs.declared.record.Grant.{Grant}
 use Rattle.store_parts.specs.declared.record.TakeRefused.{TakeRefused}
 use Rattle.store_parts.specs.declared.record.RenewRefused.{RenewRefused}
 use Rattle.store_parts.specs.declared.record.ExtendRefused.{ExtendRefused}
-use Rattle.history_book.specs.declared.item.Item.TheVariants.{Renew, Extend}
+use Rattle.history_book.specs.declared.item.Item.TheVariants.{Renew, Extend, Placed}
 use Rattle.oracle_parts.specs.Instance.{InstanceEntry}
 use Rattle.machine.specs.Events.Take.{instance_of, take_item}
 
@@ -37,3 +38,8 @@ renewal_kept _ node reading term _ = []
 abbrev pub extension_kept : Fate → ℕ → ℕ → Result ℕ ExtendRefused → List Item
 extension_kept FailsApplied node term (Ok ceiling) = Extend node term ceiling ∷ []
 extension_kept _ node term _ = []
+
+-- ---- the put
+abbrev pub placed_kept : Option Mark → Option Mark → ℕ → ℕ → List Item
+placed_kept None (Some mark) start commit = Placed start commit ∷ []
+placed_kept before now start commit = []

@@ -3,3 +3,5 @@ pub mod Parts
 pub mod Kept
 pub mod Waiting
 pub mod Replies
+pub mod Meeting
+pub mod Working

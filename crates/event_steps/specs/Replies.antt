@@ -10,6 +10,7 @@ use Rattle.oracle_parts.specs.declared.instance.Reply.TheVariants as reply
 use Rattle.machine.specs.State.{Client}
 use Rattle.machine.specs.Effect.{Effect, done, refused}
 use Rattle.machine.specs.Clients.{client_begun, client_committed, client_aborted, client_opened, unless_gone}
+use Rattle.event_steps.specs.Made.{no_parts}
 
 -- the client that a reply is for, once it has heard it
 abbrev pub replied : Reply → Client → Client
@@ -27,7 +28,7 @@ WaitsForReply reply.Open e = e.state ≢ Gone → CanOpen e
 
 -- what is told of a reply to a transaction with this start
 abbrev pub reply_told : ℕ → ℕ → Reply → Effect (Unit {0})
-reply_told session start (reply.Begun begun epoch) = done tt (item.Begin session begun ∷ [])
-reply_told session start (reply.Committed commit) = done tt (item.Committed session start commit ∷ [])
-reply_told session start reply.Invalid = refused tt (Session session) (cause.Invalid start)
-reply_told session start reply.Open = refused tt (Session session) (cause.Open start)
+reply_told session start (reply.Begun begun epoch) = done no_parts (item.Begin session begun ∷ [])
+reply_told session start (reply.Committed commit) = done no_parts (item.Committed session start commit ∷ [])
+reply_told session start reply.Invalid = refused no_parts (Session session) (cause.Invalid start)
+reply_told session start reply.Open = refused no_parts (Session session) (cause.Open start)

@@ -2,7 +2,7 @@
 ghost use Rattle.std.specs.Prelude.{◌≡◌, ℕ, ◌≤◌, ◌+◌, ◌++◌, ◌∷◌, [], Err, OnErr, OnOk, if◌then◌else◌};
 ghost use Rattle.store_parts.specs.StoreCalls.{AsksOnce};
 ghost use Rattle.machine.specs.Effect as effect;
-ghost use Rattle.event_steps.specs.Made.{Makes};
+ghost use Rattle.event_steps.specs.Made.{Makes, no_parts};
 ghost use Rattle.event_steps.specs.Kept.{made_items};
 
 use crate::Stopped;
@@ -22,9 +22,10 @@ pub fn make_room(book: &mut Book, n: usize) -> Result<(), NoMemory>
 
 /// The actor is told why the event is refused, which changes nothing else.
 pub fn refuse(book: &mut Book, actor: Actor, cause: Cause) -> Result<(), Stopped>
-    ensures { Makes (effect.refused tt actor cause) tt tt book.old.items book.new.items result }
+    ensures { Makes (effect.refused no_parts actor cause) no_parts no_parts book.old.items book.new.items result }
 {
-    book.append(Item::Refused { actor, cause })?;
+    let told = cause;
+    book.append(Item::Refused { actor, cause: told })?;
     Err(Stopped::Refused(cause))
 }
 
@@ -34,34 +35,25 @@ pub fn tell(book: &mut Book, actor: Actor, cause: Cause) -> Result<(), Stopped>
     ensures items { book.new.items ≡ book.old.items ++ Item.Refused actor cause ∷ [] }
     ensures answer { result ≡ Err (Stopped.Refused cause) }
 {
-    book.append_reserved(Item::Refused { actor, cause });
+    let told = cause;
+    book.append_reserved(Item::Refused { actor, cause: told });
     Err(Stopped::Refused(cause))
 }
 
 /// The same for a refusal that a request is told once: where it was told before, nothing is appended.
-pub fn tell_once(
-    book: &mut Book,
-    told: bool,
-    actor: Actor,
-    cause: Cause,
-) -> Result<(), Stopped>
+pub fn tell_once(book: &mut Book, told: bool, actor: Actor, cause: Cause) -> Result<(), Stopped>
     requires { 1 ≤ book.old.spare }
     ensures items { book.new.items ≡ book.old.items ++ (if told then [] else Item.Refused actor cause ∷ []) }
     ensures answer { result ≡ Err (Stopped.Refused cause) }
 {
-    if !told {
-        book.append_reserved(Item::Refused { actor, cause });
+    if told {
+        return Err(Stopped::Refused(cause));
     }
-    Err(Stopped::Refused(cause))
+    tell(book, actor, cause)
 }
 
 /// The actor's call on the store failed. The change that it made all the same stands before the fault.
-pub fn fail(
-    book: &mut Book,
-    actor: Actor,
-    store: Store,
-    made: Option<Item>,
-) -> Result<(), Stopped>
+pub fn fail(book: &mut Book, actor: Actor, store: Store, made: Option<Item>) -> Result<(), Stopped>
     requires { 2 ≤ book.old.spare }
     ensures items { book.new.items ≡ book.old.items ++ made_items made ++ Item.Fault actor store ∷ [] }
     ensures answer { result ≡ Err (Stopped.Fault store) }

@@ -1,9 +1,9 @@
 // A node takes the master record.
-ghost use Rattle.std.specs.Prelude.{◌≡◌, ◌≤◌, ◌^◌, IfOk};
+ghost use Rattle.std.specs.Prelude.{◌≡◌, ◌≤◌, ◌^◌, IfOk, None, Some};
 ghost use Rattle.stamp_base.specs.Setups.{numbers_of};
 ghost use Rattle.machine.specs.Events.Take.{rules_of, take_on, take_vacant as take_vacant_on, take_asks, take_item as take_item_of};
 ghost use Rattle.stamp_base.specs.Ranges.{IsStampRange};
-ghost use Rattle.event_steps.specs.Made.{Makes, Asks, asked_by};
+ghost use Rattle.event_steps.specs.Made.{Makes, Asks};
 ghost use Rattle.event_steps.specs.Kept.{made_items, opened_by, kept_by};
 
 use crate::{Stopped, ledger};
@@ -11,7 +11,7 @@ use history_book::{Actor, Book, Cause, Item};
 use master_record::Master;
 use oracle_core::Instance;
 use port_io::{Fate, OneFate, Weather};
-use stamp_base::{NodeNo, NoMemory, Setup, Store};
+use stamp_base::{NoMemory, NodeNo, Setup, Store};
 use std::alloc::Global;
 use store_parts::{Grant, TakeRefused};
 
@@ -32,7 +32,7 @@ pub fn take<W: Weather>(
     ensures made { Makes (take_on (numbers_of setup.now) node reading (W.ahead weather.old Store.Master 0) post.old master.old.state)
         (post.old, master.old.state) (post.new, master.new.state) book.old.items book.new.items result }
     ensures rules { master.new.rules ≡ master.old.rules }
-    ensures asked { Asks (asked_by result (take_asks post.old)) (W.ahead weather.old) (W.ahead weather.new)
+    ensures asked { Asks result (take_asks post.old) (W.ahead weather.old) (W.ahead weather.new)
         (W.faults weather.old) (W.faults weather.new) }
 {
     match post {
@@ -44,6 +44,7 @@ pub fn take<W: Weather>(
     }
 }
 
+#[tactic(auto, using(crate::proofs::KeptItems::kept_grant))]
 fn take_vacant<W: Weather>(
     weather: &mut W,
     book: &mut Book,
@@ -60,7 +61,7 @@ fn take_vacant<W: Weather>(
     ensures made { Makes (take_vacant_on (numbers_of setup.now) node reading (W.ahead weather.old Store.Master 0) master.old.state)
         (None, master.old.state) (post.new, master.new.state) book.old.items book.new.items result }
     ensures rules { master.new.rules ≡ master.old.rules }
-    ensures asked { Asks (asked_by result (Some Store.Master)) (W.ahead weather.old) (W.ahead weather.new)
+    ensures asked { Asks result (Some Store.Master) (W.ahead weather.old) (W.ahead weather.new)
         (W.faults weather.old) (W.faults weather.new) }
 {
     ledger::make_room(book, 2)?;
