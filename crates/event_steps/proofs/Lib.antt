@@ -1,3 +1,4 @@
 pub mod KeptItems
 pub mod PlacedMarks
 pub mod WorkSteps
+pub mod SweepSteps

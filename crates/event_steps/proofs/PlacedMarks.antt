@@ -14,7 +14,7 @@ use Rattle.store_parts.specs.declared.store_errors.StoreError.{StoreError}
 use Rattle.store_parts.specs.declared.store_errors.StoreError.TheVariants.{StoreFault}
 use Rattle.store_parts.specs.StoreCalls.{UnlessNoMemory}
 use Rattle.store_parts.specs.Rows.{Row}
-use Rattle.store_parts.specs.Pairs.{Pairs, mark_of, put_pair}
+use Rattle.store_parts.specs.Pairs.{Pairs, mark_of}
 use Rattle.store_parts.proofs.PairLaws.{mark_of-put_pair}
 use Rattle.client_parts.specs.declared.asks.Ask.{Ask}
 use Rattle.client_parts.specs.declared.asks.Ask.TheVariants as ask

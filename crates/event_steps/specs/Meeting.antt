@@ -1,5 +1,7 @@
 -- How a call on a store stands to the machine's step.
 use Rattle.std.specs.Prelude.{◌≡◌, Bool, true, false, List, [], ◌∷◌, ◌++◌, is_none, Option, None, Some, Result, Ok, Err}
+use Rattle.history_book.specs.declared.cause.Cause.{Cause}
+use Rattle.history_book.specs.declared.cause.Cause.TheVariants.{Undecided}
 use Rattle.history_book.specs.declared.item.Actor.{Actor}
 use Rattle.history_book.specs.declared.item.Item.{Item}
 use Rattle.history_book.specs.declared.item.Item.TheVariants as item
@@ -11,7 +13,8 @@ use Rattle.client_parts.specs.declared.asks.Ask.{Ask}
 use Rattle.client_parts.specs.declared.asks.Ask.TheVariants.{Mark, Shadow}
 use Rattle.client_parts.specs.declared.asks.Told.{Told}
 use Rattle.client_parts.specs.declared.asks.Told.TheVariants as told
-use Rattle.machine.specs.StoreSteps.{Met, store_of, told_entry}
+use Rattle.client_parts.specs.Sweep.{Sweeping}
+use Rattle.machine.specs.StoreSteps.{Met, told_entry}
 
 -- a shadow that is there, where one is to be set, is the same commit
 abbrev pub KeepsShadow : Ask → List Row → Type 0
@@ -50,3 +53,9 @@ pub record IsMet (m : Met) (rows_now : List Row) (pairs_now : Pairs) (before aft
   pub pairs : pairs_now ≡ m.pairs
   pub items : after ≡ before ++ m.items
   pub told : m.told ≡ answer
+
+-- ---- sweeps
+-- why a sweep is undecided, where it is
+abbrev pub undecided_cause : Sweeping → Bool → Option Cause
+undecided_cause s true = Some (Undecided s.txn s.epoch)
+undecided_cause s false = None

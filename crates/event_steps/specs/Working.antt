@@ -1,6 +1,5 @@
 -- What the answer to the next step makes of a client, whatever it has under way, and what a failure makes of it.
 use Rattle.std.specs.Prelude.{◌≡◌, ℕ, Bool, true, false, List, [], ◌∷◌, Option, None, Some}
-use Rattle.history_book.specs.declared.cause.Cause.{Cause}
 use Rattle.history_book.specs.declared.item.Item.{Item}
 use Rattle.client_parts.specs.declared.asks.Told.{Told}
 use Rattle.client_parts.specs.SessionSteps.{SessionEntry, CanFree, CanCommit, step_refusal}

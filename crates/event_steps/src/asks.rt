@@ -176,6 +176,7 @@ fn placed_item(unmarked: bool, still_unmarked: bool, actor: &Actor, ask: &Ask) -
 
 /// The item of a step that was answered.
 fn step_item(actor: Actor, ask: &Ask, answer: &Told) -> Item
+    requires { IsKeys ask.now → ⊥ }
     ensures { result ≡ steps.step_item actor ask.now answer.now }
 {
     match ask {
@@ -211,13 +212,7 @@ fn step_item(actor: Actor, ask: &Ask, answer: &Told) -> Item
                 txn: *txn,
             },
         ),
-        Ask::Keys(txn) => shown(
-            actor,
-            StoreStep::Keys {
-                txn: *txn,
-                count: 0,
-            },
-        ),
+        Ask::Keys(_) => unreachable!(),
     }
 }
 
