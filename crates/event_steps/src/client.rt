@@ -1,7 +1,11 @@
-ghost use Rattle.std.specs.Prelude.{◌≡◌};
+ghost use Rattle.std.specs.Prelude.{◌≡◌, None};
+ghost use Rattle.client_parts.specs.KeyRead.{ReadTurn, next_of, reading_left};
 ghost use Rattle.client_parts.specs.SessionSteps as step;
 ghost use Rattle.machine.specs.State as state;
 ghost use Rattle.machine.specs.Clients as left;
+ghost use Rattle.machine.specs.Events.Write.{client_wrote, write_refused};
+ghost use Rattle.machine.specs.Events.Fetch.{client_read};
+ghost use Rattle.machine.specs.Events.Heal.{offer_of};
 ghost use Rattle.event_steps.specs.Parts.{way_of};
 
 use client_parts::State;
@@ -9,7 +13,7 @@ use client_txn::Session;
 use history_book::Cause;
 use invalidator::Settle;
 use oracle_parts::{Reply, Request};
-use reader_resolve::ReadRun;
+use reader_resolve::{Next, ReadRun};
 use shadow_cells::Completion;
 use stamp_base::{KeyList, KeyNo, Stamp, TxnId};
 use std::marker::Model;
@@ -82,6 +86,13 @@ impl Client {
         self.session.start()
     }
 
+    /// The epoch that its last begin was answered with.
+    pub fn epoch(&self) -> Option<u64>
+        ensures { result ≡ self.now.entry.epoch }
+    {
+        self.session.epoch()
+    }
+
     /// The keys that its transaction has written.
     pub fn keys(&self) -> &KeyList
         ensures { result.now ≡ self.now.entry.keys }
@@ -101,6 +112,22 @@ impl Client {
         ensures { step.IsAnswer (step.work_refusal self.now.entry.state (left.is_reading self.now)) result }
     {
         self.session.check_work(self.is_reading())
+    }
+
+    /// Whether the transaction may write the key: refused as gone, without a transaction, busy, or with 64 other keys, in
+    /// this order.
+    pub fn check_write(&self, key: KeyNo) -> Result<(), Cause>
+        ensures { step.IsAnswer (write_refused self.now key) result }
+    {
+        self.check_work()?;
+        self.session.check_write(key)
+    }
+
+    /// Whether the session may vanish: refused as gone.
+    pub fn check_vanish(&self) -> Result<(), Cause>
+        ensures { step.IsAnswer (step.vanish_refusal self.now.entry.state) result }
+    {
+        self.session.check_vanish()
     }
 
     /// A begin was asked, or the commit of a transaction that has written.
@@ -187,6 +214,49 @@ impl Client {
             Reply::Invalid => self.aborted(),
             Reply::Open => self.opened(),
         }
+    }
+
+    /// The key was written, or its write has failed: it joins the write list. No shadow is offered.
+    pub fn wrote(&mut self, key: KeyNo)
+        requires { write_refused self.old key ≡ None }
+        ensures { self.new ≡ client_wrote self.old key }
+    {
+        // The key may be written, so this is not refused.
+        let _ = self.session.wrote(key);
+        self.heal = None;
+    }
+
+    /// A read was begun: it goes on, or it has its answer, and with it the shadow that may be set.
+    pub fn reads(&mut self, run: ReadRun, next: Next)
+        ensures { (turn : ReadTurn) → run ≡ reading_left turn → next ≡ next_of turn → self.new ≡ client_read self.old turn }
+    {
+        match next {
+            Next::Ask(_) => {
+                self.under_way = UnderWay::Reads(run);
+                self.heal = None;
+            }
+            Next::Done(answer) => {
+                self.under_way = UnderWay::Nothing;
+                self.heal = answer.heal;
+            }
+        }
+    }
+
+    /// The shadow that it may set: only an open transaction without a read under way has an offer.
+    pub fn offer(&self) -> Option<(KeyNo, TxnId, Stamp)>
+        ensures { result ≡ offer_of self.now }
+    {
+        match self.session.state() {
+            State::Open if !self.is_reading() => self.heal,
+            _ => None,
+        }
+    }
+
+    /// The offer is used up.
+    pub fn offers_none(&mut self)
+        ensures { self.new ≡ record self.old { heal = None } }
+    {
+        self.heal = None;
     }
 
     /// The begin was refused, the transaction has ended without writes, or its completion has ended.

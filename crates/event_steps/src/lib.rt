@@ -1,6 +1,7 @@
 //! The events as code: each over the parts that it touches, exact to the machine's definition of that event.
 #![tactic(auto)]
 
+mod aborting;
 mod accepting;
 mod answering;
 mod begin_asking;
@@ -10,12 +11,17 @@ mod commit_asking;
 mod crashing;
 mod deciding;
 mod extending;
+mod fetching;
+mod healing;
 mod ledger;
 mod putting;
 mod renewing;
 mod stopped;
 mod taking;
+mod vanishing;
+mod writing;
 
+pub use aborting::abort;
 pub use accepting::accept;
 pub use answering::answer;
 pub use begin_asking::ask_begin;
@@ -25,7 +31,11 @@ pub use commit_asking::ask_commit;
 pub use crashing::crash;
 pub use deciding::decide;
 pub use extending::extend;
+pub use fetching::fetch;
+pub use healing::heal;
 pub use putting::put;
 pub use renewing::renew;
 pub use stopped::Stopped;
 pub use taking::take;
+pub use vanishing::vanish;
+pub use writing::write;

@@ -1,0 +1,105 @@
+// A session begins a read.
+ghost use Rattle.std.specs.Prelude.{◌≡◌, ◌≤◌, ◌++◌, Some};
+ghost use Rattle.store_parts.specs.Rows.{fetched};
+ghost use Rattle.client_parts.specs.KeyRead.{ReadTurn, next_of};
+ghost use Rattle.machine.specs.Events.Fetch.{fetch_on, fetch_by, fetch_asks, read_items, found_of as found_item_of};
+ghost use Rattle.event_steps.specs.Made.{Makes, Asks};
+
+use crate::{Client, Stopped, ledger};
+use cell_store::{Cells, StoreError};
+use history_book::{Actor, Book, Found, Item, StoreStep};
+use port_io::Weather;
+use reader_resolve::{Next, ReadRun};
+use stamp_base::{KeyNo, SessionNo, Stamp, Store, TxnId, Value};
+
+/// The session fetches the key's cells and begins a read over them: refused as gone, without a transaction or busy. A read
+/// that needs no step on the stores has its answer at once; a failed fetch ends it without one.
+pub fn fetch<W: Weather>(
+    weather: &mut W,
+    book: &mut Book,
+    client: &mut Client,
+    cells: &Cells,
+    session: SessionNo,
+    key: KeyNo,
+) -> Result<(), Stopped>
+    ensures made { Makes (fetch_on session key (W.ahead weather.old Store.Cells 0) client.old cells.now.rows)
+        client.old client.new book.old.items book.new.items result }
+    ensures asked { Asks result (fetch_asks client.old) (W.ahead weather.old) (W.ahead weather.new)
+        (W.faults weather.old) (W.faults weather.new) }
+{
+    if let Err(cause) = client.check_work() {
+        return ledger::refuse(book, Actor::Session(session), cause);
+    }
+    match (client.start(), client.epoch()) {
+        (Some(start), Some(epoch)) => fetch_open(
+            weather, book, client, cells, session, start, epoch, key,
+        ),
+        _ => Ok(()),
+    }
+}
+
+fn fetch_open<W: Weather>(
+    weather: &mut W,
+    book: &mut Book,
+    client: &mut Client,
+    cells: &Cells,
+    session: SessionNo,
+    start: Stamp,
+    epoch: u64,
+    key: KeyNo,
+) -> Result<(), Stopped>
+    ensures made { Makes (fetch_by session start epoch key (W.ahead weather.old Store.Cells 0) client.old (fetched cells.now.rows key start))
+        client.old client.new book.old.items book.new.items result }
+    ensures asked { Asks result (Some Store.Cells) (W.ahead weather.old) (W.ahead weather.new)
+        (W.faults weather.old) (W.faults weather.new) }
+{
+    ledger::make_room(book, 2)?;
+    match cells.fetch_front(weather, key, start) {
+        Ok(front) => {
+            let what = StoreStep::Fetch {
+                key,
+                cells: front.versions,
+            };
+            let (run, next) = ReadRun::start(key, start, epoch, front.cells);
+            book.append_reserved(Item::Step {
+                actor: Actor::Session(session),
+                what,
+            });
+            tell_read(book, session, start, key, &next);
+            client.reads(run, next);
+            Ok(())
+        }
+        Err(StoreError::StoreFault) => {
+            client.offers_none();
+            ledger::fail(book, Actor::Session(session), Store::Cells, None)
+        }
+        Err(StoreError::NoMemory) => Err(Stopped::NoMemory),
+    }
+}
+
+/// A read that has its answer is told.
+pub(crate) fn tell_read(book: &mut Book, session: SessionNo, start: Stamp, key: KeyNo, next: &Next)
+    requires { 1 ≤ book.old.spare }
+    ensures { (turn : ReadTurn) → next.now ≡ next_of turn → book.new.items ≡ book.old.items ++ read_items session start key turn }
+{
+    if let Next::Done(answer) = next {
+        book.append_reserved(Item::Read {
+            session,
+            start,
+            key,
+            answer: found_of(&answer.found),
+        });
+    }
+}
+
+fn found_of(found: &Option<(TxnId, Value)>) -> Option<Found>
+    ensures { result ≡ found_item_of found.now }
+{
+    match found {
+        Some((from, value)) => Some(Found {
+            from: *from,
+            value: *value,
+        }),
+        None => None,
+    }
+}
