@@ -1,5 +1,5 @@
 // A session begins a read.
-ghost use Rattle.std.specs.Prelude.{◌≡◌, ◌≤◌, ◌++◌, None, Some};
+ghost use Rattle.std.specs.Prelude.{◌≡◌, ◌≤◌, ◌++◌, Some};
 ghost use Rattle.store_parts.specs.Rows.{fetched};
 ghost use Rattle.client_parts.specs.KeyRead.{ReadTurn, next_of};
 ghost use Rattle.machine.specs.Events.Fetch.{fetch_on, fetch_by, fetch_asks, read_items, found_of as found_item_of};

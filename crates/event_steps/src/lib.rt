@@ -2,30 +2,40 @@
 #![tactic(auto)]
 
 mod aborting;
-mod asks;
+mod accepting;
+mod answering;
 mod begin_asking;
 mod client;
 mod clock;
+mod commit_asking;
+mod crashing;
+mod deciding;
+mod extending;
 mod fetching;
 mod healing;
 mod ledger;
-mod stepping;
+mod putting;
+mod renewing;
 mod stopped;
-mod sweeping;
 mod taking;
 mod vanishing;
-mod working;
 mod writing;
 
 pub use aborting::abort;
+pub use accepting::accept;
+pub use answering::answer;
 pub use begin_asking::ask_begin;
 pub use client::Client;
 pub use clock::{note, tick};
+pub use commit_asking::ask_commit;
+pub use crashing::crash;
+pub use deciding::decide;
+pub use extending::extend;
 pub use fetching::fetch;
 pub use healing::heal;
-pub use stepping::step;
+pub use putting::put;
+pub use renewing::renew;
 pub use stopped::Stopped;
-pub use sweeping::{sweep_open, sweep_step};
 pub use taking::take;
 pub use vanishing::vanish;
 pub use writing::write;

@@ -1,4 +1,3 @@
-use Rattle.std.proofs.Common.{◌≡◌}
 use Rattle.event_steps.proofs.healing.heal.Goals as goal
 
 pub returns-in-Some-clause-made : goal.returns-in-Some-clause-made
