@@ -208,8 +208,9 @@ impl Master {
         self.ceiling = grant.ceiling;
     }
 
-    /// The end that a renewal would set.
-    fn renewal_at(&self, term: Term, reading: u64) -> Result<u64, RenewRefused>
+    /// What a renewal at this reading would be answered, without a store call: the end that it would set, refused as
+    /// `renew` is.
+    pub fn renewal_at(&self, term: Term, reading: u64) -> Result<u64, RenewRefused>
         requires { reading ≤ 2 ^ 61 }
         ensures answer { result ≡ unless_some (renew_refused self.now.state term)
             (renewed_until self.now.rules self.now.state reading) }
@@ -221,8 +222,8 @@ impl Master {
         Ok(self.until.max(reading + self.lease))
     }
 
-    /// The ceiling that an extension would set.
-    fn extension_of(&self, term: Term) -> Result<u64, ExtendRefused>
+    /// What an extension would be answered, without a store call: the ceiling that it would set, refused as `extend` is.
+    pub fn extension_of(&self, term: Term) -> Result<u64, ExtendRefused>
         ensures answer { result ≡ unless_some (extend_refused self.now.rules self.now.state term)
             (self.now.state.ceiling + self.now.rules.range) }
         ensures range { IfOk result (λ ceiling. IsWithin self.now.state.ceiling (2 ^ 62) ceiling) }

@@ -17,7 +17,9 @@ fn each_step_once(rt: HostRuntime) {
     assert_eq!(rt; master.grant_at(5), Ok(FIRST_GRANT));
     let told = master.take(&mut calm, NodeNo::LAST, 5);
     assert_eq!(rt; told, Ok(FIRST_GRANT));
+    assert_eq!(rt; master.renewal_at(Term::FIRST, 9), Ok(19));
     assert_eq!(rt; master.renew(&mut calm, Term::FIRST, 9), Ok(19));
+    assert_eq!(rt; master.extension_of(Term::FIRST), Ok(200));
     assert_eq!(rt; master.extend(&mut calm, Term::FIRST), Ok(200));
     assert_eq!(rt; master.holder(), Some(NodeNo::LAST));
     assert_eq!(rt;

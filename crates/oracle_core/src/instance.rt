@@ -1,4 +1,4 @@
-ghost use Rattle.std.specs.Prelude.{◌≡◌, ◌≤◌, ◌^◌, ◌↔◌, IfOk, IsTrue, Ok, None, Some};
+ghost use Rattle.std.specs.Prelude.{◌≡◌, ◌≤◌, ◌^◌, ◌↔◌, IfOk, IsTrue, Ok, None, Some, length};
 ghost use Rattle.stamp_base.specs.Ranges.{IsStampRange};
 ghost use Rattle.oracle_parts.specs.Buckets as memory;
 ghost use Rattle.oracle_parts.specs.Instance as entry;
@@ -132,39 +132,54 @@ impl Instance {
         self.requests.iter().filter(|held| held.is_some()).count() as u64
     }
 
+    /// The request of each session, by its number, with how far it has come and what its session was told.
+    pub fn requests(&self) -> &[Option<Held>]
+        ensures value { result.now ≡ self.now.requests }
+        ensures sessions { length self.now.requests ≡ 16 }
+    {
+        self.requests.as_slice()
+    }
+
+    /// The request of a session, as `requests` has it.
+    pub fn held(&self, session: SessionNo) -> Option<Held>
+        ensures { result ≡ entry.held_of self.now session }
+    {
+        self.requests[session.index()]
+    }
+
     /// The request of a session and where it stands. None exactly where the session has none.
     pub fn request_of(&self, session: SessionNo) -> Option<(Request, Place)>
         ensures { result ≡ entry.request_at self.now session }
     {
-        requests::request_of(&self.find(session))
+        requests::request_of(&self.held(session))
     }
 
     /// Where the request of a session stands. None exactly where the session has none.
     pub fn place(&self, session: SessionNo) -> Option<Place>
         ensures { result ≡ entry.place_at self.now session }
     {
-        requests::place_of(&self.find(session))
+        requests::place_of(&self.held(session))
     }
 
     /// The start of a session's request and, of a commit, the commit. None exactly where nothing was drawn for it.
     pub fn drawn(&self, session: SessionNo) -> Option<(Stamp, Option<Stamp>)>
         ensures { result ≡ entry.stamps_at self.now session }
     {
-        requests::stamps_of(&self.find(session))
+        requests::stamps_of(&self.held(session))
     }
 
     /// Whether the session has a request that was refused as NoStamp before.
     pub fn told_no_stamp(&self, session: SessionNo) -> bool
         ensures { result ≡ entry.was_told_no_stamp self.now session }
     {
-        requests::told_no_stamp(&self.find(session))
+        requests::told_no_stamp(&self.held(session))
     }
 
     /// Whether the session has a request that was refused as NotYet before.
     pub fn told_not_yet(&self, session: SessionNo) -> bool
         ensures { result ≡ entry.was_told_not_yet self.now session }
     {
-        requests::told_not_yet(&self.find(session))
+        requests::told_not_yet(&self.held(session))
     }
 
     /// Takes a slot for the request. Refused as Full exactly where all slots are taken.
@@ -191,7 +206,7 @@ impl Instance {
         ensures left { self.new ≡ (step.instance_accept self.old session reading).left }
         ensures answer { result ≡ (step.instance_accept self.old session reading).answer }
     {
-        match self.find(session) {
+        match self.held(session) {
             Some(
                 held @ Held {
                     progress: Progress::Asked,
@@ -210,7 +225,7 @@ impl Instance {
         ensures left { self.new ≡ (step.instance_decide self.old session).left }
         ensures answer { result ≡ (step.instance_decide self.old session).answer }
     {
-        match self.find(session) {
+        match self.held(session) {
             Some(
                 held @ Held {
                     progress: Progress::Accepted,
@@ -226,7 +241,7 @@ impl Instance {
         ensures left { self.new ≡ (step.instance_settle self.old session how).left }
         ensures answer { result ≡ (step.instance_settle self.old session how).answer }
     {
-        match self.find(session) {
+        match self.held(session) {
             Some(held) => self.settle_held(session, held, how),
             None => Err(Cause::NoRequest { session }),
         }
@@ -239,7 +254,7 @@ impl Instance {
         ensures left { self.new ≡ (step.instance_answer self.old session).left }
         ensures answer { result ≡ (step.instance_answer self.old session).answer }
     {
-        let found = self.find(session);
+        let found = self.held(session);
         match &found {
             Some(
                 held @ Held {
@@ -439,13 +454,6 @@ impl Instance {
                 Err(Cause::NotYet { commit })
             }
         }
-    }
-
-    /// The request of a session.
-    fn find(&self, session: SessionNo) -> Option<Held>
-        ensures { result ≡ entry.held_of self.now session }
-    {
-        self.requests[session.index()]
     }
 
     /// The request that is held has come this far.

@@ -5,7 +5,7 @@ mod instance;
 mod requests;
 
 pub use instance::Instance;
-pub use oracle_parts::{Decided, Place, Reply, Request, Settled};
+pub use oracle_parts::{Decided, Held, Place, Reply, Request, Settled};
 
 #[cfg(test)]
 mod tests;

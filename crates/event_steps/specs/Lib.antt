@@ -1,0 +1,5 @@
+pub mod Made
+pub mod Parts
+pub mod Kept
+pub mod Waiting
+pub mod Replies
