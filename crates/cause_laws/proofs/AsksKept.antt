@@ -1,5 +1,5 @@
 -- Each deed keeps what the history tells of the requests that are held.
-use Rattle.std.proofs.Common.{◌≡◌, ◌≢◌, ℕ, ◌+◌, Bool, true, false, List, [], ◌∷◌, ◌++◌, Option, None, Some, ◌⊎◌, inl, inr, refl, sym, ◌∙◌, ap, subst}
+use Rattle.std.proofs.Common.{◌≡◌, ◌≢◌, ℕ, ◌+◌, Bool, true, false, List, [], ◌∷◌, ◌++◌, Option, None, Some, inl, inr, refl, sym, ◌∙◌, subst}
 use Rattle.std.specs.Prelude.{slice_set}
 use Rattle.history_book.specs.declared.item.Actor.TheVariants.{Node}
 use Rattle.history_book.specs.declared.item.Item.{Item}
@@ -25,7 +25,7 @@ use Rattle.cause_laws.proofs.Deeds.{Took, Told as ToldToWait, Asked, Serving, Ac
 use Rattle.cause_laws.proofs.AskWords.{AllMute, silent_mute, other_ask, other_accept, other_draw}
 use Rattle.cause_laws.proofs.DeedsMute.{one_mute, always_mute, took_mute, crashed_mute, settled_mute, ended_mute, learned_mute}
 use Rattle.cause_laws.proofs.RequestsTold.{Told, AllTold, all_told, asked_by_told, faulted_by_told, told_mute, told_ask, told_accept, told_draw, told_settled}
-use Rattle.cause_laws.proofs.RequestsWere.{Was, AllWere, were_same, were_put, were_ended, was_told, Alone, serving_alone, serving_own, asked_unheld, unheld_alone, IsNow, now_or_was}
+use Rattle.cause_laws.proofs.RequestsWere.{AllWere, were_same, were_put, were_ended, was_told, Alone, serving_alone, serving_own, asked_unheld, unheld_alone, IsNow, now_or_was}
 
 -- ---- deeds that change no request, and tell nothing of any
 kept : (nodes new : List (Option InstanceEntry)) (h items : List Item) → AllTold nodes h → AllWere nodes new → ((s : ℕ) → AllMute s items) → AllTold new (h ++ items)
@@ -77,17 +77,17 @@ by_ask : (w : State) (h : List Item) (k : Asked w) → Stands w h → AllTold w.
 by_ask w h k stands all =
     let s : ℕ = session_of k.request in
     changed w.nodes h (ask_item k.node k.request ∷ []) k.node s k.i (with_request k.i s (Some (just_asked k.request))) (just_asked k.request) all
-      (unheld_alone w.nodes k.node s (asked_unheld w h k stands)) k.at refl (λ r request p holds. holds)
-      (λ r other. one_mute r (ask_item k.node k.request) (other_ask r k.node k.request (λ same. other (sym same))))
-      (told_ask h k.node k.i.term k.request)
+    (unheld_alone w.nodes k.node s (asked_unheld w h k stands)) k.at refl (λ r request p holds. holds)
+    (λ r other. one_mute r (ask_item k.node k.request) (other_ask r k.node k.request (λ same. other (sym same))))
+    (told_ask h k.node k.i.term k.request)
 
 by_accept : (w : State) (h : List Item) (k : Accepted w) → Stands w h → AllTold w.nodes h → AllTold (nodes_by w (OfAccepted k)) (h ++ item.Accept k.it.session k.it.node k.it.i.term k.reading ∷ [])
 by_accept w h k stands all =
     let it : Serving w = k.it in
     changed w.nodes h (item.Accept it.session it.node it.i.term k.reading ∷ []) it.node it.session it.i (moved it.i it.session it.held progress.Accepted) (record it.held { progress = progress.Accepted }) all
-      (serving_alone w h it stands) it.at refl (λ r request p holds. holds)
-      (λ r other. one_mute r (item.Accept it.session it.node it.i.term k.reading) (other_accept r it.session it.node it.i.term k.reading (λ same. other (sym same))))
-      (told_accept h it.node it.session it.i.term k.reading it.held.request (served_told w h it progress.Asked all k.asked))
+    (serving_alone w h it stands) it.at refl (λ r request p holds. holds)
+    (λ r other. one_mute r (item.Accept it.session it.node it.i.term k.reading) (other_accept r it.session it.node it.i.term k.reading (λ same. other (sym same))))
+    (told_accept h it.node it.session it.i.term k.reading it.held.request (served_told w h it progress.Asked all k.asked))
 
 by_draw : (w : State) (h : List Item) (k : Drew w) → Stands w h → AllTold w.nodes h → AllTold (nodes_by w (OfDrew k)) (h ++ draw_item k.it.node k.it.i.term k.it.held.request (k.it.i.last + 1) ∷ [])
 by_draw w h k stands all =
@@ -96,22 +96,22 @@ by_draw w h k stands all =
     let x : Item = draw_item it.node it.i.term it.held.request stamp in
     let own : session_of it.held.request ≡ it.session = serving_own w h it stands in
     let before : Told h it.node (session_of it.held.request) it.i.term it.held.request progress.Accepted =
-      subst (λ (r : ℕ). Told h it.node r it.i.term it.held.request progress.Accepted) (sym own) (served_told w h it progress.Accepted all k.accepted) in
+    subst (λ (r : ℕ). Told h it.node r it.i.term it.held.request progress.Accepted) (sym own) (served_told w h it progress.Accepted all k.accepted) in
     changed w.nodes h (x ∷ []) it.node it.session it.i (decide_drawn it.i it.session it.held stamp).left (record it.held { progress = progress.Drawn stamp }) all
-      (serving_alone w h it stands) it.at refl (λ r request p holds. record { held = holds.held; has = holds.has; asks = holds.asks; stands = holds.stands })
-      (λ r other. one_mute r x (other_draw r it.node it.i.term it.held.request stamp (λ same. other (sym same ∙ own))))
-      (subst (λ (r : ℕ). Told (h ++ x ∷ []) it.node r it.i.term it.held.request (progress.Drawn stamp)) own (told_draw h it.node it.i.term stamp it.held.request before))
+    (serving_alone w h it stands) it.at refl (λ r request p holds. record { held = holds.held; has = holds.has; asks = holds.asks; stands = holds.stands })
+    (λ r other. one_mute r x (other_draw r it.node it.i.term it.held.request stamp (λ same. other (sym same ∙ own))))
+    (subst (λ (r : ℕ). Told (h ++ x ∷ []) it.node r it.i.term it.held.request (progress.Drawn stamp)) own (told_draw h it.node it.i.term stamp it.held.request before))
 
 by_settle : (w : State) (h : List Item) (k : SettledOne w) → Stands w h → Shows w h → AllTold w.nodes h → AllTold (nodes_by w (OfSettled k)) (h ++ (k.effects ++ fault_of k.by k.it.node))
 by_settle w h k stands shows all =
     let it : Serving w = k.it in
     let items : List Item = k.effects ++ fault_of k.by it.node in
     let before : Told h it.node it.session it.i.term (Commit k.asker k.start k.keys) (progress.Drawn k.commit) =
-      subst (λ (q : Request). Told h it.node it.session it.i.term q (progress.Drawn k.commit)) k.request_is (served_told w h it (progress.Drawn k.commit) all k.drawn) in
+    subst (λ (q : Request). Told h it.node it.session it.i.term q (progress.Drawn k.commit)) k.request_is (served_told w h it (progress.Drawn k.commit) all k.drawn) in
     changed w.nodes h items it.node it.session it.i (moved it.i it.session it.held (progress.Settled k.commit k.by)) (record it.held { progress = progress.Settled k.commit k.by }) all
-      (serving_alone w h it stands) it.at refl (λ r request p holds. holds) (λ r other. settled_mute w k r)
-      (subst (λ (q : Request). Told (h ++ items) it.node it.session it.i.term q (progress.Settled k.commit k.by)) (sym k.request_is)
-        (told_settled h k.effects it.node it.session it.i.term k.asker k.start k.commit k.keys k.by (settled_mute w k it.session) (λ is. shows.marked.marked k.start (k.found is)) before))
+    (serving_alone w h it stands) it.at refl (λ r request p holds. holds) (λ r other. settled_mute w k r)
+    (subst (λ (q : Request). Told (h ++ items) it.node it.session it.i.term q (progress.Settled k.commit k.by)) (sym k.request_is)
+    (told_settled h k.effects it.node it.session it.i.term k.asker k.start k.commit k.keys k.by (settled_mute w k it.session) (λ is. shows.marked.marked k.start (k.found is)) before))
 
 -- ---- every deed
 told_by : (w : State) (h : List Item) (d : Deed w) → Stands w h → Shows w h → AllTold w.nodes h → AllTold (nodes_by w d) (h ++ items_by w d)
@@ -119,13 +119,13 @@ told_by w h (OfRested k) stands shows all = kept w.nodes w.nodes h k.items all (
 told_by w h (OfTook k) stands shows all = kept w.nodes (took_nodes w k k.failed) h (took_items w k) all (were_took w k k.failed) (took_mute w k)
 told_by w h (OfRenewed k) stands shows all =
     kept w.nodes (now_at w k.node (instance_renewed k.i (renewed_to w k))) h (item.Renew k.node k.reading k.i.term (renewed_to w k) ∷ []) all
-      (were_put w.nodes k.node k.i (instance_renewed k.i (renewed_to w k)) k.at refl (same_requests k.i (instance_renewed k.i (renewed_to w k)) refl)) (λ s. always_mute s (item.Renew k.node k.reading k.i.term (renewed_to w k)) refl)
+    (were_put w.nodes k.node k.i (instance_renewed k.i (renewed_to w k)) k.at refl (same_requests k.i (instance_renewed k.i (renewed_to w k)) refl)) (λ s. always_mute s (item.Renew k.node k.reading k.i.term (renewed_to w k)) refl)
 told_by w h (OfWidened k) stands shows all =
     kept w.nodes (now_at w k.node (instance_widened k.i (widened_to w))) h (item.Extend k.node k.i.term (widened_to w) ∷ []) all
-      (were_put w.nodes k.node k.i (instance_widened k.i (widened_to w)) k.at refl (same_requests k.i (instance_widened k.i (widened_to w)) refl)) (λ s. always_mute s (item.Extend k.node k.i.term (widened_to w)) refl)
+    (were_put w.nodes k.node k.i (instance_widened k.i (widened_to w)) k.at refl (same_requests k.i (instance_widened k.i (widened_to w)) refl)) (λ s. always_mute s (item.Extend k.node k.i.term (widened_to w)) refl)
 told_by w h (OfStopped k) stands shows all =
     kept w.nodes (now_at w k.node (instance_stopped k.i k.why)) h (item.Refused (Node k.node) k.why ∷ []) all
-      (were_put w.nodes k.node k.i (instance_stopped k.i k.why) k.at refl (same_requests k.i (instance_stopped k.i k.why) refl)) (λ s. always_mute s (item.Refused (Node k.node) k.why) refl)
+    (were_put w.nodes k.node k.i (instance_stopped k.i k.why) k.at refl (same_requests k.i (instance_stopped k.i k.why) refl)) (λ s. always_mute s (item.Refused (Node k.node) k.why) refl)
 told_by w h (OfCrashed k) stands shows all = kept w.nodes (slice_set w.nodes k.node None) h (item.Crash k.node k.i.term ∷ k.told) all (were_ended w.nodes k.node) (crashed_mute w k)
 told_by w h (OfAsked k) stands shows all = by_ask w h k stands all
 told_by w h (OfAccepted k) stands shows all = by_accept w h k stands all
@@ -133,10 +133,10 @@ told_by w h (OfDrew k) stands shows all = by_draw w h k stands all
 told_by w h (OfSettled k) stands shows all = by_settle w h k stands shows all
 told_by w h (OfTold k) stands shows all =
     kept w.nodes (now_at w k.it.node (with_request k.it.i k.it.session (Some k.told))) h k.items all
-      (were_put w.nodes k.it.node k.it.i (with_request k.it.i k.it.session (Some k.told)) k.it.at refl (told_same w k)) (λ s. silent_mute s k.items k.silent)
+    (were_put w.nodes k.it.node k.it.i (with_request k.it.i k.it.session (Some k.told)) k.it.at refl (told_same w k)) (λ s. silent_mute s k.items k.silent)
 told_by w h (OfEnded k) stands shows all =
     kept w.nodes (now_at w k.it.node (without_request k.it.i k.it.session)) h (k.last ∷ []) all
-      (were_put w.nodes k.it.node k.it.i (without_request k.it.i k.it.session) k.it.at refl (λ s request p holds. (heldby_ended k.it.i k.it.session s request p holds).1)) (ended_mute w k)
+    (were_put w.nodes k.it.node k.it.i (without_request k.it.i k.it.session) k.it.at refl (λ s request p holds. (heldby_ended k.it.i k.it.session s request p holds).1)) (ended_mute w k)
 told_by w h (OfLearned k) stands shows all = kept w.nodes w.nodes h (k.steps ++ item.Committed k.session k.start k.commit ∷ []) all (were_same w.nodes) (learned_mute w k)
 
 -- ---- the facts

@@ -7,14 +7,14 @@ use Rattle.oracle_parts.specs.declared.instance.Held.{Held}
 use Rattle.oracle_parts.specs.declared.instance.Progress.{Progress}
 use Rattle.oracle_parts.specs.declared.instance.Request.{Request}
 use Rattle.oracle_parts.specs.declared.instance.Request.TheVariants.{Begin, Commit}
-use Rattle.oracle_parts.specs.Instance.{InstanceEntry, held_of, with_request, session_of}
+use Rattle.oracle_parts.specs.Instance.{InstanceEntry, with_request, session_of}
 use Rattle.machine.specs.State.{Client, State}
 use Rattle.isolation_laws.specs.Words.{InstanceAt, HeldBy, ClientAt}
 use Rattle.isolation_laws.specs.Requests.{WaitsFor}
 use Rattle.isolation_laws.specs.Sound.{Stands}
 use Rattle.isolation_laws.proofs.Lookups.{instance_changed, instance_ended, held_by, one_client, heldby_changed}
 use Rattle.cause_laws.proofs.Deeds.{Serving, Asked, Learned}
-use Rattle.cause_laws.proofs.RequestsTold.{Told, AllTold, told_mute}
+use Rattle.cause_laws.proofs.RequestsTold.{Told, AllTold}
 
 -- ---- requests that were held before
 pub record Was (nodes : List (Option InstanceEntry)) (n s term : ℕ) (request : Request) (p : Progress) : Type 0 where
@@ -33,11 +33,11 @@ were_same nodes n s i request p at holds = record { i = i; at = at; term_is = re
 pub were_put : (nodes : List (Option InstanceEntry)) (n : ℕ) (i new : InstanceEntry) → InstanceAt nodes n i → i.term ≡ new.term → ((s : ℕ) (request : Request) (p : Progress) → HeldBy new s request p → HeldBy i s request p) → AllWere nodes (slice_set nodes n (Some new))
 were_put nodes n i new at term fewer m s j request p there holds = elim (instance_changed nodes n m new j there) [
   | inl here ↦ record {
-      i = i;
-      at = subst (λ (k : ℕ). InstanceAt nodes k i) (sym here.0) at;
-      term_is = term ∙ ap (λ (k : InstanceEntry). k.term) (sym here.1);
-      holds = fewer s request p (subst (λ (k : InstanceEntry). HeldBy k s request p) here.1 holds);
-    }
+    i = i;
+    at = subst (λ (k : ℕ). InstanceAt nodes k i) (sym here.0) at;
+    term_is = term ∙ ap (λ (k : InstanceEntry). k.term) (sym here.1);
+    holds = fewer s request p (subst (λ (k : InstanceEntry). HeldBy k s request p) here.1 holds);
+  }
   | inr other ↦ record { i = j; at = other.1; term_is = refl; holds = holds }
 ]
 

@@ -1,12 +1,15 @@
--- All that the history shows of the state, so that refusals can be told by it.
-use Rattle.std.specs.Prelude.{List}
+-- All that the history shows of the state, so that refusals can be told by it. There are 16 clients, one for each session.
+use Rattle.std.specs.Prelude.{◌≡◌, ℕ, List, length}
 use Rattle.history_book.specs.declared.item.Item.{Item}
 use Rattle.machine.specs.State.{State}
+use Rattle.cause_rules.specs.Explained.{Explained}
+use Rattle.isolation_laws.specs.Sound.{Stands}
 use Rattle.cause_laws.specs.Requests.{AreAsked, AreFaulted, AreOpenAsks}
 use Rattle.cause_laws.specs.Nodes.{AreTaken, AreVacant, AreShownStops, AreLasts}
 use Rattle.cause_laws.specs.Stores.{IsRecordShown, AreMarked, AreGone}
 
 pub record Shows (w : State) (h : List Item) : Type 0 where
+  pub sixteen : length w.clients ≡ 16
   pub asked : AreAsked w.nodes h
   pub faulted : AreFaulted w.nodes h
   pub open_asks : AreOpenAsks w.setup w.nodes h
@@ -17,3 +20,10 @@ pub record Shows (w : State) (h : List Item) : Type 0 where
   pub master : IsRecordShown w.master h
   pub marked : AreMarked w.pairs h
   pub gone : AreGone w.clients h
+
+-- the state w is reached with the history h: the facts of isolation hold, the history shows the state, and each of its
+-- refusals is shown
+pub record Tells (w : State) (h : List Item) : Type 0 where
+  pub stands : Stands w h
+  pub shows : Shows w h
+  pub explained : Explained w.setup h

@@ -1,18 +1,19 @@
-// The worked path of two sessions, a conflict, and versions that a read passes over, as the lines of their histories.
+// What two sessions, a conflict, and versions that a read passes over leave in the history.
 use super::*;
-use history_book::{Cause, Item};
-use history_text::{LineBuf, print_item};
+use history_book::{Cause, Found, Item};
 use stamp_base::{KeyNo, NodeNo, SessionNo, Setup, Stamp, Value};
 use std::process::Abort;
 use std::test::Fail;
 
-fn assert_lines(rt: &impl Abort, history: &[Item], want: &[&str]) {
-    assert_eq!(rt; history.len(), want.len());
-    for (item, text) in history.iter().zip(want) {
-        let mut line = LineBuf::new();
-        print_item(item, &mut line);
-        assert_eq!(rt; line.as_slice(), text.as_bytes());
+// What the reads of the history answered, in order.
+fn assert_answers(rt: &impl Abort, history: &[Item], want: &[Option<Found>]) {
+    let mut left = want.iter();
+    for item in history {
+        if let Item::Read { answer, .. } = item {
+            assert_eq!(rt; Some(answer), left.next());
+        }
     }
+    assert!(rt; left.next().is_none());
 }
 
 #[test]
@@ -29,26 +30,18 @@ fn plain_path(rt: HostRuntime) -> Result<(), Fail> {
     cluster.begin_whole(reader, node)?;
     cluster.read_whole(reader, KeyNo::FIRST)?;
     cluster.commit_whole(reader, node)?;
-    assert_lines(
-        &rt,
-        cluster.history(),
-        &[
-            "take a reading=0 term=1 epoch=0 until=10 ceiling=100\n",
-            "ask-begin s0 a\n",
-            "draw s0 a term=1 start=1\n",
-            "begin s0 start=1\n",
-            "write s0 start=1 k0 v\n",
-            "ask-commit s0 a start=1\n",
-            "draw s0 a term=1 start=1 commit=2\n",
-            "placed start=1 commit=2\n",
-            "committed s0 start=1 commit=2\n",
-            "ask-begin s1 a\n",
-            "draw s1 a term=1 start=3\n",
-            "begin s1 start=3\n",
-            "read s1 start=3 k0 from=1 v\n",
-            "end s1 start=3 read-only\n",
-        ],
-    );
+    let committed = Item::Committed {
+        session: writer,
+        start: Stamp::FIRST,
+        commit: Stamp::new(2).ok_or("a stamp")?,
+    };
+    assert_eq!(rt; cluster.history().len(), 14);
+    assert!(rt; cluster.history().contains(&committed));
+    let found = Found {
+        from: Stamp::FIRST,
+        value,
+    };
+    assert_answers(&rt, cluster.history(), &[Some(found)]);
     Ok(())
 }
 
@@ -86,44 +79,27 @@ fn versions_passed_over(rt: HostRuntime) -> Result<(), Fail> {
     let key = KeyNo::FIRST;
     cluster.take_whole(node)?;
     cluster.begin_whole(first, node)?;
-    cluster.write_whole(first, key, Value::new(b"p").ok_or("a value")?)?;
+    let value = Value::new(b"p").ok_or("a value")?;
+    cluster.write_whole(first, key, value)?;
     cluster.begin_whole(early, node)?;
     cluster.read_whole(early, key)?;
     cluster.commit_whole(first, node)?;
     cluster.read_whole(early, key)?;
     cluster.begin_whole(second, node)?;
-    cluster.write_whole(second, key, Value::new(b"q").ok_or("a value")?)?;
+    let own = Value::new(b"q").ok_or("a value")?;
+    cluster.write_whole(second, key, own)?;
     cluster.begin_whole(late, node)?;
     cluster.read_whole(second, key)?;
     cluster.read_whole(late, key)?;
-    assert_lines(
-        &rt,
-        cluster.history(),
-        &[
-            "take a reading=0 term=1 epoch=0 until=10 ceiling=100\n",
-            "ask-begin s0 a\n",
-            "draw s0 a term=1 start=1\n",
-            "begin s0 start=1\n",
-            "write s0 start=1 k0 p\n",
-            "ask-begin s1 a\n",
-            "draw s1 a term=1 start=2\n",
-            "begin s1 start=2\n",
-            "read s1 start=2 k0 none\n",
-            "ask-commit s0 a start=1\n",
-            "draw s0 a term=1 start=1 commit=3\n",
-            "placed start=1 commit=3\n",
-            "committed s0 start=1 commit=3\n",
-            "read s1 start=2 k0 none\n",
-            "ask-begin s2 a\n",
-            "draw s2 a term=1 start=4\n",
-            "begin s2 start=4\n",
-            "write s2 start=4 k0 q\n",
-            "ask-begin s3 a\n",
-            "draw s3 a term=1 start=5\n",
-            "begin s3 start=5\n",
-            "read s2 start=4 k0 from=4 q\n",
-            "read s3 start=5 k0 from=1 p\n",
-        ],
-    );
+    let committed = Found {
+        from: Stamp::FIRST,
+        value,
+    };
+    let written = Found {
+        from: Stamp::new(4).ok_or("a stamp")?,
+        value: own,
+    };
+    let want = [None, None, Some(written), Some(committed)];
+    assert_answers(&rt, cluster.history(), &want);
     Ok(())
 }

@@ -1,15 +1,5 @@
 pub mod CauseText
 pub mod Fits
-pub mod ReadActors
-pub mod ReadCauses
-pub mod ReadNodes
-pub mod ReadRequests
-pub mod ReadSessions
-pub mod ReadSteps
-pub mod ReadWords
-pub mod Reading
 pub mod StepText
 pub mod Text
-pub mod TextLaw
 pub mod Words
-pub mod History

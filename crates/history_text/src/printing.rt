@@ -27,7 +27,7 @@ pub fn print_item(item: &Item, line: &mut LineBuf)
     line.push_text(b"\n");
 }
 
-/// Leaves the item's line without its line feed in the buffer.
+/// Leaves the item's line without its line feed in the buffer, and nothing else: at most 200 bytes.
 pub fn print_body(item: &Item, line: &mut LineBuf)
     ensures text { line.new ≡ body_of item.now }
     ensures fits { FitsItem item.now }

@@ -88,7 +88,7 @@ put_at w node session fate (Some i) at = put_found w node session fate i at (hel
 
 -- ---- answer
 -- by the request's stamps, and what the instance makes of it
-abbrev answered_on : ℕ → ℕ → InstanceEntry → Client → InstanceStep Reply → Option (ℕ × Option ℕ) → Effect (Option InstanceEntry × Client)
+abbrev pub answered_on : ℕ → ℕ → InstanceEntry → Client → InstanceStep Reply → Option (ℕ × Option ℕ) → Effect (Option InstanceEntry × Client)
 answered_on node session i c taken None = refused (Some i, c) (Node node) (cause.NoRequest session)
 answered_on node session i c taken (Some stamps) = answer_by node session stamps.0 c i taken.left taken.answer
 

@@ -76,7 +76,7 @@ abbrev pub for_ask : State → ℕ → ℕ → Effect (Client × Option Instance
 for_ask w session node effect = step_by effect (λ (p : Client × Option InstanceEntry). with_client (with_post w node p.1) session p.0)
 
 -- the ask of a request, by whether the slots are full
-abbrev asked_if : InstanceEntry → Request → Bool → InstanceStep (Unit {0})
+abbrev pub asked_if : InstanceEntry → Request → Bool → InstanceStep (Unit {0})
 asked_if i request full = if full then stays i (cause.Full (in_flight i)) else record { left = with_request i (session_of request) (Some (just_asked request)); answer = Ok tt }
 
 -- both were put back

@@ -1,4 +1,4 @@
-mod PartsKept
+pub mod PartsKept
 mod GoneStays
 mod ToldOnce
 mod Refusals

@@ -10,10 +10,10 @@ use Rattle.history_book.specs.declared.item.Item.{Item}
 use Rattle.history_text.specs.Fits.{FitsItem}
 use Rattle.history_book.specs.Isolation.{Isolated}
 use Rattle.history_text.specs.Text.{body_of}
-use Rattle.history_text.proofs.RoundTrip.{one_text}
+use Rattle.history_reading.proofs.RoundTrip.{one_text}
 use Rattle.omid_top.specs.declared.report.Report.{Report}
 use Rattle.omid_top.specs.declared.report.Report.TheVariants as report
-use Rattle.history_text.specs.History.{AreItems, IsNoItem, IsFirstBad, lines_of, says_something}
+use Rattle.history_reading.specs.History.{AreItems, IsNoItem, IsFirstBad, lines_of, says_something}
 use Rattle.omid_top.specs.Audit.{IsReportOn, IsVerdict, report_status, IsFairTo}
 
 head_of : {X : Type 0} (x y : X) (xs ys : List X) → (x ∷ xs) ≡ (y ∷ ys) → x ≡ y

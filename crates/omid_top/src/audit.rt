@@ -3,13 +3,13 @@ ghost use Rattle.std.specs.Prelude.{◌≡◌, ◌≢◌, ℕ, ◌≤◌, ◌⊎
 ghost use Rattle.port_io.specs.Ports.{Risen, Gains, IsAtEnd};
 ghost use Rattle.history_book.specs.declared.item.Item.{Item};
 ghost use Rattle.omid_top.specs.Promise.{GainsFront};
-ghost use Rattle.history_text.specs.History.{AreItems};
+ghost use Rattle.history_reading.specs.History.{AreItems};
 ghost use Rattle.omid_top.specs.Audit.{IsReportOn, IsVerdict, Reported, ReportedFront, IsFairTo, report_status, report_text};
 
 use crate::report::Report;
 use crate::{Status, print};
 use history_book::Item;
-use history_text::{HistoryFault, read_history};
+use history_reading::{HistoryFault, read_history};
 use port_io::{ReadStop, Sink, Source, read_up_to};
 use si_judge::{Verdict, judge};
 use stamp_base::{BYTE_LIMIT, NoMemory};

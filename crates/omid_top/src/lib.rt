@@ -10,7 +10,7 @@ ghost use Rattle.session_script.specs.declared.script.Mode.TheVariants.{Replay};
 ghost use Rattle.omid_top.specs.Replay.{replayed};
 ghost use Rattle.omid_top.specs.Texts.{IsReplay, IsAudit, IsKnown, usage_text, bad_line_text, replay_text};
 ghost use Rattle.omid_top.specs.Promise.{KeepsPromise, GainsFront};
-ghost use Rattle.history_text.specs.History.{AreItems};
+ghost use Rattle.history_reading.specs.History.{AreItems};
 ghost use Rattle.omid_top.specs.Audit.{IsVerdict, Reported, ReportedFront, IsFairTo};
 
 pub use session_script as script;

@@ -5,33 +5,53 @@ use super::*;
 use crate::ask_index::start_suspects;
 use crate::marks::Marks;
 use crate::stamp_index::stamp_suspects;
-use history_text::read_item;
+use stamp_base::{KeyNo, SessionNo, Stamp, Value};
 use std::process::Abort;
 use std::test::Fail;
 
 const LONG: u64 = 3000;
 
-fn add(items: &mut Vec<Item>, line: &str) -> Result<(), Fail> {
-    items.push(read_item(line.as_bytes()).ok_or("an item")?)?;
-    Ok(())
+fn begin(start: u64) -> Result<Item, Fail> {
+    Ok(Item::Begin {
+        session: SessionNo::FIRST,
+        start: Stamp::new(start).ok_or("a start")?,
+    })
+}
+
+fn write(start: u64, key: u64) -> Result<Item, Fail> {
+    Ok(Item::Write {
+        session: SessionNo::FIRST,
+        start: Stamp::new(start).ok_or("a start")?,
+        key: KeyNo::new(key).ok_or("a key")?,
+        value: Value::new(b"v").ok_or("a value")?,
+    })
+}
+
+fn placed(start: u64, commit: u64) -> Result<Item, Fail> {
+    let start = Stamp::new(start).ok_or("a start")?;
+    let commit = Stamp::new(commit).ok_or("a commit")?;
+    Ok(Item::Placed { start, commit })
+}
+
+fn read_of_nothing(start: u64, key: u64) -> Result<Item, Fail> {
+    Ok(Item::Read {
+        session: SessionNo::FIRST,
+        start: Stamp::new(start).ok_or("a start")?,
+        key: KeyNo::new(key).ok_or("a key")?,
+        answer: None,
+    })
 }
 
 // The starts are 1, 11, 21 and so on, each commit is 4 above its start, and the keys go round.
-fn add_transaction(alloc: Global, items: &mut Vec<Item>, number: u64) -> Result<(), Fail>
+fn add_transaction(items: &mut Vec<Item>, number: u64) -> Result<(), Fail>
     requires { number < LONG }
 {
     let start = 10 * number + 1;
-    let commit = start + 4;
-    let key = number % 8;
-    add(items, &format!(in alloc; "begin s0 start={start}")?)?;
-    add(
-        items,
-        &format!(in alloc; "write s0 start={start} k{key} v")?,
-    )?;
-    add(
-        items,
-        &format!(in alloc; "placed start={start} commit={commit}")?,
-    )
+    let begin = begin(start)?;
+    let write = write(start, number % 8)?;
+    let placed = placed(start, start + 4)?;
+    items.extend_from_slice(&[begin, write, placed])?;
+    Ok(())
 }
 
 fn assert_long(
@@ -39,13 +59,11 @@ fn assert_long(
     alloc: Global,
     whole: &Vec<Item>,
     want: Verdict,
-    lines: &[&str],
+    more: &[Item],
 ) -> Result<(), Fail> {
     let mut items = whole.clone()?;
-    for line in lines {
-        add(&mut items, line)?;
-    }
-    assert_eq!(rt; judge(alloc, &items), Ok(want), "after {lines:?}");
+    items.extend_from_slice(more)?;
+    assert_eq!(rt; judge(alloc, &items), Ok(want), "after {more:?}");
     Ok(())
 }
 
@@ -69,31 +87,28 @@ fn assert_unsuspected(rt: &impl Abort, alloc: Global, items: &[Item]) -> Result<
 fn long(rt: HostRuntime) -> Result<(), Fail> {
     let mut items = Vec::new(rt.alloc());
     for number in 0..LONG {
-        add_transaction(rt.alloc(), &mut items, number)?;
+        add_transaction(&mut items, number)?;
     }
     assert_long(&rt, rt.alloc(), &items, Verdict::Isolated, &[])?;
     assert_unsuspected(&rt, rt.alloc(), &items)?;
-    let table: &[(Rule, usize, usize, &[&str])] = &[
-        (Rule::Stamped, 8997, 9001, &["begin s1 start=29985"]),
+    let table: &[(Rule, usize, usize, &[Item])] = &[
+        (Rule::Stamped, 8997, 9001, &[begin(29985)?]),
         (
             Rule::Apart,
             9000,
             9002,
-            &[
-                "write s1 start=29993 k7 w",
-                "placed start=29993 commit=29999",
-            ],
+            &[write(29993, 7)?, placed(29993, 29999)?],
         ),
-        (Rule::Read, 9001, 8999, &["read s1 start=30001 k7 none"]),
-        (Rule::Fresh, 9000, 9001, &["begin s1 start=29993"]),
+        (Rule::Read, 9001, 8999, &[read_of_nothing(30001, 7)?]),
+        (Rule::Fresh, 9000, 9001, &[begin(29993)?]),
     ];
-    for (rule, first, second, lines) in table {
+    for (rule, first, second, more) in table {
         let want = Verdict::Broken {
             rule: *rule,
             first: *first,
             second: *second,
         };
-        assert_long(&rt, rt.alloc(), &items, want, lines)?;
+        assert_long(&rt, rt.alloc(), &items, want, more)?;
     }
     Ok(())
 }

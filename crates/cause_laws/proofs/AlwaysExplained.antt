@@ -1,0 +1,99 @@
+-- What the history shows of the state is kept by every event; so every refusal is shown in each history.
+use Rattle.std.proofs.Common.{◌≡◌, ℕ, List, [], ◌∷◌, ◌++◌, append_assoc, Option, refl, sym, ◌∙◌, subst}
+use Rattle.std.proofs.lemmas.List.{append-nil}
+use Rattle.stamp_base.specs.SetupNumbers.{SetupNumbers, AreInRange}
+use Rattle.port_io.specs.declared.weather.Fate.{Fate}
+use Rattle.history_book.specs.Members.{AtEach}
+use Rattle.history_book.specs.declared.item.Item.{Item}
+use Rattle.oracle_parts.specs.Instance.{InstanceEntry}
+use Rattle.machine.specs.declared.event.Event.{Event}
+use Rattle.machine.specs.State.{State, opening}
+use Rattle.machine.specs.Machine.{Step, stepped, Move, state_after, items_after, history_after, reading_of, IsSteadyAt, AreSteady, Steady}
+use Rattle.machine.proofs.PartsKept.{leaves_parts}
+use Rattle.cause_rules.specs.Explained.{Shown, Explained}
+use Rattle.isolation_laws.specs.Sound.{Stands}
+use Rattle.isolation_laws.proofs.AlwaysHolds.{facts_stay, steady_stays, steady_now, stands_at_first}
+use Rattle.cause_laws.specs.Requests.{AreAsked, AreFaulted, AreOpenAsks}
+use Rattle.cause_laws.specs.Nodes.{AreTaken, AreVacant, AreShownStops, AreLasts}
+use Rattle.cause_laws.specs.Shows.{Shows, Tells}
+use Rattle.cause_laws.specs.Due.{Due}
+use Rattle.cause_laws.proofs.Deeds.{Deed, DeedOf, nodes_by, items_by}
+use Rattle.cause_laws.proofs.DeedsDone.{deed_of}
+use Rattle.cause_laws.proofs.ClientsStay.{clients_stay}
+use Rattle.cause_laws.proofs.AsksKept.{asked_kept, faulted_kept}
+use Rattle.cause_laws.proofs.OpenAsksKept.{open_asks_kept}
+use Rattle.cause_laws.proofs.TakenKept.{taken_kept}
+use Rattle.cause_laws.proofs.VacantKept.{vacant_kept}
+use Rattle.cause_laws.proofs.StopsShown.{stops_kept}
+use Rattle.cause_laws.proofs.LastsKept.{lasts_kept}
+use Rattle.cause_laws.proofs.RecordShown.{record_kept}
+use Rattle.cause_laws.proofs.MarksShown.{marked_kept}
+use Rattle.cause_laws.proofs.GoneShown.{gone_kept}
+use Rattle.cause_laws.proofs.DuesDone.{dues}
+use Rattle.cause_laws.proofs.DueIsShown.{due_is_shown}
+use Rattle.cause_laws.proofs.ShownAtFirst.{shown_at_first}
+use Rattle.cause_laws.proofs.LongerHistories.{each_longer}
+
+-- ---- one event
+-- what holds after each deed holds of what the step leaves
+after_deed : (w : State) (h : List Item) (P : List (Option InstanceEntry) → List Item → Type 0) (nodes : List (Option InstanceEntry)) (items : List Item) → (by : DeedOf w nodes items) → P (nodes_by w by.deed) (h ++ items_by w by.deed) → P nodes (h ++ items)
+after_deed w h P nodes items by holds = subst (λ xs. P xs (h ++ items)) (sym by.leaves) (subst (λ xs. P (nodes_by w by.deed) (h ++ xs)) (sym by.tells) holds)
+
+shows_stay : (w : State) (h : List Item) (e : Event) (fate : Fate) → Stands w h → Shows w h → Shows (stepped w e fate).state (h ++ (stepped w e fate).items)
+shows_stay w h e fate stands shows =
+    let step : Step = stepped w e fate in
+    let by : DeedOf w step.state.nodes step.items = deed_of w h e fate stands in
+    let setup : step.state.setup ≡ w.setup = (leaves_parts w e fate).setup in
+    record {
+      sixteen = clients_stay w e fate ∙ shows.sixteen;
+      asked = after_deed w h AreAsked step.state.nodes step.items by (asked_kept w h by.deed stands shows);
+      faulted = after_deed w h AreFaulted step.state.nodes step.items by (faulted_kept w h by.deed stands shows);
+      open_asks = subst (λ s. AreOpenAsks s step.state.nodes (h ++ step.items)) (sym setup) (after_deed w h (AreOpenAsks w.setup) step.state.nodes step.items by (open_asks_kept w h by.deed stands shows shows.sixteen));
+      taken = after_deed w h AreTaken step.state.nodes step.items by (taken_kept w h by.deed stands shows);
+      vacant = after_deed w h AreVacant step.state.nodes step.items by (vacant_kept w h by.deed stands shows);
+      stops = subst (λ s. AreShownStops s step.state.nodes (h ++ step.items)) (sym setup) (after_deed w h (AreShownStops w.setup) step.state.nodes step.items by (stops_kept w h by.deed stands shows));
+      lasts = after_deed w h AreLasts step.state.nodes step.items by (lasts_kept w h by.deed stands shows);
+      master = record_kept w h e fate stands shows.master;
+      marked = marked_kept w h e fate stands shows.marked;
+      gone = gone_kept w h e fate stands shows.gone;
+    }
+
+-- each refusal that it appends is shown
+explained_stays : (w : State) (h : List Item) (e : Event) (fate : Fate) → Stands w h → Shows w h → Explained w.setup h → Explained w.setup (h ++ (stepped w e fate).items)
+explained_stays w h e fate stands shows explained =
+    each_longer (Shown w.setup) h (stepped w e fate).items explained (record {
+      at = λ place x found. due_is_shown w h _ x stands shows ((dues w h e fate stands).at place x found);
+    })
+
+pub tells_stay : (w : State) (h : List Item) (e : Event) (fate : Fate) → Tells w h → IsSteadyAt w.setup.skew w.seen (reading_of e) → Tells (stepped w e fate).state (h ++ (stepped w e fate).items)
+tells_stay w h e fate tells steady = record {
+  stands = facts_stay w h e fate tells.stands steady;
+  shows = shows_stay w h e fate tells.stands tells.shows;
+  explained = subst (λ s. Explained s (h ++ (stepped w e fate).items)) (sym (leaves_parts w e fate).setup) (explained_stays w h e fate tells.stands tells.shows tells.explained);
+}
+
+-- ---- all moves
+tells_after : (w : State) (h : List Item) (moves : List Move) → Tells w h → AreSteady w.setup.skew w.seen moves → Tells (state_after w moves) (h ++ items_after w moves)
+unfolding state_after items_after
+tells_after w h [] tells steady = subst (λ xs. Tells w xs) (sym (append-nil h)) tells
+tells_after w h (move ∷ moves) tells steady =
+    let step : Step = stepped w move.event move.fate in
+    let after : Tells step.state (h ++ step.items) = tells_stay w h move.event move.fate tells (steady_now w move moves steady) in
+    subst (λ xs. Tells (state_after step.state moves) xs) (append_assoc h step.items (items_after step.state moves)) (tells_after step.state (h ++ step.items) moves after (steady_stays w h move moves tells.stands steady))
+
+pub tells_at_first : (setup : SetupNumbers) → AreInRange setup → Tells (opening setup) []
+tells_at_first setup in_range = record {
+  stands = stands_at_first setup in_range;
+  shows = shown_at_first setup;
+  explained = record { at = λ place x found. absurd (cc) };
+}
+
+setup_after : (w : State) (moves : List Move) → (state_after w moves).setup ≡ w.setup
+unfolding state_after
+setup_after w [] = refl
+setup_after w (move ∷ moves) = setup_after (stepped w move.event move.fate).state moves ∙ (leaves_parts w move.event move.fate).setup
+
+-- every refusal of every history is shown
+pub histories_are_explained : (setup : SetupNumbers) (moves : List Move) → AreInRange setup → Steady setup moves → Explained setup (history_after setup moves)
+histories_are_explained setup moves in_range steady =
+    subst (λ s. Explained s (history_after setup moves)) (setup_after (opening setup) moves) (tells_after (opening setup) [] moves (tells_at_first setup in_range) steady).explained

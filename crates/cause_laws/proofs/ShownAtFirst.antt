@@ -1,0 +1,69 @@
+-- The opening state, of an empty history, has nothing to show.
+use Rattle.std.proofs.Common.{◌≡◌, ℕ, List, [], Option, None, Some, inl, refl, sym, ◌∙◌, ap}
+use Rattle.std.specs.Prelude.{slice_get, replicate}
+use Rattle.std.specs.FinMap as map
+use Rattle.std.specs.Ordering.{nat_cmp}
+use Rattle.std.proofs.lemmas.Option.{none-some}
+use Rattle.stamp_base.specs.SetupNumbers.{SetupNumbers}
+use Rattle.stamp_base.specs.declared.stores.Mark.TheVariants.{Invalid as InvalidMark}
+use Rattle.history_book.specs.Members.{◌∈◌}
+use Rattle.history_book.specs.declared.item.Item.TheVariants.{Vanish}
+use Rattle.client_parts.specs.declared.session.State.TheVariants as phase
+use Rattle.oracle_parts.specs.Instance.{InstanceEntry}
+use Rattle.machine.specs.State.{Client, client_new, opening}
+use Rattle.cause_rules.specs.OpenAsks.{open_asks_of}
+use Rattle.isolation_laws.specs.Words.{ClientAt, Marked}
+use Rattle.isolation_laws.proofs.InversionSound.{found_copy, none_at}
+use Rattle.cause_laws.specs.Requests.{held_count}
+use Rattle.cause_laws.specs.Shows.{Shows}
+use Rattle.cause_laws.proofs.ClientsStay.{clients_at_first}
+
+nobody_asked : (n s : ℕ) (post : Option InstanceEntry) → post ≡ None → open_asks_of [] n s ≡ held_count post s
+nobody_asked n s post none = sym (ap (λ p. held_count p s) none)
+
+nobody_gone : (s : ℕ) (c : Client) → ClientAt (replicate 16 client_new) s c → c.entry.state ≡ phase.Gone → Vanish s ∈ []
+nobody_gone s c at gone =
+    let clash : phase.Free ≡ phase.Gone = ap (λ (x : Client). x.entry.state) (sym (found_copy 16 s client_new c at)) ∙ gone in
+    absurd (cc)
+
+none_marked : (t : ℕ) → Marked map.empty t → ⊥
+none_marked t marked = none-some InvalidMark (sym (map.get-empty nat_cmp t) ∙ marked)
+
+pub shown_at_first : (setup : SetupNumbers) → Shows (opening setup) []
+shown_at_first setup = record {
+  sixteen = clients_at_first setup;
+  asked = record {
+    asked = λ n s i request p at. absurd (none_at setup.nodes n i at);
+    accepted = λ n s i request p at. absurd (none_at setup.nodes n i at);
+    drawn = λ n s i request p stamps at. absurd (none_at setup.nodes n i at);
+  };
+  faulted = record {
+    faulted = λ n s r t c i keys at. absurd (none_at setup.nodes n i at);
+    marked = λ n s r t c i keys at. absurd (none_at setup.nodes n i at);
+  };
+  open_asks = record {
+    each = λ n s post at. nobody_asked n s post (found_copy setup.nodes n None post at);
+    slots = λ n i at. absurd (none_at setup.nodes n i at);
+    sixteen = λ n i at. absurd (none_at setup.nodes n i at);
+  };
+  taken = record {
+    took = λ n i at. absurd (none_at setup.nodes n i at);
+    leased = λ n i at. absurd (none_at setup.nodes n i at);
+    stands = λ n i at. absurd (none_at setup.nodes n i at);
+  };
+  vacant = record { none = λ n vacant. inl refl };
+  stops = record { shown = λ n i why at. absurd (none_at setup.nodes n i at) };
+  lasts = record {
+    wide = λ n i at. absurd (none_at setup.nodes n i at);
+    given = λ n i at. absurd (none_at setup.nodes n i at);
+    drawn = λ n i at. absurd (none_at setup.nodes n i at);
+  };
+  master = record {
+    vacant = λ none. refl;
+    term = λ n held. absurd (cc);
+    lease = λ n held. absurd (cc);
+    ceiling = λ n held. absurd (cc);
+  };
+  marked = record { marked = λ t marked. absurd (none_marked t marked) };
+  gone = record { vanished = λ s c at gone. nobody_gone s c at gone };
+}

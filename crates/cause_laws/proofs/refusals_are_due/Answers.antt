@@ -1,0 +1,5 @@
+use Rattle.cause_laws.proofs.DuesDone.{dues}
+use Rattle.cause_laws.proofs.refusals_are_due.Goals as goal
+
+pub returns : goal.returns
+returns c = dues

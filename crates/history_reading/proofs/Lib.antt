@@ -1,0 +1,11 @@
+mod ReadingLemmas
+mod NumberLemmas
+mod WordTexts
+mod NodeTexts
+mod RequestTexts
+mod SessionTexts
+mod StepTexts
+mod CauseTexts
+mod ActorTexts
+pub mod RoundTrip
+mod LineLemmas

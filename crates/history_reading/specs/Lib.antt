@@ -1,0 +1,12 @@
+pub mod History
+pub mod ReadActors
+pub mod ReadCauses
+pub mod ReadNodes
+pub mod ReadRequests
+pub mod ReadSessions
+pub mod ReadSteps
+pub mod ReadWords
+pub mod Reading
+pub mod TextLaw
+pub use Rattle.history_text.specs.Fits
+pub use Rattle.history_text.specs.Text

@@ -1,0 +1,125 @@
+-- The steps on the stores, as reading finds them.
+use Rattle.std.specs.Prelude.{ℕ, if◌then◌else◌, List, Option, None, Some, codes}
+use Rattle.std.specs.Option.{option_or}
+use Rattle.history_reading.specs.ReadWords.{◌>>=◌, first_word, after_word, is_word, after_text, number_at, field_at, key_of, stamp_of}
+use Rattle.stamp_base.specs.declared.stores.Mark.{Mark}
+use Rattle.stamp_base.specs.declared.stores.Mark.TheVariants.{Committed, Invalid}
+use Rattle.history_book.specs.declared.item.Seen.{Seen}
+use Rattle.history_book.specs.declared.item.Seen.TheVariants.{Bare, Gone, Commit}
+use Rattle.history_book.specs.declared.item.StoreStep.{StoreStep}
+use Rattle.history_book.specs.declared.item.StoreStep.TheVariants.{Fetch, Get, MarkFound, Look, Shadow, Remove, Erase, Keys, PutFound}
+
+unfoldable pub committed_at : List ℕ → Option Mark
+committed_at bs = do
+  commit ← field_at (codes "committed=") bs
+  commit_no ← stamp_of commit.0
+  Some (Committed commit_no)
+
+unfoldable pub mark_at : List ℕ → Option Mark
+mark_at bs = if is_word (codes "invalid") bs then Some Invalid else committed_at bs
+
+unfoldable pub marked_at : List ℕ → Option (Option Mark)
+marked_at bs = do
+  mark ← mark_at bs
+  Some (Some mark)
+
+unfoldable pub entry_at : List ℕ → Option (Option Mark)
+entry_at bs = if is_word (codes "absent") bs then Some None else marked_at bs
+
+unfoldable pub shadowed_at : List ℕ → Option Seen
+shadowed_at bs = do
+  commit ← field_at (codes "commit=") bs
+  commit_no ← stamp_of commit.0
+  Some (Commit commit_no)
+
+unfoldable pub seen_at : List ℕ → Option Seen
+seen_at bs = if is_word (codes "none") bs then Some Bare else (if is_word (codes "gone") bs then Some Gone else shadowed_at bs)
+
+unfoldable pub fetch_at : List ℕ → Option StoreStep
+fetch_at bs = do
+  key ← field_at (codes "k") bs
+  cells ← field_at (codes " cells=") key.1
+  key_no ← key_of key.0
+  Some (Fetch key_no cells.0)
+
+unfoldable pub get_at : List ℕ → Option StoreStep
+get_at bs = do
+  txn ← number_at bs
+  rest ← after_text (codes " ") txn.1
+  answer ← entry_at rest
+  txn_no ← stamp_of txn.0
+  Some (Get txn_no answer)
+
+unfoldable pub mark_found_at : List ℕ → Option StoreStep
+mark_found_at bs = do
+  txn ← number_at bs
+  rest ← after_text (codes " ") txn.1
+  mark ← mark_at rest
+  txn_no ← stamp_of txn.0
+  Some (MarkFound txn_no mark)
+
+unfoldable pub look_at : List ℕ → Option StoreStep
+look_at bs = do
+  key ← field_at (codes "k") bs
+  txn ← field_at (codes " ") key.1
+  rest ← after_text (codes " ") txn.1
+  answer ← seen_at rest
+  key_no ← key_of key.0
+  txn_no ← stamp_of txn.0
+  Some (Look key_no txn_no answer)
+
+unfoldable pub shadow_at : List ℕ → Option StoreStep
+shadow_at bs = do
+  key ← field_at (codes "k") bs
+  txn ← field_at (codes " ") key.1
+  commit ← field_at (codes " ") txn.1
+  key_no ← key_of key.0
+  txn_no ← stamp_of txn.0
+  commit_no ← stamp_of commit.0
+  Some (Shadow key_no txn_no commit_no)
+
+unfoldable pub remove_at : List ℕ → Option StoreStep
+remove_at bs = do
+  txn ← number_at bs
+  txn_no ← stamp_of txn.0
+  Some (Remove txn_no)
+
+unfoldable pub erase_at : List ℕ → Option StoreStep
+erase_at bs = do
+  key ← field_at (codes "k") bs
+  txn ← field_at (codes " ") key.1
+  key_no ← key_of key.0
+  txn_no ← stamp_of txn.0
+  Some (Erase key_no txn_no)
+
+unfoldable pub keys_at : List ℕ → Option StoreStep
+keys_at bs = do
+  txn ← number_at bs
+  count ← field_at (codes " count=") txn.1
+  txn_no ← stamp_of txn.0
+  Some (Keys txn_no count.0)
+
+unfoldable pub put_found_at : List ℕ → Option StoreStep
+put_found_at bs = do
+  txn ← number_at bs
+  txn_no ← stamp_of txn.0
+  Some (PutFound txn_no)
+
+-- by the step's word
+unfoldable pub cell_step_at : List ℕ → List ℕ → Option StoreStep
+cell_step_at word bs =
+    if is_word (codes "fetch") word then fetch_at bs else
+    (if is_word (codes "look") word then look_at bs else
+    (if is_word (codes "shadow") word then shadow_at bs else
+    (if is_word (codes "erase") word then erase_at bs else None)))
+
+unfoldable pub table_step_at : List ℕ → List ℕ → Option StoreStep
+table_step_at word bs =
+    if is_word (codes "get") word then get_at bs else
+    (if is_word (codes "mark") word then mark_found_at bs else
+    (if is_word (codes "remove") word then remove_at bs else
+    (if is_word (codes "keys") word then keys_at bs else
+    (if is_word (codes "put") word then put_found_at bs else None))))
+
+abbrev pub step_at : List ℕ → Option StoreStep
+step_at bs = option_or (cell_step_at (first_word bs) (after_word bs)) (table_step_at (first_word bs) (after_word bs))

@@ -1,0 +1,140 @@
+// The items of requests, and of placed commits, as reading finds them.
+ghost use Rattle.std.specs.Prelude.{◌≡◌};
+ghost use Rattle.history_reading.specs.ReadRequests.{request_kind_at, ask_begin_at, ask_commit_at, accept_at, draw_at, placed_at, drawn_at, no_commit_at, commit_at};
+
+use super::words::{after, field, is_word, letter, node_of, session_of, stamp_of, term_of};
+use history_book::Item;
+use stamp_base::Stamp;
+
+/// The items of requests.
+#[tactic(auto, unfolding(crate::specs::ReadRequests::request_kind_at))]
+pub fn request_kind(word: &[u8], bytes: &[u8]) -> Option<Item>
+    ensures { result ≡ request_kind_at word.now bytes.now }
+{
+    if is_word(word, b"ask-begin") {
+        return ask_begin(bytes);
+    }
+    if is_word(word, b"ask-commit") {
+        return ask_commit(bytes);
+    }
+    if is_word(word, b"accept") {
+        return accept(bytes);
+    }
+    if is_word(word, b"draw") {
+        return draw(bytes);
+    }
+    if is_word(word, b"placed") {
+        return placed(bytes);
+    }
+    None
+}
+
+#[tactic(auto, unfolding(crate::specs::ReadRequests::ask_begin_at))]
+fn ask_begin(bytes: &[u8]) -> Option<Item>
+    ensures { result ≡ ask_begin_at bytes.now }
+{
+    let (session, rest) = field(b"s", bytes)?;
+    let rest = after(b" ", rest)?;
+    let (node, _) = letter(rest)?;
+    let session = session_of(session)?;
+    let node = node_of(node)?;
+    Some(Item::AskBegin { session, node })
+}
+
+#[tactic(auto, unfolding(crate::specs::ReadRequests::ask_commit_at))]
+fn ask_commit(bytes: &[u8]) -> Option<Item>
+    ensures { result ≡ ask_commit_at bytes.now }
+{
+    let (session, rest) = field(b"s", bytes)?;
+    let rest = after(b" ", rest)?;
+    let (node, rest) = letter(rest)?;
+    let (start, _) = field(b" start=", rest)?;
+    let session = session_of(session)?;
+    let node = node_of(node)?;
+    let start = stamp_of(start)?;
+    Some(Item::AskCommit {
+        session,
+        node,
+        start,
+    })
+}
+
+#[tactic(auto, unfolding(crate::specs::ReadRequests::accept_at))]
+fn accept(bytes: &[u8]) -> Option<Item>
+    ensures { result ≡ accept_at bytes.now }
+{
+    let (session, rest) = field(b"s", bytes)?;
+    let rest = after(b" ", rest)?;
+    let (node, rest) = letter(rest)?;
+    let (term, rest) = field(b" term=", rest)?;
+    let (reading, _) = field(b" reading=", rest)?;
+    let session = session_of(session)?;
+    let node = node_of(node)?;
+    let term = term_of(term)?;
+    Some(Item::Accept {
+        session,
+        node,
+        term,
+        reading,
+    })
+}
+
+#[tactic(auto, unfolding(crate::specs::ReadRequests::draw_at))]
+fn draw(bytes: &[u8]) -> Option<Item>
+    ensures { result ≡ draw_at bytes.now }
+{
+    let (session, rest) = field(b"s", bytes)?;
+    let rest = after(b" ", rest)?;
+    let (node, rest) = letter(rest)?;
+    let (term, rest) = field(b" term=", rest)?;
+    let (start, rest) = field(b" start=", rest)?;
+    let commit = drawn(rest)?;
+    let session = session_of(session)?;
+    let node = node_of(node)?;
+    let term = term_of(term)?;
+    let start = stamp_of(start)?;
+    Some(Item::Draw {
+        session,
+        node,
+        term,
+        start,
+        commit,
+    })
+}
+
+#[tactic(auto, unfolding(crate::specs::ReadRequests::placed_at))]
+fn placed(bytes: &[u8]) -> Option<Item>
+    ensures { result ≡ placed_at bytes.now }
+{
+    let (start, rest) = field(b"start=", bytes)?;
+    let (commit, _) = field(b" commit=", rest)?;
+    let start = stamp_of(start)?;
+    let commit = stamp_of(commit)?;
+    Some(Item::Placed { start, commit })
+}
+
+/// The commit of a draw: a begin draws none.
+fn drawn(bytes: &[u8]) -> Option<Option<Stamp>>
+    ensures { result ≡ drawn_at bytes.now }
+{
+    match no_commit(bytes) {
+        Some(commit) => Some(commit),
+        None => commit(bytes),
+    }
+}
+
+#[tactic(auto, unfolding(crate::specs::ReadRequests::no_commit_at))]
+fn no_commit(bytes: &[u8]) -> Option<Option<Stamp>>
+    ensures { result ≡ no_commit_at bytes.now }
+{
+    if bytes.is_empty() { Some(None) } else { None }
+}
+
+#[tactic(auto, unfolding(crate::specs::ReadRequests::commit_at))]
+fn commit(bytes: &[u8]) -> Option<Option<Stamp>>
+    ensures { result ≡ commit_at bytes.now }
+{
+    let (commit, _) = field(b" commit=", bytes)?;
+    let commit = stamp_of(commit)?;
+    Some(Some(commit))
+}

@@ -1,0 +1,180 @@
+// The parts that items share, as reading finds them at the front of some bytes.
+ghost use Rattle.std.specs.Prelude.{◌≡◌, ◌+◌, ◌≤◌, length};
+ghost use Rattle.std.specs.Option.{option_map};
+ghost use Rattle.history_reading.specs.ReadWords.{word_len, first_word, after_word, is_word, after_text, number_from, field_at, letter_at, node_of, session_of, key_of, stamp_of, term_of, value_at, name_at, node_actor_at, session_actor_at, actor_at};
+
+use history_book::Actor;
+use stamp_base::{KeyNo, Name, NodeNo, SessionNo, Stamp, Term, Value};
+
+/// The bytes before the first blank, and those after it.
+#[tactic(auto, unfolding(crate::specs::ReadWords::first_word, crate::specs::ReadWords::after_word))]
+pub fn split_word(bytes: &[u8]) -> (&[u8], &[u8])
+    ensures word { result.0.now ≡ first_word bytes.now }
+    ensures rest { result.1.now ≡ after_word bytes.now }
+{
+    let len = word_len(bytes);
+    if len < bytes.len() {
+        (&bytes[..len], &bytes[len + 1..])
+    } else {
+        (bytes, &[])
+    }
+}
+
+#[tactic(auto, unfolding(crate::specs::ReadWords::word_len))]
+fn word_len(bytes: &[u8]) -> usize
+    ensures len { result ≡ word_len bytes.now }
+    ensures within { result ≤ length bytes.now }
+{
+    let mut rest = bytes;
+    let mut len = 0;
+    while let [b, more @ ..] = rest {
+        if *b == b' ' {
+            return len;
+        }
+        len += 1;
+        rest = more;
+    }
+    len
+}
+
+pub fn is_word(bytes: &[u8], word: &[u8]) -> bool
+    ensures { result ≡ is_word word.now bytes.now }
+{
+    bytes == word
+}
+
+#[tactic(auto, unfolding(crate::specs::ReadWords::after_text))]
+pub fn after<'a>(text: &[u8], bytes: &'a [u8]) -> Option<&'a [u8]>
+    ensures { option_map (λ rest. rest.now) result ≡ after_text text.now bytes.now }
+{
+    let mut left = text;
+    let mut rest = bytes;
+    while let [t, more @ ..] = left {
+        match rest {
+            [b, after @ ..] if t == b => rest = after,
+            _ => return None,
+        }
+        left = more;
+    }
+    Some(rest)
+}
+
+#[tactic(auto, unfolding(crate::specs::ReadWords::number_from))]
+pub fn number(bytes: &[u8]) -> (u64, &[u8])
+    ensures { (result.0, result.1.now) ≡ number_from 0 bytes.now }
+{
+    let mut number = 0;
+    let mut rest = bytes;
+    while let [b @ b'0'..=b'9', more @ ..] = rest {
+        let digit = (*b - b'0') as u64;
+        if number > (u64::MAX - digit) / 10 {
+            return (number, rest);
+        }
+        number = 10 * number + digit;
+        rest = more;
+    }
+    (number, rest)
+}
+
+/// The number behind a text, and the bytes after it.
+#[tactic(auto, unfolding(crate::specs::ReadWords::field_at))]
+pub fn field<'a>(text: &[u8], bytes: &'a [u8]) -> Option<(u64, &'a [u8])>
+    ensures { option_map (λ found. (found.0, found.1.now)) result ≡ field_at text.now bytes.now }
+{
+    let rest = after(text, bytes)?;
+    Some(number(rest))
+}
+
+/// A node by its letter, and the bytes after it.
+#[tactic(auto, unfolding(crate::specs::ReadWords::letter_at))]
+pub fn letter(bytes: &[u8]) -> Option<(u64, &[u8])>
+    ensures { option_map (λ found. (found.0, found.1.now)) result ≡ letter_at bytes.now }
+{
+    match bytes {
+        [b @ b'a'..=b'h', rest @ ..] => Some(((*b - b'a') as u64, rest)),
+        _ => None,
+    }
+}
+
+#[tactic(auto, unfolding(crate::specs::ReadWords::node_of))]
+pub fn node_of(number: u64) -> Option<NodeNo>
+    ensures { result ≡ node_of number }
+{
+    NodeNo::new(number)
+}
+
+#[tactic(auto, unfolding(crate::specs::ReadWords::session_of))]
+pub fn session_of(number: u64) -> Option<SessionNo>
+    ensures { result ≡ session_of number }
+{
+    SessionNo::new(number)
+}
+
+#[tactic(auto, unfolding(crate::specs::ReadWords::key_of))]
+pub fn key_of(number: u64) -> Option<KeyNo>
+    ensures { result ≡ key_of number }
+{
+    KeyNo::new(number)
+}
+
+#[tactic(auto, unfolding(crate::specs::ReadWords::stamp_of))]
+pub fn stamp_of(number: u64) -> Option<Stamp>
+    ensures { result ≡ stamp_of number }
+{
+    Stamp::new(number)
+}
+
+#[tactic(auto, unfolding(crate::specs::ReadWords::term_of))]
+pub fn term_of(number: u64) -> Option<Term>
+    ensures { result ≡ term_of number }
+{
+    Term::new(number)
+}
+
+#[tactic(auto, unfolding(crate::specs::ReadWords::value_at))]
+pub fn value(bytes: &[u8]) -> Option<Value>
+    ensures { result ≡ value_at bytes.now }
+{
+    Value::new(bytes)
+}
+
+#[tactic(auto, unfolding(crate::specs::ReadWords::name_at))]
+pub fn name(bytes: &[u8]) -> Option<Name>
+    ensures { result ≡ name_at bytes.now }
+{
+    Name::new(bytes)
+}
+
+#[tactic(auto, unfolding(crate::specs::ReadWords::actor_at))]
+pub fn actor(bytes: &[u8]) -> Option<Actor>
+    ensures { result ≡ actor_at bytes.now }
+{
+    if is_word(bytes, b"clock") {
+        return Some(Actor::Clock);
+    }
+    if is_word(bytes, b"janitor") {
+        return Some(Actor::Janitor);
+    }
+    match session_actor(bytes) {
+        Some(actor) => Some(actor),
+        None => node_actor(bytes),
+    }
+}
+
+#[tactic(auto, unfolding(crate::specs::ReadWords::session_actor_at))]
+fn session_actor(bytes: &[u8]) -> Option<Actor>
+    ensures { result ≡ session_actor_at bytes.now }
+{
+    let (session, _) = field(b"s", bytes)?;
+    let session = session_of(session)?;
+    Some(Actor::Session(session))
+}
+
+#[tactic(auto, unfolding(crate::specs::ReadWords::node_actor_at))]
+fn node_actor(bytes: &[u8]) -> Option<Actor>
+    ensures { result ≡ node_actor_at bytes.now }
+{
+    let (node, _) = letter(bytes)?;
+    let node = node_of(node)?;
+    Some(Actor::Node(node))
+}

@@ -1,9 +1,0 @@
-use Rattle.std.proofs.Common.{◌≡◌, length}
-use Rattle.history_text.specs.ReadWords.{after_text}
-use Rattle.history_text.proofs.reading.words.after.Given as goal
-
-abbrev pub invariant-loop-left : goal.invariant-loop-left
-invariant-loop-left l = after_text l.left l.rest ≡ after_text l.text l.bytes
-
-abbrev pub decreases-loop-left : goal.decreases-loop-left
-decreases-loop-left l = length l.left

@@ -1,6 +1,0 @@
-ghost use Rattle.history_text.specs.TextLaw.{TextsDiffer};
-
-/// A law of the texts: no two items have one text.
-pub fn texts_differ()
-    ensures { TextsDiffer }
-{}
