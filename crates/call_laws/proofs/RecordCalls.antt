@@ -1,11 +1,12 @@
 -- What takes, renewals, extensions and draws need follows from the bounds and the ranges of instances.
-use Rattle.std.proofs.Common.{◌≡◌, ◌≢◌, ℕ, ◌+◌, ◌<◌, ◌≤◌, max, List, Option, Some, None, arith}
-use Rattle.std.specs.Prelude.{◌^◌, slice_get}
+use Rattle.std.proofs.Common.{◌≢◌, ℕ, ◌+◌, ◌<◌, ◌≤◌, max, List, Option, Some, None, arith}
+use Rattle.std.specs.Prelude.{◌^◌}
 use Rattle.history_book.specs.declared.item.Item.{Item}
 use Rattle.oracle_parts.specs.Instance.{InstanceEntry}
 use Rattle.machine.specs.State.{State}
 use Rattle.machine.specs.Events.Take.{rules_of}
 use Rattle.cause_laws.specs.Shows.{Tells}
+use Rattle.call_laws.specs.Requests.{PostAt}
 use Rattle.call_laws.specs.Bounds.{Bounded, PartsAreCounted, TakeMayBeMade, RenewalMayBeMade, CanExtend, ExtensionMayBeMade, DrawMayBeMade}
 use Rattle.call_laws.proofs.RecordBounds.{take_room, extension_room}
 
@@ -32,7 +33,7 @@ renewed_far seen reading lease until seen_far far few within = omega (arith, see
 pub renewals_fit : (w : State) (h : List Item) → Tells w h → Bounded w → RenewalMayBeMade w
 renewals_fit w h tells bounded reading far = renewed_far w.seen reading w.setup.lease w.master.until bounded.numbers.reading far tells.stands.holds.in_range.lease.1 bounded.numbers.lease
 
-extends_by : (w : State) (h : List Item) (node : ℕ) (post : Option InstanceEntry) → Tells w h → slice_get w.nodes node ≡ Some post → CanExtend w post
+extends_by : (w : State) (h : List Item) (node : ℕ) (post : Option InstanceEntry) → Tells w h → PostAt w node post → CanExtend w post
 extends_by w h node None tells at = record { covered = tt; widened = tt }
 extends_by w h node (Some i) tells at =
     let covered : i.ceiling ≤ w.master.ceiling = tells.stands.holds.numbers.ranges.covered node i at in

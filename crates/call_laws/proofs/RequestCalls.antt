@@ -13,6 +13,7 @@ use Rattle.oracle_parts.specs.declared.instance.Request.TheVariants.{Begin, Comm
 use Rattle.oracle_parts.specs.Instance.{InstanceEntry, held_of}
 use Rattle.machine.specs.State.{Client, State}
 use Rattle.machine.specs.Clients.{is_reading}
+use Rattle.machine.specs.Calls.{Waits, WaitsFor as ServesFor, WaitsAt, HoldsNone}
 use Rattle.machine.specs.Events.Put.{to_place, to_place_by}
 use Rattle.isolation_laws.specs.Words.{InstanceAt, ClientAt, HasRecord}
 use Rattle.isolation_laws.specs.Requests.{WaitsFor}
@@ -23,7 +24,6 @@ use Rattle.isolation_laws.proofs.NumbersKept.{in_flight_of, drawn_pending}
 use Rattle.isolation_laws.proofs.Owners.{pending_unplaced}
 use Rattle.isolation_laws.proofs.InversionOfSessions.{work_open}
 use Rattle.cause_laws.specs.Shows.{Tells}
-use Rattle.call_laws.specs.Waiting.{Waits, WaitsFor as ServesFor, WaitsAt, HoldsNone}
 use Rattle.call_laws.specs.Requests.{PostAt, BeginMayBeAsked, CommitMayBeAsked, RequestMayBeServed, CrashMayBeMade, PutMayBeMade}
 
 -- ---- who waits

@@ -5,27 +5,26 @@ use Rattle.history_book.specs.Isolation.{Committed}
 use Rattle.history_book.specs.declared.cause.Cause.TheVariants.{Idle}
 use Rattle.history_book.specs.declared.item.Item.{Item}
 use Rattle.client_parts.specs.declared.asks.Ask.{Ask}
-use Rattle.client_parts.specs.declared.asks.Ask.TheVariants.{Shadow, Keys}
+use Rattle.client_parts.specs.declared.asks.Ask.TheVariants.{Shadow}
 use Rattle.client_parts.specs.declared.resolve.SettlePoint.{SettlePoint}
 use Rattle.client_parts.specs.declared.resolve.SettlePoint.TheVariants as point
 use Rattle.client_parts.specs.declared.session.State.{State as SessionState}
 use Rattle.client_parts.specs.declared.session.State.TheVariants as phase
 use Rattle.client_parts.specs.Completion.{finish_asks, undo_asks, first_ask}
 use Rattle.client_parts.specs.Resolve.{ask_at}
-use Rattle.client_parts.specs.KeyRead.{Reading}
-use Rattle.client_parts.specs.SessionSteps.{CanFree, EndsFrom, step_refusal, has_transaction}
+use Rattle.client_parts.specs.SessionSteps.{EndsFrom, step_refusal, has_transaction}
 use Rattle.machine.specs.State.{UnderWay, Nothing, Reads, Settles, Completes, Client, State}
 use Rattle.machine.specs.Clients.{is_reading, is_reading_by, client_freed}
+use Rattle.machine.specs.Calls.{CanWork}
 use Rattle.machine.specs.Events.Step.{own_resolve, work_by, work_of, next_of}
 use Rattle.isolation_laws.specs.Words.{ClientAt}
 use Rattle.isolation_laws.specs.Holds.{Holds}
-use Rattle.isolation_laws.proofs.Lookups.{one_client}
 use Rattle.isolation_laws.proofs.InversionParts.{none_quiet}
 use Rattle.isolation_laws.proofs.InversionOfWork.{IsWork, work_fits}
 use Rattle.isolation_laws.proofs.StoresStay.{completed_fills}
 use Rattle.cause_laws.specs.Shows.{Tells}
 use Rattle.call_laws.specs.Stores.{StepMayBeMade}
-use Rattle.call_laws.proofs.StoreCalls.{only_shadow}
+use Rattle.call_laws.proofs.StoreCalls.{only_shadow, keeps_next}
 
 -- ---- something is asked
 finish_some : (t commit : ℕ) (left : List ℕ) → finish_asks t commit left ≡ [] → ⊥
@@ -95,12 +94,6 @@ no_shadow_at key txn point.Table k t commit is = cc
 no_shadow_at key txn point.Marking k t commit is = cc
 no_shadow_at key txn point.LastLook k t commit is = cc
 
-no_list_at : (key txn : ℕ) (at : SettlePoint) (t : ℕ) → Some (ask_at key txn at) ≡ Some (Keys t) → ⊥
-no_list_at key txn point.FirstLook t is = cc
-no_list_at key txn point.Table t is = cc
-no_list_at key txn point.Marking t is = cc
-no_list_at key txn point.LastLook t is = cc
-
 work_shadow : (w : State) (h : List Item) (session : ℕ) (c : Client) → Holds w h → ClientAt w.clients session c → (work : UnderWay) → IsWork c work → (k t commit : ℕ) → next_of work ≡ Some (Shadow k t commit) → Committed h t commit
 work_shadow w h session c holds at Nothing fits k t commit is = absurd (cc)
 work_shadow w h session c holds at (Reads r) fits k t commit is = absurd (no_shadow_at r.key r.cell.version r.point k t commit is)
@@ -122,37 +115,21 @@ work_shadow w h session c holds at (Completes (asked ∷ asks)) fits k t commit 
   quiet = none_quiet;
 }) holds k t commit (same_Some asked (Shadow k t commit) is)
 
-work_no_list : (c : Client) (work : UnderWay) → IsWork c work → (txn : ℕ) → next_of work ≡ Some (Keys txn) → ⊥
-work_no_list c Nothing fits txn is = cc
-work_no_list c (Reads r) fits txn is = no_list_at r.key r.cell.version r.point txn is
-work_no_list c (Settles x) fits txn is = no_list_at x.key x.txn x.point txn is
-work_no_list c (Completes []) fits txn is = cc
-work_no_list c (Completes (asked ∷ asks)) fits txn is = fits.no_list txn (same_Some asked (Keys txn) is)
-
 -- ---- how it fits the state
-work_start : (w : State) (h : List Item) (session : ℕ) (c : Client) (r : Reading) → Holds w h → ClientAt w.clients session c → IsWork c (Reads r) → c.entry.start ≡ Some r.start
-work_start w h session c r holds at fits =
-    let reading = holds.reads.reading.reads session c r at fits in
-    let same : reading.2.client ≡ c = one_client w.clients session reading.2.client c reading.2.at at in
-    ap (λ (d : Client). d.entry.start) (sym same) ∙ (reading.2.start_is ∙ ap Some (sym reading.3.start_is))
-
-work_frees : (c : Client) (asks : List Ask) → (next_of (Completes asks) ≡ None → ⊥) → IsWork c (Completes asks) → CanFree c.entry
-work_frees c [] asks_some fits = absurd (asks_some refl)
-work_frees c (asked ∷ asks) asks_some fits = subst (λ (s : SessionState). EndsFrom s c.entry.keys) (sym fits.completing) tt
-
-as_work : (c : Client) (work : UnderWay) → work_of c ≡ work → IsWork c (work_of c) → IsWork c work
-as_work c work is fits = subst (λ (x : UnderWay). IsWork c x) is fits
+work_can : (c : Client) (work : UnderWay) → (next_of work ≡ None → ⊥) → IsWork c work → CanWork work c.entry
+work_can c Nothing asks fits = tt
+work_can c (Reads r) asks fits = tt
+work_can c (Settles x) asks fits = inr fits.0
+work_can c (Completes []) asks fits = absurd (asks refl)
+work_can c (Completes (asked ∷ left)) asks fits = subst (λ (s : SessionState). EndsFrom s c.entry.keys) (sym fits.completing) tt
 
 pub steps_ask : (w : State) (h : List Item) → Tells w h → StepMayBeMade w
-steps_ask w h tells session c at go =
+steps_ask w h tells session c at may =
     let holds : Holds w h = tells.stands.holds in
-    let fits : IsWork c (work_of c) = work_fits w h session c holds at go in
-    let asks : next_of (work_of c) ≡ None → ⊥ = state_asks w h session c holds at c.entry.state refl go in
+    let fits : IsWork c (work_of c) = work_fits w h session c holds at may in
+    let asks : next_of (work_of c) ≡ None → ⊥ = state_asks w h session c holds at c.entry.state refl may in
     record {
       asks = asks;
-      shadow = λ key txn commit is. only_shadow w h key txn commit holds (work_shadow w h session c holds at (work_of c) fits key txn commit is);
-      no_list = λ txn is. work_no_list c (work_of c) fits txn is;
-      reads = λ r is. work_start w h session c r holds at (as_work c (Reads r) is fits);
-      settles = λ x is. (as_work c (Settles x) is fits).0;
-      completes = λ left is. work_frees c left (λ none. asks (ap next_of is ∙ none)) (as_work c (Completes left) is fits);
+      work = work_can c (work_of c) asks fits;
+      shadow = keeps_next w.rows (next_of (work_of c)) (λ k t commit next. only_shadow w h k t commit holds (work_shadow w h session c holds at (work_of c) fits k t commit next));
     }

@@ -7,15 +7,18 @@ use Rattle.history_book.specs.Isolation.{Committed, Stamped, last_write}
 use Rattle.history_book.specs.declared.item.Item.{Item}
 use Rattle.store_parts.specs.declared.rows.Cell.{Cell}
 use Rattle.store_parts.specs.Rows.{Row, looked, IsBare, HasOnly}
-use Rattle.client_parts.specs.declared.asks.Ask.TheVariants.{Shadow}
+use Rattle.client_parts.specs.declared.asks.Ask.{Ask}
+use Rattle.client_parts.specs.declared.asks.Ask.TheVariants as ask
 use Rattle.client_parts.specs.declared.resolve.SettlePoint.{SettlePoint}
 use Rattle.client_parts.specs.declared.resolve.SettlePoint.TheVariants.{Marking}
 use Rattle.client_parts.specs.declared.session.State.{State as SessionState}
 use Rattle.client_parts.specs.declared.session.State.TheVariants as phase
 use Rattle.client_parts.specs.KeyRead.{Reading}
+use Rattle.client_parts.specs.Sweep.{Sweeping, sweep_ask}
 use Rattle.client_parts.specs.SessionSteps.{work_refusal, key_refusal}
 use Rattle.machine.specs.State.{Client, State}
 use Rattle.machine.specs.Clients.{is_reading}
+use Rattle.machine.specs.Calls.{KeepsShadowNext}
 use Rattle.machine.specs.Events.Heal.{offer_by, offer_of}
 use Rattle.isolation_laws.specs.Words.{ClientAt, epoch_or_none, cell_with}
 use Rattle.isolation_laws.specs.Pending.{IsOpen}
@@ -26,7 +29,7 @@ use Rattle.isolation_laws.proofs.Owners.{one_commit}
 use Rattle.isolation_laws.proofs.StoresStay.{swept_fills}
 use Rattle.isolation_laws.proofs.InversionOfSessions.{work_open, write_may}
 use Rattle.cause_laws.specs.Shows.{Tells}
-use Rattle.call_laws.specs.Stores.{WriteMayBeMade, HealMayBeMade, ReadsFetched, ReadMayGoOn, SweepMayStep}
+use Rattle.call_laws.specs.Stores.{WriteMayBeMade, HealMayBeMade, ReadsFetched, ReadMayGoOn, CanSweep, SweepMayStep}
 
 -- ---- the only shadow that a cell may have
 shadow_only : (rows : List Row) (h : List Item) (k t commit : ℕ) (cell : Cell) → AreRows rows h → Stamped h → Committed h t commit → looked rows k t ≡ Some cell → (shadow : Option ℕ) → cell.shadow ≡ shadow → IfSome shadow (λ there. there ≡ commit)
@@ -109,8 +112,23 @@ reads_fetched w h tells session c r at reads =
     reading_fetched w h reading.0 reading.1 r reading.3
 
 -- ---- the sweep
-pub sweeps_ask : (w : State) (h : List Item) → Tells w h → SweepMayStep w
-sweeps_ask w h tells s is_open = record {
+-- each shadow that may be asked next is the only one
+pub keeps_next : (rows : List Row) (next : Option Ask) → ((k t commit : ℕ) → next ≡ Some (ask.Shadow k t commit) → HasOnly rows k t commit) → KeepsShadowNext next rows
+keeps_next rows None only = tt
+keeps_next rows (Some (ask.Shadow k t commit)) only = only k t commit refl
+keeps_next rows (Some (ask.Get t)) only = tt
+keeps_next rows (Some (ask.Mark t)) only = tt
+keeps_next rows (Some (ask.Look k t)) only = tt
+keeps_next rows (Some (ask.Remove t)) only = tt
+keeps_next rows (Some (ask.Erase k t)) only = tt
+keeps_next rows (Some (ask.Keys t)) only = tt
+
+sweep_can : (w : State) (h : List Item) → Tells w h → (sweep : Option Sweeping) → w.sweep ≡ sweep → IfSome sweep (λ s. CanSweep w.rows s)
+sweep_can w h tells None is_open = tt
+sweep_can w h tells (Some s) is_open = record {
   asks = tells.stands.sound.sweeps.asks s is_open;
-  shadow = λ key txn commit first. only_shadow w h key txn commit tells.stands.holds (swept_fills w h s (Shadow key txn commit) tells.stands.holds is_open first key txn commit refl);
+  shadow = keeps_next w.rows (sweep_ask s) (λ k t commit next. only_shadow w h k t commit tells.stands.holds (swept_fills w h s (ask.Shadow k t commit) tells.stands.holds is_open next k t commit refl));
 }
+
+pub sweeps_ask : (w : State) (h : List Item) → Tells w h → SweepMayStep w
+sweeps_ask w h tells = sweep_can w h tells w.sweep refl

@@ -1,6 +1,6 @@
 -- How far the numbers of the clocks and of the master record are from the end of the machine's numbers, how many posts and
 -- clients there are, and so what takes, renewals, extensions and draws come to.
-use Rattle.std.specs.Prelude.{◌≡◌, ◌≢◌, ℕ, ◌+◌, ◌≤◌, ◌^◌, length, slice_get, Option, None, Some, IfSome}
+use Rattle.std.specs.Prelude.{◌≡◌, ◌≢◌, ℕ, ◌+◌, ◌≤◌, ◌^◌, length, Option, None, IfSome}
 use Rattle.stamp_base.specs.Ranges.{IsNumber, IsTerm, IsStamp, IsStampRange}
 use Rattle.stamp_base.specs.SetupNumbers.{SetupNumbers}
 use Rattle.store_parts.specs.declared.record.Grant.{Grant}
@@ -9,6 +9,7 @@ use Rattle.oracle_parts.specs.Instance.{InstanceEntry}
 use Rattle.machine.specs.State.{State}
 use Rattle.machine.specs.Events.Take.{rules_of}
 use Rattle.isolation_laws.specs.Words.{InstanceAt}
+use Rattle.call_laws.specs.Requests.{PostAt}
 
 -- no lease ends later than one lease after the greatest reading, each term has had a stamp of its own at least, and all that
 -- may be drawn are stamps; a record without a holder is as at first
@@ -51,7 +52,7 @@ pub record CanExtend (w : State) (post : Option InstanceEntry) : Type 0 where
   pub widened : IfSome post (λ i. extend_refused (rules_of w.setup) w.master i.term ≡ None → IsStampRange i.ceiling (w.master.ceiling + w.setup.range))
 
 abbrev pub ExtensionMayBeMade : State → Type 0
-ExtensionMayBeMade w = (node : ℕ) (post : Option InstanceEntry) → slice_get w.nodes node ≡ Some post → CanExtend w post
+ExtensionMayBeMade w = (node : ℕ) (post : Option InstanceEntry) → PostAt w node post → CanExtend w post
 
 -- ---- draws
 -- an instance draws within a range of stamps, and where that is not used up the next one is a stamp

@@ -1,4 +1,3 @@
-pub mod Bounds
-pub mod Waiting
 pub mod Requests
+pub mod Bounds
 pub mod Stores

@@ -4,9 +4,9 @@ use Rattle.client_parts.specs.SessionSteps.{begin_refusal, work_refusal}
 use Rattle.oracle_parts.specs.Instance.{InstanceEntry, held_of}
 use Rattle.machine.specs.State.{Client, State}
 use Rattle.machine.specs.Clients.{is_reading}
+use Rattle.machine.specs.Calls.{WaitsAt, HoldsNone}
 use Rattle.machine.specs.Events.Put.{to_place}
 use Rattle.isolation_laws.specs.Words.{InstanceAt, ClientAt, HasRecord}
-use Rattle.call_laws.specs.Waiting.{WaitsAt, HoldsNone}
 
 -- what stands at the node, an instance or none
 abbrev pub PostAt : State → ℕ → Option InstanceEntry → Type 0

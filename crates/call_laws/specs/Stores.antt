@@ -1,17 +1,12 @@
 -- What the calls of sessions and of the janitor on the stores ask of the cells, and what is under way with them.
-use Rattle.std.specs.Prelude.{◌≡◌, ℕ, ◌≤◌, List, ◌∷◌, None, Some, IfSome}
+use Rattle.std.specs.Prelude.{◌≡◌, ℕ, ◌≤◌, List, ◌∷◌, None, IfSome}
 use Rattle.store_parts.specs.Rows.{Row, IsBare, HasOnly}
-use Rattle.client_parts.specs.declared.asks.Ask.{Ask}
-use Rattle.client_parts.specs.declared.asks.Ask.TheVariants.{Shadow, Keys}
 use Rattle.client_parts.specs.declared.resolve.SettlePoint.TheVariants.{Marking}
-use Rattle.client_parts.specs.declared.session.State.TheVariants.{OpenOutcome}
-use Rattle.client_parts.specs.SessionSteps.{CanFree, step_refusal}
-use Rattle.client_parts.specs.Resolve.{Settling}
 use Rattle.client_parts.specs.KeyRead.{Reading, AreFetched}
 use Rattle.client_parts.specs.Sweep.{Sweeping, sweep_ask}
-use Rattle.machine.specs.State.{Reads, Settles, Completes, Client, State}
-use Rattle.machine.specs.Clients.{is_reading}
+use Rattle.machine.specs.State.{Reads, Client, State}
 use Rattle.machine.specs.Events.Step.{work_of, next_of}
+use Rattle.machine.specs.Calls.{MayStep, CanWork, KeepsShadowNext}
 use Rattle.machine.specs.Events.Write.{write_refused}
 use Rattle.machine.specs.Events.Heal.{offer_of}
 use Rattle.isolation_laws.specs.Words.{ClientAt}
@@ -32,23 +27,20 @@ pub record ReadsFetched (r : Reading) : Type 0 where
 abbrev pub ReadMayGoOn : State → Type 0
 ReadMayGoOn w = (session : ℕ) (c : Client) (r : Reading) → ClientAt w.clients session c → c.under_way ≡ Reads r → ReadsFetched r
 
--- something is asked next: no list of keys, and a shadow only where its cell may have no other; what is under way fits the
--- session's state
+-- a step that is not refused asks something; the session can hear what it comes to, and a shadow that it sets is the only one
+-- that the cell may have
 pub record CanStep (rows : List Row) (c : Client) : Type 0 where
   pub asks : next_of (work_of c) ≡ None → ⊥
-  pub shadow : (key txn commit : ℕ) → next_of (work_of c) ≡ Some (Shadow key txn commit) → HasOnly rows key txn commit
-  pub no_list : (txn : ℕ) → next_of (work_of c) ≡ Some (Keys txn) → ⊥
-  pub reads : (r : Reading) → work_of c ≡ Reads r → c.entry.start ≡ Some r.start
-  pub settles : (x : Settling) → work_of c ≡ Settles x → c.entry.state ≡ OpenOutcome
-  pub completes : (asks : List Ask) → work_of c ≡ Completes asks → CanFree c.entry
+  pub work : CanWork (work_of c) c.entry
+  pub shadow : KeepsShadowNext (next_of (work_of c)) rows
 
 abbrev pub StepMayBeMade : State → Type 0
-StepMayBeMade w = (session : ℕ) (c : Client) → ClientAt w.clients session c → step_refusal c.entry.state (is_reading c) ≡ None → CanStep w.rows c
+StepMayBeMade w = (session : ℕ) (c : Client) → ClientAt w.clients session c → MayStep c → CanStep w.rows c
 
--- an open sweep asks something, and a shadow only where its cell may have no other
+-- so does a step of an open sweep
 pub record CanSweep (rows : List Row) (s : Sweeping) : Type 0 where
   pub asks : sweep_ask s ≡ None → ⊥
-  pub shadow : (key txn commit : ℕ) → sweep_ask s ≡ Some (Shadow key txn commit) → HasOnly rows key txn commit
+  pub shadow : KeepsShadowNext (sweep_ask s) rows
 
 abbrev pub SweepMayStep : State → Type 0
-SweepMayStep w = (s : Sweeping) → w.sweep ≡ Some s → CanSweep w.rows s
+SweepMayStep w = IfSome w.sweep (λ s. CanSweep w.rows s)
