@@ -21,8 +21,7 @@ pub use record_calls::{
     take_may_be_made,
 };
 pub use request_calls::{
-    begin_may_be_asked, commit_may_be_asked, crash_may_be_made, put_may_be_made,
-    request_may_be_served,
+    begin_may_be_asked, commit_may_be_asked, put_may_be_made, requests_are_waited_for,
 };
 pub use store_calls::{
     heal_may_be_made, read_may_go_on, step_may_be_made, sweep_may_step, write_may_be_made,
