@@ -1,9 +1,8 @@
 -- What the history shows of the state is kept by every event; so every refusal is shown in each history.
-use Rattle.std.proofs.Common.{◌≡◌, ℕ, List, [], ◌∷◌, ◌++◌, append_assoc, Option, refl, sym, ◌∙◌, subst}
+use Rattle.std.proofs.Common.{◌≡◌, List, [], ◌∷◌, ◌++◌, append_assoc, Option, refl, sym, ◌∙◌, subst}
 use Rattle.std.proofs.lemmas.List.{append-nil}
 use Rattle.stamp_base.specs.SetupNumbers.{SetupNumbers, AreInRange}
 use Rattle.port_io.specs.declared.weather.Fate.{Fate}
-use Rattle.history_book.specs.Members.{AtEach}
 use Rattle.history_book.specs.declared.item.Item.{Item}
 use Rattle.oracle_parts.specs.Instance.{InstanceEntry}
 use Rattle.machine.specs.declared.event.Event.{Event}
@@ -16,8 +15,7 @@ use Rattle.isolation_laws.proofs.AlwaysHolds.{facts_stay, steady_stays, steady_n
 use Rattle.cause_laws.specs.Requests.{AreAsked, AreFaulted, AreOpenAsks}
 use Rattle.cause_laws.specs.Nodes.{AreTaken, AreVacant, AreShownStops, AreLasts}
 use Rattle.cause_laws.specs.Shows.{Shows, Tells}
-use Rattle.cause_laws.specs.Due.{Due}
-use Rattle.cause_laws.proofs.Deeds.{Deed, DeedOf, nodes_by, items_by}
+use Rattle.cause_laws.proofs.Deeds.{DeedOf, nodes_by, items_by}
 use Rattle.cause_laws.proofs.DeedsDone.{deed_of}
 use Rattle.cause_laws.proofs.ClientsStay.{clients_stay}
 use Rattle.cause_laws.proofs.AsksKept.{asked_kept, faulted_kept}

@@ -18,7 +18,7 @@ use Rattle.machine.specs.Events.Decide.{draw_item}
 use Rattle.isolation_laws.specs.Words.{InstanceAt, HeldBy}
 use Rattle.isolation_laws.specs.Sound.{Stands}
 use Rattle.isolation_laws.proofs.Lookups.{instance_changed, held_by, heldby_ended, heldby_changed}
-use Rattle.isolation_laws.proofs.PendingAfter.{new_holds_none}
+use Rattle.isolation_laws.proofs.PendingAfter.{new_holds_none, same_requests}
 use Rattle.cause_laws.specs.Requests.{AreAsked, AreFaulted}
 use Rattle.cause_laws.specs.Shows.{Shows}
 use Rattle.cause_laws.proofs.Deeds.{Took, Told as ToldToWait, Asked, Serving, Accepted, Drew, SettledOne, Deed, OfRested, OfTook, OfRenewed, OfWidened, OfStopped, OfCrashed, OfAsked, OfAccepted, OfDrew, OfSettled, OfTold, OfEnded, OfLearned, took_nodes, took_items, renewed_to, widened_to, ask_item, fault_of, nodes_by, items_by, now_at}
@@ -31,10 +31,6 @@ use Rattle.cause_laws.proofs.RequestsWere.{AllWere, were_same, were_put, were_en
 kept : (nodes new : List (Option InstanceEntry)) (h items : List Item) → AllTold nodes h → AllWere nodes new → ((s : ℕ) → AllMute s items) → AllTold new (h ++ items)
 kept nodes new h items all were mute n s i request p at holds =
     told_mute h items n s i.term request p (mute s) (was_told nodes h n s i.term request p all (were n s i request p at holds))
-
--- the same requests are held by an instance that differs elsewhere
-same_requests : (i new : InstanceEntry) → new.requests ≡ i.requests → (s : ℕ) (request : Request) (p : Progress) → HeldBy new s request p → HeldBy i s request p
-same_requests i new same s request p holds = subst (λ (xs : List (Option Held)). HeldBy (record i { requests = xs }) s request p) same (record { held = holds.held; has = holds.has; asks = holds.asks; stands = holds.stands })
 
 were_took : (w : State) (k : Took w) (failed : Bool) → AllWere w.nodes (took_nodes w k failed)
 were_took w k true m s j request p there holds = were_same w.nodes m s j request p there holds

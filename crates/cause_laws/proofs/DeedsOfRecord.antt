@@ -24,7 +24,7 @@ use Rattle.machine.specs.Events.Renew.{renew_by, renew_on}
 use Rattle.machine.specs.Events.Extend.{extend_by, extend_on}
 use Rattle.isolation_laws.specs.Words.{InstanceAt}
 use Rattle.isolation_laws.proofs.Lookups.{set_same}
-use Rattle.cause_laws.proofs.Deeds.{OfTook, OfRenewed, OfWidened, OfStopped}
+use Rattle.cause_laws.proofs.Deeds.{Stopped, OfTook, OfRenewed, OfWidened, OfStopped}
 use Rattle.cause_laws.proofs.DeedParts.{DeedIn, one_silent, two_silent, node_silent, rests_at}
 
 -- ---- take
@@ -49,6 +49,16 @@ pub take_deed : (w : State) (node reading : ℕ) (fate : Fate) (post : Option In
 take_deed w node reading fate None at = take_why w node reading fate (fated fate w.master (taken (rules_of w.setup) w.master node reading)) at (take_refused (rules_of w.setup) w.master reading) refl
 take_deed w node reading fate (Some i) at = rests_at w node (Some i) _ at (node_silent node (cause.Holding i.term))
 
+-- the record has another term than the instance
+abbrev replaced : (w : State) (node : ℕ) (i : InstanceEntry) → InstanceAt w.nodes node i → (w.master.term == i.term) ≡ false → Stopped w
+replaced w node i at is = record {
+  node = node;
+  i = i;
+  at = at;
+  why = cause.Replaced w.master.term;
+  by = inl (refl, λ same. eqb-false w.master.term i.term is same);
+}
+
 -- ---- renew: by whether the record has the instance's term
 renew_why : (w : State) (node reading : ℕ) (fate : Fate) (i : InstanceEntry) (left : MasterRecord) → InstanceAt w.nodes node i → (own : Bool) → (w.master.term == i.term) ≡ own → let why : Option RenewRefused = if own then None else Some (renew.Replaced w.master.term) in DeedIn w node (renew_by node reading i left (kept_items fate why (item.Renew node reading i.term (renewed_until (rules_of w.setup) w.master reading) ∷ [])) (answered fate renew.StoreFault why (renewed_until (rules_of w.setup) w.master reading)))
 renew_why w node reading Works i left at true is = record {
@@ -57,13 +67,7 @@ renew_why w node reading Works i left at true is = record {
   tells = refl;
 }
 renew_why w node reading Works i left at false is = record {
-  deed = OfStopped (record {
-    node = node;
-    i = i;
-    at = at;
-    why = cause.Replaced w.master.term;
-    by = inl (refl, λ same. eqb-false w.master.term i.term is same);
-  });
+  deed = OfStopped (replaced w node i at is);
   leaves = refl;
   tells = refl;
 }
@@ -97,13 +101,7 @@ extend_why w node Works i left at true true is full = record {
   tells = refl;
 }
 extend_why w node Works i left at false spent is _ = record {
-  deed = OfStopped (record {
-    node = node;
-    i = i;
-    at = at;
-    why = cause.Replaced w.master.term;
-    by = inl (refl, λ same. eqb-false w.master.term i.term is same);
-  });
+  deed = OfStopped (replaced w node i at is);
   leaves = refl;
   tells = refl;
 }

@@ -22,7 +22,7 @@ use Rattle.machine.specs.Events.Put.{to_place, put_by, put_commit, put_on}
 use Rattle.machine.specs.Events.Answer.{answer_on}
 use Rattle.isolation_laws.specs.Words.{InstanceAt}
 use Rattle.isolation_laws.proofs.InversionOfAnswers.{answered_on}
-use Rattle.cause_laws.specs.Due.{AreDue}
+use Rattle.cause_laws.specs.Due.{DueSettled, AreDue}
 use Rattle.cause_laws.proofs.DueItems.{two_free, all_due, plain_due, refusal_due, once_due}
 use Rattle.cause_laws.proofs.DueOfRequests.{no_request_due, Serving, serves_held}
 
@@ -57,22 +57,20 @@ waits_due w node session asker start i held c it asks drawn (Some commit) least 
   least = least;
 })
 
+-- a commit that is held and settled so
+held_settled : (w : State) (node session asker start commit : ℕ) (keys : List ℕ) (by : Settled) (i : InstanceEntry) (held : Held) → Serving w node session i held → held.request ≡ Commit asker start keys → held.progress ≡ progress.Settled commit by → DueSettled w session start by
+held_settled w node session asker start commit keys by i held it asks settled = record {
+  i = i;
+  asker = asker;
+  commit = commit;
+  keys = keys;
+  serves = serves_held w node session i held (Commit asker start keys) (progress.Settled commit by) it asks settled;
+}
+
 settled_due : (w : State) (node session asker start commit : ℕ) (keys : List ℕ) (by : Settled) (i : InstanceEntry) (held : Held) (c : Client) → Serving w node session i held → held.request ≡ Commit asker start keys → held.progress ≡ progress.Settled commit by → answer_due_by w node session i c (answer_if_ready i session held (Commit asker start keys) (progress.Settled commit by)) (Some (start, Some commit))
 settled_due w node session asker start commit keys how.Placed i held c it asks settled = plain_due w _ (λ told. tt)
-settled_due w node session asker start commit keys how.Invalid i held c it asks settled = refusal_due w (Session session) (cause.Invalid start) (record {
-  i = i;
-  asker = asker;
-  commit = commit;
-  keys = keys;
-  serves = serves_held w node session i held (Commit asker start keys) (progress.Settled commit how.Invalid) it asks settled;
-})
-settled_due w node session asker start commit keys how.Faulted i held c it asks settled = refusal_due w (Session session) (cause.Open start) (record {
-  i = i;
-  asker = asker;
-  commit = commit;
-  keys = keys;
-  serves = serves_held w node session i held (Commit asker start keys) (progress.Settled commit how.Faulted) it asks settled;
-})
+settled_due w node session asker start commit keys how.Invalid i held c it asks settled = refusal_due w (Session session) (cause.Invalid start) (held_settled w node session asker start commit keys how.Invalid i held it asks settled)
+settled_due w node session asker start commit keys how.Faulted i held c it asks settled = refusal_due w (Session session) (cause.Open start) (held_settled w node session asker start commit keys how.Faulted i held it asks settled)
 
 answer_request : (w : State) (node session : ℕ) (i : InstanceEntry) (held : Held) (c : Client) → Serving w node session i held → (request : Request) → held.request ≡ request → (p : Progress) → held.progress ≡ p → answer_due_by w node session i c (answer_if_ready i session held request p) (stamps_by request p)
 answer_request w node session i held c it (Begin asker) asks (progress.Drawn start) stands = waits_due w node session asker start i held c it asks stands (least_unsettled i.requests start) refl

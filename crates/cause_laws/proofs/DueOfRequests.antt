@@ -1,5 +1,5 @@
 -- The refusals of an acceptance and a decision are due.
-use Rattle.std.proofs.Common.{◌≡◌, ℕ, ◌+◌, ◌≤◌, ◌==◌, Bool, true, false, if◌then◌else◌, [], ◌∷◌, Option, Some, None, refl, sym, subst}
+use Rattle.std.proofs.Common.{◌≡◌, ℕ, ◌+◌, ◌≤◌, ◌==◌, Bool, true, false, if◌then◌else◌, List, [], ◌∷◌, Option, Some, None, refl, sym, subst}
 use Rattle.std.specs.Prelude.{slice_get, nat_lt, nat_le}
 use Rattle.std.proofs.lemmas.Bool.{eqb-true, ltb-false, leb-true}
 use Rattle.std.proofs.lemmas.Option.{same_Some}
@@ -22,7 +22,7 @@ use Rattle.machine.specs.Events.Accept.{accept_by, accept_request, accept_on}
 use Rattle.machine.specs.Events.Decide.{draw_item, decide_by, decide_request, decide_on}
 use Rattle.isolation_laws.specs.Words.{InstanceAt}
 use Rattle.isolation_laws.specs.Sound.{StopOf, AreStops}
-use Rattle.cause_laws.specs.Due.{Serves, AreDue}
+use Rattle.cause_laws.specs.Due.{Serves, DueVerdict, AreDue}
 use Rattle.cause_laws.proofs.DueItems.{plain_due, refusal_due, no_row_due, once_due}
 
 -- what a node is told where the session has no such request
@@ -110,26 +110,23 @@ room_due : (w : State) (node session : ℕ) (i : InstanceEntry) (held : Held) (c
 room_due w node session i held c it stop accepted true full = out_due w node session i held c it accepted (eqb-true i.last i.ceiling full) i.stop stop refl
 room_due w node session i held c it stop accepted false room = draw_due w node i.term _ held.request
 
+-- the verdict on a commit that is held and accepted
+held_verdict : (w : State) (node session asker start : ℕ) (i : InstanceEntry) (held : Held) (keys : List ℕ) (v : Verdict) → Serving w node session i held → held.request ≡ Commit asker start keys → held.progress ≡ progress.Accepted → request_verdict i.buckets (Commit asker start keys) ≡ v → DueVerdict w session v
+held_verdict w node session asker start i held keys v it asks accepted is = record {
+  i = i;
+  asker = asker;
+  start = start;
+  keys = keys;
+  serves = serves_held w node session i held (Commit asker start keys) progress.Accepted it asks accepted;
+  judged = is;
+}
+
 verdict_due : (w : State) (node session : ℕ) (i : InstanceEntry) (held : Held) (c : Client) → Serving w node session i held → StopOf i.stop → held.progress ≡ progress.Accepted → (request : Request) → held.request ≡ request → (v : Verdict) → request_verdict i.buckets request ≡ v → decide_due_by w node session held c (verdict_by i session held v)
 verdict_due w node session i held c it stop accepted request asks Free is = room_due w node session i held c it stop accepted (i.last == i.ceiling) refl
 verdict_due w node session i held c it stop accepted (Begin asker) asks (Conflict key by) is = absurd (cc)
 verdict_due w node session i held c it stop accepted (Begin asker) asks (Hidden key water) is = absurd (cc)
-verdict_due w node session i held c it stop accepted (Commit asker start keys) asks (Conflict key by) is = refusal_due w (Session session) (cause.Conflict key by) (record {
-  i = i;
-  asker = asker;
-  start = start;
-  keys = keys;
-  serves = serves_held w node session i held (Commit asker start keys) progress.Accepted it asks accepted;
-  judged = is;
-})
-verdict_due w node session i held c it stop accepted (Commit asker start keys) asks (Hidden key water) is = refusal_due w (Session session) (cause.Hidden key water) (record {
-  i = i;
-  asker = asker;
-  start = start;
-  keys = keys;
-  serves = serves_held w node session i held (Commit asker start keys) progress.Accepted it asks accepted;
-  judged = is;
-})
+verdict_due w node session i held c it stop accepted (Commit asker start keys) asks (Conflict key by) is = refusal_due w (Session session) (cause.Conflict key by) (held_verdict w node session asker start i held keys (Conflict key by) it asks accepted is)
+verdict_due w node session i held c it stop accepted (Commit asker start keys) asks (Hidden key water) is = refusal_due w (Session session) (cause.Hidden key water) (held_verdict w node session asker start i held keys (Hidden key water) it asks accepted is)
 
 decide_progress : (w : State) (node session : ℕ) (i : InstanceEntry) (held : Held) (c : Client) → Serving w node session i held → StopOf i.stop → (p : Progress) → held.progress ≡ p → decide_due_by w node session held c (decide_if_accepted i session held p)
 decide_progress w node session i held c it stop progress.Accepted is = verdict_due w node session i held c it stop is held.request refl (request_verdict i.buckets held.request) refl

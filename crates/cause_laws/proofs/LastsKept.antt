@@ -1,10 +1,9 @@
 -- Each deed keeps what the history shows of ranges: their ends were given, and last stamps were drawn.
 use Rattle.std.proofs.Common.{◌≡◌, ℕ, ◌+◌, ◌<◌, ◌≤◌, List, [], ◌∷◌, ◌++◌, Some, None, ◌⊎◌, inl, inr, refl, arith}
 use Rattle.store_parts.specs.Record.{granted}
-use Rattle.history_book.specs.Members.{◌∈◌}
 use Rattle.history_book.specs.declared.item.Item.{Item}
 use Rattle.history_book.specs.declared.item.Item.TheVariants as item
-use Rattle.history_book.proofs.MemberLemmas.{in_front, in_back, in_last}
+use Rattle.history_book.proofs.MemberLemmas.{in_front, in_last}
 use Rattle.oracle_parts.specs.declared.instance.Request.{Request}
 use Rattle.oracle_parts.specs.declared.instance.Request.TheVariants.{Begin, Commit}
 use Rattle.oracle_parts.specs.Instance.{InstanceEntry}
@@ -20,6 +19,7 @@ use Rattle.cause_laws.specs.Shows.{Shows}
 use Rattle.cause_laws.proofs.Deeds.{Deed, Took, took_items, fault_if, widened_to, nodes_by, items_by}
 use Rattle.cause_laws.proofs.PostWords.{ceiling_given_on}
 use Rattle.cause_laws.proofs.PostMoves.{KeptBy, each_by}
+use Rattle.cause_laws.proofs.LongerHistories.{in_second}
 
 -- ---- stamps that were drawn
 pub commit_drawn_on : (h items : List Item) (term writer commit : ℕ) → CommitDrawn h term writer commit → CommitDrawn (h ++ items) term writer commit
@@ -52,10 +52,6 @@ last_told w h items m i lasts at = record {
 }
 
 -- the instance of a take: a range is not empty
-in_second : (x : Item) (h items : List Item) → x ∈ (h ++ x ∷ items)
-unfolding ◌∈◌
-in_second x h items = in_back x h (x ∷ items) (inl refl)
-
 last_anew : (w : State) (h : List Item) (k : Took w) → 1 ≤ w.setup.range → HasLast (h ++ took_items w k) (instance_of w.setup k.node (granted (rules_of w.setup) w.master k.reading))
 last_anew w h k some = record {
   wide = omega (arith, some);

@@ -1,7 +1,9 @@
+pub mod DeedRecords
 pub mod Deeds
 pub mod RecordedDraws
 pub mod ShownOfRequests
 pub mod ShownOfDecisions
+pub mod HeldRecord
 pub mod ShownOfNodes
 pub mod ShownOfLosses
 pub mod DueIsShown

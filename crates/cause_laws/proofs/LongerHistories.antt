@@ -1,9 +1,8 @@
--- What holds at each place of a history and of the items behind it holds at each place of both.
-use Rattle.std.proofs.Common.{◌≡◌, ℕ, suc, List, [], ◌∷◌, ◌++◌, append_assoc, Some, refl, sym, ◌∙◌, ap, subst, take}
-use Rattle.std.specs.Prelude.{slice_get}
+-- What holds at each place of a history and of the items behind it holds at each place of both; an item behind a history.
+use Rattle.std.proofs.Common.{suc, List, [], ◌∷◌, ◌++◌, append_assoc, inl, refl, sym, subst, take}
 use Rattle.std.proofs.lemmas.List.{append-nil}
-use Rattle.history_book.specs.Members.{AtEach}
-use Rattle.history_book.proofs.MemberLemmas.{AtEach-push}
+use Rattle.history_book.specs.Members.{◌∈◌, AtEach}
+use Rattle.history_book.proofs.MemberLemmas.{AtEach-push, in_back}
 
 -- of items behind a history: at the first, and at each behind it
 behind_first : {X : Type 0} (P : List X → X → Type 0) (x : X) (xs : List X) → AtEach P (x ∷ xs) → AtEach (λ told y. P (x ∷ told) y) xs
@@ -19,3 +18,8 @@ each_longer {X} P h (x ∷ items) all each =
       at = λ place y found. subst (λ before. P before y) (sym (append_assoc h (x ∷ []) (take place items))) (rest.at place y found);
     } in
     subst (λ xs. AtEach P xs) (append_assoc h (x ∷ []) items) (each_longer P (h ++ x ∷ []) items pushed moved)
+
+-- an item between others
+pub in_second : {X : Type 0} (x : X) (h items : List X) → x ∈ (h ++ x ∷ items)
+unfolding ◌∈◌
+in_second x h items = in_back x h (x ∷ items) (inl refl)

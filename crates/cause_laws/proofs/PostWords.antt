@@ -1,7 +1,6 @@
 -- What a longer history tells of a node: items that are neither takes nor crashes of it leave its words as they are.
-use Rattle.std.proofs.Common.{◌≡◌, ℕ, Bool, true, false, if◌then◌else◌, List, [], ◌∷◌, ◌++◌, append_assoc, Option, Some, None, inl, inr, refl, sym, ◌∙◌, ap, subst, All, fold, eq-eqb}
+use Rattle.std.proofs.Common.{◌≡◌, ℕ, Bool, true, false, if◌then◌else◌, List, [], ◌∷◌, ◌++◌, Some, None, inl, inr, refl, sym, ◌∙◌, ap, subst, All, fold, eq-eqb}
 use Rattle.std.specs.Option.{option_or}
-use Rattle.std.proofs.lemmas.List.{append-nil}
 use Rattle.std.proofs.lemmas.List.Sums.{fold-append}
 use Rattle.std.proofs.lemmas.List.Elements.{All-head, All-tail, All-nil, All-cons}
 use Rattle.history_book.specs.Members.{◌∈◌}
@@ -11,6 +10,7 @@ use Rattle.history_book.proofs.MemberLemmas.{in_front}
 use Rattle.isolation_laws.proofs.Pushed.{in_append, not_true}
 use Rattle.cause_rules.specs.Since.{told_then, since_then, since}
 use Rattle.cause_rules.specs.Posts.{take_by, takes_for, crashes_for, last_take, since_take, TookLast, LeasedUntil, StandsSince, HasNone, TermTaken, LeaseGiven, CeilingGiven}
+use Rattle.cause_laws.proofs.SinceWords.{last_told-past, last_told-same, since-more, since-anew}
 
 -- no item is a take, or a crash, of the node
 abbrev pub NoTakes : ℕ → List Item → Type 0
@@ -18,28 +18,6 @@ NoTakes n items = All (λ (x : Item). takes_for n x ≡ false) items
 
 abbrev pub NoCrashes : ℕ → List Item → Type 0
 NoCrashes n items = All (λ (x : Item). crashes_for n x ≡ false) items
-
--- ---- folds over items that tell nothing
-pub last_told-calm : {A : Type 0} (told : Item → Option A) (last : Option A) (items : List Item) → All (λ (x : Item). told x ≡ None) items → fold (told_then told) last items ≡ last
-last_told-calm told last [] calm = refl
-last_told-calm told last (x ∷ items) calm =
-    ap (λ o. fold (told_then told) (option_or o last) items) (All-head (λ (y : Item). told y ≡ None) x items calm)
-    ∙ last_told-calm told last items (All-tail (λ (y : Item). told y ≡ None) x items calm)
-
-pub since-calm : (begins : Item → Bool) (part items : List Item) → All (λ (x : Item). begins x ≡ false) items → fold (since_then begins) part items ≡ part ++ items
-since-calm begins part [] calm = sym (append-nil part)
-since-calm begins part (x ∷ items) calm =
-    ap (λ b. fold (since_then begins) (if b then [] else part ++ x ∷ []) items) (All-head (λ (y : Item). begins y ≡ false) x items calm)
-    ∙ (since-calm begins (part ++ x ∷ []) items (All-tail (λ (y : Item). begins y ≡ false) x items calm) ∙ append_assoc part (x ∷ []) items)
-
-pub since_on : (begins : Item → Bool) (h items : List Item) → All (λ (x : Item). begins x ≡ false) items → since begins (h ++ items) ≡ since begins h ++ items
-since_on begins h items calm = fold-append (since_then begins) [] h items ∙ since-calm begins (since begins h) items calm
-
--- an item of the kind, and then none
-pub since_anew : (begins : Item → Bool) (h items : List Item) (x : Item) → begins x ≡ true → All (λ (y : Item). begins y ≡ false) items → since begins (h ++ x ∷ items) ≡ items
-since_anew begins h items x is calm =
-    fold-append (since_then begins) [] h (x ∷ items)
-    ∙ (ap (λ b. fold (since_then begins) (if b then [] else since begins h ++ x ∷ []) items) is ∙ since-calm begins [] items calm)
 
 -- ---- the last take
 no_take_told : (n : ℕ) (x : Item) → takes_for n x ≡ false → take_by n x ≡ None
@@ -54,10 +32,10 @@ none_told n (x ∷ items) none =
     (none_told n items (All-tail (λ (y : Item). takes_for n y ≡ false) x items none))
 
 pub last_take_on : (h items : List Item) (n : ℕ) → NoTakes n items → last_take (h ++ items) n ≡ last_take h n
-last_take_on h items n none = fold-append (told_then (take_by n)) None h items ∙ last_told-calm (take_by n) (last_take h n) items (none_told n items none)
+last_take_on h items n none = last_told-same (take_by n) h items (none_told n items none)
 
 pub since_take_on : (h items : List Item) (n : ℕ) → NoTakes n items → since_take (h ++ items) n ≡ since_take h n ++ items
-since_take_on h items n none = since_on (takes_for n) h items none
+since_take_on h items n none = since-more (takes_for n) h items none
 
 -- ---- the node's words stay
 pub took_on : (h items : List Item) (n term epoch : ℕ) → NoTakes n items → TookLast h n term epoch → TookLast (h ++ items) n term epoch
@@ -113,10 +91,10 @@ pub last_take_new : (h items : List Item) (n reading term epoch until ceiling : 
 last_take_new h items n reading term epoch until ceiling none =
     fold-append (told_then (take_by n)) None h (item.Take n reading term epoch until ceiling ∷ items)
     ∙ (ap (λ b. fold (told_then (take_by n)) (option_or (if b then Some (record { term = term; epoch = epoch; until = until }) else None) (last_take h n)) items) (eq-eqb n n refl)
-    ∙ last_told-calm (take_by n) (Some (record { term = term; epoch = epoch; until = until })) items (none_told n items none))
+    ∙ last_told-past (take_by n) (Some (record { term = term; epoch = epoch; until = until })) items (none_told n items none))
 
 pub since_take_new : (h items : List Item) (n reading term epoch until ceiling : ℕ) → NoTakes n items → since_take (h ++ item.Take n reading term epoch until ceiling ∷ items) n ≡ items
-since_take_new h items n reading term epoch until ceiling none = since_anew (takes_for n) h items (item.Take n reading term epoch until ceiling) (eq-eqb n n refl) none
+since_take_new h items n reading term epoch until ceiling none = since-anew (takes_for n) h items (item.Take n reading term epoch until ceiling) (eq-eqb n n refl) none
 
 -- ---- what the master record was seen to have stays
 pub term_taken_on : (h items : List Item) (term : ℕ) → TermTaken h term → TermTaken (h ++ items) term

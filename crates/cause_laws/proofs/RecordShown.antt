@@ -7,7 +7,6 @@ use Rattle.port_io.specs.Fates.{fated}
 use Rattle.history_book.specs.Members.{◌∈◌}
 use Rattle.history_book.specs.declared.item.Item.{Item}
 use Rattle.history_book.specs.declared.item.Item.TheVariants as item
-use Rattle.history_book.proofs.MemberLemmas.{in_front, in_back}
 use Rattle.store_parts.specs.declared.record.Grant.{Grant}
 use Rattle.store_parts.specs.declared.record.TakeRefused.{TakeRefused}
 use Rattle.store_parts.specs.declared.record.TakeRefused.TheVariants as take
@@ -29,38 +28,23 @@ use Rattle.machine.specs.Events.Extend.{extend_by, extend_on}
 use Rattle.machine.proofs.PartsKept.{leaves_parts}
 use Rattle.isolation_laws.specs.Sound.{Stands}
 use Rattle.isolation_laws.proofs.InversionOfRecord.{for_record}
-use Rattle.cause_rules.specs.Posts.{TermTaken, LeaseGiven, CeilingGiven}
 use Rattle.cause_laws.specs.Stores.{IsRecordShown}
+use Rattle.cause_laws.proofs.PostWords.{term_taken_on, lease_given_on, ceiling_given_on}
+use Rattle.cause_laws.proofs.LongerHistories.{in_second}
 
 -- ---- a longer history
-pub term_on : (h items : List Item) (term : ℕ) → TermTaken h term → TermTaken (h ++ items) term
-term_on h items term (n, reading, epoch, until, ceiling, m) = (n, reading, epoch, until, ceiling, in_front (item.Take n reading term epoch until ceiling) h items m)
-
-pub lease_on : (h items : List Item) (until : ℕ) → LeaseGiven h until → LeaseGiven (h ++ items) until
-lease_on h items until (inl (n, reading, term, epoch, ceiling, m)) = inl (n, reading, term, epoch, ceiling, in_front (item.Take n reading term epoch until ceiling) h items m)
-lease_on h items until (inr (n, reading, term, m)) = inr (n, reading, term, in_front (item.Renew n reading term until) h items m)
-
-pub ceiling_on : (h items : List Item) (term ceiling : ℕ) → CeilingGiven h term ceiling → CeilingGiven (h ++ items) term ceiling
-ceiling_on h items term ceiling (inl (n, reading, epoch, until, m)) = inl (n, reading, epoch, until, in_front (item.Take n reading term epoch until ceiling) h items m)
-ceiling_on h items term ceiling (inr (n, m)) = inr (n, in_front (item.Extend n term ceiling) h items m)
-
 -- the record stayed as it was
 record_on : (master : MasterRecord) (h items : List Item) → IsRecordShown master h → IsRecordShown master (h ++ items)
 record_on master h items shown = record {
   vacant = shown.vacant;
-  term = λ n holds. term_on h items master.term (shown.term n holds);
-  lease = λ n holds. lease_on h items master.until (shown.lease n holds);
-  ceiling = λ n holds. let given = shown.ceiling n holds in (given.0, ceiling_on h items given.0 master.ceiling given.1);
+  term = λ n holds. term_taken_on h items master.term (shown.term n holds);
+  lease = λ n holds. lease_given_on h items master.until (shown.lease n holds);
+  ceiling = λ n holds. let given = shown.ceiling n holds in (given.0, ceiling_given_on h items given.0 master.ceiling given.1);
 }
 
 -- what a call left, shown by what it told
 abbrev ShownBy : List Item → Effect (Option InstanceEntry × MasterRecord) → Type 0
 ShownBy h effect = IsRecordShown effect.parts.1 (h ++ effect.items)
-
--- the item stands first among what was told
-told_first : (x : Item) (h items : List Item) → x ∈ (h ++ x ∷ items)
-unfolding ◌∈◌
-told_first x h items = in_back x h (x ∷ items) (inl refl)
 
 -- ---- take
 none_held : (node : ℕ) → Some node ≡ None → ⊥
@@ -68,7 +52,7 @@ none_held node same = cc
 
 record_taken : (node reading : ℕ) (grant : Grant) (h items : List Item) → IsRecordShown (held_by node grant) (h ++ take_item node reading grant ∷ items)
 record_taken node reading grant h items =
-    let m : take_item node reading grant ∈ (h ++ take_item node reading grant ∷ items) = told_first (take_item node reading grant) h items in
+    let m : take_item node reading grant ∈ (h ++ take_item node reading grant ∷ items) = in_second (take_item node reading grant) h items in
     record {
       vacant = λ none. absurd (none_held node none);
       term = λ n holds. (node, reading, grant.epoch, grant.until, grant.ceiling, m);
@@ -96,7 +80,7 @@ record_renewed master node reading term until h items shown =
     record {
       vacant = old.vacant;
       term = old.term;
-      lease = λ n holds. inr (node, reading, term, told_first (item.Renew node reading term until) h items);
+      lease = λ n holds. inr (node, reading, term, in_second (item.Renew node reading term until) h items);
       ceiling = old.ceiling;
     }
 
@@ -124,7 +108,7 @@ record_extended master node term ceiling h items holds shown =
       vacant = λ none. absurd (is_held master.holder holds none);
       term = old.term;
       lease = old.lease;
-      ceiling = λ n held. (term, inr (node, told_first (item.Extend node term ceiling) h items));
+      ceiling = λ n held. (term, inr (node, in_second (item.Extend node term ceiling) h items));
     }
 
 extend_shown : (w : State) (h : List Item) (node ceiling : ℕ) (fate : Fate) (i : InstanceEntry) (why : Option ExtendRefused) → IsSome w.master.holder → IsRecordShown w.master h → ShownBy h (extend_by node i (fated fate w.master (unless_refused why w.master (record w.master { ceiling = ceiling }))) (kept_items fate why (item.Extend node i.term ceiling ∷ [])) (answered fate extend.StoreFault why ceiling))

@@ -1,6 +1,6 @@
 -- The opening state, of an empty history, has nothing to show.
-use Rattle.std.proofs.Common.{◌≡◌, ℕ, List, [], Option, None, Some, inl, refl, sym, ◌∙◌, ap}
-use Rattle.std.specs.Prelude.{slice_get, replicate}
+use Rattle.std.proofs.Common.{◌≡◌, ℕ, [], Option, None, inl, refl, sym, ◌∙◌, ap}
+use Rattle.std.specs.Prelude.{replicate}
 use Rattle.std.specs.FinMap as map
 use Rattle.std.specs.Ordering.{nat_cmp}
 use Rattle.std.proofs.lemmas.Option.{none-some}

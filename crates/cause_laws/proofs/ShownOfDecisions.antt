@@ -1,8 +1,7 @@
 -- What is due at a decision and at an answer is shown.
-use Rattle.std.proofs.Common.{◌≡◌, ◌≢◌, ℕ, ◌<◌, List, [], Option, None, Some, ◌⊎◌, inl, inr, refl, sym, ◌∙◌, ap, subst, arith}
+use Rattle.std.proofs.Common.{◌≡◌, ℕ, ◌<◌, List, Option, None, Some, ◌⊎◌, inl, inr, refl, sym, ◌∙◌, ap, subst, arith}
 use Rattle.std.proofs.lemmas.List.{get_or_default}
 use Rattle.std.proofs.lemmas.Option.{same_Some, none-some}
-use Rattle.history_book.specs.Members.{◌∈◌}
 use Rattle.history_book.specs.Isolation.{Committed}
 use Rattle.history_book.specs.declared.cause.Cause.{Cause}
 use Rattle.history_book.specs.declared.cause.Cause.TheVariants as cause
@@ -28,7 +27,7 @@ use Rattle.isolation_laws.specs.Sound.{Stands}
 use Rattle.isolation_laws.proofs.Owners.{drawn_once}
 use Rattle.cause_laws.specs.Nodes.{ShownStop}
 use Rattle.cause_laws.specs.Shows.{Shows}
-use Rattle.cause_laws.specs.Due.{Serves, DueStop, DueNoStamp, DueSettled, DueNotYet}
+use Rattle.cause_laws.specs.Due.{DueStop, DueNoStamp, DueSettled, DueNotYet}
 use Rattle.cause_laws.proofs.ShownOfRequests.{node_of, start_of, start_of_begin, term_of, accepted_not_asked, drawn_not_asked}
 
 -- ---- decision

@@ -1,6 +1,5 @@
 -- What a session is told behind the crash of its node is shown by the crash.
-use Rattle.std.proofs.Common.{◌≡◌, ℕ, List, [], ◌∷◌, ◌++◌, Option, None, Some, inl, inr, refl, sym, ◌∙◌, ap, subst}
-use Rattle.stamp_base.specs.SetupNumbers.{SetupNumbers}
+use Rattle.std.proofs.Common.{ℕ, List, ◌∷◌, ◌++◌, inl, inr, refl, sym, ◌∙◌, subst}
 use Rattle.history_book.specs.Members.{◌∈◌}
 use Rattle.history_book.specs.declared.cause.Cause.{Cause}
 use Rattle.history_book.specs.declared.item.Actor.{Actor}
@@ -13,7 +12,7 @@ use Rattle.oracle_parts.specs.declared.instance.Request.{Request}
 use Rattle.oracle_parts.specs.declared.instance.Request.TheVariants.{Begin, Commit}
 use Rattle.oracle_parts.specs.Instance.{InstanceEntry}
 use Rattle.machine.specs.State.{State}
-use Rattle.cause_rules.specs.Asks.{its_node, its_start, since_ask}
+use Rattle.cause_rules.specs.Asks.{since_ask}
 use Rattle.cause_rules.specs.Explained.{ShownCause}
 use Rattle.cause_laws.specs.Shows.{Shows}
 use Rattle.cause_laws.specs.Due.{Serves, DueLoss, cause_of_loss}

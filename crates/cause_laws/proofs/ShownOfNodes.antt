@@ -1,32 +1,23 @@
 -- What is due of a node, of a session that asks and of a sweep is shown.
-use Rattle.std.proofs.Common.{◌≡◌, ◌≢◌, ℕ, zero, suc, ◌+◌, ◌<◌, ◌≤◌, ◌^◌, Bool, true, false, if◌then◌else◌, List, [], ◌∷◌, Option, None, Some, ◌⊎◌, inl, inr, refl, sym, ◌∙◌, ap, subst, arith}
-use Rattle.std.specs.Prelude.{IsSome, is_some, length, slice_get, slice_index_or, count_by}
-use Rattle.std.proofs.lemmas.Bool.{cases_lt}
+use Rattle.std.proofs.Common.{◌≡◌, ℕ, zero, suc, ◌+◌, ◌<◌, if◌then◌else◌, List, [], ◌∷◌, Option, None, Some, refl, sym, ◌∙◌, ap, subst, arith}
+use Rattle.std.specs.Prelude.{is_some, length, slice_index_or, count_by}
 use Rattle.std.proofs.lemmas.List.Recursion.{is_count_by}
-use Rattle.stamp_base.specs.SetupNumbers.{SetupNumbers}
 use Rattle.history_book.specs.declared.item.Item.{Item}
 use Rattle.oracle_parts.specs.declared.instance.Held.{Held}
-use Rattle.oracle_parts.specs.Instance.{InstanceEntry, held_of, in_flight}
-use Rattle.store_parts.specs.Record.{MasterRecord}
+use Rattle.oracle_parts.specs.Instance.{in_flight}
 use Rattle.machine.specs.State.{State}
 use Rattle.cause_rules.specs.OpenAsks.{open_asks_of, open_asks_from, open_asks}
-use Rattle.cause_rules.specs.Posts.{TookLast, HasNone, TermTaken, LeaseGiven, CeilingGiven}
+use Rattle.cause_rules.specs.Posts.{TookLast, HasNone, TermTaken, LeaseGiven}
 use Rattle.cause_rules.specs.Refusals.{ShownFull, ShownGone, ShownEarly, ShownSpent, ShownHolding, ShownOvertaken}
-use Rattle.isolation_laws.specs.Words.{InstanceAt}
 use Rattle.isolation_laws.specs.Sound.{Stands}
-use Rattle.cause_laws.specs.Requests.{held_count}
 use Rattle.cause_laws.specs.Shows.{Shows}
 use Rattle.cause_laws.specs.Due.{DueFull, DueGone, DueNone, DueEarly, DueSpent, DueHolding, DueOvertaken}
+use Rattle.cause_laws.proofs.HeldRecord.{holder_of, replaced_shown, spent_shown}
 
 -- ---- the record
--- a record that is held has what was given
-holder_is : (holder : Option ℕ) → IsSome holder → (n : ℕ) × (holder ≡ Some n)
-holder_is None held = absurd (cc)
-holder_is (Some n) held = (n, refl)
-
 pub early_shown : (w : State) (h : List Item) (reading until : ℕ) → Shows w h → DueEarly w reading until → ShownEarly w.setup h reading until
 early_shown w h reading until shows due =
-    let holder = holder_is w.master.holder due.holder in
+    let holder = holder_of w.master.holder due.holder in
     record { given = subst (λ u. LeaseGiven h u) due.until_is (shows.master.lease holder.0 holder.1); before = due.before }
 
 -- a range of a free record goes past no stamp
@@ -35,29 +26,20 @@ spent_by w h ceiling stands shows due None vacant =
     let none : w.master.ceiling ≡ 0 = shows.master.vacant vacant in
     let range = stands.holds.in_range.range.1 in
     absurd (omega (arith, due.past, due.ceiling_is, none, range))
-spent_by w h ceiling stands shows due (Some n) held =
-    let given = shows.master.ceiling n held in
-    record { term = given.0; given = subst (λ c. CeilingGiven h given.0 c) due.ceiling_is given.1; past = due.past }
+spent_by w h ceiling stands shows due (Some n) held = spent_shown w h ceiling n shows held due.ceiling_is due.past
 
 pub spent_record_shown : (w : State) (h : List Item) (ceiling : ℕ) → Stands w h → Shows w h → DueSpent w ceiling → ShownSpent w.setup h ceiling
 spent_record_shown w h ceiling stands shows due = spent_by w h ceiling stands shows due w.master.holder refl
 
-below : (term now found : ℕ) → term ≤ now → now ≡ found → term ≢ found → term < found
-below term now found at_most is other = elim (cases_lt term found) [
-  | inl less ↦ less
-  | inr not_less ↦ absurd (other (omega (arith, at_most, is, not_less)))
-]
-
 pub overtaken_shown : (w : State) (h : List Item) (node found : ℕ) → Stands w h → Shows w h → DueOvertaken w node found → ShownOvertaken h node found
 overtaken_shown w h node found stands shows due =
-    let counted = stands.holds.numbers.ranges.counted node due.i due.at in
-    let holder = holder_is w.master.holder (stands.holds.numbers.leases.holder node due.i due.at) in
+    let shown = replaced_shown w h node due.i stands shows due.at (λ same. due.other (sym same ∙ due.found_is)) in
     record {
       term = due.i.term;
       epoch = due.i.epoch;
       took = shows.taken.took node due.i due.at;
-      later = below due.i.term w.master.term found counted.1 due.found_is due.other;
-      taken = subst (λ t. TermTaken h t) due.found_is (shows.master.term holder.0 holder.1);
+      later = subst (λ t. due.i.term < t) due.found_is shown.0;
+      taken = subst (λ t. TermTaken h t) due.found_is shown.1;
     }
 
 -- ---- the node

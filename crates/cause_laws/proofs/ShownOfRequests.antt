@@ -1,5 +1,5 @@
 -- What is due of a request is shown: by its ask, its term and its draw, and by the facts of isolation.
-use Rattle.std.proofs.Common.{◌≡◌, ◌≢◌, ℕ, ◌<◌, ◌≤◌, List, [], ◌∷◌, Option, None, Some, ◌⊎◌, inl, inr, refl, sym, ◌∙◌, ap, subst, arith, Contains}
+use Rattle.std.proofs.Common.{◌≡◌, ◌≢◌, ℕ, List, Option, None, Some, refl, sym, ◌∙◌, ap, subst, Contains}
 use Rattle.std.specs.Option.{option_or}
 use Rattle.history_book.specs.declared.item.Item.{Item}
 use Rattle.oracle_parts.specs.declared.buckets.Verdict.{Verdict}
@@ -16,7 +16,7 @@ use Rattle.cause_rules.specs.Asks.{Ask, its_ask, its_term, its_draw, its_start, 
 use Rattle.cause_rules.specs.Written.{written_keys, recorded}
 use Rattle.cause_rules.specs.Commits.{ShownConflict, ShownHidden, ShownOldEpoch, ShownExpired}
 use Rattle.cause_rules.specs.Posts.{TookLast, LeasedUntil}
-use Rattle.isolation_laws.specs.Words.{InstanceAt, HeldBy}
+use Rattle.isolation_laws.specs.Words.{HeldBy}
 use Rattle.isolation_laws.specs.Pending.{InFlight, Pending, Taken}
 use Rattle.isolation_laws.specs.Sound.{Stands}
 use Rattle.isolation_laws.proofs.RecordedCommits.{recorded_rise}

@@ -1,28 +1,24 @@
 -- Each deed keeps that the refusals which instances keep are shown: a later term was taken, or the ceiling is spent.
-use Rattle.std.proofs.Common.{◌≡◌, ◌≢◌, ℕ, ◌+◌, ◌<◌, ◌≤◌, ◌^◌, true, List, ◌++◌, Option, Some, None, inl, inr, refl, sym, subst, arith}
-use Rattle.std.specs.Prelude.{IsSome}
+use Rattle.std.proofs.Common.{◌≡◌, ℕ, ◌+◌, ◌^◌, List, ◌++◌, Option, Some, None, inl, inr, refl, sym, subst}
 use Rattle.std.specs.Option.{option_or}
 use Rattle.std.proofs.lemmas.Bool.{ltb-true}
 use Rattle.std.proofs.lemmas.Option.{same_Some, none-some}
 use Rattle.stamp_base.specs.SetupNumbers.{SetupNumbers}
-use Rattle.store_parts.specs.Record.{is_spent}
 use Rattle.history_book.specs.declared.cause.Cause.{Cause}
 use Rattle.history_book.specs.declared.cause.Cause.TheVariants.{Replaced, Spent}
 use Rattle.history_book.specs.declared.item.Item.{Item}
 use Rattle.oracle_parts.specs.Instance.{InstanceEntry}
 use Rattle.machine.specs.State.{State}
-use Rattle.machine.specs.Events.Take.{rules_of}
-use Rattle.isolation_laws.specs.Words.{InstanceAt}
 use Rattle.isolation_laws.specs.Sound.{Stands}
-use Rattle.cause_rules.specs.Posts.{TermTaken}
 use Rattle.cause_rules.specs.Refusals.{ShownSpent}
 use Rattle.cause_laws.specs.Nodes.{ShownStop, AreShownStops}
 use Rattle.cause_laws.specs.Shows.{Shows}
 use Rattle.cause_laws.proofs.Deeds.{Deed, OfStopped, Stopped, nodes_by, items_by}
 use Rattle.cause_laws.proofs.PostWords.{term_taken_on, ceiling_given_on}
 use Rattle.cause_laws.proofs.PostMoves.{KeptBy, each_by}
+use Rattle.cause_laws.proofs.HeldRecord.{holder_by, replaced_shown, spent_shown}
 
--- ---- what is shown stays so
+-- ---- what is shown stays so, and what the record refuses is shown
 pub spent_on : (setup : SetupNumbers) (h items : List Item) (ceiling : ℕ) → ShownSpent setup h ceiling → ShownSpent setup (h ++ items) ceiling
 spent_on setup h items ceiling k = record { term = k.term; given = ceiling_given_on h items k.term ceiling k.given; past = k.past }
 
@@ -31,31 +27,10 @@ stop_on setup h items term (Replaced found) shown = (shown.0, term_taken_on h it
 stop_on setup h items term (Spent ceiling) shown = spent_on setup h items ceiling shown
 stop_on setup h items term _ shown = absurd shown
 
--- ---- what a held record shows
-pub holder_of : (holder : Option ℕ) → IsSome holder → (n : ℕ) × (holder ≡ Some n)
-holder_of None held = absurd (cc)
-holder_of (Some n) held = (n, refl)
-
-less_than : (a b : ℕ) → a ≤ b → b ≢ a → a < b
-less_than a b within other = grind arith
-
--- an instance has another term than the record, so that a later one was taken
-pub replaced_shown : (w : State) (h : List Item) (node : ℕ) (i : InstanceEntry) → Stands w h → Shows w h → InstanceAt w.nodes node i → w.master.term ≢ i.term → (i.term < w.master.term) × TermTaken h w.master.term
-replaced_shown w h node i stands shows at other =
-    let holder = holder_of w.master.holder (stands.holds.numbers.leases.holder node i at) in
-    (less_than i.term w.master.term (stands.holds.numbers.ranges.counted node i at).1 other, shows.master.term holder.0 holder.1)
-
--- the record has no room for a further range
-pub spent_shown : (w : State) (h : List Item) → Shows w h → IsSome w.master.holder → is_spent (rules_of w.setup) w.master ≡ true → ShownSpent w.setup h w.master.ceiling
-spent_shown w h shows held spent =
-    let holder = holder_of w.master.holder held in
-    let given = shows.master.ceiling holder.0 holder.1 in
-    record { term = given.0; given = given.1; past = ltb-true (2 ^ 62) (w.master.ceiling + w.setup.range) spent }
-
 stopped_shown : (w : State) (h : List Item) (k : Stopped w) → Stands w h → Shows w h → ShownStop w.setup h k.i.term k.why
 stopped_shown w h k stands shows = elim k.by [
   | inl (is, other) ↦ subst (λ why. ShownStop w.setup h k.i.term why) (sym is) (replaced_shown w h k.node k.i stands shows k.at other)
-  | inr (is, own, spent) ↦ subst (λ why. ShownStop w.setup h k.i.term why) (sym is) (spent_shown w h shows (stands.holds.numbers.leases.holder k.node k.i k.at) spent)
+  | inr (is, own, spent) ↦ subst (λ why. ShownStop w.setup h k.i.term why) (sym is) (spent_shown w h w.master.ceiling (holder_by w h k.node k.i stands k.at).0 shows (holder_by w h k.node k.i stands k.at).1 refl (ltb-true (2 ^ 62) (w.master.ceiling + w.setup.range) spent))
 ]
 
 -- ---- all

@@ -1,5 +1,5 @@
 -- All that the history shows of the state, so that refusals can be told by it. There are 16 clients, one for each session.
-use Rattle.std.specs.Prelude.{◌≡◌, ℕ, List, length}
+use Rattle.std.specs.Prelude.{◌≡◌, List, length}
 use Rattle.history_book.specs.declared.item.Item.{Item}
 use Rattle.machine.specs.State.{State}
 use Rattle.cause_rules.specs.Explained.{Explained}

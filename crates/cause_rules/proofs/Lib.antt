@@ -1,0 +1,10 @@
+mod WorkedRefusals
+mod WorkedConflicts
+mod WorkedHidden
+mod WorkedLosses
+mod WorkedPosts
+mod WorkedTerms
+mod WorkedRequests
+mod WorkedFull
+mod WorkedNodes
+mod WorkedActors

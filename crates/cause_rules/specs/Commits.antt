@@ -12,7 +12,6 @@ use Rattle.oracle_parts.specs.Buckets.{place_of, bucket_of, contents, kept_commi
 use Rattle.cause_rules.specs.Asks.{its_node, its_term, its_draw, its_start, since_ask, since_draw}
 use Rattle.cause_rules.specs.Posts.{TookLast, LeasedUntil, TermTaken, CeilingGiven}
 use Rattle.cause_rules.specs.Written.{written_keys, recorded}
-use Rattle.std.specs.Prelude.{Option}
 
 -- the transaction's commit was drawn in the term
 abbrev pub CommitDrawn : List Item → ℕ → ℕ → ℕ → Type 0

@@ -6,3 +6,8 @@ pub mod OpenAsks
 pub mod Commits
 pub mod Refusals
 pub mod Explained
+pub mod WorkedHistories
+pub mod WorkedCommits
+pub mod WorkedTerms
+pub mod WorkedRequests
+pub mod WorkedNodes

@@ -1,5 +1,5 @@
 -- What ties state and history holds after every list of moves with steady readings; so each history is snapshot isolated.
-use Rattle.std.proofs.Common.{◌≡◌, ℕ, max, List, [], ◌∷◌, ◌++◌, append_assoc, Option, Some, None, refl, sym, ◌∙◌, ap, subst}
+use Rattle.std.proofs.Common.{◌≡◌, ℕ, List, [], ◌∷◌, ◌++◌, append_assoc, Option, Some, None, refl, sym, ◌∙◌, ap, subst}
 use Rattle.std.proofs.lemmas.List.{append-nil}
 use Rattle.stamp_base.specs.SetupNumbers.{SetupNumbers, AreInRange}
 use Rattle.port_io.specs.declared.weather.Fate.{Fate}
@@ -7,13 +7,12 @@ use Rattle.history_book.specs.Isolation.{Isolated}
 use Rattle.history_book.specs.declared.item.Item.{Item}
 use Rattle.oracle_parts.specs.Instance.{InstanceEntry}
 use Rattle.machine.specs.declared.event.Event.{Event}
-use Rattle.machine.specs.declared.event.Event.TheVariants as event
 use Rattle.machine.specs.State.{Client, State, opening}
 use Rattle.machine.specs.Machine.{Step, at_post, at_client, at_both, stepped, Move, state_after, items_after, history_after, reading_of, seen_after, IsSteadyAt, AreSteady, Steady}
 use Rattle.isolation_laws.specs.Holds.{Holds}
 use Rattle.isolation_laws.specs.Sound.{Sound, Stands}
 use Rattle.isolation_laws.proofs.Outcomes.{Outcome, OfStill, left_by, told_by_outcome}
-use Rattle.isolation_laws.proofs.NumbersKept.{numbers_kept}
+use Rattle.isolation_laws.proofs.NumbersOfAll.{numbers_kept}
 use Rattle.isolation_laws.proofs.RequestsOfAll.{requests_kept}
 use Rattle.isolation_laws.proofs.MemoryKept.{memory_kept}
 use Rattle.isolation_laws.proofs.CellsKept.{cells_kept}
@@ -25,6 +24,7 @@ use Rattle.isolation_laws.proofs.Inversion.{comes_to}
 use Rattle.isolation_laws.proofs.InversionSound.{sound_kept, opening_sound}
 use Rattle.isolation_laws.proofs.IsolatedStamps.{stamped_kept, fresh_kept, apart_kept}
 use Rattle.isolation_laws.proofs.Opening.{opening_holds}
+use Rattle.machine.proofs.PartsKept.{seen_up}
 
 -- ---- one outcome
 pub setup_kept : (w : State) (o : Outcome w) → (left_by w o).setup ≡ w.setup
@@ -63,28 +63,6 @@ both_seen left seen f none each None client = none
 both_seen left seen f none each (Some post) None = none
 both_seen left seen f none each (Some post) (Some c) = each post c
 
-pub seen_goes_up : (w : State) (e : Event) (fate : Fate) → (stepped w e fate).state.seen ≡ seen_after w.seen (reading_of e)
-seen_goes_up w (event.Tick to) fate = refl
-seen_goes_up w (event.Note actor note) fate = refl
-seen_goes_up w (event.Take node reading) fate = post_seen _ (max w.seen reading) _ refl (λ post. refl) _
-seen_goes_up w (event.Renew node reading) fate = post_seen _ (max w.seen reading) _ refl (λ post. refl) _
-seen_goes_up w (event.Extend node) fate = post_seen w w.seen _ refl (λ post. refl) _
-seen_goes_up w (event.Crash node) fate = post_seen w w.seen _ refl (λ post. refl) _
-seen_goes_up w (event.AskBegin session node) fate = both_seen w w.seen _ refl (λ post c. refl) _ _
-seen_goes_up w (event.AskCommit session node) fate = both_seen w w.seen _ refl (λ post c. refl) _ _
-seen_goes_up w (event.Accept node session reading) fate = both_seen _ (max w.seen reading) _ refl (λ post c. refl) _ _
-seen_goes_up w (event.Decide node session) fate = both_seen w w.seen _ refl (λ post c. refl) _ _
-seen_goes_up w (event.Put node session) fate = post_seen w w.seen _ refl (λ post. refl) _
-seen_goes_up w (event.Answer node session) fate = both_seen w w.seen _ refl (λ post c. refl) _ _
-seen_goes_up w (event.Write session key value) fate = client_seen w w.seen _ refl (λ c. refl) _
-seen_goes_up w (event.Fetch session key) fate = client_seen w w.seen _ refl (λ c. refl) _
-seen_goes_up w (event.Step session) fate = client_seen w w.seen _ refl (λ c. refl) _
-seen_goes_up w (event.Heal session) fate = client_seen w w.seen _ refl (λ c. refl) _
-seen_goes_up w (event.Abort session) fate = client_seen w w.seen _ refl (λ c. refl) _
-seen_goes_up w (event.Vanish session) fate = client_seen w w.seen _ refl (λ c. refl) _
-seen_goes_up w (event.SweepOpen node txn) fate = post_seen w w.seen _ refl (λ post. refl) _
-seen_goes_up w event.SweepStep fate = refl
-
 -- ---- one move
 -- what comes to an outcome keeps them
 come_soundly : (w : State) (h : List Item) (step : Step) → Stands w h → ComesBy w step → Stands step.state (h ++ step.items)
@@ -109,7 +87,7 @@ unfolding AreSteady
 steady_stays w h move moves both steady =
     let step : Step = stepped w move.event move.fate in
     let skew : AreSteady step.state.setup.skew (seen_after w.seen (reading_of move.event)) moves = subst (λ (setup : SetupNumbers). AreSteady setup.skew (seen_after w.seen (reading_of move.event)) moves) (sym (setup_stays w step (comes_by w h move.event move.fate both steady.0))) steady.1 in
-    subst (λ (seen : ℕ). AreSteady step.state.setup.skew seen moves) (sym (seen_goes_up w move.event move.fate)) skew
+    subst (λ (seen : ℕ). AreSteady step.state.setup.skew seen moves) (sym (seen_up w move.event move.fate)) skew
 
 pub steady_now : (w : State) (move : Move) (moves : List Move) → AreSteady w.setup.skew w.seen (move ∷ moves) → IsSteadyAt w.setup.skew w.seen (reading_of move.event)
 unfolding AreSteady

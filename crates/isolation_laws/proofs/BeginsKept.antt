@@ -12,13 +12,16 @@ use Rattle.isolation_laws.specs.Words.{InstanceAt}
 use Rattle.isolation_laws.specs.Quiet.{AllQuiet}
 use Rattle.isolation_laws.specs.Begins.{BeginFacts}
 use Rattle.isolation_laws.specs.Holds.{Holds}
-use Rattle.isolation_laws.proofs.Outcomes.{Outcome, OfStill, OfGranted, OfRenewed, OfExtended, OfCrashed, OfAskedBegin, OfAskedCommit, OfAccepted, OfEnded, OfDrew, OfPlaced, OfNotPlaced, OfAnsweredBegin, OfAnsweredCommit, OfEndedReadOnly, OfWrote, OfWriteFailed, OfAborted, OfVanished, OfHealed, OfFetched, OfReadDropped, OfReadStepped, OfOutcome, OfOutcomeFailed, OfCompleted, OfSweepOpened, OfSwept, OfSweepListed, OfSweepFailed, left_by, told_by_outcome, fetched_turn, read_turn, Renewed, renewed_nodes}
+use Rattle.isolation_laws.proofs.OutcomesOfRecord.{Renewed, renewed_nodes}
+use Rattle.isolation_laws.proofs.OutcomesOfWork.{fetched_turn, read_turn}
+use Rattle.isolation_laws.proofs.Outcomes.{Outcome, OfStill, OfGranted, OfRenewed, OfExtended, OfCrashed, OfAskedBegin, OfAskedCommit, OfAccepted, OfEnded, OfDrew, OfPlaced, OfNotPlaced, OfAnsweredBegin, OfAnsweredCommit, OfEndedReadOnly, OfWrote, OfWriteFailed, OfAborted, OfVanished, OfHealed, OfFetched, OfReadDropped, OfReadStepped, OfOutcome, OfOutcomeFailed, OfCompleted, OfSweepOpened, OfSwept, OfSweepListed, OfSweepFailed, left_by, told_by_outcome}
 use Rattle.isolation_laws.proofs.Lookups.{instance_changed}
-use Rattle.isolation_laws.proofs.NumbersStay.{SameNumbers, IsNumberedAs, numbered_same, numbered_set, numbered_ended, numbered_alike}
-use Rattle.isolation_laws.proofs.OpenAfter.{FewerOpen, fewer_open_crashed, fewer_open_asked_begin, fewer_open_asked_commit, fewer_open_ended, fewer_open_answered_commit, fewer_open_read_only, fewer_open_wrote, fewer_open_write_failed, fewer_open_aborted, fewer_open_vanished, fewer_open_healed, fewer_open_fetched, fewer_open_dropped, fewer_open_read, fewer_open_outcome, fewer_open_outcome_failed, fewer_open_completed}
+use Rattle.isolation_laws.proofs.NumbersStay.{SameNumbers, numbered_same, numbered_set, numbered_ended, numbered_alike, numbered}
+use Rattle.isolation_laws.proofs.ClientsOpen.{FewerOpen, same_open}
+use Rattle.isolation_laws.proofs.OpenAfter.{fewer_open_crashed, fewer_open_asked_begin, fewer_open_asked_commit, fewer_open_ended, fewer_open_answered_commit, fewer_open_read_only, fewer_open_wrote, fewer_open_write_failed, fewer_open_aborted, fewer_open_vanished, fewer_open_healed, fewer_open_fetched, fewer_open_dropped, fewer_open_read, fewer_open_outcome, fewer_open_outcome_failed, fewer_open_completed}
 use Rattle.isolation_laws.proofs.CommitsInFlight.{FewerStanding, IsAcceptedNow, IsDrawnNow}
 use Rattle.isolation_laws.proofs.RequestsAfter.{FewerHeld, held_ended_at, held_changed, held_over}
-use Rattle.isolation_laws.proofs.Standing.{standing_same, standing_alike, standing_ended, standing_granted, standing_renewed, standing_extended, standing_asked_begin, standing_asked_commit, standing_accepted, standing_over, standing_placed, standing_not_placed, held_alike, held_granted, held_renewed, held_extended, held_placed, held_not_placed}
+use Rattle.isolation_laws.proofs.Standing.{standing_same, standing_alike, standing_ended, standing_granted, standing_renewed, standing_extended, standing_asked_begin, standing_asked_commit, standing_accepted, standing_over, standing_settled, held_alike, held_granted, held_renewed, held_extended, held_settled}
 use Rattle.isolation_laws.proofs.AsksBefore.{AsksNothing, quiet_no_ask, placed_no_ask, one_no_ask, turn_no_ask}
 use Rattle.isolation_laws.proofs.FreshBegins.{begins_of, fresh_fewer, fresh_asked_begin, fresh_asked_commit, fresh_accepted, fresh_drew}
 use Rattle.isolation_laws.proofs.SettledBelow.{KeepsRanges, numbers_keep, below_fewer, below_granted, below_extended, below_drew, below_answered_begin}
@@ -46,15 +49,9 @@ begins_stay w h items clients opens none holds = begins_on w h items w.nodes cli
 begins_alone : (w : State) (h items : List Item) (clients : List Client) → FewerOpen w.clients clients → AllQuiet items → Holds w h → BeginFacts clients w.nodes (h ++ items)
 begins_alone w h items clients opens quiet holds = begins_stay w h items clients opens (λ s. quiet_no_ask s items quiet) holds
 
-same_open : (clients : List Client) → FewerOpen clients clients
-same_open clients s t e o = o
-
 -- a request is over
 over : (nodes : List (Option InstanceEntry)) (n s : ℕ) (i : InstanceEntry) → InstanceAt nodes n i → Fewer nodes (slice_set nodes n (Some (without_request i s)))
 over nodes n s i at = record { held = held_changed nodes n i (without_request i s) at (held_over i s); accepted = standing_over IsAcceptedNow nodes n s i at; drawn = standing_over IsDrawnNow nodes n s i at }
-
-numbered : (i j : InstanceEntry) → j.term ≡ i.term → j.epoch ≡ i.epoch → j.last ≡ i.last → j.ceiling ≡ i.ceiling → j.until ≡ i.until → IsNumberedAs i j
-numbered i j term epoch last ceiling until = record { term = term; epoch = epoch; last = last; ceiling = ceiling; until = until }
 
 at_node : (w : State) (n : ℕ) (i j : InstanceEntry) → InstanceAt w.nodes n i → j.term ≡ i.term → j.epoch ≡ i.epoch → j.last ≡ i.last → j.ceiling ≡ i.ceiling → j.until ≡ i.until → SameNumbers w.nodes (slice_set w.nodes n (Some j))
 at_node w n i j at term epoch last ceiling until = numbered_set w.nodes n i j at (numbered i j term epoch last ceiling until)
@@ -97,8 +94,8 @@ begins_kept w h (OfAccepted k) holds = record {
 }
 begins_kept w h (OfEnded k) holds = begins_on w h k.items _ _ (over w.nodes k.node k.session k.i k.at) (at_node w k.node k.i _ k.at refl refl refl refl refl) (fewer_open_ended w k) (λ s. quiet_no_ask s k.items k.quiet) holds
 begins_kept w h (OfDrew k) holds = record { fresh = fresh_drew w h k holds; below = below_drew w h k holds }
-begins_kept w h (OfPlaced k) holds = begins_on w h _ _ w.clients (record { held = held_placed w k; accepted = standing_placed IsAcceptedNow w k (λ is. is); drawn = standing_placed IsDrawnNow w k (λ is. is) }) (at_node w k.it.node k.it.i _ k.it.at refl refl refl refl refl) (same_open w.clients) (λ s. placed_no_ask s k.it.start k.it.commit k.items k.quiet) holds
-begins_kept w h (OfNotPlaced k) holds = begins_on w h k.items _ w.clients (record { held = held_not_placed w k; accepted = standing_not_placed IsAcceptedNow w k (λ is. is); drawn = standing_not_placed IsDrawnNow w k (λ is. is) }) (at_node w k.it.node k.it.i _ k.it.at refl refl refl refl refl) (same_open w.clients) (λ s. quiet_no_ask s k.items k.quiet) holds
+begins_kept w h (OfPlaced k) holds = begins_on w h _ _ w.clients (record { held = held_settled w k.it k.by; accepted = standing_settled IsAcceptedNow w k.it k.by (λ is. is); drawn = standing_settled IsDrawnNow w k.it k.by (λ is. is) }) (at_node w k.it.node k.it.i _ k.it.at refl refl refl refl refl) (same_open w.clients) (λ s. placed_no_ask s k.it.start k.it.commit k.items k.quiet) holds
+begins_kept w h (OfNotPlaced k) holds = begins_on w h k.items _ w.clients (record { held = held_settled w k.it k.by; accepted = standing_settled IsAcceptedNow w k.it k.by (λ is. is); drawn = standing_settled IsDrawnNow w k.it k.by (λ is. is) }) (at_node w k.it.node k.it.i _ k.it.at refl refl refl refl refl) (same_open w.clients) (λ s. quiet_no_ask s k.items k.quiet) holds
 begins_kept w h (OfAnsweredBegin k) holds = record {
   fresh = fresh_fewer w.nodes _ h _ (begins_of w.nodes _ (over w.nodes k.node k.session k.i k.at).held) (standing_over IsAcceptedNow w.nodes k.node k.session k.i k.at) (standing_over IsDrawnNow w.nodes k.node k.session k.i k.at) (λ s. one_no_ask s _ refl) holds.begins.fresh;
   below = below_answered_begin w h k holds;

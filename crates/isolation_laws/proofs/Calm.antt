@@ -2,7 +2,6 @@
 use Rattle.std.proofs.Common.{◌≡◌, ℕ, List, [], ◌∷◌, ◌++◌, append_assoc, Some, None, inl, inr, refl, sym, ◌∙◌, ap, subst}
 use Rattle.std.specs.Option.{option_or}
 use Rattle.std.proofs.lemmas.List.{append-nil}
-use Rattle.std.proofs.lemmas.List.Elements.{All-nil, All-cons}
 use Rattle.std.proofs.lemmas.Bool.{cases_eq, eq-eqb, ne_eqb}
 use Rattle.history_book.specs.Isolation.{Committed, last_write, written_by, WasListed}
 use Rattle.history_book.specs.declared.item.StoreStep.TheVariants.{Keys}
@@ -11,9 +10,12 @@ use Rattle.history_book.specs.declared.item.Item.TheVariants.{Write, Read, Place
 use Rattle.history_book.proofs.MemberLemmas.{in_old}
 use Rattle.history_book.proofs.HistoryLemmas.{last_write-push}
 use Rattle.client_parts.specs.KeyRead.{ReadTurn, Asks, Answers}
+use Rattle.oracle_parts.specs.declared.instance.Request.{Request}
+use Rattle.oracle_parts.specs.declared.instance.Request.TheVariants.{Begin as BeginRequest, Commit}
+use Rattle.machine.specs.Events.Decide.{draw_item}
 use Rattle.machine.specs.Events.Fetch.{found_of, read_items}
 use Rattle.isolation_laws.specs.Quiet.{Quiet, AllQuiet}
-use Rattle.isolation_laws.proofs.Pushed.{old_placed, last_write-quiet}
+use Rattle.isolation_laws.proofs.Pushed.{old_placed, last_write-quiet, one_quiet}
 use Rattle.isolation_laws.proofs.CommitsInFlight.{GoesOn, goes_on}
 
 pub record Calm (h g : List Item) : Type 0 where
@@ -44,28 +46,36 @@ calm_more h g f one two = record {
   writes = λ t k. two.writes t k ∙ one.writes t k;
 }
 
-written_by_none : (x : Item) (t k : ℕ) → ((s u j : ℕ) (value : List ℕ) → x ≡ Write s u j value → ⊥) → written_by t k x ≡ None
-written_by_none (Write s u j value) t k other = absurd (other s u j value refl)
-written_by_none _ t k other = refl
+-- an item that writes nothing and places nothing
+pub record WritesNone (x : Item) : Type 0 where
+  pub writes : (t k : ℕ) → written_by t k x ≡ None
+  pub placed : (t c : ℕ) → Placed t c ≡ x → ⊥
 
-pub last_write-other : (h : List Item) (x : Item) (t k : ℕ) → ((s u j : ℕ) (value : List ℕ) → x ≡ Write s u j value → ⊥) → last_write (h ++ x ∷ []) t k ≡ last_write h t k
-last_write-other h x t k other = last_write-push h x t k ∙ ap (λ o. option_or o (last_write h t k)) (written_by_none x t k other)
+pub last_write-other : (h : List Item) (x : Item) (t k : ℕ) → written_by t k x ≡ None → last_write (h ++ x ∷ []) t k ≡ last_write h t k
+last_write-other h x t k none = last_write-push h x t k ∙ ap (λ o. option_or o (last_write h t k)) none
 
-pub calm_push : (h : List Item) (x : Item) → ((s u j : ℕ) (value : List ℕ) → x ≡ Write s u j value → ⊥) → ((t c : ℕ) → Placed t c ≡ x → ⊥) → Calm h (h ++ x ∷ [])
-calm_push h x write placed = record {
+pub calm_push : (h : List Item) (x : Item) → WritesNone x → Calm h (h ++ x ∷ [])
+calm_push h x none = record {
   on = goes_on h (x ∷ []);
-  placed = λ t c m. in_old (Placed t c) x h (placed t c) m;
-  writes = λ t k. last_write-other h x t k write;
+  placed = λ t c m. in_old (Placed t c) x h (none.placed t c) m;
+  writes = λ t k. last_write-other h x t k (none.writes t k);
 }
+
+draw_writes_none : (node term : ℕ) (request : Request) (stamp : ℕ) → WritesNone (draw_item node term request stamp)
+draw_writes_none node term (BeginRequest session) stamp = record { writes = λ t k. refl; placed = λ t c is. cc }
+draw_writes_none node term (Commit session start keys) stamp = record { writes = λ t k. refl; placed = λ t c is. cc }
+
+pub calm_draw : (h : List Item) (node term : ℕ) (request : Request) (stamp : ℕ) → Calm h (h ++ draw_item node term request stamp ∷ [])
+calm_draw h node term request stamp = calm_push h (draw_item node term request stamp) (draw_writes_none node term request stamp)
 
 calm_read : (h : List Item) (s b k : ℕ) (turn : ReadTurn) → Calm h (h ++ read_items s b k turn)
 calm_read h s b k (Asks r) = calm_none h
-calm_read h s b k (Answers a) = calm_push h (Read s b k (found_of a.found)) (λ r u j v is. cc) (λ u c is. cc)
+calm_read h s b k (Answers a) = calm_push h (Read s b k (found_of a.found)) (record { writes = λ t j. refl; placed = λ t c is. cc })
 
 -- a quiet item, and what a read has come to
 pub calm_turn : (h : List Item) (x : Item) (s b k : ℕ) (turn : ReadTurn) → Quiet x → Calm h (h ++ x ∷ read_items s b k turn)
 calm_turn h x s b k turn quiet =
-    let one : Calm h (h ++ x ∷ []) = calm_quiet h (x ∷ []) (All-cons Quiet x [] quiet (All-nil Quiet)) in
+    let one : Calm h (h ++ x ∷ []) = calm_quiet h (x ∷ []) (one_quiet x quiet) in
     subst (λ g. Calm h g) (append_assoc h (x ∷ []) (read_items s b k turn)) (calm_more h (h ++ x ∷ []) ((h ++ x ∷ []) ++ read_items s b k turn) one (calm_read (h ++ x ∷ []) s b k turn))
 
 -- ---- a write

@@ -1,8 +1,7 @@
 -- Every outcome keeps the facts on the cells and the commit table.
-use Rattle.std.proofs.Common.{◌≡◌, ℕ, ◌+◌, if◌then◌else◌, Bool, true, false, List, [], ◌∷◌, ◌++◌, Option, Some, None, inl, inr, refl, sym, ◌∙◌, ap, subst}
+use Rattle.std.proofs.Common.{◌≡◌, ℕ, ◌+◌, if◌then◌else◌, Bool, true, false, List, ◌++◌, Option, Some, None, inl, inr, refl, ◌∙◌, ap, subst}
 use Rattle.history_book.specs.Isolation.{last_write}
 use Rattle.history_book.specs.declared.item.Item.{Item}
-use Rattle.history_book.specs.declared.item.Item.TheVariants.{Write, Draw}
 use Rattle.store_parts.specs.declared.rows.Cell.{Cell}
 use Rattle.store_parts.specs.Rows.{Row, looked, with_shadow}
 use Rattle.store_parts.specs.Pairs.{Pairs}
@@ -14,18 +13,19 @@ use Rattle.client_parts.specs.KeyRead.{settling_of}
 use Rattle.oracle_parts.specs.Instance.{InstanceEntry}
 use Rattle.machine.specs.State.{Client, State}
 use Rattle.machine.specs.StoreSteps.{rows_after, pairs_after}
-use Rattle.isolation_laws.specs.Words.{Begun}
 use Rattle.isolation_laws.specs.Quiet.{AllQuiet}
 use Rattle.isolation_laws.specs.Cells.{CellFacts}
 use Rattle.isolation_laws.specs.Holds.{Holds}
 use Rattle.isolation_laws.proofs.NumbersKept.{in_flight_of, drawn_pending}
-use Rattle.isolation_laws.proofs.NumbersOfDraws.{start_drawn, commit_drawn, asker_of, draw_item_is}
-use Rattle.isolation_laws.proofs.Outcomes.{Drew, drew_items, PlacedOne, placed_state, placed_items, AnsweredBegin, answered_begin_state, answered_begin_items, Healed, read_turn, fetched_turn, Outcome, OfStill, OfGranted, OfRenewed, OfExtended, OfCrashed, OfAskedBegin, OfAskedCommit, OfAccepted, OfEnded, OfDrew, OfPlaced, OfNotPlaced, OfAnsweredBegin, OfAnsweredCommit, OfEndedReadOnly, OfWrote, OfWriteFailed, OfAborted, OfVanished, OfHealed, OfFetched, OfReadDropped, OfReadStepped, OfOutcome, OfOutcomeFailed, OfCompleted, OfSweepOpened, OfSwept, OfSweepListed, OfSweepFailed, left_by, told_by_outcome}
-use Rattle.isolation_laws.proofs.PendingAfter.{fewer_still, fewer_granted, fewer_renewed, fewer_extended, fewer_crashed, fewer_asked_begin, fewer_ended_one, fewer_placed, fewer_not_placed, fewer_answered_commit}
+use Rattle.isolation_laws.proofs.OutcomesOfStamps.{Drew, drew_items, PlacedOne, placed_state, placed_items, AnsweredBegin, answered_begin_state, answered_begin_items}
+use Rattle.isolation_laws.proofs.OutcomesOfSessions.{Healed}
+use Rattle.isolation_laws.proofs.OutcomesOfWork.{read_turn, fetched_turn}
+use Rattle.isolation_laws.proofs.Outcomes.{Outcome, OfStill, OfGranted, OfRenewed, OfExtended, OfCrashed, OfAskedBegin, OfAskedCommit, OfAccepted, OfEnded, OfDrew, OfPlaced, OfNotPlaced, OfAnsweredBegin, OfAnsweredCommit, OfEndedReadOnly, OfWrote, OfWriteFailed, OfAborted, OfVanished, OfHealed, OfFetched, OfReadDropped, OfReadStepped, OfOutcome, OfOutcomeFailed, OfCompleted, OfSweepOpened, OfSwept, OfSweepListed, OfSweepFailed, left_by, told_by_outcome}
+use Rattle.isolation_laws.proofs.PendingFewer.{fewer_still, fewer_granted, fewer_renewed, fewer_extended, fewer_crashed, fewer_asked_begin, fewer_ended_one, fewer_settled, fewer_answered_commit}
 use Rattle.isolation_laws.proofs.OpenAfter.{fewer_open_crashed, fewer_open_asked_begin, fewer_open_ended, fewer_open_answered_commit, fewer_open_read_only, fewer_open_aborted, fewer_open_vanished, fewer_open_healed, fewer_open_fetched, fewer_open_dropped, fewer_open_read, fewer_open_outcome, fewer_open_outcome_failed, fewer_open_completed}
-use Rattle.isolation_laws.proofs.RequestsOfItems.{begin_held}
+use Rattle.isolation_laws.proofs.RequestsOfBegins.{start_unbegun}
 use Rattle.isolation_laws.proofs.LiveAfter.{FewerLive, fewer_live, same_live, live_by_clients, live_by_nodes, live_asked_commit, live_accepted, live_drew, live_answered_begin}
-use Rattle.isolation_laws.proofs.Calm.{Calm, calm_none, calm_quiet, calm_turn, calm_push}
+use Rattle.isolation_laws.proofs.Calm.{Calm, calm_none, calm_quiet, calm_turn, calm_draw}
 use Rattle.isolation_laws.proofs.WrittenKeys.{last_write-none}
 use Rattle.isolation_laws.proofs.CellsStay.{cells_calm, cells_shadow}
 use Rattle.isolation_laws.proofs.CellsMove.{cells_placed}
@@ -46,28 +46,19 @@ quietly : (w : State) (h items : List Item) (clients : List Client) (nodes : Lis
 quietly w h items clients nodes quiet fewer holds = goes w h (h ++ items) clients nodes w.rows w.pairs fewer (calm_quiet h items quiet) holds.cells
 
 -- ---- a stamp is drawn
-draw_is_no_write : (r n term t s u j : ℕ) (c : Option ℕ) (value : List ℕ) → Draw r n term t c ≡ Write s u j value → ⊥
-draw_is_no_write r n term t s u j c value same = cc
-
-calm_draw : (h : List Item) (r n term t : ℕ) (c : Option ℕ) → Calm h (h ++ Draw r n term t c ∷ [])
-calm_draw h r n term t c = calm_push h (Draw r n term t c) (λ s u j value is. draw_is_no_write r n term t s u j c value is) (λ u d is. cc)
-
 pub calm_drew : (w : State) (h : List Item) (k : Drew w) → Calm h (h ++ drew_items w k)
-calm_drew w h k = subst (λ (x : Item). Calm h (h ++ x ∷ [])) (sym (draw_item_is k.node k.i.term k.held.request (k.i.last + 1))) (calm_draw h (asker_of k.held.request) k.node k.i.term (start_drawn k.held.request (k.i.last + 1)) (commit_drawn k.held.request (k.i.last + 1)))
+calm_drew w h k = calm_draw h k.node k.i.term k.held.request (k.i.last + 1)
 
 -- ---- a begin is answered: its transaction has neither rows nor writes
-pub start_begun : (w : State) (h : List Item) (k : AnsweredBegin w) (s : ℕ) → Holds w h → Begun h s k.start → ⊥
-start_begun w h k s holds begun = holds.requests.starting.unbegun k.node k.session k.start s k.i k.at (begin_held w h k holds) begun
-
 start_no_row : (w : State) (h : List Item) (k : AnsweredBegin w) (j : ℕ) → Holds w h → looked w.rows j k.start ≡ None
 start_no_row w h k j holds = by (looked w.rows j k.start) refl
   where
     by : (found : Option Cell) → looked w.rows j k.start ≡ found → looked w.rows j k.start ≡ None
     by None e = e
-    by (Some cell) e = let was = holds.cells.rows_are.begun j k.start cell e in absurd (start_begun w h k was.0 holds was.1)
+    by (Some cell) e = let was = holds.cells.rows_are.begun j k.start cell e in absurd (start_unbegun w h k was.0 holds was.1)
 
 start_no_write : (w : State) (h : List Item) (k : AnsweredBegin w) (j : ℕ) → Holds w h → last_write h k.start j ≡ None
-start_no_write w h k j holds = last_write-none h k.start j (λ s value m. let was = holds.numbers.begun.writes s k.start j value m in start_begun w h k was.0 holds was.1)
+start_no_write w h k j holds = last_write-none h k.start j (λ s value m. let was = holds.numbers.begun.writes s k.start j value m in start_unbegun w h k was.0 holds was.1)
 
 cells_answered_begin : (w : State) (h : List Item) (k : AnsweredBegin w) → Holds w h → CellFacts (answered_begin_state w k).clients (answered_begin_state w k).nodes w.rows w.pairs (h ++ answered_begin_items w k)
 cells_answered_begin w h k holds = cells_calm w.clients (answered_begin_state w k).clients w.nodes (answered_begin_state w k).nodes w.rows w.pairs h (h ++ answered_begin_items w k)
@@ -79,7 +70,7 @@ cells_answered_begin w h k holds = cells_calm w.clients (answered_begin_state w 
 -- ---- a commit is placed
 cells_placed_one : (w : State) (h : List Item) (k : PlacedOne w) → Holds w h → CellFacts w.clients (placed_state w k).nodes w.rows (placed_state w k).pairs (h ++ placed_items w k)
 cells_placed_one w h k holds = cells_placed w.clients w.nodes (placed_state w k).nodes w.rows w.pairs h (h ++ placed_items w k) k.it.start k.it.commit
-    (live_by_nodes w.clients w.nodes (placed_state w k).nodes (fewer_placed w k))
+    (live_by_nodes w.clients w.nodes (placed_state w k).nodes (fewer_settled w k.it k.by))
     (is_placing h k.items k.it.start k.it.commit k.quiet)
     (inr (record { coming = in_flight_of w k.it; pending = drawn_pending w k.it holds.requests.requests; start_is = refl }))
     k.free holds.cells
@@ -123,7 +114,7 @@ cells_kept w h (OfAccepted k) holds = quietly w h k.items _ _ k.quiet (live_acce
 cells_kept w h (OfEnded k) holds = quietly w h k.items _ _ k.quiet (fewer_live w.clients _ w.nodes _ (fewer_open_ended w k) (fewer_ended_one w k)) holds
 cells_kept w h (OfDrew k) holds = goes w h _ _ _ w.rows w.pairs (live_drew w k) (calm_drew w h k) holds.cells
 cells_kept w h (OfPlaced k) holds = cells_placed_one w h k holds
-cells_kept w h (OfNotPlaced k) holds = quietly w h k.items _ _ k.quiet (live_by_nodes w.clients w.nodes _ (fewer_not_placed w k)) holds
+cells_kept w h (OfNotPlaced k) holds = quietly w h k.items _ _ k.quiet (live_by_nodes w.clients w.nodes _ (fewer_settled w k.it k.by)) holds
 cells_kept w h (OfAnsweredBegin k) holds = cells_answered_begin w h k holds
 cells_kept w h (OfAnsweredCommit k) holds = quietly w h k.items _ _ k.quiet (fewer_live w.clients _ w.nodes _ (fewer_open_answered_commit w k) (fewer_answered_commit w k)) holds
 cells_kept w h (OfEndedReadOnly k) holds = quietly w h k.items _ _ k.quiet (live_by_clients w.clients _ w.nodes (fewer_open_read_only w k)) holds

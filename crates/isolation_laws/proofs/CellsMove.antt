@@ -20,7 +20,7 @@ use Rattle.isolation_laws.specs.Cells.{IsSwept, AreShadowed, CellFacts}
 use Rattle.isolation_laws.proofs.CommitsInFlight.{GoesOn}
 use Rattle.isolation_laws.proofs.LiveAfter.{FewerLive}
 use Rattle.isolation_laws.proofs.Calm.{listed_goes_on}
-use Rattle.isolation_laws.proofs.CellsStay.{here_or_else}
+use Rattle.isolation_laws.proofs.StoresStay.{same_or_other}
 
 -- ---- a bare row is erased
 -- a row that was erased
@@ -44,7 +44,7 @@ erased_here rows k t ordered = by (looked rows k t) refl
     by (Some cell) e = shadow_is cell cell.shadow refl e
 
 pub erase_cases : (rows : List Row) (k t j u : ℕ) → AreOrdered rows → IsErased rows k t j u ⊎ (looked (without_bare rows k t) j u ≡ looked rows j u)
-erase_cases rows k t j u ordered = elim (here_or_else k t j u) [
+erase_cases rows k t j u ordered = elim (same_or_other k t j u) [
   | inl here ↦ subst (λ q. IsErased rows k t q u ⊎ (looked (without_bare rows k t) q u ≡ looked rows q u)) here.0 (subst (λ q. IsErased rows k t k q ⊎ (looked (without_bare rows k t) k q ≡ looked rows k q)) here.1 (erased_here rows k t ordered))
   | inr other ↦ inr (looked-without_other rows k t j u other)
 ]
@@ -90,7 +90,7 @@ cells_erase clients nodes rows pairs h k t shadows swept facts = record {
 
 -- ---- a row is written
 pub put_cases : (rows : List Row) (k t : ℕ) (value : List ℕ) (j u : ℕ) → ((cell : Cell) → looked rows k t ≡ Some cell → cell.shadow ≡ None) → ((k ≡ j) × (t ≡ u) × (looked (put_row rows k t value) j u ≡ Some (bare_cell t value))) ⊎ ((k ≡ j → t ≡ u → ⊥) × (looked (put_row rows k t value) j u ≡ looked rows j u))
-put_cases rows k t value j u bare = elim (here_or_else k t j u) [
+put_cases rows k t value j u bare = elim (same_or_other k t j u) [
   | inl here ↦ inl (here.0, here.1, subst (λ q. looked (put_row rows k t value) q u ≡ Some (bare_cell t value)) here.0 (subst (λ q. looked (put_row rows k t value) k q ≡ Some (bare_cell t value)) here.1 (looked-put_same rows k t value bare)))
   | inr other ↦ inr (other, looked-put_other rows k t value j u other)
 ]

@@ -17,9 +17,10 @@ use Rattle.machine.specs.State.{Client}
 use Rattle.isolation_laws.specs.Words.{Marked, HasRecord, cell_with}
 use Rattle.isolation_laws.specs.Pending.{Live}
 use Rattle.isolation_laws.specs.Cells.{IsSwept, AreShadowed, CellFacts}
-use Rattle.isolation_laws.proofs.Owners.{one_commit}
+use Rattle.isolation_laws.proofs.OnceEach.{one_commit}
 use Rattle.isolation_laws.proofs.CommitsInFlight.{GoesOn}
 use Rattle.isolation_laws.proofs.Calm.{Calm, listed_goes_on}
+use Rattle.isolation_laws.proofs.StoresStay.{same_or_other}
 
 -- ---- a longer history without writes and placed commits
 -- what is live was live, or has neither cells nor writes
@@ -83,7 +84,7 @@ cells_pairs clients nodes rows old new h moves facts = record {
   };
 }
 
-no_record_marked : (c : ℕ) → Some InvalidMark ≡ Some (CommittedMark c) → ⊥
+pub no_record_marked : (c : ℕ) → Some InvalidMark ≡ Some (CommittedMark c) → ⊥
 no_record_marked c same = cc
 
 -- a mark, where there is no entry
@@ -116,17 +117,8 @@ removal_moves rows pairs h t shadows = record {
 }
 
 -- ---- a row gets its shadow
-pub here_or_else : (k t j u : ℕ) → ((k ≡ j) × (t ≡ u)) ⊎ (k ≡ j → t ≡ u → ⊥)
-here_or_else k t j u = elim (cases_eq k j) [
-  | inl a ↦ elim (cases_eq t u) [
-    | inl b ↦ inl (a, b)
-    | inr b ↦ inr (λ p q. b q)
-  ]
-  | inr a ↦ inr (λ p q. a p)
-]
-
 pub shadow_cases : (rows : List Row) (k t c j u : ℕ) → ((k ≡ j) × (t ≡ u) × (looked (with_shadow rows k t c) j u ≡ shadowed c (looked rows j u))) ⊎ (looked (with_shadow rows k t c) j u ≡ looked rows j u)
-shadow_cases rows k t c j u = elim (here_or_else k t j u) [
+shadow_cases rows k t c j u = elim (same_or_other k t j u) [
   | inl here ↦ inl (here.0, here.1, subst (λ q. looked (with_shadow rows k t c) q u ≡ shadowed c (looked rows q u)) here.0 (subst (λ q. looked (with_shadow rows k t c) k q ≡ shadowed c (looked rows k q)) here.1 (looked-shadow_same rows k t c)))
   | inr other ↦ inr (looked-shadow_other rows k t c j u other)
 ]

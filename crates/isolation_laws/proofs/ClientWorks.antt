@@ -19,7 +19,7 @@ use Rattle.machine.specs.Clients.{undo_of, finish_of, client_begun, client_asked
 use Rattle.machine.specs.Events.Fetch.{client_read}
 use Rattle.isolation_laws.specs.Words.{written_keys}
 use Rattle.isolation_laws.proofs.WrittenKeys.{wrote_in_keys}
-use Rattle.isolation_laws.proofs.Works.{Works, works_idle}
+use Rattle.isolation_laws.proofs.Works.{Works, works_idle, no_settling}
 
 -- ---- nothing under way
 pub works_freed : (rows : List Row) (h : List Item) (c : Client) → Works rows h (client_freed c)
@@ -47,7 +47,7 @@ pub works_asked : (rows : List Row) (h : List Item) (c : Client) → Works rows 
 works_asked rows h c = works_idle rows h (client_asked c) (record { no_work = refl; no_heal = refl; not_completing = λ undo is. asked_completing c.entry.state undo is })
 
 -- ---- a transaction that ends without a commit
-asks_same : (a b : List Ask) → Completes a ≡ Completes b → a ≡ b
+pub asks_same : (a b : List Ask) → Completes a ≡ Completes b → a ≡ b
 asks_same a b same = cc
 
 aborted_works : (rows : List Row) (h : List Item) (e : SessionEntry) (t : ℕ) (keys : List ℕ) → e.start ≡ Some t → ((d : ℕ) → Committed h t d → ⊥) → Works rows h (record { entry = aborted_by e keys; under_way = undo_of (Some t) keys; heal = None })
@@ -162,9 +162,6 @@ read_over_heals h key start epoch cells = turn_at_heals h key start epoch (after
 reads_is_settles : (r : Reading) (x : Settling) → Reads r ≡ Settles x → ⊥
 reads_is_settles r x same = cc
 
-nothing_is_settles : (x : Settling) → Nothing ≡ Settles x → ⊥
-nothing_is_settles x same = cc
-
 pub works_read : (rows : List Row) (h : List Item) (c : Client) (turn : ReadTurn) → IsPlain c → TurnHeals h turn → Works rows h (client_read c turn)
 works_read rows h c (Asks r) plain heals = works_plain rows h (record c { under_way = Reads r; heal = None }) (record { not_completing = plain.not_completing; not_outcome = plain.not_outcome }) (reads_is_settles r) (λ k t d offer. absurd (none-some (k, t, d) offer))
-works_read rows h c (Answers a) plain heals = works_plain rows h (record c { under_way = Nothing; heal = a.heal }) (record { not_completing = plain.not_completing; not_outcome = plain.not_outcome }) nothing_is_settles heals
+works_read rows h c (Answers a) plain heals = works_plain rows h (record c { under_way = Nothing; heal = a.heal }) (record { not_completing = plain.not_completing; not_outcome = plain.not_outcome }) no_settling heals

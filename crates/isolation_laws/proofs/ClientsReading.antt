@@ -23,8 +23,12 @@ use Rattle.machine.specs.Events.Write.{client_wrote}
 use Rattle.isolation_laws.specs.Words.{ClientAt, OpenAt}
 use Rattle.isolation_laws.specs.Reads.{AreReading}
 use Rattle.isolation_laws.proofs.Lookups.{client_set, one_client}
-use Rattle.isolation_laws.proofs.Outcomes.{Crashed, crashed_state, AskedBegin, asked_begin_state, AskedCommit, asked_commit_state, Ended, ended_state, AnsweredBegin, answered_begin_state, answered_client, AnsweredCommit, answered_commit_state, EndedReadOnly, read_only_state, WroteOne, wrote_state, WriteFailed, write_failed_state, Aborted, aborted_state, Vanished, vanished_state, Healed, healed_state, ReadDropped, read_dropped_state, OutcomeStepped, outcome_state, OutcomeFailed, outcome_failed_state, CompletedOne, completed_state}
-use Rattle.isolation_laws.proofs.OpenAfter.{gone_cases, crashed_at}
+use Rattle.isolation_laws.proofs.OutcomesOfRequests.{Crashed, crashed_state, AskedBegin, asked_begin_state, AskedCommit, asked_commit_state, Ended, ended_state}
+use Rattle.isolation_laws.proofs.OutcomesOfStamps.{AnsweredBegin, answered_begin_state, answered_client, AnsweredCommit, answered_commit_state}
+use Rattle.isolation_laws.proofs.OutcomesOfSessions.{EndedReadOnly, read_only_state, WroteOne, wrote_state, WriteFailed, write_failed_state, Aborted, aborted_state, Vanished, vanished_state, Healed, healed_state}
+use Rattle.isolation_laws.proofs.OutcomesOfWork.{ReadDropped, read_dropped_state, OutcomeStepped, outcome_state, OutcomeFailed, outcome_failed_state, CompletedOne, completed_state}
+use Rattle.isolation_laws.proofs.ClientsOpen.{gone_cases}
+use Rattle.isolation_laws.proofs.OpenAfter.{crashed_at}
 
 abbrev pub FewerReading : List Client → List Client → Type 0
 FewerReading old new = (s : ℕ) (c : Client) (r : Reading) → ClientAt new s c → c.under_way ≡ Reads r → ClientAt old s c

@@ -16,7 +16,7 @@ use Rattle.machine.specs.State.{Client}
 use Rattle.isolation_laws.specs.Words.{InstanceAt, HeldBy, OpenAt, Begun, DrewStart, DrewCommit, HasDrawn, written_keys}
 use Rattle.isolation_laws.specs.Pending.{Stage, Waits, Taken, Has, InFlight, Pending}
 use Rattle.isolation_laws.specs.Requests.{AreStarting, IsDrawnSoFar, ArePending, IsSettled, AreSettled, AreAccepted, AreOpen}
-use Rattle.isolation_laws.proofs.OpenAfter.{FewerOpen}
+use Rattle.isolation_laws.proofs.ClientsOpen.{FewerOpen}
 use Rattle.isolation_laws.proofs.PendingAfter.{FewerPending}
 
 -- ---- what a longer history must not bring

@@ -1,7 +1,6 @@
 -- The first ask of a completion and of a sweep: that it has what it needs, and what is left behind it.
 use Rattle.std.proofs.Common.{◌≡◌, ℕ, List, [], ◌∷◌, Option, Some, None, ◌⊎◌, inl, inr, refl, sym, ◌∙◌, ap, subst}
 use Rattle.std.proofs.lemmas.Option.{same_Some, none-some}
-use Rattle.stamp_base.specs.declared.stores.Mark.TheVariants.{Committed as CommittedMark, Invalid as InvalidMark}
 use Rattle.history_book.specs.Members.{◌∈◌}
 use Rattle.history_book.specs.Isolation.{Committed, Wrote, last_write}
 use Rattle.history_book.specs.declared.item.Item.{Item}
@@ -19,12 +18,13 @@ use Rattle.isolation_laws.specs.Cells.{AreShadowed}
 use Rattle.isolation_laws.specs.UnderWay.{HasShadow, IsFinish, IsSweptAt}
 use Rattle.isolation_laws.specs.Holds.{Holds}
 use Rattle.isolation_laws.proofs.StoreMoves.{AskFits, has_shadow_set, keeps_shadow}
+use Rattle.isolation_laws.proofs.CellsStay.{no_record_marked}
 
 -- ---- the first ask of a completion
 head_same : (a b : Ask) (xs ys : List Ask) → a ∷ xs ≡ b ∷ ys → (a ≡ b) × (xs ≡ ys)
 head_same a b xs ys same = (cc, cc)
 
-no_asks : (a : Ask) (xs : List Ask) → a ∷ xs ≡ [] → ⊥
+pub no_asks : (a : Ask) (xs : List Ask) → a ∷ xs ≡ [] → ⊥
 no_asks a xs same = cc
 
 pub finish_first : (t c : ℕ) (left : List ℕ) (asked : Ask) (asks : List Ask) → asked ∷ asks ≡ finish_asks t c left → ((left ≡ []) × (asked ≡ ask.Remove t) × (asks ≡ [])) ⊎ ((k : ℕ) × (ks : List ℕ) × (left ≡ k ∷ ks) × (asked ≡ ask.Shadow k t c) × (asks ≡ finish_asks t c ks))
@@ -102,13 +102,9 @@ finish_next w h t c asked asks holds finish = elim (finish_first t c finish.left
 ]
 
 -- ---- the first ask of a sweep
--- what is marked has no record, so what of it is placed has all its shadows
-record_unmarked : (c : ℕ) → Some InvalidMark ≡ Some (CommittedMark c) → ⊥
-record_unmarked c same = cc
-
 pub marked_shadows : (w : State) (h : List Item) (t : ℕ) → Holds w h → Marked w.pairs t → (c : ℕ) → Committed h t c → AreShadowed w.rows h t c
 marked_shadows w h t holds marked c placed = elim (holds.cells.placed.found t c placed) [
-  | inl has ↦ absurd (record_unmarked c (sym marked ∙ has))
+  | inl has ↦ absurd (no_record_marked c (sym marked ∙ has))
   | inr all ↦ all
 ]
 

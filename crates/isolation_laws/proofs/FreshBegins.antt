@@ -15,12 +15,14 @@ use Rattle.isolation_laws.specs.Words.{InstanceAt, HeldBy}
 use Rattle.isolation_laws.specs.Begins.{AreFreshBegins}
 use Rattle.isolation_laws.specs.Holds.{Holds}
 use Rattle.isolation_laws.proofs.Lookups.{instance_changed, heldby_changed}
-use Rattle.isolation_laws.proofs.Outcomes.{AskedBegin, asked_begin_state, asked_begin_items, AskedCommit, asked_commit_state, Accepted, accepted_state, Drew, drew_instance, drew_state, drew_items}
+use Rattle.isolation_laws.proofs.OutcomesOfRequests.{AskedBegin, asked_begin_state, asked_begin_items, AskedCommit, asked_commit_state, Accepted, accepted_state}
+use Rattle.isolation_laws.proofs.OutcomesOfStamps.{Drew, drew_instance, drew_state, drew_items}
 use Rattle.isolation_laws.proofs.Owners.{accepts_now, placed_below_last}
 use Rattle.isolation_laws.proofs.CommitsInFlight.{FewerStanding, IsAcceptedNow, IsDrawnNow}
 use Rattle.isolation_laws.proofs.RequestsAfter.{FewerHeld, HoldsNew, new_held, none_held, free_waits}
 use Rattle.isolation_laws.proofs.Standing.{standing_asked_begin, standing_asked_commit, standing_accepted, standing_drew, held_accepted, held_drew}
 use Rattle.isolation_laws.proofs.AsksBefore.{AsksNothing, quiet_no_ask, draw_no_ask, other_no_ask, ask_stays, ask_last, before_stays}
+use Rattle.isolation_laws.proofs.PendingAfter.{begin_is_no_commit, drawn_same}
 
 -- begins that are held were held, wherever they stood
 abbrev pub FewerBegins : List (Option InstanceEntry) → List (Option InstanceEntry) → Type 0
@@ -80,14 +82,11 @@ fresh_asked_begin w h k holds =
     }
 
 -- ---- a commit is asked
-commit_is_no_begin : (s r t : ℕ) (keys : List ℕ) → Begin s ≡ Commit r t keys → ⊥
-commit_is_no_begin s r t keys same = cc
-
 begins_asked_commit : (w : State) (k : AskedCommit w) → FewerBegins w.nodes (asked_commit_state w k).nodes
 begins_asked_commit w k n s j p at held =
     let new : HoldsNew w.nodes (asked_commit_state w k).nodes k.session k.node (Commit k.session k.start k.c.entry.keys) = new_held w.nodes k.session k.node k.i _ k.at in
     elim (new.each n s j (Begin s) p at held) [
-      | inl now ↦ absurd (commit_is_no_begin s k.session k.start k.c.entry.keys now.2)
+      | inl now ↦ absurd (begin_is_no_commit s k.session k.start k.c.entry.keys now.2)
       | inr was ↦ (was.0, p, was.1, was.2)
     ]
 
@@ -117,9 +116,6 @@ fresh_accepted w h k holds =
     }
 
 -- ---- a start is drawn: it is the one after the last stamp
-drawn_same : (a b : ℕ) → progress.Drawn a ≡ progress.Drawn b → a ≡ b
-drawn_same a b same = cc
-
 drew_fresh : (w : State) (h : List Item) (k : Drew w) (s b t c : ℕ) → Holds w h → HeldBy (drew_instance w k) s (Begin s) (progress.Drawn b) → Committed (before_ask s h) t c → c < b
 drew_fresh w h k s b t c holds held before =
     let fresh : AreFreshBegins w.nodes h = holds.begins.fresh in

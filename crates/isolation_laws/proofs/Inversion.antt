@@ -1,5 +1,5 @@
 -- Each event of the machine comes to one outcome.
-use Rattle.std.proofs.Common.{◌≡◌, ℕ, ◌≤◌, max, List, [], Option, Some, None, refl, arith}
+use Rattle.std.proofs.Common.{◌≡◌, ℕ, ◌≤◌, max, List, [], Option, Some, None, refl}
 use Rattle.std.specs.Prelude.{slice_get}
 use Rattle.port_io.specs.declared.weather.Fate.{Fate}
 use Rattle.history_book.specs.declared.item.Item.{Item}
@@ -29,15 +29,19 @@ use Rattle.machine.specs.Events.SweepOpen.{sweep_open_on}
 use Rattle.isolation_laws.specs.Words.{ClientAt}
 use Rattle.isolation_laws.specs.Holds.{Holds}
 use Rattle.isolation_laws.specs.Sound.{Sound}
-use Rattle.isolation_laws.proofs.InversionParts.{ComesTo, ComesBy, none_quiet, one_quiet, still, still_all, nodes_same}
-use Rattle.isolation_laws.proofs.InversionOfSessions.{for_client, for_cells, abort_at, vanish_at, write_at, fetch_at, heal_at_client}
-use Rattle.isolation_laws.proofs.InversionOfRecord.{for_record, take_at, renew_at_post, extend_at_post}
+use Rattle.isolation_laws.proofs.InversionParts.{ComesTo, ComesBy, none_quiet, still, still_all, nodes_same}
+use Rattle.isolation_laws.proofs.InversionOfSessions.{for_client, for_cells, abort_at, vanish_at, write_at, heal_at_client}
+use Rattle.isolation_laws.proofs.InversionOfFetches.{fetch_at}
+use Rattle.isolation_laws.proofs.InversionOfRecord.{for_record, take_at, renew_at_post}
+use Rattle.isolation_laws.proofs.InversionOfExtensions.{extend_at_post}
 use Rattle.isolation_laws.proofs.InversionOfAsks.{for_clients, crash_at, for_ask, ask_begin_at, ask_commit_at}
 use Rattle.isolation_laws.proofs.InversionOfRequests.{for_request, accept_at, decide_at}
 use Rattle.isolation_laws.proofs.InversionOfAnswers.{for_table, put_at, answer_at}
 use Rattle.isolation_laws.proofs.InversionOfSteps.{for_stores}
 use Rattle.isolation_laws.proofs.InversionOfWork.{step_at_client}
 use Rattle.isolation_laws.proofs.InversionOfSweeps.{for_sweep, sweep_open_at_post, sweep_step_at}
+use Rattle.isolation_laws.proofs.Orders.{max_left}
+use Rattle.isolation_laws.proofs.Pushed.{one_quiet}
 
 -- ---- what names no node or session does nothing
 nothing_done : (w : State) (seen : ℕ) → w.seen ≤ seen → ComesTo w (record w { seen = seen }) []
@@ -45,9 +49,6 @@ nothing_done w seen up = still w seen w.nodes (record w { seen = seen }) [] up (
 
 nothing_at_all : (w : State) → ComesTo w w []
 nothing_at_all w = still_all w w [] none_quiet refl
-
-max_left : (a b : ℕ) → a ≤ max a b
-max_left a b = omega arith
 
 -- ---- the parts that an event looks up
 post_comes : (w left : State) (node : ℕ) (f : Option InstanceEntry → Step) → ComesTo w left [] → ((post : Option InstanceEntry) → slice_get w.nodes node ≡ Some post → ComesBy w (f post)) → (found : Option (Option InstanceEntry)) → slice_get w.nodes node ≡ found → ComesBy w (at_post left found f)

@@ -31,9 +31,11 @@ use Rattle.machine.specs.Events.Put.{to_place_by, to_place, put_by, put_commit, 
 use Rattle.machine.specs.Events.Answer.{answer_by, answer_on}
 use Rattle.isolation_laws.specs.Words.{InstanceAt, ClientAt}
 use Rattle.isolation_laws.specs.Quiet.{Quiet, AllQuiet}
-use Rattle.isolation_laws.proofs.Outcomes.{AtDrawn, answered_client, OfPlaced, OfNotPlaced, OfAnsweredBegin, OfAnsweredCommit}
-use Rattle.isolation_laws.proofs.InversionParts.{ComesTo, ComesBy, none_quiet, one_quiet, refusal_quiet, still, still_post, client_back, nodes_alike, alike_told}
+use Rattle.isolation_laws.proofs.OutcomesOfStamps.{AtDrawn, answered_client}
+use Rattle.isolation_laws.proofs.Outcomes.{OfPlaced, OfNotPlaced, OfAnsweredBegin, OfAnsweredCommit}
+use Rattle.isolation_laws.proofs.InversionParts.{ComesTo, ComesBy, none_quiet, refusal_quiet, still, still_post, client_back, nodes_alike, alike_told}
 use Rattle.isolation_laws.proofs.InversionOfRequests.{for_request, Served, decide_still, told_quiet}
+use Rattle.isolation_laws.proofs.Pushed.{one_quiet}
 
 -- ---- put
 abbrev pub for_table : State → ℕ → Effect (Option InstanceEntry × Pairs) → Step

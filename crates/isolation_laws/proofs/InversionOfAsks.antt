@@ -27,8 +27,9 @@ use Rattle.isolation_laws.specs.Words.{InstanceAt, ClientAt}
 use Rattle.isolation_laws.specs.Quiet.{Quiet, AllQuiet}
 use Rattle.isolation_laws.proofs.Lookups.{set_same}
 use Rattle.isolation_laws.proofs.Outcomes.{OfCrashed, OfAskedBegin, OfAskedCommit, OfEndedReadOnly}
-use Rattle.isolation_laws.proofs.InversionParts.{ComesTo, ComesBy, none_quiet, one_quiet, refusal_quiet, still_post, still_both}
+use Rattle.isolation_laws.proofs.InversionParts.{ComesTo, ComesBy, none_quiet, refusal_quiet, still_post, still_both}
 use Rattle.isolation_laws.proofs.InversionOfSessions.{work_open, open_by_work}
+use Rattle.isolation_laws.proofs.Pushed.{one_quiet}
 
 -- ---- crash
 abbrev pub for_clients : State → ℕ → Effect (Option InstanceEntry × List Client) → Step

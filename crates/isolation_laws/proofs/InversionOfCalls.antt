@@ -18,8 +18,9 @@ use Rattle.client_parts.specs.declared.resolve.SettlePoint.TheVariants as point
 use Rattle.client_parts.specs.Resolve.{ask_at}
 use Rattle.machine.specs.StoreSteps.{rows_after, pairs_after, entry_of, mark_item, step_item, mark_kept, effect_items}
 use Rattle.isolation_laws.specs.Quiet.{Quiet, AllQuiet}
-use Rattle.isolation_laws.proofs.Outcomes.{MayHaveMarked}
-use Rattle.isolation_laws.proofs.InversionParts.{none_quiet, one_quiet}
+use Rattle.isolation_laws.proofs.OutcomesOfWork.{MayHaveMarked}
+use Rattle.isolation_laws.proofs.InversionParts.{none_quiet}
+use Rattle.isolation_laws.proofs.Pushed.{one_quiet}
 
 -- the step lists no keys
 abbrev pub NoList : Ask → Type 0

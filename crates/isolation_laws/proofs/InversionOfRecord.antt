@@ -1,5 +1,5 @@
--- What the calls on the master record come to: a take, a renewal, an extension.
-use Rattle.std.proofs.Common.{◌≡◌, ℕ, ◌+◌, ◌≤◌, ◌==◌, max, Bool, true, false, if◌then◌else◌, List, [], ◌∷◌, Option, Some, None, refl, ap, arith}
+-- What a take and a renewal come to.
+use Rattle.std.proofs.Common.{[], ◌≡◌, ℕ, ◌==◌, max, Bool, true, false, if◌then◌else◌, List, ◌∷◌, Option, Some, None, refl, ap}
 use Rattle.std.specs.Prelude.{slice_get, slice_set}
 use Rattle.std.specs.Option.{option_or}
 use Rattle.std.proofs.lemmas.Bool.{eqb-true}
@@ -17,9 +17,7 @@ use Rattle.store_parts.specs.declared.record.TakeRefused.{TakeRefused}
 use Rattle.store_parts.specs.declared.record.TakeRefused.TheVariants as take
 use Rattle.store_parts.specs.declared.record.RenewRefused.{RenewRefused}
 use Rattle.store_parts.specs.declared.record.RenewRefused.TheVariants as renew
-use Rattle.store_parts.specs.declared.record.ExtendRefused.{ExtendRefused}
-use Rattle.store_parts.specs.declared.record.ExtendRefused.TheVariants as extend
-use Rattle.store_parts.specs.Record.{MasterRecord, take_refused, granted, held_by, unless_refused, renew_refused, renewed_until, extend_refused, is_spent, answered}
+use Rattle.store_parts.specs.Record.{MasterRecord, take_refused, granted, held_by, unless_refused, renew_refused, renewed_until, answered}
 use Rattle.oracle_parts.specs.Instance.{InstanceEntry}
 use Rattle.oracle_parts.specs.InstanceSteps.{IsStop, instance_stopped}
 use Rattle.machine.specs.State.{State}
@@ -27,27 +25,26 @@ use Rattle.machine.specs.Effect.{Effect, kept_items}
 use Rattle.machine.specs.Machine.{Step, step_by, with_post, with_reading}
 use Rattle.machine.specs.Events.Take.{rules_of, take_item, take_by, take_on}
 use Rattle.machine.specs.Events.Renew.{renew_by, renew_on}
-use Rattle.machine.specs.Events.Extend.{extend_by, extend_on}
 use Rattle.isolation_laws.specs.Words.{InstanceAt}
 use Rattle.isolation_laws.specs.Quiet.{AllQuiet}
 use Rattle.isolation_laws.specs.Sound.{StopOf}
 use Rattle.isolation_laws.proofs.Lookups.{set_same}
-use Rattle.isolation_laws.proofs.Outcomes.{Alike, OfGranted, OfRenewed, OfExtended}
-use Rattle.isolation_laws.proofs.InversionParts.{ComesTo, ComesBy, one_quiet, two_quiet, refusal_quiet, still, still_post, nodes_alike}
+use Rattle.isolation_laws.proofs.OutcomesOfRecord.{Renewed, Granted, Alike}
+use Rattle.isolation_laws.proofs.Outcomes.{OfGranted, OfRenewed}
+use Rattle.isolation_laws.proofs.InversionParts.{ComesTo, ComesBy, two_quiet, refusal_quiet, still, still_post, nodes_alike}
+use Rattle.isolation_laws.proofs.Orders.{max_left}
+use Rattle.isolation_laws.proofs.Pushed.{one_quiet}
 
 -- the effect on a node and the master record
 abbrev pub for_record : State → ℕ → Effect (Option InstanceEntry × MasterRecord) → Step
 for_record w node effect = step_by effect (λ (p : Option InstanceEntry × MasterRecord). record (with_post w node p.0) { master = p.1 })
-
-max_at_least : (a b : ℕ) → a ≤ max a b
-max_at_least a b = omega arith
 
 -- the instance keeps a refusal of the master record
 stop_kept : (old : Option Cause) (why : Cause) → IsStop why → StopOf old → StopOf (option_or old (Some why))
 stop_kept None why is was = is
 stop_kept (Some first) why is was = was
 
-alike_stopped : (i : InstanceEntry) (why : Cause) → IsStop why → Alike i (instance_stopped i why)
+pub alike_stopped : (i : InstanceEntry) (why : Cause) → IsStop why → Alike i (instance_stopped i why)
 alike_stopped i why is = record {
   term = refl;
   epoch = refl;
@@ -60,25 +57,29 @@ alike_stopped i why is = record {
 }
 
 -- what stands at the node was put back, beside another master record
-put_back : (w : State) (node seen : ℕ) (post : Option InstanceEntry) (master : MasterRecord) → slice_get w.nodes node ≡ Some post → record (with_post w node post) { seen = seen; master = master } ≡ record w { seen = seen; master = master }
+pub put_back : (w : State) (node seen : ℕ) (post : Option InstanceEntry) (master : MasterRecord) → slice_get w.nodes node ≡ Some post → record (with_post w node post) { seen = seen; master = master } ≡ record w { seen = seen; master = master }
 put_back w node seen post master at = ap (λ (nodes : List (Option InstanceEntry)). record w { seen = seen; nodes = nodes; master = master }) (set_same w.nodes node post at)
 
 -- ---- take
 -- nothing was granted
 take_still : (w : State) (node reading : ℕ) (items : List Item) → slice_get w.nodes node ≡ Some None → AllQuiet items → ComesTo w (record (with_post (with_reading w reading) node None) { master = w.master }) items
-take_still w node reading items vacant quiet = still_post w node (max w.seen reading) None items vacant (max_at_least w.seen reading) quiet
+take_still w node reading items vacant quiet = still_post w node (max w.seen reading) None items vacant (max_left w.seen reading) quiet
+
+-- the outcome of a take that is free
+abbrev taken : (w : State) (node reading : ℕ) (failed : Bool) (items : List Item) → slice_get w.nodes node ≡ Some None → take_refused (rules_of w.setup) w.master reading ≡ None → AllQuiet items → Granted w
+taken w node reading failed items vacant free quiet = record {
+  node = node;
+  reading = reading;
+  vacant = vacant;
+  free = free;
+  failed = failed;
+  items = items;
+  quiet = quiet;
+}
 
 take_why : (w : State) (node reading : ℕ) (fate : Fate) → slice_get w.nodes node ≡ Some None → (why : Option TakeRefused) → take_refused (rules_of w.setup) w.master reading ≡ why → let grant : Grant = granted (rules_of w.setup) w.master reading in ComesBy w (for_record (with_reading w reading) node (take_by w.setup node reading (fated fate w.master (unless_refused why w.master (held_by node grant))) (kept_items fate why (take_item node reading grant ∷ [])) (answered fate take.StoreFault why grant)))
 take_why w node reading Works vacant None free = (
-  OfGranted (record {
-    node = node;
-    reading = reading;
-    vacant = vacant;
-    free = free;
-    failed = false;
-    items = take_item node reading (granted (rules_of w.setup) w.master reading) ∷ [];
-    quiet = one_quiet (take_item node reading (granted (rules_of w.setup) w.master reading)) refl;
-  }),
+  OfGranted (taken w node reading false (take_item node reading (granted (rules_of w.setup) w.master reading) ∷ []) vacant free (one_quiet (take_item node reading (granted (rules_of w.setup) w.master reading)) refl)),
   refl,
   refl,
 )
@@ -87,15 +88,7 @@ take_why w node reading Works vacant (Some (take.Early at until)) free = take_st
 take_why w node reading Works vacant (Some (take.Spent ceiling)) free = take_still w node reading _ vacant (refusal_quiet (Node node) (cause.Spent ceiling))
 take_why w node reading FailsUnchanged vacant why free = take_still w node reading _ vacant (one_quiet (item.Fault (Node node) Master) refl)
 take_why w node reading FailsApplied vacant None free = (
-  OfGranted (record {
-    node = node;
-    reading = reading;
-    vacant = vacant;
-    free = free;
-    failed = true;
-    items = take_item node reading (granted (rules_of w.setup) w.master reading) ∷ item.Fault (Node node) Master ∷ [];
-    quiet = two_quiet (take_item node reading (granted (rules_of w.setup) w.master reading)) (item.Fault (Node node) Master) refl refl;
-  }),
+  OfGranted (taken w node reading true (take_item node reading (granted (rules_of w.setup) w.master reading) ∷ item.Fault (Node node) Master ∷ []) vacant free (two_quiet (take_item node reading (granted (rules_of w.setup) w.master reading)) (item.Fault (Node node) Master) refl refl)),
   put_back w node (max w.seen reading) None (held_by node (granted (rules_of w.setup) w.master reading)) vacant,
   refl,
 )
@@ -103,7 +96,7 @@ take_why w node reading FailsApplied vacant (Some why) free = take_still w node 
 
 pub take_at : (w : State) (node reading : ℕ) (fate : Fate) (post : Option InstanceEntry) → slice_get w.nodes node ≡ Some post → ComesBy w (for_record (with_reading w reading) node (take_on w.setup node reading fate post w.master))
 take_at w node reading fate None at = take_why w node reading fate at (take_refused (rules_of w.setup) w.master reading) refl
-take_at w node reading fate (Some i) at = still_post w node (max w.seen reading) (Some i) _ at (max_at_least w.seen reading) (refusal_quiet (Node node) (cause.Holding i.term))
+take_at w node reading fate (Some i) at = still_post w node (max w.seen reading) (Some i) _ at (max_left w.seen reading) (refusal_quiet (Node node) (cause.Holding i.term))
 
 -- ---- renew
 -- the record has the instance's term where it refuses nothing
@@ -116,99 +109,38 @@ renew_own r term go = eqb-true r.term term (if_own (r.term == term) (renew.Repla
 
 -- nothing was renewed
 renew_still : (w : State) (node reading : ℕ) (i : InstanceEntry) (items : List Item) → InstanceAt w.nodes node i → AllQuiet items → ComesTo w (record (with_post (with_reading w reading) node (Some i)) { master = w.master }) items
-renew_still w node reading i items at quiet = still_post w node (max w.seen reading) (Some i) items at (max_at_least w.seen reading) quiet
+renew_still w node reading i items at quiet = still_post w node (max w.seen reading) (Some i) items at (max_left w.seen reading) quiet
+
+-- the outcome of a renewal of the record's own instance
+abbrev renewed : (w : State) (node reading : ℕ) (i : InstanceEntry) (failed : Bool) (items : List Item) → InstanceAt w.nodes node i → renew_refused w.master i.term ≡ None → AllQuiet items → Renewed w
+renewed w node reading i failed items at free quiet = record {
+  node = node;
+  reading = reading;
+  i = i;
+  at = at;
+  own = renew_own w.master i.term free;
+  failed = failed;
+  items = items;
+  quiet = quiet;
+}
 
 renew_why : (w : State) (node reading : ℕ) (fate : Fate) (i : InstanceEntry) → InstanceAt w.nodes node i → (why : Option RenewRefused) → renew_refused w.master i.term ≡ why → let until : ℕ = renewed_until (rules_of w.setup) w.master reading in ComesBy w (for_record (with_reading w reading) node (renew_by node reading i (fated fate w.master (unless_refused why w.master (record w.master { until = until }))) (kept_items fate why (item.Renew node reading i.term until ∷ [])) (answered fate renew.StoreFault why until)))
 renew_why w node reading Works i at None free = (
-  OfRenewed (record {
-    node = node;
-    reading = reading;
-    i = i;
-    at = at;
-    own = renew_own w.master i.term free;
-    failed = false;
-    items = item.Renew node reading i.term (renewed_until (rules_of w.setup) w.master reading) ∷ [];
-    quiet = one_quiet (item.Renew node reading i.term (renewed_until (rules_of w.setup) w.master reading)) refl;
-  }),
+  OfRenewed (renewed w node reading i false (item.Renew node reading i.term (renewed_until (rules_of w.setup) w.master reading) ∷ []) at free (one_quiet (item.Renew node reading i.term (renewed_until (rules_of w.setup) w.master reading)) refl)),
   refl,
   refl,
 )
 renew_why w node reading Works i at (Some renew.StoreFault) free = renew_still w node reading i _ at (one_quiet (item.Fault (Node node) Master) refl)
 renew_why w node reading Works i at (Some (renew.Replaced found)) free =
-    still w (max w.seen reading) (slice_set w.nodes node (Some (instance_stopped i (cause.Replaced found)))) _ _ (max_at_least w.seen reading) (nodes_alike w.nodes node i (instance_stopped i (cause.Replaced found)) at (alike_stopped i (cause.Replaced found) tt)) (refusal_quiet (Node node) (cause.Replaced found)) refl
+    still w (max w.seen reading) (slice_set w.nodes node (Some (instance_stopped i (cause.Replaced found)))) _ _ (max_left w.seen reading) (nodes_alike w.nodes node i (instance_stopped i (cause.Replaced found)) at (alike_stopped i (cause.Replaced found) tt)) (refusal_quiet (Node node) (cause.Replaced found)) refl
 renew_why w node reading FailsUnchanged i at why free = renew_still w node reading i _ at (one_quiet (item.Fault (Node node) Master) refl)
 renew_why w node reading FailsApplied i at None free = (
-  OfRenewed (record {
-    node = node;
-    reading = reading;
-    i = i;
-    at = at;
-    own = renew_own w.master i.term free;
-    failed = true;
-    items = item.Renew node reading i.term (renewed_until (rules_of w.setup) w.master reading) ∷ item.Fault (Node node) Master ∷ [];
-    quiet = two_quiet (item.Renew node reading i.term (renewed_until (rules_of w.setup) w.master reading)) (item.Fault (Node node) Master) refl refl;
-  }),
+  OfRenewed (renewed w node reading i true (item.Renew node reading i.term (renewed_until (rules_of w.setup) w.master reading) ∷ item.Fault (Node node) Master ∷ []) at free (two_quiet (item.Renew node reading i.term (renewed_until (rules_of w.setup) w.master reading)) (item.Fault (Node node) Master) refl refl)),
   put_back w node (max w.seen reading) (Some i) (record w.master { until = renewed_until (rules_of w.setup) w.master reading }) at,
   refl,
 )
 renew_why w node reading FailsApplied i at (Some why) free = renew_still w node reading i _ at (one_quiet (item.Fault (Node node) Master) refl)
 
 pub renew_at_post : (w : State) (node reading : ℕ) (fate : Fate) (post : Option InstanceEntry) → slice_get w.nodes node ≡ Some post → ComesBy w (for_record (with_reading w reading) node (renew_on w.setup node reading fate post w.master))
-renew_at_post w node reading fate None at = still_post w node (max w.seen reading) None _ at (max_at_least w.seen reading) (refusal_quiet (Node node) (cause.NoOracle node))
+renew_at_post w node reading fate None at = still_post w node (max w.seen reading) None _ at (max_left w.seen reading) (refusal_quiet (Node node) (cause.NoOracle node))
 renew_at_post w node reading fate (Some i) at = renew_why w node reading fate i at (renew_refused w.master i.term) refl
-
--- ---- extend
-if_room : {E : Type 0} (own spent : Bool) (full other : E) → (if own then (if spent then Some full else None) else Some other) ≡ None → (own ≡ true) × (spent ≡ false)
-if_room true false full other go = (refl, refl)
-if_room true true full other go = absurd (cc)
-if_room false spent full other go = absurd (cc)
-
-pub extend_room : (w : State) (term : ℕ) → extend_refused (rules_of w.setup) w.master term ≡ None → (w.master.term ≡ term) × (is_spent (rules_of w.setup) w.master ≡ false)
-extend_room w term go =
-    let room = if_room (w.master.term == term) (is_spent (rules_of w.setup) w.master) (extend.Spent w.master.ceiling) (extend.Replaced w.master.term) go in
-    (eqb-true w.master.term term room.0, room.1)
-
-extend_still : (w : State) (node : ℕ) (i : InstanceEntry) (items : List Item) → InstanceAt w.nodes node i → AllQuiet items → ComesTo w (record (with_post w node (Some i)) { master = w.master }) items
-extend_still w node i items at quiet = still_post w node w.seen (Some i) items at (omega arith) quiet
-
-extend_stops : (w : State) (node : ℕ) (i : InstanceEntry) (why : Cause) (items : List Item) → InstanceAt w.nodes node i → IsStop why → AllQuiet items → ComesTo w (record (with_post w node (Some (instance_stopped i why))) { master = w.master }) items
-extend_stops w node i why items at is quiet = still w w.seen (slice_set w.nodes node (Some (instance_stopped i why))) _ items (omega arith) (nodes_alike w.nodes node i (instance_stopped i why) at (alike_stopped i why is)) quiet refl
-
-extend_why : (w : State) (node : ℕ) (fate : Fate) (i : InstanceEntry) → InstanceAt w.nodes node i → (why : Option ExtendRefused) → extend_refused (rules_of w.setup) w.master i.term ≡ why → let ceiling : ℕ = w.master.ceiling + w.setup.range in ComesBy w (for_record w node (extend_by node i (fated fate w.master (unless_refused why w.master (record w.master { ceiling = ceiling }))) (kept_items fate why (item.Extend node i.term ceiling ∷ [])) (answered fate extend.StoreFault why ceiling)))
-extend_why w node Works i at None free = (
-  OfExtended (record {
-    node = node;
-    i = i;
-    at = at;
-    own = (extend_room w i.term free).0;
-    room = (extend_room w i.term free).1;
-    failed = false;
-    items = item.Extend node i.term (w.master.ceiling + w.setup.range) ∷ [];
-    quiet = one_quiet (item.Extend node i.term (w.master.ceiling + w.setup.range)) refl;
-  }),
-  refl,
-  refl,
-)
-extend_why w node Works i at (Some extend.StoreFault) free = extend_still w node i _ at (one_quiet (item.Fault (Node node) Master) refl)
-extend_why w node Works i at (Some (extend.Replaced found)) free = extend_stops w node i (cause.Replaced found) _ at tt (refusal_quiet (Node node) (cause.Replaced found))
-extend_why w node Works i at (Some (extend.Spent ceiling)) free = extend_stops w node i (cause.Spent ceiling) _ at tt (refusal_quiet (Node node) (cause.Spent ceiling))
-extend_why w node FailsUnchanged i at why free = extend_still w node i _ at (one_quiet (item.Fault (Node node) Master) refl)
-extend_why w node FailsApplied i at None free = (
-  OfExtended (record {
-    node = node;
-    i = i;
-    at = at;
-    own = (extend_room w i.term free).0;
-    room = (extend_room w i.term free).1;
-    failed = true;
-    items = item.Extend node i.term (w.master.ceiling + w.setup.range) ∷ item.Fault (Node node) Master ∷ [];
-    quiet = two_quiet (item.Extend node i.term (w.master.ceiling + w.setup.range)) (item.Fault (Node node) Master) refl refl;
-  }),
-  put_back w node w.seen (Some i) (record w.master { ceiling = w.master.ceiling + w.setup.range }) at,
-  refl,
-)
-extend_why w node FailsApplied i at (Some why) free = extend_still w node i _ at (one_quiet (item.Fault (Node node) Master) refl)
-
-pub extend_at_post : (w : State) (node : ℕ) (fate : Fate) (post : Option InstanceEntry) → slice_get w.nodes node ≡ Some post → ComesBy w (for_record w node (extend_on w.setup node fate post w.master))
-extend_at_post w node fate None at = still_post w node w.seen None _ at (omega arith) (refusal_quiet (Node node) (cause.NoOracle node))
-extend_at_post w node fate (Some i) at = extend_why w node fate i at (extend_refused (rules_of w.setup) w.master i.term) refl

@@ -28,7 +28,9 @@ use Rattle.isolation_laws.specs.Words.{InstanceAt, ClientAt}
 use Rattle.isolation_laws.specs.Quiet.{Quiet, AllQuiet}
 use Rattle.isolation_laws.specs.Sound.{StopOf, AreStops}
 use Rattle.isolation_laws.proofs.Outcomes.{OfAccepted, OfEnded, OfDrew}
-use Rattle.isolation_laws.proofs.InversionParts.{ComesTo, ComesBy, none_quiet, one_quiet, refusal_quiet, still, still_both, client_back, nodes_alike, alike_told}
+use Rattle.isolation_laws.proofs.InversionParts.{ComesTo, ComesBy, none_quiet, refusal_quiet, still, still_both, client_back, nodes_alike, alike_told}
+use Rattle.isolation_laws.proofs.Orders.{max_left}
+use Rattle.isolation_laws.proofs.Pushed.{one_quiet}
 
 abbrev pub for_request : State → ℕ → ℕ → Effect (Option InstanceEntry × Client) → Step
 for_request w node session effect = step_by effect (λ (p : Option InstanceEntry × Client). with_client (with_post w node p.0) session p.1)
@@ -38,9 +40,6 @@ pub record Served (w : State) (node session : ℕ) (i : InstanceEntry) (held : H
   pub at : InstanceAt w.nodes node i
   pub client_at : ClientAt w.clients session c
   pub has : held_of i session ≡ Some held
-
-at_least_max : (a b : ℕ) → a ≤ max a b
-at_least_max a b = omega arith
 
 -- the request is over by a refusal
 ended : (w : State) (node session seen : ℕ) (i : InstanceEntry) (held : Held) (c : Client) (why : Cause) → Served w node session i held c → (held.progress ≡ progress.Asked) ⊎ (held.progress ≡ progress.Accepted) → w.seen ≤ seen → ComesTo w (record (with_client (with_post w node (Some (without_request i session))) session (after_refusal held.request c)) { seen = seen }) (item.Refused (Session session) why ∷ [])
@@ -81,7 +80,7 @@ epoch_cases i (Commit session start keys) = elim (old_if (nat_le start i.epoch) 
 ]
 
 accept_timely : (w : State) (node session reading : ℕ) (i : InstanceEntry) (held : Held) (c : Client) → Served w node session i held c → held.progress ≡ progress.Asked → w.seen ≤ reading + w.setup.skew → (in_time : Bool) → nat_lt reading i.until ≡ in_time → ComesBy w (accept_step w node session reading held c (accept_unless i session held (if in_time then epoch_refusal i held.request else Some (cause.Expired reading i.until))))
-accept_timely w node session reading i held c served asked steady false late = ended w node session (max w.seen reading) i held c (cause.Expired reading i.until) served (inl asked) (at_least_max w.seen reading)
+accept_timely w node session reading i held c served asked steady false late = ended w node session (max w.seen reading) i held c (cause.Expired reading i.until) served (inl asked) (max_left w.seen reading)
 accept_timely w node session reading i held c served asked steady true before = elim (epoch_cases i held.request) [
   | inl new ↦ subst (λ (f : Option Cause). ComesBy w (accept_step w node session reading held c (accept_unless i session held f))) (sym new) (
     OfAccepted (record {
@@ -102,11 +101,11 @@ accept_timely w node session reading i held c served asked steady true before = 
     client_back w session (max w.seen reading) c (slice_set w.nodes node (Some (moved i session held progress.Accepted))) served.client_at,
     refl,
   )
-  | inr old ↦ subst (λ (f : Option Cause). ComesBy w (accept_step w node session reading held c (accept_unless i session held f))) (sym old.1) (ended w node session (max w.seen reading) i held c (cause.OldEpoch old.0 i.epoch) served (inl asked) (at_least_max w.seen reading))
+  | inr old ↦ subst (λ (f : Option Cause). ComesBy w (accept_step w node session reading held c (accept_unless i session held f))) (sym old.1) (ended w node session (max w.seen reading) i held c (cause.OldEpoch old.0 i.epoch) served (inl asked) (max_left w.seen reading))
 ]
 
 accept_still : (w : State) (node session reading : ℕ) (post : Option InstanceEntry) (c : Client) (why : Cause) → slice_get w.nodes node ≡ Some post → ClientAt w.clients session c → ComesTo w (with_client (with_post (with_reading w reading) node post) session c) (item.Refused (Node node) why ∷ [])
-accept_still w node session reading post c why at client_at = still_both w node session (max w.seen reading) post c _ at client_at (at_least_max w.seen reading) (refusal_quiet (Node node) why)
+accept_still w node session reading post c why at client_at = still_both w node session (max w.seen reading) post c _ at client_at (max_left w.seen reading) (refusal_quiet (Node node) why)
 
 accept_progress : (w : State) (node session reading : ℕ) (i : InstanceEntry) (held : Held) (c : Client) → Served w node session i held c → w.seen ≤ reading + w.setup.skew → (p : Progress) → held.progress ≡ p → ComesBy w (accept_step w node session reading held c (accept_if_asked i session reading held p))
 accept_progress w node session reading i held c served steady progress.Asked is = accept_timely w node session reading i held c served is steady (nat_lt reading i.until) refl

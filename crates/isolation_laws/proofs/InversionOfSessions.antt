@@ -1,6 +1,5 @@
--- What the events of a session alone come to: an abort, a vanish, a write, a fetch, a heal.
-use Rattle.std.proofs.Common.{◌≡◌, ℕ, Bool, true, false, if◌then◌else◌, List, [], ◌∷◌, Option, Some, None, ◌⊎◌, inl, inr, refl}
-use Rattle.std.specs.Prelude.{length}
+-- What the events of a session alone come to, but for a fetch: an abort, a vanish, a write, a heal.
+use Rattle.std.proofs.Common.{[], ◌≡◌, ℕ, Bool, true, false, if◌then◌else◌, List, ◌∷◌, Option, Some, None, ◌⊎◌, inl, inr, refl}
 use Rattle.std.specs.Option.{option_or}
 use Rattle.stamp_base.specs.declared.stores.Store.TheVariants.{Cells}
 use Rattle.port_io.specs.declared.weather.Fate.{Fate}
@@ -12,7 +11,7 @@ use Rattle.history_book.specs.declared.item.Ending.TheVariants as ending
 use Rattle.history_book.specs.declared.item.StoreStep.TheVariants as step
 use Rattle.history_book.specs.declared.item.Item.{Item}
 use Rattle.history_book.specs.declared.item.Item.TheVariants as item
-use Rattle.store_parts.specs.Rows.{Row, put_row, fetched, with_shadow}
+use Rattle.store_parts.specs.Rows.{Row, put_row, with_shadow}
 use Rattle.client_parts.specs.declared.session.State.{State as SessionState}
 use Rattle.client_parts.specs.declared.session.State.TheVariants as phase
 use Rattle.client_parts.specs.SessionSteps.{work_refusal, key_refusal, vanish_refusal}
@@ -23,12 +22,13 @@ use Rattle.machine.specs.Machine.{Step, step_by, with_client}
 use Rattle.machine.specs.Events.Abort.{abort_by, abort_on}
 use Rattle.machine.specs.Events.Vanish.{vanish_by, vanish_on}
 use Rattle.machine.specs.Events.Write.{write_refused, write_by, write_open, write_on}
-use Rattle.machine.specs.Events.Fetch.{fetch_by, fetch_open, fetch_on}
 use Rattle.machine.specs.Events.Heal.{offer_by, offer_of, heal_at, heal_on}
 use Rattle.isolation_laws.specs.Words.{ClientAt}
 use Rattle.isolation_laws.specs.Quiet.{AllQuiet}
-use Rattle.isolation_laws.proofs.Outcomes.{AtOpen, OfAborted, OfVanished, OfWrote, OfWriteFailed, OfFetched, OfReadDropped, OfHealed}
-use Rattle.isolation_laws.proofs.InversionParts.{ComesTo, ComesBy, none_quiet, one_quiet, two_quiet, refusal_quiet, still_client, at_open}
+use Rattle.isolation_laws.proofs.OutcomesOfSessions.{AtOpen}
+use Rattle.isolation_laws.proofs.Outcomes.{OfAborted, OfVanished, OfWrote, OfWriteFailed, OfHealed}
+use Rattle.isolation_laws.proofs.InversionParts.{ComesTo, ComesBy, none_quiet, two_quiet, refusal_quiet, still_client, at_open}
+use Rattle.isolation_laws.proofs.Pushed.{one_quiet}
 
 -- the effect on a client, and on the cells with it
 abbrev pub for_client : State → ℕ → Effect Client → Step
@@ -120,53 +120,6 @@ write_comes w session key value fate c at None go (Some start) begun = write_fat
 
 pub write_at : (w : State) (session key : ℕ) (value : List ℕ) (fate : Fate) (c : Client) → ClientAt w.clients session c → ComesBy w (for_cells w session (write_on session key value fate c w.rows))
 write_at w session key value fate c at = write_comes w session key value fate c at (write_refused c key) refl c.entry.start refl
-
--- ---- fetch
-fetch_failed : (w : State) (session : ℕ) (c : Client) → ClientAt w.clients session c → work_refusal c.entry.state (is_reading c) ≡ None → ComesTo w (with_client w session (record c { heal = None })) (item.Fault (Session session) Cells ∷ [])
-fetch_failed w session c at go = (
-  OfReadDropped (record {
-    session = session;
-    c = c;
-    under_way = c.under_way;
-    client_at = at;
-    under_way_is = inl (refl, (work_open c.entry.state (is_reading c) go).1);
-    heal = None;
-    heal_is = inr refl;
-    pairs = w.pairs;
-    pairs_are = inl refl;
-    items = item.Fault (Session session) Cells ∷ [];
-    quiet = one_quiet (item.Fault (Session session) Cells) refl;
-  }),
-  refl,
-  refl,
-)
-
-fetch_fated : (w : State) (session start epoch key : ℕ) (fate : Fate) (c : Client) → ClientAt w.clients session c → work_refusal c.entry.state (is_reading c) ≡ None → c.entry.start ≡ Some start → c.entry.epoch ≡ Some epoch → ComesBy w (for_client w session (fetch_by session start epoch key fate c (fetched w.rows key start)))
-fetch_fated w session start epoch key Works c at go begun known = (
-  OfFetched (record {
-    it = open_by_work w session c at go;
-    key = key;
-    start = start;
-    epoch = epoch;
-    start_is = begun;
-    epoch_is = known;
-    first = item.Step (Session session) (step.Fetch key (length (fetched w.rows key start)));
-    quiet = refl;
-  }),
-  refl,
-  refl,
-)
-fetch_fated w session start epoch key FailsUnchanged c at go begun known = fetch_failed w session c at go
-fetch_fated w session start epoch key FailsApplied c at go begun known = fetch_failed w session c at go
-
-fetch_comes : (w : State) (session key : ℕ) (fate : Fate) (c : Client) → ClientAt w.clients session c → (why : Option Cause) → work_refusal c.entry.state (is_reading c) ≡ why → (start : Option ℕ) → c.entry.start ≡ start → (epoch : Option ℕ) → c.entry.epoch ≡ epoch → ComesBy w (for_client w session (fetch_open session key fate c w.rows why start epoch))
-fetch_comes w session key fate c at (Some why) go start begun epoch known = still_client w session c _ at (refusal_quiet (Session session) why)
-fetch_comes w session key fate c at None go None begun epoch known = still_client w session c [] at none_quiet
-fetch_comes w session key fate c at None go (Some start) begun None known = still_client w session c [] at none_quiet
-fetch_comes w session key fate c at None go (Some start) begun (Some epoch) known = fetch_fated w session start epoch key fate c at go begun known
-
-pub fetch_at : (w : State) (session key : ℕ) (fate : Fate) (c : Client) → ClientAt w.clients session c → ComesBy w (for_client w session (fetch_on session key fate c w.rows))
-fetch_at w session key fate c at = fetch_comes w session key fate c at (work_refusal c.entry.state (is_reading c)) refl c.entry.start refl c.entry.epoch refl
 
 -- ---- heal
 -- an offer is taken of an open transaction without a read under way

@@ -24,9 +24,11 @@ use Rattle.machine.specs.Events.Fetch.{client_read}
 use Rattle.machine.specs.Events.Step.{StepParts, read_step, settle_items, client_settled, settle_step, complete_step, own_resolve, after_asks}
 use Rattle.isolation_laws.specs.Words.{ClientAt}
 use Rattle.isolation_laws.specs.Quiet.{Quiet, AllQuiet}
-use Rattle.isolation_laws.proofs.Outcomes.{OfReadStepped, OfReadDropped, OfOutcome, OfOutcomeFailed, OfCompleted, MayHaveMarked, read_turn}
-use Rattle.isolation_laws.proofs.InversionParts.{ComesTo, ComesBy, none_quiet, one_quiet}
+use Rattle.isolation_laws.proofs.OutcomesOfWork.{CompletedOne, MayHaveMarked, read_turn}
+use Rattle.isolation_laws.proofs.Outcomes.{OfReadStepped, OfReadDropped, OfOutcome, OfOutcomeFailed, OfCompleted}
+use Rattle.isolation_laws.proofs.InversionParts.{ComesTo, ComesBy, none_quiet}
 use Rattle.isolation_laws.proofs.InversionOfCalls.{NoList, step_quiet, failed_quiet, resolve_no_list, resolve_rows, resolve_marks}
+use Rattle.isolation_laws.proofs.Pushed.{one_quiet}
 
 -- the effect on a client and the stores
 abbrev pub for_stores : State → ℕ → Effect StepParts → Step
@@ -123,44 +125,34 @@ pub record IsCompletion (c : Client) (asked : Ask) (asks : List Ask) : Type 0 wh
   pub under_way : c.under_way ≡ Completes (asked ∷ asks)
   pub no_list : NoList asked
 
+-- the outcome of a step of a completion
+abbrev completed : (w : State) (session : ℕ) (c : Client) (asked : Ask) (asks : List Ask) (applied : Bool) (left : Client) (items : List Item) → ClientAt w.clients session c → IsCompletion c asked asks → ((left ≡ after_asks c asks) × (applied ≡ true)) ⊎ (left ≡ client_freed c) → AllQuiet items → CompletedOne w
+completed w session c asked asks applied left items at is left_is quiet = record {
+  session = session;
+  undo = is.undo;
+  c = c;
+  asked = asked;
+  asks = asks;
+  client_at = at;
+  completing = is.completing;
+  under_way = is.under_way;
+  applied = applied;
+  left = left;
+  left_is = left_is;
+  items = items;
+  quiet = quiet;
+}
+
 complete_failed : (w : State) (session : ℕ) (c : Client) (asked : Ask) (asks : List Ask) (applied : Bool) (items : List Item) → ClientAt w.clients session c → IsCompletion c asked asks → AllQuiet items → ComesTo w (record (with_client w session (client_freed c)) { rows = if applied then rows_after asked w.rows else w.rows; pairs = if applied then pairs_after asked w.pairs else w.pairs }) items
 complete_failed w session c asked asks applied items at is quiet = (
-  OfCompleted (record {
-    session = session;
-    undo = is.undo;
-    c = c;
-    asked = asked;
-    asks = asks;
-    client_at = at;
-    completing = is.completing;
-    under_way = is.under_way;
-    applied = applied;
-    left = client_freed c;
-    left_is = inr refl;
-    items = items;
-    quiet = quiet;
-  }),
+  OfCompleted (completed w session c asked asks applied (client_freed c) items at is (inr refl) quiet),
   refl,
   refl,
 )
 
 pub complete_comes : (w : State) (session : ℕ) (fate : Fate) (c : Client) (asked : Ask) (asks : List Ask) → ClientAt w.clients session c → IsCompletion c asked asks → ComesBy w (for_stores w session (complete_step c asked asks (met (Session session) asked fate w.rows w.pairs)))
 complete_comes w session Works c asked asks at is = (
-  OfCompleted (record {
-    session = session;
-    undo = is.undo;
-    c = c;
-    asked = asked;
-    asks = asks;
-    client_at = at;
-    completing = is.completing;
-    under_way = is.under_way;
-    applied = true;
-    left = after_asks c asks;
-    left_is = inl (refl, refl);
-    items = step_item (Session session) asked (told_by asked w.rows w.pairs) ∷ [];
-    quiet = one_quiet (step_item (Session session) asked (told_by asked w.rows w.pairs)) (step_quiet (Session session) asked (told_by asked w.rows w.pairs) is.no_list);
-  }),
+  OfCompleted (completed w session c asked asks true (after_asks c asks) (step_item (Session session) asked (told_by asked w.rows w.pairs) ∷ []) at is (inl (refl, refl)) (one_quiet (step_item (Session session) asked (told_by asked w.rows w.pairs)) (step_quiet (Session session) asked (told_by asked w.rows w.pairs) is.no_list))),
   refl,
   refl,
 )

@@ -22,8 +22,9 @@ use Rattle.machine.specs.Events.SweepStep.{undecided_items, sweep_met, sweep_at,
 use Rattle.isolation_laws.specs.Quiet.{Quiet, AllQuiet}
 use Rattle.isolation_laws.specs.Sound.{SweepAsks}
 use Rattle.isolation_laws.proofs.Outcomes.{OfSweepOpened, OfSwept, OfSweepListed, OfSweepFailed}
-use Rattle.isolation_laws.proofs.InversionParts.{ComesTo, ComesBy, none_quiet, one_quiet, refusal_quiet, still_all}
+use Rattle.isolation_laws.proofs.InversionParts.{ComesTo, ComesBy, none_quiet, refusal_quiet, still_all}
 use Rattle.isolation_laws.proofs.InversionOfCalls.{NoList, step_quiet, failed_quiet}
+use Rattle.isolation_laws.proofs.Pushed.{one_quiet}
 
 -- the sweep was put back
 still_sweep : (w : State) (sweep : Option Sweeping) (items : List Item) → w.sweep ≡ sweep → AllQuiet items → ComesTo w (record w { sweep = sweep }) items

@@ -16,7 +16,10 @@ use Rattle.machine.specs.Machine.{Step, with_post, with_client}
 use Rattle.isolation_laws.specs.Words.{InstanceAt, ClientAt}
 use Rattle.isolation_laws.specs.Quiet.{Quiet, AllQuiet}
 use Rattle.isolation_laws.proofs.Lookups.{set_same, instance_changed, held_set}
-use Rattle.isolation_laws.proofs.Outcomes.{Alike, AlikeNodes, AtOpen, Outcome, OfStill, left_by, told_by_outcome}
+use Rattle.isolation_laws.proofs.OutcomesOfRecord.{Alike, AlikeNodes}
+use Rattle.isolation_laws.proofs.OutcomesOfSessions.{AtOpen}
+use Rattle.isolation_laws.proofs.Outcomes.{Outcome, OfStill, left_by, told_by_outcome}
+use Rattle.isolation_laws.proofs.Pushed.{one_quiet}
 
 -- the state and the items are those of an outcome
 abbrev pub ComesTo : (w : State) → State → List Item → Type 0
@@ -28,9 +31,6 @@ ComesBy w step = ComesTo w step.state step.items
 -- ---- quiet items
 pub none_quiet : AllQuiet []
 none_quiet = All-nil Quiet
-
-pub one_quiet : (x : Item) → Quiet x → AllQuiet (x ∷ [])
-one_quiet x quiet = All-cons Quiet x [] quiet none_quiet
 
 pub two_quiet : (x y : Item) → Quiet x → Quiet y → AllQuiet (x ∷ y ∷ [])
 two_quiet x y one two = All-cons Quiet x (y ∷ []) one (one_quiet y two)

@@ -12,7 +12,8 @@ use Rattle.machine.specs.Events.SweepStep.{still_open, sweep_left}
 use Rattle.isolation_laws.specs.Words.{InstanceAt}
 use Rattle.isolation_laws.specs.Sound.{StopOf, AreStops, SweepAsks, Sound}
 use Rattle.isolation_laws.proofs.Lookups.{instance_changed, instance_ended}
-use Rattle.isolation_laws.proofs.Outcomes.{AlikeNodes, Granted, granted_nodes, Renewed, renewed_nodes, Extended, extended_nodes, Outcome, OfStill, OfGranted, OfRenewed, OfExtended, OfCrashed, OfAskedBegin, OfAskedCommit, OfAccepted, OfEnded, OfDrew, OfPlaced, OfNotPlaced, OfAnsweredBegin, OfAnsweredCommit, OfEndedReadOnly, OfWrote, OfWriteFailed, OfAborted, OfVanished, OfHealed, OfFetched, OfReadDropped, OfReadStepped, OfOutcome, OfOutcomeFailed, OfCompleted, OfSweepOpened, OfSwept, OfSweepListed, OfSweepFailed, left_by}
+use Rattle.isolation_laws.proofs.OutcomesOfRecord.{AlikeNodes, Granted, granted_nodes, Renewed, renewed_nodes, Extended, extended_nodes}
+use Rattle.isolation_laws.proofs.Outcomes.{Outcome, OfStill, OfGranted, OfRenewed, OfExtended, OfCrashed, OfAskedBegin, OfAskedCommit, OfAccepted, OfEnded, OfDrew, OfPlaced, OfNotPlaced, OfAnsweredBegin, OfAnsweredCommit, OfEndedReadOnly, OfWrote, OfWriteFailed, OfAborted, OfVanished, OfHealed, OfFetched, OfReadDropped, OfReadStepped, OfOutcome, OfOutcomeFailed, OfCompleted, OfSweepOpened, OfSwept, OfSweepListed, OfSweepFailed, left_by}
 
 -- ---- kept refusals
 stops_put : (nodes : List (Option InstanceEntry)) (n : ℕ) (j : InstanceEntry) → AreStops nodes → StopOf j.stop → AreStops (slice_set nodes n (Some j))

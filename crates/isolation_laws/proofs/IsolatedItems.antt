@@ -18,7 +18,9 @@ use Rattle.machine.specs.Events.Fetch.{read_items, found_of}
 use Rattle.isolation_laws.specs.Words.{Begun}
 use Rattle.isolation_laws.specs.Quiet.{Quiet, AllQuiet}
 use Rattle.isolation_laws.proofs.Pushed.{in_append}
-use Rattle.isolation_laws.proofs.Outcomes.{PlacedOne, placed_items, AnsweredBegin, answered_begin_items, fetched_turn, read_turn, Outcome, OfStill, OfGranted, OfRenewed, OfExtended, OfCrashed, OfAskedBegin, OfAskedCommit, OfAccepted, OfEnded, OfDrew, OfPlaced, OfNotPlaced, OfAnsweredBegin, OfAnsweredCommit, OfEndedReadOnly, OfWrote, OfWriteFailed, OfAborted, OfVanished, OfHealed, OfFetched, OfReadDropped, OfReadStepped, OfOutcome, OfOutcomeFailed, OfCompleted, OfSweepOpened, OfSwept, OfSweepListed, OfSweepFailed, told_by_outcome}
+use Rattle.isolation_laws.proofs.OutcomesOfStamps.{PlacedOne, placed_items, AnsweredBegin, answered_begin_items}
+use Rattle.isolation_laws.proofs.OutcomesOfWork.{fetched_turn, read_turn}
+use Rattle.isolation_laws.proofs.Outcomes.{Outcome, OfStill, OfGranted, OfRenewed, OfExtended, OfCrashed, OfAskedBegin, OfAskedCommit, OfAccepted, OfEnded, OfDrew, OfPlaced, OfNotPlaced, OfAnsweredBegin, OfAnsweredCommit, OfEndedReadOnly, OfWrote, OfWriteFailed, OfAborted, OfVanished, OfHealed, OfFetched, OfReadDropped, OfReadStepped, OfOutcome, OfOutcomeFailed, OfCompleted, OfSweepOpened, OfSwept, OfSweepListed, OfSweepFailed, told_by_outcome}
 
 -- the item is a begin or a placed commit
 abbrev pub is_stamp : Item → Bool

@@ -9,11 +9,14 @@ use Rattle.isolation_laws.specs.Words.{Begun, DrewCommit}
 use Rattle.isolation_laws.specs.Numbers.{AreNewDraws, AreBegun, ArePlaced}
 use Rattle.isolation_laws.specs.Memory.{DrawnApart}
 use Rattle.isolation_laws.specs.Holds.{Holds}
-use Rattle.isolation_laws.proofs.Owners.{drawn_once, commit_above_start, has_drew}
-use Rattle.isolation_laws.proofs.Outcomes.{PlacedOne, AnsweredBegin, answered_begin_items, Outcome, told_by_outcome}
-use Rattle.isolation_laws.proofs.NumbersKept.{drew_start, in_flight_of, drawn_pending, drew_commit, numbers_kept}
+use Rattle.isolation_laws.proofs.OnceEach.{drawn_once, commit_above_start}
+use Rattle.isolation_laws.proofs.Owners.{has_drew}
+use Rattle.isolation_laws.proofs.OutcomesOfStamps.{PlacedOne, AnsweredBegin, answered_begin_items}
+use Rattle.isolation_laws.proofs.Outcomes.{Outcome, told_by_outcome}
+use Rattle.isolation_laws.proofs.NumbersKept.{drew_start, in_flight_of, drawn_pending, drew_commit}
+use Rattle.isolation_laws.proofs.NumbersOfAll.{numbers_kept}
 use Rattle.isolation_laws.proofs.MemoryKept.{memory_kept}
-use Rattle.isolation_laws.proofs.RequestsOfItems.{begin_held}
+use Rattle.isolation_laws.proofs.RequestsOfBegins.{begin_held}
 use Rattle.isolation_laws.proofs.IsolatedItems.{NoStamp, NoStamps, quiet_no_stamps, Stamping, StampsNone, StampsPlaced, StampsBegin, stamping, each_on, begin_old, placed_old}
 
 -- ---- items without a stamp

@@ -3,21 +3,22 @@ use Rattle.std.proofs.Common.{◌≡◌, ℕ, List, Option, Some, ◌⊎◌, inl
 use Rattle.oracle_parts.specs.Instance.{InstanceEntry}
 use Rattle.machine.specs.State.{Client, State}
 use Rattle.isolation_laws.specs.Words.{epoch_or_none}
-use Rattle.isolation_laws.specs.Pending.{Waits, Taken, IsPending, Live}
-use Rattle.isolation_laws.proofs.Outcomes.{AskedCommit, asked_commit_state, Accepted, accepted_state, Drew, drew_state, AnsweredBegin, answered_begin_state}
-use Rattle.isolation_laws.proofs.PendingAfter.{FewerPending, pending_asked_commit, pending_accepted, pending_drew, fewer_answered_begin}
-use Rattle.isolation_laws.proofs.OpenAfter.{FewerOpen, fewer_is_open, fewer_open_asked_commit, open_answered_begin}
+use Rattle.isolation_laws.specs.Pending.{Waits, Taken, Live}
+use Rattle.isolation_laws.proofs.OutcomesOfRequests.{AskedCommit, asked_commit_state, Accepted, accepted_state}
+use Rattle.isolation_laws.proofs.OutcomesOfStamps.{Drew, drew_state, AnsweredBegin, answered_begin_state}
+use Rattle.isolation_laws.proofs.PendingAfter.{FewerPending}
+use Rattle.isolation_laws.proofs.PendingFewer.{fewer_answered_begin, fewer_pending}
+use Rattle.isolation_laws.proofs.PendingMoved.{pending_asked_commit, pending_accepted, pending_drew}
+use Rattle.isolation_laws.proofs.ClientsOpen.{FewerOpen}
+use Rattle.isolation_laws.proofs.OpenAfter.{fewer_is_open, fewer_open_asked_commit, open_answered_begin}
 use Rattle.isolation_laws.proofs.RequestsOfMoves.{opens}
 
 abbrev pub FewerLive : List Client → List (Option InstanceEntry) → List Client → List (Option InstanceEntry) → Type 0
 FewerLive clients nodes new_clients new_nodes = (t : ℕ) → Live new_clients new_nodes t → Live clients nodes t
 
-pub fewer_is_pending : (old new : List (Option InstanceEntry)) (t : ℕ) → FewerPending old new → IsPending new t → IsPending old t
-fewer_is_pending old new t fewer p = record { coming = p.coming; pending = fewer p.coming p.pending; start_is = p.start_is }
-
 pub fewer_live : (clients new_clients : List Client) (nodes new_nodes : List (Option InstanceEntry)) → FewerOpen clients new_clients → FewerPending nodes new_nodes → FewerLive clients nodes new_clients new_nodes
 fewer_live clients new_clients nodes new_nodes opened pending t (inl o) = inl (fewer_is_open clients new_clients t opened o)
-fewer_live clients new_clients nodes new_nodes opened pending t (inr p) = inr (fewer_is_pending nodes new_nodes t pending p)
+fewer_live clients new_clients nodes new_nodes opened pending t (inr p) = inr (fewer_pending nodes new_nodes t pending p)
 
 pub same_live : (clients : List Client) (nodes : List (Option InstanceEntry)) → FewerLive clients nodes clients nodes
 same_live clients nodes t live = live
@@ -62,4 +63,4 @@ live_answered_begin w k t (inl o) = elim (open_answered_begin w k o.session t o.
   | inl old ↦ inl (inl (record { session = o.session; epoch = o.epoch; open_at = old }))
   | inr now ↦ inr now.1
 ]
-live_answered_begin w k t (inr p) = inl (inr (fewer_is_pending w.nodes (answered_begin_state w k).nodes t (fewer_answered_begin w k) p))
+live_answered_begin w k t (inr p) = inl (inr (fewer_pending w.nodes (answered_begin_state w k).nodes t (fewer_answered_begin w k) p))

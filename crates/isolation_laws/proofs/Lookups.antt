@@ -5,9 +5,11 @@ use Rattle.std.proofs.lemmas.Option.{same_Some, none-some}
 use Rattle.oracle_parts.specs.declared.instance.Held.{Held}
 use Rattle.oracle_parts.specs.declared.instance.Progress.{Progress}
 use Rattle.oracle_parts.specs.declared.instance.Request.{Request}
-use Rattle.oracle_parts.specs.Instance.{InstanceEntry, held_of, with_request}
+use Rattle.oracle_parts.specs.declared.instance.Request.TheVariants.{Begin as BeginRequest, Commit}
+use Rattle.oracle_parts.specs.Instance.{InstanceEntry, held_of, with_request, session_of}
 use Rattle.machine.specs.State.{Client}
 use Rattle.isolation_laws.specs.Words.{InstanceAt, HeldBy, ClientAt}
+pub use Rattle.machine.proofs.Refusals.{set_same}
 
 suc_same : (a b : ℕ) → suc a ≡ suc b → a ≡ b
 suc_same a b same = omega (arith, same)
@@ -35,12 +37,6 @@ set_cases (z ∷ zs) (suc p) (suc q) x y found = elim (set_cases zs p q x y foun
   | inl here ↦ inl (ap suc here.0, here.1)
   | inr there ↦ inr (λ same. there.0 (suc_same q p same), there.1)
 ]
-
--- setting what is there changes nothing
-pub set_same : {X : Type 0} (xs : List X) (p : ℕ) (x : X) → slice_get xs p ≡ Some x → slice_set xs p x ≡ xs
-set_same [] p x there = absurd (cc)
-set_same (y ∷ ys) zero x there = ap (λ z. z ∷ ys) (sym (same_Some y x there))
-set_same (y ∷ ys) (suc p) x there = ap (λ zs. y ∷ zs) (set_same ys p x there)
 
 -- ---- nodes
 pub instance_set : (nodes : List (Option InstanceEntry)) (n m : ℕ) (post : Option InstanceEntry) (j : InstanceEntry) → InstanceAt (slice_set nodes n post) m j → ((m ≡ n) × (post ≡ Some j)) ⊎ ((m ≢ n) × InstanceAt nodes m j)
@@ -123,3 +119,10 @@ heldby_changed i s r now request p h = elim (heldby_set i s r (Some now) request
       inl (here.0, ap (λ x. x.request) same ∙ here.1.asks, ap (λ x. x.progress) same ∙ here.1.stands)
   | inr there ↦ inr there
 ]
+
+-- a request is that of the session that it is held under
+pub commit_own : (request : Request) (s r t : ℕ) (keys : List ℕ) → request ≡ Commit r t keys → session_of request ≡ s → request ≡ Commit s t keys
+commit_own request s r t keys is own = is ∙ ap (λ q. Commit q t keys) (ap session_of (sym is) ∙ own)
+
+pub begin_own : (request : Request) (r s : ℕ) → request ≡ BeginRequest r → session_of request ≡ s → request ≡ BeginRequest s
+begin_own request r s is own = is ∙ ap BeginRequest (ap session_of (sym is) ∙ own)

@@ -26,13 +26,14 @@ use Rattle.isolation_laws.specs.Holds.{Holds}
 use Rattle.isolation_laws.specs.Sound.{Stands}
 use Rattle.isolation_laws.specs.Laws.{IsLost}
 use Rattle.isolation_laws.proofs.Lookups.{instance_ended}
-use Rattle.isolation_laws.proofs.Pushed.{old_placed}
-use Rattle.isolation_laws.proofs.Owners.{begun_once, open_not_pending, pending_unplaced, has_held}
-use Rattle.isolation_laws.proofs.Outcomes.{Crashed, crashed_state, AtDrawn, NotPlaced, not_placed_state}
+use Rattle.isolation_laws.proofs.Pushed.{old_placed, one_quiet}
+use Rattle.isolation_laws.proofs.OnceEach.{begun_once}
+use Rattle.isolation_laws.proofs.Owners.{open_not_pending, pending_unplaced, has_held}
+use Rattle.isolation_laws.proofs.OutcomesOfRequests.{Crashed, crashed_state}
+use Rattle.isolation_laws.proofs.OutcomesOfStamps.{AtDrawn, NotPlaced, not_placed_state}
 use Rattle.isolation_laws.proofs.NumbersKept.{open_begun}
-use Rattle.isolation_laws.proofs.PendingAfter.{fewer_crashed, pending_not_placed}
+use Rattle.isolation_laws.proofs.PendingFewer.{fewer_crashed, pending_settled}
 use Rattle.isolation_laws.proofs.OpenAfter.{fewer_open_crashed, fewer_is_open}
-use Rattle.isolation_laws.proofs.InversionParts.{one_quiet}
 use Rattle.isolation_laws.proofs.InversionOfAsks.{for_clients, all_crashed_quiet}
 use Rattle.isolation_laws.proofs.InversionOfAnswers.{for_table, put_settled}
 
@@ -84,7 +85,7 @@ crashes_lose w h q fate both p =
 unplaced_dead : (w : State) (h : List Item) (k : NotPlaced w) (q : InFlight) → Holds w h → Pending w.nodes q → q.node ≡ k.it.node → q.session ≡ k.it.session → Live w.clients (not_placed_state w k).nodes q.start → ⊥
 unplaced_dead w h k q holds p node session (inl o) = not_open w h q holds p o
 unplaced_dead w h k q holds p node session (inr o) =
-    let before = pending_not_placed w k o.coming o.pending in
+    let before = pending_settled w k.it k.by o.coming o.pending in
     let same = same_place w h o.coming q holds before.0 p o.start_is in
     before.1 (same.0 ∙ node, same.1 ∙ session)
 

@@ -1,7 +1,7 @@
 -- Every outcome keeps the facts on the conflict memory.
 use Rattle.std.proofs.Common.{◌≡◌, ℕ, ◌+◌, Bool, true, false, List, [], ◌∷◌, ◌++◌, append_assoc, Option, Some, inl, inr, refl, sym, ◌∙◌, ap, subst, arith}
 use Rattle.std.specs.Prelude.{slice_set}
-use Rattle.std.proofs.lemmas.List.Elements.{All-nil, All-cons}
+use Rattle.std.proofs.lemmas.List.Elements.{All-nil}
 use Rattle.history_book.specs.declared.item.Item.{Item}
 use Rattle.history_book.specs.declared.item.Actor.TheVariants.{Janitor}
 use Rattle.history_book.specs.declared.item.StoreStep.TheVariants.{Keys}
@@ -20,9 +20,13 @@ use Rattle.isolation_laws.proofs.RecordedCommits.{recorded_none}
 use Rattle.isolation_laws.proofs.MemoryStays.{SameMemory, remembered_same, remembered_set, remembered_ended, remembered_alike, RecordsNothing, nothing_quiet, nothing_push, nothing_more, nothing_twice, memory_same}
 use Rattle.isolation_laws.proofs.MemoryOfDraws.{memory_drew}
 use Rattle.isolation_laws.proofs.NumbersOfItems.{begin_is_no_draw, write_is_no_draw, read_is_no_draw, placed_is_no_draw}
-use Rattle.isolation_laws.proofs.RequestsOfItems.{wrote_open}
+use Rattle.isolation_laws.proofs.RequestsOfWrites.{wrote_open}
 use Rattle.isolation_laws.specs.Words.{epoch_or_none}
-use Rattle.isolation_laws.proofs.Outcomes.{Granted, granted_nodes, granted_state, Renewed, renewed_nodes, renewed_state, Extended, extended_nodes, extended_state, WroteOne, wrote_items, fetched_turn, read_turn, Outcome, OfStill, OfGranted, OfRenewed, OfExtended, OfCrashed, OfAskedBegin, OfAskedCommit, OfAccepted, OfEnded, OfDrew, OfPlaced, OfNotPlaced, OfAnsweredBegin, OfAnsweredCommit, OfEndedReadOnly, OfWrote, OfWriteFailed, OfAborted, OfVanished, OfHealed, OfFetched, OfReadDropped, OfReadStepped, OfOutcome, OfOutcomeFailed, OfCompleted, OfSweepOpened, OfSwept, OfSweepListed, OfSweepFailed, left_by, told_by_outcome}
+use Rattle.isolation_laws.proofs.OutcomesOfRecord.{Granted, granted_nodes, granted_state, Renewed, renewed_nodes, renewed_state, Extended, extended_nodes, extended_state}
+use Rattle.isolation_laws.proofs.OutcomesOfSessions.{WroteOne, wrote_items}
+use Rattle.isolation_laws.proofs.OutcomesOfWork.{fetched_turn, read_turn}
+use Rattle.isolation_laws.proofs.Outcomes.{Outcome, OfStill, OfGranted, OfRenewed, OfExtended, OfCrashed, OfAskedBegin, OfAskedCommit, OfAccepted, OfEnded, OfDrew, OfPlaced, OfNotPlaced, OfAnsweredBegin, OfAnsweredCommit, OfEndedReadOnly, OfWrote, OfWriteFailed, OfAborted, OfVanished, OfHealed, OfFetched, OfReadDropped, OfReadStepped, OfOutcome, OfOutcomeFailed, OfCompleted, OfSweepOpened, OfSwept, OfSweepListed, OfSweepFailed, left_by, told_by_outcome}
+use Rattle.isolation_laws.proofs.Pushed.{one_quiet}
 
 -- ---- the record
 -- a new instance begins with empty buckets, and nothing was drawn in its term
@@ -70,7 +74,7 @@ read_nothing h s b k (Answers a) = nothing_push h (Read s b k (found_of a.found)
 first_then : (h : List Item) (x : Item) (s b k : ℕ) (turn : ReadTurn) → Quiet x → RecordsNothing h (h ++ x ∷ read_items s b k turn)
 first_then h x s b k turn quiet =
     subst (λ all. RecordsNothing h all) (append_assoc h (x ∷ []) (read_items s b k turn))
-    (nothing_twice h (h ++ x ∷ []) ((h ++ x ∷ []) ++ read_items s b k turn) (nothing_quiet h (x ∷ []) (All-cons Quiet x [] quiet (All-nil Quiet))) (read_nothing (h ++ x ∷ []) s b k turn))
+    (nothing_twice h (h ++ x ∷ []) ((h ++ x ∷ []) ++ read_items s b k turn) (nothing_quiet h (x ∷ []) (one_quiet x quiet)) (read_nothing (h ++ x ∷ []) s b k turn))
 
 on_read : (w : State) (h : List Item) (x : Item) (s b k : ℕ) (turn : ReadTurn) → Quiet x → Holds w h → MemoryFacts w.setup w.nodes (h ++ x ∷ read_items s b k turn)
 on_read w h x s b k turn quiet holds = memory_same w.setup w.nodes w.nodes h (h ++ x ∷ read_items s b k turn) (remembered_same w.nodes) (first_then h x s b k turn quiet) holds.memory

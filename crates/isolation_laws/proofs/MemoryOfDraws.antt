@@ -21,14 +21,16 @@ use Rattle.machine.specs.State.{State}
 use Rattle.isolation_laws.specs.Words.{DrewCommit, written_keys, recorded, recorded_by}
 use Rattle.isolation_laws.specs.Memory.{AreRecorded, DrawnApart, MemoryFacts}
 use Rattle.isolation_laws.specs.Holds.{Holds}
-use Rattle.isolation_laws.proofs.Outcomes.{Drew, drew_state, drew_items}
-use Rattle.isolation_laws.proofs.Owners.{drawn_once}
+use Rattle.isolation_laws.proofs.OutcomesOfStamps.{Drew, drew_state, drew_items}
+use Rattle.isolation_laws.proofs.OnceEach.{drawn_once}
 use Rattle.isolation_laws.proofs.Pushed.{recorded-push}
 use Rattle.isolation_laws.proofs.RecordedCommits.{recorded_contains, recorded_rise, recorded_by_own, recorded_by_other, wrote_key}
 use Rattle.isolation_laws.proofs.MemoryStays.{unwritten}
 use Rattle.isolation_laws.proofs.NumbersOfDraws.{start_drawn, commit_drawn, asker_of, draw_item_is, drew_cases, drew_room}
-use Rattle.isolation_laws.proofs.NewDraws.{new_draw, drew_or, drew_within}
+use Rattle.isolation_laws.proofs.NewStamps.{new_draw, drew_within}
+use Rattle.isolation_laws.proofs.NewDraws.{drew_or}
 use Rattle.isolation_laws.proofs.RequestsOfDraws.{drew_keys, DrawsFor, draws_commit, drawing, drawing_pending}
+use Rattle.isolation_laws.proofs.Orders.{three_ways}
 
 -- ---- what the draw records
 own_keys : (w : State) (h : List Item) (k : Drew w) (r t : ℕ) (keys : List ℕ) → Holds w h → k.held.request ≡ Commit r t keys → keys ≡ written_keys h t
@@ -98,9 +100,6 @@ apart_stamps w h k r t keys s m other u d holds is drew same =
     let start = holds.numbers.begun.drawn k.session t begun in
     start_is_no_commit k.session start.0 start.1 t s m other u d (drawn_once h k.session s start.0 m start.1 other t u None (Some d) holds.numbers.new start.2 drew (sym same))
 
-three : (p q : ℕ) → (p < q) ⊎ ((p ≡ q) ⊎ (q < p))
-three p q = grind arith
-
 not_above : (d t : ℕ) → d ≤ t → (d ≡ t → ⊥) → d < t
 not_above d t low other = elim (cases_eq d t) [
   | inl same ↦ absurd (other same)
@@ -109,7 +108,7 @@ not_above d t low other = elim (cases_eq d t) [
 
 -- the commit that is drawn now, and one before
 apart_now : (w : State) (h : List Item) (k : Drew w) (r t : ℕ) (keys : List ℕ) (s m other u d key : ℕ) (own value : List ℕ) → Holds w h → k.held.request ≡ Commit r t keys → DrewCommit h s m other u d → Wrote h t key own → Wrote h u key value → (k.i.last + 1 < u) ⊎ (d < t)
-apart_now w h k r t keys s m other u d key own value holds is drew mine wrote = elim (three other k.i.term) [
+apart_now w h k r t keys s m other u d key own value holds is drew mine wrote = elim (three_ways other k.i.term) [
   | inl less ↦ inr (omega (arith, holds.numbers.drawn.earlier s m other u k.node (Some d) k.i drew k.at less, (drew_within w k r t keys holds.requests.requests holds.requests.accepted is).0))
   | inr (inl same) ↦ inr (not_above d t (free_below w h k r t keys s m u d key value own holds is (subst (λ term. DrewCommit h s m term u d) same drew) wrote mine) (apart_stamps w h k r t keys s m other u d holds is drew))
   | inr (inr more) ↦ inl (omega (arith, (holds.numbers.drawn.later s m other u k.node (Some d) k.i drew k.at more).1, drew_room w k holds.numbers.ranges))

@@ -16,7 +16,7 @@ use Rattle.isolation_laws.specs.Words.{InstanceAt, DrewCommit, HasDrawn, keys_wi
 use Rattle.isolation_laws.specs.Quiet.{AllQuiet}
 use Rattle.isolation_laws.specs.Memory.{AreRecorded, MemoryFacts}
 use Rattle.isolation_laws.proofs.Lookups.{instance_changed, instance_ended}
-use Rattle.isolation_laws.proofs.Outcomes.{AlikeNodes}
+use Rattle.isolation_laws.proofs.OutcomesOfRecord.{AlikeNodes}
 use Rattle.isolation_laws.proofs.NumbersOfItems.{NoDraw}
 use Rattle.isolation_laws.proofs.Pushed.{old_draw, drawn_on, last_write-quiet, written_keys-push, recorded-quiet, recorded-push}
 

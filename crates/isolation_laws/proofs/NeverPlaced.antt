@@ -19,16 +19,17 @@ use Rattle.isolation_laws.specs.Holds.{Holds}
 use Rattle.isolation_laws.specs.Sound.{Stands}
 use Rattle.isolation_laws.specs.Laws.{IsMarkedFirst, IsLost}
 use Rattle.isolation_laws.proofs.Pushed.{old_placed}
-use Rattle.isolation_laws.proofs.Outcomes.{PlacedOne, placed_items, Outcome, OfStill, OfGranted, OfRenewed, OfExtended, OfCrashed, OfAskedBegin, OfAskedCommit, OfAccepted, OfEnded, OfDrew, OfPlaced, OfNotPlaced, OfAnsweredBegin, OfAnsweredCommit, OfEndedReadOnly, OfWrote, OfWriteFailed, OfAborted, OfVanished, OfHealed, OfFetched, OfReadDropped, OfReadStepped, OfOutcome, OfOutcomeFailed, OfCompleted, OfSweepOpened, OfSwept, OfSweepListed, OfSweepFailed, left_by, told_by_outcome}
+use Rattle.isolation_laws.proofs.OutcomesOfStamps.{PlacedOne, placed_items}
+use Rattle.isolation_laws.proofs.Outcomes.{Outcome, OfStill, OfGranted, OfRenewed, OfExtended, OfCrashed, OfAskedBegin, OfAskedCommit, OfAccepted, OfEnded, OfDrew, OfPlaced, OfNotPlaced, OfAnsweredBegin, OfAnsweredCommit, OfEndedReadOnly, OfWrote, OfWriteFailed, OfAborted, OfVanished, OfHealed, OfFetched, OfReadDropped, OfReadStepped, OfOutcome, OfOutcomeFailed, OfCompleted, OfSweepOpened, OfSwept, OfSweepListed, OfSweepFailed, left_by, told_by_outcome}
 use Rattle.isolation_laws.proofs.InversionParts.{ComesBy}
 use Rattle.isolation_laws.proofs.IsolatedItems.{Stamping, StampsNone, StampsPlaced, StampsBegin, stamping, placed_old}
 use Rattle.isolation_laws.proofs.StoresStay.{MarksStay, marks_put, marks_after, marks_may, marks_if}
-use Rattle.isolation_laws.proofs.PendingAfter.{fewer_still, fewer_granted, fewer_renewed, fewer_extended, fewer_crashed, fewer_asked_begin, fewer_ended_one, fewer_placed, fewer_not_placed, fewer_answered_commit}
+use Rattle.isolation_laws.proofs.PendingFewer.{fewer_still, fewer_granted, fewer_renewed, fewer_extended, fewer_crashed, fewer_asked_begin, fewer_ended_one, fewer_settled, fewer_answered_commit}
 use Rattle.isolation_laws.proofs.OpenAfter.{fewer_open_crashed, fewer_open_asked_begin, fewer_open_ended, fewer_open_answered_commit, fewer_open_read_only, fewer_open_wrote, fewer_open_write_failed, fewer_open_aborted, fewer_open_vanished, fewer_open_healed, fewer_open_fetched, fewer_open_dropped, fewer_open_read, fewer_open_outcome, fewer_open_outcome_failed, fewer_open_completed}
 use Rattle.isolation_laws.proofs.LiveAfter.{fewer_live, live_by_clients, live_by_nodes, live_asked_commit, live_accepted, live_drew, live_answered_begin}
-use Rattle.isolation_laws.proofs.CellsKept.{start_begun}
 use Rattle.isolation_laws.proofs.NumbersKept.{in_flight_of, drawn_pending}
 use Rattle.isolation_laws.proofs.AlwaysHolds.{comes_by, facts_stay, steady_now, steady_stays}
+use Rattle.isolation_laws.proofs.RequestsOfBegins.{start_unbegun}
 
 -- ---- what an outcome places
 placed_same : (t c u d : ℕ) → Placed t c ≡ Placed u d → t ≡ u
@@ -80,11 +81,11 @@ live_kept w h (OfAskedCommit k) s t holds begun live = live_asked_commit w k t l
 live_kept w h (OfAccepted k) s t holds begun live = live_accepted w k t live
 live_kept w h (OfEnded k) s t holds begun live = fewer_live w.clients _ w.nodes _ (fewer_open_ended w k) (fewer_ended_one w k) t live
 live_kept w h (OfDrew k) s t holds begun live = live_drew w k t live
-live_kept w h (OfPlaced k) s t holds begun live = live_by_nodes w.clients w.nodes _ (fewer_placed w k) t live
-live_kept w h (OfNotPlaced k) s t holds begun live = live_by_nodes w.clients w.nodes _ (fewer_not_placed w k) t live
+live_kept w h (OfPlaced k) s t holds begun live = live_by_nodes w.clients w.nodes _ (fewer_settled w k.it k.by) t live
+live_kept w h (OfNotPlaced k) s t holds begun live = live_by_nodes w.clients w.nodes _ (fewer_settled w k.it k.by) t live
 live_kept w h (OfAnsweredBegin k) s t holds begun live = elim (live_answered_begin w k t live) [
   | inl old ↦ old
-  | inr now ↦ absurd (start_begun w h k s holds (subst (Begun h s) now begun))
+  | inr now ↦ absurd (start_unbegun w h k s holds (subst (Begun h s) now begun))
 ]
 live_kept w h (OfAnsweredCommit k) s t holds begun live = fewer_live w.clients _ w.nodes _ (fewer_open_answered_commit w k) (fewer_answered_commit w k) t live
 live_kept w h (OfEndedReadOnly k) s t holds begun live = live_by_clients w.clients _ w.nodes (fewer_open_read_only w k) t live

@@ -1,107 +1,23 @@
--- A stamp that is drawn now is new, and lies where the instances of its term, of later and of earlier ones say.
-use Rattle.std.proofs.Common.{◌≡◌, ℕ, ◌+◌, ◌<◌, ◌≤◌, List, [], ◌∷◌, ◌++◌, Option, Some, ◌⊎◌, inl, inr, refl, sym, ◌∙◌, ap, subst, arith}
-use Rattle.std.proofs.lemmas.Option.{same_Some, none-some}
+-- Over a longer history with a new draw, stamps lie where the instances of their term, of later and of earlier ones say.
+use Rattle.std.proofs.Common.{[], ◌≡◌, ℕ, ◌+◌, ◌<◌, ◌≤◌, List, ◌∷◌, ◌++◌, Option, Some, ◌⊎◌, inl, inr, refl, sym, ◌∙◌, ap, subst, arith}
+use Rattle.std.proofs.lemmas.Option.{none-some}
 use Rattle.history_book.specs.Members.{◌∈◌}
 use Rattle.history_book.specs.Isolation.{Committed}
 use Rattle.history_book.specs.declared.item.Found.{Found}
 use Rattle.history_book.specs.declared.item.Item.{Item}
 use Rattle.history_book.specs.declared.item.Item.TheVariants.{Begin, Draw, Write, Read, Placed}
 use Rattle.history_book.proofs.MemberLemmas.{in_push, in_old, AtEach-push}
-use Rattle.store_parts.specs.Record.{MasterRecord}
-use Rattle.oracle_parts.specs.declared.instance.Progress.TheVariants as progress
 use Rattle.oracle_parts.specs.declared.instance.Request.{Request}
 use Rattle.oracle_parts.specs.declared.instance.Request.TheVariants.{Begin as BeginRequest, Commit}
-use Rattle.oracle_parts.specs.Instance.{session_of}
 use Rattle.machine.specs.State.{State}
-use Rattle.machine.specs.Events.Decide.{draw_item}
-use Rattle.isolation_laws.specs.Words.{Begun, HasDrawn, drawn_stamp}
-use Rattle.isolation_laws.specs.Pending.{Taken, Pending}
-use Rattle.isolation_laws.specs.Numbers.{AreRanges, AreDrawn, IsNewDraw, AreNewDraws, AreBegun, NumberFacts}
-use Rattle.isolation_laws.specs.Requests.{AreRequests, AreAccepted}
+use Rattle.isolation_laws.specs.Words.{Begun, drawn_stamp}
+use Rattle.isolation_laws.specs.Pending.{Taken}
+use Rattle.isolation_laws.specs.Numbers.{AreDrawn, IsNewDraw, AreNewDraws, AreBegun, NumberFacts}
 use Rattle.isolation_laws.specs.Holds.{Holds}
-use Rattle.isolation_laws.proofs.Lookups.{held_by}
-use Rattle.isolation_laws.proofs.Outcomes.{Drew, drew_state, drew_items}
+use Rattle.isolation_laws.proofs.OutcomesOfStamps.{Drew, drew_state, drew_items}
 use Rattle.isolation_laws.proofs.NumbersStay.{begun_on, start_on, placed_on}
-use Rattle.isolation_laws.proofs.NumbersOfDraws.{start_drawn, commit_drawn, asker_of, draw_item_is, drew_cases, drew_room, drew_ranges, drew_leases}
-
--- the draw, as an item
-abbrev pub new_draw : (w : State) → Drew w → Item
-new_draw w k = draw_item k.node k.i.term k.held.request (k.i.last + 1)
-
--- ---- the commit that draws was taken by its instance
-asks_own : (request : Request) (s r t : ℕ) (keys : List ℕ) → request ≡ Commit r t keys → session_of request ≡ s → request ≡ Commit s t keys
-asks_own request s r t keys is own = is ∙ ap (λ q. Commit q t keys) (ap session_of (sym is) ∙ own)
-
-pub drew_taken : (w : State) (k : Drew w) (r t : ℕ) (keys : List ℕ) → AreRequests w.nodes w.clients → k.held.request ≡ Commit r t keys → Pending w.nodes (record { session = k.session; node = k.node; term = k.i.term; start = t; keys = keys; stage = Taken k.i.last })
-drew_taken w k r t keys requests is = record {
-  instance_of = k.i;
-  progress_of = progress.Accepted;
-  at = k.at;
-  held = record { held = k.held; has = k.has; asks = asks_own k.held.request k.session r t keys is (requests.own k.node k.session k.i k.held.request k.held.progress k.at (held_by k.i k.session k.held k.has)); stands = k.accepted };
-  term_is = refl;
-  stage_is = refl;
-}
-
-pub drew_within : (w : State) (k : Drew w) (r t : ℕ) (keys : List ℕ) → AreRequests w.nodes w.clients → AreAccepted w.nodes → k.held.request ≡ Commit r t keys → (k.i.epoch < t) × (t ≤ k.i.last)
-unfolding drew_taken
-drew_within w k r t keys requests accepted is = let p = drew_taken w k r t keys requests is in accepted.within k.node k.session t keys k.i k.at p.held
-
--- the start that is drawn for lies above the epoch
-start_above : (w : State) (k : Drew w) (request : Request) → k.held.request ≡ request → AreRanges w.nodes w.master → AreRequests w.nodes w.clients → AreAccepted w.nodes → k.i.epoch < start_drawn request (k.i.last + 1)
-start_above w k (BeginRequest r) is ranges requests accepted = omega (arith, ranges.above k.node k.i k.at)
-start_above w k (Commit r t keys) is ranges requests accepted = (drew_within w k r t keys requests accepted is).0
-
-stamp_is : (request : Request) (stamp : ℕ) → drawn_stamp (start_drawn request stamp) (commit_drawn request stamp) ≡ stamp
-stamp_is (BeginRequest session) stamp = refl
-stamp_is (Commit session start keys) stamp = refl
-
-three : (p q : ℕ) → (p < q) ⊎ ((p ≡ q) ⊎ (q < p))
-three p q = grind arith
-
--- ---- the stamp differs from all before, and is above those of its term
-pub older_stamp : (w : State) (k : Drew w) (h : List Item) (s m term u : ℕ) (d : Option ℕ) → AreRanges w.nodes w.master → AreDrawn w.nodes w.master h → Draw s m term u d ∈ h → (drawn_stamp u d ≤ k.i.last) ⊎ ((k.i.ceiling < drawn_stamp u d) × (k.i.term < term))
-older_stamp w k h s m term u d ranges drawn drew = elim (three term k.i.term) [
-  | inl less ↦ inl (omega (arith, drawn.earlier s m term u k.node d k.i drew k.at less, ranges.above k.node k.i k.at))
-  | inr (inl same) ↦ inl (drawn.same s m term u k.node d k.i drew k.at same).1
-  | inr (inr more) ↦ inr ((drawn.later s m term u k.node d k.i drew k.at more).0, more)
-]
-
-commit_new : (w : State) (k : Drew w) (h : List Item) (request : Request) → k.held.request ≡ request → Holds w h → (c : ℕ) → commit_drawn request (k.i.last + 1) ≡ Some c → (start_drawn request (k.i.last + 1) < c) × (HasDrawn h (start_drawn request (k.i.last + 1)) → ⊥)
-commit_new w k h (BeginRequest r) is holds c drawn = absurd (none-some c drawn)
-commit_new w k h (Commit r t keys) is holds c drawn = (
-  omega (arith, (drew_within w k r t keys holds.requests.requests holds.requests.accepted is).1, same_Some (k.i.last + 1) c drawn),
-  holds.requests.pending.so_far (record { session = k.session; node = k.node; term = k.i.term; start = t; keys = keys; stage = Taken k.i.last }) (drew_taken w k r t keys holds.requests.requests is),
-)
-
-new_now : (w : State) (k : Drew w) (h : List Item) (request : Request) → k.held.request ≡ request → Holds w h → IsNewDraw h (Draw (asker_of request) k.node k.i.term (start_drawn request (k.i.last + 1)) (commit_drawn request (k.i.last + 1)))
-new_now w k h request is holds = (
-  (λ r m other u d drew same. elim (older_stamp w k h r m other u d holds.numbers.ranges holds.numbers.drawn drew) [
-    | inl low ↦ omega (arith, low, same, stamp_is request (k.i.last + 1))
-    | inr high ↦ omega (arith, high.0, same, stamp_is request (k.i.last + 1), drew_room w k holds.numbers.ranges)
-  ]),
-  (λ r m u d drew. elim (older_stamp w k h r m k.i.term u d holds.numbers.ranges holds.numbers.drawn drew) [
-    | inl low ↦ omega (arith, low, stamp_is request (k.i.last + 1))
-    | inr high ↦ absurd (omega (arith, high.1))
-  ]),
-  commit_new w k h request is holds,
-)
-
--- the parts of equal draws
-parts_of : (s m term u : ℕ) (d : Option ℕ) (r n other v : ℕ) (e : Option ℕ) → Draw s m term u d ≡ Draw r n other v e → (term ≡ other) × (u ≡ v) × (d ≡ e)
-parts_of s m term u d r n other v e same = (cc, cc, cc)
-
--- bounds of the stamp, told of the draw's own parts
-stamp_up_to : (bound stamp t : ℕ) (commit : Option ℕ) (u : ℕ) (d : Option ℕ) → t ≡ u → commit ≡ d → drawn_stamp u d ≡ stamp → stamp ≤ bound → drawn_stamp t commit ≤ bound
-stamp_up_to bound stamp t commit u d start same is low = rw (start, same, is) low
-
-stamp_low : (master : MasterRecord) (ceiling stamp t : ℕ) (commit : Option ℕ) (u : ℕ) (d : Option ℕ) → t ≡ u → commit ≡ d → drawn_stamp u d ≡ stamp → stamp ≤ ceiling → ceiling ≤ master.ceiling → drawn_stamp t commit ≤ master.ceiling
-stamp_low master ceiling stamp t commit u d start same is low covered = stamp_up_to master.ceiling stamp t commit u d start same is (omega (arith, low, covered))
-
-stamp_over : (bound stamp t : ℕ) (commit : Option ℕ) (u : ℕ) (d : Option ℕ) → t ≡ u → commit ≡ d → drawn_stamp u d ≡ stamp → bound < stamp → bound < drawn_stamp t commit
-stamp_over bound stamp t commit u d start same is high = rw (start, same, is) high
-
-stamp_between : (low high stamp t : ℕ) (commit : Option ℕ) (u : ℕ) (d : Option ℕ) → t ≡ u → commit ≡ d → drawn_stamp u d ≡ stamp → low < stamp → stamp ≤ high → (low < drawn_stamp t commit) × (drawn_stamp t commit ≤ high)
-stamp_between low high stamp t commit u d start same is above below = (stamp_over low stamp t commit u d start same is above, stamp_up_to high stamp t commit u d start same is below)
+use Rattle.isolation_laws.proofs.NumbersOfDraws.{start_drawn, commit_drawn, asker_of, draw_item_is, drew_cases, drew_room, drew_ranges, drew_leases, stamp_drawn}
+use Rattle.isolation_laws.proofs.NewStamps.{new_draw, drew_taken, start_above, new_now, parts_of, stamp_up_to, stamp_low, stamp_over, stamp_between}
 
 -- ---- a longer history has the draw, and what it had
 pub drew_or : (w : State) (k : Drew w) (h : List Item) (s m term u : ℕ) (d : Option ℕ) → Draw s m term u d ∈ (h ++ new_draw w k ∷ []) → (Draw s m term u d ∈ h) ⊎ ((term ≡ k.i.term) × (u ≡ start_drawn k.held.request (k.i.last + 1)) × (d ≡ commit_drawn k.held.request (k.i.last + 1)))
@@ -141,7 +57,7 @@ drew_drawn w k h holds =
     let drawn = holds.numbers.drawn in
     let room : k.i.last + 1 ≤ k.i.ceiling = drew_room w k ranges in
     let above : k.i.epoch < start_drawn k.held.request (k.i.last + 1) = start_above w k k.held.request refl ranges holds.requests.requests holds.requests.accepted in
-    let is : drawn_stamp (start_drawn k.held.request (k.i.last + 1)) (commit_drawn k.held.request (k.i.last + 1)) ≡ k.i.last + 1 = stamp_is k.held.request (k.i.last + 1) in
+    let is : drawn_stamp (start_drawn k.held.request (k.i.last + 1)) (commit_drawn k.held.request (k.i.last + 1)) ≡ k.i.last + 1 = stamp_drawn k.held.request (k.i.last + 1) in
     record {
       counted = λ s m term t commit drew. elim (drew_or w k h s m term t commit drew) [
         | inl old ↦ drawn.counted s m term t commit old

@@ -1,13 +1,11 @@
--- Every outcome keeps the facts on stamps, terms and leases.
-use Rattle.std.proofs.Common.{◌≡◌, ℕ, ◌≤◌, max, IsTrue, List, [], ◌∷◌, ◌++◌, append_assoc, Option, Some, refl, sym, ◌∙◌, ap, subst, arith}
+-- What keeps the facts on stamps, terms and leases: one item that is not quiet, requests as they stand, reads, quiet items.
+use Rattle.std.proofs.Common.{[], ◌≡◌, ℕ, ◌≤◌, IsTrue, List, ◌∷◌, ◌++◌, append_assoc, Option, Some, refl, sym, ◌∙◌, subst, arith}
 use Rattle.std.specs.Prelude.{slice_set}
 use Rattle.std.proofs.lemmas.List.{append-nil}
-use Rattle.std.proofs.lemmas.List.Elements.{All-nil, All-cons}
+use Rattle.std.proofs.lemmas.List.Elements.{All-nil}
 use Rattle.std.proofs.lemmas.Option.{same_Some}
 use Rattle.history_book.specs.declared.item.Item.{Item}
-use Rattle.history_book.specs.declared.item.Actor.TheVariants.{Janitor}
-use Rattle.history_book.specs.declared.item.StoreStep.TheVariants.{Keys}
-use Rattle.history_book.specs.declared.item.Item.TheVariants.{AskBegin, Begin, Write, Read, Placed, Step}
+use Rattle.history_book.specs.declared.item.Item.TheVariants.{Begin, Read, Placed}
 use Rattle.history_book.proofs.MemberLemmas.{in_front}
 use Rattle.stamp_base.specs.SetupNumbers.{SetupNumbers}
 use Rattle.store_parts.specs.Record.{MasterRecord}
@@ -16,9 +14,7 @@ use Rattle.client_parts.specs.declared.session.State.TheVariants as phase
 use Rattle.client_parts.specs.SessionSteps.{has_transaction}
 use Rattle.client_parts.specs.KeyRead.{ReadTurn, Asks, Answers}
 use Rattle.oracle_parts.specs.declared.instance.Progress.TheVariants as progress
-use Rattle.oracle_parts.specs.declared.instance.Request.{Request}
-use Rattle.oracle_parts.specs.declared.instance.Request.TheVariants.{Begin as BeginRequest, Commit}
-use Rattle.oracle_parts.specs.Instance.{InstanceEntry, session_of}
+use Rattle.oracle_parts.specs.Instance.{InstanceEntry}
 use Rattle.machine.specs.State.{Client, State}
 use Rattle.machine.specs.Events.Fetch.{read_items, found_of}
 use Rattle.isolation_laws.specs.Words.{InstanceAt, ClientAt, Begun, DrewStart, DrewCommit}
@@ -27,19 +23,18 @@ use Rattle.isolation_laws.specs.Quiet.{Quiet, AllQuiet}
 use Rattle.isolation_laws.specs.Numbers.{NumberFacts}
 use Rattle.isolation_laws.specs.Requests.{HaveBegun, AreRequests}
 use Rattle.isolation_laws.specs.Holds.{Holds}
-use Rattle.isolation_laws.proofs.Lookups.{held_by}
+use Rattle.isolation_laws.proofs.Lookups.{held_by, commit_own, begin_own}
 use Rattle.isolation_laws.proofs.Owners.{has_drew}
-use Rattle.isolation_laws.proofs.Outcomes.{AskedBegin, AtDrawn, PlacedOne, AnsweredBegin, WroteOne, Fetched, ReadStepped, SweepListed, fetched_turn, read_turn, asked_begin_items, placed_items, answered_begin_items, wrote_items, fetched_items, read_stepped_items, sweep_listed_items, placed_state, asked_begin_state, answered_begin_state, Outcome, OfStill, OfGranted, OfRenewed, OfExtended, OfCrashed, OfAskedBegin, OfAskedCommit, OfAccepted, OfEnded, OfDrew, OfPlaced, OfNotPlaced, OfAnsweredBegin, OfAnsweredCommit, OfEndedReadOnly, OfWrote, OfWriteFailed, OfAborted, OfVanished, OfHealed, OfFetched, OfReadDropped, OfReadStepped, OfOutcome, OfOutcomeFailed, OfCompleted, OfSweepOpened, OfSwept, OfSweepListed, OfSweepFailed, left_by, told_by_outcome}
-use Rattle.isolation_laws.proofs.NumbersStay.{SameNumbers, IsNumberedAs, numbered_same, numbered_set, numbered_ended, numbered_alike, numbers_quiet}
-use Rattle.isolation_laws.proofs.NumbersOfRecord.{numbers_granted, numbers_renewed, numbers_extended}
-use Rattle.isolation_laws.proofs.NewDraws.{numbers_drew}
-use Rattle.isolation_laws.proofs.NumbersOfItems.{NoDraw, begin_is_no_draw, write_is_no_draw, read_is_no_draw, placed_is_no_draw, drawn_push, new_push, FitsBegun, begun_push, fits_begin, fits_write, fits_read, fits_placed, placed_push, placed_fits}
+use Rattle.isolation_laws.proofs.OutcomesOfStamps.{AtDrawn, AnsweredBegin}
+use Rattle.isolation_laws.proofs.NumbersStay.{SameNumbers, IsNumberedAs, numbered_same, numbered_set, numbers_quiet}
+use Rattle.isolation_laws.proofs.NumbersOfItems.{NoDraw, read_is_no_draw, drawn_push, new_push, FitsBegun, begun_push, fits_read, placed_push}
+use Rattle.isolation_laws.proofs.Pushed.{one_quiet}
 
 -- ---- one item that is not quiet, and quiet ones behind it
 abbrev pub FitsPlaced : List Item → Item → Type 0
 FitsPlaced h x = (t c : ℕ) → Placed t c ≡ x → (s : ℕ) × (n : ℕ) × (term : ℕ) × DrewCommit h s n term t c
 
-loud_numbers : (setup : SetupNumbers) (seen : ℕ) (old new : List (Option InstanceEntry)) (master : MasterRecord) (h : List Item) (x : Item) (items : List Item) → SameNumbers old new → NoDraw x → FitsBegun h x → FitsPlaced h x → AllQuiet items → NumberFacts setup seen old master h → NumberFacts setup seen new master (h ++ x ∷ items)
+pub loud_numbers : (setup : SetupNumbers) (seen : ℕ) (old new : List (Option InstanceEntry)) (master : MasterRecord) (h : List Item) (x : Item) (items : List Item) → SameNumbers old new → NoDraw x → FitsBegun h x → FitsPlaced h x → AllQuiet items → NumberFacts setup seen old master h → NumberFacts setup seen new master (h ++ x ∷ items)
 loud_numbers setup seen old new master h x items same other begins places quiet facts =
     let one : NumberFacts setup seen old master (h ++ x ∷ []) = record {
       ranges = facts.ranges;
@@ -61,12 +56,6 @@ open_begun clients h s t c have at is start =
     subst (Begun h s) (same_Some begun.0 t (sym begun.1 ∙ start)) begun.2
 
 -- ---- requests as they stand
-begin_own : (request : Request) (r s : ℕ) → request ≡ BeginRequest r → session_of request ≡ s → request ≡ BeginRequest s
-begin_own request r s is own = is ∙ ap BeginRequest (ap session_of (sym is) ∙ own)
-
-commit_own : (request : Request) (s r t : ℕ) (keys : List ℕ) → request ≡ Commit r t keys → session_of request ≡ s → request ≡ Commit s t keys
-commit_own request s r t keys is own = is ∙ ap (λ q. Commit q t keys) (ap session_of (sym is) ∙ own)
-
 pub drew_start : (w : State) (h : List Item) (k : AnsweredBegin w) → Holds w h → DrewStart h k.session k.node k.i.term k.start
 drew_start w h k holds =
     holds.requests.starting.drawn k.node k.session k.start k.i k.at (record {
@@ -100,102 +89,18 @@ read_item_numbers setup seen nodes master h s b k r (Answers a) begun facts =
     loud_numbers setup seen nodes nodes master h (Read s b k (found_of a.found)) [] (numbered_same nodes) (read_is_no_draw s b k (found_of a.found)) (fits_read h s b k r (found_of a.found) begun) (λ t c is. absurd (cc)) (All-nil Quiet) facts
 
 -- a quiet item, and then what a read has come to
-first_then : (setup : SetupNumbers) (seen : ℕ) (nodes : List (Option InstanceEntry)) (master : MasterRecord) (h : List Item) (x : Item) (s b k r : ℕ) (turn : ReadTurn) → Quiet x → Begun h r b → NumberFacts setup seen nodes master h → NumberFacts setup seen nodes master (h ++ x ∷ read_items s b k turn)
+pub first_then : (setup : SetupNumbers) (seen : ℕ) (nodes : List (Option InstanceEntry)) (master : MasterRecord) (h : List Item) (x : Item) (s b k r : ℕ) (turn : ReadTurn) → Quiet x → Begun h r b → NumberFacts setup seen nodes master h → NumberFacts setup seen nodes master (h ++ x ∷ read_items s b k turn)
 first_then setup seen nodes master h x s b k r turn quiet begun facts =
-    let one : NumberFacts setup seen nodes master (h ++ x ∷ []) = numbers_quiet setup seen seen nodes nodes master h (x ∷ []) (numbered_same nodes) (omega arith) (All-cons Quiet x [] quiet (All-nil Quiet)) facts in
+    let one : NumberFacts setup seen nodes master (h ++ x ∷ []) = numbers_quiet setup seen seen nodes nodes master h (x ∷ []) (numbered_same nodes) (omega arith) (one_quiet x quiet) facts in
     subst (λ all. NumberFacts setup seen nodes master all) (append_assoc h (x ∷ []) (read_items s b k turn))
     (read_item_numbers setup seen nodes master (h ++ x ∷ []) s b k r turn (in_front (Begin r b) h (x ∷ []) begun) one)
 
 -- ---- outcomes with quiet items
-quiet_one : (w : State) (h : List Item) (nodes : List (Option InstanceEntry)) (seen : ℕ) (items : List Item) → SameNumbers w.nodes nodes → w.seen ≤ seen → AllQuiet items → Holds w h → NumberFacts w.setup seen nodes w.master (h ++ items)
+pub quiet_one : (w : State) (h : List Item) (nodes : List (Option InstanceEntry)) (seen : ℕ) (items : List Item) → SameNumbers w.nodes nodes → w.seen ≤ seen → AllQuiet items → Holds w h → NumberFacts w.setup seen nodes w.master (h ++ items)
 quiet_one w h nodes seen items same up quiet holds = numbers_quiet w.setup w.seen seen w.nodes nodes w.master h items same up quiet holds.numbers
 
-here : (w : State) (h items : List Item) → AllQuiet items → Holds w h → NumberFacts w.setup w.seen w.nodes w.master (h ++ items)
+pub here : (w : State) (h items : List Item) → AllQuiet items → Holds w h → NumberFacts w.setup w.seen w.nodes w.master (h ++ items)
 here w h items quiet holds = quiet_one w h w.nodes w.seen items (numbered_same w.nodes) (omega arith) quiet holds
 
--- an instance whose requests alone have changed
-numbered : (i j : InstanceEntry) → j.term ≡ i.term → j.epoch ≡ i.epoch → j.last ≡ i.last → j.ceiling ≡ i.ceiling → j.until ≡ i.until → IsNumberedAs i j
-numbered i j term epoch last ceiling until = record { term = term; epoch = epoch; last = last; ceiling = ceiling; until = until }
-
-at_node : (w : State) (n : ℕ) (i j : InstanceEntry) → InstanceAt w.nodes n i → IsNumberedAs i j → SameNumbers w.nodes (slice_set w.nodes n (Some j))
+pub at_node : (w : State) (n : ℕ) (i j : InstanceEntry) → InstanceAt w.nodes n i → IsNumberedAs i j → SameNumbers w.nodes (slice_set w.nodes n (Some j))
 at_node w n i j at same = numbered_set w.nodes n i j at same
-
-max_left : (a b : ℕ) → a ≤ max a b
-max_left a b = grind arith
-
--- ---- every outcome
-numbers_asked_begin : (w : State) (h : List Item) (k : AskedBegin w) → Holds w h → NumberFacts w.setup w.seen (asked_begin_state w k).nodes w.master (h ++ asked_begin_items w k)
-numbers_asked_begin w h k holds =
-    loud_numbers w.setup w.seen w.nodes (asked_begin_state w k).nodes w.master h (AskBegin k.session k.node) [] (at_node w k.node k.i _ k.at (numbered k.i _ refl refl refl refl refl)) (λ s m term u d same. cc) (record {
-      drawn = λ s t is. absurd (cc);
-      writes = λ s t key value is. absurd (cc);
-      reads = λ s t key answer is. absurd (cc);
-    }) (λ t c is. absurd (cc)) (All-nil Quiet) holds.numbers
-
-numbers_placed : (w : State) (h : List Item) (k : PlacedOne w) → Holds w h → NumberFacts w.setup w.seen (placed_state w k).nodes w.master (h ++ placed_items w k)
-numbers_placed w h k holds =
-    loud_numbers w.setup w.seen w.nodes (placed_state w k).nodes w.master h (Placed k.it.start k.it.commit) k.items (at_node w k.it.node k.it.i _ k.it.at (numbered k.it.i _ refl refl refl refl refl)) (placed_is_no_draw k.it.start k.it.commit) (fits_placed h k.it.start k.it.commit)
-    (λ t c is. placed_fits h k.it.start k.it.commit t c k.it.session k.it.node k.it.i.term (drew_commit w h k.it holds) is) k.quiet holds.numbers
-
-numbers_answered_begin : (w : State) (h : List Item) (k : AnsweredBegin w) → Holds w h → NumberFacts w.setup w.seen (answered_begin_state w k).nodes w.master (h ++ answered_begin_items w k)
-numbers_answered_begin w h k holds =
-    loud_numbers w.setup w.seen w.nodes (answered_begin_state w k).nodes w.master h (Begin k.session k.start) [] (at_node w k.node k.i _ k.at (numbered k.i _ refl refl refl refl refl)) (begin_is_no_draw k.session k.start) (fits_begin h k.session k.start k.node k.i.term (drew_start w h k holds)) (λ t c is. absurd (cc)) (All-nil Quiet) holds.numbers
-
-numbers_wrote : (w : State) (h : List Item) (k : WroteOne w) → Holds w h → NumberFacts w.setup w.seen w.nodes w.master (h ++ wrote_items w k)
-numbers_wrote w h k holds =
-    loud_numbers w.setup w.seen w.nodes w.nodes w.master h (Write k.it.session k.start k.key k.value) [] (numbered_same w.nodes) (write_is_no_draw k.it.session k.start k.key k.value)
-    (fits_write h k.it.session k.start k.key k.it.session k.value (open_begun w.clients h k.it.session k.start k.it.c holds.requests.have_begun k.it.client_at k.it.is_open k.start_is)) (λ t c is. absurd (cc)) (All-nil Quiet) holds.numbers
-
-numbers_fetched : (w : State) (h : List Item) (k : Fetched w) → Holds w h → NumberFacts w.setup w.seen w.nodes w.master (h ++ fetched_items w k)
-numbers_fetched w h k holds =
-    first_then w.setup w.seen w.nodes w.master h k.first k.it.session k.start k.key k.it.session (fetched_turn w k.key k.start k.epoch) k.quiet
-    (open_begun w.clients h k.it.session k.start k.it.c holds.requests.have_begun k.it.client_at k.it.is_open k.start_is) holds.numbers
-
--- a read under way is that of a session that has begun
-pub read_begun : (w : State) (h : List Item) (k : ReadStepped w) → Holds w h → Begun h k.session k.r.start
-read_begun w h k holds =
-    let reads = holds.reads.reading.reads k.session k.c k.r k.client_at k.under_way in
-    subst (Begun h k.session) (sym reads.3.start_is) (open_begun w.clients h k.session reads.0 reads.2.client holds.requests.have_begun reads.2.at reads.2.state_is reads.2.start_is)
-
-numbers_read : (w : State) (h : List Item) (k : ReadStepped w) → Holds w h → NumberFacts w.setup w.seen w.nodes w.master (h ++ read_stepped_items w k)
-numbers_read w h k holds = first_then w.setup w.seen w.nodes w.master h k.first k.session k.r.start k.r.key k.session (read_turn w k.r) k.quiet (read_begun w h k holds) holds.numbers
-
-numbers_listed : (w : State) (h : List Item) (k : SweepListed w) → Holds w h → NumberFacts w.setup w.seen w.nodes w.master (h ++ sweep_listed_items w k)
-numbers_listed w h k holds =
-    loud_numbers w.setup w.seen w.nodes w.nodes w.master h (Step Janitor (Keys k.txn k.count)) [] (numbered_same w.nodes) (λ s m term u d same. cc) (record {
-      drawn = λ s t is. absurd (cc);
-      writes = λ s t key value is. absurd (cc);
-      reads = λ s t key answer is. absurd (cc);
-    }) (λ t c is. absurd (cc)) (All-nil Quiet) holds.numbers
-
-pub numbers_kept : (w : State) (h : List Item) (o : Outcome w) → Holds w h → NumberFacts (left_by w o).setup (left_by w o).seen (left_by w o).nodes (left_by w o).master (h ++ told_by_outcome w o)
-numbers_kept w h (OfStill k) holds = quiet_one w h k.nodes k.seen k.items (numbered_alike w.nodes k.nodes k.alike) k.up k.quiet holds
-numbers_kept w h (OfGranted k) holds = numbers_granted w h k holds
-numbers_kept w h (OfRenewed k) holds = numbers_renewed w h k holds
-numbers_kept w h (OfExtended k) holds = numbers_extended w h k holds
-numbers_kept w h (OfCrashed k) holds = quiet_one w h _ w.seen k.items (numbered_ended w.nodes k.node) (omega arith) k.quiet holds
-numbers_kept w h (OfAskedBegin k) holds = numbers_asked_begin w h k holds
-numbers_kept w h (OfAskedCommit k) holds = quiet_one w h _ w.seen k.items (at_node w k.node k.i _ k.at (numbered k.i _ refl refl refl refl refl)) (omega arith) k.quiet holds
-numbers_kept w h (OfAccepted k) holds = quiet_one w h _ (max w.seen k.reading) k.items (at_node w k.node k.i _ k.at (numbered k.i _ refl refl refl refl refl)) (max_left w.seen k.reading) k.quiet holds
-numbers_kept w h (OfEnded k) holds = quiet_one w h _ k.seen k.items (at_node w k.node k.i _ k.at (numbered k.i _ refl refl refl refl refl)) k.up k.quiet holds
-numbers_kept w h (OfDrew k) holds = numbers_drew w h k holds
-numbers_kept w h (OfPlaced k) holds = numbers_placed w h k holds
-numbers_kept w h (OfNotPlaced k) holds = quiet_one w h _ w.seen k.items (at_node w k.it.node k.it.i _ k.it.at (numbered k.it.i _ refl refl refl refl refl)) (omega arith) k.quiet holds
-numbers_kept w h (OfAnsweredBegin k) holds = numbers_answered_begin w h k holds
-numbers_kept w h (OfAnsweredCommit k) holds = quiet_one w h _ w.seen k.items (at_node w k.node k.i _ k.at (numbered k.i _ refl refl refl refl refl)) (omega arith) k.quiet holds
-numbers_kept w h (OfEndedReadOnly k) holds = here w h k.items k.quiet holds
-numbers_kept w h (OfWrote k) holds = numbers_wrote w h k holds
-numbers_kept w h (OfWriteFailed k) holds = here w h k.items k.quiet holds
-numbers_kept w h (OfAborted k) holds = here w h k.items k.quiet holds
-numbers_kept w h (OfVanished k) holds = here w h k.items k.quiet holds
-numbers_kept w h (OfHealed k) holds = here w h k.items k.quiet holds
-numbers_kept w h (OfFetched k) holds = numbers_fetched w h k holds
-numbers_kept w h (OfReadDropped k) holds = here w h k.items k.quiet holds
-numbers_kept w h (OfReadStepped k) holds = numbers_read w h k holds
-numbers_kept w h (OfOutcome k) holds = here w h k.items k.quiet holds
-numbers_kept w h (OfOutcomeFailed k) holds = here w h k.items k.quiet holds
-numbers_kept w h (OfCompleted k) holds = here w h k.items k.quiet holds
-numbers_kept w h (OfSweepOpened k) holds = here w h [] (All-nil Quiet) holds
-numbers_kept w h (OfSwept k) holds = here w h k.items k.quiet holds
-numbers_kept w h (OfSweepListed k) holds = numbers_listed w h k holds
-numbers_kept w h (OfSweepFailed k) holds = here w h k.items k.quiet holds

@@ -9,7 +9,7 @@ use Rattle.machine.specs.Events.Decide.{draw_item}
 use Rattle.isolation_laws.specs.Words.{InstanceAt, drawn_stamp}
 use Rattle.isolation_laws.specs.Numbers.{AreRanges, AreLeases}
 use Rattle.isolation_laws.proofs.Lookups.{instance_changed}
-use Rattle.isolation_laws.proofs.Outcomes.{Drew, drew_instance, drew_state}
+use Rattle.isolation_laws.proofs.OutcomesOfStamps.{Drew, drew_instance, drew_state}
 
 -- ---- what is drawn: its stamp, and the start that it is drawn for
 abbrev pub start_drawn : Request → ℕ → ℕ
@@ -28,7 +28,7 @@ pub draw_item_is : (node term : ℕ) (request : Request) (stamp : ℕ) → draw_
 draw_item_is node term (BeginRequest session) stamp = refl
 draw_item_is node term (Commit session start keys) stamp = refl
 
-stamp_drawn : (request : Request) (stamp : ℕ) → drawn_stamp (start_drawn request stamp) (commit_drawn request stamp) ≡ stamp
+pub stamp_drawn : (request : Request) (stamp : ℕ) → drawn_stamp (start_drawn request stamp) (commit_drawn request stamp) ≡ stamp
 stamp_drawn (BeginRequest session) stamp = refl
 stamp_drawn (Commit session start keys) stamp = refl
 

@@ -15,7 +15,7 @@ use Rattle.isolation_laws.specs.Words.{InstanceAt, Begun, DrewStart, DrewCommit}
 use Rattle.isolation_laws.specs.Quiet.{Quiet, AllQuiet}
 use Rattle.isolation_laws.specs.Numbers.{AreRanges, AreLeases, AreDrawn, IsNewDraw, AreNewDraws, AreBegun, ArePlaced, NumberFacts}
 use Rattle.isolation_laws.proofs.Lookups.{instance_changed, instance_ended}
-use Rattle.isolation_laws.proofs.Outcomes.{AlikeNodes}
+use Rattle.isolation_laws.proofs.OutcomesOfRecord.{AlikeNodes}
 use Rattle.isolation_laws.proofs.Pushed.{not_true, old_begin, old_draw, old_write, old_read, old_placed}
 
 -- ---- instances with the same numbers
@@ -135,3 +135,7 @@ numbers_quiet setup seen later old new master h items same up quiet facts = reco
   begun = begun_quiet h items quiet facts.begun;
   placed = placed_quiet h items quiet facts.placed;
 }
+
+-- an instance whose requests alone have changed
+pub numbered : (i j : InstanceEntry) → j.term ≡ i.term → j.epoch ≡ i.epoch → j.last ≡ i.last → j.ceiling ≡ i.ceiling → j.until ≡ i.until → IsNumberedAs i j
+numbered i j term epoch last ceiling until = record { term = term; epoch = epoch; last = last; ceiling = ceiling; until = until }

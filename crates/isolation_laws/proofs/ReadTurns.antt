@@ -26,9 +26,11 @@ use Rattle.isolation_laws.specs.Reads.{SeesAll, IsResolvedTo, IsReading}
 use Rattle.isolation_laws.specs.Holds.{Holds}
 use Rattle.isolation_laws.proofs.StoresStay.{MarksStay, marks_put, marks_after, shadows_same}
 use Rattle.isolation_laws.proofs.ReadersRely.{RelyOn, sees_on, markable, open_now_begun}
-use Rattle.isolation_laws.proofs.Unwritten.{unwritten_same, rely_unwritten}
+use Rattle.isolation_laws.proofs.Calm.{calm_same}
 use Rattle.isolation_laws.proofs.ReadsStay.{same_comes}
 use Rattle.isolation_laws.proofs.SeesPassed.{LetsGo, goes_late, sees_rest, answer_first, TurnRight, OwnListed, over_right}
+use Rattle.isolation_laws.proofs.ReadsLonger.{rely_calm}
+use Rattle.isolation_laws.proofs.CellsStay.{no_record_marked}
 
 -- what a turn of the resolve says of the version is true
 abbrev pub Tells : State → Pairs → List Item → ℕ → ℕ → ℕ → ℕ → SettleTurn → Type 0
@@ -51,13 +53,10 @@ shown_unrecorded w h k b cell cs holds sees none c placed below = elim (holds.ce
 none_committed : (c : ℕ) → None ≡ Some (CommittedMark c) → ⊥
 none_committed c same = cc
 
-invalid_committed : (c : ℕ) → Some InvalidMark ≡ Some (CommittedMark c) → ⊥
-invalid_committed c same = cc
-
 -- ---- the table
 tells_table : (w : State) (h : List Item) (k b e : ℕ) (cell : Cell) (cs : List Cell) (may : Bool) (entry : Option Mark) → Holds w h → SeesAll w.nodes w.pairs h b k (cell ∷ cs) → nat_le cell.version e ≡ may → mark_of w.pairs cell.version ≡ entry → Tells w w.pairs h k b e cell.version (after_table may (told_entry entry))
 tells_table w h k b e cell cs may (Some (CommittedMark c)) holds sees allowed is = holds.cells.pairs_are.placed cell.version c is
-tells_table w h k b e cell cs may (Some InvalidMark) holds sees allowed is = ((λ below. is), shown_unrecorded w h k b cell cs holds sees (λ c has. invalid_committed c (sym is ∙ has)))
+tells_table w h k b e cell cs may (Some InvalidMark) holds sees allowed is = ((λ below. is), shown_unrecorded w h k b cell cs holds sees (λ c has. no_record_marked c (sym is ∙ has)))
 tells_table w h k b e cell cs true None holds sees allowed is = leb-true cell.version e allowed
 tells_table w h k b e cell cs false None holds sees allowed is = ((λ below. absurd (omega (arith, leb-false cell.version e allowed, below))), shown_unrecorded w h k b cell cs holds sees (λ c has. none_committed c (sym is ∙ has)))
 
@@ -71,7 +70,7 @@ marked_over pairs t None is = get-insert nat_cmp_total pairs t InvalidMark t ∙
 
 tells_marking : (w : State) (h : List Item) (k b e : ℕ) (cell : Cell) (cs : List Cell) (entry : Option Mark) → Holds w h → SeesAll w.nodes w.pairs h b k (cell ∷ cs) → mark_of w.pairs cell.version ≡ entry → Tells w (put_pair w.pairs cell.version InvalidMark) h k b e cell.version (after_marking (told_mark entry))
 tells_marking w h k b e cell cs None holds sees is = ((λ below. marked_over w.pairs cell.version (mark_of w.pairs cell.version) is), shown_unrecorded w h k b cell cs holds sees (λ c has. none_committed c (sym is ∙ has)))
-tells_marking w h k b e cell cs (Some InvalidMark) holds sees is = ((λ below. marks_put w.pairs cell.version InvalidMark cell.version is), shown_unrecorded w h k b cell cs holds sees (λ c has. invalid_committed c (sym is ∙ has)))
+tells_marking w h k b e cell cs (Some InvalidMark) holds sees is = ((λ below. marks_put w.pairs cell.version InvalidMark cell.version is), shown_unrecorded w h k b cell cs holds sees (λ c has. no_record_marked c (sym is ∙ has)))
 tells_marking w h k b e cell cs (Some (CommittedMark c)) holds sees is = holds.cells.pairs_are.placed cell.version c is
 
 -- ---- the last look
@@ -106,7 +105,7 @@ tells_at w h s k b e cell cs LastLook holds o sees resolved = tells_look w h s k
 -- with more marks it sees the same
 pub sees_marked : (w : State) (h : List Item) (pairs : Pairs) (s b e k : ℕ) (cells : List Cell) → Holds w h → OpenAt w.clients s b e → MarksStay w.pairs pairs → SeesAll w.nodes w.pairs h b k cells → SeesAll w.nodes pairs h b k cells
 sees_marked w h pairs s b e k cells holds o marks sees =
-    let rely : RelyOn w h w.nodes w.rows pairs h = rely_unwritten w h h w.nodes w.rows pairs (unwritten_same h) (same_comes w h) (shadows_same h w.rows) marks in
+    let rely : RelyOn w h w.nodes w.rows pairs h = rely_calm w h h w.nodes w.rows pairs (calm_same h) (same_comes w h) (shadows_same h w.rows) marks in
     sees_on w h w.nodes w.rows pairs h s b k cells rely (open_now_begun w h s b e holds o) sees
 
 passes_on : (w : State) (h : List Item) (pairs : Pairs) (r : Reading) → Holds w h → OwnListed h r.start r.key → LetsGo w.nodes pairs h r.start r.cell.version → SeesAll w.nodes pairs h r.start r.key (r.cell ∷ r.older) → TurnRight w h pairs r.start r.epoch r.key (read_over r.key r.start r.epoch r.older)

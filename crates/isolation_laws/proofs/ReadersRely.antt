@@ -2,11 +2,10 @@
 -- came before. Then reads under way see all that they saw, and past reads stay right.
 use Rattle.std.proofs.Common.{◌≡◌, ℕ, ◌<◌, ◌≤◌, List, ◌∷◌, Option, Some, None, ◌⊎◌, inl, inr, sym, ◌∙◌, arith}
 use Rattle.history_book.specs.Members.{◌∈◌, AtEach}
-use Rattle.history_book.specs.Isolation.{Committed, Wrote, last_write, WasListed, Candidate, Newest, Visible, RightAnswer, RightRead}
+use Rattle.history_book.specs.Isolation.{Committed, Wrote, last_write, Candidate, Newest, Visible, RightAnswer, RightRead}
 use Rattle.history_book.specs.declared.item.Found.{Found}
-use Rattle.history_book.specs.declared.item.StoreStep.TheVariants.{Keys}
 use Rattle.history_book.specs.declared.item.Item.{Item}
-use Rattle.history_book.specs.declared.item.Item.TheVariants.{Read, Placed, Step}
+use Rattle.history_book.specs.declared.item.Item.TheVariants.{Read, Placed}
 use Rattle.history_book.proofs.MemberLemmas.{AtEach-weaker}
 use Rattle.store_parts.specs.declared.rows.Cell.{Cell}
 use Rattle.store_parts.specs.Rows.{Row}
@@ -21,9 +20,10 @@ use Rattle.isolation_laws.specs.Pending.{ComesBelow, IsPending}
 use Rattle.isolation_laws.specs.UnderWay.{HasShadow}
 use Rattle.isolation_laws.specs.Reads.{IsCovered, SeesAll, IsResolvedTo, IsReading, AreReading, Outlasts}
 use Rattle.isolation_laws.specs.Holds.{Holds}
-use Rattle.isolation_laws.proofs.Owners.{coming_is_markable}
+use Rattle.isolation_laws.proofs.ComingBelow.{coming_is_markable}
 use Rattle.isolation_laws.proofs.CommitsInFlight.{GoesOn}
 use Rattle.isolation_laws.proofs.NumbersKept.{open_begun}
+use Rattle.isolation_laws.proofs.Calm.{listed_goes_on}
 
 -- a commit that is placed now came below the start, and no mark stood against it
 pub record WasComing (w : State) (h : List Item) (b u d : ℕ) : Type 0 where
@@ -108,14 +108,11 @@ resolved_on w h nodes rows pairs g s k b e t LastLook rely holds o is = (
 pub open_now_begun : (w : State) (h : List Item) (s b e : ℕ) → Holds w h → OpenAt w.clients s b e → Begun h s b
 open_now_begun w h s b e holds o = open_begun w.clients h s b o.client holds.requests.have_begun o.at o.state_is o.start_is
 
-pub listed_so : (h g : List Item) (t : ℕ) → GoesOn h g → WasListed h t → WasListed g t
-listed_so h g t on (actor, count, m) = (actor, count, on (Step actor (Keys t count)) m)
-
 pub reading_on : (w : State) (h : List Item) (nodes : List (Option InstanceEntry)) (rows : List Row) (pairs : Pairs) (g : List Item) (s b e : ℕ) (r : Reading) → RelyOn w h nodes rows pairs g → ((k : ℕ) → last_write g b k ≡ last_write h b k) → Holds w h → OpenAt w.clients s b e → IsReading w.nodes w.rows w.pairs h b e r → IsReading nodes rows pairs g b e r
 reading_on w h nodes rows pairs g s b e r rely own holds o is = record {
   start_is = is.start_is;
   epoch_is = is.epoch_is;
-  own = λ value wrote. listed_so h g b rely.on (is.own value (sym (own r.key) ∙ wrote));
+  own = λ value wrote. listed_goes_on h g b rely.on (is.own value (sym (own r.key) ∙ wrote));
   sees = sees_on w h nodes rows pairs g s b r.key (r.cell ∷ r.older) rely (open_now_begun w h s b e holds o) is.sees;
   resolved = resolved_on w h nodes rows pairs g s r.key b e r.cell.version r.point rely holds o is.resolved;
 }

@@ -10,7 +10,8 @@ use Rattle.machine.specs.State.{State}
 use Rattle.machine.specs.Machine.{Move, items_after, history_after, AreSteady, Steady}
 use Rattle.isolation_laws.specs.Sound.{Stands}
 use Rattle.isolation_laws.specs.Laws.{Unplaced, IsMarkedFirst, IsLost, ReadsWhatCommits, DrawsKeepTerms, LeasesAreOfTheTerm}
-use Rattle.isolation_laws.proofs.Owners.{place_of, accepts_now}
+use Rattle.isolation_laws.proofs.OnceEach.{place_of}
+use Rattle.isolation_laws.proofs.Owners.{accepts_now}
 use Rattle.isolation_laws.proofs.AlwaysHolds.{histories_are_isolated}
 use Rattle.isolation_laws.proofs.NeverPlaced.{marked_first_after, lost_after}
 

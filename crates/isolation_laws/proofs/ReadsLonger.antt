@@ -12,21 +12,23 @@ use Rattle.client_parts.specs.declared.resolve.SettlePoint.{SettlePoint}
 use Rattle.client_parts.specs.declared.resolve.SettlePoint.TheVariants.{FirstLook, Table, Marking, LastLook}
 use Rattle.client_parts.specs.KeyRead.{Reading}
 use Rattle.oracle_parts.specs.Instance.{InstanceEntry}
-use Rattle.machine.specs.State.{Reads, Client}
-use Rattle.isolation_laws.specs.Words.{ClientAt, epoch_or_none, OpenAt}
+use Rattle.machine.specs.State.{Reads, Client, State}
+use Rattle.isolation_laws.specs.Words.{ClientAt, epoch_or_none, OpenAt, Begun}
 use Rattle.isolation_laws.specs.Reads.{SeesAll, IsResolvedTo, IsReading, AreReading}
 use Rattle.isolation_laws.proofs.Lookups.{set_found, set_other, client_set, one_client}
 use Rattle.isolation_laws.proofs.CommitsInFlight.{GoesOn}
-use Rattle.isolation_laws.proofs.ReadersRely.{listed_so}
-use Rattle.isolation_laws.proofs.Unwritten.{Unwritten}
+use Rattle.isolation_laws.proofs.ReadersRely.{RelyOn}
+use Rattle.isolation_laws.proofs.Calm.{Calm, listed_goes_on}
+use Rattle.isolation_laws.specs.Pending.{ComesBelow}
+use Rattle.isolation_laws.proofs.StoresStay.{MarksStay, ShadowsStay}
 
-candidate_old : (h g : List Item) (b k t c : ℕ) → Unwritten h g → Candidate g b k t c → Candidate h b k t c
+candidate_old : (h g : List Item) (b k t c : ℕ) → Calm h g → Candidate g b k t c → Candidate h b k t c
 candidate_old h g b k t c un is = record { committed = un.placed t c is.committed; below = is.below; wrote = (is.wrote.0, sym (un.writes t k) ∙ is.wrote.1) }
 
-candidate_new : (h g : List Item) (b k t c : ℕ) → Unwritten h g → Candidate h b k t c → Candidate g b k t c
+candidate_new : (h g : List Item) (b k t c : ℕ) → Calm h g → Candidate h b k t c → Candidate g b k t c
 candidate_new h g b k t c un is = record { committed = un.on (Placed t c) is.committed; below = is.below; wrote = (is.wrote.0, un.writes t k ∙ is.wrote.1) }
 
-pub visible_longer : (h g : List Item) (b k : ℕ) (answer : Option Found) → Unwritten h g → Visible h b k answer → Visible g b k answer
+pub visible_longer : (h g : List Item) (b k : ℕ) (answer : Option Found) → Calm h g → Visible h b k answer → Visible g b k answer
 visible_longer h g b k None un is = λ t c candidate. is t c (candidate_old h g b k t c un candidate)
 visible_longer h g b k (Some found) un is = record {
   commit = is.commit;
@@ -35,12 +37,12 @@ visible_longer h g b k (Some found) un is = record {
   greatest = λ t c candidate. is.greatest t c (candidate_old h g b k t c un candidate);
 }
 
-pub right_longer : (h g before : List Item) (b k : ℕ) (answer : Option Found) (own : Option (List ℕ)) → Unwritten h g → GoesOn h before → RightAnswer h h b k answer own → RightAnswer g before b k answer own
+pub right_longer : (h g before : List Item) (b k : ℕ) (answer : Option Found) (own : Option (List ℕ)) → Calm h g → GoesOn h before → RightAnswer h h b k answer own → RightAnswer g before b k answer own
 right_longer h g before b k answer None un on is = visible_longer h g b k answer un is
 right_longer h g before b k answer (Some own) un on (inl mine) = inl mine
-right_longer h g before b k answer (Some own) un on (inr (listed, visible)) = inr (listed_so h before b on listed, visible_longer h g b k answer un visible)
+right_longer h g before b k answer (Some own) un on (inr (listed, visible)) = inr (listed_goes_on h before b on listed, visible_longer h g b k answer un visible)
 
-sees_longer : (nodes : List (Option InstanceEntry)) (pairs : Pairs) (h g : List Item) (b k : ℕ) (cells : List Cell) → Unwritten h g → SeesAll nodes pairs h b k cells → SeesAll nodes pairs g b k cells
+sees_longer : (nodes : List (Option InstanceEntry)) (pairs : Pairs) (h g : List Item) (b k : ℕ) (cells : List Cell) → Calm h g → SeesAll nodes pairs h b k cells → SeesAll nodes pairs g b k cells
 sees_longer nodes pairs h g b k cells un sees = record {
   falling = sees.falling;
   below = sees.below;
@@ -51,19 +53,30 @@ sees_longer nodes pairs h g b k cells un sees = record {
   coming_values = λ i x lt comes unmarked. un.writes _ k ∙ sees.coming_values i x lt comes unmarked;
 }
 
-resolved_longer : (pairs : Pairs) (rows : List Row) (h g : List Item) (k b e t : ℕ) (point : SettlePoint) → Unwritten h g → IsResolvedTo pairs rows h k b e t point → IsResolvedTo pairs rows g k b e t point
+resolved_longer : (pairs : Pairs) (rows : List Row) (h g : List Item) (k b e t : ℕ) (point : SettlePoint) → Calm h g → IsResolvedTo pairs rows h k b e t point → IsResolvedTo pairs rows g k b e t point
 resolved_longer pairs rows h g k b e t FirstLook un is = is
 resolved_longer pairs rows h g k b e t Table un is = tt
 resolved_longer pairs rows h g k b e t Marking un is = is
 resolved_longer pairs rows h g k b e t LastLook un is = (is.0, λ c placed less. is.1 c (un.placed t c placed) less)
 
-pub reading_longer : (nodes : List (Option InstanceEntry)) (rows : List Row) (pairs : Pairs) (h g : List Item) (b e : ℕ) (r : Reading) → Unwritten h g → IsReading nodes rows pairs h b e r → IsReading nodes rows pairs g b e r
+pub reading_longer : (nodes : List (Option InstanceEntry)) (rows : List Row) (pairs : Pairs) (h g : List Item) (b e : ℕ) (r : Reading) → Calm h g → IsReading nodes rows pairs h b e r → IsReading nodes rows pairs g b e r
 reading_longer nodes rows pairs h g b e r un is = record {
   start_is = is.start_is;
   epoch_is = is.epoch_is;
-  own = λ value wrote. listed_so h g b un.on (is.own value (sym (un.writes b r.key) ∙ wrote));
+  own = λ value wrote. listed_goes_on h g b un.on (is.own value (sym (un.writes b r.key) ∙ wrote));
   sees = sees_longer nodes pairs h g b r.key (r.cell ∷ r.older) un is.sees;
   resolved = resolved_longer pairs rows h g r.key b e r.cell.version r.point un is.resolved;
+}
+
+-- ---- what readers rely on
+pub rely_calm : (w : State) (h g : List Item) (nodes : List (Option InstanceEntry)) (rows : List Row) (pairs : Pairs) → Calm h g → ((r b u : ℕ) → Begun h r b → ComesBelow nodes b u → ComesBelow w.nodes b u) → ShadowsStay h w.rows rows → MarksStay w.pairs pairs → RelyOn w h nodes rows pairs g
+rely_calm w h g nodes rows pairs un comes shadows marks = record {
+  on = un.on;
+  placed = λ b u d placed less. inl (un.placed u d placed);
+  comes = comes;
+  marks = marks;
+  writes = λ u k written. un.writes u k;
+  shadows = shadows;
 }
 
 -- ---- one client reads

@@ -3,7 +3,7 @@ use Rattle.std.proofs.Common.{◌≡◌, ℕ, ◌<◌, ◌==◌, true, List, [],
 use Rattle.std.specs.Prelude.{slice_set}
 use Rattle.std.proofs.lemmas.Bool.{cases_Bool, cases_eq, eq-eqb}
 use Rattle.std.proofs.lemmas.List.{append-nil}
-use Rattle.std.proofs.lemmas.List.Elements.{All-nil, All-cons}
+use Rattle.std.proofs.lemmas.List.Elements.{All-nil}
 use Rattle.history_book.specs.Members.{◌∈◌, AtEach}
 use Rattle.history_book.specs.Isolation.{Wrote, last_write, Visible, RightAnswer, RightRead}
 use Rattle.history_book.specs.declared.item.Found.{Found}
@@ -20,20 +20,20 @@ use Rattle.machine.specs.StoreSteps.{pairs_after}
 use Rattle.machine.specs.Events.Fetch.{found_of, client_read, read_items}
 use Rattle.isolation_laws.specs.Words.{ClientAt, epoch_or_none, OpenAt}
 use Rattle.isolation_laws.specs.Pending.{ComesBelow}
-use Rattle.isolation_laws.specs.Quiet.{Quiet, AllQuiet}
+use Rattle.isolation_laws.specs.Quiet.{Quiet}
 use Rattle.isolation_laws.specs.Reads.{IsReading, Outlasts, AreLastingReads}
 use Rattle.isolation_laws.specs.Holds.{Holds}
-use Rattle.isolation_laws.proofs.Outcomes.{Fetched, fetched_turn, fetched_state, fetched_items, ReadStepped, read_turn, read_stepped_state, read_stepped_items}
-use Rattle.isolation_laws.proofs.Pushed.{not_true, in_append}
-use Rattle.isolation_laws.proofs.OpenAfter.{read_keeps_entry}
+use Rattle.isolation_laws.proofs.OutcomesOfWork.{Fetched, fetched_turn, fetched_state, fetched_items, ReadStepped, read_turn, read_stepped_state, read_stepped_items}
+use Rattle.isolation_laws.proofs.Pushed.{not_true, in_append, one_quiet}
+use Rattle.isolation_laws.proofs.ClientsOpen.{read_keeps_entry}
 use Rattle.isolation_laws.proofs.ClientsReading.{nothing_reads}
 use Rattle.isolation_laws.proofs.StoresStay.{MarksStay, marks_same, marks_after, shadows_same}
-use Rattle.isolation_laws.proofs.Unwritten.{Unwritten, unwritten_quiet, unwritten_turn, rely_unwritten}
+use Rattle.isolation_laws.proofs.Calm.{Calm, calm_quiet, calm_turn}
 use Rattle.isolation_laws.proofs.ReadersRely.{RelyOn, reading_kept, lasts_on, right_kept}
 use Rattle.isolation_laws.proofs.ReadsStay.{ReadsRight, quiet_no_reads, rights_more, same_comes}
 use Rattle.isolation_laws.proofs.SeesFetched.{AreCellsOf, are_fetched, sees_fetched, sees_front, none_own, own_or_listed, own_value}
 use Rattle.isolation_laws.proofs.SeesPassed.{TurnRight, OwnListed, over_right}
-use Rattle.isolation_laws.proofs.ReadsLonger.{right_longer, reading_longer, ReadsNow, reading_set, reads_same}
+use Rattle.isolation_laws.proofs.ReadsLonger.{right_longer, reading_longer, ReadsNow, reading_set, reads_same, rely_calm}
 use Rattle.isolation_laws.proofs.ReadTurns.{step_right}
 
 -- ---- an answer that is right
@@ -54,7 +54,7 @@ good_turn w h pairs b e k (Asks r) own right = right.0
 good_turn w h pairs b e k (Answers a) own right = record { right = right_by h b k (found_of a.found) (last_write h b k) refl own right.visible; lasts = right.lasts }
 
 -- what the client reads after a turn
-turn_reads : (w : State) (h g : List Item) (pairs : Pairs) (b e k : ℕ) (c : Client) (turn : ReadTurn) → Unwritten h g → GoodTurn w h pairs b e k turn → ReadsNow w.nodes w.rows pairs g b e (client_read c turn)
+turn_reads : (w : State) (h g : List Item) (pairs : Pairs) (b e k : ℕ) (c : Client) (turn : ReadTurn) → Calm h g → GoodTurn w h pairs b e k turn → ReadsNow w.nodes w.rows pairs g b e (client_read c turn)
 turn_reads w h g pairs b e k c (Asks x) un good r is = subst (λ (y : Reading). IsReading w.nodes w.rows pairs g b e y) (reads_same x r is) (reading_longer w.nodes w.rows pairs h g b e x un good)
 turn_reads w h g pairs b e k c (Answers a) un good r is = absurd (nothing_reads r is)
 
@@ -82,13 +82,13 @@ given_in x s b k r c j answer (Answers a) quiet (inr (inl here)) =
     record { a = a; turn_is = refl; start_is = same.0; key_is = same.1; answer_is = same.2 }
 given_in x s b k r c j answer (Answers a) quiet (inr (inr none)) = absurd none
 
-given_lasts : (w : State) (h g : List Item) (pairs : Pairs) (b e k c j u : ℕ) (answer : Option Found) (value : List ℕ) (turn : ReadTurn) → Unwritten h g → GoodTurn w h pairs b e k turn → IsGiven b k c j turn answer → ComesBelow w.nodes c u → Wrote g u j value → Outlasts pairs c u answer
+given_lasts : (w : State) (h g : List Item) (pairs : Pairs) (b e k c j u : ℕ) (answer : Option Found) (value : List ℕ) (turn : ReadTurn) → Calm h g → GoodTurn w h pairs b e k turn → IsGiven b k c j turn answer → ComesBelow w.nodes c u → Wrote g u j value → Outlasts pairs c u answer
 given_lasts w h g pairs b e k c j u answer value turn un good given comes wrote =
     let now : GoodAnswer w h pairs b k (found_of given.a.found) = subst (λ (t : ReadTurn). GoodTurn w h pairs b e k t) given.turn_is good in
     let written : Wrote h u k value = sym (un.writes u k) ∙ (ap (last_write g u) (sym given.key_is) ∙ wrote) in
     subst (λ x. Outlasts pairs x u answer) (sym given.start_is) (subst (λ (y : Option Found). Outlasts pairs b u y) (sym given.answer_is) (now.lasts u value (subst (λ x. ComesBelow w.nodes x u) given.start_is comes) written))
 
-turn_lasting : (w : State) (h : List Item) (pairs : Pairs) (x : Item) (s b e k : ℕ) (turn : ReadTurn) → Quiet x → RelyOn w h w.nodes w.rows pairs (h ++ x ∷ read_items s b k turn) → Unwritten h (h ++ x ∷ read_items s b k turn) → GoodTurn w h pairs b e k turn → Holds w h → AreLastingReads w.nodes pairs (h ++ x ∷ read_items s b k turn)
+turn_lasting : (w : State) (h : List Item) (pairs : Pairs) (x : Item) (s b e k : ℕ) (turn : ReadTurn) → Quiet x → RelyOn w h w.nodes w.rows pairs (h ++ x ∷ read_items s b k turn) → Calm h (h ++ x ∷ read_items s b k turn) → GoodTurn w h pairs b e k turn → Holds w h → AreLastingReads w.nodes pairs (h ++ x ∷ read_items s b k turn)
 turn_lasting w h pairs x s b e k turn quiet rely un good holds = record {
   lasts = λ r c j u answer value m comes wrote. elim (in_append (Read r c j answer) h (x ∷ read_items s b k turn) m) [
     | inl old ↦ lasts_on w h w.nodes w.rows pairs (h ++ x ∷ read_items s b k turn) r c j u answer value rely holds old comes wrote
@@ -97,29 +97,26 @@ turn_lasting w h pairs x s b e k turn quiet rely un good holds = record {
 }
 
 -- ---- and is right
-turn_rights : (w : State) (h g : List Item) (pairs : Pairs) (before : List Item) (s b e k : ℕ) (turn : ReadTurn) → Unwritten h g → Unwritten h before → GoodTurn w h pairs b e k turn → AtEach (RightRead g) before → AtEach (RightRead g) (before ++ read_items s b k turn)
+turn_rights : (w : State) (h g : List Item) (pairs : Pairs) (before : List Item) (s b e k : ℕ) (turn : ReadTurn) → Calm h g → Calm h before → GoodTurn w h pairs b e k turn → AtEach (RightRead g) before → AtEach (RightRead g) (before ++ read_items s b k turn)
 turn_rights w h g pairs before s b e k (Asks r) un prior good rights = subst (AtEach (RightRead g)) (sym (append-nil before)) rights
 turn_rights w h g pairs before s b e k (Answers a) un prior good rights =
     AtEach-push (RightRead g) before (Read s b k (found_of a.found)) rights
     (subst (RightAnswer g before b k (found_of a.found)) (sym (prior.writes b k)) (right_longer h g before b k (found_of a.found) (last_write h b k) un prior.on good.right))
 
-all_one : (x : Item) → Quiet x → AllQuiet (x ∷ [])
-all_one x quiet = All-cons Quiet x [] quiet (All-nil Quiet)
-
 -- ---- a turn of a read, whatever it comes to
 pub reads_turn : (w : State) (h : List Item) (pairs : Pairs) (x : Item) (s b e k : ℕ) (c : Client) (turn : ReadTurn) → Quiet x → ClientAt w.clients s c → OpenAt w.clients s b e → MarksStay w.pairs pairs → GoodTurn w h pairs b e k turn → Holds w h → ReadsRight (slice_set w.clients s (client_read c turn)) w.nodes w.rows pairs (h ++ x ∷ read_items s b k turn)
 reads_turn w h pairs x s b e k c turn quiet at o marks good holds =
     let g : List Item = h ++ x ∷ read_items s b k turn in
-    let un : Unwritten h g = unwritten_turn h x s b k turn quiet in
-    let rely : RelyOn w h w.nodes w.rows pairs g = rely_unwritten w h g w.nodes w.rows pairs un (same_comes w h) (shadows_same h w.rows) marks in
+    let un : Calm h g = calm_turn h x s b k turn quiet in
+    let rely : RelyOn w h w.nodes w.rows pairs g = rely_calm w h g w.nodes w.rows pairs un (same_comes w h) (shadows_same h w.rows) marks in
     record {
       facts = record {
         reading = reading_set w.clients w.nodes w.rows pairs g s b e c (client_read c turn) at (read_keeps_entry c turn) o (turn_reads w h g pairs b e k c turn un good) (reading_kept w h w.nodes w.rows pairs g rely holds);
         lasting = turn_lasting w h pairs x s b e k turn quiet rely un good holds;
       };
       rights = subst (AtEach (RightRead g)) (append_assoc h (x ∷ []) (read_items s b k turn))
-          (turn_rights w h g pairs (h ++ x ∷ []) s b e k turn un (unwritten_quiet h (x ∷ []) (all_one x quiet)) good
-          (rights_more g h (x ∷ []) (quiet_no_reads (x ∷ []) (all_one x quiet)) (right_kept w h w.nodes w.rows pairs g rely holds)));
+          (turn_rights w h g pairs (h ++ x ∷ []) s b e k turn un (calm_quiet h (x ∷ []) (one_quiet x quiet)) good
+          (rights_more g h (x ∷ []) (quiet_no_reads (x ∷ []) (one_quiet x quiet)) (right_kept w h w.nodes w.rows pairs g rely holds)));
     }
 
 -- ---- a step of a read

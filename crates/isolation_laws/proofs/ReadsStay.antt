@@ -26,17 +26,23 @@ use Rattle.isolation_laws.specs.Quiet.{AllQuiet}
 use Rattle.isolation_laws.specs.Reads.{ReadFacts}
 use Rattle.isolation_laws.specs.Holds.{Holds}
 use Rattle.isolation_laws.proofs.Lookups.{one_client}
-use Rattle.isolation_laws.proofs.Outcomes.{AtOpen, Accepted, accepted_state, PlacedOne, placed_state, placed_items, WroteOne, wrote_state, wrote_items, WriteFailed}
-use Rattle.isolation_laws.proofs.Owners.{begun_once, open_unplaced, accepts_now, begun_below_last}
+use Rattle.isolation_laws.proofs.OutcomesOfRequests.{Accepted, accepted_state}
+use Rattle.isolation_laws.proofs.OutcomesOfStamps.{PlacedOne, placed_state, placed_items}
+use Rattle.isolation_laws.proofs.OutcomesOfSessions.{AtOpen, WroteOne, wrote_state, wrote_items, WriteFailed}
+use Rattle.isolation_laws.proofs.OnceEach.{begun_once}
+use Rattle.isolation_laws.proofs.Owners.{open_unplaced, accepts_now, begun_below_last}
 use Rattle.isolation_laws.proofs.Pushed.{not_true, in_append, quiet_in, last_write-quiet}
-use Rattle.isolation_laws.proofs.PendingAfter.{FewerPending, fewer_comes, fewer_placed, comes_accepted}
+use Rattle.isolation_laws.proofs.PendingAfter.{FewerPending}
+use Rattle.isolation_laws.proofs.PendingFewer.{fewer_comes, fewer_settled}
+use Rattle.isolation_laws.proofs.PendingMoved.{comes_accepted}
 use Rattle.isolation_laws.proofs.CommitsInFlight.{goes_on}
 use Rattle.isolation_laws.proofs.NumbersKept.{in_flight_of, drawn_pending, drew_commit}
-use Rattle.isolation_laws.proofs.RequestsOfSettled.{Places, places}
-use Rattle.isolation_laws.proofs.RequestsOfItems.{wrote_open, wrote_not_pending, write_no_placed}
+use Rattle.isolation_laws.proofs.SettledNow.{Places, places}
+use Rattle.isolation_laws.proofs.RequestsOfWrites.{wrote_open, wrote_not_pending}
 use Rattle.isolation_laws.proofs.StoresStay.{ShadowsStay, marks_put, shadows_same, shadows_put}
 use Rattle.isolation_laws.proofs.ReadersRely.{WasComing, IsReader, IsWritten, RelyOn, open_now_begun, reading_kept, lasts_on, right_kept}
 use Rattle.isolation_laws.proofs.ClientsReading.{FewerReading, reading_fewer, idle_reads}
+use Rattle.isolation_laws.proofs.Calm.{write_places_none}
 
 -- ---- items that answer no read
 abbrev pub NoReads : List Item → Type 0
@@ -140,7 +146,7 @@ rely_placed w h k holds =
         | inl old ↦ inl old
         | inr new ↦ inr (placed_comes w h k b u d holds new.0 new.1 less)
       ];
-      comes = none_comes w h (placed_state w k).nodes (fewer_placed w k);
+      comes = none_comes w h (placed_state w k).nodes (fewer_settled w k.it k.by);
       marks = marks_put w.pairs k.it.start (CommittedMark k.it.commit);
       writes = λ u key written. placed_writes h k.items k.it.start k.it.commit u key k.quiet;
       shadows = shadows_same h w.rows;
@@ -173,7 +179,7 @@ written_other w h k u holds (inr (inr reader)) same = idle_no_reader w h k holds
 pub rely_wrote : (w : State) (h : List Item) (k : WroteOne w) → Holds w h → RelyOn w h w.nodes (wrote_state w k).rows w.pairs (h ++ wrote_items w k)
 rely_wrote w h k holds = record {
   on = goes_on h (wrote_items w k);
-  placed = λ b u d placed less. inl (write_no_placed h k.it.session k.start k.key k.value u d placed);
+  placed = λ b u d placed less. inl (write_places_none h k.it.session k.start k.key k.value u d placed);
   comes = same_comes w h;
   marks = λ u marked. marked;
   writes = λ u key written. last_write-push h (Write k.it.session k.start k.key k.value) u key ∙ ap (λ o. option_or o (last_write h u key)) (other_write k.start u k.key key k.value k.it.session (written_other w h k u holds written));

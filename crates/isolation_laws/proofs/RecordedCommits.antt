@@ -15,7 +15,7 @@ use Rattle.oracle_parts.specs.Buckets.{pair_of, pairs_of, CommitsRise}
 use Rattle.oracle_parts.proofs.LastCommits.{NotAfter, rise_tail, rise_head}
 use Rattle.isolation_laws.specs.Words.{DrewCommit, keys_with, keys_from, written_keys, recorded_by, recorded_in, recorded}
 use Rattle.isolation_laws.specs.Numbers.{IsNewDraw, AreNewDraws}
-use Rattle.isolation_laws.proofs.Owners.{place_of}
+use Rattle.isolation_laws.proofs.OnceEach.{place_of}
 
 -- ---- written keys
 further : {X : Type 0} (first : X) (xs : List X) (x : X) → Contains xs x → Contains (first ∷ xs) x

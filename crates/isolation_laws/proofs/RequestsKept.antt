@@ -8,7 +8,7 @@ use Rattle.isolation_laws.specs.Pending.{InFlight}
 use Rattle.isolation_laws.specs.Requests.{HaveBegun, AreRequests, AreStarting, ArePending, AreSettled, AreOpen, AreKeys, RequestFacts}
 use Rattle.isolation_laws.specs.Holds.{Holds}
 use Rattle.isolation_laws.proofs.PendingAfter.{FewerPending}
-use Rattle.isolation_laws.proofs.OpenAfter.{FewerOpen}
+use Rattle.isolation_laws.proofs.ClientsOpen.{FewerOpen}
 use Rattle.isolation_laws.proofs.CommitsInFlight.{StaysPending, pending_fewer, FewerStanding, IsSettledNow, IsAcceptedNow, IsDrawnNow, settled_fewer, accepted_fewer, starting_fewer, open_fewer}
 use Rattle.isolation_laws.proofs.Silent.{Silent, silent_drawn}
 

@@ -7,15 +7,17 @@ use Rattle.machine.specs.State.{Client, State}
 use Rattle.isolation_laws.specs.Quiet.{AllQuiet}
 use Rattle.isolation_laws.specs.Requests.{RequestFacts}
 use Rattle.isolation_laws.specs.Holds.{Holds}
-use Rattle.isolation_laws.proofs.Outcomes.{Outcome, OfStill, OfGranted, OfRenewed, OfExtended, OfCrashed, OfAskedBegin, OfAskedCommit, OfAccepted, OfEnded, OfDrew, OfPlaced, OfNotPlaced, OfAnsweredBegin, OfAnsweredCommit, OfEndedReadOnly, OfWrote, OfWriteFailed, OfAborted, OfVanished, OfHealed, OfFetched, OfReadDropped, OfReadStepped, OfOutcome, OfOutcomeFailed, OfCompleted, OfSweepOpened, OfSwept, OfSweepListed, OfSweepFailed, left_by, told_by_outcome, fetched_turn, read_turn}
+use Rattle.isolation_laws.proofs.OutcomesOfWork.{fetched_turn, read_turn}
+use Rattle.isolation_laws.proofs.Outcomes.{Outcome, OfStill, OfGranted, OfRenewed, OfExtended, OfCrashed, OfAskedBegin, OfAskedCommit, OfAccepted, OfEnded, OfDrew, OfPlaced, OfNotPlaced, OfAnsweredBegin, OfAnsweredCommit, OfEndedReadOnly, OfWrote, OfWriteFailed, OfAborted, OfVanished, OfHealed, OfFetched, OfReadDropped, OfReadStepped, OfOutcome, OfOutcomeFailed, OfCompleted, OfSweepOpened, OfSwept, OfSweepListed, OfSweepFailed, left_by, told_by_outcome}
 use Rattle.isolation_laws.proofs.Silent.{silent_quiet, silent_push, silent_turn, ask_says, listing_says}
 use Rattle.isolation_laws.proofs.RequestsKept.{Leaves, requests_silent}
-use Rattle.isolation_laws.proofs.RequestsOfNodes.{leaves_still, leaves_granted, leaves_renewed, leaves_extended, leaves_crashed, leaves_asked_begin, leaves_ended, leaves_answered_commit}
-use Rattle.isolation_laws.proofs.RequestsOfClients.{leaves_read_only, leaves_write_failed, leaves_aborted, leaves_healed, leaves_fetched, leaves_dropped, leaves_read, leaves_vanished, leaves_outcome, leaves_outcome_failed, leaves_completed, leaves_alone}
+use Rattle.isolation_laws.proofs.RequestsOfNodes.{leaves_still, leaves_granted, leaves_renewed, leaves_extended, leaves_crashed, leaves_asked_begin, leaves_ended, leaves_answered_commit, leaves_alone}
+use Rattle.isolation_laws.proofs.RequestsOfClients.{leaves_read_only, leaves_write_failed, leaves_aborted, leaves_healed, leaves_fetched, leaves_dropped, leaves_read, leaves_vanished, leaves_outcome, leaves_outcome_failed, leaves_completed}
 use Rattle.isolation_laws.proofs.RequestsOfMoves.{requests_asked_commit, requests_accepted}
 use Rattle.isolation_laws.proofs.RequestsOfDraws.{requests_drew}
 use Rattle.isolation_laws.proofs.RequestsOfSettled.{requests_placed, requests_not_placed}
-use Rattle.isolation_laws.proofs.RequestsOfItems.{requests_answered_begin, requests_wrote}
+use Rattle.isolation_laws.proofs.RequestsOfBegins.{requests_answered_begin}
+use Rattle.isolation_laws.proofs.RequestsOfWrites.{requests_wrote}
 use Rattle.std.proofs.lemmas.List.{append-nil}
 use Rattle.std.proofs.Common.{sym, subst}
 

@@ -1,5 +1,5 @@
 -- What outcomes leave of requests and sessions, where one client alone changes.
-use Rattle.std.proofs.Common.{◌≡◌, ℕ, IsTrue, List, Option, ◌⊎◌, inl, inr, refl, sym, ◌∙◌, ap, subst}
+use Rattle.std.proofs.Common.{◌≡◌, ℕ, IsTrue, List, ◌⊎◌, inl, inr, refl, sym, ◌∙◌, ap, subst}
 use Rattle.std.specs.Prelude.{slice_set}
 use Rattle.std.proofs.lemmas.Option.{same_Some}
 use Rattle.history_book.specs.declared.item.Item.{Item}
@@ -20,18 +20,17 @@ use Rattle.machine.specs.Events.Write.{client_wrote}
 use Rattle.isolation_laws.specs.Words.{InstanceAt, HeldBy, ClientAt}
 use Rattle.isolation_laws.specs.Requests.{WaitsFor, AreRequests, HasAsked}
 use Rattle.isolation_laws.specs.Holds.{Holds}
-use Rattle.isolation_laws.proofs.Outcomes.{EndedReadOnly, read_only_state, WriteFailed, write_failed_state, Aborted, aborted_state, Vanished, vanished_state, Healed, healed_state, Fetched, fetched_turn, fetched_state, ReadDropped, read_dropped_state, read_turn, ReadStepped, read_stepped_state, OutcomeStepped, outcome_state, OutcomeFailed, outcome_failed_state, CompletedOne, completed_state}
-use Rattle.isolation_laws.proofs.PendingAfter.{FewerPending}
-use Rattle.isolation_laws.proofs.OpenAfter.{FewerOpen, read_keeps_entry, fewer_open_read_only, fewer_open_write_failed, fewer_open_aborted, fewer_open_vanished, fewer_open_healed, fewer_open_fetched, fewer_open_dropped, fewer_open_read, fewer_open_outcome, fewer_open_outcome_failed, fewer_open_completed}
+use Rattle.isolation_laws.proofs.OutcomesOfSessions.{EndedReadOnly, read_only_state, WriteFailed, write_failed_state, Aborted, aborted_state, Vanished, vanished_state, Healed, healed_state}
+use Rattle.isolation_laws.proofs.OutcomesOfWork.{Fetched, fetched_turn, fetched_state, ReadDropped, read_dropped_state, read_turn, ReadStepped, read_stepped_state, OutcomeStepped, outcome_state, OutcomeFailed, outcome_failed_state, CompletedOne, completed_state}
+use Rattle.isolation_laws.proofs.ClientsOpen.{FewerOpen, read_keeps_entry}
+use Rattle.isolation_laws.proofs.OpenAfter.{fewer_open_read_only, fewer_open_write_failed, fewer_open_aborted, fewer_open_vanished, fewer_open_healed, fewer_open_fetched, fewer_open_dropped, fewer_open_read, fewer_open_outcome, fewer_open_outcome_failed, fewer_open_completed}
 use Rattle.isolation_laws.proofs.ClientsAfter.{begun_kept, KeepsStart, has_none, has_by, aborted_keeps, freed_keeps, settled_keeps, asks_keep, KeysClient, keys_client, keys_set, keys_closed, gone_closed, keys_aborted, keys_freed, keys_settled, keys_asks}
 use Rattle.isolation_laws.proofs.RequestsAfter.{WaitsForNone, open_waits, outcome_waits, completing_waits, requests_client, requests_idle}
 use Rattle.isolation_laws.proofs.Standing.{standing_same}
 use Rattle.isolation_laws.proofs.CommitsInFlight.{IsSettledNow, IsAcceptedNow, IsDrawnNow}
 use Rattle.isolation_laws.proofs.RequestsKept.{Leaves}
-use Rattle.isolation_laws.proofs.RequestsOfNodes.{Becomes}
-
-same_pending : (nodes : List (Option InstanceEntry)) → FewerPending nodes nodes
-same_pending nodes q p = p
+use Rattle.isolation_laws.proofs.ClientsBecome.{Becomes}
+use Rattle.isolation_laws.proofs.PendingFewer.{same_pending}
 
 -- a client changed, and its requests still fit it
 pub leaves_client : (w : State) (h : List Item) (s : ℕ) (c new : Client) → ClientAt w.clients s c → Becomes h s c new → FewerOpen w.clients (slice_set w.clients s new) → AreRequests w.nodes (slice_set w.clients s new) → Holds w h → Leaves w h w.nodes (slice_set w.clients s new)
@@ -140,16 +139,3 @@ completed_becomes w h k holds = elim k.left_is [
 
 pub leaves_completed : (w : State) (h : List Item) (k : CompletedOne w) → Holds w h → Leaves w h w.nodes (completed_state w k).clients
 leaves_completed w h k holds = leaves_idle w h k.session k.c k.left (phase.Completing k.undo) k.client_at k.completing (completing_waits k.undo) (completed_becomes w h k holds) (fewer_open_completed w k) holds
-
--- ---- nothing of it changes
-pub leaves_alone : (w : State) (h : List Item) → Holds w h → Leaves w h w.nodes w.clients
-leaves_alone w h holds = record {
-  have_begun = holds.requests.have_begun;
-  requests = holds.requests.requests;
-  starting = standing_same IsDrawnNow w.nodes;
-  pending = same_pending w.nodes;
-  settled = standing_same IsSettledNow w.nodes;
-  accepted = standing_same IsAcceptedNow w.nodes;
-  opened = λ s t e o. o;
-  keys = holds.requests.keys;
-}

@@ -16,16 +16,18 @@ use Rattle.isolation_laws.specs.Pending.{Stage, Taken, InFlight, Pending}
 use Rattle.isolation_laws.specs.Requests.{AreStarting, IsDrawnSoFar, ArePending, RequestFacts}
 use Rattle.isolation_laws.specs.Holds.{Holds}
 use Rattle.isolation_laws.proofs.Lookups.{held_by, held_set, instance_changed}
-use Rattle.isolation_laws.proofs.Owners.{begun_once, open_not_pending, so_far_unplaced}
-use Rattle.isolation_laws.proofs.Outcomes.{Drew, drew_instance, drew_state, drew_items}
-use Rattle.isolation_laws.proofs.PendingAfter.{IsOlder, IsDrawnNow as IsDrawnQ, pending_drew}
+use Rattle.isolation_laws.proofs.OnceEach.{begun_once}
+use Rattle.isolation_laws.proofs.Owners.{open_not_pending, so_far_unplaced}
+use Rattle.isolation_laws.proofs.OutcomesOfStamps.{Drew, drew_instance, drew_state, drew_items}
+use Rattle.isolation_laws.proofs.PendingMoved.{IsOlder, IsDrawnNow as IsDrawnQ, pending_drew}
 use Rattle.isolation_laws.proofs.NumbersKept.{open_begun}
 use Rattle.isolation_laws.proofs.ClientsAfter.{have_on, written_keys-no_write}
 use Rattle.isolation_laws.proofs.RequestsAfter.{requests_fewer}
 use Rattle.isolation_laws.proofs.Standing.{standing_drew, held_drew}
 use Rattle.isolation_laws.proofs.CommitsInFlight.{goes_on, StaysPending, PendingOne, pending_one, pending_on, are_pending, IsSettledNow, IsAcceptedNow, settled_fewer, accepted_fewer, open_fewer}
 use Rattle.isolation_laws.proofs.NumbersOfDraws.{start_drawn, commit_drawn, asker_of, draw_item_is, drew_room}
-use Rattle.isolation_laws.proofs.NewDraws.{older_stamp, new_draw, drew_taken, drew_begun_old, drew_placed_old}
+use Rattle.isolation_laws.proofs.NewStamps.{older_stamp, new_draw, drew_taken}
+use Rattle.isolation_laws.proofs.NewDraws.{drew_begun_old, drew_placed_old}
 
 -- ---- what the draw brings
 write_is_draw : (s u k : ℕ) (v : List ℕ) (r n term t : ℕ) (c : Option ℕ) → Draw r n term t c ≡ Write s u k v → ⊥
@@ -68,19 +70,23 @@ other_start w h k q t holds p draws same =
     (holds.requests.requests.one q.node k.node k.session p.instance_of k.i (Commit q.session q.start q.keys) k.held.request p.progress_of k.held.progress p.at k.at (subst (λ s. HeldBy p.instance_of s (Commit q.session q.start q.keys) p.progress_of) session p.held) (held_by k.i k.session k.held k.has), session)
 
 -- ---- commits in flight
+-- a commit that was taken stays in flight, with what is drawn for it so far
+taken_one : (w : State) (h : List Item) (k : Drew w) (q : InFlight) → PendingOne h (record q { stage = Taken k.i.last }) → IsDrawnSoFar (h ++ drew_items w k) q q.stage → PendingOne (h ++ drew_items w k) q
+taken_one w h k q before so_far = record {
+  begun = in_front (Begin q.session q.start) h (drew_items w k) before.begun;
+  keys = before.keys ∙ sym (drew_keys w k h q.start);
+  some = before.some;
+  so_far = so_far;
+}
+
 older_one : (w : State) (h : List Item) (k : Drew w) (q : InFlight) → Holds w h → IsOlder w k q → PendingOne (h ++ drew_items w k) q
 older_one w h k q holds is =
     let g : List Item = h ++ drew_items w k in
     let before : PendingOne h (record q { stage = Taken k.i.last }) = pending_one w.nodes h (record q { stage = Taken k.i.last }) holds.requests.pending is.was_taken in
-    record {
-      begun = in_front (Begin q.session q.start) h (drew_items w k) before.begun;
-      keys = before.keys ∙ sym (drew_keys w k h q.start);
-      some = before.some;
-      so_far = subst (λ (stage : Stage). IsDrawnSoFar g q stage) (sym is.taken) (λ drew. elim (drew_or_drawn w k h q.start drew) [
-        | inl old ↦ before.so_far old
-        | inr now ↦ is.other (other_start w h k (record q { stage = Taken k.i.last }) q.start holds is.was_taken now refl).1
-      ]);
-    }
+    taken_one w h k q before (subst (λ (stage : Stage). IsDrawnSoFar g q stage) (sym is.taken) (λ drew. elim (drew_or_drawn w k h q.start drew) [
+      | inl old ↦ before.so_far old
+      | inr now ↦ is.other (other_start w h k (record q { stage = Taken k.i.last }) q.start holds is.was_taken now refl).1
+    ]))
 
 -- the draw of its commit
 draws_its : (w : State) (h : List Item) (k : Drew w) (q : InFlight) (request : Request) → k.held.request ≡ request → request ≡ Commit q.session q.start q.keys → q.node ≡ k.node → q.term ≡ k.i.term → DrewCommit (h ++ drew_items w k) q.session q.node q.term q.start (k.i.last + 1)
@@ -95,13 +101,8 @@ drawn_one : (w : State) (h : List Item) (k : Drew w) (q : InFlight) → Holds w 
 drawn_one w h k q holds is =
     let g : List Item = h ++ drew_items w k in
     let before : PendingOne h (record q { stage = Taken k.i.last }) = pending_one w.nodes h (record q { stage = Taken k.i.last }) holds.requests.pending is.was_taken in
-    record {
-      begun = in_front (Begin q.session q.start) h (drew_items w k) before.begun;
-      keys = before.keys ∙ sym (drew_keys w k h q.start);
-      some = before.some;
-      so_far = subst (λ (stage : Stage). IsDrawnSoFar g q stage) (sym is.has)
-          (draws_its w h k q k.held.request refl is.request_is is.node_is is.term_is, λ c placed. so_far_unplaced h (record q { stage = Taken k.i.last }) (Taken k.i.last) c holds.numbers.placed before.so_far (drew_placed_old w k h q.start c placed));
-    }
+    taken_one w h k q before (subst (λ (stage : Stage). IsDrawnSoFar g q stage) (sym is.has)
+    (draws_its w h k q k.held.request refl is.request_is is.node_is is.term_is, λ c placed. so_far_unplaced h (record q { stage = Taken k.i.last }) (Taken k.i.last) c holds.numbers.placed before.so_far (drew_placed_old w k h q.start c placed)))
 
 -- one that stays as it stood is not the one that draws
 stays_one : (w : State) (h : List Item) (k : Drew w) (q : InFlight) → Holds w h → Pending w.nodes q → ((q.node ≡ k.node) × (q.session ≡ k.session) → ⊥) → StaysPending h (h ++ drew_items w k) q

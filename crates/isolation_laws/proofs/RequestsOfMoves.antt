@@ -20,8 +20,8 @@ use Rattle.isolation_laws.specs.Requests.{IsDrawnSoFar, AreAccepted, RequestFact
 use Rattle.isolation_laws.specs.Holds.{Holds}
 use Rattle.isolation_laws.proofs.Lookups.{held_by, held_set, instance_changed}
 use Rattle.isolation_laws.proofs.Owners.{accepts_now, begun_below_last}
-use Rattle.isolation_laws.proofs.Outcomes.{AskedCommit, asked_commit_state, Accepted, accepted_state}
-use Rattle.isolation_laws.proofs.PendingAfter.{IsAsked, pending_asked_commit, IsTaken, pending_accepted}
+use Rattle.isolation_laws.proofs.OutcomesOfRequests.{AskedCommit, asked_commit_state, Accepted, accepted_state}
+use Rattle.isolation_laws.proofs.PendingMoved.{IsAsked, pending_asked_commit, IsTaken, pending_accepted}
 use Rattle.isolation_laws.proofs.OpenAfter.{fewer_open_asked_commit}
 use Rattle.isolation_laws.proofs.NumbersKept.{open_begun}
 use Rattle.isolation_laws.proofs.ClientsAfter.{begun_kept, has_by, KeysClient, keys_client, keys_set}

@@ -1,148 +1,63 @@
 -- What outcomes leave of requests and sessions, where nodes change: the record's, a crash, an ask, the end of a request.
-use Rattle.std.proofs.Common.{◌≡◌, ℕ, IsTrue, List, Some, ◌⊎◌, inl, inr, refl, sym, ◌∙◌, ap, subst}
+use Rattle.std.proofs.Common.{Option, ◌≡◌, ℕ, List, Some, ◌⊎◌, inl, inr, refl, sym, ◌∙◌, ap, subst}
+use Rattle.oracle_parts.specs.declared.instance.Progress.{Progress}
 use Rattle.std.specs.Prelude.{slice_set}
 use Rattle.history_book.specs.declared.item.Item.{Item}
-use Rattle.client_parts.specs.declared.session.State.{State as SessionState}
 use Rattle.client_parts.specs.declared.session.State.TheVariants as phase
-use Rattle.client_parts.specs.SessionSteps.{has_transaction, asked_state}
+use Rattle.client_parts.specs.SessionSteps.{asked_state}
 use Rattle.oracle_parts.specs.declared.instance.Held.{Held}
 use Rattle.oracle_parts.specs.declared.instance.Request.{Request}
 use Rattle.oracle_parts.specs.declared.instance.Request.TheVariants.{Begin, Commit}
-use Rattle.oracle_parts.specs.declared.instance.Settled.{Settled}
-use Rattle.oracle_parts.specs.declared.instance.Settled.TheVariants as how
 use Rattle.oracle_parts.specs.Instance.{InstanceEntry, held_of}
 use Rattle.oracle_parts.specs.InstanceSteps.{without_request}
 use Rattle.machine.specs.State.{Client, State}
-use Rattle.machine.specs.Clients.{client_asked, client_freed, client_aborted, client_committed, client_opened, unless_gone, unless_gone_by, after_refusal}
-use Rattle.machine.specs.Events.Crash.{after_loss}
+use Rattle.machine.specs.Clients.{client_asked, unless_gone, after_refusal}
 use Rattle.isolation_laws.specs.Words.{InstanceAt, ClientAt}
 use Rattle.isolation_laws.specs.Requests.{HaveBegun, WaitsFor, HasAsked, AreKeys}
 use Rattle.isolation_laws.specs.Holds.{Holds}
 use Rattle.isolation_laws.proofs.Lookups.{held_by, one_client}
-use Rattle.isolation_laws.proofs.Outcomes.{Still, still_state, Granted, granted_state, Renewed, renewed_state, Extended, extended_state, Crashed, crashed_state, AskedBegin, asked_begin_state, Ended, ended_state, AnsweredCommit, answered_client, answered_commit_state}
-use Rattle.isolation_laws.proofs.PendingAfter.{FewerPending, fewer_still, fewer_granted, fewer_renewed, fewer_extended, fewer_crashed, fewer_asked_begin, fewer_ended_one, fewer_answered_commit}
-use Rattle.isolation_laws.proofs.OpenAfter.{FewerOpen, gone_cases, crashed_at, fewer_open_crashed, fewer_open_asked_begin, fewer_open_ended, fewer_open_answered_commit}
-use Rattle.isolation_laws.proofs.ClientsAfter.{BegunClient, begun_set, begun_kept, KeepsStart, has_none, has_by, aborted_keeps, committed_keeps, opened_keeps, freed_keeps, KeysClient, keys_client, keys_set, keys_closed, asking_closed, keys_aborted, keys_freed, keys_committed, keys_opened}
-use Rattle.isolation_laws.proofs.RequestsAfter.{requests_fewer, free_waits, requests_over, requests_crashed, new_held, requests_new}
-use Rattle.isolation_laws.proofs.Standing.{standing_alike, held_alike, standing_ended, standing_granted, held_granted, standing_renewed, held_renewed, standing_extended, held_extended, standing_asked_begin, standing_over}
-use Rattle.isolation_laws.proofs.CommitsInFlight.{IsSettledNow, IsAcceptedNow, IsDrawnNow}
+use Rattle.isolation_laws.proofs.OutcomesOfRecord.{Still, still_state, Granted, granted_state, Renewed, renewed_state, Extended, extended_state}
+use Rattle.isolation_laws.proofs.OutcomesOfRequests.{Crashed, crashed_state, AskedBegin, asked_begin_state, Ended, ended_state}
+use Rattle.isolation_laws.proofs.OutcomesOfStamps.{AnsweredCommit, answered_client, answered_commit_state}
+use Rattle.isolation_laws.proofs.PendingAfter.{FewerPending}
+use Rattle.isolation_laws.proofs.PendingFewer.{fewer_still, fewer_granted, fewer_renewed, fewer_extended, fewer_crashed, fewer_asked_begin, fewer_ended_one, fewer_answered_commit, same_pending}
+use Rattle.isolation_laws.proofs.ClientsOpen.{FewerOpen, same_open}
+use Rattle.isolation_laws.proofs.OpenAfter.{crashed_at, fewer_open_crashed, fewer_open_asked_begin, fewer_open_ended, fewer_open_answered_commit}
+use Rattle.isolation_laws.proofs.ClientsAfter.{BegunClient, begun_set, begun_kept, has_none, KeysClient, keys_client, keys_set, keys_closed, asking_closed}
+use Rattle.isolation_laws.proofs.RequestsAfter.{requests_fewer, free_waits, requests_over, requests_crashed, new_held, requests_new, FewerHeld}
+use Rattle.isolation_laws.proofs.Standing.{standing_alike, held_alike, standing_ended, standing_granted, held_granted, standing_renewed, held_renewed, standing_extended, held_extended, standing_asked_begin, standing_over, held_same, standing_same}
+use Rattle.isolation_laws.proofs.CommitsInFlight.{IsSettledNow, IsAcceptedNow, IsDrawnNow, FewerStanding}
 use Rattle.isolation_laws.proofs.RequestsKept.{Leaves}
-
-same_open : (clients : List Client) → FewerOpen clients clients
-same_open clients s t e o = o
+use Rattle.isolation_laws.proofs.ClientsBecome.{Becomes, becomes_same, loss_becomes, refusal_becomes, answer_becomes}
 
 -- ---- the record, and what changes nothing
-pub leaves_still : (w : State) (h : List Item) (k : Still w) → Holds w h → Leaves w h (still_state w k).nodes w.clients
-leaves_still w h k holds = record {
+-- nodes that hold the same requests or fewer, for the same clients
+leaves_nodes : (w : State) (h : List Item) (nodes : List (Option InstanceEntry)) → FewerHeld w.nodes nodes → ((P : Progress → Type 0) → FewerStanding P w.nodes nodes) → FewerPending w.nodes nodes → Holds w h → Leaves w h nodes w.clients
+leaves_nodes w h nodes held standing pending holds = record {
   have_begun = holds.requests.have_begun;
-  requests = requests_fewer w.nodes k.nodes w.clients (held_alike w.nodes k.nodes k.alike) holds.requests.requests;
-  starting = standing_alike IsDrawnNow w.nodes k.nodes k.alike;
-  pending = fewer_still w k;
-  settled = standing_alike IsSettledNow w.nodes k.nodes k.alike;
-  accepted = standing_alike IsAcceptedNow w.nodes k.nodes k.alike;
+  requests = requests_fewer w.nodes nodes w.clients held holds.requests.requests;
+  starting = standing IsDrawnNow;
+  pending = pending;
+  settled = standing IsSettledNow;
+  accepted = standing IsAcceptedNow;
   opened = same_open w.clients;
   keys = holds.requests.keys;
 }
+
+pub leaves_alone : (w : State) (h : List Item) → Holds w h → Leaves w h w.nodes w.clients
+leaves_alone w h holds = leaves_nodes w h w.nodes (held_same w.nodes) (λ P. standing_same P w.nodes) (same_pending w.nodes) holds
+
+pub leaves_still : (w : State) (h : List Item) (k : Still w) → Holds w h → Leaves w h (still_state w k).nodes w.clients
+leaves_still w h k holds = leaves_nodes w h k.nodes (held_alike w.nodes k.nodes k.alike) (λ P. standing_alike P w.nodes k.nodes k.alike) (fewer_still w k) holds
 
 pub leaves_granted : (w : State) (h : List Item) (k : Granted w) → Holds w h → Leaves w h (granted_state w k).nodes w.clients
-leaves_granted w h k holds = record {
-  have_begun = holds.requests.have_begun;
-  requests = requests_fewer w.nodes (granted_state w k).nodes w.clients (held_granted w k) holds.requests.requests;
-  starting = standing_granted IsDrawnNow w k;
-  pending = fewer_granted w k;
-  settled = standing_granted IsSettledNow w k;
-  accepted = standing_granted IsAcceptedNow w k;
-  opened = same_open w.clients;
-  keys = holds.requests.keys;
-}
+leaves_granted w h k holds = leaves_nodes w h (granted_state w k).nodes (held_granted w k) (λ P. standing_granted P w k) (fewer_granted w k) holds
 
 pub leaves_renewed : (w : State) (h : List Item) (k : Renewed w) → Holds w h → Leaves w h (renewed_state w k).nodes w.clients
-leaves_renewed w h k holds = record {
-  have_begun = holds.requests.have_begun;
-  requests = requests_fewer w.nodes (renewed_state w k).nodes w.clients (held_renewed w k) holds.requests.requests;
-  starting = standing_renewed IsDrawnNow w k;
-  pending = fewer_renewed w k;
-  settled = standing_renewed IsSettledNow w k;
-  accepted = standing_renewed IsAcceptedNow w k;
-  opened = same_open w.clients;
-  keys = holds.requests.keys;
-}
+leaves_renewed w h k holds = leaves_nodes w h (renewed_state w k).nodes (held_renewed w k) (λ P. standing_renewed P w k) (fewer_renewed w k) holds
 
 pub leaves_extended : (w : State) (h : List Item) (k : Extended w) → Holds w h → Leaves w h (extended_state w k).nodes w.clients
-leaves_extended w h k holds = record {
-  have_begun = holds.requests.have_begun;
-  requests = requests_fewer w.nodes (extended_state w k).nodes w.clients (held_extended w k) holds.requests.requests;
-  starting = standing_extended IsDrawnNow w k;
-  pending = fewer_extended w k;
-  settled = standing_extended IsSettledNow w k;
-  accepted = standing_extended IsAcceptedNow w k;
-  opened = same_open w.clients;
-  keys = holds.requests.keys;
-}
-
--- ---- the client of a request that is lost, refused or answered
--- what a client becomes keeps its start, and its list stands for it
-pub record Becomes (h : List Item) (s : ℕ) (old new : Client) : Type 0 where
-  pub begun : KeepsStart old new
-  pub keys : KeysClient h new
-
-committing_has : (c : Client) → c.entry.state ≡ phase.Committing → IsTrue (has_transaction c.entry.state)
-committing_has c is = has_by c.entry.state phase.Committing is refl
-
-pub becomes_same : (h : List Item) (s : ℕ) (old new : Client) → new ≡ old → KeysClient h old → Becomes h s old new
-becomes_same h s old new same keys = record {
-  begun = λ has. (subst (λ (x : Client). IsTrue (has_transaction x.entry.state)) same has, ap (λ x. x.entry.start) same);
-  keys = subst (λ (x : Client). KeysClient h x) (sym same) keys;
-}
-
-is_gone : (state : SessionState) → (state ≡ phase.Gone) ⊎ (state ≡ phase.Gone → ⊥)
-is_gone phase.Gone = inl refl
-is_gone phase.Free = inr (λ is. cc)
-is_gone phase.Asking = inr (λ is. cc)
-is_gone phase.Open = inr (λ is. cc)
-is_gone phase.Committing = inr (λ is. cc)
-is_gone phase.OpenOutcome = inr (λ is. cc)
-is_gone (phase.Completing undo) = inr (λ is. cc)
-
-stays_gone : (old new : Client) → old.entry.state ≡ phase.Gone → unless_gone old new ≡ old
-stays_gone old new gone = ap (λ state. unless_gone_by state old new) gone
-
-unless_becomes : (h : List Item) (s : ℕ) (old new : Client) → KeysClient h old → (((old.entry.state ≡ phase.Gone) → ⊥) → Becomes h s old new) → Becomes h s old (unless_gone old new)
-unless_becomes h s old new keys becomes = elim (gone_cases old new) [
-  | inl stays ↦ becomes_same h s old (unless_gone old new) stays.0 keys
-  | inr moves ↦ elim (is_gone old.entry.state) [
-    | inl gone ↦ becomes_same h s old (unless_gone old new) (stays_gone old new gone) keys
-    | inr here ↦ subst (λ (x : Client). Becomes h s old x) (sym moves) (becomes here)
-  ]
-]
-
-loss_becomes : (h : List Item) (s : ℕ) (request : Request) (c : Client) → KeysClient h c → WaitsFor request c → Becomes h s c (after_loss request c)
-loss_becomes h s (Begin r) c keys waits = unless_becomes h s c (client_freed c) keys (λ here. record { begun = freed_keeps c; keys = keys_freed h c })
-loss_becomes h s (Commit r t ks) c keys waits = unless_becomes h s c (client_opened c) keys (λ here. elim waits [
-  | inl gone ↦ absurd (here gone)
-  | inr asked ↦ record { begun = opened_keeps c (committing_has c asked.0); keys = keys_opened h c (inl asked.0) keys }
-])
-
-refusal_becomes : (h : List Item) (s : ℕ) (request : Request) (c : Client) → KeysClient h c → WaitsFor request c → Becomes h s c (after_refusal request c)
-refusal_becomes h s (Begin r) c keys waits = unless_becomes h s c (client_freed c) keys (λ here. record { begun = freed_keeps c; keys = keys_freed h c })
-refusal_becomes h s (Commit r t ks) c keys waits = unless_becomes h s c (client_aborted c) keys (λ here. elim waits [
-  | inl gone ↦ absurd (here gone)
-  | inr asked ↦ record { begun = aborted_keeps c (committing_has c asked.0); keys = keys_aborted h c }
-])
-
-answer_becomes : (h : List Item) (s r t commit : ℕ) (ks : List ℕ) (by : Settled) (c : Client) → KeysClient h c → WaitsFor (Commit r t ks) c → Becomes h s c (unless_gone c (answered_client by c commit))
-answer_becomes h s r t commit ks how.Placed c keys waits = unless_becomes h s c (client_committed c commit) keys (λ here. elim waits [
-  | inl gone ↦ absurd (here gone)
-  | inr asked ↦ record { begun = committed_keeps c commit (committing_has c asked.0); keys = keys_committed h c commit }
-])
-answer_becomes h s r t commit ks how.Invalid c keys waits = unless_becomes h s c (client_aborted c) keys (λ here. elim waits [
-  | inl gone ↦ absurd (here gone)
-  | inr asked ↦ record { begun = aborted_keeps c (committing_has c asked.0); keys = keys_aborted h c }
-])
-answer_becomes h s r t commit ks how.Faulted c keys waits = unless_becomes h s c (client_opened c) keys (λ here. elim waits [
-  | inl gone ↦ absurd (here gone)
-  | inr asked ↦ record { begun = opened_keeps c (committing_has c asked.0); keys = keys_opened h c (inl asked.0) keys }
-])
+leaves_extended w h k holds = leaves_nodes w h (extended_state w k).nodes (held_extended w k) (λ P. standing_extended P w k) (fewer_extended w k) holds
 
 -- ---- a crash
 crash_becomes : (w : State) (h : List Item) (k : Crashed w) (s : ℕ) (c : Client) → Holds w h → ClientAt (crashed_state w k).clients s c → (old : Client) × ClientAt w.clients s old × Becomes h s old c

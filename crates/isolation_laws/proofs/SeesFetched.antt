@@ -17,7 +17,7 @@ use Rattle.isolation_laws.specs.Words.{OpenAt, Marked, cell_with}
 use Rattle.isolation_laws.specs.Pending.{ComesBelow, IsPending}
 use Rattle.isolation_laws.specs.Reads.{IsCovered, HasLastWrite, SeesAll}
 use Rattle.isolation_laws.specs.Holds.{Holds}
-use Rattle.isolation_laws.proofs.Owners.{coming_is_below}
+use Rattle.isolation_laws.proofs.ComingBelow.{coming_is_below}
 use Rattle.isolation_laws.proofs.CoveredVersions.{falls_head, among_contained, covered_front}
 
 -- what a fetch gives: cells of the rows, falling, up to the start, and all of them

@@ -19,7 +19,9 @@ use Rattle.isolation_laws.specs.Words.{Marked}
 use Rattle.isolation_laws.specs.Pending.{ComesBelow}
 use Rattle.isolation_laws.specs.Reads.{floor_at, IsCovered, SeesAll, IsReading, Outlasts}
 use Rattle.isolation_laws.specs.Holds.{Holds}
-use Rattle.isolation_laws.proofs.Owners.{one_commit, pending_unplaced, later_version}
+use Rattle.isolation_laws.proofs.OnceEach.{one_commit}
+use Rattle.isolation_laws.proofs.Owners.{pending_unplaced}
+use Rattle.isolation_laws.proofs.ComingBelow.{later_version}
 use Rattle.isolation_laws.proofs.StoresStay.{committed_not_invalid}
 use Rattle.isolation_laws.proofs.CoveredVersions.{falls_tail, covered_none, covered_cases, covered_upto}
 use Rattle.isolation_laws.proofs.SeesFetched.{pending_coming}

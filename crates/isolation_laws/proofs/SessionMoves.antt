@@ -18,11 +18,12 @@ use Rattle.isolation_laws.specs.Cells.{CellFacts}
 use Rattle.isolation_laws.specs.UnderWay.{UnderWayFacts}
 use Rattle.isolation_laws.specs.Holds.{Holds}
 use Rattle.isolation_laws.proofs.Lookups.{one_client}
-use Rattle.isolation_laws.proofs.Owners.{begun_once, not_in_flight, open_unplaced}
+use Rattle.isolation_laws.proofs.OnceEach.{begun_once}
+use Rattle.isolation_laws.proofs.Owners.{not_in_flight, open_unplaced}
 use Rattle.isolation_laws.proofs.NumbersKept.{open_begun}
 use Rattle.isolation_laws.proofs.RequestsOfMoves.{opens}
 use Rattle.isolation_laws.proofs.ClientsAfter.{has_by}
-use Rattle.isolation_laws.proofs.Outcomes.{MayHaveMarked}
+use Rattle.isolation_laws.proofs.OutcomesOfWork.{MayHaveMarked}
 use Rattle.isolation_laws.proofs.Calm.{Calm, calm_same}
 use Rattle.isolation_laws.proofs.CellsStay.{cells_pairs, marking_moves}
 use Rattle.isolation_laws.proofs.Works.{Works, AllWork, all_work, under_way, work_set, KeepsPlaced, work_on, sweeping_on}

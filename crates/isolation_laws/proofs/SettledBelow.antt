@@ -20,15 +20,18 @@ use Rattle.isolation_laws.specs.Pending.{InFlight, Has, Pending}
 use Rattle.isolation_laws.specs.Begins.{AreSettledBelow, IsPast}
 use Rattle.isolation_laws.specs.Holds.{Holds}
 use Rattle.isolation_laws.proofs.Lookups.{instance_changed, one_instance, heldby_changed, heldby_ended}
-use Rattle.isolation_laws.proofs.Outcomes.{Granted, granted_nodes, granted_state, Extended, extended_nodes, extended_state, Drew, drew_instance, drew_state, AnsweredBegin, answered_begin_state}
+use Rattle.isolation_laws.proofs.OutcomesOfRecord.{Granted, granted_nodes, granted_state, Extended, extended_nodes, extended_state}
+use Rattle.isolation_laws.proofs.OutcomesOfStamps.{Drew, drew_instance, drew_state, AnsweredBegin, answered_begin_state}
 use Rattle.isolation_laws.proofs.Owners.{begun_below_last, has_drew}
-use Rattle.isolation_laws.proofs.OpenAfter.{FewerOpen, open_answered_begin}
-use Rattle.isolation_laws.proofs.PendingAfter.{new_holds_none}
+use Rattle.isolation_laws.proofs.ClientsOpen.{FewerOpen}
+use Rattle.isolation_laws.proofs.OpenAfter.{open_answered_begin}
+use Rattle.isolation_laws.proofs.PendingAfter.{new_holds_none, drawn_same}
 use Rattle.isolation_laws.proofs.NumbersKept.{drew_start}
 use Rattle.isolation_laws.proofs.NumbersStay.{SameNumbers}
 use Rattle.isolation_laws.proofs.ReadersRely.{open_now_begun}
 use Rattle.isolation_laws.proofs.CommitsInFlight.{FewerStanding, IsDrawnNow}
 use Rattle.isolation_laws.proofs.Standing.{standing_over}
+use Rattle.isolation_laws.proofs.Orders.{three_ways}
 
 -- each instance was there, draws up to the same, and is no less far
 pub record KeepsRanges (old new : List (Option InstanceEntry)) : Type 0 where
@@ -103,9 +106,6 @@ pub below_extended : (w : State) (h : List Item) (k : Extended w) → Holds w h 
 below_extended w h k holds = extended_below w h k k.failed holds
 
 -- ---- a commit is drawn above the last stamp
-drawn_same : (a b : ℕ) → progress.Drawn a ≡ progress.Drawn b → a ≡ b
-drawn_same a b same = cc
-
 drew_past : (w : State) (k : Drew w) (b : ℕ) → IsPast k.i b → IsPast (drew_instance w k) b
 drew_past w k b past = record {
   last = omega (arith, past.last);
@@ -153,12 +153,9 @@ drawn_there w h n r t c keys j holds at held =
     let drew : DrewCommit h r n j.term t c = (has_drew w.nodes h q c holds.requests.pending p refl).0 in
     (holds.numbers.drawn.same r n j.term t n (Some c) j drew at refl).0
 
-three : (p q : ℕ) → (p < q) ⊎ ((p ≡ q) ⊎ (q < p))
-three p q = grind arith
-
 -- other instances end at or below the epoch, or begin above the start
 other_below : (w : State) (h : List Item) (k : AnsweredBegin w) (n : ℕ) (j : InstanceEntry) → Holds w h → n ≢ k.node → InstanceAt w.nodes n j → (j.ceiling ≤ k.i.epoch) ⊎ IsPast j k.start
-other_below w h k n j holds other at = elim (three j.term k.i.term) [
+other_below w h k n j holds other at = elim (three_ways j.term k.i.term) [
   | inl less ↦ inl (holds.numbers.ranges.apart n k.node j k.i at k.at less)
   | inr (inl same) ↦ absurd (holds.numbers.ranges.differ n k.node j k.i other at k.at same)
   | inr (inr more) ↦

@@ -1,7 +1,6 @@
 -- A longer history that has no further begin, draw, write or placed commit.
 use Rattle.std.proofs.Common.{◌≡◌, ℕ, List, [], ◌∷◌, ◌++◌, append_assoc, Option, Some, refl, sym, ◌∙◌, subst}
 use Rattle.std.proofs.lemmas.List.{append-nil}
-use Rattle.std.proofs.lemmas.List.Elements.{All-nil, All-cons}
 use Rattle.history_book.specs.Members.{◌∈◌}
 use Rattle.history_book.specs.Isolation.{Committed}
 use Rattle.history_book.specs.declared.item.Actor.{Actor}
@@ -14,7 +13,7 @@ use Rattle.client_parts.specs.KeyRead.{ReadTurn, Asks, Answers}
 use Rattle.machine.specs.Events.Fetch.{found_of, read_items}
 use Rattle.isolation_laws.specs.Words.{Begun, HasDrawn, written_keys}
 use Rattle.isolation_laws.specs.Quiet.{Quiet, AllQuiet}
-use Rattle.isolation_laws.proofs.Pushed.{old_begin, old_draw, old_placed, written_keys-quiet}
+use Rattle.isolation_laws.proofs.Pushed.{old_begin, old_draw, old_placed, written_keys-quiet, one_quiet}
 use Rattle.isolation_laws.proofs.ClientsAfter.{written_keys-no_write}
 
 pub record Silent (h g : List Item) : Type 0 where
@@ -80,5 +79,5 @@ silent_read h s b k (Answers a) = silent_push h (Read s b k (found_of a.found)) 
 -- a quiet item, and what a read has come to
 pub silent_turn : (h : List Item) (x : Item) (s b k : ℕ) (turn : ReadTurn) → Quiet x → Silent h (h ++ x ∷ read_items s b k turn)
 silent_turn h x s b k turn quiet =
-    let one : Silent h (h ++ x ∷ []) = silent_quiet h (x ∷ []) (All-cons Quiet x [] quiet (All-nil Quiet)) in
+    let one : Silent h (h ++ x ∷ []) = silent_quiet h (x ∷ []) (one_quiet x quiet) in
     subst (λ g. Silent h g) (append_assoc h (x ∷ []) (read_items s b k turn)) (silent_more h (h ++ x ∷ []) ((h ++ x ∷ []) ++ read_items s b k turn) one (silent_read (h ++ x ∷ []) s b k turn))

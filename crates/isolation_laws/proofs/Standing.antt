@@ -1,5 +1,6 @@
 -- What each outcome leaves of the requests that stand somewhere.
 use Rattle.std.proofs.Common.{◌≡◌, ℕ, ◌+◌, ◌≤◌, Bool, true, false, List, Option, Some, None, inl, inr, refl, sym, ◌∙◌, ap, subst, arith}
+use Rattle.oracle_parts.specs.declared.instance.Settled.{Settled}
 use Rattle.std.specs.Prelude.{slice_set}
 use Rattle.std.proofs.lemmas.Option.{same_Some, none-some}
 use Rattle.store_parts.specs.Record.{granted, renewed_until}
@@ -8,20 +9,25 @@ use Rattle.oracle_parts.specs.declared.instance.Progress.{Progress}
 use Rattle.oracle_parts.specs.declared.instance.Progress.TheVariants as progress
 use Rattle.oracle_parts.specs.declared.instance.Request.{Request}
 use Rattle.oracle_parts.specs.declared.instance.Request.TheVariants.{Begin, Commit}
-use Rattle.oracle_parts.specs.Instance.{InstanceEntry, held_of, with_request}
+use Rattle.oracle_parts.specs.Instance.{InstanceEntry, with_request}
 use Rattle.oracle_parts.specs.InstanceSteps.{without_request, just_asked, instance_widened, instance_renewed}
 use Rattle.machine.specs.State.{State}
 use Rattle.machine.specs.Events.Take.{rules_of, instance_of}
 use Rattle.isolation_laws.specs.Words.{InstanceAt, HeldBy}
 use Rattle.isolation_laws.proofs.Lookups.{instance_changed, instance_ended, held_set}
-use Rattle.isolation_laws.proofs.PendingAfter.{new_holds_none}
-use Rattle.isolation_laws.proofs.Outcomes.{AlikeNodes, Granted, granted_nodes, granted_state, Renewed, renewed_nodes, renewed_state, Extended, extended_nodes, extended_state, AskedBegin, asked_begin_state, AskedCommit, asked_commit_state, Accepted, accepted_state, Drew, drew_instance, drew_state, PlacedOne, placed_state, NotPlaced, not_placed_state}
+use Rattle.isolation_laws.proofs.PendingAfter.{new_holds_none, same_requests}
+use Rattle.isolation_laws.proofs.OutcomesOfRecord.{AlikeNodes, Granted, granted_nodes, granted_state, Renewed, renewed_nodes, renewed_state, Extended, extended_nodes, extended_state}
+use Rattle.isolation_laws.proofs.OutcomesOfRequests.{AskedBegin, asked_begin_state, AskedCommit, asked_commit_state, Accepted, accepted_state}
+use Rattle.isolation_laws.proofs.OutcomesOfStamps.{Drew, drew_instance, drew_state, AtDrawn, settled_nodes}
 use Rattle.isolation_laws.proofs.RequestsAfter.{FewerHeld, held_changed, held_moved}
 use Rattle.isolation_laws.proofs.CommitsInFlight.{FewerStanding}
 
 -- ---- all as it was
 pub standing_same : (P : Progress → Type 0) (nodes : List (Option InstanceEntry)) → FewerStanding P nodes nodes
 standing_same P nodes = record { each = λ n s j request p is at held. (j, at, held, refl, refl, omega arith) }
+
+pub held_same : (nodes : List (Option InstanceEntry)) → FewerHeld nodes nodes
+held_same nodes = record { each = λ n s j request p at held. (j, p, at, held) }
 
 pub standing_alike : (P : Progress → Type 0) (old new : List (Option InstanceEntry)) → AlikeNodes old new → FewerStanding P old new
 standing_alike P old new alike = record {
@@ -78,7 +84,7 @@ pub standing_granted : (P : Progress → Type 0) (w : State) (k : Granted w) →
 standing_granted P w k = granted_standing P w k k.failed
 
 granted_held : (w : State) (k : Granted w) (failed : Bool) → FewerHeld w.nodes (granted_nodes w k failed)
-granted_held w k true = record { each = λ n s j request p at held. (j, p, at, held) }
+granted_held w k true = held_same w.nodes
 granted_held w k false = record {
   each = λ m s x request p there held. elim (instance_changed w.nodes k.node m (instance_of w.setup k.node (granted (rules_of w.setup) w.master k.reading)) x there) [
     | inl here ↦ absurd (new_holds_none (granted (rules_of w.setup) w.master k.reading) k.node w.setup.buckets w.setup.width w.setup.slots s request p (subst (λ (y : InstanceEntry). HeldBy y s request p) here.1 held))
@@ -89,9 +95,6 @@ granted_held w k false = record {
 pub held_granted : (w : State) (k : Granted w) → FewerHeld w.nodes (granted_state w k).nodes
 held_granted w k = granted_held w k k.failed
 
-same_requests : (i j : InstanceEntry) → j.requests ≡ i.requests → (s : ℕ) (request : Request) (p : Progress) → HeldBy j s request p → HeldBy i s request p
-same_requests i j same s request p h = record { held = h.held; has = ap (λ xs. held_of (record i { requests = xs }) s) (sym same) ∙ h.has; asks = h.asks; stands = h.stands }
-
 renewed_standing : (P : Progress → Type 0) (w : State) (k : Renewed w) (failed : Bool) → FewerStanding P w.nodes (renewed_nodes w k failed)
 renewed_standing P w k true = standing_same P w.nodes
 renewed_standing P w k false = standing_changed P w.nodes k.node k.i (instance_renewed k.i (renewed_until (rules_of w.setup) w.master k.reading)) k.at refl refl (omega arith) (λ s request p is. same_requests k.i (instance_renewed k.i (renewed_until (rules_of w.setup) w.master k.reading)) refl s request p)
@@ -100,7 +103,7 @@ pub standing_renewed : (P : Progress → Type 0) (w : State) (k : Renewed w) →
 standing_renewed P w k = renewed_standing P w k k.failed
 
 renewed_held : (w : State) (k : Renewed w) (failed : Bool) → FewerHeld w.nodes (renewed_nodes w k failed)
-renewed_held w k true = record { each = λ n s j request p at held. (j, p, at, held) }
+renewed_held w k true = held_same w.nodes
 renewed_held w k false = held_changed w.nodes k.node k.i (instance_renewed k.i (renewed_until (rules_of w.setup) w.master k.reading)) k.at (λ s request p held. (p, same_requests k.i (instance_renewed k.i (renewed_until (rules_of w.setup) w.master k.reading)) refl s request p held))
 
 pub held_renewed : (w : State) (k : Renewed w) → FewerHeld w.nodes (renewed_state w k).nodes
@@ -114,7 +117,7 @@ pub standing_extended : (P : Progress → Type 0) (w : State) (k : Extended w) �
 standing_extended P w k = extended_standing P w k k.failed
 
 extended_held : (w : State) (k : Extended w) (failed : Bool) → FewerHeld w.nodes (extended_nodes w k failed)
-extended_held w k true = record { each = λ n s j request p at held. (j, p, at, held) }
+extended_held w k true = held_same w.nodes
 extended_held w k false = held_changed w.nodes k.node k.i (instance_widened k.i (w.master.ceiling + w.setup.range)) k.at (λ s request p held. (p, same_requests k.i (instance_widened k.i (w.master.ceiling + w.setup.range)) refl s request p held))
 
 pub held_extended : (w : State) (k : Extended w) → FewerHeld w.nodes (extended_state w k).nodes
@@ -137,11 +140,8 @@ pub standing_drew : (P : Progress → Type 0) (w : State) (k : Drew w) → ((sta
 standing_drew P w k other = standing_changed P w.nodes k.node k.i (drew_instance w k) k.at refl refl (omega arith)
     (λ s request p is h. kept_set P k.i k.session (record k.held { progress = progress.Drawn (k.i.last + 1) }) (other (k.i.last + 1)) s request p is (record { held = h.held; has = h.has; asks = h.asks; stands = h.stands }))
 
-pub standing_placed : (P : Progress → Type 0) (w : State) (k : PlacedOne w) → (P (progress.Settled k.it.commit k.by) → ⊥) → FewerStanding P w.nodes (placed_state w k).nodes
-standing_placed P w k other = standing_changed P w.nodes k.it.node k.it.i _ k.it.at refl refl (omega arith) (kept_set P k.it.i k.it.session (record k.it.held { progress = progress.Settled k.it.commit k.by }) other)
-
-pub standing_not_placed : (P : Progress → Type 0) (w : State) (k : NotPlaced w) → (P (progress.Settled k.it.commit k.by) → ⊥) → FewerStanding P w.nodes (not_placed_state w k).nodes
-standing_not_placed P w k other = standing_changed P w.nodes k.it.node k.it.i _ k.it.at refl refl (omega arith) (kept_set P k.it.i k.it.session (record k.it.held { progress = progress.Settled k.it.commit k.by }) other)
+pub standing_settled : (P : Progress → Type 0) (w : State) (it : AtDrawn w) (by : Settled) → (P (progress.Settled it.commit by) → ⊥) → FewerStanding P w.nodes (settled_nodes w it by)
+standing_settled P w it by other = standing_changed P w.nodes it.node it.i _ it.at refl refl (omega arith) (kept_set P it.i it.session (record it.held { progress = progress.Settled it.commit by }) other)
 
 -- ---- the same requests, wherever they stand
 pub held_accepted : (w : State) (k : Accepted w) → FewerHeld w.nodes (accepted_state w k).nodes
@@ -150,8 +150,5 @@ held_accepted w k = held_changed w.nodes k.node k.i _ k.at (held_moved k.i k.ses
 pub held_drew : (w : State) (k : Drew w) → FewerHeld w.nodes (drew_state w k).nodes
 held_drew w k = held_changed w.nodes k.node k.i (drew_instance w k) k.at (λ s request p h. held_moved k.i k.session k.held (record k.held { progress = progress.Drawn (k.i.last + 1) }) k.has refl s request p (record { held = h.held; has = h.has; asks = h.asks; stands = h.stands }))
 
-pub held_placed : (w : State) (k : PlacedOne w) → FewerHeld w.nodes (placed_state w k).nodes
-held_placed w k = held_changed w.nodes k.it.node k.it.i _ k.it.at (held_moved k.it.i k.it.session k.it.held (record k.it.held { progress = progress.Settled k.it.commit k.by }) k.it.has refl)
-
-pub held_not_placed : (w : State) (k : NotPlaced w) → FewerHeld w.nodes (not_placed_state w k).nodes
-held_not_placed w k = held_changed w.nodes k.it.node k.it.i _ k.it.at (held_moved k.it.i k.it.session k.it.held (record k.it.held { progress = progress.Settled k.it.commit k.by }) k.it.has refl)
+pub held_settled : (w : State) (it : AtDrawn w) (by : Settled) → FewerHeld w.nodes (settled_nodes w it by)
+held_settled w it by = held_changed w.nodes it.node it.i _ it.at (held_moved it.i it.session it.held (record it.held { progress = progress.Settled it.commit by }) it.has refl)

@@ -19,7 +19,8 @@ use Rattle.isolation_laws.specs.Pending.{Live}
 use Rattle.isolation_laws.specs.Cells.{IsSwept, AreShadowed, CellFacts}
 use Rattle.isolation_laws.specs.UnderWay.{HasShadow}
 use Rattle.isolation_laws.specs.Holds.{Holds}
-use Rattle.isolation_laws.proofs.Owners.{one_commit, live_unplaced}
+use Rattle.isolation_laws.proofs.OnceEach.{one_commit}
+use Rattle.isolation_laws.proofs.Owners.{live_unplaced}
 use Rattle.isolation_laws.proofs.Calm.{Calm, calm_same}
 use Rattle.isolation_laws.proofs.CellsStay.{cells_pairs, marking_moves, removal_moves, shadow_cases, cells_shadow}
 use Rattle.isolation_laws.proofs.CellsMove.{erase_cases, cells_erase}

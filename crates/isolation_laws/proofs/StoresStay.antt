@@ -26,8 +26,8 @@ use Rattle.machine.specs.StoreSteps.{rows_after, pairs_after}
 use Rattle.isolation_laws.specs.Words.{Marked}
 use Rattle.isolation_laws.specs.UnderWay.{HasShadow, IsSweptAt}
 use Rattle.isolation_laws.specs.Holds.{Holds}
-use Rattle.isolation_laws.proofs.Outcomes.{MayHaveMarked, CompletedOne}
-use Rattle.isolation_laws.proofs.Owners.{one_commit}
+use Rattle.isolation_laws.proofs.OutcomesOfWork.{MayHaveMarked, CompletedOne}
+use Rattle.isolation_laws.proofs.OnceEach.{one_commit}
 
 -- ---- the table
 abbrev pub MarksStay : Pairs → Pairs → Type 0
@@ -100,7 +100,7 @@ shadows_put h rows key start value unplaced k t c placed has =
     looked_so rows (put_row rows key start value) k t c (looked-put_other rows key start value k t (λ keys same. unplaced c (subst (λ u. Committed h u c) (sym same) placed))) has
 
 -- the row of the key and the version, or another
-same_or_other : (key version k t : ℕ) → ((key ≡ k) × (version ≡ t)) ⊎ (key ≡ k → version ≡ t → ⊥)
+pub same_or_other : (key version k t : ℕ) → ((key ≡ k) × (version ≡ t)) ⊎ (key ≡ k → version ≡ t → ⊥)
 same_or_other key version k t = elim (cases_eq key k) [
   | inl keys ↦ elim (cases_eq version t) [ inl versions ↦ inl (keys, versions) | inr other ↦ inr (λ _ same. other same) ]
   | inr other ↦ inr (λ same _. other same)

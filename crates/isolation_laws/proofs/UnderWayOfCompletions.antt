@@ -12,12 +12,12 @@ use Rattle.machine.specs.Events.Step.{after_asks}
 use Rattle.isolation_laws.specs.Words.{Marked}
 use Rattle.isolation_laws.specs.UnderWay.{IsUndo, UnderWayFacts}
 use Rattle.isolation_laws.specs.Holds.{Holds}
-use Rattle.isolation_laws.proofs.Outcomes.{CompletedOne, completed_state}
+use Rattle.isolation_laws.proofs.OutcomesOfWork.{CompletedOne, completed_state}
 use Rattle.isolation_laws.proofs.Calm.{calm_same, calm_quiet}
 use Rattle.isolation_laws.proofs.Works.{Works, Finishes, KeepsPlaced}
-use Rattle.isolation_laws.proofs.ClientWorks.{works_freed}
+use Rattle.isolation_laws.proofs.ClientWorks.{works_freed, asks_same}
 use Rattle.isolation_laws.proofs.StoreMoves.{AskFits, keeps_same, keeps_stepped, marks_stepped}
-use Rattle.isolation_laws.proofs.CompletionSteps.{finish_fits, finish_next, undo_first}
+use Rattle.isolation_laws.proofs.CompletionSteps.{finish_fits, finish_next, undo_first, no_asks}
 use Rattle.isolation_laws.proofs.SessionMoves.{work_of, start_of, completing_not_live, under_way_moved}
 
 -- ---- what the ask needs
@@ -36,12 +36,6 @@ pub completed_fits : (w : State) (h : List Item) (k : CompletedOne w) → Holds 
 completed_fits w h k holds = fits_by_kind w h k k.undo holds k.completing
 
 -- ---- the asks that are left
-asks_are : (a b : List Ask) → Completes a ≡ Completes b → a ≡ b
-asks_are a b same = cc
-
-some_asks : (a : Ask) (xs : List Ask) → a ∷ xs ≡ [] → ⊥
-some_asks a xs same = cc
-
 completes_settles : (asks : List Ask) (x : Settling) → Completes asks ≡ Settles x → ⊥
 completes_settles asks x same = cc
 
@@ -54,20 +48,20 @@ undo_next t asked a more undo =
     record {
       left = one.1;
       shape = one.4;
-      some = λ none. some_asks a more (one.4 ∙ ap (undo_asks t) none);
+      some = λ none. no_asks a more (one.4 ∙ ap (undo_asks t) none);
     }
 
 finish_left : (w : State) (h : List Item) (c : Client) (asked a : Ask) (more : List Ask) → Holds w h → Finishes w.rows h c (asked ∷ a ∷ more) → Finishes (rows_after asked w.rows) h c (a ∷ more)
 finish_left w h c asked a more holds f = elim (finish_next w h f.0 f.1 asked (a ∷ more) holds f.4) [
-  | inl none ↦ absurd (some_asks a more none)
+  | inl none ↦ absurd (no_asks a more none)
   | inr next ↦ (f.0, f.1, f.2, f.3, next)
 ]
 
 works_next : (w : State) (h : List Item) (c : Client) (asked a : Ask) (more : List Ask) (undo : Bool) → Holds w h → c.entry.state ≡ phase.Completing undo → c.under_way ≡ Completes (asked ∷ a ∷ more) → Works w.rows h c → Works (rows_after asked w.rows) h (record c { under_way = Completes (a ∷ more) })
 works_next w h c asked a more undo holds is busy work = record {
-  finish = λ asks state now. subst (λ (xs : List Ask). Finishes (rows_after asked w.rows) h c xs) (asks_are (a ∷ more) asks now) (finish_left w h c asked a more holds (work.finish (asked ∷ a ∷ more) state busy));
+  finish = λ asks state now. subst (λ (xs : List Ask). Finishes (rows_after asked w.rows) h c xs) (asks_same (a ∷ more) asks now) (finish_left w h c asked a more holds (work.finish (asked ∷ a ∷ more) state busy));
   finish_busy = λ state. (a ∷ more, refl);
-  undo = λ t asks state start now. subst (λ (xs : List Ask). IsUndo t xs) (asks_are (a ∷ more) asks now) (undo_next t asked a more (work.undo t (asked ∷ a ∷ more) state start busy));
+  undo = λ t asks state start now. subst (λ (xs : List Ask). IsUndo t xs) (asks_same (a ∷ more) asks now) (undo_next t asked a more (work.undo t (asked ∷ a ∷ more) state start busy));
   undo_busy = λ state. (a ∷ more, refl);
   unplaced = work.unplaced;
   resolve = λ state. absurd (not_outcome undo (sym is ∙ state));

@@ -15,15 +15,15 @@ use Rattle.machine.specs.Events.Step.{client_settled, own_resolve}
 use Rattle.isolation_laws.specs.Words.{written_keys}
 use Rattle.isolation_laws.specs.UnderWay.{IsShownAt, IsOwnResolve, UnderWayFacts}
 use Rattle.isolation_laws.specs.Holds.{Holds}
-use Rattle.isolation_laws.proofs.Outcomes.{OutcomeStepped, outcome_state, OutcomeFailed, outcome_failed_state}
+use Rattle.isolation_laws.proofs.OutcomesOfWork.{OutcomeStepped, outcome_state, OutcomeFailed, outcome_failed_state}
 use Rattle.isolation_laws.proofs.Calm.{calm_quiet}
 use Rattle.isolation_laws.proofs.WrittenKeys.{key_was_written, first_key_in}
-use Rattle.isolation_laws.proofs.Works.{Works}
+use Rattle.isolation_laws.proofs.Works.{Works, no_settling}
 use Rattle.isolation_laws.proofs.ClientWorks.{works_aborted, works_committed}
 use Rattle.isolation_laws.proofs.Settled.{decided_placed, goes_shown, dead_unplaced}
 use Rattle.isolation_laws.proofs.StoreMoves.{marks_stepped}
 use Rattle.isolation_laws.proofs.SessionMoves.{work_of, start_of, marks_may_mark, under_way_moved}
-use Rattle.isolation_laws.proofs.UnderWayOfSessions.{calm_keeps, nothing_settles}
+use Rattle.isolation_laws.proofs.UnderWayOfSessions.{calm_keeps}
 
 settles_same : (x y : Settling) → Settles x ≡ Settles y → x ≡ y
 settles_same x y same = cc
@@ -31,7 +31,7 @@ settles_same x y same = cc
 -- a resolve that begins is at the first look
 resolve_opens : (rows : List Row) (h : List Item) (o : Option ℕ) (keys : List ℕ) (t : ℕ) (x : Settling) → o ≡ Some t → own_resolve o keys ≡ Settles x → IsOwnResolve rows h t keys x
 resolve_opens rows h None keys t x start is = absurd (none-some t start)
-resolve_opens rows h (Some u) [] t x start is = absurd (nothing_settles x is)
+resolve_opens rows h (Some u) [] t x start is = absurd (no_settling x is)
 resolve_opens rows h (Some u) (key ∷ keys) t x start is = subst (λ (y : Settling). IsOwnResolve rows h t (key ∷ keys) y) (settles_same (own_settling key u) x is) (record {
   key = (keys, refl);
   txn = same_Some u t start;
@@ -48,7 +48,7 @@ record OwnStep (w : State) (h : List Item) (k : OutcomeStepped w) : Type 0 where
 own_step : (w : State) (h : List Item) (k : OutcomeStepped w) → Holds w h → OwnStep w h k
 own_step w h k holds = elim k.work [
   | inl busy ↦ elim ((work_of w h k.it.session k.it.c holds k.it.client_at).resolve k.it.is_open) [
-    | inl none ↦ absurd (nothing_settles k.x (sym none ∙ busy))
+    | inl none ↦ absurd (no_settling k.x (sym none ∙ busy))
     | inr r ↦ record { start = r.1; start_is = r.3; own = subst (λ (y : Settling). IsOwnResolve w.rows h r.1 k.it.c.entry.keys y) (settles_same r.0 k.x (sym r.2 ∙ busy)) r.4 }
   ]
   | inr opens ↦

@@ -26,19 +26,21 @@ use Rattle.isolation_laws.specs.Requests.{WaitsFor, IsSettled}
 use Rattle.isolation_laws.specs.Quiet.{AllQuiet}
 use Rattle.isolation_laws.specs.UnderWay.{UnderWayFacts}
 use Rattle.isolation_laws.specs.Holds.{Holds}
-use Rattle.isolation_laws.proofs.Lookups.{held_by, one_client}
+use Rattle.isolation_laws.proofs.Lookups.{held_by}
 use Rattle.isolation_laws.proofs.Pushed.{last_write-quiet}
 use Rattle.isolation_laws.proofs.Owners.{not_in_flight, pending_unplaced}
 use Rattle.isolation_laws.proofs.OpenAfter.{crashed_at}
-use Rattle.isolation_laws.proofs.Outcomes.{Crashed, crashed_state, AskedBegin, asked_begin_state, asked_begin_items, AskedCommit, asked_commit_state, Ended, ended_state, AtDrawn, PlacedOne, placed_state, placed_items, AnsweredBegin, answered_begin_state, answered_begin_items, answered_client, AnsweredCommit, answered_commit_state}
+use Rattle.isolation_laws.proofs.OutcomesOfRequests.{Crashed, crashed_state, AskedBegin, asked_begin_state, asked_begin_items, AskedCommit, asked_commit_state, Ended, ended_state}
+use Rattle.isolation_laws.proofs.OutcomesOfStamps.{AtDrawn, PlacedOne, placed_state, placed_items, AnsweredBegin, answered_begin_state, answered_begin_items, answered_client, AnsweredCommit, answered_commit_state}
 use Rattle.isolation_laws.proofs.NumbersKept.{in_flight_of, drawn_pending}
-use Rattle.isolation_laws.proofs.RequestsOfSettled.{Places, places}
+use Rattle.isolation_laws.proofs.SettledNow.{Places, places}
 use Rattle.isolation_laws.proofs.Calm.{Calm, calm_same, calm_quiet, calm_push, last_write-other}
 use Rattle.isolation_laws.proofs.CellsMove.{IsPlacing}
 use Rattle.isolation_laws.proofs.Works.{Works, AllWork, under_way, KeepsPlaced, works_on, sweeping_on}
 use Rattle.isolation_laws.proofs.ClientWorks.{works_freed, works_opened, works_begun, works_asked, works_aborted, works_committed, works_unless}
 use Rattle.isolation_laws.proofs.StoreMoves.{keeps_same}
 use Rattle.isolation_laws.proofs.SessionMoves.{work_of, start_of, under_way_calm, under_way_client}
+use Rattle.isolation_laws.proofs.RequestsOfNodes.{waits_for}
 
 -- ---- a crash
 loss_works : (rows : List Row) (h : List Item) (request : Request) (c : Client) → Works rows h c → Works rows h (after_loss request c)
@@ -59,7 +61,7 @@ under_way_crashed w h k holds = under_way_calm w h (h ++ k.items) (crashed_state
 
 -- ---- asks
 pub calm_ask : (h : List Item) (s n : ℕ) → Calm h (h ++ AskBegin s n ∷ [])
-calm_ask h s n = calm_push h (AskBegin s n) (λ r u j v is. cc) (λ u c is. cc)
+calm_ask h s n = calm_push h (AskBegin s n) (record { writes = λ u k. refl; placed = λ u c is. cc })
 
 pub under_way_asked_begin : (w : State) (h : List Item) (k : AskedBegin w) → Holds w h → UnderWayFacts (asked_begin_state w k).clients w.sweep w.rows w.pairs (h ++ asked_begin_items w k)
 under_way_asked_begin w h k holds = under_way_client w h (h ++ asked_begin_items w k) k.session (client_asked k.c) holds (calm_ask h k.session k.node) (works_asked w.rows h k.c)
@@ -68,11 +70,6 @@ pub under_way_asked_commit : (w : State) (h : List Item) (k : AskedCommit w) →
 under_way_asked_commit w h k holds = under_way_client w h (h ++ k.items) k.session (client_asked k.c) holds (calm_quiet h k.items k.quiet) (works_asked w.rows h k.c)
 
 -- ---- a request is over
-waits_of : (w : State) (h : List Item) (n s : ℕ) (i : InstanceEntry) (held : Held) (c : Client) → Holds w h → InstanceAt w.nodes n i → held_of i s ≡ Some held → ClientAt w.clients s c → WaitsFor held.request c
-waits_of w h n s i held c holds at has client =
-    let waiting = holds.requests.requests.waits n s i held.request held.progress at (held_by i s held has) in
-    subst (λ (x : Client). WaitsFor held.request x) (one_client w.clients s waiting.0 c waiting.1 client) waiting.2
-
 own_request : (w : State) (h : List Item) (n s r t : ℕ) (keys : List ℕ) (i : InstanceEntry) (held : Held) → Holds w h → InstanceAt w.nodes n i → held_of i s ≡ Some held → held.request ≡ Commit r t keys → held.request ≡ Commit s t keys
 own_request w h n s r t keys i held holds at has is =
     let mine : session_of held.request ≡ s = holds.requests.requests.own n s i held.request held.progress at (held_by i s held has) in
@@ -104,12 +101,12 @@ ended_pending w h k s t keys holds is =
 
 pub under_way_ended : (w : State) (h : List Item) (k : Ended w) → Holds w h → UnderWayFacts (ended_state w k).clients w.sweep w.rows w.pairs (h ++ k.items)
 under_way_ended w h k holds = under_way_client w h (h ++ k.items) k.session (after_refusal k.held.request k.c) holds (calm_quiet h k.items k.quiet)
-    (refusal_works w.rows h k.held.request k.c (work_of w h k.session k.c holds k.client_at) (waits_of w h k.node k.session k.i k.held k.c holds k.at k.has k.client_at)
+    (refusal_works w.rows h k.held.request k.c (work_of w h k.session k.c holds k.client_at) (waits_for w h k.node k.session k.i k.held k.c holds k.at k.has k.client_at)
     (λ s t d keys is placed. pending_unplaced w.nodes h t d holds.numbers.placed holds.requests.pending (ended_pending w h k s t keys holds is) placed))
 
 -- ---- answers
 pub calm_begin : (h : List Item) (s t : ℕ) → Calm h (h ++ BeginItem s t ∷ [])
-calm_begin h s t = calm_push h (BeginItem s t) (λ r u j v is. cc) (λ u c is. cc)
+calm_begin h s t = calm_push h (BeginItem s t) (record { writes = λ u k. refl; placed = λ u c is. cc })
 
 pub under_way_answered_begin : (w : State) (h : List Item) (k : AnsweredBegin w) → Holds w h → UnderWayFacts (answered_begin_state w k).clients w.sweep w.rows w.pairs (h ++ answered_begin_items w k)
 under_way_answered_begin w h k holds = under_way_client w h (h ++ answered_begin_items w k) k.session (unless_gone k.c (client_begun k.c k.start k.i.epoch)) holds (calm_begin h k.session k.start)
@@ -128,7 +125,7 @@ answered_commit_works : (w : State) (h : List Item) (k : AnsweredCommit w) → H
 answered_commit_works w h k holds =
     let own : k.held.request ≡ Commit k.session k.start k.keys = own_request w h k.node k.session k.asker k.start k.keys k.i k.held holds k.at k.has k.request_is in
     let settled : IsSettled h k.start k.commit k.by = holds.requests.settled.settled k.node k.session k.start k.commit k.keys k.by k.i k.at (record { held = k.held; has = k.has; asks = own; stands = k.settled }) in
-    works_unless w.rows h k.c (answered_client k.by k.c k.commit) (work_of w h k.session k.c holds k.client_at) (λ here. elim (waits_commit k.held.request k.session k.start k.keys k.c own (waits_of w h k.node k.session k.i k.held k.c holds k.at k.has k.client_at)) [
+    works_unless w.rows h k.c (answered_client k.by k.c k.commit) (work_of w h k.session k.c holds k.client_at) (λ here. elim (waits_commit k.held.request k.session k.start k.keys k.c own (waits_for w h k.node k.session k.i k.held k.c holds k.at k.has k.client_at)) [
       | inl gone ↦ absurd (here gone)
       | inr asked ↦ answered_works w h k.session k.start k.commit k.by k.c holds k.client_at asked.0 asked.1 settled
     ])
@@ -145,7 +142,7 @@ is_placing h items t c quiet =
       placed = brings.placed;
       here = brings.here;
       writes = λ u k. subst (λ (g : List Item). last_write g u k ≡ last_write h u k) (append_assoc h (Placed t c ∷ []) items)
-          (last_write-quiet (h ++ Placed t c ∷ []) items u k quiet ∙ last_write-other h (Placed t c) u k (λ s v j value is. cc));
+          (last_write-quiet (h ++ Placed t c ∷ []) items u k quiet ∙ last_write-other h (Placed t c) u k refl);
     }
 
 -- the transaction in flight is no session's that completes, or whose outcome is open

@@ -7,17 +7,18 @@ use Rattle.history_book.specs.declared.item.Item.{Item}
 use Rattle.store_parts.specs.Rows.{Row, with_shadow}
 use Rattle.client_parts.specs.declared.resolve.Outcome.TheVariants as outcome
 use Rattle.client_parts.specs.declared.session.State.TheVariants as phase
-use Rattle.client_parts.specs.Resolve.{Settling, SettleTurn, Goes, Decides, settle_turn}
+use Rattle.client_parts.specs.Resolve.{SettleTurn, Goes, Decides, settle_turn}
 use Rattle.client_parts.specs.KeyRead.{Reading, ReadTurn, Answers, settling_of, found_by, read_by, read_ask}
-use Rattle.machine.specs.State.{UnderWay, Nothing, Settles, Client, State}
+use Rattle.machine.specs.State.{UnderWay, Nothing, Client, State}
 use Rattle.machine.specs.Clients.{client_freed, client_aborted, client_vanished}
 use Rattle.machine.specs.StoreSteps.{told_by}
 use Rattle.machine.specs.Events.Fetch.{client_read}
 use Rattle.isolation_laws.specs.UnderWay.{UnderWayFacts}
 use Rattle.isolation_laws.specs.Holds.{Holds}
-use Rattle.isolation_laws.proofs.Outcomes.{EndedReadOnly, read_only_state, Aborted, aborted_state, Vanished, vanished_state, Healed, healed_state, Fetched, fetched_turn, fetched_state, fetched_items, ReadDropped, read_dropped_state, ReadStepped, read_turn, read_stepped_state, read_stepped_items}
+use Rattle.isolation_laws.proofs.OutcomesOfSessions.{EndedReadOnly, read_only_state, Aborted, aborted_state, Vanished, vanished_state, Healed, healed_state}
+use Rattle.isolation_laws.proofs.OutcomesOfWork.{Fetched, fetched_turn, fetched_state, fetched_items, ReadDropped, read_dropped_state, ReadStepped, read_turn, read_stepped_state, read_stepped_items}
 use Rattle.isolation_laws.proofs.Calm.{calm_same, calm_quiet, calm_turn}
-use Rattle.isolation_laws.proofs.Works.{Works, KeepsPlaced}
+use Rattle.isolation_laws.proofs.Works.{Works, KeepsPlaced, no_settling}
 use Rattle.isolation_laws.proofs.ClientWorks.{works_freed, works_vanished, works_aborted, plain_open, works_plain, plain_reading, TurnHeals, read_over_heals, works_read}
 use Rattle.isolation_laws.proofs.Settled.{decided_placed}
 use Rattle.isolation_laws.proofs.StoreMoves.{keeps_same, keeps_shadow, marks_stepped}
@@ -82,9 +83,6 @@ offered : (rows : List Row) (h : List Item) (c : Client) (heal : Option (ℕ × 
 offered rows h c heal (inl same) work k t d offer = work.heal k t d (sym same ∙ offer)
 offered rows h c heal (inr none) work k t d offer = heals_none k t d h heal none offer
 
-pub nothing_settles : (x : Settling) → Nothing ≡ Settles x → ⊥
-nothing_settles x same = cc
-
 dropped_works : (w : State) (h : List Item) (k : ReadDropped w) → Holds w h → Works w.rows h (record k.c { under_way = k.under_way; heal = k.heal })
 dropped_works w h k holds =
     let work : Works w.rows h k.c = work_of w h k.session k.c holds k.client_at in
@@ -92,7 +90,7 @@ dropped_works w h k holds =
       | inl goes ↦ subst (λ (u : UnderWay). Works w.rows h (record k.c { under_way = u; heal = k.heal })) (sym goes.0) (works_heal w.rows h k.c k.heal k.heal_is work)
       | inr ends ↦ subst (λ (u : UnderWay). Works w.rows h (record k.c { under_way = u; heal = k.heal })) (sym ends.1)
           (let plain = plain_reading w.rows h k.c ends.0.0 work ends.0.1 in
-          works_plain w.rows h (record k.c { under_way = Nothing; heal = k.heal }) (record { not_completing = plain.not_completing; not_outcome = plain.not_outcome }) nothing_settles (offered w.rows h k.c k.heal k.heal_is work))
+          works_plain w.rows h (record k.c { under_way = Nothing; heal = k.heal }) (record { not_completing = plain.not_completing; not_outcome = plain.not_outcome }) no_settling (offered w.rows h k.c k.heal k.heal_is work))
     ]
 
 pub under_way_dropped : (w : State) (h : List Item) (k : ReadDropped w) → Holds w h → UnderWayFacts (read_dropped_state w k).clients w.sweep w.rows k.pairs (h ++ k.items)

@@ -25,7 +25,7 @@ use Rattle.machine.specs.StoreSteps.{rows_after, pairs_after, told_entry, told_m
 use Rattle.machine.specs.Events.SweepStep.{still_open, sweep_left}
 use Rattle.isolation_laws.specs.UnderWay.{IsSweptAt, IsSweeping, UnderWayFacts}
 use Rattle.isolation_laws.specs.Holds.{Holds}
-use Rattle.isolation_laws.proofs.Outcomes.{SweepOpened, sweep_opened_state, SweptOne, swept_state, SweepListed, sweep_listed_state, sweep_listed_items, SweepFailed, sweep_failed_state}
+use Rattle.isolation_laws.proofs.OutcomesOfSweeps.{SweepOpened, sweep_opened_state, SweptOne, swept_state, SweepListed, sweep_listed_state, sweep_listed_items, SweepFailed, sweep_failed_state}
 use Rattle.isolation_laws.proofs.Calm.{Calm, calm_same, calm_quiet, calm_push}
 use Rattle.isolation_laws.proofs.Works.{AllWork, all_work, under_way, KeepsPlaced, swept_at_on, sweeping_none, work_on}
 use Rattle.isolation_laws.proofs.StoreMoves.{AskFits, keeps_same, keeps_stepped, marks_stepped}
@@ -141,7 +141,7 @@ key_listed (r ∷ rs) k t cell found = elim (is_row-cases k t r) [
 ]
 
 pub calm_listing : (h : List Item) (txn count : ℕ) → Calm h (h ++ Step Janitor (KeysStep txn count) ∷ [])
-calm_listing h txn count = calm_push h (Step Janitor (KeysStep txn count)) (λ r u j v is. cc) (λ u c is. cc)
+calm_listing h txn count = calm_push h (Step Janitor (KeysStep txn count)) (record { writes = λ u k. refl; placed = λ u c is. cc })
 
 keys_same : (t u : ℕ) → Some (ask.Keys t) ≡ Some (ask.Keys u) → t ≡ u
 keys_same t u same = let asks = ask_is (ask.Keys t) (ask.Keys u) same in cc

@@ -159,7 +159,7 @@ pub record IsIdle (c : Client) : Type 0 where
   pub no_heal : c.heal ≡ None
   pub not_completing : (undo : Bool) → c.entry.state ≡ phase.Completing undo → ⊥
 
-no_settling : (x : Settling) → Nothing ≡ Settles x → ⊥
+pub no_settling : (x : Settling) → Nothing ≡ Settles x → ⊥
 no_settling x same = cc
 
 pub works_idle : (rows : List Row) (h : List Item) (c : Client) → IsIdle c → Works rows h c

@@ -14,9 +14,11 @@ use Rattle.isolation_laws.specs.Cells.{CellFacts}
 use Rattle.isolation_laws.specs.UnderWay.{UnderWayFacts}
 use Rattle.isolation_laws.specs.Holds.{Holds}
 use Rattle.isolation_laws.proofs.Lookups.{client_set}
-use Rattle.isolation_laws.proofs.Owners.{begun_once, open_not_pending}
-use Rattle.isolation_laws.proofs.OpenAfter.{aborted_closed, fewer_open_wrote, fewer_open_write_failed}
-use Rattle.isolation_laws.proofs.Outcomes.{AtOpen, WroteOne, wrote_state, wrote_items, WriteFailed, write_failed_state}
+use Rattle.isolation_laws.proofs.OnceEach.{begun_once}
+use Rattle.isolation_laws.proofs.Owners.{open_not_pending}
+use Rattle.isolation_laws.proofs.ClientsOpen.{aborted_closed}
+use Rattle.isolation_laws.proofs.OpenAfter.{fewer_open_wrote, fewer_open_write_failed}
+use Rattle.isolation_laws.proofs.OutcomesOfSessions.{AtOpen, WroteOne, wrote_state, wrote_items, WriteFailed, write_failed_state}
 use Rattle.isolation_laws.proofs.RequestsOfMoves.{opens}
 use Rattle.isolation_laws.proofs.CommitsInFlight.{goes_on}
 use Rattle.isolation_laws.proofs.LiveAfter.{live_by_clients}

@@ -27,7 +27,9 @@ use Rattle.machine.specs.Events.Heal.{heal_on, heal_asks}
 use Rattle.machine.specs.Events.SweepStep.{sweep_step_on, sweep_step_asks}
 use Rattle.machine.specs.Laws.{IsFaultOf, StoresAreAskedOnce}
 use Rattle.machine.proofs.PlainEvents.{plain_abort, plain_vanish, plain_sweep_open, plain_crash, plain_ask_begin, plain_ask_commit, plain_accept, plain_answer}
-use Rattle.machine.proofs.StoreEvents.{AskedOnce, asked_take, asked_renew, asked_extend, asked_put, asked_write, asked_fetch, asked_heal, asked_step, asked_sweep_step}
+use Rattle.machine.proofs.StoreAsked.{AskedOnce}
+use Rattle.machine.proofs.RecordEvents.{asked_take, asked_renew, asked_extend}
+use Rattle.machine.proofs.StoreEvents.{asked_put, asked_write, asked_fetch, asked_heal, asked_step, asked_sweep_step}
 
 -- ---- of the whole step
 record Exactly (asked : Option Store) (s : Fate → Step) : Type 0 where

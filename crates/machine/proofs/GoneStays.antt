@@ -1,179 +1,30 @@
 -- A session that has vanished stays so, over each event.
-use Rattle.std.proofs.Common.{◌≡◌, ℕ, zero, suc, false, List, [], ◌∷◌, Option, Some, None, Result, Ok, Err, refl, sym, ◌∙◌, ap, subst}
-use Rattle.std.specs.Prelude.{slice_get, slice_set, IfSome}
-use Rattle.std.specs.Option.{option_or}
-use Rattle.std.proofs.lemmas.Option.{same_Some}
+use Rattle.std.proofs.Common.{◌≡◌, ℕ, false, List, Option, Some, None, refl, sym, subst}
+use Rattle.std.specs.Prelude.{slice_get, slice_set}
 use Rattle.port_io.specs.declared.weather.Fate.{Fate}
-use Rattle.store_parts.specs.Rows.{Row}
-use Rattle.store_parts.specs.Pairs.{Pairs}
-use Rattle.history_book.specs.declared.cause.Cause.{Cause}
-use Rattle.history_book.specs.declared.cause.Cause.TheVariants as cause
-use Rattle.client_parts.specs.declared.session.State.{State as Phase}
-use Rattle.client_parts.specs.declared.session.State.TheVariants.{Gone}
-use Rattle.client_parts.specs.SessionSteps.{begin_refusal, work_refusal, step_refusal, vanish_refusal, key_refusal}
-use Rattle.oracle_parts.specs.declared.instance.Held.{Held}
-use Rattle.oracle_parts.specs.declared.instance.Decided.{Decided}
-use Rattle.oracle_parts.specs.declared.instance.Reply.{Reply}
-use Rattle.oracle_parts.specs.declared.instance.Reply.TheVariants as reply
-use Rattle.oracle_parts.specs.declared.instance.Request.{Request}
-use Rattle.oracle_parts.specs.declared.instance.Request.TheVariants.{Begin, Commit}
-use Rattle.oracle_parts.specs.Instance.{InstanceEntry, held_of, stamps_at}
-use Rattle.oracle_parts.specs.InstanceSteps.{instance_accept, instance_decide, instance_answer}
+use Rattle.oracle_parts.specs.Instance.{InstanceEntry}
 use Rattle.machine.specs.declared.event.Event.{Event}
 use Rattle.machine.specs.declared.event.Event.TheVariants as event
 use Rattle.machine.specs.State.{Client, State}
-use Rattle.machine.specs.Clients.{is_reading, after_refusal, unless_gone_by, unless_gone}
 use Rattle.machine.specs.Machine.{Step, step_by, with_reading, with_post, at_post, at_client, at_both, stepped}
-use Rattle.machine.specs.Events.Crash.{crashed_client, crashed_clients, after_loss, crash_on}
-use Rattle.machine.specs.Events.AskBegin.{ask_begin_by, ask_begin_on}
-use Rattle.machine.specs.Events.AskCommit.{ask_commit_by, ask_commit_on}
-use Rattle.machine.specs.Events.Accept.{accept_by, accept_request, accept_on}
-use Rattle.machine.specs.Events.Decide.{decide_by, decide_request, decide_on}
-use Rattle.machine.specs.Events.Answer.{answer_by, answer_request, answer_on}
-use Rattle.machine.specs.Events.Write.{write_open, write_on}
-use Rattle.machine.specs.Events.Fetch.{fetch_open, fetch_on}
-use Rattle.machine.specs.Events.Step.{step_by as step_made, step_on}
-use Rattle.machine.specs.Events.Heal.{offer_by, heal_at, heal_on}
-use Rattle.machine.specs.Events.Abort.{abort_by, abort_on}
-use Rattle.machine.specs.Events.Vanish.{vanish_by, vanish_on}
+use Rattle.machine.specs.Events.Crash.{crash_on}
+use Rattle.machine.specs.Events.AskBegin.{ask_begin_on}
+use Rattle.machine.specs.Events.AskCommit.{ask_commit_on}
+use Rattle.machine.specs.Events.Accept.{accept_on}
+use Rattle.machine.specs.Events.Decide.{decide_on}
+use Rattle.machine.specs.Events.Answer.{answer_on}
+use Rattle.machine.specs.Events.Write.{write_on}
+use Rattle.machine.specs.Events.Fetch.{fetch_on}
+use Rattle.machine.specs.Events.Step.{step_on}
+use Rattle.machine.specs.Events.Heal.{heal_on}
+use Rattle.machine.specs.Events.Abort.{abort_on}
+use Rattle.machine.specs.Events.Vanish.{vanish_on}
 use Rattle.machine.specs.Laws.{touches_clients, IsGoneAt, GoneStaysGone}
 use Rattle.machine.proofs.PartsKept.{leaves_parts}
-
-abbrev IsGone : Client → Type 0
-IsGone c = c.entry.state ≡ Gone
-
--- what becomes of a client keeps it as it is where it has vanished
-abbrev StaysGone : Client → Client → Type 0
-StaysGone old new = IsGone old → IsGone new
+use Rattle.machine.proofs.GoneClients.{IsGone, StaysGone, GoneIn, gone_here, gone_set, crash_gone, begin_gone, commit_gone, write_gone, fetch_gone, step_gone, heal_gone, abort_gone, vanish_gone, accept_gone, decide_gone, answer_gone}
 
 same_gone : (c : Client) → StaysGone c c
 same_gone c gone = gone
-
--- ---- lists of clients
-abbrev GoneIn : List Client → ℕ → Type 0
-GoneIn cs session = IfSome (slice_get cs session) (λ c. c.entry.state ≡ Gone)
-
-gone_found : (found : Option Client) (c : Client) → found ≡ Some c → IsGone c → IfSome found (λ c. c.entry.state ≡ Gone)
-gone_found None c is gone = absurd (cc)
-gone_found (Some d) c is gone = ap (λ x. x.entry.state) (same_Some d c is) ∙ gone
-
-gone_here : (cs : List Client) (session : ℕ) (c : Client) → slice_get cs session ≡ Some c → IsGone c → GoneIn cs session
-gone_here cs session c is gone = gone_found (slice_get cs session) c is gone
-
-gone_set : (cs : List Client) (at session : ℕ) (old new c : Client) → slice_get cs at ≡ Some old → StaysGone old new → slice_get cs session ≡ Some c → IsGone c → GoneIn (slice_set cs at new) session
-gone_set [] at session old new c was stays is gone = absurd (cc)
-gone_set (d ∷ ds) zero zero old new c was stays is gone = stays (ap (λ x. x.entry.state) (same_Some old c (sym was ∙ is)) ∙ gone)
-gone_set (d ∷ ds) zero (suc session) old new c was stays is gone = gone_here ds session c is gone
-gone_set (d ∷ ds) (suc at) zero old new c was stays is gone = gone_here (d ∷ ds) zero c is gone
-gone_set (d ∷ ds) (suc at) (suc session) old new c was stays is gone = gone_set ds at session old new c was stays is gone
-
--- ---- an answer that nobody hears
-unheard_by : (phase : Phase) (old new : Client) → old.entry.state ≡ phase → phase ≡ Gone → IsGone (unless_gone_by phase old new)
-unheard_by Gone old new was gone = was
-unheard_by _ old new was gone = absurd (cc)
-
-unheard : (old new : Client) → StaysGone old (unless_gone old new)
-unheard old new gone = unheard_by old.entry.state old new refl gone
-
-refusal_unheard : (request : Request) (c : Client) → StaysGone c (after_refusal request c)
-refusal_unheard (Begin session) c gone = unheard c _ gone
-refusal_unheard (Commit session start keys) c gone = unheard c _ gone
-
-loss_unheard : (request : Request) (c : Client) → StaysGone c (after_loss request c)
-loss_unheard (Begin session) c gone = unheard c _ gone
-loss_unheard (Commit session start keys) c gone = unheard c _ gone
-
--- ---- a crash
-crash_unheard : (held : Option Held) (c : Client) → StaysGone c (crashed_client held c)
-crash_unheard None c gone = gone
-crash_unheard (Some held) c gone = loss_unheard held.request c gone
-
-gone_crashed : (requests : List (Option Held)) (cs : List Client) (session : ℕ) (c : Client) → slice_get cs session ≡ Some c → IsGone c → GoneIn (crashed_clients requests cs) session
-unfolding crashed_clients
-gone_crashed [] cs session c is gone = gone_here cs session c is gone
-gone_crashed (held ∷ others) [] session c is gone = absurd (cc)
-gone_crashed (held ∷ others) (d ∷ ds) zero c is gone = crash_unheard held d (ap (λ x. x.entry.state) (same_Some d c is) ∙ gone)
-gone_crashed (held ∷ others) (d ∷ ds) (suc session) c is gone = gone_crashed others ds session c is gone
-
-crash_gone : (node : ℕ) (post : Option InstanceEntry) (cs : List Client) (session : ℕ) (c : Client) → slice_get cs session ≡ Some c → IsGone c → GoneIn (crash_on node post cs).parts.1 session
-crash_gone node None cs session c is gone = gone_here cs session c is gone
-crash_gone node (Some i) cs session c is gone = gone_crashed i.requests cs session c is gone
-
--- ---- the session's own events are refused
-begin_gone : (session node : ℕ) (post : Option InstanceEntry) (c : Client) → StaysGone c (ask_begin_on session node c post).parts.0
-begin_gone session node post c gone = subst (λ (p : Phase). IsGone (ask_begin_by session node c post (begin_refusal p)).parts.0) (sym gone) gone
-
-commit_gone : (session node : ℕ) (post : Option InstanceEntry) (c : Client) → StaysGone c (ask_commit_on session node c post).parts.0
-commit_gone session node post c gone =
-    subst (λ (p : Phase). IsGone (ask_commit_by session node c post (work_refusal p (is_reading c)) c.entry.start).parts.0) (sym gone) gone
-
-write_gone : (session key : ℕ) (value : List ℕ) (fate : Fate) (rows : List Row) (c : Client) → StaysGone c (write_on session key value fate c rows).parts.0
-write_gone session key value fate rows c gone =
-    subst (λ (p : Phase). IsGone (write_open session key value fate c rows (option_or (work_refusal p (is_reading c)) (key_refusal c.entry.keys key)) c.entry.start).parts.0) (sym gone) gone
-
-fetch_gone : (session key : ℕ) (fate : Fate) (rows : List Row) (c : Client) → StaysGone c (fetch_on session key fate c rows).parts
-fetch_gone session key fate rows c gone =
-    subst (λ (p : Phase). IsGone (fetch_open session key fate c rows (work_refusal p (is_reading c)) c.entry.start c.entry.epoch).parts) (sym gone) gone
-
-step_gone : (session : ℕ) (fate : Fate) (rows : List Row) (pairs : Pairs) (c : Client) → StaysGone c (step_on session fate c rows pairs).parts.0
-step_gone session fate rows pairs c gone =
-    subst (λ (p : Phase). IsGone (step_made session fate c rows pairs (step_refusal p (is_reading c))).parts.0) (sym gone) gone
-
-heal_gone : (session : ℕ) (fate : Fate) (rows : List Row) (pairs : Pairs) (c : Client) → StaysGone c (heal_on session fate c rows pairs).parts.0
-heal_gone session fate rows pairs c gone =
-    subst (λ (p : Phase). IsGone (heal_at session fate c rows pairs (offer_by p (is_reading c) c.heal)).parts.0) (sym gone) gone
-
-abort_gone : (session : ℕ) (c : Client) → StaysGone c (abort_on session c).parts
-abort_gone session c gone = subst (λ (p : Phase). IsGone (abort_by session c (work_refusal p (is_reading c)) c.entry.start).parts) (sym gone) gone
-
-vanish_gone : (session : ℕ) (c : Client) → StaysGone c (vanish_on session c).parts
-vanish_gone session c gone = subst (λ (p : Phase). IsGone (vanish_by session c (vanish_refusal p)).parts) (sym gone) gone
-
--- ---- a node's events serve its request
-accept_by_gone : (node session reading : ℕ) (request : Request) (left : InstanceEntry) (c : Client) (answer : Result (Unit {0}) Cause) → StaysGone c (accept_by node session reading request left c answer).parts.1
-accept_by_gone node session reading request left c (Ok tt) gone = gone
-accept_by_gone node session reading request left c (Err (cause.NoRequest s)) gone = gone
-accept_by_gone node session reading request left c (Err _) gone = refusal_unheard request c gone
-
-accept_request_gone : (node session reading : ℕ) (i : InstanceEntry) (c : Client) (held : Option Held) → StaysGone c (accept_request node session reading i c held).parts.1
-accept_request_gone node session reading i c None gone = gone
-accept_request_gone node session reading i c (Some held) gone =
-    accept_by_gone node session reading held.request (instance_accept i session reading).left c (instance_accept i session reading).answer gone
-
-accept_gone : (node session reading : ℕ) (post : Option InstanceEntry) (c : Client) → StaysGone c (accept_on node session reading post c).parts.1
-accept_gone node session reading None c gone = gone
-accept_gone node session reading (Some i) c gone = accept_request_gone node session reading i c (held_of i session) gone
-
-decide_by_gone : (node session : ℕ) (held : Held) (left : InstanceEntry) (c : Client) (answer : Result Decided Cause) → StaysGone c (decide_by node session held left c answer).parts.1
-decide_by_gone node session held left c (Ok drawn) gone = gone
-decide_by_gone node session held left c (Err (cause.NoRequest s)) gone = gone
-decide_by_gone node session held left c (Err (cause.NoStamp last)) gone = gone
-decide_by_gone node session held left c (Err _) gone = refusal_unheard held.request c gone
-
-decide_request_gone : (node session : ℕ) (i : InstanceEntry) (c : Client) (held : Option Held) → StaysGone c (decide_request node session i c held).parts.1
-decide_request_gone node session i c None gone = gone
-decide_request_gone node session i c (Some held) gone = decide_by_gone node session held (instance_decide i session).left c (instance_decide i session).answer gone
-
-decide_gone : (node session : ℕ) (post : Option InstanceEntry) (c : Client) → StaysGone c (decide_on node session post c).parts.1
-decide_gone node session None c gone = gone
-decide_gone node session (Some i) c gone = decide_request_gone node session i c (held_of i session) gone
-
-answer_by_gone : (node session start : ℕ) (c : Client) (i left : InstanceEntry) (answer : Result Reply Cause) → StaysGone c (answer_by node session start c i left answer).parts.1
-answer_by_gone node session start c i left (Ok (reply.Begun begun epoch)) gone = unheard c _ gone
-answer_by_gone node session start c i left (Ok (reply.Committed commit)) gone = unheard c _ gone
-answer_by_gone node session start c i left (Ok reply.Invalid) gone = unheard c _ gone
-answer_by_gone node session start c i left (Ok reply.Open) gone = unheard c _ gone
-answer_by_gone node session start c i left (Err (cause.NotYet commit)) gone = gone
-answer_by_gone node session start c i left (Err _) gone = gone
-
-answer_request_gone : (node session : ℕ) (i : InstanceEntry) (c : Client) (stamps : Option (ℕ × Option ℕ)) → StaysGone c (answer_request node session i c stamps).parts.1
-answer_request_gone node session i c None gone = gone
-answer_request_gone node session i c (Some stamps) gone =
-    answer_by_gone node session stamps.0 c i (instance_answer i session).left (instance_answer i session).answer gone
-
-answer_gone : (node session : ℕ) (post : Option InstanceEntry) (c : Client) → StaysGone c (answer_on node session post c).parts.1
-answer_gone node session None c gone = gone
-answer_gone node session (Some i) c gone = answer_request_gone node session i c (stamps_at i session) gone
 
 -- ---- the parts put back
 at_client_gone : (w : State) (at session : ℕ) (c : Client) (f : Client → Step) (new : Client → Client) (found : Option Client) → ((d : Client) → (f d).state.clients ≡ slice_set w.clients at (new d)) → ((d : Client) → StaysGone d (new d)) → slice_get w.clients at ≡ found → slice_get w.clients session ≡ Some c → IsGone c → IsGoneAt (at_client w found f).state session

@@ -28,7 +28,8 @@ use Rattle.machine.specs.Events.SweepStep.{sweep_step_on}
 use Rattle.machine.specs.Laws.{state_seen, KeepsStop, KeepStops, RefusalsLeaveAll}
 use Rattle.machine.proofs.Refusals.{AllLeft, put_left, same_post, same_client, same_both, post_left, client_left, both_left}
 use Rattle.machine.proofs.PlainEvents.{plain_abort, plain_vanish, plain_sweep_open, plain_crash, plain_ask_begin, plain_ask_commit, plain_accept, plain_decide, plain_answer}
-use Rattle.machine.proofs.StoreEvents.{asked_take, asked_renew, asked_extend, asked_put, asked_write, asked_fetch, asked_heal, asked_step, asked_sweep_step}
+use Rattle.machine.proofs.RecordEvents.{asked_take, asked_renew, asked_extend}
+use Rattle.machine.proofs.StoreEvents.{asked_put, asked_write, asked_fetch, asked_heal, asked_step, asked_sweep_step}
 
 keeps_at : (w : State) (node : ℕ) (post : Option InstanceEntry) → KeepStops w → slice_get w.nodes node ≡ Some post → IfSome post KeepsStop
 keeps_at w node None keeps is = tt

@@ -1,11 +1,17 @@
 pub mod PartsKept
+mod GoneClients
 mod GoneStays
 mod ToldOnce
-mod Refusals
+pub mod Refusals
+mod StandingAnswers
 mod PlainEvents
+mod StoreAsked
+mod RecordEvents
 mod StoreEvents
 mod AskedOnce
 mod LeftAll
+mod StopsOfPosts
+mod StopsOfEvents
 mod StopsKept
 mod WorkedPaths
 mod TableMoves

@@ -1,6 +1,6 @@
 -- What each kind of event leaves of the parts that it does not touch. Each of the kinds is one by the parts that it looks
 -- up and puts back.
-use Rattle.std.proofs.Common.{◌≡◌, ℕ, Bool, true, false, List, Option, Some, None, refl}
+use Rattle.std.proofs.Common.{◌≡◌, ℕ, Bool, true, false, List, Option, Some, None, refl, subst}
 use Rattle.std.specs.Prelude.{slice_get}
 use Rattle.port_io.specs.declared.weather.Fate.{Fate}
 use Rattle.store_parts.specs.Rows.{Row}
@@ -46,31 +46,60 @@ record Kept (c n s r p m : Bool) (old new : State) : Type 0 where
   pub pairs : p ≡ false → new.pairs ≡ old.pairs
   pub master : m ≡ false → new.master ≡ old.master
 
-all_kept : (clients nodes sweep rows pairs master : Bool) (w : State) → Kept clients nodes sweep rows pairs master w w
-all_kept clients nodes sweep rows pairs master w =
-    record { setup = refl; seen = refl; clients = λ _. refl; nodes = λ _. refl; sweep = λ _. refl; rows = λ _. refl; pairs = λ _. refl; master = λ _. refl }
+-- a part is the new one where it is touched
+abbrev if_touched : {A : Type 0} → Bool → A → A → A
+if_touched true old new = new
+if_touched false old new = old
+
+part_kept : {A : Type 0} (touched : Bool) (old new : A) → touched ≡ false → if_touched touched old new ≡ old
+part_kept true old new is = absurd (cc)
+part_kept false old new is = refl
+
+abbrev touched : (clients nodes sweep rows pairs master : Bool) → State → State → State
+touched clients nodes sweep rows pairs master old new = record old {
+  clients = if_touched clients old.clients new.clients;
+  nodes = if_touched nodes old.nodes new.nodes;
+  sweep = if_touched sweep old.sweep new.sweep;
+  rows = if_touched rows old.rows new.rows;
+  pairs = if_touched pairs old.pairs new.pairs;
+  master = if_touched master old.master new.master;
+}
+
+touched_kept : (clients nodes sweep rows pairs master : Bool) (old new : State) → Kept clients nodes sweep rows pairs master old (touched clients nodes sweep rows pairs master old new)
+touched_kept clients nodes sweep rows pairs master old new = record {
+  setup = refl;
+  seen = refl;
+  clients = part_kept clients old.clients new.clients;
+  nodes = part_kept nodes old.nodes new.nodes;
+  sweep = part_kept sweep old.sweep new.sweep;
+  rows = part_kept rows old.rows new.rows;
+  pairs = part_kept pairs old.pairs new.pairs;
+  master = part_kept master old.master new.master;
+}
+
+-- a state that has all but the touched parts of the old one
+kept : (clients nodes sweep rows pairs master : Bool) (old new : State) → touched clients nodes sweep rows pairs master old new ≡ new → Kept clients nodes sweep rows pairs master old new
+kept clients nodes sweep rows pairs master old new is =
+    subst (λ (left : State). Kept clients nodes sweep rows pairs master old left) is (touched_kept clients nodes sweep rows pairs master old new)
 
 -- ---- the kinds of events
 record_at : (w : State) (node : ℕ) (f : Option InstanceEntry → Effect (Option InstanceEntry × MasterRecord)) (post : Option (Option InstanceEntry)) → Kept false true false false false true w (at_post w post (λ p. step_by (f p) (λ p. record (with_post w node p.0) { master = p.1 }))).state
-record_at w node f None = all_kept false true false false false true w
-record_at w node f (Some post) =
-    record { setup = refl; seen = refl; clients = λ _. refl; nodes = λ t. cc; sweep = λ _. refl; rows = λ _. refl; pairs = λ _. refl; master = λ t. cc }
+record_at w node f None = kept false true false false false true _ _ refl
+record_at w node f (Some post) = kept false true false false false true _ _ refl
 
 kept_record : (w : State) (node : ℕ) (f : Option InstanceEntry → Effect (Option InstanceEntry × MasterRecord)) → Kept false true false false false true w (on_record w node f).state
 kept_record w node f = record_at w node f (slice_get w.nodes node)
 
 clients_at : (w : State) (node : ℕ) (f : Option InstanceEntry → Effect (Option InstanceEntry × List Client)) (post : Option (Option InstanceEntry)) → Kept true true false false false false w (at_post w post (λ p. step_by (f p) (λ p. record (with_post w node p.0) { clients = p.1 }))).state
-clients_at w node f None = all_kept true true false false false false w
-clients_at w node f (Some post) =
-    record { setup = refl; seen = refl; clients = λ t. cc; nodes = λ t. cc; sweep = λ _. refl; rows = λ _. refl; pairs = λ _. refl; master = λ _. refl }
+clients_at w node f None = kept true true false false false false _ _ refl
+clients_at w node f (Some post) = kept true true false false false false _ _ refl
 
 kept_clients : (w : State) (node : ℕ) (f : Option InstanceEntry → Effect (Option InstanceEntry × List Client)) → Kept true true false false false false w (on_clients w node f).state
 kept_clients w node f = clients_at w node f (slice_get w.nodes node)
 
 ask_at : (w : State) (session node : ℕ) (f : Client → Option InstanceEntry → Effect (Client × Option InstanceEntry)) (post : Option (Option InstanceEntry)) (c : Option Client) → Kept true true false false false false w (at_both w post c (λ post c. step_by (f c post) (λ p. with_client (with_post w node p.1) session p.0))).state
-ask_at w session node f (Some post) (Some c) =
-    record { setup = refl; seen = refl; clients = λ t. cc; nodes = λ t. cc; sweep = λ _. refl; rows = λ _. refl; pairs = λ _. refl; master = λ _. refl }
-ask_at w session node f _ _ = all_kept true true false false false false w
+ask_at w session node f (Some post) (Some c) = kept true true false false false false _ _ refl
+ask_at w session node f _ _ = kept true true false false false false _ _ refl
 
 kept_ask : (w : State) (session node : ℕ) (f : Client → Option InstanceEntry → Effect (Client × Option InstanceEntry)) → Kept true true false false false false w (on_ask w session node f).state
 kept_ask w session node f = ask_at w session node f (slice_get w.nodes node) (slice_get w.clients session)
@@ -79,48 +108,42 @@ kept_request : (w : State) (node session : ℕ) (f : Option InstanceEntry → Cl
 kept_request w node session f = ask_at w session node (λ c post. let e = f post c in record { parts = (e.parts.1, e.parts.0); items = e.items; stop = e.stop }) (slice_get w.nodes node) (slice_get w.clients session)
 
 table_at : (w : State) (node : ℕ) (f : Option InstanceEntry → Effect (Option InstanceEntry × Pairs)) (post : Option (Option InstanceEntry)) → Kept false true false false true false w (at_post w post (λ p. step_by (f p) (λ p. record (with_post w node p.0) { pairs = p.1 }))).state
-table_at w node f None = all_kept false true false false true false w
-table_at w node f (Some post) =
-    record { setup = refl; seen = refl; clients = λ _. refl; nodes = λ t. cc; sweep = λ _. refl; rows = λ _. refl; pairs = λ t. cc; master = λ _. refl }
+table_at w node f None = kept false true false false true false _ _ refl
+table_at w node f (Some post) = kept false true false false true false _ _ refl
 
 kept_table : (w : State) (node : ℕ) (f : Option InstanceEntry → Effect (Option InstanceEntry × Pairs)) → Kept false true false false true false w (on_table w node f).state
 kept_table w node f = table_at w node f (slice_get w.nodes node)
 
 stores_at : (w : State) (session : ℕ) (f : Client → Effect StepParts) (c : Option Client) → Kept true false false true true false w (at_client w c (λ c. step_by (f c) (λ p. record (with_client w session p.0) { rows = p.1; pairs = p.2 }))).state
-stores_at w session f None = all_kept true false false true true false w
-stores_at w session f (Some c) =
-    record { setup = refl; seen = refl; clients = λ t. cc; nodes = λ _. refl; sweep = λ _. refl; rows = λ t. cc; pairs = λ t. cc; master = λ _. refl }
+stores_at w session f None = kept true false false true true false _ _ refl
+stores_at w session f (Some c) = kept true false false true true false _ _ refl
 
 kept_stores : (w : State) (session : ℕ) (f : Client → Effect StepParts) → Kept true false false true true false w (on_stores w session f).state
 kept_stores w session f = stores_at w session f (slice_get w.clients session)
 
 cells_at : (w : State) (session : ℕ) (f : Client → Effect (Client × List Row)) (c : Option Client) → Kept true false false true false false w (at_client w c (λ c. step_by (f c) (λ p. record (with_client w session p.0) { rows = p.1 }))).state
-cells_at w session f None = all_kept true false false true false false w
-cells_at w session f (Some c) =
-    record { setup = refl; seen = refl; clients = λ t. cc; nodes = λ _. refl; sweep = λ _. refl; rows = λ t. cc; pairs = λ _. refl; master = λ _. refl }
+cells_at w session f None = kept true false false true false false _ _ refl
+cells_at w session f (Some c) = kept true false false true false false _ _ refl
 
 kept_cells : (w : State) (session : ℕ) (f : Client → Effect (Client × List Row)) → Kept true false false true false false w (on_cells w session f).state
 kept_cells w session f = cells_at w session f (slice_get w.clients session)
 
 client_at : (w : State) (session : ℕ) (f : Client → Effect Client) (c : Option Client) → Kept true false false false false false w (at_client w c (λ c. step_by (f c) (λ p. with_client w session p))).state
-client_at w session f None = all_kept true false false false false false w
-client_at w session f (Some c) =
-    record { setup = refl; seen = refl; clients = λ t. cc; nodes = λ _. refl; sweep = λ _. refl; rows = λ _. refl; pairs = λ _. refl; master = λ _. refl }
+client_at w session f None = kept true false false false false false _ _ refl
+client_at w session f (Some c) = kept true false false false false false _ _ refl
 
 kept_client : (w : State) (session : ℕ) (f : Client → Effect Client) → Kept true false false false false false w (on_client w session f).state
 kept_client w session f = client_at w session f (slice_get w.clients session)
 
 sweep_at : (w : State) (f : Option InstanceEntry → Effect (Option Sweeping)) (post : Option (Option InstanceEntry)) → Kept false false true false false false w (at_post w post (λ p. step_by (f p) (λ p. record w { sweep = p }))).state
-sweep_at w f None = all_kept false false true false false false w
-sweep_at w f (Some post) =
-    record { setup = refl; seen = refl; clients = λ _. refl; nodes = λ _. refl; sweep = λ t. cc; rows = λ _. refl; pairs = λ _. refl; master = λ _. refl }
+sweep_at w f None = kept false false true false false false _ _ refl
+sweep_at w f (Some post) = kept false false true false false false _ _ refl
 
 kept_sweep : (w : State) (node : ℕ) (f : Option InstanceEntry → Effect (Option Sweeping)) → Kept false false true false false false w (on_sweep w node f).state
 kept_sweep w node f = sweep_at w f (slice_get w.nodes node)
 
 kept_swept : (w : State) (effect : Effect SweepParts) → Kept false false true true true false w (on_swept w effect).state
-kept_swept w effect =
-    record { setup = refl; seen = refl; clients = λ _. refl; nodes = λ _. refl; sweep = λ t. cc; rows = λ t. cc; pairs = λ t. cc; master = λ _. refl }
+kept_swept w effect = kept false false true true true false _ _ refl
 
 -- ---- the state with the event's reading seen, and what the event keeps of it
 abbrev seen_state : State → Event → State
@@ -130,8 +153,8 @@ abbrev KeptBy : Event → State → State → Type 0
 KeptBy e old new = Kept (touches_clients e) (touches_nodes e) (touches_sweep e) (touches_rows e) (touches_pairs e) (touches_master e) old new
 
 kept_by : (w : State) (e : Event) (fate : Fate) → KeptBy e (seen_state w e) (stepped w e fate).state
-kept_by w (event.Tick to) fate = all_kept false false false false false false w
-kept_by w (event.Note actor note) fate = all_kept false false false false false false w
+kept_by w (event.Tick to) fate = kept false false false false false false _ _ refl
+kept_by w (event.Note actor note) fate = kept false false false false false false _ _ refl
 kept_by w (event.Take node reading) fate = kept_record (with_reading w reading) node (λ post. take_on w.setup node reading fate post w.master)
 kept_by w (event.Renew node reading) fate = kept_record (with_reading w reading) node (λ post. renew_on w.setup node reading fate post w.master)
 kept_by w (event.Extend node) fate = kept_record w node (λ post. extend_on w.setup node fate post w.master)

@@ -55,7 +55,7 @@ pub put_left : {P : Type 0} (w : State) (old : P) (whole : P → State) (e : Eff
 put_left w old whole e same leaves why stop is = let left = leaves why stop is in (ap whole left.0 ∙ same, left.1)
 
 -- setting what is there changes nothing
-set_same : {X : Type 0} (xs : List X) (p : ℕ) (x : X) → slice_get xs p ≡ Some x → slice_set xs p x ≡ xs
+pub set_same : {X : Type 0} (xs : List X) (p : ℕ) (x : X) → slice_get xs p ≡ Some x → slice_set xs p x ≡ xs
 set_same [] p x there = absurd (cc)
 set_same (y ∷ ys) zero x there = ap (λ z. z ∷ ys) (sym (same_Some y x there))
 set_same (y ∷ ys) (suc p) x there = ap (λ zs. y ∷ zs) (set_same ys p x there)

@@ -46,16 +46,10 @@ session_step w session found = on_stores w session (λ c. step_with session c fo
 abbrev pub janitor_step : State → Sweeping → Ask → Option Mark → Step
 janitor_step w s asked found = on_swept w (sweep_met s asked (met_with Janitor asked found w.rows w.pairs))
 
-abbrev swept : Move
-swept = record { event = SweepStep; fate = Works }
-
-pub janitor_gets : (w : State) (s : Sweeping) (txn : ℕ) (found : Option Mark) → w.sweep ≡ Some s → sweep_ask s ≡ Some (ask.Get txn) → mark_of w.pairs txn ≡ found → after_move w swept ≡ janitor_step w s (ask.Get txn) found
-janitor_gets w s txn found is asks has =
-    ap (λ (sweep : Option Sweeping). on_swept w (sweep_step_on Works sweep w.rows w.pairs)) is ∙ ap (λ (asked : Option Ask). on_swept w (sweep_at s Works w.rows w.pairs asked)) asks ∙ ap (janitor_step w s (ask.Get txn)) has
-
-pub janitor_marks : (w : State) (s : Sweeping) (txn : ℕ) (found : Option Mark) → w.sweep ≡ Some s → sweep_ask s ≡ Some (ask.Mark txn) → mark_of w.pairs txn ≡ found → after_move w swept ≡ janitor_step w s (ask.Mark txn) found
-janitor_marks w s txn found is asks has =
-    ap (λ (sweep : Option Sweeping). on_swept w (sweep_step_on Works sweep w.rows w.pairs)) is ∙ ap (λ (asked : Option Ask). on_swept w (sweep_at s Works w.rows w.pairs asked)) asks ∙ ap (janitor_step w s (ask.Mark txn)) has
+-- the checker cannot compute the janitor's get over a long history, so that it is said of any state
+pub janitor_gets : (w : State) (s : Sweeping) (txn : ℕ) → w.sweep ≡ Some s → sweep_ask s ≡ Some (ask.Get txn) → after_move w (record { event = SweepStep; fate = Works }) ≡ janitor_step w s (ask.Get txn) (mark_of w.pairs txn)
+janitor_gets w s txn is asks =
+    ap (λ (sweep : Option Sweeping). on_swept w (sweep_step_on Works sweep w.rows w.pairs)) is ∙ ap (λ (asked : Option Ask). on_swept w (sweep_at s Works w.rows w.pairs asked)) asks
 
 -- ---- a put under a fate, by what the table has
 abbrev put_with : ℕ → ℕ → Fate → Option Mark → InstanceEntry → Pairs → Option (ℕ × ℕ) → Effect (Option InstanceEntry × Pairs)
@@ -71,11 +65,17 @@ abbrev pub put_step : State → ℕ → ℕ → Fate → Option Mark → Step
 put_step w node session fate found = on_table w node (post_with node session fate found w.pairs)
 
 -- ---- the history of moves, cut at some of them
--- moves up to a cut, the move there, and its step as it is known
+-- moves up to a cut, the move there, and its step by what the table has for a transaction
 pub record Cut : Type 0 where
   pub first : List Move
   pub move : Move
-  pub step : State → Step
+  pub txn : ℕ
+  pub found : Option Mark
+  pub step : State → Option Mark → Step
+
+-- the step, once it is known what the table has
+abbrev pub cut_step_of : State → Cut → Step
+cut_step_of w c = c.step (state_after w c.first) c.found
 
 abbrev pub all_moves : List Cut → List Move → List Move
 all_moves [] last = last
@@ -83,12 +83,14 @@ all_moves (c ∷ cuts) last = c.first ++ c.move ∷ all_moves cuts last
 
 abbrev pub all_items : State → List Cut → List Move → List Item
 all_items w [] last = items_after w last
-all_items w (c ∷ cuts) last = let s : Step = c.step (state_after w c.first) in items_after w c.first ++ (s.items ++ all_items s.state cuts last)
+all_items w (c ∷ cuts) last = let s : Step = cut_step_of w c in items_after w c.first ++ (s.items ++ all_items s.state cuts last)
 
--- each step is the one that is known
+-- at each cut the table has what is said, and the move is the step by what it has
 abbrev pub AreSteps : State → List Cut → Type 0
 AreSteps w [] = Unit {0}
-AreSteps w (c ∷ cuts) = let s : Step = c.step (state_after w c.first) in (after_move (state_after w c.first) c.move ≡ s) × AreSteps s.state cuts
+AreSteps w (c ∷ cuts) =
+    let at : State = state_after w c.first in
+    (mark_of at.pairs c.txn ≡ c.found) × (after_move at c.move ≡ c.step at (mark_of at.pairs c.txn)) × AreSteps (cut_step_of w c).state cuts
 
 cut : (w : State) (first : List Move) (move : Move) (later : List Move) (s : Step) → after_move (state_after w first) move ≡ s → items_after w (first ++ move ∷ later) ≡ items_after w first ++ (s.items ++ items_after s.state later)
 unfolding items_after state_after
@@ -99,5 +101,6 @@ cut w (m ∷ first) move later s is =
 pub cut_all : (w : State) (cuts : List Cut) (last : List Move) → AreSteps w cuts → items_after w (all_moves cuts last) ≡ all_items w cuts last
 cut_all w [] last are = refl
 cut_all w (c ∷ cuts) last are =
-    let s : Step = c.step (state_after w c.first) in
-    cut w c.first c.move (all_moves cuts last) s are.0 ∙ ap (λ (items : List Item). items_after w c.first ++ (s.items ++ items)) (cut_all s.state cuts last are.1)
+    let at : State = state_after w c.first in
+    let s : Step = cut_step_of w c in
+    cut w c.first c.move (all_moves cuts last) s (are.1 ∙ ap (c.step at) are.0) ∙ ap (λ (items : List Item). items_after w c.first ++ (s.items ++ items)) (cut_all s.state cuts last are.2)

@@ -22,18 +22,18 @@ use Rattle.machine.specs.Events.Crash.{crashed_clients, all_crashed_items}
 use Rattle.machine.specs.Machine.{state_after, items_after, history_after}
 use Rattle.machine.specs.WorkedMoves.{working, v, begins, draws, drawn_events, taken_over, reader_begins}
 use Rattle.machine.specs.WorkedMoves as worked
-use Rattle.machine.proofs.TableMoves.{put_step, session_step, janitor_step, janitor_gets, janitor_marks, Cut, cut_all}
+use Rattle.machine.proofs.TableMoves.{put_step, session_step, janitor_step, janitor_gets, Cut, cut_step_of, cut_all}
 
 -- ---- the cuts: a put of the first session's commit, a session's step and the janitor's
 abbrev cut_put : List Event → Fate → Option Mark → Cut
-cut_put first fate found = record { first = working first; move = record { event = event.Put 0 0; fate = fate }; step = λ w. put_step w 0 0 fate found }
+cut_put first fate found = record { first = working first; move = record { event = event.Put 0 0; fate = fate }; txn = 1; found = found; step = λ w. put_step w 0 0 fate }
 
 abbrev cut_step : List Event → ℕ → Option Mark → Cut
-cut_step first session found = record { first = working first; move = record { event = event.Step session; fate = Works }; step = λ w. session_step w session found }
+cut_step first session found = record { first = working first; move = record { event = event.Step session; fate = Works }; txn = 1; found = found; step = λ w. session_step w session }
 
 abbrev cut_sweep : List Event → Sweeping → Ask → Option Mark → Cut
 cut_sweep first s asked found =
-    record { first = working first; move = record { event = event.SweepStep; fate = Works }; step = λ w. janitor_step w s asked found }
+    record { first = working first; move = record { event = event.SweepStep; fate = Works }; txn = 1; found = found; step = λ w. janitor_step w s asked }
 
 -- ---- what the table has: the first session's entry, once it was put, and once it was removed
 abbrev with_entry : Mark → Pairs
@@ -45,12 +45,6 @@ has_entry mark = mark_of-put_pair map.empty 1 mark ∙ ap (λ (found : Option Ma
 abbrev opening_state : State
 opening_state = opening default_numbers
 
-abbrev after : State → Cut → State
-after w c = (c.step (state_after w c.first)).state
-
-abbrev before : State → Cut → State
-before w c = state_after w c.first
-
 -- ---- plain
 abbrev plain_cut : Cut
 plain_cut = cut_put drawn_events Works None
@@ -58,8 +52,7 @@ plain_cut = cut_put drawn_events Works None
 pub plain_row : history_after default_numbers worked.plain_moves ≡ worked.plain_items
 unfolding items_after state_after record_pairs least_unsettled put_row fetched front_of looked with_shadow without_bare keys_of_version kept_commit added verdict after_passed crashed_clients all_crashed_items
 plain_row =
-    let at_0 : State = before opening_state plain_cut in
-    cut_all opening_state (plain_cut ∷ []) (working (event.Answer 0 0 ∷ event.Step 0 ∷ event.Step 0 ∷ begins 1 0 0 ++ event.Fetch 1 0 ∷ event.AskCommit 1 0 ∷ [])) (ap (put_step at_0 0 0 Works) (mark_of-empty 1), tt)
+    cut_all opening_state (plain_cut ∷ []) (working (event.Answer 0 0 ∷ event.Step 0 ∷ event.Step 0 ∷ begins 1 0 0 ++ event.Fetch 1 0 ∷ event.AskCommit 1 0 ∷ [])) (mark_of-empty 1, refl, tt)
 
 -- ---- conflict
 abbrev conflict_cut : Cut
@@ -68,8 +61,7 @@ conflict_cut = cut_put (event.Take 0 0 ∷ begins 0 0 0 ++ begins 1 0 0 ++ event
 pub conflict_row : history_after default_numbers worked.conflict_moves ≡ worked.conflict_items
 unfolding items_after state_after record_pairs least_unsettled put_row fetched front_of looked with_shadow without_bare keys_of_version kept_commit added verdict after_passed crashed_clients all_crashed_items
 conflict_row =
-    let at_0 : State = before opening_state conflict_cut in
-    cut_all opening_state (conflict_cut ∷ []) (working (event.Answer 0 0 ∷ event.Step 0 ∷ event.Step 0 ∷ draws 1 0 0 ++ event.Step 1 ∷ [])) (ap (put_step at_0 0 0 Works) (mark_of-empty 1), tt)
+    cut_all opening_state (conflict_cut ∷ []) (working (event.Answer 0 0 ∷ event.Step 0 ∷ event.Step 0 ∷ draws 1 0 0 ++ event.Step 1 ∷ [])) (mark_of-empty 1, refl, tt)
 
 -- ---- late put
 abbrev late_put_cut_1 : Cut
@@ -84,12 +76,7 @@ late_put_cut_3 = cut_put (event.Step 1 ∷ []) Works (Some Invalid)
 pub late_put_row : history_after default_numbers worked.late_put_moves ≡ worked.late_put_items
 unfolding items_after state_after record_pairs least_unsettled put_row fetched front_of looked with_shadow without_bare keys_of_version kept_commit added verdict after_passed crashed_clients all_crashed_items
 late_put_row =
-    let at_0 : State = before opening_state late_put_cut_1 in
-    let w_1 : State = after opening_state late_put_cut_1 in
-    let at_1 : State = before w_1 late_put_cut_2 in
-    let w_2 : State = after w_1 late_put_cut_2 in
-    let at_2 : State = before w_2 late_put_cut_3 in
-    cut_all opening_state (late_put_cut_1 ∷ late_put_cut_2 ∷ late_put_cut_3 ∷ []) (working (event.Answer 0 0 ∷ event.Step 0 ∷ [])) (ap (session_step at_0 1) (mark_of-empty 1), (ap (session_step at_1 1) (mark_of-empty 1), (ap (put_step at_2 0 0 Works) (has_entry Invalid), tt)))
+    cut_all opening_state (late_put_cut_1 ∷ late_put_cut_2 ∷ late_put_cut_3 ∷ []) (working (event.Answer 0 0 ∷ event.Step 0 ∷ [])) (mark_of-empty 1, refl, (mark_of-empty 1, refl, (has_entry Invalid, refl, tt)))
 
 -- ---- early put
 abbrev early_put_cut_1 : Cut
@@ -101,10 +88,7 @@ early_put_cut_2 = cut_step (reader_begins ++ event.Fetch 1 0 ∷ []) 1 (Some (Co
 pub early_put_row : history_after default_numbers worked.early_put_moves ≡ worked.early_put_items
 unfolding items_after state_after record_pairs least_unsettled put_row fetched front_of looked with_shadow without_bare keys_of_version kept_commit added verdict after_passed crashed_clients all_crashed_items
 early_put_row =
-    let at_0 : State = before opening_state early_put_cut_1 in
-    let w_1 : State = after opening_state early_put_cut_1 in
-    let at_1 : State = before w_1 early_put_cut_2 in
-    cut_all opening_state (early_put_cut_1 ∷ early_put_cut_2 ∷ []) (working (event.Answer 0 0 ∷ event.Step 0 ∷ event.Step 0 ∷ [])) (ap (put_step at_0 0 0 Works) (mark_of-empty 1), (ap (session_step at_1 1) (has_entry (Committed 2)), tt))
+    cut_all opening_state (early_put_cut_1 ∷ early_put_cut_2 ∷ []) (working (event.Answer 0 0 ∷ event.Step 0 ∷ event.Step 0 ∷ [])) (mark_of-empty 1, refl, (has_entry (Committed 2), refl, tt))
 
 -- ---- late draw
 abbrev late_draw_cut : Cut
@@ -113,8 +97,7 @@ late_draw_cut = cut_put (event.Take 0 0 ∷ begins 0 0 0 ++ event.Write 0 0 v �
 pub late_draw_row : history_after default_numbers worked.late_draw_moves ≡ worked.late_draw_items
 unfolding items_after state_after record_pairs least_unsettled put_row fetched front_of looked with_shadow without_bare keys_of_version kept_commit added verdict after_passed crashed_clients all_crashed_items
 late_draw_row =
-    let at_0 : State = before opening_state late_draw_cut in
-    cut_all opening_state (late_draw_cut ∷ []) (working (event.Answer 0 0 ∷ event.Step 0 ∷ event.Step 0 ∷ reader_begins ++ event.Fetch 1 0 ∷ [])) (ap (put_step at_0 0 0 Works) (mark_of-empty 1), tt)
+    cut_all opening_state (late_draw_cut ∷ []) (working (event.Answer 0 0 ∷ event.Step 0 ∷ event.Step 0 ∷ reader_begins ++ event.Fetch 1 0 ∷ [])) (mark_of-empty 1, refl, tt)
 
 -- ---- stray
 abbrev stray_cut_1 : Cut
@@ -129,12 +112,7 @@ stray_cut_3 = cut_step (event.Answer 0 0 ∷ event.Step 0 ∷ event.Step 0 ∷ [
 pub stray_row : history_after default_numbers worked.stray_moves ≡ worked.stray_items
 unfolding items_after state_after record_pairs least_unsettled put_row fetched front_of looked with_shadow without_bare keys_of_version kept_commit added verdict after_passed crashed_clients all_crashed_items
 stray_row =
-    let at_0 : State = before opening_state stray_cut_1 in
-    let w_1 : State = after opening_state stray_cut_1 in
-    let at_1 : State = before w_1 stray_cut_2 in
-    let w_2 : State = after w_1 stray_cut_2 in
-    let at_2 : State = before w_2 stray_cut_3 in
-    cut_all opening_state (stray_cut_1 ∷ stray_cut_2 ∷ stray_cut_3 ∷ []) (working (event.Step 1 ∷ [])) (ap (session_step at_0 1) (mark_of-empty 1), (ap (put_step at_1 0 0 Works) (mark_of-empty 1), (ap (session_step at_2 1) (committed_goes (with_entry (Committed 2)) 1 2 (has_entry (Committed 2))), tt)))
+    cut_all opening_state (stray_cut_1 ∷ stray_cut_2 ∷ stray_cut_3 ∷ []) (working (event.Step 1 ∷ [])) (mark_of-empty 1, refl, (mark_of-empty 1, refl, (committed_goes (with_entry (Committed 2)) 1 2 (has_entry (Committed 2)), refl, tt)))
 
 -- ---- wait
 abbrev wait_cut : Cut
@@ -143,8 +121,7 @@ wait_cut = cut_put (drawn_events ++ begins 1 0 0 ++ event.Answer 0 1 ∷ []) Wor
 pub wait_row : history_after default_numbers worked.wait_moves ≡ worked.wait_items
 unfolding items_after state_after record_pairs least_unsettled put_row fetched front_of looked with_shadow without_bare keys_of_version kept_commit added verdict after_passed crashed_clients all_crashed_items
 wait_row =
-    let at_0 : State = before opening_state wait_cut in
-    cut_all opening_state (wait_cut ∷ []) (working (event.Answer 0 1 ∷ event.Answer 0 0 ∷ [])) (ap (put_step at_0 0 0 Works) (mark_of-empty 1), tt)
+    cut_all opening_state (wait_cut ∷ []) (working (event.Answer 0 1 ∷ event.Answer 0 0 ∷ [])) (mark_of-empty 1, refl, tt)
 
 -- ---- unplaced
 abbrev unplaced_cut_1 : Cut
@@ -159,12 +136,7 @@ unplaced_cut_3 = cut_step [] 0 None
 pub unplaced_row : history_after default_numbers worked.unplaced_moves ≡ worked.unplaced_items
 unfolding items_after state_after record_pairs least_unsettled put_row fetched front_of looked with_shadow without_bare keys_of_version kept_commit added verdict after_passed crashed_clients all_crashed_items
 unplaced_row =
-    let at_0 : State = before opening_state unplaced_cut_1 in
-    let w_1 : State = after opening_state unplaced_cut_1 in
-    let at_1 : State = before w_1 unplaced_cut_2 in
-    let w_2 : State = after w_1 unplaced_cut_2 in
-    let at_2 : State = before w_2 unplaced_cut_3 in
-    cut_all opening_state (unplaced_cut_1 ∷ unplaced_cut_2 ∷ unplaced_cut_3 ∷ []) (working (event.Step 0 ∷ event.Step 0 ∷ [])) (ap (put_step at_0 0 0 FailsUnchanged) (mark_of-empty 1), (ap (session_step at_1 0) (mark_of-empty 1), (ap (session_step at_2 0) (mark_of-empty 1), tt)))
+    cut_all opening_state (unplaced_cut_1 ∷ unplaced_cut_2 ∷ unplaced_cut_3 ∷ []) (working (event.Step 0 ∷ event.Step 0 ∷ [])) (mark_of-empty 1, refl, (mark_of-empty 1, refl, (mark_of-empty 1, refl, tt)))
 
 -- ---- unheard
 abbrev unheard_cut_1 : Cut
@@ -176,10 +148,7 @@ unheard_cut_2 = cut_step (event.Answer 0 0 ∷ event.Step 0 ∷ []) 0 (Some (Com
 pub unheard_row : history_after default_numbers worked.unheard_moves ≡ worked.unheard_items
 unfolding items_after state_after record_pairs least_unsettled put_row fetched front_of looked with_shadow without_bare keys_of_version kept_commit added verdict after_passed crashed_clients all_crashed_items
 unheard_row =
-    let at_0 : State = before opening_state unheard_cut_1 in
-    let w_1 : State = after opening_state unheard_cut_1 in
-    let at_1 : State = before w_1 unheard_cut_2 in
-    cut_all opening_state (unheard_cut_1 ∷ unheard_cut_2 ∷ []) (working (event.Step 0 ∷ event.Step 0 ∷ [])) (ap (put_step at_0 0 0 FailsApplied) (mark_of-empty 1), (ap (session_step at_1 0) (has_entry (Committed 2)), tt))
+    cut_all opening_state (unheard_cut_1 ∷ unheard_cut_2 ∷ []) (working (event.Step 0 ∷ event.Step 0 ∷ [])) (mark_of-empty 1, refl, (has_entry (Committed 2), refl, tt))
 
 -- ---- crash
 abbrev crash_cut_1 : Cut
@@ -194,12 +163,8 @@ crash_cut_3 = cut_sweep (event.Step 0 ∷ event.Step 0 ∷ taken_over ++ reader_
 pub crash_row : history_after default_numbers worked.crash_moves ≡ worked.crash_items
 unfolding items_after state_after record_pairs least_unsettled put_row fetched front_of looked without_bare keys_of_version kept_commit added verdict after_passed crashed_clients all_crashed_items
 crash_row =
-    let at_0 : State = before opening_state crash_cut_1 in
-    let w_1 : State = after opening_state crash_cut_1 in
-    let at_1 : State = before w_1 crash_cut_2 in
-    let w_2 : State = after w_1 crash_cut_2 in
-    let at_2 : State = before w_2 crash_cut_3 in
-    cut_all opening_state (crash_cut_1 ∷ crash_cut_2 ∷ crash_cut_3 ∷ []) (working (event.SweepStep ∷ [])) (ap (session_step at_0 0) (mark_of-empty 1), (ap (session_step at_1 0) (mark_of-empty 1), (janitor_gets at_2 (sweep_open 1 100) 1 (Some Invalid) refl refl (has_entry Invalid), tt)))
+    let at : State = state_after (cut_step_of (cut_step_of opening_state crash_cut_1).state crash_cut_2).state crash_cut_3.first in
+    cut_all opening_state (crash_cut_1 ∷ crash_cut_2 ∷ crash_cut_3 ∷ []) (working (event.SweepStep ∷ [])) (mark_of-empty 1, refl, (mark_of-empty 1, refl, (has_entry Invalid, janitor_gets at (sweep_open 1 100) 1 refl refl, tt)))
 
 -- ---- vanish
 abbrev vanish_cut_1 : Cut
@@ -217,9 +182,4 @@ vanish_cut_3 = cut_sweep [] marking (MarkAsk 1) None
 pub vanish_row : history_after default_numbers worked.vanish_moves ≡ worked.vanish_items
 unfolding items_after state_after record_pairs least_unsettled put_row without_bare keys_of_version
 vanish_row =
-    let at_0 : State = before opening_state vanish_cut_1 in
-    let w_1 : State = after opening_state vanish_cut_1 in
-    let at_1 : State = before w_1 vanish_cut_2 in
-    let w_2 : State = after w_1 vanish_cut_2 in
-    let at_2 : State = before w_2 vanish_cut_3 in
-    cut_all opening_state (vanish_cut_1 ∷ vanish_cut_2 ∷ vanish_cut_3 ∷ []) (working (event.SweepStep ∷ event.SweepStep ∷ event.SweepStep ∷ [])) (janitor_gets at_0 (sweep_open 1 0) 1 None refl refl (mark_of-empty 1), (janitor_gets at_1 (sweep_open 1 100) 1 None refl refl (mark_of-empty 1), (janitor_marks at_2 marking 1 None refl refl (mark_of-empty 1), tt)))
+    cut_all opening_state (vanish_cut_1 ∷ vanish_cut_2 ∷ vanish_cut_3 ∷ []) (working (event.SweepStep ∷ event.SweepStep ∷ event.SweepStep ∷ [])) (mark_of-empty 1, refl, (mark_of-empty 1, refl, (mark_of-empty 1, refl, tt)))

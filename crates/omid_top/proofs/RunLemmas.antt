@@ -6,7 +6,7 @@ use Rattle.std.proofs.Math.ListN.{drop_of_length-le}
 use Rattle.std.proofs.lemmas.List.{append-nil}
 use Rattle.protocol.specs.State.{opening}
 use Rattle.protocol.specs.Machine.{Event, stepped, items_from}
-use Rattle.cluster_core.specs.Whole.{Whole, after}
+use Rattle.single_oracle.specs.Whole.{Whole, after}
 use Rattle.session_script.specs.declared.script.Line.{Line}
 use Rattle.omid_top.specs.Replay.{line_events}
 use Rattle.omid_top.specs.Runs.{run}

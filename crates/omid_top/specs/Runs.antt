@@ -1,7 +1,7 @@
 -- A cluster after a list of events.
 use Rattle.std.specs.Prelude.{List, [], ◌∷◌}
 use Rattle.protocol.specs.Machine.{Event, stepped}
-use Rattle.cluster_core.specs.Whole.{Whole, after}
+use Rattle.single_oracle.specs.Whole.{Whole, after}
 
 unfoldable pub run : Whole → List Event → Whole
 run w [] = w

@@ -1,12 +1,12 @@
 // Carrying out a script in file order, on one thread.
 ghost use Rattle.std.specs.Prelude.{◌≡◌, ◌↔◌, ◌∷◌, [], IfOk, OnOk, OnErr, IsErr, Err};
 ghost use Rattle.session_script.specs.Script.{data_of};
-ghost use Rattle.cluster_core.specs.Whole.{Whole};
+ghost use Rattle.single_oracle.specs.Whole.{Whole};
 ghost use Rattle.omid_top.specs.Replay.{replayed, line_events, session_events, node_events, target_node};
 ghost use Rattle.omid_top.specs.Runs.{run};
 
 use crate::script::{Line, Script, Target, Verb};
-use cluster_core::{Cluster, Stopped};
+use single_oracle::{Cluster, Stopped};
 use history_book::Actor;
 use stamp_base::{NoMemory, NodeNo, SessionNo};
 use std::alloc::Global;

@@ -1,0 +1,120 @@
+-- The short histories of keys that are hidden.
+use Rattle.std.proofs.Common.{◌≡◌, ℕ, ◌<◌, Option, None, Some, ◌⊎◌, inl, inr, refl, sym, ◌∙◌, ap, subst, arith, Contains}
+use Rattle.std.proofs.lemmas.Option.{same_Some}
+use Rattle.history_book.specs.Members.{◌∈◌}
+use Rattle.history_book.specs.declared.cause.Cause.TheVariants as cause
+use Rattle.history_book.specs.declared.item.Actor.TheVariants.{Session}
+use Rattle.history_book.specs.declared.item.Item.{Item}
+use Rattle.history_book.specs.declared.item.Item.TheVariants.{Draw}
+use Rattle.oracle_parts.specs.Buckets.{place_of, bucket_of, contents, kept_commit, record_pairs, added, without, oldest}
+use Rattle.cause_rules.specs.Written.{keys_from, written_keys, recorded, recorded_in}
+use Rattle.cause_rules.specs.Commits.{ShownHidden}
+use Rattle.cause_rules.specs.Explained.{Explained}
+use Rattle.cause_rules.specs.WorkedCommits.{Hiding, hiding, buckets_of, before_hidden, hidden_told}
+use Rattle.cause_rules.proofs.WorkedRefusals.{of_each, only_key, shown_explains, explained_shows}
+
+pub forgotten : Explained (buckets_of 1) (hidden_told hiding)
+unfolding keys_from recorded_in record_pairs kept_commit added without oldest ◌∈◌
+forgotten = shown_explains (buckets_of 1) (before_hidden hiding) (Session 2) (cause.Hidden 0 4) refl (record {
+  start = 3;
+  start_is = refl;
+  own = (0, omega arith, refl);
+  term = 1;
+  term_is = refl;
+  forgotten = refl;
+  above = omega arith;
+  writer = 1;
+  drawn = (0, 0, inr (inr (inr (inl refl))));
+  other = 0;
+  wrote = (0, omega arith, refl);
+  same_bucket = refl;
+})
+
+-- ---- what must hold of the numbers
+-- what the key's bucket keeps for it
+abbrev kept_of : ℕ → Hiding → ℕ → Option ℕ
+kept_of width c term = kept_commit (bucket_of (contents 4 width (recorded (before_hidden c) term)) c.key).kept c.key
+
+-- the two commits that are drawn
+abbrev TwoDraws : Hiding → Item → Type 0
+TwoDraws c (Draw session node term writer (Some commit)) = ((writer ≡ 1) × (commit ≡ 4) × (term ≡ c.drawn_in)) ⊎ (commit ≡ 5)
+TwoDraws c _ = Unit {0}
+
+record Told (width : ℕ) (c : Hiding) : Type 0 where
+  above : c.start < c.water
+  own : Contains (written_keys (before_hidden c) c.start) c.key
+  kept : kept_of width c 1 ≡ None
+  writer : ℕ
+  drawn : ((writer ≡ 1) × (c.water ≡ 4) × (1 ≡ c.drawn_in)) ⊎ (c.water ≡ 5)
+  other : ℕ
+  wrote : Contains (written_keys (before_hidden c) writer) other
+  same_bucket : place_of 4 other ≡ place_of 4 c.key
+
+told_of : (width : ℕ) (c : Hiding) → Explained (buckets_of width) (hidden_told c) → Told width c
+told_of width c e =
+    let shown : ShownHidden (buckets_of width) (before_hidden c) 2 c.key c.water = explained_shows (buckets_of width) (before_hidden c) (Session 2) (cause.Hidden c.key c.water) e in
+    let start : shown.start ≡ c.start = sym (same_Some _ _ shown.start_is) in
+    let term : shown.term ≡ 1 = sym (same_Some _ _ shown.term_is) in
+    let drawn : TwoDraws c (Draw shown.drawn.0 shown.drawn.1 shown.term shown.writer (Some c.water)) =
+    of_each (TwoDraws c) (Draw shown.drawn.0 shown.drawn.1 shown.term shown.writer (Some c.water)) (before_hidden c) (tt, (tt, (tt, (inl (refl, refl, refl), (inr refl, (tt, (tt, tt))))))) shown.drawn.2 in
+    record {
+      above = subst (λ (t : ℕ). t < c.water) start shown.above;
+      own = subst (λ (t : ℕ). Contains (written_keys (before_hidden c) t) c.key) start shown.own;
+      kept = subst (λ (t : ℕ). kept_of width c t ≡ None) term shown.forgotten;
+      writer = shown.writer;
+      drawn = subst (λ (t : ℕ). ((shown.writer ≡ 1) × (c.water ≡ 4) × (t ≡ c.drawn_in)) ⊎ (c.water ≡ 5)) term drawn;
+      other = shown.other;
+      wrote = shown.wrote;
+      same_bucket = shown.same_bucket;
+    }
+
+some_not_none : (commit : ℕ) → Some commit ≡ None → ⊥
+some_not_none commit same = cc
+
+-- ---- one of them turned
+pub kept_by_width : Explained (buckets_of 2) (hidden_told hiding) → ⊥
+unfolding keys_from recorded_in record_pairs kept_commit added
+kept_by_width e = absurd (some_not_none 4 (told_of 2 hiding e).kept)
+
+pub kept : Explained (buckets_of 1) (hidden_told (record hiding { own = 4; key = 4 })) → ⊥
+unfolding keys_from recorded_in record_pairs kept_commit added without oldest
+kept e = absurd (some_not_none 5 (told_of 1 (record hiding { own = 4; key = 4 }) e).kept)
+
+pub at_the_start : Explained (buckets_of 1) (hidden_told (record hiding { start = 4 })) → ⊥
+at_the_start e = let low : 4 < 4 = (told_of 1 (record hiding { start = 4 }) e).above in absurd (omega (arith, low))
+
+pub below_the_start : Explained (buckets_of 1) (hidden_told (record hiding { start = 6 })) → ⊥
+below_the_start e = let low : 6 < 4 = (told_of 1 (record hiding { start = 6 }) e).above in absurd (omega (arith, low))
+
+pub other_term : Explained (buckets_of 1) (hidden_told (record hiding { drawn_in = 2 })) → ⊥
+other_term e = elim (told_of 1 (record hiding { drawn_in = 2 }) e).drawn [
+  | inl first ↦ let same : 1 ≡ 2 = first.2 in absurd (omega (arith, same))
+  | inr second ↦ let same : 4 ≡ 5 = second in absurd (omega (arith, same))
+]
+
+pub not_drawn : Explained (buckets_of 1) (hidden_told (record hiding { water = 7 })) → ⊥
+not_drawn e = elim (told_of 1 (record hiding { water = 7 }) e).drawn [
+  | inl first ↦ let same : 7 ≡ 4 = first.1 in absurd (omega (arith, same))
+  | inr second ↦ let same : 7 ≡ 5 = second in absurd (omega (arith, same))
+]
+
+abbrev of_other_bucket : Hiding
+of_other_bucket = record hiding { written = 1 }
+
+wrote_one : (writer other : ℕ) → writer ≡ 1 → Contains (written_keys (before_hidden of_other_bucket) writer) other → 1 ≡ other
+unfolding keys_from
+wrote_one writer other is wrote = only_key 1 other (subst (λ (w : ℕ). Contains (written_keys (before_hidden of_other_bucket) w) other) is wrote)
+
+pub other_bucket : Explained (buckets_of 1) (hidden_told of_other_bucket) → ⊥
+other_bucket e =
+    let told : Told 1 of_other_bucket = told_of 1 of_other_bucket e in
+    elim told.drawn [
+      | inl first ↦
+          let same : 1 ≡ 0 = ap (λ (k : ℕ). place_of 4 k) (wrote_one told.writer told.other first.0 told.wrote) ∙ told.same_bucket in
+          absurd (omega (arith, same))
+      | inr second ↦ let same : 4 ≡ 5 = second in absurd (omega (arith, same))
+    ]
+
+pub not_its_own : Explained (buckets_of 1) (hidden_told (record hiding { own = 8 })) → ⊥
+unfolding keys_from
+not_its_own e = let same : 8 ≡ 0 = only_key 8 0 (told_of 1 (record hiding { own = 8 }) e).own in absurd (omega (arith, same))

@@ -1,0 +1,73 @@
+-- What an instance keeps of the master record's refusals is Replaced or Spent: lists of nodes, and the calls of an instance.
+use Rattle.std.proofs.Common.{[], ◌≡◌, ℕ, zero, suc, ◌+◌, ◌==◌, Bool, true, false, if◌then◌else◌, List, ◌∷◌, Option, Some, None, refl, sym, ap, subst}
+use Rattle.std.specs.Prelude.{slice_get, slice_set, replicate, IfSome}
+use Rattle.std.specs.Option.{option_or}
+use Rattle.std.proofs.lemmas.Option.{same_Some, none-some}
+use Rattle.history_book.specs.declared.cause.Cause.{Cause}
+use Rattle.oracle_parts.specs.declared.buckets.Verdict.{Verdict}
+use Rattle.oracle_parts.specs.declared.buckets.Verdict.TheVariants.{Free, Conflict, Hidden}
+use Rattle.oracle_parts.specs.declared.instance.Held.{Held}
+use Rattle.oracle_parts.specs.declared.instance.Decided.{Decided}
+use Rattle.oracle_parts.specs.declared.instance.Progress.{Progress}
+use Rattle.oracle_parts.specs.declared.instance.Progress.TheVariants.{Accepted}
+use Rattle.oracle_parts.specs.Instance.{InstanceEntry}
+use Rattle.oracle_parts.specs.InstanceSteps.{InstanceStep, IsStop, out_of_stamps, decide_drawn, decide_by as verdict_by, decide_if_accepted, decide_held, request_verdict}
+use Rattle.oracle_parts.specs.InstanceLaws.{ChangesRequestsAlone}
+use Rattle.machine.specs.Laws.{KeepsStop}
+
+abbrev pub AllKeep : List (Option InstanceEntry) → Type 0
+AllKeep nodes = (node : ℕ) (i : InstanceEntry) → slice_get nodes node ≡ Some (Some i) → KeepsStop i
+
+abbrev pub PostKeeps : Option InstanceEntry → Type 0
+PostKeeps post = IfSome post KeepsStop
+
+abbrev pub Keeps : Option InstanceEntry → Option InstanceEntry → Type 0
+Keeps old new = PostKeeps old → PostKeeps new
+
+-- ---- lists of nodes
+pub none_kept : (n node : ℕ) (i : InstanceEntry) → slice_get (replicate n None) node ≡ Some (Some i) → KeepsStop i
+none_kept zero node i is = absurd (cc)
+none_kept (suc n) zero i is = absurd (none-some i (same_Some None (Some i) is))
+none_kept (suc n) (suc node) i is = none_kept n node i is
+
+first_keeps : (post : Option InstanceEntry) (posts : List (Option InstanceEntry)) → AllKeep (post ∷ posts) → PostKeeps post
+first_keeps None posts keep = tt
+first_keeps (Some i) posts keep = keep zero i refl
+
+pub set_keeps : (nodes : List (Option InstanceEntry)) (at : ℕ) (old new : Option InstanceEntry) → slice_get nodes at ≡ Some old → Keeps old new → AllKeep nodes → AllKeep (slice_set nodes at new)
+set_keeps [] at old new was keeps keep node i is = absurd (cc)
+set_keeps (d ∷ ds) zero old new was keeps keep zero i is =
+    let kept : PostKeeps old = subst PostKeeps (same_Some d old was) (first_keeps d ds keep) in subst PostKeeps (same_Some new (Some i) is) (keeps kept)
+set_keeps (d ∷ ds) zero old new was keeps keep (suc node) i is = keep (suc node) i is
+set_keeps (d ∷ ds) (suc at) old new was keeps keep zero i is = keep zero i is
+set_keeps (d ∷ ds) (suc at) old new was keeps keep (suc node) i is = set_keeps ds at old new was keeps (λ n j. keep (suc n) j) node i is
+
+-- ---- instances
+-- a call that changes the requests alone
+pub quiet_keeps : (i left : InstanceEntry) → ChangesRequestsAlone i left → KeepsStop i → KeepsStop left
+quiet_keeps i left quiet keeps = subst (λ (s : Option Cause). IfSome s IsStop) (sym (ap (λ (j : InstanceEntry). j.stop) quiet)) keeps
+
+pub stopped_keeps : (stop : Option Cause) (why : Cause) → IsStop why → IfSome stop IsStop → IfSome (option_or stop (Some why)) IsStop
+stopped_keeps None why is keeps = is
+stopped_keeps (Some first) why is keeps = keeps
+
+out_keeps : (i : InstanceEntry) (session : ℕ) (held : Held) (stop : Option Cause) → KeepsStop i → KeepsStop (out_of_stamps i session held stop).left
+out_keeps i session held None keeps = keeps
+out_keeps i session held (Some why) keeps = keeps
+
+free_keeps : (i : InstanceEntry) (session : ℕ) (held : Held) (out : Bool) → KeepsStop i → let step : InstanceStep Decided = (if out then out_of_stamps i session held i.stop else decide_drawn i session held (i.last + 1)) in KeepsStop step.left
+free_keeps i session held true keeps = out_keeps i session held i.stop keeps
+free_keeps i session held false keeps = keeps
+
+verdict_keeps : (i : InstanceEntry) (session : ℕ) (held : Held) (verdict : Verdict) → KeepsStop i → KeepsStop (verdict_by i session held verdict).left
+verdict_keeps i session held Free keeps = free_keeps i session held (i.last == i.ceiling) keeps
+verdict_keeps i session held (Conflict key by) keeps = keeps
+verdict_keeps i session held (Hidden key water) keeps = keeps
+
+accepted_keeps : (i : InstanceEntry) (session : ℕ) (held : Held) (progress : Progress) → KeepsStop i → KeepsStop (decide_if_accepted i session held progress).left
+accepted_keeps i session held Accepted keeps = verdict_keeps i session held (request_verdict i.buckets held.request) keeps
+accepted_keeps i session held _ keeps = keeps
+
+pub decided_keeps : (i : InstanceEntry) (session : ℕ) (held : Option Held) → KeepsStop i → KeepsStop (decide_held i session held).left
+decided_keeps i session None keeps = keeps
+decided_keeps i session (Some held) keeps = accepted_keeps i session held held.progress keeps
