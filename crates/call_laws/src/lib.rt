@@ -1,5 +1,5 @@
-//! What the calls on the parts require of their caller, in every state that is reached: that the facts of the machine give
-//! it, one law for each event whose call requires something.
+//! What the calls on the parts require of their caller holds in every state that is reached: one law for each event whose
+//! call requires something, and one for all that a node does with a request that it holds.
 #![tactic(auto)]
 
 ghost use Rattle.std.specs.Prelude.{List};
