@@ -1,0 +1,43 @@
+-- What the calls of sessions and of the janitor on the stores ask of the cells, and what is under way with them.
+use Rattle.std.specs.Prelude.{◌≡◌, ℕ, ◌≤◌, List, ◌∷◌, None, IfSome}
+use Rattle.store_parts.specs.Rows.{Row, IsBare, HasOnly}
+use Rattle.client_parts.specs.declared.resolve.SettlePoint.TheVariants.{Marking}
+use Rattle.client_parts.specs.KeyRead.{Reading, AreFetched}
+use Rattle.client_parts.specs.Sweep.{sweep_ask}
+use Rattle.machine.specs.State.{Reads, Client, State}
+use Rattle.machine.specs.Events.Step.{work_of, next_of}
+use Rattle.machine.specs.Calls.{MayStep, CanWork, KeepsShadowNext}
+use Rattle.machine.specs.Events.Write.{write_refused}
+use Rattle.machine.specs.Events.Heal.{offer_of}
+use Rattle.isolation_laws.specs.Words.{ClientAt}
+
+-- where a session may write at a key, the cell of its transaction is bare
+abbrev pub WriteMayBeMade : State → Type 0
+WriteMayBeMade w = (session key : ℕ) (c : Client) → ClientAt w.clients session c → write_refused c key ≡ None → IfSome c.entry.start (λ start. IsBare w.rows key start)
+
+-- the shadow that is offered is the only one that its cell may have
+abbrev pub HealMayBeMade : State → Type 0
+HealMayBeMade w = (session : ℕ) (c : Client) → ClientAt w.clients session c → IfSome (offer_of c) (λ offer. HasOnly w.rows offer.0 offer.1 offer.2)
+
+-- a read goes on over cells as a fetch gives them, and marks where it may
+pub record ReadsFetched (r : Reading) : Type 0 where
+  pub fetched : AreFetched r.start (r.cell ∷ r.older)
+  pub marks : r.point ≡ Marking → r.cell.version ≤ r.epoch
+
+abbrev pub ReadMayGoOn : State → Type 0
+ReadMayGoOn w = (session : ℕ) (c : Client) (r : Reading) → ClientAt w.clients session c → c.under_way ≡ Reads r → ReadsFetched r
+
+-- a step that is not refused asks something; the session can hear what it comes to, and a shadow that it sets is the only one
+-- that the cell may have
+pub record CanStep (rows : List Row) (c : Client) : Type 0 where
+  pub asks : MayStep c → next_of (work_of c) ≡ None → ⊥
+  pub work : MayStep c → CanWork (work_of c) c.entry
+  pub shadow : MayStep c → KeepsShadowNext (next_of (work_of c)) rows
+
+abbrev pub StepMayBeMade : State → Type 0
+StepMayBeMade w = (session : ℕ) (c : Client) → ClientAt w.clients session c → CanStep w.rows c
+
+-- so does a step of an open sweep
+pub record SweepMayStep (w : State) : Type 0 where
+  pub asks : IfSome w.sweep (λ s. sweep_ask s ≡ None → ⊥)
+  pub shadow : IfSome w.sweep (λ s. KeepsShadowNext (sweep_ask s) w.rows)
