@@ -1,16 +1,18 @@
 -- A step that puts, takes or splits keeps the rule of a batch ring, and what the rule tells.
-use Rattle.std.proofs.Common.{◌≡◌, ℕ, ◌<◌, ◌≤◌, true, true≢false, List, [], ◌∷◌, ◌++◌, length, take, refl, sym, ap, ◌∙◌, subst, append_assoc, take_at, arith}
+use Rattle.std.proofs.Common.{◌≡◌, ℕ, ◌<◌, ◌≤◌, true, true≢false, List, [], ◌∷◌, ◌++◌, length, take, refl, sym, ap, ◌∙◌, subst, append_assoc, take_at, arith, ◌+◌, length-append, append-nil}
 use Rattle.std.specs.Prelude.{sum_by, flat_map}
-use Rattle.std.proofs.lemmas.List.Sums.{sum_by-append, sum_by_push, sum_by-cons}
+use Rattle.std.proofs.lemmas.List.Sums.{sum_by-append, sum_by_push}
 use Rattle.std.proofs.lemmas.List.Elements.{All-nil}
 use Rattle.crossbeam_queue.specs.Fifo.{Pushes, Pops, Forks, Learns}
 use Rattle.persist_batches.specs.declared.numbered.Numbered.{Numbered}
 use Rattle.queue_passes.specs.Holds.{whole}
-use Rattle.queue_passes.proofs.TotalLemmas.{each_alone, each_set, each_split, total_set, total_split, part_of_total, sole_total}
+use Rattle.queue_passes.proofs.TotalLemmas.{each_alone, each_set, each_split, total_set, total_split, part_of_total, sole_total, counted}
+use mathlib.Core.Option.{some}
+use lib.ListN.{get_elem?}
 use Rattle.batch_rule.specs.declared.account.BatchAccount.{BatchAccount}
 use Rattle.batch_rule.specs.Numbers.{rises_from, next_after, AllRise}
 use Rattle.batch_rule.specs.Accounts.{first_account, worker_account, parted, with_put, with_taken, all_taken}
-use Rattle.batch_rule.specs.Rule.{FitsSender, FitsWorker, AreInOrder, Tells}
+use Rattle.batch_rule.specs.Rule.{FitsSender, FitsWorker, AreInOrder, Tells, TookAll, HasFilled}
 use Rattle.batch_rule.proofs.NumberLemmas.{next_after-push, rises-push, rises-front, next_above, at_most_once, is_of}
 
 abbrev pub Fits : ℕ → List Numbered → List Numbered → ℕ → BatchAccount → Type 0
@@ -116,22 +118,33 @@ splits pass a two_parts items accounts h at =
           (λ j. ((λ p. absurd (true≢false (sym p))), fresh h.gone worker_account refl refl)) (λ j u away e. h.each j u e);
     }
 
-counted : (xs : List Numbered) → sum_by (λ x. 1) xs ≡ length xs
-counted [] = refl
-counted (x ∷ xs) = let rest = counted xs in omega (arith, sum_by-cons (λ x. 1) x xs, rest)
+-- with every part, all that is gone was taken through the pass and those joined to it
+took_all_gone : (pass : ℕ) (a : BatchAccount) (items : List Numbered) (accounts : List BatchAccount) (h : AreInOrder items accounts) → get_elem? accounts pass ≡ some a → a.parts ≡ whole
+    → (f : Numbered → ℕ) → sum_by f (all_taken a) ≡ sum_by f h.gone
+took_all_gone pass a items accounts h at every f = sym (sole_total parts_of (taken_of f) accounts pass a at (h.parts ∙ sym every) (λ j u e none. ap (sum_by f) ((h.each j u e).1.idle none))) ∙ h.weights f
 
 pub tells : (pass : ℕ) (a : BatchAccount) → Learns AreInOrder pass a (λ items. Tells a)
 tells pass a items accounts h at =
     let mine = h.each pass a at in
-    let gone_rise : rises_from 0 h.gone ≡ true = rises-front 0 h.gone items h.rise in
-    let all : a.parts ≡ whole → (f : Numbered → ℕ) → sum_by f (all_taken a) ≡ sum_by f h.gone =
-    λ every f. sym (sole_total parts_of (taken_of f) accounts pass a at (h.parts ∙ sym every) (λ j u e none. ap (sum_by f) ((h.each j u e).1.idle none))) ∙ h.weights f in record {
+    let gone_rise : rises_from 0 h.gone ≡ true = rises-front 0 h.gone items h.rise in record {
       sent_rise = λ p. subst (λ l. rises_from 0 l ≡ true) (sym (mine.0 p).1) h.rise;
       own_rise = mine.1.own;
       others_rise = mine.1.others;
       once = λ number. (let part = part_of_total (taken_of (is_of number)) accounts pass a at in let w = h.weights (is_of number) in let most = at_most_once number 0 h.gone gone_rise in omega arith);
       first = λ p every f.
-          let same_length : length (all_taken a) ≡ length h.gone = sym (counted (all_taken a)) ∙ all every (λ x. 1) ∙ counted h.gone in
+          let all = took_all_gone pass a items accounts h at every in
+          let same_length : length (all_taken a) ≡ length h.gone = sym (counted (all_taken a)) ∙ all (λ x. 1) ∙ counted h.gone in
           let front : take (length (all_taken a)) a.put ≡ h.gone = (λ i. take (same_length i) ((mine.0 p).1 i)) ∙ take_at h.gone items (length h.gone) refl in
-          all every f ∙ ap (sum_by f) (sym front);
+          all f ∙ ap (sum_by f) (sym front);
     }
+
+pub tells_empty : (pass : ℕ) (a : BatchAccount) → Learns AreInOrder pass a (λ items. items ≡ [] → TookAll a)
+tells_empty pass a items accounts h at = λ none p every f.
+    took_all_gone pass a items accounts h at every f ∙ sym (ap (sum_by f) (((h.each pass a at).0 p).1 ∙ ap (λ l. h.gone ++ l) none ∙ append-nil h.gone))
+
+pub tells_full : (pass : ℕ) (a : BatchAccount) → Learns AreInOrder pass a (λ items. HasFilled (length items) a)
+tells_full pass a items accounts h at = λ p.
+    let put : length a.put ≡ length h.gone + length items = ap length ((h.each pass a at).0 p).1 ∙ length-append h.gone items in
+    let part = part_of_total (taken_of (λ x. 1)) accounts pass a at in
+    let w = h.weights (λ x. 1) in
+    omega (arith, put, counted (all_taken a), counted h.gone)

@@ -1,5 +1,5 @@
 -- The rule of a batch ring: one sender, and any number of workers.
-use Rattle.std.specs.Prelude.{◌≡◌, ℕ, ◌≤◌, ◌==◌, true, List, [], ◌++◌, length, take, sum_by, if◌then◌else◌}
+use Rattle.std.specs.Prelude.{◌≡◌, ℕ, ◌+◌, ◌≤◌, ◌==◌, true, List, [], ◌++◌, length, take, sum_by, if◌then◌else◌}
 use mathlib.Core.Option.{some}
 use lib.ListN.{get_elem?}
 use Rattle.persist_batches.specs.declared.numbered.Numbered.{Numbered}
@@ -47,3 +47,11 @@ pub record Tells (a : BatchAccount) : Type 0 where
   pub once : (number : ℕ) → times_taken number a ≤ 1
   -- with the sender's account and every part
   pub first : a.sends ≡ true → a.parts ≡ whole → TookTheFirst a
+
+-- With the sender's account and every part: all that was sent was taken
+abbrev pub TookAll : BatchAccount → Type 0
+TookAll a = a.sends ≡ true → a.parts ≡ whole → (weight : Numbered → ℕ) → sum_by weight (all_taken a) ≡ sum_by weight a.put
+
+-- With the sender's account: at least so many more were sent than were taken
+abbrev pub HasFilled : ℕ → BatchAccount → Type 0
+HasFilled room a = a.sends ≡ true → length (all_taken a) + room ≤ length a.put

@@ -1,8 +1,8 @@
-ghost use Rattle.std.specs.Prelude.{◌≡◌, ◌<◌, ◌≤◌, true, IfOk, MatchResult, MatchOption};
+ghost use Rattle.std.specs.Prelude.{◌≡◌, ◌<◌, ◌≤◌, true, IfOk, IfErr, IfNone, MatchResult, MatchOption};
 ghost use Rattle.queue_passes.specs.Holds.{holds};
 ghost use Rattle.batch_rule.specs.Accounts.{first_account, worker_account, parted, with_put, with_taken, joined};
 ghost use Rattle.batch_rule.specs.Numbers.{next_after};
-ghost use Rattle.batch_rule.specs.Rule.{Tells};
+ghost use Rattle.batch_rule.specs.Rule.{Tells, TookAll, HasFilled};
 
 use crate::rule::{PartOff, Put, Ruled, RuledPass, Taken, Together, Told};
 use persist_batches::Numbered;
@@ -18,11 +18,12 @@ pub struct BatchRing {
 }
 
 impl Model for BatchRing {
-    ghost use Rattle.atomic_table.specs.Seated.{TableId};
+    ghost use Rattle.crossbeam_queue.specs.Passes.{ruled_capacity};
+    ghost use Rattle.queue_passes.specs.Holds.{Ring};
 
-    ghost Value = { TableId };
+    ghost Value = { Ring };
 
-    ghost view = { λ ring. ring.ruled.table.shared.table_id };
+    ghost view = { λ r. record { id = r.ruled.table.shared.table_id; room = ruled_capacity r.ruled } };
 }
 
 /// The right of one thread to use a batch ring, with its account.
@@ -48,7 +49,7 @@ impl BatchRing {
     /// A ring for `room` batches, and the sender's pass, which has every part.
     pub fn open(alloc: Global, room: usize) -> Result<(BatchRing, BatchPass), NoMemory>
         requires { 0 < room }
-        ensures { IfOk result (λ opened. opened.1 ≡ holds opened.0 first_account) }
+        ensures { IfOk result (λ opened. (opened.0.room ≡ room) × (opened.1 ≡ holds opened.0.id first_account)) }
     {
         let (ruled, pass) = Ruled::ruled(alloc, room)?;
         Ok((BatchRing { ruled }, BatchPass { pass }))
@@ -56,10 +57,10 @@ impl BatchRing {
 
     /// A worker's pass, which gets one part.
     pub fn worker(&self, pass: &mut BatchPass) -> BatchPass
-        requires ring { pass.old.queue ≡ self.now }
+        requires ring { pass.old.ring ≡ self.now.id }
         requires parts { 1 < pass.old.account.parts }
-        ensures old { pass.new ≡ holds self.now (parted pass.old.account) }
-        ensures new { result ≡ holds self.now worker_account }
+        ensures old { pass.new ≡ holds self.now.id (parted pass.old.account) }
+        ensures new { result ≡ holds self.now.id worker_account }
     {
         BatchPass {
             pass: self.ruled.another::<PartOff>(&mut pass.pass),
@@ -73,26 +74,28 @@ impl BatchRing {
         pass: &mut BatchPass,
         batch: Numbered,
     ) -> Result<(), Numbered>
-        requires ring { pass.old.queue ≡ self.now }
+        requires ring { pass.old.ring ≡ self.now.id }
         requires sender { pass.old.account.sends ≡ true }
         requires above { next_after 0 pass.old.account.put ≤ batch.number }
-        ensures { MatchResult result (λ _. pass.new ≡ holds self.now (with_put pass.old.account batch)) (λ back. (back ≡ batch) × (pass.new ≡ pass.old)) }
+        ensures put { MatchResult result (λ _. pass.new ≡ holds self.now.id (with_put pass.old.account batch)) (λ back. (back ≡ batch) × (pass.new ≡ pass.old)) }
+        ensures full { IfErr result (λ _. HasFilled self.now.room pass.old.account) }
     {
         self.ruled.push_as::<Put, R>(rt, &mut pass.pass, batch)
     }
 
     /// Takes the batch at the front. None only where the ring was empty at that step.
     pub fn receive<R: Wait>(&self, rt: &R, pass: &mut BatchPass) -> Option<Numbered>
-        requires { pass.old.queue ≡ self.now }
-        ensures { MatchOption result (pass.new ≡ pass.old) (λ batch. pass.new ≡ holds self.now (with_taken pass.old.account batch)) }
+        requires { pass.old.ring ≡ self.now.id }
+        ensures taken { MatchOption result (pass.new ≡ pass.old) (λ batch. pass.new ≡ holds self.now.id (with_taken pass.old.account batch)) }
+        ensures empty { IfNone result (TookAll pass.old.account) }
     {
         self.ruled.pop_as::<Taken, R>(rt, &mut pass.pass)
     }
 
     /// Joins two passes to one, whose account has what both put and took.
     pub fn join(&self, pass: BatchPass, other: BatchPass) -> BatchPass
-        requires { (pass.queue ≡ self.now) × (other.queue ≡ self.now) }
-        ensures { result ≡ holds self.now (joined pass.account other.account) }
+        requires { (pass.ring ≡ self.now.id) × (other.ring ≡ self.now.id) }
+        ensures { result ≡ holds self.now.id (joined pass.account other.account) }
     {
         let BatchPass { pass: mut mine } = pass;
         let BatchPass { pass: theirs } = other;
@@ -102,7 +105,7 @@ impl BatchRing {
 
     /// What the account tells of the ring. The pass stays as it is.
     pub fn tell(&self, pass: &mut BatchPass)
-        requires { pass.old.queue ≡ self.now }
+        requires { pass.old.ring ≡ self.now.id }
         ensures same { pass.new ≡ pass.old }
         ensures tells { Tells pass.old.account }
     {
@@ -117,8 +120,8 @@ mod tests {
     use std::test::Fail;
 
     fn next_number<R: Wait>(rt: &R, ring: &BatchRing, pass: &mut BatchPass) -> Option<u64>
-        requires { pass.old.queue ≡ ring.now }
-        ensures { pass.new.queue ≡ ring.now }
+        requires { pass.old.ring ≡ ring.now.id }
+        ensures { pass.new.ring ≡ ring.now.id }
     {
         Some(ring.receive(rt, pass)?.number)
     }
@@ -129,7 +132,7 @@ mod tests {
         alloc: Global,
         pool: &mut Pool,
     ) -> Result<(BatchRing, BatchPass, BatchPass, BatchPass), Fail>
-        ensures { IfOk result (λ made. (made.1.queue ≡ made.0) × (made.2.queue ≡ made.0) × (made.3.queue ≡ made.0)) }
+        ensures { IfOk result (λ made. (made.1.ring ≡ made.0.id) × (made.2.ring ≡ made.0.id) × (made.3.ring ≡ made.0.id)) }
     {
         let (ring, mut sender) = BatchRing::open(alloc, 1)?;
         let first = ring.worker(&mut sender);

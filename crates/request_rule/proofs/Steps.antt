@@ -1,5 +1,5 @@
 -- A step that puts or takes keeps the rule of a request ring, and what the rule tells.
-use Rattle.std.proofs.Common.{◌≡◌, ℕ, ◌<◌, ◌≤◌, true, List, [], ◌∷◌, ◌++◌, length, refl, sym, ap, ◌∙◌, subst, append_assoc, take_at, length-append, eq-eqb, arith}
+use Rattle.std.proofs.Common.{◌≡◌, ℕ, ◌<◌, ◌≤◌, true, List, [], ◌∷◌, ◌++◌, length, refl, sym, ap, ◌∙◌, subst, append_assoc, take_at, length-append, eq-eqb, arith, append-nil}
 use Rattle.std.specs.Prelude.{slice_set, All}
 use Rattle.std.proofs.lemmas.List.{map-append, nil_from_length}
 use Rattle.std.proofs.lemmas.List.Sums.{sum_by-cons}
@@ -14,7 +14,7 @@ use Rattle.request_rule.specs.declared.account.SenderRow.{SenderRow}
 use Rattle.request_rule.specs.declared.account.RequestAccount.{RequestAccount}
 use Rattle.request_rule.specs.Tickets.{taken_ticket, tickets, of_sender}
 use Rattle.request_rule.specs.Accounts.{request_account, first_account, put_in, with_put, TakesOne}
-use Rattle.request_rule.specs.Rule.{rows_of, FitsReceiver, HaveAll, IsFrontOf, AreInTurn, Tells}
+use Rattle.request_rule.specs.Rule.{rows_of, FitsReceiver, HaveAll, IsFrontOf, AreInTurn, Tells, TookAll}
 use Rattle.request_rule.proofs.RowLemmas.{of_sender-append, of_sender-other, is_of, others_keep, first_puts, fronts_are, some_below, at_most_one}
 
 abbrev pub Fits : ℕ → ℕ → List TakenTicket → List TakenTicket → ℕ → RequestAccount → Type 0
@@ -128,3 +128,14 @@ tells pass a items accounts h at =
           let none = sym (of_sender-append q h.gone h.waiting) ∙ h.made q (let e = (mine.0 p).2 in omega arith) in
           ap (of_sender q) (mine.0 p).1 ∙ front_empty (of_sender q h.gone) (of_sender q h.waiting) none;
     }
+
+none_waits : (waiting : List TakenTicket) → [] ≡ tickets waiting → waiting ≡ []
+none_waits [] e = refl
+none_waits (t ∷ waiting) e = absurd (cons-ne-nil _ _ (sym e))
+
+pub tells_empty : (pass : ℕ) (a : RequestAccount) → Learns AreInTurn pass a (λ items. items ≡ [] → TookAll a)
+tells_empty pass a items accounts h at = λ none p.
+    let mine = h.each pass a at in
+    let waits = none_waits h.waiting (sym none ∙ h.queued) in
+    let log : h.gone ++ h.waiting ≡ a.taken = ap (λ l. h.gone ++ l) waits ∙ append-nil h.gone ∙ sym (mine.0 p).1 in
+    subst (λ l. HaveAll l a.rows) log mine.1

@@ -45,3 +45,7 @@ IsFrontOf front whole = front ≡ take (length front) whole
 pub record Tells (a : RequestAccount) : Type 0 where
   pub fronts : a.receives ≡ true → All (λ row. IsFrontOf (of_sender row.sender a.taken) row.put) a.rows
   pub no_other : a.receives ≡ true → (sender : ℕ) → a.senders ≤ sender → of_sender sender a.taken ≡ []
+
+-- With the receiver's account: all that was put through the senders that were joined to it was taken
+abbrev pub TookAll : RequestAccount → Type 0
+TookAll a = a.receives ≡ true → HaveAll a.taken a.rows

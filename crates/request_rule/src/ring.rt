@@ -1,7 +1,7 @@
-ghost use Rattle.std.specs.Prelude.{◌≡◌, ◌<◌, true, length, IfOk, MatchResult, MatchOption};
+ghost use Rattle.std.specs.Prelude.{◌≡◌, ◌<◌, true, length, IfOk, IfNone, MatchResult, MatchOption};
 ghost use Rattle.queue_passes.specs.Holds.{holds};
 ghost use Rattle.request_rule.specs.Accounts.{first_account, sender_account, with_sender, with_put, joined, TakesOne};
-ghost use Rattle.request_rule.specs.Rule.{Tells};
+ghost use Rattle.request_rule.specs.Rule.{Tells, TookAll};
 
 use crate::account::Ticket;
 use crate::rule::{Put, Ruled, RuledPass, Sender, Taken, Together, Told};
@@ -17,11 +17,12 @@ pub struct RequestRing {
 }
 
 impl Model for RequestRing {
-    ghost use Rattle.atomic_table.specs.Seated.{TableId};
+    ghost use Rattle.crossbeam_queue.specs.Passes.{ruled_capacity};
+    ghost use Rattle.queue_passes.specs.Holds.{Ring};
 
-    ghost Value = { TableId };
+    ghost Value = { Ring };
 
-    ghost view = { λ ring. ring.ruled.table.shared.table_id };
+    ghost view = { λ r. record { id = r.ruled.table.shared.table_id; room = ruled_capacity r.ruled } };
 }
 
 /// The right of one thread to use a request ring, with its account.
@@ -47,7 +48,7 @@ impl RequestRing {
     /// A ring for `room` tickets, and the receiver's pass.
     pub fn open(alloc: Global, room: usize) -> Result<(RequestRing, RequestPass), NoMemory>
         requires { 0 < room }
-        ensures { IfOk result (λ opened. opened.1 ≡ holds opened.0 first_account) }
+        ensures { IfOk result (λ opened. (opened.0.room ≡ room) × (opened.1 ≡ holds opened.0.id first_account)) }
     {
         let (ruled, pass) = Ruled::ruled(alloc, room)?;
         Ok((RequestRing { ruled }, RequestPass { pass }))
@@ -55,10 +56,10 @@ impl RequestRing {
 
     /// A sender's pass, which the receiver's pass makes and numbers.
     pub fn sender(&self, pass: &mut RequestPass) -> RequestPass
-        requires ring { pass.old.queue ≡ self.now }
+        requires ring { pass.old.ring ≡ self.now.id }
         requires receiver { pass.old.account.receives ≡ true }
-        ensures old { pass.new ≡ holds self.now (with_sender pass.old.account) }
-        ensures new { result ≡ holds self.now (sender_account pass.old.account.senders) }
+        ensures old { pass.new ≡ holds self.now.id (with_sender pass.old.account) }
+        ensures new { result ≡ holds self.now.id (sender_account pass.old.account.senders) }
     {
         RequestPass {
             pass: self.ruled.another::<Sender>(&mut pass.pass),
@@ -72,27 +73,28 @@ impl RequestRing {
         pass: &mut RequestPass,
         ticket: Ticket,
     ) -> Result<(), Ticket>
-        requires ring { pass.old.queue ≡ self.now }
+        requires ring { pass.old.ring ≡ self.now.id }
         requires sender { 0 < length pass.old.account.rows }
-        ensures { MatchResult result (λ _. pass.new ≡ holds self.now (with_put pass.old.account ticket)) (λ back. (back ≡ ticket) × (pass.new ≡ pass.old)) }
+        ensures { MatchResult result (λ _. pass.new ≡ holds self.now.id (with_put pass.old.account ticket)) (λ back. (back ≡ ticket) × (pass.new ≡ pass.old)) }
     {
         self.ruled.push_as::<Put, R>(rt, &mut pass.pass, ticket)
     }
 
     /// Takes the ticket at the front. None only where the ring was empty at that step.
     pub fn receive<R: Wait>(&self, rt: &R, pass: &mut RequestPass) -> Option<Ticket>
-        requires ring { pass.old.queue ≡ self.now }
+        requires ring { pass.old.ring ≡ self.now.id }
         requires receiver { pass.old.account.receives ≡ true }
-        ensures ring { pass.new.queue ≡ self.now }
+        ensures ring { pass.new.ring ≡ self.now.id }
         ensures taken { MatchOption result (pass.new ≡ pass.old) (λ ticket. TakesOne pass.old.account ticket pass.new.account) }
+        ensures empty { IfNone result (TookAll pass.old.account) }
     {
         self.ruled.pop_as::<Taken, R>(rt, &mut pass.pass)
     }
 
     /// Joins two passes to one, whose account has what both put and took.
     pub fn join(&self, pass: RequestPass, other: RequestPass) -> RequestPass
-        requires { (pass.queue ≡ self.now) × (other.queue ≡ self.now) }
-        ensures { result ≡ holds self.now (joined pass.account other.account) }
+        requires { (pass.ring ≡ self.now.id) × (other.ring ≡ self.now.id) }
+        ensures { result ≡ holds self.now.id (joined pass.account other.account) }
     {
         let RequestPass { pass: mut mine } = pass;
         let RequestPass { pass: theirs } = other;
@@ -102,7 +104,7 @@ impl RequestRing {
 
     /// What the account tells of the ring. The pass stays as it is.
     pub fn tell(&self, pass: &mut RequestPass)
-        requires { pass.old.queue ≡ self.now }
+        requires { pass.old.ring ≡ self.now.id }
         ensures same { pass.new ≡ pass.old }
         ensures tells { Tells pass.old.account }
     {

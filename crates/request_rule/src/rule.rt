@@ -67,9 +67,10 @@ impl Outcome<Ticket, RequestAccount> for Taken {
 }
 
 impl Lesson<Ticket, RequestAccount> for Taken {
-    ghost use Rattle.std.specs.Prelude.{⊤};
+    ghost use Rattle.std.specs.Prelude.{◌≡◌, []};
+    ghost use Rattle.request_rule.specs.Rule.{TookAll};
 
-    ghost fact = { λ account items. ⊤ };
+    ghost fact = { λ account items. items ≡ [] → TookAll account };
 }
 
 /// What an account tells of the ring.

@@ -1,13 +1,16 @@
 -- Each step of a settled ring keeps its rule.
-use Rattle.std.proofs.Common.{◌≡◌, ℕ, ◌<◌, [], ◌∷◌, refl, sym, ap, ◌∙◌, arith}
+use Rattle.std.proofs.Common.{◌≡◌, ℕ, ◌<◌, [], ◌∷◌, refl, sym, ap, ◌∙◌, arith, List, length, ◌+◌}
 use Rattle.std.specs.Prelude.{sum_by}
 use Rattle.std.proofs.lemmas.List.Sums.{sum_by-append, sum_by_push, sum_by-cons}
 use Rattle.crossbeam_queue.specs.Fifo.{Pushes, Pops, Forks, Merges, Learns}
 use Rattle.persist_batches.specs.declared.numbered.Numbered.{Numbered}
-use Rattle.queue_passes.proofs.TotalLemmas.{each_alone, each_set, each_split, each_join, other_stands, total_set, total_split, total_join, sole_total}
+use Rattle.queue_passes.proofs.TotalLemmas.{each_alone, each_set, each_split, each_join, other_stands, total_set, total_split, total_join, sole_total, counted}
+use Rattle.queue_passes.specs.Holds.{whole}
+use mathlib.Core.Option.{some}
+use lib.ListN.{get_elem?}
 use Rattle.settled_rule.specs.declared.account.SettledAccount.{SettledAccount}
 use Rattle.settled_rule.specs.Accounts.{first_account, new_account, spent_account, parted, with_put, with_taken, joined}
-use Rattle.settled_rule.specs.Rule.{IsBalanced, IsFair}
+use Rattle.settled_rule.specs.Rule.{IsBalanced, IsFair, TookAll, HasFilled}
 
 abbrev Idle : ℕ → SettledAccount → Type 0
 Idle pass a = a.parts ≡ 0 → (a.put ≡ []) × (a.taken ≡ [])
@@ -81,9 +84,25 @@ joins pass a other b some_part items accounts h at apart there_after =
       idle = each_join Idle accounts pass other both spent_account (λ none. absurd (omega arith)) (λ none. (refl, refl)) (λ j u away apart' e. h.idle j u e);
     }
 
-pub tells : (pass : ℕ) (a : SettledAccount) → Learns IsBalanced pass a (λ items. IsFair a)
-tells pass a items accounts h at = λ every f.
+-- with every part, the pass knows what the ring holds
+knows : (pass : ℕ) (a : SettledAccount) (items : List Numbered) (accounts : List SettledAccount) → IsBalanced items accounts → get_elem? accounts pass ≡ some a → a.parts ≡ whole
+    → (f : Numbered → ℕ) → sum_by f a.put ≡ sum_by f a.taken + sum_by f items
+knows pass a items accounts h at every f =
     let p = h.weights f in
     let put = sole_total parts_of (put_of f) accounts pass a at (h.parts ∙ sym every) (λ j u e none. ap (sum_by f) (h.idle j u e none).0) in
     let taken = sole_total parts_of (taken_of f) accounts pass a at (h.parts ∙ sym every) (λ j u e none. ap (sum_by f) (h.idle j u e none).1) in
     omega arith
+
+pub tells : (pass : ℕ) (a : SettledAccount) → Learns IsBalanced pass a (λ items. IsFair a)
+tells pass a items accounts h at = λ every f. (let k = knows pass a items accounts h at every f in omega arith)
+
+pub tells_empty : (pass : ℕ) (a : SettledAccount) → Learns IsBalanced pass a (λ items. items ≡ [] → TookAll a)
+tells_empty pass a items accounts h at = λ none every f.
+    let k = knows pass a items accounts h at every f in
+    let z : sum_by f items ≡ 0 = ap (sum_by f) none in
+    omega arith
+
+pub tells_full : (pass : ℕ) (a : SettledAccount) → Learns IsBalanced pass a (λ items. HasFilled (length items) a)
+tells_full pass a items accounts h at = λ every.
+    let k = knows pass a items accounts h at every (λ x. 1) in
+    omega (arith, counted a.put, counted a.taken, counted items)

@@ -1,5 +1,5 @@
 -- The rule of a settled ring: any number of senders and receivers.
-use Rattle.std.specs.Prelude.{◌≡◌, ℕ, ◌+◌, ◌≤◌, List, [], sum_by}
+use Rattle.std.specs.Prelude.{◌≡◌, ℕ, ◌+◌, ◌≤◌, List, [], length, sum_by}
 use mathlib.Core.Option.{some}
 use lib.ListN.{get_elem?}
 use Rattle.persist_batches.specs.declared.numbered.Numbered.{Numbered}
@@ -16,3 +16,11 @@ pub record IsBalanced (items : List Numbered) (accounts : List SettledAccount) :
 -- With every part: each batch was taken at most as often as it was put, and nothing else was taken
 abbrev pub IsFair : SettledAccount → Type 0
 IsFair a = a.parts ≡ whole → (weight : Numbered → ℕ) → sum_by weight a.taken ≤ sum_by weight a.put
+
+-- With every part: all that was put was taken
+abbrev pub TookAll : SettledAccount → Type 0
+TookAll a = a.parts ≡ whole → (weight : Numbered → ℕ) → sum_by weight a.taken ≡ sum_by weight a.put
+
+-- With every part: so many more were put than were taken
+abbrev pub HasFilled : ℕ → SettledAccount → Type 0
+HasFilled room a = a.parts ≡ whole → length a.put ≡ length a.taken + room

@@ -1,7 +1,7 @@
-ghost use Rattle.std.specs.Prelude.{◌≡◌, ◌<◌, IfOk, MatchResult, MatchOption};
+ghost use Rattle.std.specs.Prelude.{◌≡◌, ◌<◌, IfOk, IfErr, IfNone, MatchResult, MatchOption};
 ghost use Rattle.queue_passes.specs.Holds.{holds};
 ghost use Rattle.settled_rule.specs.Accounts.{first_account, new_account, parted, with_put, with_taken, joined};
-ghost use Rattle.settled_rule.specs.Rule.{IsFair};
+ghost use Rattle.settled_rule.specs.Rule.{IsFair, TookAll, HasFilled};
 
 use crate::rule::{PartOff, Put, Ruled, RuledPass, Taken, Together, Told};
 use persist_batches::Numbered;
@@ -17,11 +17,12 @@ pub struct SettledRing {
 }
 
 impl Model for SettledRing {
-    ghost use Rattle.atomic_table.specs.Seated.{TableId};
+    ghost use Rattle.crossbeam_queue.specs.Passes.{ruled_capacity};
+    ghost use Rattle.queue_passes.specs.Holds.{Ring};
 
-    ghost Value = { TableId };
+    ghost Value = { Ring };
 
-    ghost view = { λ ring. ring.ruled.table.shared.table_id };
+    ghost view = { λ r. record { id = r.ruled.table.shared.table_id; room = ruled_capacity r.ruled } };
 }
 
 /// The right of one thread to use a settled ring, with its account.
@@ -47,7 +48,7 @@ impl SettledRing {
     /// A ring for `room` batches, and a pass with every part.
     pub fn open(alloc: Global, room: usize) -> Result<(SettledRing, SettledPass), NoMemory>
         requires { 0 < room }
-        ensures { IfOk result (λ opened. opened.1 ≡ holds opened.0 first_account) }
+        ensures { IfOk result (λ opened. (opened.0.room ≡ room) × (opened.1 ≡ holds opened.0.id first_account)) }
     {
         let (ruled, pass) = Ruled::ruled(alloc, room)?;
         Ok((SettledRing { ruled }, SettledPass { pass }))
@@ -55,10 +56,10 @@ impl SettledRing {
 
     /// A further pass, which gets one part.
     pub fn further(&self, pass: &mut SettledPass) -> SettledPass
-        requires ring { pass.old.queue ≡ self.now }
+        requires ring { pass.old.ring ≡ self.now.id }
         requires parts { 1 < pass.old.account.parts }
-        ensures old { pass.new ≡ holds self.now (parted pass.old.account) }
-        ensures new { result ≡ holds self.now new_account }
+        ensures old { pass.new ≡ holds self.now.id (parted pass.old.account) }
+        ensures new { result ≡ holds self.now.id new_account }
     {
         SettledPass {
             pass: self.ruled.another::<PartOff>(&mut pass.pass),
@@ -72,24 +73,26 @@ impl SettledRing {
         pass: &mut SettledPass,
         batch: Numbered,
     ) -> Result<(), Numbered>
-        requires { pass.old.queue ≡ self.now }
-        ensures { MatchResult result (λ _. pass.new ≡ holds self.now (with_put pass.old.account batch)) (λ back. (back ≡ batch) × (pass.new ≡ pass.old)) }
+        requires { pass.old.ring ≡ self.now.id }
+        ensures put { MatchResult result (λ _. pass.new ≡ holds self.now.id (with_put pass.old.account batch)) (λ back. (back ≡ batch) × (pass.new ≡ pass.old)) }
+        ensures full { IfErr result (λ _. HasFilled self.now.room pass.old.account) }
     {
         self.ruled.push_as::<Put, R>(rt, &mut pass.pass, batch)
     }
 
     /// Takes the batch at the front. None only where the ring was empty at that step.
     pub fn receive<R: Wait>(&self, rt: &R, pass: &mut SettledPass) -> Option<Numbered>
-        requires { pass.old.queue ≡ self.now }
-        ensures { MatchOption result (pass.new ≡ pass.old) (λ batch. pass.new ≡ holds self.now (with_taken pass.old.account batch)) }
+        requires { pass.old.ring ≡ self.now.id }
+        ensures taken { MatchOption result (pass.new ≡ pass.old) (λ batch. pass.new ≡ holds self.now.id (with_taken pass.old.account batch)) }
+        ensures empty { IfNone result (TookAll pass.old.account) }
     {
         self.ruled.pop_as::<Taken, R>(rt, &mut pass.pass)
     }
 
     /// Joins two passes to one, whose account has what both put and took.
     pub fn join(&self, pass: SettledPass, other: SettledPass) -> SettledPass
-        requires { (pass.queue ≡ self.now) × (other.queue ≡ self.now) }
-        ensures { result ≡ holds self.now (joined pass.account other.account) }
+        requires { (pass.ring ≡ self.now.id) × (other.ring ≡ self.now.id) }
+        ensures { result ≡ holds self.now.id (joined pass.account other.account) }
     {
         let SettledPass { pass: mut mine } = pass;
         let SettledPass { pass: theirs } = other;
@@ -99,7 +102,7 @@ impl SettledRing {
 
     /// What the account tells of the ring. The pass stays as it is.
     pub fn tell(&self, pass: &mut SettledPass)
-        requires { pass.old.queue ≡ self.now }
+        requires { pass.old.ring ≡ self.now.id }
         ensures same { pass.new ≡ pass.old }
         ensures fair { IsFair pass.old.account }
     {
@@ -121,16 +124,16 @@ mod tests {
         pool: &mut Pool,
         number: u64,
     ) -> Option<bool>
-        requires { pass.old.queue ≡ ring.now }
-        ensures { pass.new.queue ≡ ring.now }
+        requires { pass.old.ring ≡ ring.now.id }
+        ensures { pass.new.ring ≡ ring.now.id }
     {
         let batch = pool.take()?;
         Some(ring.send(rt, pass, Numbered { number, batch }).is_ok())
     }
 
     fn next_number<R: Wait>(rt: &R, ring: &SettledRing, pass: &mut SettledPass) -> Option<u64>
-        requires { pass.old.queue ≡ ring.now }
-        ensures { pass.new.queue ≡ ring.now }
+        requires { pass.old.ring ≡ ring.now.id }
+        ensures { pass.new.ring ≡ ring.now.id }
     {
         Some(ring.receive(rt, pass)?.number)
     }

@@ -53,9 +53,10 @@ impl Outcome<Numbered, SettledAccount> for Put {
 }
 
 impl Lesson<Numbered, SettledAccount> for Put {
-    ghost use Rattle.std.specs.Prelude.{⊤};
+    ghost use Rattle.std.specs.Prelude.{length};
+    ghost use Rattle.settled_rule.specs.Rule.{HasFilled};
 
-    ghost fact = { λ account items. ⊤ };
+    ghost fact = { λ account items. HasFilled (length items) account };
 }
 
 /// A batch is taken.
@@ -69,9 +70,10 @@ impl Outcome<Numbered, SettledAccount> for Taken {
 }
 
 impl Lesson<Numbered, SettledAccount> for Taken {
-    ghost use Rattle.std.specs.Prelude.{⊤};
+    ghost use Rattle.std.specs.Prelude.{◌≡◌, []};
+    ghost use Rattle.settled_rule.specs.Rule.{TookAll};
 
-    ghost fact = { λ account items. ⊤ };
+    ghost fact = { λ account items. items ≡ [] → TookAll account };
 }
 
 /// What an account tells of the ring.
