@@ -1,0 +1,6 @@
+pub mod Plan
+pub mod NodePasses
+pub mod Passes
+pub mod Opening
+pub mod Halfway
+pub use Rattle.queue_passes.specs.Holds
