@@ -133,9 +133,9 @@ none_waits : (waiting : List TakenTicket) → [] ≡ tickets waiting → waiting
 none_waits [] e = refl
 none_waits (t ∷ waiting) e = absurd (cons-ne-nil _ _ (sym e))
 
-pub tells_empty : (pass : ℕ) (a : RequestAccount) → Learns AreInTurn pass a (λ items. items ≡ [] → TookAll a)
-tells_empty pass a items accounts h at = λ none p.
+pub tells_empty : (pass : ℕ) (a : RequestAccount) → Learns AreInTurn pass a (λ items. length items ≡ 0 → TookAll a)
+tells_empty pass a items accounts h at = λ empty p.
     let mine = h.each pass a at in
-    let waits = none_waits h.waiting (sym none ∙ h.queued) in
+    let waits = none_waits h.waiting (sym (nil_from_length items empty) ∙ h.queued) in
     let log : h.gone ++ h.waiting ≡ a.taken = ap (λ l. h.gone ++ l) waits ∙ append-nil h.gone ∙ sym (mine.0 p).1 in
     subst (λ l. HaveAll l a.rows) log mine.1

@@ -67,10 +67,10 @@ impl Outcome<Ticket, RequestAccount> for Taken {
 }
 
 impl Lesson<Ticket, RequestAccount> for Taken {
-    ghost use Rattle.std.specs.Prelude.{◌≡◌, []};
+    ghost use Rattle.std.specs.Prelude.{◌≡◌, length};
     ghost use Rattle.request_rule.specs.Rule.{TookAll};
 
-    ghost fact = { λ account items. items ≡ [] → TookAll account };
+    ghost fact = { λ account items. length items ≡ 0 → TookAll account };
 }
 
 /// What an account tells of the ring.

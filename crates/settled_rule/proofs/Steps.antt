@@ -10,7 +10,7 @@ use mathlib.Core.Option.{some}
 use lib.ListN.{get_elem?}
 use Rattle.settled_rule.specs.declared.account.SettledAccount.{SettledAccount}
 use Rattle.settled_rule.specs.Accounts.{first_account, new_account, spent_account, parted, with_put, with_taken, joined}
-use Rattle.settled_rule.specs.Rule.{IsBalanced, IsFair, TookAll, HasFilled}
+use Rattle.settled_rule.specs.Rule.{IsBalanced, IsFair, HasLeft}
 
 abbrev Idle : ℕ → SettledAccount → Type 0
 Idle pass a = a.parts ≡ 0 → (a.put ≡ []) × (a.taken ≡ [])
@@ -96,13 +96,7 @@ knows pass a items accounts h at every f =
 pub tells : (pass : ℕ) (a : SettledAccount) → Learns IsBalanced pass a (λ items. IsFair a)
 tells pass a items accounts h at = λ every f. (let k = knows pass a items accounts h at every f in omega arith)
 
-pub tells_empty : (pass : ℕ) (a : SettledAccount) → Learns IsBalanced pass a (λ items. items ≡ [] → TookAll a)
-tells_empty pass a items accounts h at = λ none every f.
-    let k = knows pass a items accounts h at every f in
-    let z : sum_by f items ≡ 0 = ap (sum_by f) none in
-    omega arith
-
-pub tells_full : (pass : ℕ) (a : SettledAccount) → Learns IsBalanced pass a (λ items. HasFilled (length items) a)
-tells_full pass a items accounts h at = λ every.
+pub tells_left : (pass : ℕ) (a : SettledAccount) → Learns IsBalanced pass a (λ items. HasLeft (length items) a)
+tells_left pass a items accounts h at = λ every.
     let k = knows pass a items accounts h at every (λ x. 1) in
-    omega (arith, counted a.put, counted a.taken, counted items)
+    omega (arith, k, counted a.put, counted a.taken, counted items)

@@ -17,10 +17,6 @@ pub record IsBalanced (items : List Numbered) (accounts : List SettledAccount) :
 abbrev pub IsFair : SettledAccount → Type 0
 IsFair a = a.parts ≡ whole → (weight : Numbered → ℕ) → sum_by weight a.taken ≤ sum_by weight a.put
 
--- With every part: all that was put was taken
-abbrev pub TookAll : SettledAccount → Type 0
-TookAll a = a.parts ≡ whole → (weight : Numbered → ℕ) → sum_by weight a.taken ≡ sum_by weight a.put
-
--- With every part: so many more were put than were taken
-abbrev pub HasFilled : ℕ → SettledAccount → Type 0
-HasFilled room a = a.parts ≡ whole → length a.put ≡ length a.taken + room
+-- With every part: so many of the batches that were put were not taken
+abbrev pub HasLeft : ℕ → SettledAccount → Type 0
+HasLeft count a = a.parts ≡ whole → length a.put ≡ length a.taken + count

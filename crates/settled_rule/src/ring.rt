@@ -1,7 +1,7 @@
 ghost use Rattle.std.specs.Prelude.{◌≡◌, ◌<◌, IfOk, IfErr, IfNone, MatchResult, MatchOption};
 ghost use Rattle.queue_passes.specs.Holds.{holds};
 ghost use Rattle.settled_rule.specs.Accounts.{first_account, new_account, parted, with_put, with_taken, joined};
-ghost use Rattle.settled_rule.specs.Rule.{IsFair, TookAll, HasFilled};
+ghost use Rattle.settled_rule.specs.Rule.{IsFair, HasLeft};
 
 use crate::rule::{PartOff, Put, Ruled, RuledPass, Taken, Together, Told};
 use persist_batches::Numbered;
@@ -75,7 +75,7 @@ impl SettledRing {
     ) -> Result<(), Numbered>
         requires { pass.old.ring ≡ self.now.id }
         ensures put { MatchResult result (λ _. pass.new ≡ holds self.now.id (with_put pass.old.account batch)) (λ back. (back ≡ batch) × (pass.new ≡ pass.old)) }
-        ensures full { IfErr result (λ _. HasFilled self.now.room pass.old.account) }
+        ensures full { IfErr result (λ _. HasLeft self.now.room pass.old.account) }
     {
         self.ruled.push_as::<Put, R>(rt, &mut pass.pass, batch)
     }
@@ -84,7 +84,7 @@ impl SettledRing {
     pub fn receive<R: Wait>(&self, rt: &R, pass: &mut SettledPass) -> Option<Numbered>
         requires { pass.old.ring ≡ self.now.id }
         ensures taken { MatchOption result (pass.new ≡ pass.old) (λ batch. pass.new ≡ holds self.now.id (with_taken pass.old.account batch)) }
-        ensures empty { IfNone result (TookAll pass.old.account) }
+        ensures empty { IfNone result (HasLeft 0 pass.old.account) }
     {
         self.ruled.pop_as::<Taken, R>(rt, &mut pass.pass)
     }

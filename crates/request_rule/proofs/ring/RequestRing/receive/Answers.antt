@@ -1,7 +1,6 @@
 use Rattle.std.proofs.Common.{IfNone, subst, sym, true, ◌≡◌}
 use Rattle.crossbeam_queue.specs.Passes.{view}
 use Rattle.queue_passes.specs.Holds.{Holds}
-use Rattle.queue_passes.proofs.MomentLemmas.{learned_empty}
 use Rattle.request_rule.specs.declared.account.RequestAccount.{RequestAccount}
 use Rattle.request_rule.specs.Rule.{TookAll}
 use Rattle.request_rule.proofs.Steps.{takes, tells_empty}
@@ -9,6 +8,3 @@ use Rattle.request_rule.proofs.ring.RequestRing.receive.Goals as goal
 
 pub pop_as-requires-clause-rule : goal.pop_as-requires-clause-rule
 pop_as-requires-clause-rule g c = (takes _ (view c.pass.inside.pass) (subst (λ (h : Holds RequestAccount). h.account.receives ≡ true) (sym c.pass.view_is) c.requires.receiver), tells_empty _ _)
-
-pub returns-clause-empty : goal.returns-clause-empty
-returns-clause-empty g c = subst (λ (h : Holds RequestAccount). IfNone c.pop_as.result (TookAll h.account)) c.pass.view_is (learned_empty (TookAll (view c.pass.inside.pass)) _ _ c.pop_as.result c.pop_as.ensures.rule)
