@@ -1,5 +1,5 @@
 -- A step that puts, takes or splits keeps the rule of a batch ring, and what the rule tells.
-use Rattle.std.proofs.Common.{◌≡◌, ℕ, ◌<◌, ◌≤◌, true, true≢false, List, [], ◌∷◌, ◌++◌, length, take, refl, sym, ap, ◌∙◌, subst, append_assoc, take_at, arith, ◌+◌, length-append, append-nil}
+use Rattle.std.proofs.Common.{◌≡◌, ℕ, ◌<◌, ◌≤◌, true, true≢false, List, [], ◌∷◌, ◌++◌, length, take, refl, sym, ap, ◌∙◌, subst, append_assoc, take_at, arith, ◌+◌, length-append}
 use Rattle.std.specs.Prelude.{sum_by, flat_map}
 use Rattle.std.proofs.lemmas.List.Sums.{sum_by-append, sum_by_push}
 use Rattle.std.proofs.lemmas.List.Elements.{All-nil}
@@ -12,7 +12,7 @@ use lib.ListN.{get_elem?}
 use Rattle.batch_rule.specs.declared.account.BatchAccount.{BatchAccount}
 use Rattle.batch_rule.specs.Numbers.{rises_from, next_after, AllRise}
 use Rattle.batch_rule.specs.Accounts.{first_account, worker_account, parted, with_put, with_taken, all_taken}
-use Rattle.batch_rule.specs.Rule.{FitsSender, FitsWorker, AreInOrder, Tells, TookAll, HasFilled}
+use Rattle.batch_rule.specs.Rule.{FitsSender, FitsWorker, AreInOrder, Tells, HasLeft}
 use Rattle.batch_rule.proofs.NumberLemmas.{next_after-push, rises-push, rises-front, next_above, at_most_once, is_of}
 
 abbrev pub Fits : ℕ → List Numbered → List Numbered → ℕ → BatchAccount → Type 0
@@ -138,13 +138,13 @@ tells pass a items accounts h at =
           all f ∙ ap (sum_by f) (sym front);
     }
 
-pub tells_empty : (pass : ℕ) (a : BatchAccount) → Learns AreInOrder pass a (λ items. items ≡ [] → TookAll a)
-tells_empty pass a items accounts h at = λ none p every f.
-    took_all_gone pass a items accounts h at every f ∙ sym (ap (sum_by f) (((h.each pass a at).0 p).1 ∙ ap (λ l. h.gone ++ l) none ∙ append-nil h.gone))
-
-pub tells_full : (pass : ℕ) (a : BatchAccount) → Learns AreInOrder pass a (λ items. HasFilled (length items) a)
-tells_full pass a items accounts h at = λ p.
+pub tells_left : (pass : ℕ) (a : BatchAccount) → Learns AreInOrder pass a (λ items. HasLeft (length items) a)
+tells_left pass a items accounts h at = λ p.
     let put : length a.put ≡ length h.gone + length items = ap length ((h.each pass a at).0 p).1 ∙ length-append h.gone items in
     let part = part_of_total (taken_of (λ x. 1)) accounts pass a at in
     let w = h.weights (λ x. 1) in
-    omega (arith, put, counted (all_taken a), counted h.gone)
+    let taken = counted (all_taken a) in
+    let gone = counted h.gone in (
+      omega arith,
+      λ every. (let all = took_all_gone pass a items accounts h at every (λ x. 1) in omega arith),
+    )

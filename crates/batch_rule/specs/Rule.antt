@@ -48,10 +48,6 @@ pub record Tells (a : BatchAccount) : Type 0 where
   -- with the sender's account and every part
   pub first : a.sends ≡ true → a.parts ≡ whole → TookTheFirst a
 
--- With the sender's account and every part: all that was sent was taken
-abbrev pub TookAll : BatchAccount → Type 0
-TookAll a = a.sends ≡ true → a.parts ≡ whole → (weight : Numbered → ℕ) → sum_by weight (all_taken a) ≡ sum_by weight a.put
-
--- With the sender's account: at least so many more were sent than were taken
-abbrev pub HasFilled : ℕ → BatchAccount → Type 0
-HasFilled room a = a.sends ≡ true → length (all_taken a) + room ≤ length a.put
+-- With the sender's account: at least so many of the batches that were sent were not taken, and with every part just so many
+abbrev pub HasLeft : ℕ → BatchAccount → Type 0
+HasLeft count a = a.sends ≡ true → (length (all_taken a) + count ≤ length a.put) × (a.parts ≡ whole → length a.put ≡ length (all_taken a) + count)

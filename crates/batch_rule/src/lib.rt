@@ -8,3 +8,6 @@ mod rule;
 
 pub use account::BatchAccount;
 pub use ring::{BatchPass, BatchRing};
+
+#[cfg(test)]
+mod tests;

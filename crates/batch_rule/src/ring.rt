@@ -2,7 +2,7 @@ ghost use Rattle.std.specs.Prelude.{◌≡◌, ◌<◌, ◌≤◌, true, IfOk, I
 ghost use Rattle.queue_passes.specs.Holds.{holds};
 ghost use Rattle.batch_rule.specs.Accounts.{first_account, worker_account, parted, with_put, with_taken, joined};
 ghost use Rattle.batch_rule.specs.Numbers.{next_after};
-ghost use Rattle.batch_rule.specs.Rule.{Tells, TookAll, HasFilled};
+ghost use Rattle.batch_rule.specs.Rule.{Tells, HasLeft};
 
 use crate::rule::{PartOff, Put, Ruled, RuledPass, Taken, Together, Told};
 use persist_batches::Numbered;
@@ -78,7 +78,7 @@ impl BatchRing {
         requires sender { pass.old.account.sends ≡ true }
         requires above { next_after 0 pass.old.account.put ≤ batch.number }
         ensures put { MatchResult result (λ _. pass.new ≡ holds self.now.id (with_put pass.old.account batch)) (λ back. (back ≡ batch) × (pass.new ≡ pass.old)) }
-        ensures full { IfErr result (λ _. HasFilled self.now.room pass.old.account) }
+        ensures full { IfErr result (λ _. HasLeft self.now.room pass.old.account) }
     {
         self.ruled.push_as::<Put, R>(rt, &mut pass.pass, batch)
     }
@@ -87,7 +87,7 @@ impl BatchRing {
     pub fn receive<R: Wait>(&self, rt: &R, pass: &mut BatchPass) -> Option<Numbered>
         requires { pass.old.ring ≡ self.now.id }
         ensures taken { MatchOption result (pass.new ≡ pass.old) (λ batch. pass.new ≡ holds self.now.id (with_taken pass.old.account batch)) }
-        ensures empty { IfNone result (TookAll pass.old.account) }
+        ensures empty { IfNone result (HasLeft 0 pass.old.account) }
     {
         self.ruled.pop_as::<Taken, R>(rt, &mut pass.pass)
     }

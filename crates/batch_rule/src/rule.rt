@@ -54,9 +54,9 @@ impl Outcome<Numbered, BatchAccount> for Put {
 
 impl Lesson<Numbered, BatchAccount> for Put {
     ghost use Rattle.std.specs.Prelude.{length};
-    ghost use Rattle.batch_rule.specs.Rule.{HasFilled};
+    ghost use Rattle.batch_rule.specs.Rule.{HasLeft};
 
-    ghost fact = { λ account items. HasFilled (length items) account };
+    ghost fact = { λ account items. HasLeft (length items) account };
 }
 
 /// A batch is taken.
@@ -70,10 +70,10 @@ impl Outcome<Numbered, BatchAccount> for Taken {
 }
 
 impl Lesson<Numbered, BatchAccount> for Taken {
-    ghost use Rattle.std.specs.Prelude.{◌≡◌, []};
-    ghost use Rattle.batch_rule.specs.Rule.{TookAll};
+    ghost use Rattle.std.specs.Prelude.{length};
+    ghost use Rattle.batch_rule.specs.Rule.{HasLeft};
 
-    ghost fact = { λ account items. items ≡ [] → TookAll account };
+    ghost fact = { λ account items. HasLeft (length items) account };
 }
 
 /// What an account tells of the ring.
