@@ -62,22 +62,16 @@ TakesOneOf ticket (Some old) (Some new) = (new.ring ≡ old.ring) × request.Tak
 abbrev pub TakesTicket : Ticket → NodePass → NodePass → Type 0
 TakesTicket ticket old new = TakesOneOf ticket old.requests new.requests × (new ≡ record old { requests = new.requests })
 
--- all that was put through the passes that are joined here was taken through them
+-- all tickets that were put through the senders that are joined here were taken
 abbrev pub TookAllTickets : NodePass → Type 0
 TookAllTickets n = IfSome n.requests (λ p. request_rule.TookAll p.account)
 
-abbrev pub TookAllBatches : NodePass → Type 0
-TookAllBatches n = IfSome n.batches (λ p. batch_rule.TookAll p.account)
+-- so many batches that were put through the passes that are joined here were not taken through them
+abbrev pub HasLeftBatches : ℕ → NodePass → Type 0
+HasLeftBatches count n = IfSome n.batches (λ p. batch_rule.HasLeft count p.account)
 
-abbrev pub TookAllSettled : NodePass → Type 0
-TookAllSettled n = IfSome n.settled (λ p. settled_rule.TookAll p.account)
-
--- a ring of so much room was full
-abbrev pub HasFilledBatches : ℕ → NodePass → Type 0
-HasFilledBatches room n = IfSome n.batches (λ p. batch_rule.HasFilled room p.account)
-
-abbrev pub HasFilledSettled : ℕ → NodePass → Type 0
-HasFilledSettled room n = IfSome n.settled (λ p. settled_rule.HasFilled room p.account)
+abbrev pub HasLeftSettled : ℕ → NodePass → Type 0
+HasLeftSettled count n = IfSome n.settled (λ p. settled_rule.HasLeft count p.account)
 
 -- each pass is of the node's ring
 pub record IsNodePassOf (rings : NodeRings) (n : NodePass) : Type 0 where

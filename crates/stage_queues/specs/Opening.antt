@@ -6,9 +6,9 @@ use Rattle.request_rule.specs.Accounts.{request_account, sender_account}
 use Rattle.batch_rule.specs.Accounts.{batch_account, worker_account}
 use Rattle.settled_rule.specs.Accounts.{settled_account, new_account}
 use Rattle.stage_queues.specs.declared.node_pass.NodePass.{NodePass}
-use Rattle.stage_queues.specs.Plan.{NodeRings}
+use Rattle.stage_queues.specs.Plan.{NodeRings, Plan}
 use Rattle.stage_queues.specs.NodePasses.{nothing}
-use Rattle.stage_queues.specs.Passes.{StageAccount}
+use Rattle.stage_queues.specs.Passes.{StageAccount, IsPassOf}
 
 -- The request stage's pass at its node: it receives tickets and sends batches, and has the parts that no worker has
 abbrev pub request_stage_part : ℕ → ℕ → NodeRings → NodePass
@@ -59,3 +59,8 @@ pub record HasRoom (buffers : ℕ) (rings : NodeRings) : Type 0 where
   pub requests : rings.requests.room ≡ 64
   pub batches : rings.batches.room ≡ buffers
   pub settled : rings.settled.room ≡ buffers
+
+-- a pass of these queues that holds nothing
+pub record IsNew (plan : Plan) (p : StageAccount) : Type 0 where
+  pub holds : p.held ≡ 0
+  pub queues : IsPassOf plan p

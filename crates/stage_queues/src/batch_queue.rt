@@ -1,5 +1,5 @@
 ghost use Rattle.std.specs.Prelude.{◌≡◌, ◌<◌, ◌^◌, IfErr, IfNone, MatchOption, MatchResult};
-ghost use Rattle.stage_queues.specs.NodePasses.{batch_put, batch_taken, TookAllBatches, HasFilledBatches};
+ghost use Rattle.stage_queues.specs.NodePasses.{batch_put, batch_taken, HasLeftBatches};
 ghost use Rattle.stage_queues.specs.Passes.{at_node, let_go, got, SendsBatches, ReceivesBatches};
 ghost use Rattle.stage_queues.specs.Plan.{node_ring};
 
@@ -47,7 +47,7 @@ impl BatchQueue {
         requires sends { SendsBatches self.now batch.number pass.old }
         requires held { 0 < pass.old.held }
         ensures put { MatchResult result (λ _. pass.new ≡ let_go pass.old self.now.node (batch_put batch (at_node pass.old self.now.node))) (λ back. (back ≡ batch) × (pass.new ≡ pass.old)) }
-        ensures full { IfErr result (λ _. HasFilledBatches self.now.ring.room (at_node pass.old self.now.node)) }
+        ensures full { IfErr result (λ _. HasLeftBatches self.now.ring.room (at_node pass.old self.now.node)) }
     {
         pass.nodes[self.node].send_batch(rt, &self.ring, batch)?;
         pass.held -= 1;
@@ -60,7 +60,7 @@ impl BatchQueue {
         requires receives { ReceivesBatches self.now pass.old }
         requires held { pass.old.held < 2 ^ 32 }
         ensures taken { MatchOption result (pass.new ≡ pass.old) (λ batch. pass.new ≡ got pass.old self.now.node (batch_taken batch (at_node pass.old self.now.node))) }
-        ensures empty { IfNone result (TookAllBatches (at_node pass.old self.now.node)) }
+        ensures empty { IfNone result (HasLeftBatches 0 (at_node pass.old self.now.node)) }
     {
         let batch = pass.nodes[self.node].take_batch(rt, &self.ring)?;
         pass.held += 1;

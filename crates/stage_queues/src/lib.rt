@@ -4,6 +4,7 @@
 
 mod batch_queue;
 mod buffers;
+mod laws;
 mod node;
 mod node_pass;
 mod opening;
@@ -15,6 +16,7 @@ mod sizes;
 mod waiting;
 
 pub use batch_queue::BatchQueue;
+pub use laws::settled_once;
 pub use node_pass::NodePass;
 pub use pass::StagePass;
 pub use queues::Queues;
@@ -22,3 +24,6 @@ pub use request_queue::RequestQueue;
 pub use request_rule::Ticket;
 pub use settled_queue::SettledQueue;
 pub use waiting::Waiter;
+
+#[cfg(test)]
+mod tests;

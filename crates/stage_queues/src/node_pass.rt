@@ -1,5 +1,5 @@
 ghost use Rattle.std.specs.Prelude.{◌≡◌, ◌<◌, ◌≤◌, true, length, IsSomeAnd, IfSome, IfNone, IfErr, MatchOption, MatchResult};
-ghost use Rattle.stage_queues.specs.NodePasses.{nothing, ticket_put, batch_put, batch_taken, settled_put, settled_taken, TakesTicket, MaySendTicket, MayTakeTicket, MaySendBatch, IsOfRing, TookAllTickets, TookAllBatches, TookAllSettled, HasFilledBatches, HasFilledSettled};
+ghost use Rattle.stage_queues.specs.NodePasses.{nothing, ticket_put, batch_put, batch_taken, settled_put, settled_taken, TakesTicket, MaySendTicket, MayTakeTicket, MaySendBatch, IsOfRing, TookAllTickets, HasLeftBatches, HasLeftSettled};
 
 use batch_rule::{BatchPass, BatchRing};
 use persist_batches::Numbered;
@@ -67,7 +67,7 @@ impl NodePass {
     ) -> Result<(), Numbered>
         requires { MaySendBatch ring.now batch.number self.old }
         ensures put { MatchResult result (λ _. self.new ≡ batch_put batch self.old) (λ back. (back ≡ batch) × (self.new ≡ self.old)) }
-        ensures full { IfErr result (λ _. HasFilledBatches ring.now.room self.old) }
+        ensures full { IfErr result (λ _. HasLeftBatches ring.now.room self.old) }
     {
         match &mut self.batches {
             Some(pass) => ring.send(rt, pass, batch),
@@ -78,7 +78,7 @@ impl NodePass {
     pub(crate) fn take_batch<R: Wait>(&mut self, rt: &R, ring: &BatchRing) -> Option<Numbered>
         requires { IsSomeAnd self.old.batches (IsOfRing ring.now) }
         ensures taken { MatchOption result (self.new ≡ self.old) (λ batch. self.new ≡ batch_taken batch self.old) }
-        ensures empty { IfNone result (TookAllBatches self.old) }
+        ensures empty { IfNone result (HasLeftBatches 0 self.old) }
     {
         match &mut self.batches {
             Some(pass) => ring.receive(rt, pass),
@@ -94,7 +94,7 @@ impl NodePass {
     ) -> Result<(), Numbered>
         requires { IsSomeAnd self.old.settled (IsOfRing ring.now) }
         ensures put { MatchResult result (λ _. self.new ≡ settled_put batch self.old) (λ back. (back ≡ batch) × (self.new ≡ self.old)) }
-        ensures full { IfErr result (λ _. HasFilledSettled ring.now.room self.old) }
+        ensures full { IfErr result (λ _. HasLeftSettled ring.now.room self.old) }
     {
         match &mut self.settled {
             Some(pass) => ring.send(rt, pass, batch),
@@ -105,7 +105,7 @@ impl NodePass {
     pub(crate) fn take_settled<R: Wait>(&mut self, rt: &R, ring: &SettledRing) -> Option<Numbered>
         requires { IsSomeAnd self.old.settled (IsOfRing ring.now) }
         ensures taken { MatchOption result (self.new ≡ self.old) (λ batch. self.new ≡ settled_taken batch self.old) }
-        ensures empty { IfNone result (TookAllSettled self.old) }
+        ensures empty { IfNone result (HasLeftSettled 0 self.old) }
     {
         match &mut self.settled {
             Some(pass) => ring.receive(rt, pass),

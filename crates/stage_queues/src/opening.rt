@@ -5,7 +5,7 @@ ghost use Rattle.request_rule.specs.Accounts.{request_account};
 ghost use Rattle.batch_rule.specs.Accounts.{batch_account, first_account as first_batches};
 ghost use Rattle.settled_rule.specs.Accounts.{settled_account, first_account as first_settled};
 ghost use Rattle.stage_queues.specs.NodePasses.{nothing};
-ghost use Rattle.stage_queues.specs.Opening.{opened_passes, node_passes, session_passes, stage_pass, worker_pass, HasRoom};
+ghost use Rattle.stage_queues.specs.Opening.{opened_passes, node_passes, session_passes, stage_pass, worker_pass, HasRoom, IsNew};
 ghost use Rattle.stage_queues.specs.Halfway.{IsOpening, AreRoots};
 ghost use Rattle.stage_queues.specs.Plan.{NodeRings};
 
@@ -57,6 +57,7 @@ impl Queues {
         ensures buffers { IfOk result (λ opened. opened.0.buffers ≡ setup.now.workers + 2) }
         ensures room { IfOk result (λ opened. All (HasRoom opened.0.buffers) opened.0.nodes) }
         ensures passes { IfOk result (λ opened. opened.1.items ≡ opened_passes setup.now.nodes setup.now.workers senders opened.0.nodes) }
+        ensures new { IfOk result (λ opened. All (IsNew opened.0) opened.1.items) }
     {
         let sizes = Sizes::of(setup, senders);
         let mut opening = Opening::start(alloc, &sizes)?;
@@ -96,7 +97,9 @@ impl Opening {
     }
 
     fn finish(self, alloc: Global, sizes: &Sizes) -> Result<(Queues, Vec<StagePass>), NoMemory>
-        requires { IsOpening sizes.now self }
+        requires opening { IsOpening sizes.now self }
+        requires whole { vec_len self.queues ≡ sizes.now.nodes }
+        ensures new { IfOk result (λ opened. All (IsNew opened.0) opened.1.items) }
         ensures room { IfOk result (λ opened. All (HasRoom opened.0.buffers) opened.0.nodes) }
         ensures queues { IfOk result (λ opened. (opened.0.nodes ≡ self.queues.items) × (opened.0.buffers ≡ sizes.now.workers + 2)) }
         ensures passes { IfOk result (λ opened. opened.1.items ≡ opened_passes sizes.now.nodes sizes.now.workers sizes.now.senders self.queues.items) }

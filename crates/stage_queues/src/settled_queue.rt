@@ -1,5 +1,5 @@
 ghost use Rattle.std.specs.Prelude.{◌≡◌, ◌<◌, ◌^◌, IfErr, IfNone, MatchOption, MatchResult};
-ghost use Rattle.stage_queues.specs.NodePasses.{settled_put, settled_taken, TookAllSettled, HasFilledSettled};
+ghost use Rattle.stage_queues.specs.NodePasses.{settled_put, settled_taken, HasLeftSettled};
 ghost use Rattle.stage_queues.specs.Passes.{at_node, let_go, got, UsesSettled};
 ghost use Rattle.stage_queues.specs.Plan.{node_ring};
 
@@ -47,7 +47,7 @@ impl SettledQueue {
         requires uses { UsesSettled self.now pass.old }
         requires held { 0 < pass.old.held }
         ensures put { MatchResult result (λ _. pass.new ≡ let_go pass.old self.now.node (settled_put batch (at_node pass.old self.now.node))) (λ back. (back ≡ batch) × (pass.new ≡ pass.old)) }
-        ensures full { IfErr result (λ _. HasFilledSettled self.now.ring.room (at_node pass.old self.now.node)) }
+        ensures full { IfErr result (λ _. HasLeftSettled self.now.ring.room (at_node pass.old self.now.node)) }
     {
         pass.nodes[self.node].send_settled(rt, &self.ring, batch)?;
         pass.held -= 1;
@@ -60,7 +60,7 @@ impl SettledQueue {
         requires uses { UsesSettled self.now pass.old }
         requires held { pass.old.held < 2 ^ 32 }
         ensures taken { MatchOption result (pass.new ≡ pass.old) (λ batch. pass.new ≡ got pass.old self.now.node (settled_taken batch (at_node pass.old self.now.node))) }
-        ensures empty { IfNone result (TookAllSettled (at_node pass.old self.now.node)) }
+        ensures empty { IfNone result (HasLeftSettled 0 (at_node pass.old self.now.node)) }
     {
         let batch = pass.nodes[self.node].take_settled(rt, &self.ring)?;
         pass.held += 1;
