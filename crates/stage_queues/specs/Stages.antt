@@ -1,7 +1,7 @@
 -- What a thread of each kind may do with its pass, from its first call to its last.
 use Rattle.std.specs.Prelude.{◌≡◌, ℕ, ◌<◌, length, IsSomeAnd}
 use Rattle.stage_queues.specs.Plan.{NodeRing}
-use Rattle.stage_queues.specs.NodePasses.{MaySendTicket, MayTakeTicket, MaySendBatch, IsOfRing}
+use Rattle.stage_queues.specs.NodePasses.{MayTakeTicket, MaySendBatch, IsOfRing}
 use Rattle.stage_queues.specs.Passes.{StageAccount, at_node}
 
 -- a request stage receives tickets, and sends batches of a number or above
