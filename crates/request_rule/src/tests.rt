@@ -1,8 +1,7 @@
 // Several threads send tickets and one takes them. When their passes are joined, the accounts tell what became of the tickets.
-ghost use Rattle.std.specs.Prelude.{◌≡◌, ◌<◌, ◌^◌, All, IfOk, vec_len};
+ghost use Rattle.std.specs.Prelude.{◌<◌, ◌^◌, All, IfOk};
 ghost use Rattle.std.specs.Thread.{IsSync};
 ghost use Rattle.request_rule.specs.Ends.{IsSenders, IsReceivers};
-ghost use Rattle.request_rule.specs.Rule.{Tells};
 
 use super::*;
 use stamp_base::{SessionNo, Term};
