@@ -1,9 +1,9 @@
 // One thread sends batches and several take them. When their passes are joined, the accounts tell what became of the batches.
-ghost use Rattle.std.specs.Prelude.{◌≡◌, ◌+◌, ◌<◌, ◌≤◌, ◌^◌, ◌∷◌, true, false, [], All, IfOk, vec_len};
+ghost use Rattle.std.specs.Prelude.{◌≡◌, ◌+◌, ◌<◌, ◌≤◌, ◌∷◌, true, false, [], All, IfOk, vec_len};
 ghost use Rattle.std.specs.Thread.{IsSync};
 ghost use Rattle.queue_passes.specs.Holds.{holds};
-ghost use Rattle.batch_rule.specs.Accounts.{worker_account, with_put};
-ghost use Rattle.batch_rule.specs.Numbers.{rises_from, next_after, AllRise};
+ghost use Rattle.batch_rule.specs.Accounts.{with_put};
+ghost use Rattle.batch_rule.specs.Numbers.{rises_from, next_after};
 ghost use Rattle.batch_rule.specs.Rule.{TookTheFirst, Tells};
 ghost use Rattle.batch_rule.specs.Ends.{IsWorkers, IsSenders};
 

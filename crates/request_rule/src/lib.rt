@@ -7,3 +7,6 @@ mod rule;
 
 pub use account::{RequestAccount, SenderRow, TakenTicket, Ticket};
 pub use ring::{RequestPass, RequestRing};
+
+#[cfg(test)]
+mod tests;

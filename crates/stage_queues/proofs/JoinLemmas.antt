@@ -1,5 +1,5 @@
 -- Two threads' passes on their way to be joined, node by node.
-use Rattle.std.proofs.Common.{◌≡◌, ◌≢◌, ℕ, ◌+◌, ◌<◌, ◌≤◌, ◌==◌, List, length, set, get_or, inl, inr, sym, ap, ◌∙◌, subst, get_or-set_same, get_or-set_other, arith}
+use Rattle.std.proofs.Common.{◌≡◌, ◌≢◌, ℕ, ◌+◌, ◌<◌, ◌≤◌, ◌==◌, List, length, set, get_or, inl, inr, sym, ◌∙◌, subst, get_or-set_same, get_or-set_other, arith}
 use Rattle.std.specs.Prelude.{Option, None, Some, IfSome}
 use Rattle.std.proofs.lemmas.Option.{slice_get_within}
 use Rattle.std.proofs.lemmas.Bool.{cases_Bool, eqb-true, eqb-false}

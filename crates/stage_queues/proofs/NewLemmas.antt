@@ -1,6 +1,6 @@
 -- The passes that the opening gives are of the queues, and hold nothing.
-use Rattle.std.proofs.Common.{◌≡◌, ◌≢◌, ℕ, zero, suc, ◌+◌, ◌<◌, ◌≤◌, ◌==◌, List, [], ◌∷◌, ◌++◌, length, map, replicate, set, get_or, inl, inr, refl, sym, ap, ◌∙◌, subst, get_or-set_same, get_or-set_other, arith}
-use Rattle.std.specs.Prelude.{None, Some, IfSome, All, slice_get, flat_map}
+use Rattle.std.proofs.Common.{◌≡◌, ℕ, suc, ◌==◌, List, [], ◌∷◌, length, map, replicate, set, get_or, inl, inr, refl, sym, ap, ◌∙◌, subst, get_or-set_same, get_or-set_other, arith}
+use Rattle.std.specs.Prelude.{Some, All, slice_get, flat_map}
 use Rattle.std.specs.List.{range_with_len}
 use Rattle.std.proofs.lemmas.Bool.{cases_Bool, eqb-true, eqb-false}
 use Rattle.std.proofs.lemmas.Option.{same_Some, slice_get-get_or, slice_get_within}
@@ -10,7 +10,7 @@ use Rattle.std.proofs.lemmas.List.Elements.{All-nil, All-cons, All-append, All-m
 use Rattle.stage_queues.specs.declared.node_pass.NodePass.{NodePass}
 use Rattle.stage_queues.specs.Plan.{NodeRings, Plan, AreNumbered}
 use Rattle.stage_queues.specs.NodePasses.{nothing, IsNodePassOf}
-use Rattle.stage_queues.specs.Passes.{StageAccount, pass_at, AreNodePassesOf, IsPassOf}
+use Rattle.stage_queues.specs.Passes.{pass_at}
 use Rattle.stage_queues.specs.Opening.{request_stage_part, worker_part, reply_stage_part, sender_part, stage_pass, worker_pass, session_pass, session_passes, node_passes, opened_passes, IsNew}
 
 nothing_of : (rings : NodeRings) → IsNodePassOf rings nothing

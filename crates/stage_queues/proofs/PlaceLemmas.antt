@@ -1,6 +1,6 @@
 -- For those who hand out passes: where each stands in the list that the opening gives, and what it may do.
-use Rattle.std.proofs.Common.{◌≡◌, ℕ, zero, suc, ◌+◌, ◌*◌, ◌-◌, ◌<◌, ◌≤◌, true, List, [], ◌∷◌, ◌++◌, length, map, replicate, set, get_or, refl, sym, ap, ◌∙◌, subst, length-append, append-nil, get_or-set_same, get_or-set_other, append_assoc, suc-mul, arith}
-use Rattle.std.specs.Prelude.{Option, None, Some, IfSome, IsSomeAnd, slice_get, flat_map}
+use Rattle.std.proofs.Common.{◌≡◌, ℕ, zero, suc, ◌+◌, ◌*◌, ◌<◌, List, [], ◌∷◌, ◌++◌, length, map, replicate, get_or, refl, sym, ap, ◌∙◌, subst, length-append, get_or-set_same, append_assoc, suc-mul, arith}
+use Rattle.std.specs.Prelude.{None, Some, slice_get, flat_map}
 use Rattle.std.specs.List.{range_with_len}
 use Rattle.std.proofs.lemmas.Option.{same_Some, slice_get-get_or}
 use Rattle.std.proofs.lemmas.List.{length-set, length-map, length-replicate, get_or_append_left, get_or-append-add, get_or-map}
@@ -8,8 +8,8 @@ use Rattle.std.proofs.lemmas.List.Concat.{flat_map-cons}
 use Rattle.std.proofs.lemmas.List.FromFn.{length-map-range_with_len, get_or-map-range_with_len}
 use Rattle.stage_queues.specs.declared.node_pass.NodePass.{NodePass}
 use Rattle.stage_queues.specs.Plan.{NodeRings, node_ring}
-use Rattle.stage_queues.specs.NodePasses.{nothing, IsOfRing, IsNodePassOf}
-use Rattle.stage_queues.specs.Passes.{StageAccount, pass_at, at_node, AreNodePassesOf, SendsTickets, ReceivesTickets, SendsBatches, ReceivesBatches, UsesSettled}
+use Rattle.stage_queues.specs.NodePasses.{nothing}
+use Rattle.stage_queues.specs.Passes.{StageAccount, pass_at, at_node, SendsTickets, ReceivesTickets, SendsBatches, ReceivesBatches, UsesSettled}
 use Rattle.stage_queues.specs.Opening.{request_stage_part, worker_part, reply_stage_part, sender_part, stage_pass, worker_pass, session_pass, session_passes, node_passes, opened_passes}
 
 pub length-node_passes : (nodes workers senders : ℕ) (rings : NodeRings) → length (node_passes nodes workers senders rings) ≡ workers + 2

@@ -1,5 +1,5 @@
 -- What stands while the queues are opened, node by node.
-use Rattle.std.specs.Prelude.{◌≡◌, ℕ, ◌+◌, true, List, [], All, flat_map}
+use Rattle.std.specs.Prelude.{◌≡◌, ℕ, ◌+◌, true, [], All, flat_map}
 use Rattle.queue_passes.specs.Holds.{holds}
 use Rattle.request_rule.specs.Accounts.{request_account}
 use Rattle.batch_rule.specs.Accounts.{first_account as first_batches}

@@ -6,11 +6,9 @@ use Rattle.request_rule.specs.declared.account.Ticket.{Ticket}
 use Rattle.request_rule.specs.declared.account.RequestAccount.{RequestAccount}
 use Rattle.request_rule.specs.Accounts as request
 use Rattle.request_rule.specs.Rule as request_rule
-use Rattle.batch_rule.specs.declared.account.BatchAccount.{BatchAccount}
 use Rattle.batch_rule.specs.Accounts as batch
 use Rattle.batch_rule.specs.Numbers.{next_after}
 use Rattle.batch_rule.specs.Rule as batch_rule
-use Rattle.settled_rule.specs.declared.account.SettledAccount.{SettledAccount}
 use Rattle.settled_rule.specs.Accounts as settled
 use Rattle.settled_rule.specs.Rule as settled_rule
 use Rattle.stage_queues.specs.declared.node_pass.NodePass.{NodePass}

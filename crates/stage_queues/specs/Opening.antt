@@ -1,5 +1,5 @@
 -- The queues and passes as they are opened.
-use Rattle.std.specs.Prelude.{◌≡◌, ℕ, ◌+◌, ◌-◌, true, List, [], ◌∷◌, ◌++◌, None, Some, All, map, flat_map, replicate, slice_set}
+use Rattle.std.specs.Prelude.{◌≡◌, ℕ, ◌-◌, true, List, [], ◌∷◌, ◌++◌, None, Some, map, flat_map, replicate, slice_set}
 use Rattle.std.specs.List.{range_with_len}
 use Rattle.queue_passes.specs.Holds.{holds, whole}
 use Rattle.request_rule.specs.Accounts.{request_account, sender_account}

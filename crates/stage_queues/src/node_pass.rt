@@ -1,4 +1,4 @@
-ghost use Rattle.std.specs.Prelude.{◌≡◌, ◌<◌, ◌≤◌, true, length, IsSomeAnd, IfSome, IfNone, IfErr, MatchOption, MatchResult};
+ghost use Rattle.std.specs.Prelude.{◌≡◌, IsSomeAnd, IfNone, IfErr, MatchOption, MatchResult};
 ghost use Rattle.stage_queues.specs.NodePasses.{nothing, ticket_put, batch_put, batch_taken, settled_put, settled_taken, TakesTicket, MaySendTicket, MayTakeTicket, MaySendBatch, IsOfRing, TookAllTickets, HasLeftBatches, HasLeftSettled};
 
 use batch_rule::{BatchPass, BatchRing};

@@ -1,5 +1,5 @@
 ghost use Rattle.std.specs.Prelude.{◌≡◌, ℕ, ◌+◌, ◌-◌, ◌^◌, ◌<◌, [], length, IfSome, MatchOption, slice_get};
-ghost use Rattle.stage_queues.specs.NodePasses.{joined_node, IsNodePassOf, TellsNode, nothing};
+ghost use Rattle.stage_queues.specs.NodePasses.{joined_node, TellsNode};
 ghost use Rattle.stage_queues.specs.Passes.{AreNodePassesOf, pass_at};
 ghost use Rattle.stage_queues.specs.Plan.{node_ring};
 

@@ -1,12 +1,8 @@
-ghost use Rattle.std.specs.Prelude.{◌≡◌, ◌+◌, ◌<◌, ◌≤◌, ◌^◌, length, vec_len, All, IfOk, IfSome, slice_get};
-ghost use Rattle.stage_queues.specs.Plan.{node_ring};
+ghost use Rattle.std.specs.Prelude.{◌≡◌, All, IfSome};
 ghost use Rattle.stage_queues.specs.Opening.{IsNew};
-ghost use Rattle.stage_queues.specs.Passes.{IsPassOf, SendsTickets, UsesSettled};
-ghost use Rattle.stage_queues.specs.Stages.{ServesRequests, Persists};
 
 use super::*;
 use stamp_base::{NodeNo, Setup};
-use std::sync::Wait;
 use std::test::Fail;
 
 mod closing;

@@ -2,6 +2,7 @@
 use super::*;
 use history_book::Actor;
 use stamp_base::{SessionNo, Stage};
+use std::sync::Wait;
 use std::sync::atomic::{AtomicU64, Ordering};
 use std::thread;
 use std::thread::Threads;

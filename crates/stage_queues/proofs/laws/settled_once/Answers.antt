@@ -1,8 +1,7 @@
-use Rattle.std.proofs.Common.{◌≡◌, ◌==◌, if◌then◌else◌, ℕ, ◌∷◌, ◌++◌, ap, arith}
+use Rattle.std.proofs.Common.{◌==◌, if◌then◌else◌, ◌∷◌, ◌++◌, ap, arith}
 use Rattle.std.specs.Prelude.{sum_by, flat_map}
 use Rattle.std.proofs.lemmas.List.Sums.{sum_by-append}
 use Rattle.std.proofs.lemmas.List.Concat.{flat_map-append}
-use Rattle.persist_batches.specs.declared.numbered.Numbered.{Numbered}
 use Rattle.stage_queues.proofs.laws.settled_once.Goals as goal
 
 pub returns-clause-together : goal.returns-clause-together

@@ -1,8 +1,6 @@
 use Rattle.std.proofs.Common.{◌≡◌, true, [], ap, ◌∙◌, rules}
 use Rattle.queue_passes.specs.Holds.{holds}
-use Rattle.batch_rule.specs.declared.account.BatchAccount.{BatchAccount}
 use Rattle.batch_rule.specs.Accounts.{worker_account, batch_account, parted as parted_batches}
-use Rattle.settled_rule.specs.declared.account.SettledAccount.{SettledAccount}
 use Rattle.settled_rule.specs.Accounts.{new_account, settled_account, parted as parted_settled}
 use Rattle.stage_queues.proofs.OpeningLemmas.{one_more_worker, part_less}
 use Rattle.stage_queues.proofs.opening.worker_passes.Goals as goal

@@ -1,4 +1,4 @@
-use Rattle.std.specs.Prelude.{◌≡◌, All}
+use Rattle.std.specs.Prelude.{All}
 use Rattle.stage_queues.specs.Opening.{IsNew}
 use Rattle.stage_queues.proofs.tests.join_all.Given as goal
 

@@ -1,8 +1,7 @@
-use Rattle.std.proofs.Common.{IfNone, subst, sym, true, ◌≡◌}
+use Rattle.std.proofs.Common.{subst, sym, true, ◌≡◌}
 use Rattle.crossbeam_queue.specs.Passes.{view}
 use Rattle.queue_passes.specs.Holds.{Holds}
 use Rattle.request_rule.specs.declared.account.RequestAccount.{RequestAccount}
-use Rattle.request_rule.specs.Rule.{TookAll}
 use Rattle.request_rule.proofs.Steps.{takes, tells_empty}
 use Rattle.request_rule.proofs.ring.RequestRing.receive.Goals as goal
 
