@@ -35,7 +35,7 @@ if_room true false full other go = (refl, refl)
 if_room true true full other go = absurd (cc)
 if_room false spent full other go = absurd (cc)
 
-extend_room : (w : State) (term : ℕ) → extend_refused (rules_of w.setup) w.master term ≡ None → (w.master.term ≡ term) × (is_spent (rules_of w.setup) w.master ≡ false)
+pub extend_room : (w : State) (term : ℕ) → extend_refused (rules_of w.setup) w.master term ≡ None → (w.master.term ≡ term) × (is_spent (rules_of w.setup) w.master ≡ false)
 extend_room w term go =
     let room = if_room (w.master.term == term) (is_spent (rules_of w.setup) w.master) (extend.Spent w.master.ceiling) (extend.Replaced w.master.term) go in
     (eqb-true w.master.term term room.0, room.1)

@@ -87,7 +87,7 @@ pub vanish_at : (w : State) (session : ℕ) (c : Client) → ClientAt w.clients 
 vanish_at w session c at = vanish_comes w session c at (vanish_refusal c.entry.state)
 
 -- ---- write
-write_may : (work key : Option Cause) → option_or work key ≡ None → work ≡ None
+pub write_may : (work key : Option Cause) → option_or work key ≡ None → work ≡ None
 write_may None key go = refl
 write_may (Some why) key go = absurd (cc)
 

@@ -122,7 +122,7 @@ work_cases phase.Committing e work = inr refl
 work_cases (phase.Completing undo) e work = inr refl
 work_cases phase.Gone e work = inr refl
 
-work_fits : (w : State) (h : List Item) (session : ℕ) (c : Client) → Holds w h → ClientAt w.clients session c → step_refusal c.entry.state (is_reading c) ≡ None → IsWork c (work_of c)
+pub work_fits : (w : State) (h : List Item) (session : ℕ) (c : Client) → Holds w h → ClientAt w.clients session c → step_refusal c.entry.state (is_reading c) ≡ None → IsWork c (work_of c)
 work_fits w h session c holds at go = elim (work_cases c.entry.state c.entry c.under_way) [
   | inl due ↦ subst (λ (state : SessionState). IsWork c (work_by state c.entry c.under_way)) (sym due.0) (subst (λ (work : UnderWay). IsWork c (work_by phase.OpenOutcome c.entry work)) (sym due.1) (own_work c due.0 due.1))
   | inr same ↦ subst (λ (work : UnderWay). IsWork c work) (sym same) (under_way_fits w h session c holds at go c.under_way refl)

@@ -5,6 +5,7 @@ pub mod Clients
 pub mod Events
 pub mod Machine
 pub mod Readers
+pub mod Calls
 pub mod Laws
 pub mod WorkedMoves
 pub mod WorkedRefusals

@@ -1,0 +1,7 @@
+pub mod RecordBounds
+pub mod PostsStay
+pub mod BoundsKept
+pub mod RecordCalls
+pub mod RequestCalls
+pub mod StoreCalls
+pub mod StepCalls

@@ -1,0 +1,46 @@
+-- What the calls of sessions and of the janitor on the stores ask of the cells, and what is under way with them.
+use Rattle.std.specs.Prelude.{◌≡◌, ℕ, ◌≤◌, List, ◌∷◌, None, IfSome}
+use Rattle.store_parts.specs.Rows.{Row, IsBare, HasOnly}
+use Rattle.client_parts.specs.declared.resolve.SettlePoint.TheVariants.{Marking}
+use Rattle.client_parts.specs.KeyRead.{Reading, AreFetched}
+use Rattle.client_parts.specs.Sweep.{Sweeping, sweep_ask}
+use Rattle.machine.specs.State.{Reads, Client, State}
+use Rattle.machine.specs.Events.Step.{work_of, next_of}
+use Rattle.machine.specs.Calls.{MayStep, CanWork, KeepsShadowNext}
+use Rattle.machine.specs.Events.Write.{write_refused}
+use Rattle.machine.specs.Events.Heal.{offer_of}
+use Rattle.isolation_laws.specs.Words.{ClientAt}
+
+-- where a session may write at a key, the cell of its transaction is bare
+abbrev pub WriteMayBeMade : State → Type 0
+WriteMayBeMade w = (session key : ℕ) (c : Client) → ClientAt w.clients session c → write_refused c key ≡ None → IfSome c.entry.start (λ start. IsBare w.rows key start)
+
+-- the shadow that is offered is the only one that its cell may have
+abbrev pub HealMayBeMade : State → Type 0
+HealMayBeMade w = (session : ℕ) (c : Client) → ClientAt w.clients session c → IfSome (offer_of c) (λ offer. HasOnly w.rows offer.0 offer.1 offer.2)
+
+-- a read goes on over cells as a fetch gives them, and marks where it may
+pub record ReadsFetched (r : Reading) : Type 0 where
+  pub fetched : AreFetched r.start (r.cell ∷ r.older)
+  pub marks : r.point ≡ Marking → r.cell.version ≤ r.epoch
+
+abbrev pub ReadMayGoOn : State → Type 0
+ReadMayGoOn w = (session : ℕ) (c : Client) (r : Reading) → ClientAt w.clients session c → c.under_way ≡ Reads r → ReadsFetched r
+
+-- a step that is not refused asks something; the session can hear what it comes to, and a shadow that it sets is the only one
+-- that the cell may have
+pub record CanStep (rows : List Row) (c : Client) : Type 0 where
+  pub asks : next_of (work_of c) ≡ None → ⊥
+  pub work : CanWork (work_of c) c.entry
+  pub shadow : KeepsShadowNext (next_of (work_of c)) rows
+
+abbrev pub StepMayBeMade : State → Type 0
+StepMayBeMade w = (session : ℕ) (c : Client) → ClientAt w.clients session c → MayStep c → CanStep w.rows c
+
+-- so does a step of an open sweep
+pub record CanSweep (rows : List Row) (s : Sweeping) : Type 0 where
+  pub asks : sweep_ask s ≡ None → ⊥
+  pub shadow : KeepsShadowNext (sweep_ask s) rows
+
+abbrev pub SweepMayStep : State → Type 0
+SweepMayStep w = IfSome w.sweep (λ s. CanSweep w.rows s)
