@@ -23,8 +23,8 @@ use Rattle.machine.specs.Events.Take.{rules_of, take_item, take_by, take_on}
 use Rattle.machine.specs.Events.Renew.{renew_by, renew_on}
 use Rattle.machine.specs.Events.Extend.{extend_by, extend_on}
 use Rattle.isolation_laws.specs.Holds.{Holds}
-use Rattle.isolation_laws.proofs.NumbersOfRecord.{record_taken}
-use Rattle.isolation_laws.proofs.InversionOfRecord.{extend_room}
+use Rattle.isolation_laws.proofs.NumbersOfTakes.{record_taken}
+use Rattle.isolation_laws.proofs.InversionOfExtensions.{extend_room}
 use Rattle.call_laws.specs.Bounds.{IsBounded}
 
 -- ---- room in the record for one more range

@@ -25,7 +25,7 @@ use Rattle.isolation_laws.specs.Pending.{IsOpen}
 use Rattle.isolation_laws.specs.Cells.{AreRows}
 use Rattle.isolation_laws.specs.Reads.{IsReading, IsResolvedTo}
 use Rattle.isolation_laws.specs.Holds.{Holds}
-use Rattle.isolation_laws.proofs.Owners.{one_commit}
+use Rattle.isolation_laws.proofs.OnceEach.{one_commit}
 use Rattle.isolation_laws.proofs.StoresStay.{swept_fills}
 use Rattle.isolation_laws.proofs.InversionOfSessions.{work_open, write_may}
 use Rattle.cause_laws.specs.Shows.{Tells}

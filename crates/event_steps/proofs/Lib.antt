@@ -1,3 +1,4 @@
 pub mod KeptItems
+pub mod Losses
 pub mod Placed
 pub mod Replies

@@ -1,3 +1,7 @@
+-- The machine's definitions that the contracts of the events cite, and the crate's own.
+pub use Rattle.machine.specs.Effect
+pub use Rattle.machine.specs.Clients
+pub use Rattle.machine.specs.Events
 pub mod Made
 pub mod Parts
 pub mod Kept
