@@ -1,4 +1,7 @@
 pub mod KeptItems
+pub mod PlacedMarks
+pub mod WorkSteps
+pub mod SweepSteps
 pub mod Losses
 pub mod Placed
 pub mod Replies

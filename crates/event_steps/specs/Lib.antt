@@ -7,3 +7,5 @@ pub mod Parts
 pub mod Kept
 pub mod Waiting
 pub mod Replies
+pub mod Meeting
+pub mod Working

@@ -4,7 +4,7 @@ ghost use Rattle.stamp_base.specs.SetupNumbers.{SetupNumbers};
 ghost use Rattle.machine.specs.Events.Take.{rules_of};
 ghost use Rattle.machine.specs.Events.Extend.{extend_on, extend_at, extend_asks};
 ghost use Rattle.event_steps.specs.Made.{Makes, Asks};
-ghost use Rattle.event_steps.specs.Kept.{made_items, extension_kept};
+ghost use Rattle.event_steps.specs.Kept.{made_items, kept_if};
 
 use crate::renewing::stop;
 use crate::{Stopped, ledger};
@@ -83,7 +83,7 @@ fn kept_item(
     term: Term,
     extension: Result<u64, ExtendRefused>,
 ) -> Option<Item>
-    ensures { made_items result ≡ extension_kept fate node term extension }
+    ensures { made_items result ≡ kept_if fate extension (Item.Extend node term) }
 {
     match (fate, extension) {
         (Fate::FailsApplied, Ok(ceiling)) => Some(extend_item(node, term, ceiling)),

@@ -55,7 +55,7 @@ pub fn tell_once(book: &mut Book, told: bool, actor: Actor, cause: Cause) -> Res
 /// The actor's call on the store failed. The change that it made all the same stands before the fault.
 pub fn fail(book: &mut Book, actor: Actor, store: Store, made: Option<Item>) -> Result<(), Stopped>
     requires { 2 ≤ book.old.spare }
-    ensures items { book.new.items ≡ book.old.items ++ (made_items made ++ Item.Fault actor store ∷ []) }
+    ensures items { book.new.items ≡ book.old.items ++ made_items made ++ Item.Fault actor store ∷ [] }
     ensures answer { result ≡ Err (Stopped.Fault store) }
 {
     if let Some(item) = made {

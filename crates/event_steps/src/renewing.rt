@@ -5,7 +5,7 @@ ghost use Rattle.oracle_parts.specs.InstanceSteps.{IsStop, instance_stopped};
 ghost use Rattle.machine.specs.Events.Take.{rules_of};
 ghost use Rattle.machine.specs.Events.Renew.{renew_on, renew_at, renew_asks};
 ghost use Rattle.event_steps.specs.Made.{Makes, Asks};
-ghost use Rattle.event_steps.specs.Kept.{made_items, renewal_kept};
+ghost use Rattle.event_steps.specs.Kept.{made_items, kept_if};
 
 use crate::{Stopped, ledger};
 use history_book::{Actor, Book, Cause, Item};
@@ -101,7 +101,7 @@ fn kept_item(
     term: Term,
     renewal: Result<u64, RenewRefused>,
 ) -> Option<Item>
-    ensures { made_items result ≡ renewal_kept fate node reading term renewal }
+    ensures { made_items result ≡ kept_if fate renewal (Item.Renew node reading term) }
 {
     match (fate, renewal) {
         (Fate::FailsApplied, Ok(until)) => Some(renew_item(node, reading, term, until)),

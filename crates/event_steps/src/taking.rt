@@ -4,7 +4,7 @@ ghost use Rattle.stamp_base.specs.Setups.{numbers_of};
 ghost use Rattle.machine.specs.Events.Take.{rules_of, take_on, take_vacant as take_vacant_on, take_asks, take_item as take_item_of};
 ghost use Rattle.stamp_base.specs.Ranges.{IsStampRange};
 ghost use Rattle.event_steps.specs.Made.{Makes, Asks};
-ghost use Rattle.event_steps.specs.Kept.{made_items, opened_by, kept_by};
+ghost use Rattle.event_steps.specs.Kept.{made_items, opened_by, kept_if};
 
 use crate::{Stopped, ledger};
 use history_book::{Actor, Book, Cause, Item};
@@ -44,7 +44,7 @@ pub fn take<W: Weather>(
     }
 }
 
-#[tactic(auto, using(crate::proofs::KeptItems::kept_grant))]
+#[tactic(auto, using(crate::proofs::KeptItems::kept_as_answered))]
 fn take_vacant<W: Weather>(
     weather: &mut W,
     book: &mut Book,
@@ -113,7 +113,7 @@ fn kept_item(
     reading: u64,
     granted: &Result<Grant, TakeRefused>,
 ) -> Option<Item>
-    ensures { made_items result ≡ kept_by fate node reading granted.now }
+    ensures { made_items result ≡ kept_if fate granted.now (take_item_of node reading) }
 {
     match (fate, granted) {
         (Fate::FailsApplied, Ok(grant)) => Some(take_item(node, reading, grant)),

@@ -1,6 +1,7 @@
 ghost use Rattle.std.specs.Prelude.{◌≡◌, true, false};
 ghost use Rattle.client_parts.specs.Asks.{Fits};
 ghost use Rattle.client_parts.specs.Resolve.{settle_open, settle_ask, settle_turn, settle_by, outcome_of};
+ghost use Rattle.client_parts.specs.Sweep.{IsKeys};
 
 use client_parts::{Ask, Outcome, SettlePoint, Told};
 use stamp_base::{KeyNo, Stamp, TxnId};
@@ -44,9 +45,10 @@ impl Settle {
         }
     }
 
-    /// The next step.
+    /// The next step. It never lists keys.
     pub fn next(&self) -> Ask
-        ensures { result ≡ settle_ask self.now }
+        ensures next { result ≡ settle_ask self.now }
+        ensures no_listing { IsKeys result → ⊥ }
     {
         match self.point {
             SettlePoint::FirstLook | SettlePoint::LastLook => Ask::Look(self.key, self.txn),

@@ -1,5 +1,6 @@
 ghost use Rattle.std.specs.Prelude.{◌≡◌, IfSome};
 ghost use Rattle.client_parts.specs.Asks.{FitsNext};
+ghost use Rattle.client_parts.specs.Sweep.{IsKeys};
 ghost use Rattle.client_parts.specs.KeyRead.{AreFetched, read_over, read_told, reading_left, next_of, next_ask};
 
 use crate::turn::{Reader, Turn};
@@ -74,10 +75,18 @@ impl ReadRun {
         self.reader.key
     }
 
-    /// The step that was asked last; None once the read has its answer.
+    /// The start of the transaction that reads.
+    pub fn reader(&self) -> Stamp
+        ensures { IfSome self.now (λ r. result ≡ r.start) }
+    {
+        self.reader.start
+    }
+
+    /// The step that was asked last; None once the read has its answer. It never lists keys.
     #[tactic(auto, using(crate::proofs::RunLemmas::asked))]
     pub fn next(&self) -> Option<Ask>
-        ensures { result ≡ next_ask self.now }
+        ensures next { result ≡ next_ask self.now }
+        ensures no_listing { IfSome result (λ ask. IsKeys ask → ⊥) }
     {
         if self.passed < self.cells.len() {
             Some(self.settle.next())

@@ -1,5 +1,6 @@
-ghost use Rattle.std.specs.Prelude.{◌≡◌, drop};
+ghost use Rattle.std.specs.Prelude.{◌≡◌, drop, IfSome};
 ghost use Rattle.client_parts.specs.Completion.{finish_asks, undo_asks, first_ask};
+ghost use Rattle.client_parts.specs.Sweep.{IsKeys};
 
 use client_parts::Ask;
 use stamp_base::{KeyNo, Stamp, TxnId};
@@ -7,7 +8,8 @@ use stamp_base::{KeyNo, Stamp, TxnId};
 /// The step after `done` steps of finishing a transaction that wrote these keys; None where no step is left.
 #[tactic(auto, using(crate::proofs::Steps::finish_at))]
 pub fn finish_ask(txn: TxnId, commit: Stamp, keys: &[KeyNo], done: usize) -> Option<Ask>
-    ensures { result ≡ first_ask (drop done (finish_asks txn commit keys.now)) }
+    ensures next { result ≡ first_ask (drop done (finish_asks txn commit keys.now)) }
+    ensures no_listing { IfSome result (λ ask. IsKeys ask → ⊥) }
 {
     if done < keys.len() {
         Some(Ask::Shadow(keys[done], txn, commit))
@@ -21,7 +23,8 @@ pub fn finish_ask(txn: TxnId, commit: Stamp, keys: &[KeyNo], done: usize) -> Opt
 /// The step after `done` steps of undoing a transaction that wrote these keys; None where no step is left.
 #[tactic(auto, using(crate::proofs::Steps::undo_at))]
 pub fn undo_ask(txn: TxnId, keys: &[KeyNo], done: usize) -> Option<Ask>
-    ensures { result ≡ first_ask (drop done (undo_asks txn keys.now)) }
+    ensures next { result ≡ first_ask (drop done (undo_asks txn keys.now)) }
+    ensures no_listing { IfSome result (λ ask. IsKeys ask → ⊥) }
 {
     if done < keys.len() {
         Some(Ask::Erase(keys[done], txn))

@@ -1,8 +1,9 @@
 //! Completions: the store steps that finish or undo a transaction which has ended.
 #![tactic(auto)]
 
-ghost use Rattle.std.specs.Prelude.{◌≡◌, drop, IsSome};
+ghost use Rattle.std.specs.Prelude.{◌≡◌, drop, IsSome, IfSome};
 ghost use Rattle.client_parts.specs.Completion.{finish_asks, undo_asks, first_ask};
+ghost use Rattle.client_parts.specs.Sweep.{IsKeys};
 
 mod asks;
 
@@ -68,9 +69,10 @@ impl Completion {
         }
     }
 
-    /// The next step; None exactly where all were done.
+    /// The next step; None exactly where all were done. It never lists keys.
     pub fn next(&self) -> Option<Ask>
-        ensures { result ≡ first_ask self.now }
+        ensures next { result ≡ first_ask self.now }
+        ensures no_listing { IfSome result (λ ask. IsKeys ask → ⊥) }
     {
         let keys = self.keys.as_slice();
         match self.way {

@@ -1,0 +1,54 @@
+-- What the answer to the next step makes of a client, whatever it has under way, and what a failure makes of it.
+use Rattle.std.specs.Prelude.{◌≡◌, ℕ, Bool, true, false, List, [], ◌∷◌, Option, None, Some}
+use Rattle.history_book.specs.declared.item.Item.{Item}
+use Rattle.client_parts.specs.declared.asks.Told.{Told}
+use Rattle.client_parts.specs.SessionSteps.{SessionEntry, CanFree, CanCommit, step_refusal}
+use Rattle.client_parts.specs.Resolve.{Settling, settle_turn}
+use Rattle.client_parts.specs.KeyRead.{ReadTurn, Asks, Answers, read_told}
+use Rattle.machine.specs.State.{UnderWay, Nothing, Reads, Settles, Completes, Client}
+use Rattle.machine.specs.Clients.{client_freed, is_reading}
+use Rattle.machine.specs.Events.Fetch.{client_read, read_items}
+use Rattle.machine.specs.Events.Step.{client_settled, settle_items, after_asks}
+
+-- the answer leads what is under way on, or ends it; where there is no next step, nothing changes
+abbrev pub client_told : Client → UnderWay → Told → Client
+client_told c Nothing answer = record c { under_way = Nothing }
+client_told c (Reads r) answer = client_read c (read_told r answer)
+client_told c (Settles x) answer = client_settled c x (settle_turn x answer)
+client_told c (Completes []) answer = record c { under_way = Completes [] }
+client_told c (Completes (asked ∷ asks)) answer = after_asks c asks
+
+-- the item of what the answer decides, if it decides anything
+abbrev pub told_items : ℕ → Client → UnderWay → Told → List Item
+told_items session c (Reads r) answer = read_items session r.start r.key (read_told r answer)
+told_items session c (Settles x) answer = settle_items session c.entry.start (settle_turn x answer)
+told_items session c _ answer = []
+
+-- a failed step ends what is under way, and a completion frees its session
+abbrev pub client_failed : Client → UnderWay → Client
+client_failed c (Completes asks) = client_freed c
+client_failed c _ = record c { under_way = Nothing }
+
+-- the shadow that a read offers
+abbrev pub offered_by : ReadTurn → Option (ℕ × ℕ × ℕ)
+offered_by (Asks r) = None
+offered_by (Answers a) = a.heal
+
+-- a resolve of the own commit is under way, or nothing
+abbrev pub settles : Option Settling → UnderWay
+settles None = Nothing
+settles (Some x) = Settles x
+
+abbrev pub is_nothing : UnderWay → Bool
+is_nothing Nothing = true
+is_nothing _ = false
+
+-- the session can hear what its work may come to
+abbrev pub CanWork : UnderWay → SessionEntry → Type 0
+CanWork (Settles x) e = CanCommit e
+CanWork (Completes asks) e = CanFree e
+CanWork _ e = Unit {0}
+
+-- no refusal stands against the client's next step
+abbrev pub MayStep : Client → Type 0
+MayStep c = step_refusal c.entry.state (is_reading c) ≡ None
