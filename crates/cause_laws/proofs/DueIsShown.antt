@@ -7,12 +7,13 @@ use Rattle.history_book.specs.declared.item.Actor.{Actor}
 use Rattle.history_book.specs.declared.item.Actor.TheVariants.{Session, Node, Janitor, Clock}
 use Rattle.history_book.specs.declared.item.Item.{Item}
 use Rattle.history_book.specs.declared.item.Item.TheVariants.{Refused}
+use Rattle.oracle_parts.specs.declared.instance.Progress.TheVariants as progress
 use Rattle.machine.specs.State.{State}
 use Rattle.cause_rules.specs.Explained.{ShownToSession, ShownToNode, ShownToJanitor, ShownCause, Shown}
 use Rattle.isolation_laws.specs.Sound.{Stands}
 use Rattle.cause_laws.specs.Shows.{Shows}
 use Rattle.cause_laws.specs.Due.{DueToSession, DueToNode, DueToJanitor, DueNow, Due}
-use Rattle.cause_laws.proofs.ShownOfRequests.{conflict_shown, hidden_shown, old_epoch_shown, expired_shown}
+use Rattle.cause_laws.proofs.ShownOfRequests.{node_of, conflict_shown, hidden_shown, old_epoch_shown, expired_shown}
 use Rattle.cause_laws.proofs.ShownOfDecisions.{replaced_shown, spent_shown, no_stamp_shown, invalid_shown, open_shown, not_yet_shown}
 use Rattle.cause_laws.proofs.ShownOfNodes.{early_shown, spent_record_shown, overtaken_shown, holding_shown, none_shown, gone_shown, full_shown}
 use Rattle.cause_laws.proofs.ShownOfLosses.{loss_shown}
@@ -23,7 +24,7 @@ to_session w h s (cause.Hidden key water) stands shows due = hidden_shown w h s 
 to_session w h s (cause.OldEpoch start epoch) stands shows due = old_epoch_shown w h s start epoch shows due
 to_session w h s (cause.Expired reading until) stands shows due = expired_shown w h s reading until shows due
 to_session w h s (cause.Replaced found) stands shows due = replaced_shown w h s found shows due
-to_session w h s (cause.Spent ceiling) stands shows due = spent_shown w h s ceiling shows due
+to_session w h s (cause.Spent ceiling) stands shows due = ((due.serves.node, node_of w h s due.i due.request progress.Accepted shows due.serves), spent_shown w h s ceiling shows due)
 to_session w h s (cause.NoStamp last) stands shows due = no_stamp_shown w h s last shows due
 to_session w h s (cause.Invalid start) stands shows due = invalid_shown w h s start shows due
 to_session w h s (cause.Open start) stands shows due = open_shown w h s start shows due
@@ -38,7 +39,7 @@ to_node w h n (cause.Early reading until) stands shows due = early_shown w h rea
 to_node w h n (cause.Spent ceiling) stands shows due = spent_record_shown w h ceiling stands shows due
 to_node w h n (cause.Replaced found) stands shows due = overtaken_shown w h n found stands shows due
 to_node w h n (cause.Holding term) stands shows due = holding_shown w h n term shows due
-to_node w h n (cause.NoOracle node) stands shows due = none_shown w h node shows due
+to_node w h n (cause.NoOracle node) stands shows due = (due.0, none_shown w h node shows due.1)
 to_node w h n _ stands shows due = absurd due
 
 to_janitor : (w : State) (h : List Item) (why : Cause) → Shows w h → DueToJanitor w why → ShownToJanitor h why

@@ -39,7 +39,7 @@ put_due w node session fate i None = no_request_due w node session
 put_due w node session fate i (Some stamps) = put_fated w node session stamps.0 stamps.1 fate (mark_of w.pairs stamps.0) i _
 
 pub put_on_due : (w : State) (node session : ℕ) (fate : Fate) (post : Option InstanceEntry) → slice_get w.nodes node ≡ Some post → AreDue w (put_on node session fate post w.pairs).items
-put_on_due w node session fate None at = refusal_due w (Node node) (cause.NoOracle node) at
+put_on_due w node session fate None at = refusal_due w (Node node) (cause.NoOracle node) (refl, at)
 put_on_due w node session fate (Some i) at = put_due w node session fate i (to_place (held_of i session))
 
 -- ---- answer
@@ -87,5 +87,5 @@ answer_found w node session i c at None has = no_request_due w node session
 answer_found w node session i c at (Some held) has = answer_request w node session i held c (record { at = at; has = has }) held.request refl held.progress refl
 
 pub answer_on_due : (w : State) (node session : ℕ) (post : Option InstanceEntry) (c : Client) → slice_get w.nodes node ≡ Some post → AreDue w (answer_on node session post c).items
-answer_on_due w node session None c at = refusal_due w (Node node) (cause.NoOracle node) at
+answer_on_due w node session None c at = refusal_due w (Node node) (cause.NoOracle node) (refl, at)
 answer_on_due w node session (Some i) c at = answer_found w node session i c at (held_of i session) refl

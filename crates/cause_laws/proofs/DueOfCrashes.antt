@@ -91,5 +91,5 @@ crash_place w node i items requests at told zero x found = subst (λ (y : Item).
 crash_place w node i items requests at told (suc place) x found = loss_due w node i (take place items) x requests at (found_told node i.term i.requests items place x told found) (All-take IsRefusal place items (all_refusals node i.term i.requests items told))
 
 pub crash_on_due : (w : State) (node : ℕ) (post : Option InstanceEntry) → AreRequests w.nodes w.clients → slice_get w.nodes node ≡ Some post → AreDue w (crash_on node post w.clients).items
-crash_on_due w node None requests at = refusal_due w (Node node) (cause.NoOracle node) at
+crash_on_due w node None requests at = refusal_due w (Node node) (cause.NoOracle node) (refl, at)
 crash_on_due w node (Some i) requests at = record { at = crash_place w node i (all_crashed_items node i.term i.requests w.clients) requests at (all_told node i.term i.requests w.clients) }

@@ -88,7 +88,7 @@ renew_due w node reading until FailsApplied left i at None is = all_due w _ (two
 renew_due w node reading until FailsApplied left i at (Some why) is = plain_due w _ (λ told. tt)
 
 pub renew_on_due : (w : State) (node reading : ℕ) (fate : Fate) (post : Option InstanceEntry) → slice_get w.nodes node ≡ Some post → AreDue w (renew_on w.setup node reading fate post w.master).items
-renew_on_due w node reading fate None at = refusal_due w (Node node) (cause.NoOracle node) at
+renew_on_due w node reading fate None at = refusal_due w (Node node) (cause.NoOracle node) (refl, at)
 renew_on_due w node reading fate (Some i) at = renew_due w node reading _ fate _ i at (renew_refused w.master i.term) refl
 
 -- ---- extend
@@ -124,5 +124,5 @@ extend_due w node ceiling FailsApplied left i at None is = all_due w _ (two_free
 extend_due w node ceiling FailsApplied left i at (Some why) is = plain_due w _ (λ told. tt)
 
 pub extend_on_due : (w : State) (node : ℕ) (fate : Fate) (post : Option InstanceEntry) → slice_get w.nodes node ≡ Some post → AreDue w (extend_on w.setup node fate post w.master).items
-extend_on_due w node fate None at = refusal_due w (Node node) (cause.NoOracle node) at
+extend_on_due w node fate None at = refusal_due w (Node node) (cause.NoOracle node) (refl, at)
 extend_on_due w node fate (Some i) at = extend_due w node _ fate _ i at (extend_refused (rules_of w.setup) w.master i.term) refl

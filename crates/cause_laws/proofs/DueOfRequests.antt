@@ -82,7 +82,7 @@ accept_found w node session reading i c at (Some held) has =
     subst (λ (f : Option Held). accept_due_by w node session reading held c (accept_held i session reading f)) (sym has) (accept_progress w node session reading i held c (record { at = at; has = has }) held.progress refl)
 
 pub accept_on_due : (w : State) (node session reading : ℕ) (post : Option InstanceEntry) (c : Client) → slice_get w.nodes node ≡ Some post → AreDue w (accept_on node session reading post c).items
-accept_on_due w node session reading None c at = refusal_due w (Node node) (cause.NoOracle node) at
+accept_on_due w node session reading None c at = refusal_due w (Node node) (cause.NoOracle node) (refl, at)
 accept_on_due w node session reading (Some i) c at = accept_found w node session reading i c at (held_of i session) refl
 
 -- ---- decide
@@ -138,5 +138,5 @@ decide_found w node session i c at stop (Some held) has =
     subst (λ (f : Option Held). decide_due_by w node session held c (decide_held i session f)) (sym has) (decide_progress w node session i held c (record { at = at; has = has }) stop held.progress refl)
 
 pub decide_on_due : (w : State) (node session : ℕ) (post : Option InstanceEntry) (c : Client) → AreStops w.nodes → slice_get w.nodes node ≡ Some post → AreDue w (decide_on node session post c).items
-decide_on_due w node session None c stops at = refusal_due w (Node node) (cause.NoOracle node) at
+decide_on_due w node session None c stops at = refusal_due w (Node node) (cause.NoOracle node) (refl, at)
 decide_on_due w node session (Some i) c stops at = decide_found w node session i c at (stops.stop node i at) (held_of i session) refl

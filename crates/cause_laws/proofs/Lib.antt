@@ -1,6 +1,7 @@
 pub mod DeedRecords
 pub mod Deeds
 pub mod RecordedDraws
+pub mod HiddenWaters
 pub mod ShownOfRequests
 pub mod ShownOfDecisions
 pub mod HeldRecord

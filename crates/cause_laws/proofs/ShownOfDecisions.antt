@@ -37,7 +37,14 @@ stop_shown w h s why shows due = shows.stops.shown due.serves.node due.i why due
 pub replaced_shown : (w : State) (h : List Item) (s found : ℕ) → Shows w h → DueStop w s (cause.Replaced found) → ShownReplaced h s found
 replaced_shown w h s found shows due =
     let is = stop_shown w h s (cause.Replaced found) shows due in
-    record { term = due.i.term; term_is = term_of w h s due.i due.request progress.Accepted shows due.serves accepted_not_asked; later = is.0; taken = is.1 }
+    record {
+      node = due.serves.node;
+      node_is = node_of w h s due.i due.request progress.Accepted shows due.serves;
+      term = due.i.term;
+      term_is = term_of w h s due.i due.request progress.Accepted shows due.serves accepted_not_asked;
+      later = is.0;
+      taken = is.1;
+    }
 
 pub spent_shown : (w : State) (h : List Item) (s ceiling : ℕ) → Shows w h → DueStop w s (cause.Spent ceiling) → ShownSpent w.setup h ceiling
 spent_shown w h s ceiling shows due = stop_shown w h s (cause.Spent ceiling) shows due
@@ -51,6 +58,8 @@ no_stamp_shown w h s last shows due =
     let n : ℕ = due.serves.node in
     let at : InstanceAt w.nodes n due.i = due.serves.at in
     record {
+      node = n;
+      node_is = node_of w h s due.i due.request progress.Accepted shows due.serves;
       term = due.i.term;
       term_is = term_of w h s due.i due.request progress.Accepted shows due.serves accepted_not_asked;
       end = subst (λ c. CeilingGiven h due.i.term c) (sym due.used_up ∙ due.last_is) (shows.lasts.given n due.i at);
@@ -61,7 +70,13 @@ no_stamp_shown w h s last shows due =
 pub invalid_shown : (w : State) (h : List Item) (s start : ℕ) → Shows w h → DueSettled w s start how.Invalid → ShownInvalid h s start
 invalid_shown w h s start shows due =
     let mark = shows.faulted.marked due.serves.node s due.asker start due.commit due.i due.keys due.serves.at due.serves.holds in
-    record { start_is = start_of w h s due.asker start due.keys due.i _ shows due.serves; actor = mark.0; marked = mark.1 }
+    record {
+      node = due.serves.node;
+      node_is = node_of w h s due.i (Commit due.asker start due.keys) _ shows due.serves;
+      start_is = start_of w h s due.asker start due.keys due.i _ shows due.serves;
+      actor = mark.0;
+      marked = mark.1;
+    }
 
 pub open_shown : (w : State) (h : List Item) (s start : ℕ) → Shows w h → DueSettled w s start how.Faulted → ShownOpen h s start
 open_shown w h s start shows due =
@@ -124,6 +139,8 @@ not_yet_shown w h s commit stands shows due =
     let pending : Pending w.nodes q = record { instance_of = due.i; progress_of = progress.Drawn commit; at = due.serves.at; held = held; term_is = refl; stage_is = refl } in
     let so_far = stands.holds.requests.pending.so_far q pending in
     record {
+      node = n;
+      node_is = node_of w h s due.i (Begin due.asker) (progress.Drawn due.start) shows due.serves;
       start = due.start;
       start_is = start_of_begin w h s due.asker due.start due.i shows due.serves;
       term = due.i.term;

@@ -23,6 +23,7 @@ use Rattle.isolation_laws.proofs.RecordedCommits.{recorded_rise}
 use Rattle.cause_laws.specs.Requests.{ask_for}
 use Rattle.cause_laws.specs.Shows.{Shows}
 use Rattle.cause_laws.specs.Due.{Serves, DueVerdict, DueOldEpoch, DueExpired}
+use Rattle.cause_laws.proofs.HiddenWaters.{hidden_water}
 use Rattle.cause_laws.proofs.RecordedDraws.{last_drawn, drawn_at}
 
 -- ---- the ask of a request
@@ -63,13 +64,15 @@ keys_of w h s asker start keys i stands serves =
     let pending : Pending w.nodes q = record { instance_of = i; progress_of = progress.Accepted; at = serves.at; held = held; term_is = refl; stage_is = refl } in
     (stands.holds.requests.pending.keys q pending).0
 
--- what the buckets say is shown by what was drawn in the term
+-- the buckets have what was drawn in the term
+judged_by : (w : State) (h : List Item) (s : ℕ) (why : Verdict) → Stands w h → (due : DueVerdict w s why) → verdict (contents w.setup.buckets w.setup.width (recorded h due.i.term)) due.start due.keys ≡ why
+judged_by w h s why stands due = ap (λ (bs : List Bucket). verdict bs due.start due.keys) (sym (stands.holds.memory.recorded.hold due.serves.node due.i due.serves.at)) ∙ due.judged
+
+-- so what they say is shown by it
 told : (w : State) (h : List Item) (s : ℕ) (why : Verdict) → Stands w h → (due : DueVerdict w s why) → IsShown w.setup.buckets w.setup.width (recorded h due.i.term) due.start due.keys why
 told w h s why stands due =
     let setup = stands.holds.in_range in
-    let buckets : due.i.buckets ≡ contents w.setup.buckets w.setup.width (recorded h due.i.term) = stands.holds.memory.recorded.hold due.serves.node due.i due.serves.at in
-    let judged : verdict (contents w.setup.buckets w.setup.width (recorded h due.i.term)) due.start due.keys ≡ why = ap (λ (bs : List Bucket). verdict bs due.start due.keys) (sym buckets) ∙ due.judged in
-    subst (λ v. IsShown w.setup.buckets w.setup.width (recorded h due.i.term) due.start due.keys v) judged
+    subst (λ v. IsShown w.setup.buckets w.setup.width (recorded h due.i.term) due.start due.keys v) (judged_by w h s why stands due)
     (verdict_shown w.setup.buckets w.setup.width (recorded h due.i.term) due.start due.keys setup.buckets.0 setup.width.0 (recorded_rise h due.i.term stands.holds.numbers.new))
 
 pub conflict_shown : (w : State) (h : List Item) (s key by : ℕ) → Stands w h → Shows w h → DueVerdict w s (Conflict key by) → ShownConflict h s key by
@@ -77,6 +80,8 @@ conflict_shown w h s key by stands shows due =
     let is = told w h s (Conflict key by) stands due in
     let from = last_drawn h due.i.term key by is.1 in
     record {
+      node = due.serves.node;
+      node_is = node_of w h s due.i (Commit due.asker due.start due.keys) progress.Accepted shows due.serves;
       start = due.start;
       start_is = start_of w h s due.asker due.start due.keys due.i progress.Accepted shows due.serves;
       own = subst (λ ks. Contains ks key) (keys_of w h s due.asker due.start due.keys due.i stands due.serves) is.0;
@@ -93,12 +98,15 @@ hidden_shown w h s key water stands shows due =
     let is = told w h s (Hidden key water) stands due in
     let from = drawn_at h due.i.term w.setup.buckets _ water is.2 in
     record {
+      node = due.serves.node;
+      node_is = node_of w h s due.i (Commit due.asker due.start due.keys) progress.Accepted shows due.serves;
       start = due.start;
       start_is = start_of w h s due.asker due.start due.keys due.i progress.Accepted shows due.serves;
       own = subst (λ ks. Contains ks key) (keys_of w h s due.asker due.start due.keys due.i stands due.serves) is.0;
       term = due.i.term;
       term_is = term_of w h s due.i (Commit due.asker due.start due.keys) progress.Accepted shows due.serves accepted_not_asked;
       forgotten = is.1;
+      forgot = hidden_water (contents w.setup.buckets w.setup.width (recorded h due.i.term)) due.start due.keys key water (judged_by w h s (Hidden key water) stands due);
       above = is.3;
       writer = from.writer;
       drawn = from.drawn;

@@ -143,7 +143,7 @@ DueToNode w n (cause.Early reading until) = DueEarly w reading until
 DueToNode w n (cause.Spent ceiling) = DueSpent w ceiling
 DueToNode w n (cause.Replaced found) = DueOvertaken w n found
 DueToNode w n (cause.Holding term) = DueHolding w n term
-DueToNode w n (cause.NoOracle node) = DueNone w node
+DueToNode w n (cause.NoOracle node) = (node ≡ n) × DueNone w node
 DueToNode w n _ = ⊥
 
 abbrev pub DueToJanitor : State → Cause → Type 0

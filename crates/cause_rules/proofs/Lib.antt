@@ -8,3 +8,4 @@ mod WorkedRequests
 mod WorkedFull
 mod WorkedNodes
 mod WorkedActors
+mod WorkedUnasked

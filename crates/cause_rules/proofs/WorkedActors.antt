@@ -7,6 +7,7 @@ use Rattle.history_book.specs.declared.item.Actor.TheVariants.{Session, Node, Ja
 use Rattle.history_book.specs.declared.item.Item.{Item}
 use Rattle.history_book.specs.declared.item.Item.TheVariants.{Take, Renew, Vanish}
 use Rattle.cause_rules.specs.Commits.{ShownConflict}
+use Rattle.cause_rules.specs.Posts.{HasNone}
 use Rattle.cause_rules.specs.Refusals.{ShownEarly}
 use Rattle.cause_rules.specs.Explained.{Explained}
 use Rattle.cause_rules.specs.WorkedHistories.{told}
@@ -81,7 +82,13 @@ pub no_oracle_to_the_clock : Explained default_numbers (told [] Clock (cause.NoO
 no_oracle_to_the_clock = explained_shows default_numbers [] Clock (cause.NoOracle 0)
 
 pub no_oracle_to_a_node : Explained default_numbers (told [] (Node 0) (cause.NoOracle 0))
-no_oracle_to_a_node = shown_explains default_numbers [] (Node 0) (cause.NoOracle 0) refl (inl refl)
+no_oracle_to_a_node = shown_explains default_numbers [] (Node 0) (cause.NoOracle 0) refl (refl, inl refl)
+
+pub no_oracle_to_another_node : Explained default_numbers (told [] (Node 1) (cause.NoOracle 0)) → ⊥
+no_oracle_to_another_node e =
+    let shown : (0 ≡ 1) × HasNone [] 0 = explained_shows default_numbers [] (Node 1) (cause.NoOracle 0) e in
+    let same : 0 ≡ 1 = shown.0 in
+    absurd (omega (arith, same))
 
 pub no_oracle_to_the_janitor : Explained default_numbers (told [] Janitor (cause.NoOracle 0))
 no_oracle_to_the_janitor = shown_explains default_numbers [] Janitor (cause.NoOracle 0) refl (inl refl)
@@ -91,3 +98,9 @@ busy_to_a_session = shown_explains default_numbers [] (Session 0) cause.Busy ref
 
 pub busy_to_a_node : Explained default_numbers (told [] (Node 0) cause.Busy) → ⊥
 busy_to_a_node = explained_shows default_numbers [] (Node 0) cause.Busy
+
+pub no_request_to_a_session : Explained default_numbers (told [] (Session 0) (cause.NoRequest 0)) → ⊥
+no_request_to_a_session = explained_shows default_numbers [] (Session 0) (cause.NoRequest 0)
+
+pub undecided_to_a_session : Explained default_numbers (told [] (Session 0) (cause.Undecided 1 0)) → ⊥
+undecided_to_a_session = explained_shows default_numbers [] (Session 0) (cause.Undecided 1 0)

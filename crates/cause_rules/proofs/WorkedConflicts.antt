@@ -16,6 +16,8 @@ use Rattle.cause_rules.proofs.WorkedRefusals.{of_each, only_key, shown_explains,
 pub above : Explained default_numbers (conflict_told conflicting)
 unfolding keys_from ◌∈◌
 above = shown_explains default_numbers (before_conflict conflicting) (Session 1) (cause.Conflict 0 3) refl (record {
+  node = 0;
+  node_is = refl;
   start = 2;
   start_is = refl;
   own = (0, omega arith, refl);

@@ -6,7 +6,7 @@ use Rattle.history_book.specs.declared.cause.Cause.TheVariants as cause
 use Rattle.history_book.specs.declared.item.Actor.TheVariants.{Session}
 use Rattle.history_book.specs.declared.item.Item.{Item}
 use Rattle.history_book.specs.declared.item.Item.TheVariants.{Draw}
-use Rattle.oracle_parts.specs.Buckets.{place_of, bucket_of, contents, kept_commit, record_pairs, added, without, oldest}
+use Rattle.oracle_parts.specs.Buckets.{Bucket, place_of, bucket_of, contents, kept_commit, record_pairs, added, without, oldest}
 use Rattle.cause_rules.specs.Written.{keys_from, written_keys, recorded, recorded_in}
 use Rattle.cause_rules.specs.Commits.{ShownHidden}
 use Rattle.cause_rules.specs.Explained.{Explained}
@@ -16,12 +16,15 @@ use Rattle.cause_rules.proofs.WorkedRefusals.{of_each, only_key, shown_explains,
 pub forgotten : Explained (buckets_of 1) (hidden_told hiding)
 unfolding keys_from recorded_in record_pairs kept_commit added without oldest ◌∈◌
 forgotten = shown_explains (buckets_of 1) (before_hidden hiding) (Session 2) (cause.Hidden 0 4) refl (record {
+  node = 0;
+  node_is = refl;
   start = 3;
   start_is = refl;
   own = (0, omega arith, refl);
   term = 1;
   term_is = refl;
   forgotten = refl;
+  forgot = refl;
   above = omega arith;
   writer = 1;
   drawn = (0, 0, inr (inr (inr (inl refl))));
@@ -31,9 +34,12 @@ forgotten = shown_explains (buckets_of 1) (before_hidden hiding) (Session 2) (ca
 })
 
 -- ---- what must hold of the numbers
--- what the key's bucket keeps for it
+-- the key's bucket, and what it keeps for the key
+abbrev bucket_in : ℕ → Hiding → ℕ → Bucket
+bucket_in width c term = bucket_of (contents 4 width (recorded (before_hidden c) term)) c.key
+
 abbrev kept_of : ℕ → Hiding → ℕ → Option ℕ
-kept_of width c term = kept_commit (bucket_of (contents 4 width (recorded (before_hidden c) term)) c.key).kept c.key
+kept_of width c term = kept_commit (bucket_in width c term).kept c.key
 
 -- the two commits that are drawn
 abbrev TwoDraws : Hiding → Item → Type 0
@@ -44,6 +50,7 @@ record Told (width : ℕ) (c : Hiding) : Type 0 where
   above : c.start < c.water
   own : Contains (written_keys (before_hidden c) c.start) c.key
   kept : kept_of width c 1 ≡ None
+  water : (bucket_in width c 1).water ≡ c.water
   writer : ℕ
   drawn : ((writer ≡ 1) × (c.water ≡ 4) × (1 ≡ c.drawn_in)) ⊎ (c.water ≡ 5)
   other : ℕ
@@ -61,6 +68,7 @@ told_of width c e =
       above = subst (λ (t : ℕ). t < c.water) start shown.above;
       own = subst (λ (t : ℕ). Contains (written_keys (before_hidden c) t) c.key) start shown.own;
       kept = subst (λ (t : ℕ). kept_of width c t ≡ None) term shown.forgotten;
+      water = subst (λ (t : ℕ). (bucket_in width c t).water ≡ c.water) term shown.forgot;
       writer = shown.writer;
       drawn = subst (λ (t : ℕ). ((shown.writer ≡ 1) × (c.water ≡ 4) × (t ≡ c.drawn_in)) ⊎ (c.water ≡ 5)) term drawn;
       other = shown.other;
@@ -97,6 +105,10 @@ not_drawn e = elim (told_of 1 (record hiding { water = 7 }) e).drawn [
   | inl first ↦ let same : 7 ≡ 4 = first.1 in absurd (omega (arith, same))
   | inr second ↦ let same : 7 ≡ 5 = second in absurd (omega (arith, same))
 ]
+
+pub not_forgotten : Explained (buckets_of 1) (hidden_told (record hiding { water = 5 })) → ⊥
+unfolding keys_from recorded_in record_pairs kept_commit added without oldest
+not_forgotten e = let same : 4 ≡ 5 = (told_of 1 (record hiding { water = 5 }) e).water in absurd (omega (arith, same))
 
 abbrev of_other_bucket : Hiding
 of_other_bucket = record hiding { written = 1 }

@@ -21,6 +21,8 @@ use Rattle.cause_rules.proofs.WorkedRefusals.{of_each, passes, shown_explains, e
 pub marked : Explained default_numbers (invalid_told 1 1 1)
 unfolding ◌∈◌
 marked = shown_explains default_numbers (before_invalid 1 1) (Session 0) (cause.Invalid 1) refl (record {
+  node = 0;
+  node_is = refl;
   start_is = refl;
   actor = Session 1;
   marked = inr (inl refl);

@@ -26,6 +26,8 @@ not_placed t placed =
 pub unplaced_below : Explained default_numbers (not_yet_told waiting)
 unfolding ◌∈◌
 unplaced_below = shown_explains default_numbers (before_not_yet waiting) (Session 1) (cause.NotYet 2) refl (record {
+  node = 0;
+  node_is = refl;
   start = 6;
   start_is = refl;
   term = 1;

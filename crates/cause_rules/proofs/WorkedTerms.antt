@@ -6,7 +6,7 @@ use Rattle.history_book.specs.Members.{◌∈◌}
 use Rattle.history_book.specs.declared.cause.Cause.TheVariants as cause
 use Rattle.history_book.specs.declared.item.Actor.TheVariants.{Node, Session}
 use Rattle.history_book.specs.declared.item.Item.{Item}
-use Rattle.history_book.specs.declared.item.Item.TheVariants.{Take, Extend, Draw}
+use Rattle.history_book.specs.declared.item.Item.TheVariants.{AskBegin, Take, Extend, Draw}
 use Rattle.cause_rules.specs.Posts.{Taken, last_take, CeilingGiven}
 use Rattle.cause_rules.specs.Commits.{ShownReplaced, ShownNoStamp, StampDrawn}
 use Rattle.cause_rules.specs.Refusals.{ShownOvertaken, ShownSpent}
@@ -18,6 +18,8 @@ use Rattle.cause_rules.proofs.WorkedRefusals.{of_each, shown_explains, explained
 pub taken_later : Explained default_numbers (replaced_told 1 2)
 unfolding ◌∈◌
 taken_later = shown_explains default_numbers (before_replaced 1) (Session 0) (cause.Replaced 2) refl (record {
+  node = 0;
+  node_is = refl;
   term = 1;
   term_is = refl;
   later = omega arith;
@@ -87,6 +89,8 @@ node_by_a_term_never_taken e = never_three 1 (overtaken_of 0 3 (record { term = 
 pub to_the_end : Explained default_numbers (no_stamp_told drawn_out)
 unfolding ◌∈◌
 to_the_end = shown_explains default_numbers (before_no_stamp drawn_out) (Session 2) (cause.NoStamp 2) refl (record {
+  node = 0;
+  node_is = refl;
   term = 1;
   term_is = refl;
   end = inl (0, 0, 0, 10, inl refl);
@@ -96,6 +100,8 @@ to_the_end = shown_explains default_numbers (before_no_stamp drawn_out) (Session
 pub ended_by_a_start : Explained default_numbers (no_stamp_told (record drawn_out { ceiling = 1; last = 1 }))
 unfolding ◌∈◌
 ended_by_a_start = shown_explains default_numbers (before_no_stamp (record drawn_out { ceiling = 1; last = 1 })) (Session 2) (cause.NoStamp 1) refl (record {
+  node = 0;
+  node_is = refl;
   term = 1;
   term_is = refl;
   end = inl (0, 0, 0, 10, inl refl);
@@ -156,11 +162,14 @@ no_room = shown_explains default_numbers (Take 0 0 1 0 10 (last_room + 1) ∷ []
 
 pub no_room_after_extension : Explained default_numbers (spent_told_after_extension (last_room + 1))
 unfolding ◌∈◌
-no_room_after_extension = shown_explains default_numbers (Take 0 0 1 0 10 100 ∷ Extend 0 1 (last_room + 1) ∷ []) (Session 0) (cause.Spent (last_room + 1)) refl (record {
-  term = 1;
-  given = inr (0, inr (inl refl));
-  past = omega arith;
-})
+no_room_after_extension = shown_explains default_numbers (Take 0 0 1 0 10 100 ∷ Extend 0 1 (last_room + 1) ∷ AskBegin 0 0 ∷ []) (Session 0) (cause.Spent (last_room + 1)) refl (
+  (0, refl),
+  record {
+    term = 1;
+    given = inr (0, inr (inl refl));
+    past = omega arith;
+  },
+)
 
 spent_shown : (ceiling spent : ℕ) → Explained default_numbers (spent_told ceiling spent) → ShownSpent default_numbers (Take 0 0 1 0 10 ceiling ∷ []) spent
 spent_shown ceiling spent = explained_shows default_numbers (Take 0 0 1 0 10 ceiling ∷ []) (Node 0) (cause.Spent spent)

@@ -1,5 +1,5 @@
 -- What a history tells of a session's request: its ask, its node, its term and its draw.
-use Rattle.std.specs.Prelude.{ℕ, ◌==◌, Bool, false, if◌then◌else◌, List, Option, None, Some}
+use Rattle.std.specs.Prelude.{◌≡◌, ℕ, ◌==◌, Bool, false, if◌then◌else◌, List, Option, None, Some}
 use Rattle.std.specs.Option.{option_or}
 use Rattle.history_book.specs.declared.item.Item.{Item}
 use Rattle.history_book.specs.declared.item.Item.TheVariants.{AskBegin, AskCommit, Accept, Draw}
@@ -72,3 +72,7 @@ node_asked (Some ask) = Some ask.node
 
 abbrev pub its_node : List Item → ℕ → Option ℕ
 its_node h s = node_asked (its_ask h s)
+
+-- the session has asked
+abbrev pub HasAsked : List Item → ℕ → Type 0
+HasAsked h s = (node : ℕ) × (its_node h s ≡ Some node)

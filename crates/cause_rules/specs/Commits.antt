@@ -1,4 +1,5 @@
--- What shows the refusals of a request: by its ask, its node, its term and its start.
+-- What shows the refusals of a request: by its ask, its node, its term and its start. Where the session asked of no node, none
+-- of them is shown.
 use Rattle.std.specs.Prelude.{◌≡◌, ℕ, ◌<◌, ◌≤◌, List, ◌⊎◌, None, Some, Contains}
 use Rattle.stamp_base.specs.SetupNumbers.{SetupNumbers}
 use Rattle.stamp_base.specs.declared.stores.Store.TheVariants.{Table}
@@ -23,6 +24,8 @@ StampDrawn h term stamp = ((s : ℕ) × (n : ℕ) × (Draw s n term stamp None �
 
 -- a key that the transaction wrote was committed above its start, in its term
 pub record ShownConflict (h : List Item) (s key by : ℕ) : Type 0 where
+  pub node : ℕ
+  pub node_is : its_node h s ≡ Some node
   pub start : ℕ
   pub start_is : its_start h s ≡ Some start
   pub own : Contains (written_keys h start) key
@@ -33,15 +36,18 @@ pub record ShownConflict (h : List Item) (s key by : ℕ) : Type 0 where
   pub drawn : CommitDrawn h term writer by
   pub wrote : Contains (written_keys h writer) key
 
--- a key that the transaction wrote is not remembered, and a commit above its start is the last that the key's bucket has
--- forgotten
+-- the bucket of a key that the transaction wrote does not keep the key, and its water is above the start: a commit that was
+-- drawn in the term for a key of that bucket
 pub record ShownHidden (setup : SetupNumbers) (h : List Item) (s key water : ℕ) : Type 0 where
+  pub node : ℕ
+  pub node_is : its_node h s ≡ Some node
   pub start : ℕ
   pub start_is : its_start h s ≡ Some start
   pub own : Contains (written_keys h start) key
   pub term : ℕ
   pub term_is : its_term h s ≡ Some term
   pub forgotten : kept_commit (bucket_of (contents setup.buckets setup.width (recorded h term)) key).kept key ≡ None
+  pub forgot : (bucket_of (contents setup.buckets setup.width (recorded h term)) key).water ≡ water
   pub above : start < water
   pub writer : ℕ
   pub drawn : CommitDrawn h term writer water
@@ -67,6 +73,8 @@ pub record ShownExpired (h : List Item) (s reading until : ℕ) : Type 0 where
 
 -- a later term than its own was taken
 pub record ShownReplaced (h : List Item) (s found : ℕ) : Type 0 where
+  pub node : ℕ
+  pub node_is : its_node h s ≡ Some node
   pub term : ℕ
   pub term_is : its_term h s ≡ Some term
   pub later : term < found
@@ -74,6 +82,8 @@ pub record ShownReplaced (h : List Item) (s found : ℕ) : Type 0 where
 
 -- the range of its term is drawn to its end
 pub record ShownNoStamp (h : List Item) (s last : ℕ) : Type 0 where
+  pub node : ℕ
+  pub node_is : its_node h s ≡ Some node
   pub term : ℕ
   pub term_is : its_term h s ≡ Some term
   pub end : CeilingGiven h term last
@@ -81,6 +91,8 @@ pub record ShownNoStamp (h : List Item) (s last : ℕ) : Type 0 where
 
 -- the transaction was marked
 pub record ShownInvalid (h : List Item) (s start : ℕ) : Type 0 where
+  pub node : ℕ
+  pub node_is : its_node h s ≡ Some node
   pub start_is : its_start h s ≡ Some start
   pub actor : Actor
   pub marked : Mark actor start ∈ h
@@ -99,6 +111,8 @@ pub record ShownCrashed (h : List Item) (s node term : ℕ) : Type 0 where
 
 -- a commit was drawn below its start in its term, and is not placed
 pub record ShownNotYet (h : List Item) (s commit : ℕ) : Type 0 where
+  pub node : ℕ
+  pub node_is : its_node h s ≡ Some node
   pub start : ℕ
   pub start_is : its_start h s ≡ Some start
   pub term : ℕ

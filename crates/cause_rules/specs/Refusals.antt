@@ -28,7 +28,8 @@ pub record ShownSpent (setup : SetupNumbers) (h : List Item) (ceiling : ℕ) : T
   pub given : CeilingGiven h term ceiling
   pub past : 2 ^ 62 < ceiling + setup.range
 
--- the node has the instance of its last take
+-- the node took the term last and has not crashed since; a take that failed makes no difference here, since a fault of the
+-- node right after a take may as well be that of a later call
 pub record ShownHolding (h : List Item) (node term : ℕ) : Type 0 where
   pub epoch : ℕ
   pub took : TookLast h node term epoch

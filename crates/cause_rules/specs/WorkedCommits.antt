@@ -1,5 +1,5 @@
 -- Short histories of what a commit is told of its keys, of a mark and of its loss, each with the numbers that may be turned.
-use Rattle.std.specs.Prelude.{ℕ, List, [], ◌∷◌, ◌++◌, Some}
+use Rattle.std.specs.Prelude.{ℕ, List, [], ◌∷◌, ◌++◌, None, Some}
 use Rattle.stamp_base.specs.SetupNumbers.{SetupNumbers, default_numbers}
 use Rattle.history_book.specs.declared.cause.Cause.TheVariants as cause
 use Rattle.history_book.specs.declared.item.Actor.TheVariants.{Session}
@@ -25,6 +25,13 @@ before_conflict c = Write 0 1 c.written v ∷ Write 1 c.start c.own v ∷ Draw 0
 
 abbrev pub conflict_told : Conflicting → List Item
 conflict_told c = told (before_conflict c) (Session 1) (cause.Conflict 0 c.by)
+
+-- the other transaction has begun, and does not ask to commit
+abbrev pub before_conflict_unasked : List Item
+before_conflict_unasked = Write 0 1 0 v ∷ Write 1 2 0 v ∷ Draw 0 0 1 1 (Some 3) ∷ Accept 1 0 1 0 ∷ Draw 1 0 1 2 None ∷ []
+
+abbrev pub conflict_told_unasked : List Item
+conflict_told_unasked = told before_conflict_unasked (Session 1) (cause.Conflict 0 3)
 
 -- the commit is drawn only after the session was told of it
 abbrev pub before_draw : List Item
@@ -60,6 +67,16 @@ before_hidden c =
 abbrev pub hidden_told : Hiding → List Item
 hidden_told c = told (before_hidden c) (Session 2) (cause.Hidden c.key c.water)
 
+-- the third transaction has begun, and does not ask to commit
+abbrev pub before_hidden_unasked : List Item
+before_hidden_unasked =
+    Write 0 1 0 v ∷ Write 1 2 4 v ∷ Write 2 3 0 v
+    ∷ Draw 0 0 1 1 (Some 4) ∷ Draw 1 0 1 2 (Some 5)
+    ∷ Accept 2 0 1 0 ∷ Draw 2 0 1 3 None ∷ []
+
+abbrev pub hidden_told_unasked : List Item
+hidden_told_unasked = told before_hidden_unasked (Session 2) (cause.Hidden 0 4)
+
 -- ---- a mark
 -- a transaction asks to commit, one is marked, and the session is told of one
 abbrev pub before_invalid : ℕ → ℕ → List Item
@@ -71,6 +88,13 @@ invalid_told asked marked start = told (before_invalid asked marked) (Session 0)
 -- the transaction is marked only after its session was told
 abbrev pub invalid_told_first : List Item
 invalid_told_first = told_between (AskCommit 0 0 1 ∷ []) (Session 0) (cause.Invalid 1) (Mark (Session 1) 1 ∷ [])
+
+-- the transaction has begun, and does not ask to commit
+abbrev pub before_invalid_unasked : List Item
+before_invalid_unasked = Draw 0 0 1 1 None ∷ Mark (Session 1) 1 ∷ []
+
+abbrev pub invalid_told_unasked : List Item
+invalid_told_unasked = told before_invalid_unasked (Session 0) (cause.Invalid 1)
 
 -- ---- an open outcome
 -- the transaction 1 asks the node 0 to commit, and its commit is drawn; with what comes before the ask, between the two, and

@@ -34,6 +34,13 @@ before_not_yet c =
 abbrev pub not_yet_told : Waiting → List Item
 not_yet_told c = told (before_not_yet c) (Session 1) (cause.NotYet c.commit)
 
+-- the begin was not asked for
+abbrev pub before_not_yet_unasked : List Item
+before_not_yet_unasked = Draw 0 0 1 1 (Some 2) ∷ Accept 1 0 1 0 ∷ Draw 1 0 1 3 None ∷ []
+
+abbrev pub not_yet_told_unasked : List Item
+not_yet_told_unasked = told before_not_yet_unasked (Session 1) (cause.NotYet 2)
+
 -- ---- a node that is full
 -- a node holds two requests
 abbrev pub two_slots : SetupNumbers

@@ -1,5 +1,5 @@
 -- Short histories of what is told of a term: its epoch, its lease, its range, and the term after it.
-use Rattle.std.specs.Prelude.{ℕ, ◌-◌, ◌^◌, List, [], ◌∷◌, None, Some}
+use Rattle.std.specs.Prelude.{◌+◌, ℕ, ◌-◌, ◌^◌, List, [], ◌∷◌, None, Some}
 use Rattle.history_book.specs.declared.cause.Cause.TheVariants as cause
 use Rattle.history_book.specs.declared.item.Actor.TheVariants.{Node, Session}
 use Rattle.history_book.specs.declared.item.Item.{Item}
@@ -39,6 +39,13 @@ before_replaced accepted_in = Take 0 0 1 0 10 100 ∷ Take 1 12 2 100 22 200 ∷
 abbrev pub replaced_told : ℕ → ℕ → List Item
 replaced_told accepted_in found = told (before_replaced accepted_in) (Session 0) (cause.Replaced found)
 
+-- it is accepted in the term 1, and was not asked for
+abbrev pub before_replaced_unasked : List Item
+before_replaced_unasked = Take 0 0 1 0 10 100 ∷ Take 1 12 2 100 22 200 ∷ Accept 0 0 1 0 ∷ []
+
+abbrev pub replaced_told_unasked : List Item
+replaced_told_unasked = told before_replaced_unasked (Session 0) (cause.Replaced 2)
+
 -- after the same takes a node is told of a term
 abbrev pub overtaken_told : ℕ → ℕ → List Item
 overtaken_told node found = told two_takes (Node node) (cause.Replaced found)
@@ -63,6 +70,13 @@ before_no_stamp c =
 abbrev pub no_stamp_told : Drawn → List Item
 no_stamp_told c = told (before_no_stamp c) (Session 2) (cause.NoStamp c.last)
 
+-- the begin was not asked for
+abbrev pub before_no_stamp_unasked : List Item
+before_no_stamp_unasked = Take 0 0 1 0 10 2 ∷ Draw 0 0 1 1 None ∷ Draw 0 0 1 1 (Some 2) ∷ Accept 2 0 1 0 ∷ []
+
+abbrev pub no_stamp_told_unasked : List Item
+no_stamp_told_unasked = told before_no_stamp_unasked (Session 2) (cause.NoStamp 2)
+
 -- ---- the end of all stamps
 -- the greatest ceiling that leaves room for a further range of 100 stamps
 abbrev pub last_room : ℕ
@@ -72,6 +86,13 @@ last_room = 2 ^ 62 - 100
 abbrev pub spent_told : ℕ → ℕ → List Item
 spent_told ceiling spent = told (Take 0 0 1 0 10 ceiling ∷ []) (Node 0) (cause.Spent spent)
 
--- an extension gave the ceiling, and a session is told of it
+-- an extension gave the ceiling, and a session that asked is told of it
 abbrev pub spent_told_after_extension : ℕ → List Item
-spent_told_after_extension ceiling = told (Take 0 0 1 0 10 100 ∷ Extend 0 1 ceiling ∷ []) (Session 0) (cause.Spent ceiling)
+spent_told_after_extension ceiling = told (Take 0 0 1 0 10 100 ∷ Extend 0 1 ceiling ∷ AskBegin 0 0 ∷ []) (Session 0) (cause.Spent ceiling)
+
+-- it is told so without having asked
+abbrev pub before_spent_unasked : List Item
+before_spent_unasked = Take 0 0 1 0 10 100 ∷ Extend 0 1 (last_room + 1) ∷ []
+
+abbrev pub spent_told_unasked : List Item
+spent_told_unasked = told before_spent_unasked (Session 0) (cause.Spent (last_room + 1))

@@ -3,7 +3,7 @@ ghost use Rattle.std.specs.Prelude.{[]};
 ghost use Rattle.stamp_base.specs.SetupNumbers.{default_numbers};
 ghost use Rattle.cause_rules.specs.Explained.{Explained};
 ghost use Rattle.cause_rules.specs.WorkedHistories.{crash_of, table_fault, master_fault};
-ghost use Rattle.cause_rules.specs.WorkedCommits.{conflicting, conflict_told, conflict_told_first, buckets_of, hiding, hidden_told, invalid_told, invalid_told_first, open_told};
+ghost use Rattle.cause_rules.specs.WorkedCommits.{conflicting, conflict_told, conflict_told_first, conflict_told_unasked, buckets_of, hiding, hidden_told, hidden_told_unasked, invalid_told, invalid_told_first, invalid_told_unasked, open_told};
 
 /// A conflict is a commit above the start, drawn in the term of the request, of a transaction that wrote the key that was
 /// written here too.
@@ -16,10 +16,11 @@ pub fn conflicts_are_above_the_start()
     ensures drawn_later { Explained default_numbers conflict_told_first → ⊥ }
     ensures not_of_the_writer { Explained default_numbers (conflict_told (record conflicting { written = 5 })) → ⊥ }
     ensures not_its_own { Explained default_numbers (conflict_told (record conflicting { own = 5 })) → ⊥ }
+    ensures not_asked { Explained default_numbers conflict_told_unasked → ⊥ }
 {}
 
-/// A key is hidden where its bucket, full of others, keeps it no more, by a commit above the start that was drawn in the term
-/// for a key of that bucket.
+/// A key is hidden where its bucket, full of others, keeps it no more, by the latest commit that the bucket forgot: one above
+/// the start that was drawn in the term for a key of that bucket.
 pub fn forgotten_keys_are_hidden()
     ensures forgotten { Explained (buckets_of 1) (hidden_told hiding) }
     ensures kept_by_width { Explained (buckets_of 2) (hidden_told hiding) → ⊥ }
@@ -29,7 +30,9 @@ pub fn forgotten_keys_are_hidden()
     ensures other_term { Explained (buckets_of 1) (hidden_told (record hiding { drawn_in = 2 })) → ⊥ }
     ensures other_bucket { Explained (buckets_of 1) (hidden_told (record hiding { written = 1 })) → ⊥ }
     ensures not_drawn { Explained (buckets_of 1) (hidden_told (record hiding { water = 7 })) → ⊥ }
+    ensures not_forgotten { Explained (buckets_of 1) (hidden_told (record hiding { water = 5 })) → ⊥ }
     ensures not_its_own { Explained (buckets_of 1) (hidden_told (record hiding { own = 8 })) → ⊥ }
+    ensures not_asked { Explained (buckets_of 1) hidden_told_unasked → ⊥ }
 {}
 
 /// A commit is invalid where its own transaction was marked.
@@ -38,6 +41,7 @@ pub fn marked_commits_are_invalid()
     ensures other_marked { Explained default_numbers (invalid_told 1 2 1) → ⊥ }
     ensures other_told { Explained default_numbers (invalid_told 1 2 2) → ⊥ }
     ensures marked_later { Explained default_numbers invalid_told_first → ⊥ }
+    ensures not_asked { Explained default_numbers invalid_told_unasked → ⊥ }
 {}
 
 /// An outcome is open where a call of the node on the table failed after the draw, or the node crashed after the ask.

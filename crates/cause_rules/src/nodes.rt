@@ -52,8 +52,11 @@ pub fn causes_are_told_to_whom_they_meet()
     ensures full_to_the_node { Explained two_slots (told (before_full 0 []) (actor.Node 0) (cause.Full 2)) → ⊥ }
     ensures gone_to_the_janitor { Explained default_numbers (told (vanished 0) actor.Janitor cause.Gone) → ⊥ }
     ensures no_oracle_to_a_node { Explained default_numbers (told [] (actor.Node 0) (cause.NoOracle 0)) }
+    ensures no_oracle_to_another_node { Explained default_numbers (told [] (actor.Node 1) (cause.NoOracle 0)) → ⊥ }
     ensures no_oracle_to_the_janitor { Explained default_numbers (told [] actor.Janitor (cause.NoOracle 0)) }
     ensures no_oracle_to_the_clock { Explained default_numbers (told [] actor.Clock (cause.NoOracle 0)) → ⊥ }
     ensures busy_to_a_session { Explained default_numbers (told [] (actor.Session 0) cause.Busy) }
     ensures busy_to_a_node { Explained default_numbers (told [] (actor.Node 0) cause.Busy) → ⊥ }
+    ensures no_request_to_a_session { Explained default_numbers (told [] (actor.Session 0) (cause.NoRequest 0)) → ⊥ }
+    ensures undecided_to_a_session { Explained default_numbers (told [] (actor.Session 0) (cause.Undecided 1 0)) → ⊥ }
 {}

@@ -3,7 +3,7 @@ ghost use Rattle.std.specs.Prelude.{[], ◌++◌};
 ghost use Rattle.stamp_base.specs.SetupNumbers.{default_numbers};
 ghost use Rattle.cause_rules.specs.Explained.{Explained};
 ghost use Rattle.cause_rules.specs.WorkedHistories.{crash_of};
-ghost use Rattle.cause_rules.specs.WorkedRequests.{crashed_told, waiting, not_yet_told, two_slots, full_told, begun, begin_refused, committed, asked, gone_told, vanishes_later};
+ghost use Rattle.cause_rules.specs.WorkedRequests.{crashed_told, waiting, not_yet_told, not_yet_told_unasked, two_slots, full_told, begun, begin_refused, committed, asked, gone_told, vanishes_later};
 
 /// A begin is lost where the node that it was asked of crashed after the ask, in the term that is told.
 pub fn lost_begins_crashed()
@@ -23,6 +23,7 @@ pub fn begins_wait_for_commits_below()
     ensures at_the_start { Explained default_numbers (not_yet_told (record waiting { start = 2 })) → ⊥ }
     ensures other_term { Explained default_numbers (not_yet_told (record waiting { drawn_in = 2 })) → ⊥ }
     ensures not_drawn { Explained default_numbers (not_yet_told (record waiting { commit = 3 })) → ⊥ }
+    ensures not_asked { Explained default_numbers not_yet_told_unasked → ⊥ }
 {}
 
 /// A node is full where as many asks are open at one node as it has slots: no ask counts that was answered, refused for

@@ -2,7 +2,7 @@
 ghost use Rattle.std.specs.Prelude.{◌+◌};
 ghost use Rattle.stamp_base.specs.SetupNumbers.{default_numbers};
 ghost use Rattle.cause_rules.specs.Explained.{Explained};
-ghost use Rattle.cause_rules.specs.WorkedTerms.{old_told, expired_told, replaced_told, overtaken_told, drawn_out, no_stamp_told, last_room, spent_told, spent_told_after_extension};
+ghost use Rattle.cause_rules.specs.WorkedTerms.{old_told, expired_told, replaced_told, replaced_told_unasked, overtaken_told, drawn_out, no_stamp_told, no_stamp_told_unasked, last_room, spent_told, spent_told_after_extension, spent_told_unasked};
 
 /// A start is old by the epoch of the last take of its node, which it does not pass.
 pub fn epochs_are_those_of_the_last_take()
@@ -31,6 +31,7 @@ pub fn replaced_terms_have_a_later_one()
     ensures its_own { Explained default_numbers (replaced_told 1 1) → ⊥ }
     ensures never_taken { Explained default_numbers (replaced_told 1 3) → ⊥ }
     ensures accepted_in_the_last { Explained default_numbers (replaced_told 2 2) → ⊥ }
+    ensures not_asked { Explained default_numbers replaced_told_unasked → ⊥ }
     ensures node_overtaken { Explained default_numbers (overtaken_told 0 2) }
     ensures node_of_the_last { Explained default_numbers (overtaken_told 1 2) → ⊥ }
     ensures node_by_its_own { Explained default_numbers (overtaken_told 0 1) → ⊥ }
@@ -45,6 +46,7 @@ pub fn ranges_are_drawn_to_their_end()
     ensures below_the_ceiling { Explained default_numbers (no_stamp_told (record drawn_out { ceiling = 3 })) → ⊥ }
     ensures range_of_another_term { Explained default_numbers (no_stamp_told (record drawn_out { taken = 2 })) → ⊥ }
     ensures drawn_in_another_term { Explained default_numbers (no_stamp_told (record drawn_out { drawn_in = 2 })) → ⊥ }
+    ensures not_asked { Explained default_numbers no_stamp_told_unasked → ⊥ }
 {}
 
 /// The stamps are spent where a ceiling that was given leaves no room for a whole range.
@@ -53,4 +55,5 @@ pub fn spent_stamps_leave_no_range()
     ensures after_an_extension { Explained default_numbers (spent_told_after_extension (last_room + 1)) }
     ensures room_left { Explained default_numbers (spent_told last_room last_room) → ⊥ }
     ensures not_given { Explained default_numbers (spent_told (last_room + 2) (last_room + 1)) → ⊥ }
+    ensures not_asked { Explained default_numbers spent_told_unasked → ⊥ }
 {}

@@ -3,7 +3,7 @@ use Rattle.std.proofs.Common.{◌≡◌, ℕ, ◌+◌, ◌-◌, ◌*◌, ◌/◌
 use Rattle.std.proofs.lemmas.Bool.{le-leb, and_from}
 use Rattle.std.proofs.lemmas.Fmt.{decimal_by_steps}
 use Rattle.std.proofs.lemmas.List.{append-nil}
-use Rattle.history_reading.specs.ReadWords.{after_text, number_from, field_at, letter_at, ranged, node_of, session_of, key_of, stamp_of, term_of}
+use Rattle.history_reading.specs.ReadWords.{after_text, number_from, field_at, last_field_at, two_fields_at, letter_at, ranged, node_of, session_of, key_of, stamp_of, term_of, last_stamp_at}
 use Rattle.stamp_base.specs.Ranges.{IsNumber, IsStamp, IsTerm, IsNode, IsSession, IsKey}
 
 is_digit : (b : ℕ) → 48 ≤ b → b ≤ 57 → (nat_le 48 b && nat_le b 57) ≡ true
@@ -92,3 +92,24 @@ field-blank text n rest low = rw (after_text-append text (decimal n ++ 32 ∷ re
 pub field-end : (text : List ℕ) (n : ℕ) → IsNumber n → field_at text (text ++ decimal n) ≡ Some (n, [])
 unfolding field_at
 field-end text n low = rw (after_text-append text (decimal n), number-end n low) refl
+
+pub last-field : (text : List ℕ) (n : ℕ) → IsNumber n → last_field_at text (text ++ decimal n) ≡ Some n
+unfolding last_field_at
+last-field text n low = rw (field-end text n low) refl
+
+pub last-stamp : (text : List ℕ) (n : ℕ) → IsStamp n → last_stamp_at text (text ++ decimal n) ≡ Some n
+unfolding last_stamp_at
+last-stamp text n h = rw (last-field text n (omega arith), stamp-in n h) refl
+
+-- two fields of which a blank begins the second, before a blank and at the end
+pub two-blank : (first second : List ℕ) (m n : ℕ) (rest : List ℕ) → IsNumber m → IsNumber n → two_fields_at first (32 ∷ second) (first ++ (decimal m ++ 32 ∷ (second ++ (decimal n ++ 32 ∷ rest)))) ≡ Some (m, n, 32 ∷ rest)
+unfolding two_fields_at
+two-blank first second m n rest a b = rw (field-blank first m (second ++ (decimal n ++ 32 ∷ rest)) a, field-blank (32 ∷ second) n rest b) refl
+
+pub two-end-right : (first second : List ℕ) (m n : ℕ) → IsNumber m → IsNumber n → two_fields_at first (32 ∷ second) (first ++ (decimal m ++ 32 ∷ (second ++ decimal n))) ≡ Some (m, n, [])
+unfolding two_fields_at
+two-end-right first second m n a b = rw (field-blank first m (second ++ decimal n) a, field-end (32 ∷ second) n b) refl
+
+-- the same as texts are written
+pub two-end : (first second : List ℕ) (m n : ℕ) → IsNumber m → IsNumber n → two_fields_at first (32 ∷ second) (first ++ decimal m ++ (32 ∷ second) ++ decimal n) ≡ Some (m, n, [])
+two-end first second m n a b = simp append_assoc (two-end-right first second m n a b)

@@ -6,12 +6,12 @@ use Rattle.stamp_base.specs.Words.{IsValue}
 use Rattle.stamp_base.specs.Ranges.{IsStamp, IsSession, IsKey}
 use Rattle.history_text.specs.Fits.{FitsAnswer}
 use Rattle.history_reading.specs.ReadWords.{after_text}
-use Rattle.history_reading.specs.ReadSessions.{no_answer_at, found_at, answer_at, ending_at, begin_at, write_at, read_at, committed_at, end_at, vanish_at}
+use Rattle.history_reading.specs.ReadSessions.{no_answer_at, found_at, answer_at, ending_at, begin_at, write_at, read_at, committed_at, end_at}
 use Rattle.history_book.specs.declared.item.Found.{Found}
 use Rattle.history_book.specs.declared.item.Ending.{Ending}
 use Rattle.history_book.specs.declared.item.Ending.TheVariants.{ReadOnly, Aborted, Dead}
-use Rattle.history_book.specs.declared.item.Item.TheVariants.{Begin, Write, Read, Committed, End, Vanish}
-use Rattle.history_reading.proofs.NumberLemmas.{field-blank, field-end, session-in, key-in, stamp-in}
+use Rattle.history_book.specs.declared.item.Item.TheVariants.{Begin, Write, Read, Committed, End}
+use Rattle.history_reading.proofs.NumberLemmas.{field-blank, last-stamp, two-blank, two-end, session-in, key-in, stamp-in}
 use Rattle.history_reading.proofs.ReadingLemmas.{value_at-in}
 
 found_again : (found : Found) → IsStamp found.from → IsValue found.value → found_at (codes "from=" ++ decimal found.from ++ codes " " ++ found.value) ≡ Some (Some found)
@@ -32,22 +32,17 @@ ending_again Dead = refl
 pub begin_again : (session start : ℕ) → IsSession session → IsStamp start
     → begin_at (session_text session ++ codes " start=" ++ decimal start) ≡ Some (Begin session start)
 unfolding begin_at
-begin_again session start a b = simp append_assoc (rw (field-blank (codes "s") session _ (omega arith), field-end (codes " start=") start (omega arith), session-in session a, stamp-in start b) refl)
+begin_again session start a b = rw (two-end (codes "s") (codes "start=") session start (omega arith) (omega arith), session-in session a, stamp-in start b) refl
 
 pub committed_again : (session start commit : ℕ) → IsSession session → IsStamp start → IsStamp commit
     → committed_at (session_text session ++ codes " start=" ++ decimal start ++ codes " commit=" ++ decimal commit) ≡ Some (Committed session start commit)
 unfolding committed_at
-committed_again session start commit a b c = simp append_assoc (rw (field-blank (codes "s") session _ (omega arith), field-blank (codes " start=") start _ (omega arith), field-end (codes " commit=") commit (omega arith), session-in session a, stamp-in start b, stamp-in commit c) refl)
+committed_again session start commit a b c = simp append_assoc (rw (two-blank (codes "s") (codes "start=") session start _ (omega arith) (omega arith), last-stamp (codes " commit=") commit c, session-in session a, stamp-in start b) refl)
 
 pub end_again : (session start : ℕ) (how : Ending) → IsSession session → IsStamp start
     → end_at (session_text session ++ codes " start=" ++ decimal start ++ codes " " ++ ending_text how) ≡ Some (End session start how)
 unfolding end_at after_text
-end_again session start how a b = simp append_assoc (rw (field-blank (codes "s") session _ (omega arith), field-blank (codes " start=") start _ (omega arith), ending_again how, session-in session a, stamp-in start b) refl)
-
-pub vanish_again : (session : ℕ) → IsSession session
-    → vanish_at (session_text session) ≡ Some (Vanish session)
-unfolding vanish_at
-vanish_again session a = rw (field-end (codes "s") session (omega arith), session-in session a) refl
+end_again session start how a b = simp append_assoc (rw (two-blank (codes "s") (codes "start=") session start _ (omega arith) (omega arith), ending_again how, session-in session a, stamp-in start b) refl)
 
 regroup : (a b c d e f g h i : List ℕ) → a ++ b ++ c ++ d ++ e ++ (f ++ g) ++ h ++ i ≡ a ++ (b ++ (c ++ (d ++ (e ++ (f ++ (g ++ (h ++ i)))))))
 regroup a b c d e f g h i = simp append_assoc
@@ -57,11 +52,11 @@ pub write_again : (session start key : ℕ) (value : List ℕ) → IsSession ses
 unfolding write_at after_text
 write_again session start key value a b c d =
     ap write_at (regroup (codes "s") (decimal session) (codes " start=") (decimal start) (codes " ") (codes "k") (decimal key) (codes " ") value)
-    ∙ rw (field-blank (codes "s") session _ (omega arith), field-blank (codes " start=") start _ (omega arith), field-blank (codes " k") key _ (omega arith), value_at-in value d, session-in session a, stamp-in start b, key-in key c) refl
+    ∙ rw (two-blank (codes "s") (codes "start=") session start _ (omega arith) (omega arith), field-blank (codes " k") key _ (omega arith), value_at-in value d, session-in session a, stamp-in start b, key-in key c) refl
 
 pub read_again : (session start key : ℕ) (answer : Option Found) → IsSession session → IsStamp start → IsKey key → FitsAnswer answer
     → read_at (session_text session ++ codes " start=" ++ decimal start ++ codes " " ++ key_text key ++ codes " " ++ answer_text answer) ≡ Some (Read session start key answer)
 unfolding read_at after_text
 read_again session start key answer a b c d =
     ap read_at (regroup (codes "s") (decimal session) (codes " start=") (decimal start) (codes " ") (codes "k") (decimal key) (codes " ") (answer_text answer))
-    ∙ rw (field-blank (codes "s") session _ (omega arith), field-blank (codes " start=") start _ (omega arith), field-blank (codes " k") key _ (omega arith), answer_again answer d, session-in session a, stamp-in start b, key-in key c) refl
+    ∙ rw (two-blank (codes "s") (codes "start=") session start _ (omega arith) (omega arith), field-blank (codes " k") key _ (omega arith), answer_again answer d, session-in session a, stamp-in start b, key-in key c) refl

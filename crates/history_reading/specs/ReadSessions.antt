@@ -1,7 +1,7 @@
 -- The items of sessions, as reading finds them.
 use Rattle.std.specs.Prelude.{ℕ, if◌then◌else◌, List, Option, None, Some, codes}
-use Rattle.std.specs.Option.{option_or}
-use Rattle.history_reading.specs.ReadWords.{◌>>=◌, is_word, after_text, field_at, session_of, key_of, stamp_of, value_at}
+use Rattle.std.specs.Option.{option_map, option_or}
+use Rattle.history_reading.specs.ReadWords.{◌>>=◌, is_word, after_text, field_at, last_field_at, two_fields_at, session_of, key_of, stamp_of, last_stamp_at, value_at}
 use Rattle.history_book.specs.declared.item.Found.{Found}
 use Rattle.history_book.specs.declared.item.Ending.{Ending}
 use Rattle.history_book.specs.declared.item.Ending.TheVariants.{ReadOnly, Aborted, Dead}
@@ -30,61 +30,49 @@ ending_at bs =
 
 unfoldable pub begin_at : List ℕ → Option Item
 begin_at bs = do
-  session ← field_at (codes "s") bs
-  start ← field_at (codes " start=") session.1
-  session_no ← session_of session.0
-  start_no ← stamp_of start.0
-  Some (Begin session_no start_no)
+  found ← two_fields_at (codes "s") (codes " start=") bs
+  session ← session_of found.0
+  start ← stamp_of found.1
+  Some (Begin session start)
 
 unfoldable pub write_at : List ℕ → Option Item
 write_at bs = do
-  session ← field_at (codes "s") bs
-  start ← field_at (codes " start=") session.1
-  key ← field_at (codes " k") start.1
+  found ← two_fields_at (codes "s") (codes " start=") bs
+  key ← field_at (codes " k") found.2
   rest ← after_text (codes " ") key.1
   value ← value_at rest
-  session_no ← session_of session.0
-  start_no ← stamp_of start.0
+  session ← session_of found.0
+  start ← stamp_of found.1
   key_no ← key_of key.0
-  Some (Write session_no start_no key_no value)
+  Some (Write session start key_no value)
 
 unfoldable pub read_at : List ℕ → Option Item
 read_at bs = do
-  session ← field_at (codes "s") bs
-  start ← field_at (codes " start=") session.1
-  key ← field_at (codes " k") start.1
+  found ← two_fields_at (codes "s") (codes " start=") bs
+  key ← field_at (codes " k") found.2
   rest ← after_text (codes " ") key.1
   answer ← answer_at rest
-  session_no ← session_of session.0
-  start_no ← stamp_of start.0
+  session ← session_of found.0
+  start ← stamp_of found.1
   key_no ← key_of key.0
-  Some (Read session_no start_no key_no answer)
+  Some (Read session start key_no answer)
 
 unfoldable pub committed_at : List ℕ → Option Item
 committed_at bs = do
-  session ← field_at (codes "s") bs
-  start ← field_at (codes " start=") session.1
-  commit ← field_at (codes " commit=") start.1
-  session_no ← session_of session.0
-  start_no ← stamp_of start.0
-  commit_no ← stamp_of commit.0
-  Some (Committed session_no start_no commit_no)
+  found ← two_fields_at (codes "s") (codes " start=") bs
+  commit ← last_stamp_at (codes " commit=") found.2
+  session ← session_of found.0
+  start ← stamp_of found.1
+  Some (Committed session start commit)
 
 unfoldable pub end_at : List ℕ → Option Item
 end_at bs = do
-  session ← field_at (codes "s") bs
-  start ← field_at (codes " start=") session.1
-  rest ← after_text (codes " ") start.1
+  found ← two_fields_at (codes "s") (codes " start=") bs
+  rest ← after_text (codes " ") found.2
   how ← ending_at rest
-  session_no ← session_of session.0
-  start_no ← stamp_of start.0
-  Some (End session_no start_no how)
-
-unfoldable pub vanish_at : List ℕ → Option Item
-vanish_at bs = do
-  session ← field_at (codes "s") bs
-  session_no ← session_of session.0
-  Some (Vanish session_no)
+  session ← session_of found.0
+  start ← stamp_of found.1
+  Some (End session start how)
 
 -- by the kind's word
 unfoldable pub session_kind_at : List ℕ → List ℕ → Option Item
@@ -94,4 +82,4 @@ session_kind_at word bs =
     (if is_word (codes "read") word then read_at bs else
     (if is_word (codes "committed") word then committed_at bs else
     (if is_word (codes "end") word then end_at bs else
-    (if is_word (codes "vanish") word then vanish_at bs else None)))))
+    (if is_word (codes "vanish") word then option_map Vanish (last_field_at (codes "s") bs >>= session_of) else None)))))

@@ -1,7 +1,7 @@
 -- The steps on the stores, as reading finds them.
 use Rattle.std.specs.Prelude.{ℕ, if◌then◌else◌, List, Option, None, Some, codes}
-use Rattle.std.specs.Option.{option_or}
-use Rattle.history_reading.specs.ReadWords.{◌>>=◌, first_word, after_word, is_word, after_text, number_at, field_at, key_of, stamp_of}
+use Rattle.std.specs.Option.{option_map, option_or}
+use Rattle.history_reading.specs.ReadWords.{◌>>=◌, first_word, after_word, is_word, after_text, number_at, two_fields_at, key_of, stamp_of, last_stamp_at}
 use Rattle.stamp_base.specs.declared.stores.Mark.{Mark}
 use Rattle.stamp_base.specs.declared.stores.Mark.TheVariants.{Committed, Invalid}
 use Rattle.history_book.specs.declared.item.Seen.{Seen}
@@ -9,38 +9,20 @@ use Rattle.history_book.specs.declared.item.Seen.TheVariants.{Bare, Gone, Commit
 use Rattle.history_book.specs.declared.item.StoreStep.{StoreStep}
 use Rattle.history_book.specs.declared.item.StoreStep.TheVariants.{Fetch, Get, MarkFound, Look, Shadow, Remove, Erase, Keys, PutFound}
 
-unfoldable pub committed_at : List ℕ → Option Mark
-committed_at bs = do
-  commit ← field_at (codes "committed=") bs
-  commit_no ← stamp_of commit.0
-  Some (Committed commit_no)
-
 unfoldable pub mark_at : List ℕ → Option Mark
-mark_at bs = if is_word (codes "invalid") bs then Some Invalid else committed_at bs
-
-unfoldable pub marked_at : List ℕ → Option (Option Mark)
-marked_at bs = do
-  mark ← mark_at bs
-  Some (Some mark)
+mark_at bs = if is_word (codes "invalid") bs then Some Invalid else option_map Committed (last_stamp_at (codes "committed=") bs)
 
 unfoldable pub entry_at : List ℕ → Option (Option Mark)
-entry_at bs = if is_word (codes "absent") bs then Some None else marked_at bs
-
-unfoldable pub shadowed_at : List ℕ → Option Seen
-shadowed_at bs = do
-  commit ← field_at (codes "commit=") bs
-  commit_no ← stamp_of commit.0
-  Some (Commit commit_no)
+entry_at bs = if is_word (codes "absent") bs then Some None else option_map Some (mark_at bs)
 
 unfoldable pub seen_at : List ℕ → Option Seen
-seen_at bs = if is_word (codes "none") bs then Some Bare else (if is_word (codes "gone") bs then Some Gone else shadowed_at bs)
+seen_at bs = if is_word (codes "none") bs then Some Bare else (if is_word (codes "gone") bs then Some Gone else option_map Commit (last_stamp_at (codes "commit=") bs))
 
 unfoldable pub fetch_at : List ℕ → Option StoreStep
 fetch_at bs = do
-  key ← field_at (codes "k") bs
-  cells ← field_at (codes " cells=") key.1
-  key_no ← key_of key.0
-  Some (Fetch key_no cells.0)
+  found ← two_fields_at (codes "k") (codes " cells=") bs
+  key ← key_of found.0
+  Some (Fetch key found.1)
 
 unfoldable pub get_at : List ℕ → Option StoreStep
 get_at bs = do
@@ -60,44 +42,33 @@ mark_found_at bs = do
 
 unfoldable pub look_at : List ℕ → Option StoreStep
 look_at bs = do
-  key ← field_at (codes "k") bs
-  txn ← field_at (codes " ") key.1
-  rest ← after_text (codes " ") txn.1
+  found ← two_fields_at (codes "k") (codes " ") bs
+  rest ← after_text (codes " ") found.2
   answer ← seen_at rest
-  key_no ← key_of key.0
-  txn_no ← stamp_of txn.0
-  Some (Look key_no txn_no answer)
+  key ← key_of found.0
+  txn ← stamp_of found.1
+  Some (Look key txn answer)
 
 unfoldable pub shadow_at : List ℕ → Option StoreStep
 shadow_at bs = do
-  key ← field_at (codes "k") bs
-  txn ← field_at (codes " ") key.1
-  commit ← field_at (codes " ") txn.1
-  key_no ← key_of key.0
-  txn_no ← stamp_of txn.0
-  commit_no ← stamp_of commit.0
-  Some (Shadow key_no txn_no commit_no)
-
-unfoldable pub remove_at : List ℕ → Option StoreStep
-remove_at bs = do
-  txn ← number_at bs
-  txn_no ← stamp_of txn.0
-  Some (Remove txn_no)
+  found ← two_fields_at (codes "k") (codes " ") bs
+  commit ← last_stamp_at (codes " ") found.2
+  key ← key_of found.0
+  txn ← stamp_of found.1
+  Some (Shadow key txn commit)
 
 unfoldable pub erase_at : List ℕ → Option StoreStep
 erase_at bs = do
-  key ← field_at (codes "k") bs
-  txn ← field_at (codes " ") key.1
-  key_no ← key_of key.0
-  txn_no ← stamp_of txn.0
-  Some (Erase key_no txn_no)
+  found ← two_fields_at (codes "k") (codes " ") bs
+  key ← key_of found.0
+  txn ← stamp_of found.1
+  Some (Erase key txn)
 
 unfoldable pub keys_at : List ℕ → Option StoreStep
 keys_at bs = do
-  txn ← number_at bs
-  count ← field_at (codes " count=") txn.1
-  txn_no ← stamp_of txn.0
-  Some (Keys txn_no count.0)
+  found ← two_fields_at (codes "") (codes " count=") bs
+  txn ← stamp_of found.0
+  Some (Keys txn found.1)
 
 unfoldable pub put_found_at : List ℕ → Option StoreStep
 put_found_at bs = do
@@ -117,7 +88,7 @@ unfoldable pub table_step_at : List ℕ → List ℕ → Option StoreStep
 table_step_at word bs =
     if is_word (codes "get") word then get_at bs else
     (if is_word (codes "mark") word then mark_found_at bs else
-    (if is_word (codes "remove") word then remove_at bs else
+    (if is_word (codes "remove") word then option_map Remove (last_stamp_at (codes "") bs) else
     (if is_word (codes "keys") word then keys_at bs else
     (if is_word (codes "put") word then put_found_at bs else None))))
 

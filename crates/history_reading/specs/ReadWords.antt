@@ -2,7 +2,7 @@
 use Rattle.std.specs.Prelude.{ℕ, suc, ◌+◌, ◌-◌, ◌*◌, ◌/◌, ◌==◌, nat_eq, nat_le, Bool, ◌&&◌, ◌||◌, if◌then◌else◌, List, [], ◌∷◌, Option, None, Some, codes, take, drop, length}
 use Rattle.std.specs.Cmp.Lexicographic.{pointwise}
 use Rattle.std.specs.List.{list_all}
-use Rattle.std.specs.Option.{option_or}
+use Rattle.std.specs.Option.{option_map, option_or}
 use Rattle.stamp_base.specs.declared.numbers.TheConstants.KeyNo as keys
 use Rattle.stamp_base.specs.declared.numbers.TheConstants.NodeNo as nodes
 use Rattle.stamp_base.specs.declared.numbers.TheConstants.SessionNo as sessions
@@ -50,6 +50,17 @@ field_at text bs = do
   rest ← after_text text bs
   Some (number_from 0 rest)
 
+-- a field that is the last: its number
+unfoldable pub last_field_at : List ℕ → List ℕ → Option ℕ
+last_field_at text bs = option_map (λ found. found.0) (field_at text bs)
+
+-- two fields that follow each other: their numbers, and the bytes after them
+unfoldable pub two_fields_at : List ℕ → List ℕ → List ℕ → Option (ℕ × ℕ × List ℕ)
+two_fields_at first second bs = do
+  one ← field_at first bs
+  other ← field_at second one.1
+  Some (one.0, other.0, other.1)
+
 -- a node's letter
 unfoldable pub letter_at : List ℕ → Option (ℕ × List ℕ)
 letter_at [] = None
@@ -73,6 +84,10 @@ stamp_of n = ranged 1 stamps.GREATEST n
 
 unfoldable pub term_of : ℕ → Option ℕ
 term_of n = ranged 1 18446744073709551615 n
+
+-- a field that is the last, and a stamp
+unfoldable pub last_stamp_at : List ℕ → List ℕ → Option ℕ
+last_stamp_at text bs = last_field_at text bs >>= stamp_of
 
 -- a value and a name are all of the bytes
 unfoldable pub value_at : List ℕ → Option (List ℕ)

@@ -6,8 +6,8 @@ ghost use Rattle.omid_top.specs.Replay.{replayed, line_events, session_events, n
 ghost use Rattle.omid_top.specs.Runs.{run};
 
 use crate::script::{Line, Script, Target, Verb};
-use single_oracle::{Cluster, Stopped};
 use history_book::Actor;
+use single_oracle::{Cluster, Stopped};
 use stamp_base::{NoMemory, NodeNo, SessionNo};
 use std::alloc::Global;
 

@@ -1,9 +1,10 @@
 // The causes, as reading finds them.
 ghost use Rattle.std.specs.Prelude.{◌≡◌};
-ghost use Rattle.history_reading.specs.ReadCauses.{cause_at, transaction_cause_at, lease_cause_at, place_cause_at, plain_cause_at, conflict_at, hidden_at, old_epoch_at, expired_at, replaced_at, spent_at, no_stamp_at, invalid_at, open_at, crashed_at, not_yet_at, no_request_at, no_oracle_at, full_at, early_at, holding_at, undecided_at};
+ghost use Rattle.history_reading.specs.ReadCauses.{cause_at, transaction_cause_at, lease_cause_at, place_cause_at, plain_cause_at, conflict_at, hidden_at, old_epoch_at, crashed_at, no_oracle_at, undecided_at};
 
 use super::words::{
-    after, field, is_word, key_of, letter, node_of, session_of, split_word, stamp_of, term_of,
+    after, field, is_word, key_of, last_field, last_stamp, letter, node_of, session_of, split_word,
+    stamp_of, term_of, two_fields,
 };
 use history_book::Cause;
 
@@ -39,13 +40,16 @@ fn transaction_cause(word: &[u8], bytes: &[u8]) -> Option<Cause>
         return old_epoch(bytes);
     }
     if is_word(word, b"invalid") {
-        return invalid(bytes);
+        let start = last_stamp(b"start=", bytes)?;
+        return Some(Cause::Invalid { start });
     }
     if is_word(word, b"open") {
-        return open(bytes);
+        let start = last_stamp(b"start=", bytes)?;
+        return Some(Cause::Open { start });
     }
     if is_word(word, b"not-yet") {
-        return not_yet(bytes);
+        let commit = last_stamp(b"commit=", bytes)?;
+        return Some(Cause::NotYet { commit });
     }
     if is_word(word, b"undecided") {
         return undecided(bytes);
@@ -59,22 +63,28 @@ fn lease_cause(word: &[u8], bytes: &[u8]) -> Option<Cause>
     ensures { result ≡ lease_cause_at word.now bytes.now }
 {
     if is_word(word, b"expired") {
-        return expired(bytes);
+        let (reading, until, _) = two_fields(b"reading=", b" until=", bytes)?;
+        return Some(Cause::Expired { reading, until });
     }
     if is_word(word, b"replaced") {
-        return replaced(bytes);
+        let found = last_field(b"found=", bytes)?;
+        return Some(Cause::Replaced { found });
     }
     if is_word(word, b"spent") {
-        return spent(bytes);
+        let ceiling = last_field(b"ceiling=", bytes)?;
+        return Some(Cause::Spent { ceiling });
     }
     if is_word(word, b"no-stamp") {
-        return no_stamp(bytes);
+        let last = last_field(b"last=", bytes)?;
+        return Some(Cause::NoStamp { last });
     }
     if is_word(word, b"early") {
-        return early(bytes);
+        let (reading, until, _) = two_fields(b"reading=", b" until=", bytes)?;
+        return Some(Cause::Early { reading, until });
     }
     if is_word(word, b"holding") {
-        return holding(bytes);
+        let term = term_of(last_field(b"term=", bytes)?)?;
+        return Some(Cause::Holding { term });
     }
     if is_word(word, b"crashed") {
         return crashed(bytes);
@@ -88,13 +98,15 @@ fn place_cause(word: &[u8], bytes: &[u8]) -> Option<Cause>
     ensures { result ≡ place_cause_at word.now bytes.now }
 {
     if is_word(word, b"no-request") {
-        return no_request(bytes);
+        let session = session_of(last_field(b"session=s", bytes)?)?;
+        return Some(Cause::NoRequest { session });
     }
     if is_word(word, b"no-oracle") {
         return no_oracle(bytes);
     }
     if is_word(word, b"full") {
-        return full(bytes);
+        let in_flight = last_field(b"in-flight=", bytes)?;
+        return Some(Cause::Full { in_flight });
     }
     None
 }
@@ -126,8 +138,7 @@ fn plain_cause(word: &[u8]) -> Option<Cause>
 fn conflict(bytes: &[u8]) -> Option<Cause>
     ensures { result ≡ conflict_at bytes.now }
 {
-    let (key, rest) = field(b"key=k", bytes)?;
-    let (by, _) = field(b" by=", rest)?;
+    let (key, by, _) = two_fields(b"key=k", b" by=", bytes)?;
     let key = key_of(key)?;
     let by = stamp_of(by)?;
     Some(Cause::Conflict { key, by })
@@ -137,8 +148,7 @@ fn conflict(bytes: &[u8]) -> Option<Cause>
 fn hidden(bytes: &[u8]) -> Option<Cause>
     ensures { result ≡ hidden_at bytes.now }
 {
-    let (key, rest) = field(b"key=k", bytes)?;
-    let (water, _) = field(b" water=", rest)?;
+    let (key, water, _) = two_fields(b"key=k", b" water=", bytes)?;
     let key = key_of(key)?;
     Some(Cause::Hidden { key, water })
 }
@@ -147,61 +157,9 @@ fn hidden(bytes: &[u8]) -> Option<Cause>
 fn old_epoch(bytes: &[u8]) -> Option<Cause>
     ensures { result ≡ old_epoch_at bytes.now }
 {
-    let (start, rest) = field(b"start=", bytes)?;
-    let (epoch, _) = field(b" epoch=", rest)?;
+    let (start, epoch, _) = two_fields(b"start=", b" epoch=", bytes)?;
     let start = stamp_of(start)?;
     Some(Cause::OldEpoch { start, epoch })
-}
-
-#[tactic(auto, unfolding(crate::specs::ReadCauses::expired_at))]
-fn expired(bytes: &[u8]) -> Option<Cause>
-    ensures { result ≡ expired_at bytes.now }
-{
-    let (reading, rest) = field(b"reading=", bytes)?;
-    let (until, _) = field(b" until=", rest)?;
-    Some(Cause::Expired { reading, until })
-}
-
-#[tactic(auto, unfolding(crate::specs::ReadCauses::replaced_at))]
-fn replaced(bytes: &[u8]) -> Option<Cause>
-    ensures { result ≡ replaced_at bytes.now }
-{
-    let (found, _) = field(b"found=", bytes)?;
-    Some(Cause::Replaced { found })
-}
-
-#[tactic(auto, unfolding(crate::specs::ReadCauses::spent_at))]
-fn spent(bytes: &[u8]) -> Option<Cause>
-    ensures { result ≡ spent_at bytes.now }
-{
-    let (ceiling, _) = field(b"ceiling=", bytes)?;
-    Some(Cause::Spent { ceiling })
-}
-
-#[tactic(auto, unfolding(crate::specs::ReadCauses::no_stamp_at))]
-fn no_stamp(bytes: &[u8]) -> Option<Cause>
-    ensures { result ≡ no_stamp_at bytes.now }
-{
-    let (last, _) = field(b"last=", bytes)?;
-    Some(Cause::NoStamp { last })
-}
-
-#[tactic(auto, unfolding(crate::specs::ReadCauses::invalid_at))]
-fn invalid(bytes: &[u8]) -> Option<Cause>
-    ensures { result ≡ invalid_at bytes.now }
-{
-    let (start, _) = field(b"start=", bytes)?;
-    let start = stamp_of(start)?;
-    Some(Cause::Invalid { start })
-}
-
-#[tactic(auto, unfolding(crate::specs::ReadCauses::open_at))]
-fn open(bytes: &[u8]) -> Option<Cause>
-    ensures { result ≡ open_at bytes.now }
-{
-    let (start, _) = field(b"start=", bytes)?;
-    let start = stamp_of(start)?;
-    Some(Cause::Open { start })
 }
 
 #[tactic(auto, unfolding(crate::specs::ReadCauses::crashed_at))]
@@ -216,24 +174,6 @@ fn crashed(bytes: &[u8]) -> Option<Cause>
     Some(Cause::Crashed { node, term })
 }
 
-#[tactic(auto, unfolding(crate::specs::ReadCauses::not_yet_at))]
-fn not_yet(bytes: &[u8]) -> Option<Cause>
-    ensures { result ≡ not_yet_at bytes.now }
-{
-    let (commit, _) = field(b"commit=", bytes)?;
-    let commit = stamp_of(commit)?;
-    Some(Cause::NotYet { commit })
-}
-
-#[tactic(auto, unfolding(crate::specs::ReadCauses::no_request_at))]
-fn no_request(bytes: &[u8]) -> Option<Cause>
-    ensures { result ≡ no_request_at bytes.now }
-{
-    let (session, _) = field(b"session=s", bytes)?;
-    let session = session_of(session)?;
-    Some(Cause::NoRequest { session })
-}
-
 #[tactic(auto, unfolding(crate::specs::ReadCauses::no_oracle_at))]
 fn no_oracle(bytes: &[u8]) -> Option<Cause>
     ensures { result ≡ no_oracle_at bytes.now }
@@ -244,38 +184,11 @@ fn no_oracle(bytes: &[u8]) -> Option<Cause>
     Some(Cause::NoOracle { node })
 }
 
-#[tactic(auto, unfolding(crate::specs::ReadCauses::full_at))]
-fn full(bytes: &[u8]) -> Option<Cause>
-    ensures { result ≡ full_at bytes.now }
-{
-    let (in_flight, _) = field(b"in-flight=", bytes)?;
-    Some(Cause::Full { in_flight })
-}
-
-#[tactic(auto, unfolding(crate::specs::ReadCauses::early_at))]
-fn early(bytes: &[u8]) -> Option<Cause>
-    ensures { result ≡ early_at bytes.now }
-{
-    let (reading, rest) = field(b"reading=", bytes)?;
-    let (until, _) = field(b" until=", rest)?;
-    Some(Cause::Early { reading, until })
-}
-
-#[tactic(auto, unfolding(crate::specs::ReadCauses::holding_at))]
-fn holding(bytes: &[u8]) -> Option<Cause>
-    ensures { result ≡ holding_at bytes.now }
-{
-    let (term, _) = field(b"term=", bytes)?;
-    let term = term_of(term)?;
-    Some(Cause::Holding { term })
-}
-
 #[tactic(auto, unfolding(crate::specs::ReadCauses::undecided_at))]
 fn undecided(bytes: &[u8]) -> Option<Cause>
     ensures { result ≡ undecided_at bytes.now }
 {
-    let (start, rest) = field(b"start=", bytes)?;
-    let (epoch, _) = field(b" epoch=", rest)?;
+    let (start, epoch, _) = two_fields(b"start=", b" epoch=", bytes)?;
     let start = stamp_of(start)?;
     Some(Cause::Undecided { start, epoch })
 }

@@ -1,8 +1,11 @@
 // The items of requests, and of placed commits, as reading finds them.
 ghost use Rattle.std.specs.Prelude.{◌≡◌};
-ghost use Rattle.history_reading.specs.ReadRequests.{request_kind_at, ask_begin_at, ask_commit_at, accept_at, draw_at, placed_at, drawn_at, no_commit_at, commit_at};
+ghost use Rattle.std.specs.Option.{option_map};
+ghost use Rattle.history_reading.specs.ReadRequests.{request_kind_at, asked_at, ask_begin_at, ask_commit_at, accept_at, draw_at, placed_at, drawn_at, no_commit_at, commit_at};
 
-use super::words::{after, field, is_word, letter, node_of, session_of, stamp_of, term_of};
+use super::words::{
+    after, field, is_word, last_stamp, letter, node_of, session_of, stamp_of, term_of, two_fields,
+};
 use history_book::Item;
 use stamp_base::Stamp;
 
@@ -33,9 +36,7 @@ pub fn request_kind(word: &[u8], bytes: &[u8]) -> Option<Item>
 fn ask_begin(bytes: &[u8]) -> Option<Item>
     ensures { result ≡ ask_begin_at bytes.now }
 {
-    let (session, rest) = field(b"s", bytes)?;
-    let rest = after(b" ", rest)?;
-    let (node, _) = letter(rest)?;
+    let (session, node, _) = asked(bytes)?;
     let session = session_of(session)?;
     let node = node_of(node)?;
     Some(Item::AskBegin { session, node })
@@ -45,13 +46,10 @@ fn ask_begin(bytes: &[u8]) -> Option<Item>
 fn ask_commit(bytes: &[u8]) -> Option<Item>
     ensures { result ≡ ask_commit_at bytes.now }
 {
-    let (session, rest) = field(b"s", bytes)?;
-    let rest = after(b" ", rest)?;
-    let (node, rest) = letter(rest)?;
-    let (start, _) = field(b" start=", rest)?;
+    let (session, node, rest) = asked(bytes)?;
+    let start = last_stamp(b" start=", rest)?;
     let session = session_of(session)?;
     let node = node_of(node)?;
-    let start = stamp_of(start)?;
     Some(Item::AskCommit {
         session,
         node,
@@ -63,11 +61,8 @@ fn ask_commit(bytes: &[u8]) -> Option<Item>
 fn accept(bytes: &[u8]) -> Option<Item>
     ensures { result ≡ accept_at bytes.now }
 {
-    let (session, rest) = field(b"s", bytes)?;
-    let rest = after(b" ", rest)?;
-    let (node, rest) = letter(rest)?;
-    let (term, rest) = field(b" term=", rest)?;
-    let (reading, _) = field(b" reading=", rest)?;
+    let (session, node, rest) = asked(bytes)?;
+    let (term, reading, _) = two_fields(b" term=", b" reading=", rest)?;
     let session = session_of(session)?;
     let node = node_of(node)?;
     let term = term_of(term)?;
@@ -83,11 +78,8 @@ fn accept(bytes: &[u8]) -> Option<Item>
 fn draw(bytes: &[u8]) -> Option<Item>
     ensures { result ≡ draw_at bytes.now }
 {
-    let (session, rest) = field(b"s", bytes)?;
-    let rest = after(b" ", rest)?;
-    let (node, rest) = letter(rest)?;
-    let (term, rest) = field(b" term=", rest)?;
-    let (start, rest) = field(b" start=", rest)?;
+    let (session, node, rest) = asked(bytes)?;
+    let (term, start, rest) = two_fields(b" term=", b" start=", rest)?;
     let commit = drawn(rest)?;
     let session = session_of(session)?;
     let node = node_of(node)?;
@@ -106,11 +98,21 @@ fn draw(bytes: &[u8]) -> Option<Item>
 fn placed(bytes: &[u8]) -> Option<Item>
     ensures { result ≡ placed_at bytes.now }
 {
-    let (start, rest) = field(b"start=", bytes)?;
-    let (commit, _) = field(b" commit=", rest)?;
+    let (start, commit, _) = two_fields(b"start=", b" commit=", bytes)?;
     let start = stamp_of(start)?;
     let commit = stamp_of(commit)?;
     Some(Item::Placed { start, commit })
+}
+
+/// The session and the node of a request, and the bytes after them.
+#[tactic(auto, unfolding(crate::specs::ReadRequests::asked_at))]
+fn asked(bytes: &[u8]) -> Option<(u64, u64, &[u8])>
+    ensures { option_map (λ asked. (asked.0, asked.1, asked.2.now)) result ≡ asked_at bytes.now }
+{
+    let (session, rest) = field(b"s", bytes)?;
+    let rest = after(b" ", rest)?;
+    let (node, rest) = letter(rest)?;
+    Some((session, node, rest))
 }
 
 /// The commit of a draw: a begin draws none.
@@ -134,7 +136,6 @@ fn no_commit(bytes: &[u8]) -> Option<Option<Stamp>>
 fn commit(bytes: &[u8]) -> Option<Option<Stamp>>
     ensures { result ≡ commit_at bytes.now }
 {
-    let (commit, _) = field(b" commit=", bytes)?;
-    let commit = stamp_of(commit)?;
+    let commit = last_stamp(b" commit=", bytes)?;
     Some(Some(commit))
 }

@@ -1,8 +1,10 @@
 // The items of sessions, as reading finds them.
 ghost use Rattle.std.specs.Prelude.{◌≡◌};
-ghost use Rattle.history_reading.specs.ReadSessions.{session_kind_at, begin_at, write_at, read_at, committed_at, end_at, vanish_at, answer_at, no_answer_at, found_at, ending_at};
+ghost use Rattle.history_reading.specs.ReadSessions.{session_kind_at, begin_at, write_at, read_at, committed_at, end_at, answer_at, no_answer_at, found_at, ending_at};
 
-use super::words::{after, field, is_word, key_of, session_of, stamp_of, value};
+use super::words::{
+    after, field, is_word, key_of, last_field, last_stamp, session_of, stamp_of, two_fields, value,
+};
 use history_book::{Ending, Found, Item};
 
 /// The items of sessions.
@@ -26,7 +28,8 @@ pub fn session_kind(word: &[u8], bytes: &[u8]) -> Option<Item>
         return end(bytes);
     }
     if is_word(word, b"vanish") {
-        return vanish(bytes);
+        let session = session_of(last_field(b"s", bytes)?)?;
+        return Some(Item::Vanish { session });
     }
     None
 }
@@ -35,8 +38,7 @@ pub fn session_kind(word: &[u8], bytes: &[u8]) -> Option<Item>
 fn begin(bytes: &[u8]) -> Option<Item>
     ensures { result ≡ begin_at bytes.now }
 {
-    let (session, rest) = field(b"s", bytes)?;
-    let (start, _) = field(b" start=", rest)?;
+    let (session, start, _) = two_fields(b"s", b" start=", bytes)?;
     let session = session_of(session)?;
     let start = stamp_of(start)?;
     Some(Item::Begin { session, start })
@@ -46,8 +48,7 @@ fn begin(bytes: &[u8]) -> Option<Item>
 fn write(bytes: &[u8]) -> Option<Item>
     ensures { result ≡ write_at bytes.now }
 {
-    let (session, rest) = field(b"s", bytes)?;
-    let (start, rest) = field(b" start=", rest)?;
+    let (session, start, rest) = two_fields(b"s", b" start=", bytes)?;
     let (key, rest) = field(b" k", rest)?;
     let rest = after(b" ", rest)?;
     let value = value(rest)?;
@@ -66,8 +67,7 @@ fn write(bytes: &[u8]) -> Option<Item>
 fn read(bytes: &[u8]) -> Option<Item>
     ensures { result ≡ read_at bytes.now }
 {
-    let (session, rest) = field(b"s", bytes)?;
-    let (start, rest) = field(b" start=", rest)?;
+    let (session, start, rest) = two_fields(b"s", b" start=", bytes)?;
     let (key, rest) = field(b" k", rest)?;
     let rest = after(b" ", rest)?;
     let answer = answer(rest)?;
@@ -86,12 +86,10 @@ fn read(bytes: &[u8]) -> Option<Item>
 fn committed(bytes: &[u8]) -> Option<Item>
     ensures { result ≡ committed_at bytes.now }
 {
-    let (session, rest) = field(b"s", bytes)?;
-    let (start, rest) = field(b" start=", rest)?;
-    let (commit, _) = field(b" commit=", rest)?;
+    let (session, start, rest) = two_fields(b"s", b" start=", bytes)?;
+    let commit = last_stamp(b" commit=", rest)?;
     let session = session_of(session)?;
     let start = stamp_of(start)?;
-    let commit = stamp_of(commit)?;
     Some(Item::Committed {
         session,
         start,
@@ -103,8 +101,7 @@ fn committed(bytes: &[u8]) -> Option<Item>
 fn end(bytes: &[u8]) -> Option<Item>
     ensures { result ≡ end_at bytes.now }
 {
-    let (session, rest) = field(b"s", bytes)?;
-    let (start, rest) = field(b" start=", rest)?;
+    let (session, start, rest) = two_fields(b"s", b" start=", bytes)?;
     let rest = after(b" ", rest)?;
     let how = ending(rest)?;
     let session = session_of(session)?;
@@ -114,15 +111,6 @@ fn end(bytes: &[u8]) -> Option<Item>
         start,
         how,
     })
-}
-
-#[tactic(auto, unfolding(crate::specs::ReadSessions::vanish_at))]
-fn vanish(bytes: &[u8]) -> Option<Item>
-    ensures { result ≡ vanish_at bytes.now }
-{
-    let (session, _) = field(b"s", bytes)?;
-    let session = session_of(session)?;
-    Some(Item::Vanish { session })
 }
 
 /// What a read found.

@@ -1,8 +1,8 @@
 // The steps on the stores, as reading finds them.
 ghost use Rattle.std.specs.Prelude.{◌≡◌};
-ghost use Rattle.history_reading.specs.ReadSteps.{step_at, cell_step_at, table_step_at, fetch_at, get_at, mark_found_at, look_at, shadow_at, remove_at, erase_at, keys_at, put_found_at, entry_at, marked_at, mark_at, committed_at, seen_at, shadowed_at};
+ghost use Rattle.history_reading.specs.ReadSteps.{step_at, cell_step_at, table_step_at, fetch_at, get_at, mark_found_at, look_at, shadow_at, erase_at, keys_at, put_found_at, entry_at, mark_at, seen_at};
 
-use super::words::{after, field, is_word, key_of, number, split_word, stamp_of};
+use super::words::{after, is_word, key_of, last_stamp, number, split_word, stamp_of, two_fields};
 use history_book::{Seen, StoreStep};
 use stamp_base::Mark;
 
@@ -49,7 +49,8 @@ fn table_step(word: &[u8], bytes: &[u8]) -> Option<StoreStep>
         return mark_found(bytes);
     }
     if is_word(word, b"remove") {
-        return remove(bytes);
+        let txn = last_stamp(b"", bytes)?;
+        return Some(StoreStep::Remove { txn });
     }
     if is_word(word, b"keys") {
         return keys(bytes);
@@ -64,8 +65,7 @@ fn table_step(word: &[u8], bytes: &[u8]) -> Option<StoreStep>
 fn fetch(bytes: &[u8]) -> Option<StoreStep>
     ensures { result ≡ fetch_at bytes.now }
 {
-    let (key, rest) = field(b"k", bytes)?;
-    let (cells, _) = field(b" cells=", rest)?;
+    let (key, cells, _) = two_fields(b"k", b" cells=", bytes)?;
     let key = key_of(key)?;
     Some(StoreStep::Fetch { key, cells })
 }
@@ -96,8 +96,7 @@ fn mark_found(bytes: &[u8]) -> Option<StoreStep>
 fn look(bytes: &[u8]) -> Option<StoreStep>
     ensures { result ≡ look_at bytes.now }
 {
-    let (key, rest) = field(b"k", bytes)?;
-    let (txn, rest) = field(b" ", rest)?;
+    let (key, txn, rest) = two_fields(b"k", b" ", bytes)?;
     let rest = after(b" ", rest)?;
     let answer = seen(rest)?;
     let key = key_of(key)?;
@@ -109,30 +108,18 @@ fn look(bytes: &[u8]) -> Option<StoreStep>
 fn shadow(bytes: &[u8]) -> Option<StoreStep>
     ensures { result ≡ shadow_at bytes.now }
 {
-    let (key, rest) = field(b"k", bytes)?;
-    let (txn, rest) = field(b" ", rest)?;
-    let (commit, _) = field(b" ", rest)?;
+    let (key, txn, rest) = two_fields(b"k", b" ", bytes)?;
+    let commit = last_stamp(b" ", rest)?;
     let key = key_of(key)?;
     let txn = stamp_of(txn)?;
-    let commit = stamp_of(commit)?;
     Some(StoreStep::Shadow { key, txn, commit })
-}
-
-#[tactic(auto, unfolding(crate::specs::ReadSteps::remove_at))]
-fn remove(bytes: &[u8]) -> Option<StoreStep>
-    ensures { result ≡ remove_at bytes.now }
-{
-    let (txn, _) = number(bytes);
-    let txn = stamp_of(txn)?;
-    Some(StoreStep::Remove { txn })
 }
 
 #[tactic(auto, unfolding(crate::specs::ReadSteps::erase_at))]
 fn erase(bytes: &[u8]) -> Option<StoreStep>
     ensures { result ≡ erase_at bytes.now }
 {
-    let (key, rest) = field(b"k", bytes)?;
-    let (txn, _) = field(b" ", rest)?;
+    let (key, txn, _) = two_fields(b"k", b" ", bytes)?;
     let key = key_of(key)?;
     let txn = stamp_of(txn)?;
     Some(StoreStep::Erase { key, txn })
@@ -142,8 +129,7 @@ fn erase(bytes: &[u8]) -> Option<StoreStep>
 fn keys(bytes: &[u8]) -> Option<StoreStep>
     ensures { result ≡ keys_at bytes.now }
 {
-    let (txn, rest) = number(bytes);
-    let (count, _) = field(b" count=", rest)?;
+    let (txn, count, _) = two_fields(b"", b" count=", bytes)?;
     let txn = stamp_of(txn)?;
     Some(StoreStep::Keys { txn, count })
 }
@@ -164,13 +150,6 @@ fn entry(bytes: &[u8]) -> Option<Option<Mark>>
     if is_word(bytes, b"absent") {
         return Some(None);
     }
-    marked(bytes)
-}
-
-#[tactic(auto, unfolding(crate::specs::ReadSteps::marked_at))]
-fn marked(bytes: &[u8]) -> Option<Option<Mark>>
-    ensures { result ≡ marked_at bytes.now }
-{
     let mark = mark(bytes)?;
     Some(Some(mark))
 }
@@ -182,15 +161,7 @@ fn mark(bytes: &[u8]) -> Option<Mark>
     if is_word(bytes, b"invalid") {
         return Some(Mark::Invalid);
     }
-    committed(bytes)
-}
-
-#[tactic(auto, unfolding(crate::specs::ReadSteps::committed_at))]
-fn committed(bytes: &[u8]) -> Option<Mark>
-    ensures { result ≡ committed_at bytes.now }
-{
-    let (commit, _) = field(b"committed=", bytes)?;
-    let commit = stamp_of(commit)?;
+    let commit = last_stamp(b"committed=", bytes)?;
     Some(Mark::Committed(commit))
 }
 
@@ -204,14 +175,6 @@ fn seen(bytes: &[u8]) -> Option<Seen>
     if is_word(bytes, b"gone") {
         return Some(Seen::Gone);
     }
-    shadowed(bytes)
-}
-
-#[tactic(auto, unfolding(crate::specs::ReadSteps::shadowed_at))]
-fn shadowed(bytes: &[u8]) -> Option<Seen>
-    ensures { result ≡ shadowed_at bytes.now }
-{
-    let (commit, _) = field(b"commit=", bytes)?;
-    let commit = stamp_of(commit)?;
+    let commit = last_stamp(b"commit=", bytes)?;
     Some(Seen::Commit(commit))
 }

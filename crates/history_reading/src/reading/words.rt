@@ -1,7 +1,7 @@
 // The parts that items share, as reading finds them at the front of some bytes.
 ghost use Rattle.std.specs.Prelude.{◌≡◌, ◌+◌, ◌≤◌, length};
 ghost use Rattle.std.specs.Option.{option_map};
-ghost use Rattle.history_reading.specs.ReadWords.{word_len, first_word, after_word, is_word, after_text, number_from, field_at, letter_at, node_of, session_of, key_of, stamp_of, term_of, value_at, name_at, node_actor_at, session_actor_at, actor_at};
+ghost use Rattle.history_reading.specs.ReadWords.{word_len, first_word, after_word, is_word, after_text, number_from, field_at, last_field_at, two_fields_at, letter_at, node_of, session_of, key_of, stamp_of, term_of, last_stamp_at, value_at, name_at, node_actor_at, session_actor_at, actor_at};
 
 use history_book::Actor;
 use stamp_base::{KeyNo, Name, NodeNo, SessionNo, Stamp, Term, Value};
@@ -85,6 +85,25 @@ pub fn field<'a>(text: &[u8], bytes: &'a [u8]) -> Option<(u64, &'a [u8])>
     Some(number(rest))
 }
 
+/// The number behind a text, where it is the last of some words: what follows it is not looked at.
+#[tactic(auto, unfolding(crate::specs::ReadWords::last_field_at))]
+pub fn last_field(text: &[u8], bytes: &[u8]) -> Option<u64>
+    ensures { result ≡ last_field_at text.now bytes.now }
+{
+    let (number, _) = field(text, bytes)?;
+    Some(number)
+}
+
+/// The numbers behind two texts, and the bytes after them.
+#[tactic(auto, unfolding(crate::specs::ReadWords::two_fields_at))]
+pub fn two_fields<'a>(first: &[u8], second: &[u8], bytes: &'a [u8]) -> Option<(u64, u64, &'a [u8])>
+    ensures { option_map (λ found. (found.0, found.1, found.2.now)) result ≡ two_fields_at first.now second.now bytes.now }
+{
+    let (one, rest) = field(first, bytes)?;
+    let (other, rest) = field(second, rest)?;
+    Some((one, other, rest))
+}
+
 /// A node by its letter, and the bytes after it.
 #[tactic(auto, unfolding(crate::specs::ReadWords::letter_at))]
 pub fn letter(bytes: &[u8]) -> Option<(u64, &[u8])>
@@ -129,6 +148,15 @@ pub fn term_of(number: u64) -> Option<Term>
     ensures { result ≡ term_of number }
 {
     Term::new(number)
+}
+
+/// The stamp behind a text, where it is the last of some words.
+#[tactic(auto, unfolding(crate::specs::ReadWords::last_stamp_at))]
+pub fn last_stamp(text: &[u8], bytes: &[u8]) -> Option<Stamp>
+    ensures { result ≡ last_stamp_at text.now bytes.now }
+{
+    let number = last_field(text, bytes)?;
+    stamp_of(number)
 }
 
 #[tactic(auto, unfolding(crate::specs::ReadWords::value_at))]

@@ -1,4 +1,5 @@
-use Rattle.cause_rules.proofs.WorkedHidden.{at_the_start, below_the_start, forgotten, kept, kept_by_width, not_drawn, not_its_own, other_bucket, other_term}
+use Rattle.cause_rules.proofs.WorkedHidden.{at_the_start, below_the_start, forgotten, kept, kept_by_width, not_drawn, not_forgotten, not_its_own, other_bucket, other_term}
+use Rattle.cause_rules.proofs.WorkedUnasked.{hidden_unasked}
 use Rattle.cause_rules.proofs.commits.forgotten_keys_are_hidden.Goals as goal
 
 pub returns : goal.returns
@@ -11,5 +12,7 @@ returns c = record {
   other_term = other_term;
   other_bucket = other_bucket;
   not_drawn = not_drawn;
+  not_forgotten = not_forgotten;
   not_its_own = not_its_own;
+  not_asked = hidden_unasked;
 }

@@ -1,4 +1,5 @@
 use Rattle.cause_rules.proofs.WorkedLosses.{marked, marked_later, other_invalid, other_marked}
+use Rattle.cause_rules.proofs.WorkedUnasked.{invalid_unasked}
 use Rattle.cause_rules.proofs.commits.marked_commits_are_invalid.Goals as goal
 
 pub returns : goal.returns
@@ -7,4 +8,5 @@ returns c = record {
   other_marked = other_marked;
   other_told = other_invalid;
   marked_later = marked_later;
+  not_asked = invalid_unasked;
 }
