@@ -1,24 +1,20 @@
 -- A setting that may stand keeps the script sound.
-use Rattle.std.proofs.Common.{◌≡◌, ◌≢◌, ℕ, ◌+◌, ◌<◌, ◌≤◌, ◌==◌, nat_le, Bool, true, false, ◌&&◌, ◌||◌, not, if◌then◌else◌, List, [], ◌∷◌, ◌++◌, Option, None, Some, length, get_or, replicate, slice_set, All, refl, sym, ap, ◌∙◌, subst, arith, inl, inr}
+use Rattle.std.proofs.Common.{◌≡◌, ℕ, ◌<◌, ◌≤◌, ◌==◌, nat_le, Bool, true, false, ◌&&◌, ◌||◌, not, if◌then◌else◌, List, [], ◌∷◌, ◌++◌, None, Some, length, refl, sym, ap, ◌∙◌, arith}
 use Rattle.std.specs.List.{list_any}
-use Rattle.std.proofs.lemmas.Bool.{cases_Bool, true≢false, eqb-true, eq-eqb}
-use Rattle.std.proofs.lemmas.List.Elements.{All-replicate, All-push, All-set}
+use Rattle.std.proofs.lemmas.Bool.{true≢false, eqb-true, eq-eqb}
+use Rattle.std.proofs.lemmas.List.Elements.{All-replicate, All-push}
 use Rattle.std.proofs.lemmas.Bool.Decides.{nat_tests}
 use Rattle.std.proofs.lemmas.List.Folds.{list_any-append}
-use Rattle.std.proofs.lemmas.List.Quantifiers.{all_pairs_push}
-use Rattle.stamp_base.specs.SetupNumbers.{SetupNumbers, AreInRange}
 use Rattle.stamp_base.specs.declared.stores.Store.{Store}
 use Rattle.stamp_base.specs.declared.stores.Store.TheVariants.{Cells, Table, Master}
-use Rattle.port_io.specs.Planned.{PlannedFault, OneEach, same_store}
-use Rattle.session_script.specs.declared.script.Line.{Line}
+use Rattle.port_io.specs.Planned.{PlannedFault, same_store}
 use Rattle.session_script.specs.declared.script.TheConstants.{FAULT_LIMIT}
 use Rattle.session_script.specs.declared.setting.Setting.{Setting}
 use Rattle.session_script.specs.declared.setting.Setting.TheVariants.{Nodes, Lease, Skew, Range, Buckets, Slots, Batch, Workers, Lead, Fault}
 use Rattle.port_io.specs.declared.weather.Fate.{Fate}
 use Rattle.session_script.specs.declared.cause.ScriptCause.TheVariants.{SetupOrder, SetupTwice, TooManyFaults}
-use Rattle.session_script.specs.Data.{ScriptData, AreWithinSkew, IsSound}
-use Rattle.session_script.specs.Settings.{IsInBounds, with_number, with_setting, sets_same, AreSet, is_lead, bounds_leads, is_fault, comes_late, objection}
-use Rattle.session_script.specs.Sound.{LineIsSound}
+use Rattle.session_script.specs.Data.{ScriptData, AreWithinSkew}
+use Rattle.session_script.specs.Settings.{with_setting, sets_same, AreSet, is_lead, bounds_leads, is_fault, comes_late, objection}
 
 -- what holds where nothing speaks against the setting
 pub record MayStand (settings : List Setting) (script : ScriptData) (setting : Setting) : Type 0 where

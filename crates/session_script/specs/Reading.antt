@@ -1,5 +1,5 @@
 -- What the reading of one more line makes of what was read so far.
-use Rattle.std.specs.Prelude.{◌≡◌, ℕ, List, Result, Ok, Err, map}
+use Rattle.std.specs.Prelude.{◌≡◌, ℕ, Result, Ok, Err}
 use Rattle.session_script.specs.declared.cause.ScriptCause.{ScriptCause}
 use Rattle.session_script.specs.declared.cause.ScriptFault.{ScriptFault}
 use Rattle.session_script.specs.declared.cause.ScriptFault.TheVariants.{At, NoMemory}

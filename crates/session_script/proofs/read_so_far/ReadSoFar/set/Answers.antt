@@ -1,4 +1,4 @@
-use Rattle.std.proofs.Common.{◌≡◌, ◌≤◌, arith, length, ◌++◌, ◌∷◌, [], sym, ap, ◌∙◌, subst}
+use Rattle.std.proofs.Common.{◌≤◌, arith, length, ◌++◌, ◌∷◌, [], sym, subst}
 use Rattle.session_script.specs.Settings.{AreSet}
 use Rattle.session_script.specs.Script.{ScriptData, data_of}
 use Rattle.session_script.proofs.SettingLemmas.{NoLeads, more_settings, fewer_settings, no_leads_after, sets_after}
