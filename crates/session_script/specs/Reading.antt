@@ -7,7 +7,12 @@ use Rattle.session_script.specs.declared.read_so_far.ReadSoFar.{ReadSoFar}
 use Rattle.session_script.specs.Script.{SoFar, data_of}
 
 abbrev pub so_far : ReadSoFar → SoFar
-so_far reading = record { counted = reading.counted; script = data_of reading.script }
+so_far reading = record {
+  counted = reading.counted;
+  settings = reading.settings.items;
+  posted = reading.posted;
+  script = data_of reading.script;
+}
 
 -- what was read after the line, or the line's cause, unless memory was refused
 abbrev pub ReadsLine : Result (Unit {0}) ScriptFault → ℕ → Result SoFar ScriptCause → SoFar → Type 0
