@@ -1,0 +1,4 @@
+pub mod Clocks
+pub mod Halts
+pub mod Views
+pub mod Next
