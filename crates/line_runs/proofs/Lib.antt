@@ -2,3 +2,6 @@ mod Holders
 mod Clients
 mod Serving
 mod Accepting
+mod Deciding
+mod Putting
+mod Answering
