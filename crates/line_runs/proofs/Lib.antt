@@ -5,3 +5,5 @@ mod Accepting
 mod Deciding
 mod Putting
 mod Answering
+mod Extending
+mod Working
