@@ -7,3 +7,4 @@ mod Putting
 mod Answering
 mod Extending
 mod Working
+mod Stepping
