@@ -8,3 +8,4 @@ mod Answering
 mod Extending
 mod Working
 mod Stepping
+mod Opening

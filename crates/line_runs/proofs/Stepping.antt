@@ -31,7 +31,7 @@ use Rattle.session_script.specs.declared.script.Verb.{Verb}
 use Rattle.isolation_laws.specs.Words.{ClientAt}
 use Rattle.line_runs.specs.declared.point.Point.{Point}
 use Rattle.line_runs.specs.declared.point.Point.TheVariants as point
-use Rattle.line_runs.specs.Halts.{halt_of, unless_halted}
+use Rattle.line_runs.specs.Halts.{halt_of, unless_halted, after_serving}
 use Rattle.line_runs.specs.Left.{asks_left, reads_left, steps_left, keys_of, of_client, client_completes, client_reads, client_steps, session_left}
 use Rattle.line_runs.proofs.Clients.{client_now, undo_long, finish_long}
 use Rattle.line_runs.proofs.Working.{ReadWork, SettleWork, CompleteWork, HasWork}
@@ -166,11 +166,12 @@ pub record FewerAsks (w : State) (s : ℕ) (c : Client) (step : Step) : Type 0 w
   pub clients : step.state.clients ≡ slice_set w.clients s now
   pub nodes : step.state.nodes ≡ w.nodes
   pub fewer : client_completes now < client_completes c
+  pub goes_on : after_serving (halt_of step.stop) ≡ point.Drives
 
 asks_fewer : (w : State) (s : ℕ) (fate : Fate) (c : Client) (k : CompleteWork c) → FewerAsks w s c (stores_step w s (complete_step c k.asked k.asks (met (Session s) k.asked fate w.rows w.pairs)))
-asks_fewer w s Works c k = record { now = after_asks c k.asks; clients = refl; nodes = refl; fewer = omega (arith, complete_after c k.asks, ap asks_left k.under_way) }
-asks_fewer w s FailsUnchanged c k = record { now = client_freed c; clients = refl; nodes = refl; fewer = omega (arith, ap asks_left k.under_way) }
-asks_fewer w s FailsApplied c k = record { now = client_freed c; clients = refl; nodes = refl; fewer = omega (arith, ap asks_left k.under_way) }
+asks_fewer w s Works c k = record { now = after_asks c k.asks; clients = refl; nodes = refl; fewer = omega (arith, complete_after c k.asks, ap asks_left k.under_way); goes_on = refl }
+asks_fewer w s FailsUnchanged c k = record { now = client_freed c; clients = refl; nodes = refl; fewer = omega (arith, ap asks_left k.under_way); goes_on = refl }
+asks_fewer w s FailsApplied c k = record { now = client_freed c; clients = refl; nodes = refl; fewer = omega (arith, ap asks_left k.under_way); goes_on = refl }
 
 pub completes_lower : (w : State) (s : ℕ) (fate : Fate) (c : Client) (k : CompleteWork c) → ClientAt w.clients s c → FewerAsks w s c (stepped w (event.Step s) fate)
 completes_lower w s fate c k at =
