@@ -9,3 +9,5 @@ mod Extending
 mod Working
 mod Stepping
 mod Opening
+mod Sweeping
+mod Driving
