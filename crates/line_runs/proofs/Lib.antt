@@ -11,3 +11,5 @@ mod Stepping
 mod Opening
 mod Sweeping
 mod Driving
+mod Doings
+mod Lowering
