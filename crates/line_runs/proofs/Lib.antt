@@ -13,3 +13,4 @@ mod Sweeping
 mod Driving
 mod Doings
 mod Lowering
+mod AllLower
