@@ -16,3 +16,5 @@ mod Lowering
 mod AllLower
 mod Timing
 pub mod Ending
+mod Plain
+mod PlainEvents
