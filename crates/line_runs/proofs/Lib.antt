@@ -18,3 +18,7 @@ mod Timing
 pub mod Ending
 mod Plain
 mod PlainEvents
+mod Fitting
+mod FittingSteps
+mod AlwaysFit
+mod OpeningItems
