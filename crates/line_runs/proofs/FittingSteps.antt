@@ -1,49 +1,22 @@
 -- A session's own events keep that an open transaction has an epoch.
-use Rattle.std.proofs.Common.{◌≡◌, ℕ, zero, suc, ◌+◌, Bool, true, false, List, [], ◌∷◌, Option, Some, None, Result, Ok, Err, refl, sym, ◌∙◌, ap, subst, arith, length}
-use Rattle.std.specs.Prelude.{slice_get, slice_set}
-use Rattle.std.proofs.lemmas.Option.{same_Some, none-some}
+use Rattle.std.proofs.Common.{ℕ, List, [], ◌∷◌, Option, Some, None}
 use Rattle.port_io.specs.declared.weather.Fate.{Fate}
 use Rattle.port_io.specs.declared.weather.Fate.TheVariants.{Works, FailsUnchanged, FailsApplied}
 use Rattle.history_book.specs.declared.cause.Cause.{Cause}
-use Rattle.history_book.specs.declared.cause.Cause.TheVariants as cause
-use Rattle.history_book.specs.declared.item.Item.{Item}
-use Rattle.store_parts.specs.declared.rows.Cell.{Cell}
 use Rattle.store_parts.specs.Rows.{Row, fetched, front_of}
 use Rattle.store_parts.specs.Pairs.{Pairs}
 use Rattle.client_parts.specs.declared.asks.Ask.{Ask}
-use Rattle.client_parts.specs.declared.asks.Told.{Told}
-use Rattle.client_parts.specs.declared.session.State.{State as SessionState}
-use Rattle.client_parts.specs.declared.session.State.TheVariants as phase
 use Rattle.client_parts.specs.declared.resolve.Outcome.TheVariants as outcome
-use Rattle.client_parts.specs.Resolve.{Settling, SettleTurn, Goes, Decides, settle_ask, settle_turn}
-use Rattle.client_parts.specs.KeyRead.{ReadTurn, Asks, Answers, read_over, read_told, read_ask}
-use Rattle.client_parts.specs.SessionSteps.{SessionEntry, asked_state, aborted_by, begin_refusal, work_refusal, step_refusal, vanish_refusal}
-use Rattle.oracle_parts.specs.declared.instance.Decided.{Decided}
-use Rattle.oracle_parts.specs.declared.instance.Held.{Held}
-use Rattle.oracle_parts.specs.declared.instance.Reply.{Reply}
-use Rattle.oracle_parts.specs.declared.instance.Reply.TheVariants as reply
-use Rattle.oracle_parts.specs.declared.instance.Request.{Request}
-use Rattle.oracle_parts.specs.declared.instance.Request.TheVariants.{Begin, Commit}
-use Rattle.oracle_parts.specs.Instance.{InstanceEntry, held_of, stamps_at}
-use Rattle.oracle_parts.specs.InstanceSteps.{InstanceStep, instance_ask, instance_accept, instance_decide, instance_answer}
-use Rattle.machine.specs.State.{UnderWay, Nothing, Reads, Settles, Completes, Client, State}
-use Rattle.machine.specs.Clients.{is_reading, client_begun, client_asked, client_freed, client_aborted, client_committed, client_opened, unless_gone, unless_gone_by, after_refusal}
-use Rattle.machine.specs.Events.AskBegin.{asked_by, begin_asked, ask_begin_by, ask_begin_on}
-use Rattle.machine.specs.Events.AskCommit.{commit_of, ask_commit_by, ask_commit_on}
-use Rattle.machine.specs.Events.Accept.{accept_by, accept_request, accept_on}
-use Rattle.machine.specs.Events.Decide.{decide_by, decide_request, decide_on}
-use Rattle.machine.specs.Events.Answer.{answer_by, answer_request, answer_on}
-use Rattle.machine.specs.Events.Crash.{after_loss, crashed_client, crashed_clients}
-use Rattle.machine.specs.Events.Write.{client_wrote, write_refused, write_open, write_on}
-use Rattle.machine.specs.Events.Fetch.{client_read, fetch_open, fetch_on}
-use Rattle.machine.specs.Events.Step.{client_settled, after_asks, work_of, step_at, step_by, step_on}
-use Rattle.machine.specs.Events.Heal.{offer_of, heal_at, heal_on}
-use Rattle.machine.specs.Events.Abort.{abort_by, abort_on}
-use Rattle.machine.specs.Events.Vanish.{vanish_by, vanish_on}
-use Rattle.machine.specs.declared.event.Event.{Event}
-use Rattle.machine.specs.declared.event.Event.TheVariants as event
-use Rattle.machine.specs.Machine.{Step, nothing, at_post, at_client, at_both, with_reading, reading_of, IsSteadyAt, stepped}
-use Rattle.line_runs.proofs.Fitting.{ClientFits, AllFit, fit_at, fit_set, aborted_fits, ask_begin_fits, ask_commit_fits, accept_fits, decide_fits, answer_fits, crash_fits, crash_long}
+use Rattle.client_parts.specs.Resolve.{Settling, SettleTurn, Goes, Decides, settle_turn}
+use Rattle.client_parts.specs.KeyRead.{ReadTurn, Asks, Answers, read_over, read_told}
+use Rattle.machine.specs.State.{UnderWay, Nothing, Reads, Settles, Completes, Client}
+use Rattle.machine.specs.Events.Write.{client_wrote, write_open}
+use Rattle.machine.specs.Events.Fetch.{client_read, fetch_open}
+use Rattle.machine.specs.Events.Step.{client_settled, after_asks, work_of, step_at, step_by}
+use Rattle.machine.specs.Events.Heal.{heal_at}
+use Rattle.machine.specs.Events.Abort.{abort_by}
+use Rattle.machine.specs.Events.Vanish.{vanish_by}
+use Rattle.line_runs.proofs.Fitting.{ClientFits, aborted_fits}
 
 pub write_fits : (s key : ℕ) (value : List ℕ) (fate : Fate) (c : Client) (rows : List Row) (why : Option Cause) (start : Option ℕ) → ClientFits c → ClientFits (write_open s key value fate c rows why start).parts.0
 write_fits s key value fate c rows (Some why) start fit = fit

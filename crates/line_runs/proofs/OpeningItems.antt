@@ -1,12 +1,9 @@
 -- The first item of an event that opens a line answers the line, and no other item of it opens one.
-use Rattle.std.proofs.Common.{◌≡◌, ℕ, Bool, true, false, cond, nat_lt, ◌||◌, List, [], ◌∷◌, ◌++◌, Option, Some, None, Result, Ok, Err, ◌⊎◌, inl, inr, refl, length}
-use Rattle.std.specs.Prelude.{slice_get}
+use Rattle.std.proofs.Common.{◌≡◌, ℕ, Bool, true, false, cond, List, [], ◌∷◌, Option, Some, None, Ok, ◌⊎◌, inl, inr, refl}
 use Rattle.stamp_base.specs.SetupNumbers.{SetupNumbers}
 use Rattle.port_io.specs.declared.weather.Fate.{Fate}
 use Rattle.port_io.specs.declared.weather.Fate.TheVariants.{Works, FailsUnchanged, FailsApplied}
-use Rattle.history_book.specs.declared.cause.Cause.{Cause}
 use Rattle.history_book.specs.declared.cause.Cause.TheVariants as cause
-use Rattle.history_book.specs.declared.item.Actor.{Actor}
 use Rattle.history_book.specs.declared.item.Actor.TheVariants.{Node, Session}
 use Rattle.history_book.specs.declared.item.Item.{Item}
 use Rattle.history_book.specs.declared.item.Item.TheVariants as item
@@ -16,22 +13,20 @@ use Rattle.store_parts.specs.declared.record.RenewRefused as renews
 use Rattle.store_parts.specs.Record.{MasterRecord, take_refused, granted, renew_refused, answered}
 use Rattle.client_parts.specs.declared.session.State.{State as SessionState}
 use Rattle.client_parts.specs.declared.session.State.TheVariants as phase
-use Rattle.client_parts.specs.SessionSteps.{begin_refusal, work_refusal, vanish_refusal}
+use Rattle.client_parts.specs.SessionSteps.{begin_refusal, vanish_refusal}
 use Rattle.oracle_parts.specs.declared.instance.Held.{Held}
 use Rattle.oracle_parts.specs.declared.instance.Request.{Request}
 use Rattle.oracle_parts.specs.declared.instance.Request.TheVariants.{Begin, Commit}
 use Rattle.oracle_parts.specs.Instance.{InstanceEntry, in_flight, session_of, with_request}
-use Rattle.oracle_parts.specs.InstanceSteps.{InstanceStep, stays, just_asked, instance_ask}
+use Rattle.oracle_parts.specs.InstanceSteps.{InstanceStep, stays, just_asked}
 use Rattle.machine.specs.State.{Client, State}
 use Rattle.machine.specs.Effect.{kept_items}
-use Rattle.machine.specs.Clients.{is_reading}
 use Rattle.machine.specs.Events.Take.{rules_of, take_item, take_by, take_on}
 use Rattle.machine.specs.Events.Renew.{renew_by, renew_on}
 use Rattle.machine.specs.Events.Crash.{loss_heard, loss_items, crashed_items, all_crashed_items, crash_on}
 use Rattle.machine.specs.Events.AskBegin.{asked_by, ask_begin_by, ask_begin_on}
-use Rattle.machine.specs.Events.AskCommit.{commit_of, ask_commit_by, ask_commit_on}
 use Rattle.machine.specs.Events.Vanish.{vanish_by, vanish_on}
-use Rattle.line_runs.specs.Answers.{opener, RefusesLine, IsRefusal, IsReadOnly, IsTake, IsRenew, IsCrash, IsVanish, IsAskBegin, IsAskCommit}
+use Rattle.line_runs.specs.Answers.{IsRefusal, IsTake, IsRenew, IsCrash, IsVanish, IsAskBegin}
 use Rattle.line_runs.proofs.Plain.{AllPlain, plain_append, one_plain, no_plain}
 
 -- the items begin with one of this kind, and none behind it opens a line

@@ -1,30 +1,18 @@
 -- Events on requests append no opening item of a line.
 use Rattle.std.proofs.Common.{◌≡◌, ℕ, Bool, true, false, List, [], ◌∷◌, ◌++◌, Option, Some, None, Result, Ok, Err, refl}
-use Rattle.std.specs.Prelude.{slice_get}
 use Rattle.stamp_base.specs.declared.stores.Mark.{Mark}
 use Rattle.port_io.specs.declared.weather.Fate.{Fate}
 use Rattle.port_io.specs.declared.weather.Fate.TheVariants.{Works, FailsUnchanged, FailsApplied}
-use Rattle.port_io.specs.Fates.{fated}
 use Rattle.history_book.specs.declared.cause.Cause.{Cause}
 use Rattle.history_book.specs.declared.cause.Cause.TheVariants as cause
 use Rattle.history_book.specs.declared.item.Actor.{Actor}
-use Rattle.history_book.specs.declared.item.Actor.TheVariants.{Session, Janitor}
+use Rattle.history_book.specs.declared.item.Actor.TheVariants.{Session}
 use Rattle.history_book.specs.declared.item.Item.{Item}
 use Rattle.history_book.specs.declared.item.Item.TheVariants as item
 use Rattle.store_parts.specs.declared.record.ExtendRefused.{ExtendRefused}
 use Rattle.store_parts.specs.declared.record.ExtendRefused.TheVariants.{StoreFault, Replaced, Spent}
-use Rattle.store_parts.specs.Record.{MasterRecord, extend_refused, extended, answered}
-use Rattle.store_parts.specs.Rows.{Row}
-use Rattle.store_parts.specs.Pairs.{Pairs, mark_of, put_pair}
-use Rattle.client_parts.specs.declared.asks.Ask.{Ask}
-use Rattle.client_parts.specs.declared.asks.Ask.TheVariants as ask
-use Rattle.client_parts.specs.declared.asks.Told.{Told}
-use Rattle.client_parts.specs.declared.asks.Told.TheVariants as told
-use Rattle.client_parts.specs.declared.resolve.Outcome.TheVariants as outcome
-use Rattle.client_parts.specs.Resolve.{SettleTurn, Goes, Decides, settle_ask, settle_turn}
-use Rattle.client_parts.specs.KeyRead.{ReadTurn, Asks, Answers, read_ask, read_told}
-use Rattle.client_parts.specs.SessionSteps.{work_refusal, step_refusal}
-use Rattle.client_parts.specs.Sweep.{Sweeping, sweep_ask, sweep_told, is_undecided}
+use Rattle.store_parts.specs.Record.{MasterRecord}
+use Rattle.store_parts.specs.Pairs.{Pairs, mark_of}
 use Rattle.oracle_parts.specs.declared.instance.Decided.{Decided}
 use Rattle.oracle_parts.specs.declared.instance.Held.{Held}
 use Rattle.oracle_parts.specs.declared.instance.Reply.{Reply}
@@ -34,25 +22,14 @@ use Rattle.oracle_parts.specs.declared.instance.Request.TheVariants.{Begin, Comm
 use Rattle.oracle_parts.specs.Instance.{InstanceEntry, held_of, stamps_at, was_told_not_yet}
 use Rattle.oracle_parts.specs.InstanceLaws.{stamp_of}
 use Rattle.oracle_parts.specs.InstanceSteps.{instance_accept, instance_decide, instance_answer}
-use Rattle.machine.specs.declared.event.Event.{Event}
-use Rattle.machine.specs.declared.event.Event.TheVariants as event
-use Rattle.machine.specs.State.{UnderWay, Nothing, Reads, Settles, Completes, Client, State}
+use Rattle.machine.specs.State.{Client, State}
 use Rattle.machine.specs.Effect.{refused_once, kept_items}
-use Rattle.machine.specs.Clients.{is_reading}
-use Rattle.machine.specs.StoreSteps.{mark_item, entry_of, step_item, mark_kept, effect_items, items_met, store_of, met, told_by}
-use Rattle.machine.specs.Machine.{Step, at_post, at_client, at_both, with_reading, stepped}
+use Rattle.machine.specs.Machine.{Step, at_post, at_client, at_both}
 use Rattle.machine.specs.Events.Accept.{accept_by, accept_request, accept_on}
 use Rattle.machine.specs.Events.Decide.{draw_item, decide_by, decide_request, decide_on}
 use Rattle.machine.specs.Events.Put.{to_place, put_by, put_commit, put_on}
 use Rattle.machine.specs.Events.Answer.{answer_by, answer_request, answer_on}
-use Rattle.machine.specs.Events.Extend.{extend_by, extend_on}
-use Rattle.machine.specs.Events.Take.{rules_of}
-use Rattle.machine.specs.Events.Fetch.{read_items}
-use Rattle.machine.specs.Events.Step.{settle_items, work_of, step_at, step_by, step_on}
-use Rattle.machine.specs.Events.Heal.{offer_of, heal_at, heal_on}
-use Rattle.machine.specs.Events.Abort.{abort_by, abort_on}
-use Rattle.machine.specs.Events.SweepOpen.{sweep_open_on}
-use Rattle.machine.specs.Events.SweepStep.{undecided_items, sweep_met, sweep_lists, sweep_at, sweep_step_on}
+use Rattle.machine.specs.Events.Extend.{extend_by}
 use Rattle.line_runs.specs.Answers.{opener}
 
 -- none of the items opens a line

@@ -1,21 +1,17 @@
 -- Events that open no line of an actor append no opening item: those on requests, steps, heals, aborts and sweeps.
-use Rattle.std.proofs.Common.{◌≡◌, ℕ, Bool, true, false, List, [], ◌∷◌, ◌++◌, Option, Some, None, Result, Ok, Err, refl}
+use Rattle.std.proofs.Common.{◌≡◌, ℕ, Bool, true, false, List, [], ◌∷◌, Option, Some, None, refl}
 use Rattle.std.specs.Prelude.{slice_get}
 use Rattle.stamp_base.specs.declared.stores.Mark.{Mark}
 use Rattle.port_io.specs.declared.weather.Fate.{Fate}
 use Rattle.port_io.specs.declared.weather.Fate.TheVariants.{Works, FailsUnchanged, FailsApplied}
-use Rattle.port_io.specs.Fates.{fated}
 use Rattle.history_book.specs.declared.cause.Cause.{Cause}
-use Rattle.history_book.specs.declared.cause.Cause.TheVariants as cause
 use Rattle.history_book.specs.declared.item.Actor.{Actor}
 use Rattle.history_book.specs.declared.item.Actor.TheVariants.{Session, Janitor}
-use Rattle.history_book.specs.declared.item.Item.{Item}
 use Rattle.history_book.specs.declared.item.Item.TheVariants as item
-use Rattle.store_parts.specs.declared.record.ExtendRefused.{ExtendRefused}
-use Rattle.store_parts.specs.declared.record.ExtendRefused.TheVariants.{StoreFault, Replaced, Spent}
-use Rattle.store_parts.specs.Record.{MasterRecord, extend_refused, extended, answered}
+use Rattle.store_parts.specs.declared.record.ExtendRefused.TheVariants.{StoreFault}
+use Rattle.store_parts.specs.Record.{extend_refused, answered}
 use Rattle.store_parts.specs.Rows.{Row}
-use Rattle.store_parts.specs.Pairs.{Pairs, mark_of, put_pair}
+use Rattle.store_parts.specs.Pairs.{Pairs}
 use Rattle.client_parts.specs.declared.asks.Ask.{Ask}
 use Rattle.client_parts.specs.declared.asks.Ask.TheVariants as ask
 use Rattle.client_parts.specs.declared.asks.Told.{Told}
@@ -25,32 +21,19 @@ use Rattle.client_parts.specs.Resolve.{SettleTurn, Goes, Decides, settle_ask, se
 use Rattle.client_parts.specs.KeyRead.{ReadTurn, Asks, Answers, read_ask, read_told}
 use Rattle.client_parts.specs.SessionSteps.{work_refusal, step_refusal}
 use Rattle.client_parts.specs.Sweep.{Sweeping, sweep_ask, sweep_told, is_undecided}
-use Rattle.oracle_parts.specs.declared.instance.Decided.{Decided}
-use Rattle.oracle_parts.specs.declared.instance.Held.{Held}
-use Rattle.oracle_parts.specs.declared.instance.Reply.{Reply}
-use Rattle.oracle_parts.specs.declared.instance.Reply.TheVariants as reply
-use Rattle.oracle_parts.specs.declared.instance.Request.{Request}
-use Rattle.oracle_parts.specs.declared.instance.Request.TheVariants.{Begin, Commit}
-use Rattle.oracle_parts.specs.Instance.{InstanceEntry, held_of, stamps_at, was_told_not_yet}
-use Rattle.oracle_parts.specs.InstanceLaws.{stamp_of}
-use Rattle.oracle_parts.specs.InstanceSteps.{instance_accept, instance_decide, instance_answer}
+use Rattle.oracle_parts.specs.Instance.{InstanceEntry}
 use Rattle.machine.specs.declared.event.Event.{Event}
 use Rattle.machine.specs.declared.event.Event.TheVariants as event
 use Rattle.machine.specs.State.{UnderWay, Nothing, Reads, Settles, Completes, Client, State}
-use Rattle.machine.specs.Effect.{refused_once, kept_items}
 use Rattle.machine.specs.Clients.{is_reading}
-use Rattle.machine.specs.StoreSteps.{mark_item, entry_of, step_item, mark_kept, effect_items, items_met, store_of, met, told_by}
-use Rattle.machine.specs.Machine.{Step, at_post, at_client, at_both, with_reading, stepped}
-use Rattle.machine.specs.Events.Accept.{accept_by, accept_request, accept_on}
-use Rattle.machine.specs.Events.Decide.{draw_item, decide_by, decide_request, decide_on}
-use Rattle.machine.specs.Events.Put.{to_place, put_by, put_commit, put_on}
-use Rattle.machine.specs.Events.Answer.{answer_by, answer_request, answer_on}
-use Rattle.machine.specs.Events.Extend.{extend_by, extend_on}
+use Rattle.machine.specs.StoreSteps.{mark_item, entry_of, step_item, mark_kept, items_met, met, told_by}
+use Rattle.machine.specs.Machine.{with_reading, stepped}
+use Rattle.machine.specs.Events.Extend.{extend_on}
 use Rattle.machine.specs.Events.Take.{rules_of}
 use Rattle.machine.specs.Events.Fetch.{read_items}
-use Rattle.machine.specs.Events.Step.{settle_items, work_of, step_at, step_by, step_on}
-use Rattle.machine.specs.Events.Heal.{offer_of, heal_at, heal_on}
-use Rattle.machine.specs.Events.Abort.{abort_by, abort_on}
+use Rattle.machine.specs.Events.Step.{settle_items, work_of, step_at, step_by}
+use Rattle.machine.specs.Events.Heal.{offer_of, heal_at}
+use Rattle.machine.specs.Events.Abort.{abort_by}
 use Rattle.machine.specs.Events.SweepOpen.{sweep_open_on}
 use Rattle.machine.specs.Events.SweepStep.{undecided_items, sweep_met, sweep_lists, sweep_at, sweep_step_on}
 use Rattle.line_runs.specs.Answers.{opener}
