@@ -22,3 +22,6 @@ mod Fitting
 mod FittingSteps
 mod AlwaysFit
 mod OpeningItems
+mod WorkItems
+mod Walks
+mod LaterEvents
