@@ -25,3 +25,4 @@ mod OpeningItems
 mod WorkItems
 mod Walks
 mod LaterEvents
+mod OpenedLines
