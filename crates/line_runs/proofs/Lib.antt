@@ -26,3 +26,5 @@ mod WorkItems
 mod Walks
 mod LaterEvents
 mod OpenedLines
+mod OwnItems
+mod ReadLines
