@@ -28,3 +28,5 @@ mod LaterEvents
 mod OpenedLines
 mod OwnItems
 mod ReadLines
+mod ReadSteps
+mod FetchLines

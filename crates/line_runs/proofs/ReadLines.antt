@@ -44,7 +44,7 @@ turn_key : (key start epoch : ℕ) (cells : List Cell) → OfKey key (turn_at ke
 turn_key key start epoch [] = tt
 turn_key key start epoch (c ∷ cs) = first_key key start epoch c cs ((c.version == start) || is_some c.shadow)
 
-over_key : (key start epoch : ℕ) (cells : List Cell) → OfKey key (read_over key start epoch cells)
+pub over_key : (key start epoch : ℕ) (cells : List Cell) → OfKey key (read_over key start epoch cells)
 over_key key start epoch cells = turn_key key start epoch (after_passed start cells)
 
 decided_key : (r : Reading) (c : ℕ) (by_table below : Bool) → OfKey r.key (cond below (Answers (found_by r.key r.cell c by_table)) (read_over r.key r.start r.epoch r.older))
@@ -56,7 +56,7 @@ settled_key r (Goes p) = refl
 settled_key r (Decides Dead) = over_key r.key r.start r.epoch r.older
 settled_key r (Decides (Committed c by_table)) = decided_key r c by_table (nat_lt c r.start)
 
-told_key : (r : Reading) (told : Told) → OfKey r.key (read_told r told)
+pub told_key : (r : Reading) (told : Told) → OfKey r.key (read_told r told)
 told_key r told = settled_key r (settle_turn (settling_of r) told)
 
 -- ---- a read under way
@@ -68,13 +68,13 @@ pub record ReadsKey (w : State) (s key : ℕ) : Type 0 where
   pub key_is : work.r.key ≡ key
 
 -- after a step the read has ended, or goes on
-abbrev pub EndsOrReads : State → ℕ → ℕ → List Item → Type 0
-EndsOrReads w s key items = Paid (Session s) key items ⊎ (AllNot (Session s) items × ReadsKey w s key)
+abbrev pub EndsOrReads : ℕ → ℕ → Step → Type 0
+EndsOrReads s key step = Paid (Session s) key step.items ⊎ (AllNot (Session s) step.items × ReadsKey step.state s key × (step.stop ≡ None))
 
 -- the items after those that the store's step shows
-ends_with : (s key : ℕ) (items : List Item) (x : Item) → AllPlain items → Paid (Session s) key (x ∷ []) → Paid (Session s) key (items ++ x ∷ [])
+pub ends_with : (s key : ℕ) (items : List Item) (x : Item) → AllPlain items → Paid (Session s) key (x ∷ []) → Paid (Session s) key (items ++ x ∷ [])
 ends_with s key items x plain ends = paid_before (Session s) key items (x ∷ []) (plain_not (Session s) items plain) ends
 
-read_pays : (s start key read : ℕ) (found : Option (ℕ × List ℕ)) → read ≡ key → Paid (Session s) key (item.Read s start read (Rattle.machine.specs.Events.Fetch.found_of found) ∷ [])
+pub read_pays : (s start key read : ℕ) (found : Option (ℕ × List ℕ)) → read ≡ key → Paid (Session s) key (item.Read s start read (Rattle.machine.specs.Events.Fetch.found_of found) ∷ [])
 unfolding Paid AllNot
 read_pays s start key read found is = inl ((refl, is), tt)

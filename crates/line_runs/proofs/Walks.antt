@@ -4,6 +4,7 @@ use Rattle.std.proofs.lemmas.Option.{none-some}
 use Rattle.history_book.specs.declared.item.Actor.{Actor}
 use Rattle.history_book.specs.declared.item.Item.{Item}
 use Rattle.session_script.specs.declared.script.Line.{Line}
+use Rattle.session_script.specs.declared.script.Verb.{Verb}
 use Rattle.line_runs.specs.Answers.{opener, Opens, IsAnswer, read_begun, EndsRead, Answered}
 use Rattle.line_runs.proofs.Plain.{AllPlain}
 
@@ -63,14 +64,14 @@ walks_behind actor None lines rest ys behind walks = walks_over actor lines rest
 walks_behind actor (Some key) lines rest ys behind walks = walks_read actor key lines rest ys behind walks
 
 -- the items of a line of the actor: the first answers it
-pub record LineItems (actor : Actor) (line : Line) (xs : List Item) : Type 0 where
+pub record LineItems (actor who : Actor) (verb : Verb) (xs : List Item) : Type 0 where
   pub first : Item
   pub rest : List Item
   pub is : xs ≡ first ∷ rest
-  pub answers : IsAnswer line.actor line.verb first
-  pub behind : Behind actor (read_begun line.verb first) rest
+  pub answers : IsAnswer who verb first
+  pub behind : Behind actor (read_begun verb first) rest
 
-pub walks_line : (actor : Actor) (line : Line) (lines : List Line) (xs ys : List Item) → LineItems actor line xs → Answered actor None lines ys → Answered actor None (line ∷ lines) (xs ++ ys)
+pub walks_line : (actor : Actor) (line : Line) (lines : List Line) (xs ys : List Item) → LineItems actor line.actor line.verb xs → Answered actor None lines ys → Answered actor None (line ∷ lines) (xs ++ ys)
 unfolding Answered
 walks_line actor line lines xs ys k walks = subst (λ (items : List Item). Answered actor None (line ∷ lines) (items ++ ys)) (sym k.is) (inl (k.answers, walks_behind actor (read_begun line.verb k.first) lines k.rest ys k.behind walks))
 
