@@ -54,7 +54,7 @@ tick_gone line at halt = tick_after line (follows line at halt) (followed_once l
 on_time : (P : State → List Item → Type 0) (script : ScriptData) (line : Line) (most : ℕ) (r : Run) → Going P script line most r → OnTime (clocks_of script r.played) script.setup.skew r.played.state.seen
 on_time P script line most r k = record { leads = k.leads; room = omega (arith, k.ahead, k.room); before = k.reached.seen }
 
-goes_on : (P : State → List Item → Type 0) (script : ScriptData) (line : Line) (most : ℕ) (r : Run) (e : Event) → Keeps P → Going P script line most r → next_in script line r ≡ Some e → Going P script line most (run_after script line r e)
+pub goes_on : (P : State → List Item → Type 0) (script : ScriptData) (line : Line) (most : ℕ) (r : Run) (e : Event) → Keeps P → Going P script line most r → next_in script line r ≡ Some e → Going P script line most (run_after script line r e)
 goes_on P script line most r e keeps k is =
     let p : Played = r.played in
     let skew : ℕ = script.setup.skew in

@@ -30,3 +30,4 @@ mod OwnItems
 mod ReadLines
 mod ReadSteps
 mod FetchLines
+mod OwnLines
