@@ -31,3 +31,5 @@ mod ReadLines
 mod ReadSteps
 mod FetchLines
 mod OwnLines
+mod LineWalks
+mod ScriptWalks

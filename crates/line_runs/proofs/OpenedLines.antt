@@ -22,25 +22,12 @@ use Rattle.isolation_laws.specs.Sound.{Stands}
 use Rattle.line_runs.specs.declared.point.Point.TheVariants.{Opens}
 use Rattle.line_runs.specs.declared.point.View.{View}
 use Rattle.line_runs.specs.Next.{Clocks, reading_at, target_node, next}
+use Rattle.line_runs.specs.Laws.{ActorFits, VerbFits}
 use Rattle.line_runs.specs.Answers.{IsRefusal, IsAnswer, has_opening}
 use Rattle.line_runs.proofs.Fitting.{ClientFits, fit_at}
 use Rattle.line_runs.proofs.AlwaysFit.{Fit, found}
 use Rattle.line_runs.proofs.OpeningItems.{Begins, alone, take_begins, renew_begins, crash_begins, ask_begin_begins, vanish_begins}
 use Rattle.line_runs.proofs.WorkItems.{HasNumber, starts, ask_commit_begins, write_begins, fetch_begins}
-
--- the actor is one of the system's, and so is the node that a session asks
-abbrev pub ActorFits : SetupNumbers → Actor → Type 0
-ActorFits setup (Node n) = n < setup.nodes
-ActorFits setup (Session s) = s < 16
-ActorFits setup _ = Unit {0}
-
-abbrev pub VerbFits : SetupNumbers → Verb → Type 0
-VerbFits setup (verb.Begin to) = target_node to < setup.nodes
-VerbFits setup (verb.Commit to) = target_node to < setup.nodes
-VerbFits setup (verb.Submit to) = target_node to < setup.nodes
-VerbFits setup (verb.AskBegin node) = node < setup.nodes
-VerbFits setup (verb.AskCommit node) = node < setup.nodes
-VerbFits setup _ = Unit {0}
 
 -- ---- parts that are there
 weaken : (A B : Item → Type 0) (xs : List Item) → ((x : Item) → A x → B x) → Begins A xs → Begins B xs

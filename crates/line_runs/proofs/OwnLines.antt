@@ -25,7 +25,8 @@ use Rattle.line_runs.specs.Answers.{IsAnswer, read_begun, has_opening}
 use Rattle.line_runs.proofs.AllLower.{followed_once}
 use Rattle.line_runs.proofs.AlwaysFit.{Fit, found}
 use Rattle.line_runs.proofs.OpeningItems.{Begins}
-use Rattle.line_runs.proofs.OpenedLines.{ActorFits, VerbFits, line_answered}
+use Rattle.line_runs.specs.Laws.{ActorFits, VerbFits}
+use Rattle.line_runs.proofs.OpenedLines.{line_answered}
 use Rattle.line_runs.proofs.PlainEvents.{events_plain}
 use Rattle.line_runs.proofs.LaterEvents.{IsLater, later_opens_none}
 use Rattle.line_runs.proofs.Walks.{AllNot, plain_not, not_append, Paid, paid_before, paid_behind, Behind, LineItems}
