@@ -1,0 +1,9 @@
+pub mod Clocks
+pub mod Halts
+pub mod Views
+pub mod Next
+pub mod Left
+pub mod Runs
+pub mod Answers
+pub mod Planned
+pub mod Laws
