@@ -1,6 +1,5 @@
 -- The fetch of a read line answers it; and then the read has ended, or is under way.
-use Rattle.std.proofs.Common.{◌≡◌, ℕ, Bool, true, false, List, [], ◌∷◌, ◌++◌, Option, Some, None, ◌⊎◌, inl, inr, refl, sym, ◌∙◌, ap, subst, length}
-use Rattle.std.specs.Prelude.{slice_get, slice_set}
+use Rattle.std.proofs.Common.{◌≡◌, ℕ, Bool, true, false, List, [], ◌∷◌, Option, Some, None, ◌⊎◌, inl, inr, refl, sym, subst, length}
 use Rattle.port_io.specs.declared.weather.Fate.{Fate}
 use Rattle.port_io.specs.declared.weather.Fate.TheVariants.{Works, FailsUnchanged, FailsApplied}
 use Rattle.history_book.specs.declared.cause.Cause.{Cause}
@@ -9,7 +8,7 @@ use Rattle.history_book.specs.declared.item.StoreStep.TheVariants as step
 use Rattle.history_book.specs.declared.item.Item.{Item}
 use Rattle.history_book.specs.declared.item.Item.TheVariants as item
 use Rattle.stamp_base.specs.declared.stores.Store.{Store}
-use Rattle.store_parts.specs.Rows.{Row, fetched, front_of}
+use Rattle.store_parts.specs.Rows.{fetched, front_of}
 use Rattle.client_parts.specs.declared.session.State.{State as SessionState}
 use Rattle.client_parts.specs.declared.session.State.TheVariants as phase
 use Rattle.client_parts.specs.KeyRead.{ReadTurn, Asks, Answers, read_over}
@@ -25,7 +24,7 @@ use Rattle.isolation_laws.specs.Sound.{Stands}
 use Rattle.isolation_laws.proofs.Lookups.{set_found}
 use Rattle.line_runs.specs.Answers.{RefusesLine, IsAnswer, read_begun}
 use Rattle.line_runs.proofs.Fitting.{fit_at}
-use Rattle.line_runs.proofs.AlwaysFit.{Fit, found}
+use Rattle.line_runs.proofs.AlwaysFit.{Fit}
 use Rattle.line_runs.proofs.WorkItems.{HasNumber, starts}
 use Rattle.line_runs.proofs.Walks.{AllNot, LineItems}
 use Rattle.line_runs.proofs.ReadLines.{OfKey, over_key, ReadsKey, read_pays}
@@ -54,15 +53,18 @@ fault_line s key store = record { first = item.Fault (Session s) store; rest = [
 
 turn_done : (w : State) (s key start cells : ℕ) (c : Client) (turn : ReadTurn) → ClientAt w.clients s c → c.entry.state ≡ phase.Open → OfKey key turn → FetchDone s key (record { state = with_client w s (client_read c turn); items = item.Step (Session s) (step.Fetch key cells) ∷ read_items s start key turn; stop = None })
 unfolding AllNot
-turn_done w s key start cells c (Asks r) at is_open same = inr (record {
-  first = item.Step (Session s) (step.Fetch key cells);
-  rest = [];
-  is = refl;
-  answers = inl (refl, refl);
-  begun = refl;
-  none = tt;
-  reads = record { c = client_read c (Asks r); at = set_found w.clients s (client_read c (Asks r)) c at; work = record { r = r; is_open = is_open; under_way = refl }; key_is = same };
-}, refl)
+turn_done w s key start cells c (Asks r) at is_open same = inr (
+  record {
+    first = item.Step (Session s) (step.Fetch key cells);
+    rest = [];
+    is = refl;
+    answers = inl (refl, refl);
+    begun = refl;
+    none = tt;
+    reads = record { c = client_read c (Asks r); at = set_found w.clients s (client_read c (Asks r)) c at; work = record { r = r; is_open = is_open; under_way = refl }; key_is = same };
+  },
+  refl,
+)
 turn_done w s key start cells c (Answers a) at is_open same = inl (record {
   first = item.Step (Session s) (step.Fetch key cells);
   rest = item.Read s start key (found_of a.found) ∷ [];

@@ -1,6 +1,5 @@
 -- Once a line has opened, its events open no line; nor does the first event of a line without an opening item.
-use Rattle.std.proofs.Common.{◌≡◌, ℕ, ◌+◌, ◌≤◌, ◌^◌, Bool, true, false, cond, Option, Some, None, refl, sym, subst, arith}
-use Rattle.std.specs.Prelude.{slice_index_or}
+use Rattle.std.proofs.Common.{◌≡◌, ℕ, Bool, true, false, cond, Option, Some, None, subst}
 use Rattle.history_book.specs.declared.item.Actor.{Actor}
 use Rattle.history_book.specs.declared.item.Actor.TheVariants.{Clock, Node, Session, Janitor}
 use Rattle.oracle_parts.specs.declared.instance.Place.{Place}
@@ -8,14 +7,12 @@ use Rattle.oracle_parts.specs.declared.instance.Place.TheVariants as place
 use Rattle.machine.specs.declared.event.Doing.{Doing}
 use Rattle.machine.specs.declared.event.Doing.TheVariants as doing
 use Rattle.machine.specs.declared.event.Event.{Event}
-use Rattle.machine.specs.declared.event.Event.TheVariants as event
 use Rattle.session_script.specs.declared.script.Verb.{Verb}
 use Rattle.session_script.specs.declared.script.Verb.TheVariants as verb
 use Rattle.line_runs.specs.declared.point.Point.{Point}
 use Rattle.line_runs.specs.declared.point.Point.TheVariants.{Opens, Drives, Extends, Finishes, Reads, Steps, Over}
 use Rattle.line_runs.specs.declared.point.View.{View}
-use Rattle.line_runs.specs.Next.{Clocks, reading_at, serves, is_served, finish_next, drive_next, extend_by, extend_next, idle_next, collect_next, read_next, steps_next, sweep_next, name_opens, clock_opens, node_opens, session_opens, janitor_opens, session_next, janitor_next, opens_alone, next}
-use Rattle.std.proofs.lemmas.Option.{none-some}
+use Rattle.line_runs.specs.Next.{Clocks, serves, is_served, finish_next, drive_next, extend_by, extend_next, idle_next, collect_next, read_next, steps_next, sweep_next, clock_opens, node_opens, session_opens, janitor_opens, session_next, janitor_next, opens_alone, next}
 use Rattle.line_runs.specs.Answers.{session_opening, node_opening, clock_opening, name_opening, has_opening}
 use Rattle.line_runs.proofs.PlainEvents.{OpensNone}
 

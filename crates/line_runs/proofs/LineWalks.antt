@@ -1,11 +1,10 @@
 -- What the run of a line appends: its answer and what belongs to it for the line's actor, and no opening item of any other.
-use Rattle.std.proofs.Common.{◌≡◌, ℕ, zero, suc, ◌+◌, ◌≤◌, ◌==◌, Bool, true, false, ◌&&◌, List, [], ◌∷◌, ◌++◌, append_assoc, Option, Some, None, ◌⊎◌, inl, inr, refl, sym, ◌∙◌, ap, subst}
+use Rattle.std.proofs.Common.{◌≡◌, ℕ, zero, suc, Bool, true, false, List, [], ◌++◌, append_assoc, Option, Some, None, ◌⊎◌, inl, inr, refl, sym, ◌∙◌, ap, subst}
 use Rattle.std.proofs.lemmas.Option.{none-some}
-use Rattle.std.proofs.lemmas.Bool.Decides.{eqb_tells}
 use Rattle.stamp_base.specs.SetupNumbers.{SetupNumbers}
 use Rattle.port_io.specs.declared.weather.Fate.{Fate}
 use Rattle.history_book.specs.declared.item.Actor.{Actor}
-use Rattle.history_book.specs.declared.item.Actor.TheVariants.{Clock, Node, Session, Janitor}
+use Rattle.history_book.specs.declared.item.Actor.TheVariants.{Session}
 use Rattle.history_book.specs.declared.item.Item.{Item}
 use Rattle.machine.specs.declared.event.Event.{Event}
 use Rattle.machine.specs.declared.event.Event.TheVariants as event
@@ -23,20 +22,19 @@ use Rattle.line_runs.specs.Halts.{halt_of, follows}
 use Rattle.line_runs.specs.Views.{view_of}
 use Rattle.line_runs.specs.Next.{Clocks, read_next, next}
 use Rattle.line_runs.specs.Answers.{Opens as OpensOf, same_actor, has_opening, is_of}
-use Rattle.line_runs.specs.Runs.{Played, fate_of, step_of, Run, clocks_of, next_in, run_after, going_on, run_for}
+use Rattle.line_runs.specs.Runs.{fate_of, step_of, Run, clocks_of, next_in, run_after, going_on, run_for}
 use Rattle.line_runs.specs.Laws.{ActorFits, VerbFits}
 use Rattle.line_runs.proofs.AlwaysFit.{Fit}
 use Rattle.line_runs.proofs.Ending.{Keeps, Going, goes_on}
 use Rattle.line_runs.proofs.OpenedLines.{line_answered}
 use Rattle.line_runs.proofs.OpeningItems.{Begins}
 use Rattle.line_runs.proofs.OwnItems.{answer_own}
-use Rattle.line_runs.proofs.OwnLines.{follows_later, ReadOn, AfterOpen, opens_line, line_longer, later_plain, read_longer, read_next_is, opens_some}
+use Rattle.line_runs.proofs.OwnLines.{follows_later, ReadOn, opens_line, line_longer, later_plain, read_longer, read_next_is, opens_some}
 use Rattle.line_runs.proofs.PlainEvents.{events_plain}
 use Rattle.line_runs.proofs.LaterEvents.{IsLater, first_opens_none}
 use Rattle.line_runs.proofs.Walks.{AllNot, plain_not, not_append, LineItems}
 use Rattle.line_runs.proofs.ReadLines.{EndsOrReads}
 use Rattle.line_runs.proofs.ReadSteps.{read_goes_on, read_has_next}
-use Rattle.line_runs.proofs.FetchLines.{ReadBegun}
 
 -- ---- what each event of a run keeps, the run keeps
 on_by : (P : State → List Item → Type 0) (script : ScriptData) (line : Line) (most : ℕ) (J : Run → Type 0) (r : Run) (on : Event → Run) → J r → ((e : Event) → next_in script line r ≡ Some e → J (on e)) → (found : Option Event) → next_in script line r ≡ found → J (going_on r found on)

@@ -1,8 +1,7 @@
 -- The first event of a line that has an opening item answers the line, where all that the line names is there.
-use Rattle.std.proofs.Common.{◌≡◌, ℕ, ◌<◌, Bool, true, false, List, [], ◌∷◌, Option, Some, None, ◌⊎◌, inl, inr, refl, sym, ◌∙◌, ap, subst, length}
+use Rattle.std.proofs.Common.{◌≡◌, ℕ, ◌<◌, true, List, Option, Some, ◌⊎◌, inl, inr, refl, sym, subst}
 use Rattle.std.specs.Prelude.{slice_get}
 use Rattle.std.proofs.lemmas.Option.{same_Some}
-use Rattle.stamp_base.specs.SetupNumbers.{SetupNumbers}
 use Rattle.port_io.specs.declared.weather.Fate.{Fate}
 use Rattle.history_book.specs.declared.item.Actor.{Actor}
 use Rattle.history_book.specs.declared.item.Actor.TheVariants.{Clock, Node, Session, Janitor}
@@ -17,17 +16,16 @@ use Rattle.machine.specs.State.{Client, State}
 use Rattle.machine.specs.Machine.{Step, at_post, at_client, at_both, with_reading, stepped}
 use Rattle.session_script.specs.declared.script.Verb.{Verb}
 use Rattle.session_script.specs.declared.script.Verb.TheVariants as verb
-use Rattle.isolation_laws.specs.Words.{ClientAt}
 use Rattle.isolation_laws.specs.Sound.{Stands}
 use Rattle.line_runs.specs.declared.point.Point.TheVariants.{Opens}
 use Rattle.line_runs.specs.declared.point.View.{View}
 use Rattle.line_runs.specs.Next.{Clocks, reading_at, target_node, next}
 use Rattle.line_runs.specs.Laws.{ActorFits, VerbFits}
-use Rattle.line_runs.specs.Answers.{IsRefusal, IsAnswer, has_opening}
-use Rattle.line_runs.proofs.Fitting.{ClientFits, fit_at}
+use Rattle.line_runs.specs.Answers.{IsAnswer, has_opening}
+use Rattle.line_runs.proofs.Fitting.{fit_at}
 use Rattle.line_runs.proofs.AlwaysFit.{Fit, found}
 use Rattle.line_runs.proofs.OpeningItems.{Begins, alone, take_begins, renew_begins, crash_begins, ask_begin_begins, vanish_begins}
-use Rattle.line_runs.proofs.WorkItems.{HasNumber, starts, ask_commit_begins, write_begins, fetch_begins}
+use Rattle.line_runs.proofs.WorkItems.{starts, ask_commit_begins, write_begins, fetch_begins}
 
 -- ---- parts that are there
 weaken : (A B : Item → Type 0) (xs : List Item) → ((x : Item) → A x → B x) → Begins A xs → Begins B xs

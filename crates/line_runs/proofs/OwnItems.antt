@@ -1,9 +1,8 @@
 -- An item that answers a line opens a line of no other actor.
-use Rattle.std.proofs.Common.{◌≡◌, ℕ, List, [], ◌∷◌, Option, Some, None, ◌⊎◌, inl, inr, refl, sym, ◌∙◌, ap}
+use Rattle.std.proofs.Common.{◌≡◌, ℕ, List, Some, None, inl, inr, refl, sym, ◌∙◌, ap}
 use Rattle.std.proofs.lemmas.Option.{same_Some, none-some}
 use Rattle.history_book.specs.declared.item.Actor.{Actor}
-use Rattle.history_book.specs.declared.item.Actor.TheVariants.{Clock, Node, Session, Janitor}
-use Rattle.history_book.specs.declared.item.Ending.TheVariants.{ReadOnly}
+use Rattle.history_book.specs.declared.item.Actor.TheVariants.{Clock, Node, Session}
 use Rattle.history_book.specs.declared.item.Note.{Note}
 use Rattle.history_book.specs.declared.item.Note.TheVariants as note
 use Rattle.history_book.specs.declared.item.StoreStep.TheVariants as step

@@ -1,6 +1,6 @@
 -- The items of a line that has an opening item: its first answers it, and a read that it has begun ends.
-use Rattle.std.proofs.Common.{◌≡◌, ℕ, ◌<◌, Bool, true, false, List, [], ◌∷◌, ◌++◌, append_assoc, Option, Some, None, ◌⊎◌, inl, inr, refl, sym, ◌∙◌, ap, subst}
-use Rattle.std.proofs.lemmas.Option.{same_Some, none-some}
+use Rattle.std.proofs.Common.{◌≡◌, ℕ, ◌<◌, true, List, ◌++◌, Option, Some, None, ◌⊎◌, inl, inr, refl, sym, ◌∙◌, ap, subst}
+use Rattle.std.proofs.lemmas.Option.{same_Some}
 use Rattle.port_io.specs.declared.weather.Fate.{Fate}
 use Rattle.history_book.specs.declared.item.Actor.{Actor}
 use Rattle.history_book.specs.declared.item.Actor.TheVariants.{Clock, Node, Session, Janitor}
@@ -10,15 +10,13 @@ use Rattle.machine.specs.declared.event.Event.TheVariants as event
 use Rattle.machine.specs.State.{State}
 use Rattle.machine.specs.Machine.{Step, stepped}
 use Rattle.machine.specs.Readers.{doing_of}
-use Rattle.session_script.specs.declared.script.Line.{Line}
 use Rattle.session_script.specs.declared.script.Verb.{Verb}
 use Rattle.session_script.specs.declared.script.Verb.TheVariants as verb
 use Rattle.isolation_laws.specs.Sound.{Stands}
 use Rattle.line_runs.specs.declared.point.Point.{Point}
-use Rattle.line_runs.specs.declared.point.Point.TheVariants.{Opens, Drives, Extends, Finishes, Reads, Steps, Over}
+use Rattle.line_runs.specs.declared.point.Point.TheVariants.{Opens}
 use Rattle.line_runs.specs.declared.point.View.{View}
 use Rattle.line_runs.specs.Halts.{halt_of, follows}
-use Rattle.line_runs.specs.Views.{view_of}
 use Rattle.line_runs.specs.Next.{Clocks, read_next, next}
 use Rattle.line_runs.specs.Left.{one_left}
 use Rattle.line_runs.specs.Answers.{IsAnswer, read_begun, has_opening}
@@ -29,10 +27,10 @@ use Rattle.line_runs.specs.Laws.{ActorFits, VerbFits}
 use Rattle.line_runs.proofs.OpenedLines.{line_answered}
 use Rattle.line_runs.proofs.PlainEvents.{events_plain}
 use Rattle.line_runs.proofs.LaterEvents.{IsLater, later_opens_none}
-use Rattle.line_runs.proofs.Walks.{AllNot, plain_not, not_append, Paid, paid_before, paid_behind, Behind, LineItems}
+use Rattle.line_runs.proofs.Walks.{AllNot, plain_not, not_append, paid_before, paid_behind, Behind, LineItems}
 use Rattle.line_runs.proofs.ReadLines.{ReadsKey, EndsOrReads}
-use Rattle.line_runs.proofs.ReadSteps.{read_goes_on, read_has_next}
-use Rattle.line_runs.proofs.FetchLines.{ReadBegun, FetchDone, fetch_done}
+use Rattle.line_runs.proofs.ReadSteps.{read_has_next}
+use Rattle.line_runs.proofs.FetchLines.{ReadBegun, fetch_done}
 
 -- ---- a run that has opened
 later_of : (at : Point) → one_left at ≡ 0 → IsLater at
@@ -99,15 +97,18 @@ read_longer w s key xs step k (inl paid) = inl (record {
   answers = k.answers;
   behind = subst (λ (begun : Option ℕ). Behind (Session s) begun (k.rest ++ step.items)) (sym k.begun) (paid_before (Session s) key k.rest step.items k.none paid);
 })
-read_longer w s key xs step k (inr on) = inr (record {
-  first = k.first;
-  rest = k.rest ++ step.items;
-  is = ap (λ (ys : List Item). ys ++ step.items) k.is;
-  answers = k.answers;
-  begun = k.begun;
-  none = not_append (Session s) k.rest step.items k.none on.0;
-  reads = on.1;
-}, on.2)
+read_longer w s key xs step k (inr on) = inr (
+  record {
+    first = k.first;
+    rest = k.rest ++ step.items;
+    is = ap (λ (ys : List Item). ys ++ step.items) k.is;
+    answers = k.answers;
+    begun = k.begun;
+    none = not_append (Session s) k.rest step.items k.none on.0;
+    reads = on.1;
+  },
+  on.2,
+)
 
 -- the next event of a read under way
 pub read_next_is : (w : State) (s key : ℕ) (e : Event) → ReadsKey w s key → read_next s (doing_of w s) ≡ Some e → event.Step s ≡ e

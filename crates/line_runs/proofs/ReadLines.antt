@@ -1,33 +1,19 @@
 -- A read that a line has begun ends with its value or with a fault: its fetch, and each of its steps.
-use Rattle.std.proofs.Common.{◌≡◌, ℕ, Bool, true, false, cond, nat_lt, ◌==◌, ◌||◌, is_some, List, [], ◌∷◌, ◌++◌, Option, Some, None, ◌⊎◌, inl, inr, refl, sym, ◌∙◌, ap, subst, length}
-use Rattle.std.specs.Prelude.{slice_get, slice_set}
-use Rattle.std.proofs.lemmas.Option.{same_Some, none-some}
-use Rattle.port_io.specs.declared.weather.Fate.{Fate}
-use Rattle.port_io.specs.declared.weather.Fate.TheVariants.{Works, FailsUnchanged, FailsApplied}
+use Rattle.std.proofs.Common.{◌≡◌, ℕ, Bool, true, false, cond, nat_lt, ◌==◌, ◌||◌, is_some, List, [], ◌∷◌, ◌++◌, Option, None, ◌⊎◌, inl, refl}
 use Rattle.history_book.specs.declared.item.Actor.TheVariants.{Session}
 use Rattle.history_book.specs.declared.item.Item.{Item}
 use Rattle.history_book.specs.declared.item.Item.TheVariants as item
 use Rattle.store_parts.specs.declared.rows.Cell.{Cell}
-use Rattle.store_parts.specs.Rows.{Row, fetched, front_of}
 use Rattle.client_parts.specs.declared.asks.Told.{Told}
 use Rattle.client_parts.specs.declared.resolve.Outcome.TheVariants.{Committed, Dead}
-use Rattle.client_parts.specs.declared.session.State.TheVariants as phase
 use Rattle.client_parts.specs.Resolve.{SettleTurn, Goes, Decides, settle_turn}
-use Rattle.client_parts.specs.KeyRead.{Reading, ReadTurn, Asks, Answers, found_cell, found_by, settling_of, after_passed, turn_at, read_over, read_by, read_told, read_ask}
-use Rattle.client_parts.specs.SessionSteps.{step_refusal}
-use Rattle.machine.specs.declared.event.Event.TheVariants as event
-use Rattle.machine.specs.State.{Reads, Client, State}
-use Rattle.machine.specs.Clients.{is_reading}
-use Rattle.machine.specs.StoreSteps.{items_met, mark_kept, store_of, met, told_by}
-use Rattle.machine.specs.Machine.{Step, stepped}
+use Rattle.client_parts.specs.KeyRead.{Reading, ReadTurn, Asks, Answers, found_cell, found_by, settling_of, after_passed, turn_at, read_over, read_by, read_told}
+use Rattle.machine.specs.State.{Client, State}
+use Rattle.machine.specs.Machine.{Step}
 use Rattle.machine.specs.Events.Fetch.{client_read, read_items}
-use Rattle.machine.specs.Events.Step.{read_step}
 use Rattle.isolation_laws.specs.Words.{ClientAt}
-use Rattle.isolation_laws.proofs.Lookups.{set_found}
-use Rattle.line_runs.proofs.Plain.{AllPlain, one_plain, no_plain}
-use Rattle.line_runs.proofs.PlainEvents.{met_plain}
+use Rattle.line_runs.proofs.Plain.{AllPlain}
 use Rattle.line_runs.proofs.Working.{ReadWork}
-use Rattle.line_runs.proofs.Stepping.{stores_step, step_is}
 use Rattle.line_runs.proofs.Walks.{AllNot, plain_not, Paid, paid_before}
 
 -- ---- a read keeps its key

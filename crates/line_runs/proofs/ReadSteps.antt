@@ -1,20 +1,17 @@
 -- A step of a read that a line has begun ends it with its value or with a fault, or leaves a read of the same key; and such a
 -- read has a next step.
-use Rattle.std.proofs.Common.{◌≡◌, ℕ, Bool, true, List, [], ◌∷◌, ◌++◌, Option, Some, None, ◌⊎◌, inl, inr, refl, sym, ◌∙◌, ap, subst}
-use Rattle.std.specs.Prelude.{slice_get, slice_set}
+use Rattle.std.proofs.Common.{◌≡◌, ℕ, Bool, true, [], ◌∷◌, ◌++◌, Option, Some, None, inl, inr, refl, sym, ◌∙◌, ap, subst}
 use Rattle.stamp_base.specs.declared.stores.Store.{Store}
 use Rattle.port_io.specs.declared.weather.Fate.{Fate}
 use Rattle.port_io.specs.declared.weather.Fate.TheVariants.{Works, FailsUnchanged, FailsApplied}
 use Rattle.history_book.specs.declared.item.Actor.TheVariants.{Session}
-use Rattle.history_book.specs.declared.item.Item.{Item}
 use Rattle.history_book.specs.declared.item.Item.TheVariants as item
 use Rattle.client_parts.specs.declared.asks.Told.{Told}
 use Rattle.client_parts.specs.declared.session.State.{State as SessionState}
-use Rattle.client_parts.specs.KeyRead.{Reading, ReadTurn, Asks, Answers, read_told, read_ask}
+use Rattle.client_parts.specs.KeyRead.{ReadTurn, Asks, Answers, read_told, read_ask}
 use Rattle.client_parts.specs.SessionSteps.{step_refusal}
-use Rattle.machine.specs.declared.event.Event.{Event}
 use Rattle.machine.specs.declared.event.Event.TheVariants as event
-use Rattle.machine.specs.State.{UnderWay, Reads, Client, State}
+use Rattle.machine.specs.State.{Reads, Client, State}
 use Rattle.machine.specs.Clients.{is_reading, is_reading_by}
 use Rattle.machine.specs.StoreSteps.{items_met, mark_kept, rows_after, pairs_after, store_of, met, told_by}
 use Rattle.machine.specs.Machine.{Step, with_client, stepped}

@@ -1,17 +1,15 @@
 -- The history of a script answers its lines.
-use Rattle.std.proofs.Common.{◌≡◌, ◌≢◌, ℕ, ◌+◌, ◌≤◌, ◌^◌, ◌==◌, Bool, true, false, ◌&&◌, cond, List, [], ◌∷◌, ◌++◌, append_assoc, Option, Some, None, ◌⊎◌, inl, inr, refl, sym, ◌∙◌, ap, subst, arith}
+use Rattle.std.proofs.Common.{◌≡◌, ℕ, ◌+◌, ◌≤◌, ◌^◌, ◌==◌, Bool, true, false, ◌&&◌, cond, List, [], ◌∷◌, ◌++◌, append_assoc, None, inl, inr, refl, sym, ◌∙◌, ap, subst, arith}
 use Rattle.std.specs.Prelude.{filter}
 use Rattle.std.proofs.lemmas.List.{append-nil}
 use Rattle.std.proofs.lemmas.Bool.Decides.{eqb_tells}
-use Rattle.stamp_base.specs.SetupNumbers.{SetupNumbers, AreInRange}
 use Rattle.history_book.specs.declared.item.Actor.{Actor}
 use Rattle.history_book.specs.declared.item.Actor.TheVariants.{Clock, Node, Session, Janitor}
 use Rattle.history_book.specs.declared.item.Item.{Item}
 use Rattle.session_script.specs.declared.script.Line.{Line}
 use Rattle.session_script.specs.Script.{ScriptData}
-use Rattle.line_runs.specs.declared.point.Point.TheVariants.{Opens}
 use Rattle.line_runs.specs.Answers.{same_actor, has_opening, is_of, Answered}
-use Rattle.line_runs.specs.Runs.{Played, Run, left_in, opened, line_run, lines_played, opening_played, script_played, replayed}
+use Rattle.line_runs.specs.Runs.{Played, left_in, opened, line_run, lines_played, opening_played, script_played}
 use Rattle.line_runs.specs.Laws.{EventsLowerWhatIsLeft, tick_of, ticks_of, IsPlayable, IsReached, ActorFits, VerbFits, AreLinesOf, LinesAreAnswered}
 use Rattle.line_runs.proofs.AlwaysFit.{Fit, fit_stays, fit_at_first}
 use Rattle.line_runs.proofs.Ending.{Keeps, Going, Ended, line_ends, opening_reached}

@@ -5,7 +5,7 @@ use Rattle.history_book.specs.declared.item.Actor.{Actor}
 use Rattle.history_book.specs.declared.item.Item.{Item}
 use Rattle.session_script.specs.declared.script.Line.{Line}
 use Rattle.session_script.specs.declared.script.Verb.{Verb}
-use Rattle.line_runs.specs.Answers.{opener, Opens, IsAnswer, read_begun, EndsRead, Answered}
+use Rattle.line_runs.specs.Answers.{Opens, IsAnswer, read_begun, EndsRead, Answered}
 use Rattle.line_runs.proofs.Plain.{AllPlain}
 
 -- none of the items opens a line of the actor
