@@ -234,6 +234,17 @@ fn keeps_the_rules_on_names(rt: HostRuntime) -> Result<(), Fail> {
 }
 
 #[test]
+fn reads_very_many_names(rt: HostRuntime) -> Result<(), Fail> {
+    let mut bytes = Vec::new(rt.alloc());
+    for number in 0..65_536 {
+        let lines = format!(in rt.alloc(); "a post n{number}\nb await n{number}\n")?;
+        bytes.extend_from_slice(lines.as_bytes())?;
+    }
+    assert_eq!(rt; outcome(&rt, &bytes, Mode::Run)?, Ok(131_072));
+    Ok(())
+}
+
+#[test]
 fn plans_at_most_32_faults(rt: HostRuntime) -> Result<(), Fail> {
     let mut bytes = Vec::new(rt.alloc());
     for number in 1..33 {
