@@ -1,0 +1,4 @@
+mod Holders
+mod Clients
+mod Serving
+mod Accepting

@@ -1,0 +1,73 @@
+-- An event that serves a request lowers what is left: what all of them have in common.
+use Rattle.std.proofs.Common.{◌≡◌, ℕ, ◌+◌, ◌<◌, ◌≤◌, ◌==◌, nat_lt, nat_le, Bool, true, false, ◌&&◌, cond, List, [], ◌∷◌, Option, Some, None, is_none, Result, Ok, Err, ◌⊎◌, inl, inr, refl, sym, ◌∙◌, ap, subst, arith}
+use Rattle.std.specs.Prelude.{slice_get, slice_set}
+use Rattle.std.proofs.lemmas.Option.{same_Some, none-some}
+use Rattle.port_io.specs.declared.weather.Fate.{Fate}
+use Rattle.history_book.specs.declared.cause.Cause.{Cause}
+use Rattle.history_book.specs.declared.cause.Cause.TheVariants as cause
+use Rattle.history_book.specs.declared.item.Item.{Item}
+use Rattle.oracle_parts.specs.declared.buckets.Verdict.{Verdict}
+use Rattle.oracle_parts.specs.declared.buckets.Verdict.TheVariants.{Free, Conflict, Hidden}
+use Rattle.oracle_parts.specs.declared.instance.Decided.{Decided}
+use Rattle.oracle_parts.specs.declared.instance.Held.{Held}
+use Rattle.oracle_parts.specs.declared.instance.Place.{Place}
+use Rattle.oracle_parts.specs.declared.instance.Place.TheVariants as place
+use Rattle.oracle_parts.specs.declared.instance.Progress.{Progress}
+use Rattle.oracle_parts.specs.declared.instance.Progress.TheVariants as progress
+use Rattle.oracle_parts.specs.declared.instance.Request.{Request}
+use Rattle.oracle_parts.specs.declared.instance.Request.TheVariants.{Begin, Commit}
+use Rattle.oracle_parts.specs.Instance.{InstanceEntry, held_of, with_request, place_of_progress}
+use Rattle.oracle_parts.specs.InstanceSteps.{InstanceStep, moved, epoch_refusal, accept_refusal, accept_unless, accept_if_asked, accept_held, instance_accept}
+use Rattle.machine.specs.declared.event.Event.TheVariants as event
+use Rattle.machine.specs.State.{Client, State}
+use Rattle.machine.specs.Effect.{Effect}
+use Rattle.machine.specs.Clients.{after_refusal}
+use Rattle.machine.specs.Machine.{Step, step_by, with_post, with_client, with_reading, at_both, stepped}
+use Rattle.machine.specs.Events.Accept.{accept_by, accept_request, accept_on}
+use Rattle.machine.specs.Readers.{place_of}
+use Rattle.session_script.specs.declared.script.Verb.{Verb}
+use Rattle.isolation_laws.specs.Words.{InstanceAt, ClientAt}
+use Rattle.isolation_laws.specs.Sound.{Stands}
+use Rattle.isolation_laws.proofs.Lookups.{set_found, held_set, held_by}
+use Rattle.line_runs.specs.Halts.{halt_of, after_serving}
+use Rattle.line_runs.specs.Left.{of_client, keys_of, client_completes, client_ends, lacks_stamps, place_left, drive_left, session_left}
+use Rattle.line_runs.proofs.Holders.{Holder, Served, Changed, drives_on, driven}
+use Rattle.line_runs.proofs.Clients.{client_now, refused_left}
+
+-- what is left after a step that serves a request is less than it was to drive
+abbrev pub Lowers : State → ℕ → Verb → Step → Type 0
+Lowers w s verb step = session_left step.state s verb (after_serving (halt_of step.stop)) < drive_left w s
+
+-- a request that is served: the state is reached, the node holds it, and its client is there
+pub record Serving (w : State) (h : List Item) (s : ℕ) (request : ℕ × Place) : Type 0 where
+  pub stands : Stands w h
+  pub at : place_of w s ≡ Some request
+  pub served : Served w s request
+  pub c : Client
+  pub client_at : ClientAt w.clients s c
+
+pub left_to_drive : (w : State) (h : List Item) (s : ℕ) (request : ℕ × Place) (k : Serving w h s request) → drive_left w s ≡ place_left (lacks_stamps k.served.holder.i) request.1 + client_ends k.c
+left_to_drive w h s request k = driven w s request k.c k.served.holder.i k.at k.client_at k.served.holder.at
+
+pub serving_changed : (w left : State) (h : List Item) (s : ℕ) (request : ℕ × Place) (k : Serving w h s request) (now : InstanceEntry) → left.nodes ≡ slice_set w.nodes request.0 (Some now) → Changed w left h request.0 s now
+serving_changed w left h s request k now nodes = record { stands = k.stands; held = k.served.held; holder = k.served.holder; nodes = nodes }
+
+-- ---- the step as an effect on the node and the client
+abbrev pub node_step : State → ℕ → ℕ → Effect (Option InstanceEntry × Client) → Step
+node_step u node s effect = step_by effect (λ (p : Option InstanceEntry × Client). with_client (with_post u node p.0) s p.1)
+
+-- ---- a request goes on
+-- as it is held now by the instance, the client being what it was
+pub goes_on : (w left : State) (h : List Item) (s : ℕ) (request : ℕ × Place) (k : Serving w h s request) (i now : InstanceEntry) (held : Held) → left.nodes ≡ slice_set w.nodes request.0 (Some now) → slice_get left.clients s ≡ Some k.c → now.requests ≡ (with_request i s (Some held)).requests → place_left (lacks_stamps now) (place_of_progress held.progress) + client_ends k.c < drive_left w s → drive_left left s < drive_left w s
+goes_on w left h s request k i now held nodes client requests less =
+    drives_on w left h request.0 s now (drive_left w s) (serving_changed w left h s request k now nodes) (λ (other : Held) has. elim (held_set i s s (Some held) other (ap (λ (held_now : List (Option Held)). held_of (record i { requests = held_now }) s) (sym requests) ∙ has)) [
+      | inl here ↦ subst (λ (x : Held). place_left (lacks_stamps now) (place_of_progress x.progress) + of_client (slice_get left.clients s) client_ends < drive_left w s) (same_Some held other here.1) (subst (λ (found : Option Client). place_left (lacks_stamps now) (place_of_progress held.progress) + of_client found client_ends < drive_left w s) (sym client) less)
+      | inr there ↦ absurd (there.0 refl)
+    ]) (subst (λ (found : Option Client). of_client found client_completes < drive_left w s) (sym client) (omega (arith, less)))
+
+-- ---- a request ends with a refusal
+pub ends_so : (w left : State) (s : ℕ) (c now : Client) → ClientAt w.clients s c → left.clients ≡ slice_set w.clients s now → client_completes now ≤ client_ends c → client_ends c < drive_left w s → of_client (slice_get left.clients s) client_completes < drive_left w s
+ends_so w left s c now at clients fewer less =
+    let is : of_client (slice_get left.clients s) client_completes ≡ client_completes now = ap (λ (cs : List Client). of_client (slice_get cs s) client_completes) clients ∙ client_now w.clients s c now client_completes at in
+    omega (arith, is, fewer, less)
+

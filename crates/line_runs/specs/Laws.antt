@@ -1,0 +1,60 @@
+-- Every run ends, and what a script comes to keeps all facts.
+use Rattle.std.specs.Prelude.{◌≡◌, ℕ, ◌+◌, ◌<◌, ◌≤◌, ◌^◌, All, List, [], ◌∷◌, slice_index_or, Option, None, Some}
+use Rattle.stamp_base.specs.SetupNumbers.{AreInRange}
+use Rattle.port_io.specs.declared.weather.Fate.{Fate}
+use Rattle.history_book.specs.declared.item.Actor.{Actor}
+use Rattle.history_book.specs.declared.item.Item.{Item}
+use Rattle.machine.specs.declared.event.Event.{Event}
+use Rattle.machine.specs.State.{State}
+use Rattle.machine.specs.Machine.{stepped}
+use Rattle.session_script.specs.declared.script.Line.{Line}
+use Rattle.session_script.specs.declared.script.Verb.{Verb}
+use Rattle.session_script.specs.declared.script.Verb.TheVariants as verb
+use Rattle.session_script.specs.Script.{ScriptData}
+use Rattle.isolation_laws.specs.Sound.{Stands}
+use Rattle.line_runs.specs.declared.point.Point.{Point}
+use Rattle.line_runs.specs.Halts.{halt_of, follows}
+use Rattle.line_runs.specs.Views.{view_of}
+use Rattle.line_runs.specs.Next.{Clocks, next}
+use Rattle.line_runs.specs.Left.{left}
+use Rattle.line_runs.specs.Runs.{Played, Run, next_in, opened, line_run, lines_played, script_played, replayed}
+
+-- each event that a run makes lowers what is left, in every state that is reached, under every fate
+abbrev pub EventsLowerWhatIsLeft : Type 0
+EventsLowerWhatIsLeft =
+    (w : State) (h : List Item) (clocks : Clocks) (actor : Actor) (verb : Verb) (point : Point) (e : Event) (fate : Fate) → Stands w h → next clocks actor verb point (view_of w actor) ≡ Some e →
+    left (stepped w e fate).state actor verb (follows verb point (halt_of (stepped w e fate).stop)) < left w actor verb point
+
+-- ---- what is asked of a script: its numbers are in range, no clock is ahead by more than the skew, and its ticks are few
+abbrev pub tick_of : Verb → ℕ
+tick_of (verb.Tick by) = by
+tick_of _ = 0
+
+unfoldable pub ticks_of : List Line → ℕ
+ticks_of [] = 0
+ticks_of (line ∷ lines) = tick_of line.verb + ticks_of lines
+
+pub record IsPlayable (script : ScriptData) (clock : ℕ) (lines : List Line) : Type 0 where
+  pub leads : (node : ℕ) → slice_index_or script.leads node 0 ≤ script.setup.skew
+  pub ticks : clock + ticks_of lines + script.setup.skew ≤ 2 ^ 61
+
+-- what was played is reached: all facts hold, by the setup of the script, and no reading was ahead of the clock by more than
+-- the skew
+pub record IsReached (script : ScriptData) (p : Played) : Type 0 where
+  pub stands : Stands p.state p.items
+  pub setup : p.state.setup ≡ script.setup
+  pub seen : p.state.seen ≤ p.clock + script.setup.skew
+
+-- the run of a line goes to its end
+abbrev pub RunsEnd : Type 0
+RunsEnd =
+    (script : ScriptData) (line : Line) (p : Played) → IsReached script p → IsPlayable script p.clock (line ∷ []) → next_in script line (line_run script line p) ≡ None
+
+-- the lines of a script lead from what is reached to what is reached
+abbrev pub LinesKeepFacts : Type 0
+LinesKeepFacts =
+    (script : ScriptData) (lines : List Line) (p : Played) → IsReached script p → IsPlayable script p.clock lines → IsReached script (lines_played script lines p)
+
+-- so does a whole script
+abbrev pub ScriptsAreReached : Type 0
+ScriptsAreReached = (script : ScriptData) → AreInRange script.setup → IsPlayable script 0 script.lines → IsReached script (script_played script)

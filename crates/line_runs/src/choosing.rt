@@ -1,0 +1,328 @@
+// The next event of a line.
+ghost use Rattle.std.specs.Prelude.{◌≡◌, ◌≤◌, ◌^◌};
+ghost use Rattle.line_runs.specs.Next as next;
+ghost use Rattle.line_runs.specs.Clocks.{clocks, TicksWithin, HaveRoom};
+
+use crate::point::{Point, View};
+use history_book::{Actor, Note};
+use machine::{Doing, Event};
+use oracle_parts::Place;
+use session_script::{Line, Target, Verb};
+use stamp_base::{NodeNo, SessionNo};
+
+/// The event that the run of the line makes next from this point on; None where the run is over. The base clock and the leads
+/// of the nodes' clocks give the readings.
+pub fn next_event(base: u64, leads: &[u64], line: &Line, point: Point, view: &View) -> Option<Event>
+    requires { HaveRoom base leads.now line.now.verb }
+    ensures { result ≡ next.next (clocks base leads.now) line.now.actor line.now.verb point view.now }
+{
+    match line.actor {
+        Actor::Clock => opens_alone(clock_opens(base, &line.verb), point),
+        Actor::Node(node) => opens_alone(node_opens(base, leads, node, &line.verb), point),
+        Actor::Session(session) => session_next(base, leads, session, &line.verb, view, point),
+        Actor::Janitor => janitor_next(&line.verb, view, point),
+    }
+}
+
+/// A line of one event has none but its first.
+fn opens_alone(first: Option<Event>, point: Point) -> Option<Event>
+    ensures { result ≡ next.opens_alone first point }
+{
+    match point {
+        Point::Opens => first,
+        _ => None,
+    }
+}
+
+fn session_next(
+    base: u64,
+    leads: &[u64],
+    session: SessionNo,
+    verb: &Verb,
+    view: &View,
+    point: Point,
+) -> Option<Event>
+    requires { HaveRoom base leads.now verb.now }
+    ensures { result ≡ next.session_next (clocks base leads.now) session verb.now view.now point }
+{
+    match point {
+        Point::Opens => session_opens(base, leads, session, verb, view),
+        Point::Drives => drive_next(base, leads, session, verb, view),
+        Point::Extends => extend_next(view.request),
+        Point::Finishes => finish_next(session, view.doing),
+        Point::Reads => read_next(session, view.doing),
+        Point::Steps => steps_next(session, view.doing),
+        Point::Over => None,
+    }
+}
+
+fn janitor_next(verb: &Verb, view: &View, point: Point) -> Option<Event>
+    ensures { result ≡ next.janitor_next verb.now view.now point }
+{
+    match point {
+        Point::Opens => janitor_opens(verb),
+        Point::Steps if view.sweeping => Some(Event::SweepStep),
+        _ => None,
+    }
+}
+
+// ---- the first event of a line
+
+fn clock_opens(base: u64, verb: &Verb) -> Option<Event>
+    requires base { base ≤ 2 ^ 62 }
+    requires tick { TicksWithin (2 ^ 62) verb.now }
+    ensures { result ≡ next.clock_opens base verb.now }
+{
+    match verb {
+        Verb::Tick { by } => Some(Event::Tick { to: base + *by }),
+        _ => name_opens(Actor::Clock, verb),
+    }
+}
+
+fn node_opens(base: u64, leads: &[u64], node: NodeNo, verb: &Verb) -> Option<Event>
+    requires { HaveRoom base leads.now verb.now }
+    ensures { result ≡ next.node_opens (clocks base leads.now) node verb.now }
+{
+    let actor = Actor::Node(node);
+    match *verb {
+        Verb::Take => Some(Event::Take {
+            node,
+            reading: reading_at(base, leads, node),
+        }),
+        Verb::Renew => Some(Event::Renew {
+            node,
+            reading: reading_at(base, leads, node),
+        }),
+        Verb::Crash => Some(Event::Crash { node }),
+        Verb::Extend => Some(Event::Extend { node }),
+        Verb::Hold { stage } => Some(Event::Note {
+            actor,
+            note: Note::Hold(stage),
+        }),
+        Verb::Free { stage } => Some(Event::Note {
+            actor,
+            note: Note::Free(stage),
+        }),
+        Verb::Accept { session } => {
+            Some(Event::Accept {
+                node,
+                session,
+                reading: reading_at(base, leads, node),
+            })
+        }
+        Verb::Decide { session } => Some(Event::Decide { node, session }),
+        Verb::Put { session } => Some(Event::Put { node, session }),
+        Verb::Answer { session } => Some(Event::Answer { node, session }),
+        _ => name_opens(actor, verb),
+    }
+}
+
+fn session_opens(
+    base: u64,
+    leads: &[u64],
+    session: SessionNo,
+    verb: &Verb,
+    view: &View,
+) -> Option<Event>
+    requires { HaveRoom base leads.now verb.now }
+    ensures { result ≡ next.session_opens (clocks base leads.now) session verb.now view.now }
+{
+    match *verb {
+        Verb::Begin { target } => Some(Event::AskBegin {
+            session,
+            node: node_of(target),
+        }),
+        Verb::Commit { target } | Verb::Submit { target } => {
+            Some(Event::AskCommit {
+                session,
+                node: node_of(target),
+            })
+        }
+        Verb::AskBegin { node } => Some(Event::AskBegin { session, node }),
+        Verb::AskCommit { node } => Some(Event::AskCommit { session, node }),
+        Verb::Write { key, value } => Some(Event::Write {
+            session,
+            key,
+            value,
+        }),
+        Verb::Read { key } | Verb::Fetch { key } => Some(Event::Fetch { session, key }),
+        Verb::Collect => collect_next(base, leads, session, verb, view),
+        Verb::Abort => Some(Event::Abort { session }),
+        Verb::Heal => Some(Event::Heal { session }),
+        Verb::Vanish => Some(Event::Vanish { session }),
+        Verb::Step | Verb::Finish => Some(Event::Step { session }),
+        _ => name_opens(Actor::Session(session), verb),
+    }
+}
+
+fn janitor_opens(verb: &Verb) -> Option<Event>
+    ensures { result ≡ next.janitor_opens verb.now }
+{
+    match *verb {
+        Verb::Sweep { node, txn } | Verb::OpenSweep { node, txn } => {
+            Some(Event::SweepOpen { node, txn })
+        }
+        Verb::Step | Verb::Finish => Some(Event::SweepStep),
+        _ => name_opens(Actor::Janitor, verb),
+    }
+}
+
+/// An actor of any kind may post a name or await one.
+fn name_opens(actor: Actor, verb: &Verb) -> Option<Event>
+    ensures { result ≡ next.name_opens actor verb.now }
+{
+    match *verb {
+        Verb::Post { name } => Some(Event::Note {
+            actor,
+            note: Note::Post(name),
+        }),
+        Verb::Await { name } => Some(Event::Note {
+            actor,
+            note: Note::Await(name),
+        }),
+        _ => None,
+    }
+}
+
+// ---- serving a request
+
+/// The next event that serves the session's request; where none is left, a completion goes on.
+fn drive_next(
+    base: u64,
+    leads: &[u64],
+    session: SessionNo,
+    verb: &Verb,
+    view: &View,
+) -> Option<Event>
+    requires { HaveRoom base leads.now verb.now }
+    ensures { result ≡ next.drive_next (clocks base leads.now) session verb.now view.now view.now.request }
+{
+    match view.request {
+        None => finish_next(session, view.doing),
+        Some((node, place)) if is_served(verb, place) => {
+            Some(serves(base, leads, session, node, view.commit, place))
+        }
+        Some(_) => None,
+    }
+}
+
+/// As `drive_next`, but that a session with nothing to collect makes a step, which is refused.
+fn collect_next(
+    base: u64,
+    leads: &[u64],
+    session: SessionNo,
+    verb: &Verb,
+    view: &View,
+) -> Option<Event>
+    requires verb { verb.now ≡ Verb.Collect }
+    requires room { HaveRoom base leads.now verb.now }
+    ensures { result ≡ next.collect_next (clocks base leads.now) session view.now view.now.request }
+{
+    match view.request {
+        None => idle_next(session, view.doing),
+        Some(_) => drive_next(base, leads, session, verb, view),
+    }
+}
+
+fn is_served(verb: &Verb, place: Place) -> bool
+    ensures { result ≡ next.is_served verb.now place }
+{
+    match verb {
+        Verb::Submit { .. } => !has_drawn(place),
+        _ => true,
+    }
+}
+
+fn has_drawn(place: Place) -> bool
+    ensures { result ≡ next.has_drawn place }
+{
+    matches!(place, Place::Drawn | Place::Settled)
+}
+
+fn serves(
+    base: u64,
+    leads: &[u64],
+    session: SessionNo,
+    node: NodeNo,
+    commit: bool,
+    place: Place,
+) -> Event
+    requires { HaveRoom base leads.now Verb.Take }
+    ensures { result ≡ next.serves (clocks base leads.now) session node commit place }
+{
+    match place {
+        Place::Asked => Event::Accept {
+            node,
+            session,
+            reading: reading_at(base, leads, node),
+        },
+        Place::Accepted => Event::Decide { node, session },
+        Place::Drawn if commit => Event::Put { node, session },
+        Place::Drawn | Place::Settled => Event::Answer { node, session },
+    }
+}
+
+/// What the node's clock shows.
+fn reading_at(base: u64, leads: &[u64], node: NodeNo) -> u64
+    requires { HaveRoom base leads.now Verb.Take }
+    ensures { result ≡ next.reading_at (clocks base leads.now) node }
+{
+    let place = node.value() as usize;
+    let lead = if place < leads.len() { leads[place] } else { 0 };
+    base + lead
+}
+
+fn node_of(target: Target) -> NodeNo
+    ensures { result ≡ next.target_node target }
+{
+    match target {
+        Target::Node(node) => node,
+    }
+}
+
+fn extend_next(request: Option<(NodeNo, Place)>) -> Option<Event>
+    ensures { result ≡ next.extend_next request }
+{
+    match request {
+        Some((node, Place::Accepted)) => Some(Event::Extend { node }),
+        _ => None,
+    }
+}
+
+// ---- what is under way
+
+fn finish_next(session: SessionNo, doing: Doing) -> Option<Event>
+    ensures { result ≡ next.finish_next session doing }
+{
+    match doing {
+        Doing::Completing => Some(Event::Step { session }),
+        _ => None,
+    }
+}
+
+fn idle_next(session: SessionNo, doing: Doing) -> Option<Event>
+    ensures { result ≡ next.idle_next session doing }
+{
+    match doing {
+        Doing::Free | Doing::Gone | Doing::Open => Some(Event::Step { session }),
+        _ => None,
+    }
+}
+
+fn read_next(session: SessionNo, doing: Doing) -> Option<Event>
+    ensures { result ≡ next.read_next session doing }
+{
+    match doing {
+        Doing::Reading => Some(Event::Step { session }),
+        _ => None,
+    }
+}
+
+fn steps_next(session: SessionNo, doing: Doing) -> Option<Event>
+    ensures { result ≡ next.steps_next session doing }
+{
+    match doing {
+        Doing::Reading | Doing::OpenOutcome | Doing::Completing => Some(Event::Step { session }),
+        _ => None,
+    }
+}

@@ -1,0 +1,10 @@
+//! What a line of a script does, event by event, as it is carried out in file order.
+#![tactic(auto)]
+
+mod choosing;
+mod following;
+mod point;
+
+pub use choosing::next_event;
+pub use following::follows;
+pub use point::{Halt, Point, View, refused};
