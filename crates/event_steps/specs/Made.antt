@@ -1,7 +1,8 @@
 -- How a call stands to the machine's effect: what it leaves, appends and answers, and what it asks of the weather.
-use Rattle.std.specs.Prelude.{◌≡◌, ℕ, List, ◌++◌, Option, None, Some, Result, Ok, Err}
+use Rattle.std.specs.Prelude.{◌≡◌, ℕ, List, [], ◌∷◌, ◌++◌, Option, None, Some, Result, Ok, Err}
 use Rattle.stamp_base.specs.declared.stores.Store.{Store}
 use Rattle.port_io.specs.declared.weather.Fate.{Fate}
+use Rattle.port_io.specs.declared.weather.Fate.TheVariants.{Works}
 use Rattle.history_book.specs.declared.item.Item.{Item}
 use Rattle.store_parts.specs.StoreCalls.{AsksOnce}
 use Rattle.machine.specs.Effect.{Effect, Stop, Refuses, Faults}
@@ -48,3 +49,8 @@ Asks (Ok _) asks before now faults_before faults_now = AsksOf asks before now fa
 Asks (Err (Refused why)) asks before now faults_before faults_now = AsksOf asks before now faults_before faults_now
 Asks (Err (Fault store)) asks before now faults_before faults_now = AsksOf asks before now faults_before faults_now
 Asks (Err NoMemory) asks before now faults_before faults_now = AsksNone before now faults_before faults_now
+
+-- the fate that the weather has ahead for the store that is asked; where none is, any would do
+abbrev pub fate_ahead : Option Store → (Store → ℕ → Fate) → Fate
+fate_ahead None ahead = Works
+fate_ahead (Some store) ahead = ahead store 0
