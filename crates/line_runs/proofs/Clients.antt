@@ -33,11 +33,11 @@ no_client_left w s f g at =
     ∙ ap (λ (found : Option Client). of_client found g) at
 
 -- ---- how long completions are
-undo_long : (t : ℕ) (keys : List ℕ) → length (undo_asks t keys) ≡ length keys
+pub undo_long : (t : ℕ) (keys : List ℕ) → length (undo_asks t keys) ≡ length keys
 undo_long t [] = refl
 undo_long t (k ∷ ks) = omega (arith, undo_long t ks)
 
-finish_long : (t commit : ℕ) (keys : List ℕ) → length (finish_asks t commit keys) ≡ length keys + 1
+pub finish_long : (t commit : ℕ) (keys : List ℕ) → length (finish_asks t commit keys) ≡ length keys + 1
 finish_long t commit [] = refl
 finish_long t commit (k ∷ ks) = omega (arith, finish_long t commit ks)
 

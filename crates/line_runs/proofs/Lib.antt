@@ -2,3 +2,15 @@ mod Holders
 mod Clients
 mod Serving
 mod Accepting
+mod Deciding
+mod Putting
+mod Answering
+mod Extending
+mod Working
+mod Stepping
+mod Opening
+mod Sweeping
+mod Driving
+mod Doings
+mod Lowering
+mod AllLower

@@ -22,7 +22,7 @@ use Rattle.machine.specs.declared.event.Event.TheVariants as event
 use Rattle.machine.specs.State.{Client, State}
 use Rattle.machine.specs.Effect.{Effect}
 use Rattle.machine.specs.Clients.{after_refusal}
-use Rattle.machine.specs.Machine.{Step, step_by, with_post, with_client, with_reading, at_both, stepped}
+use Rattle.machine.specs.Machine.{Step, step_by, with_post, with_client, with_reading, at_both, on_request, stepped}
 use Rattle.machine.specs.Events.Accept.{accept_by, accept_request, accept_on}
 use Rattle.machine.specs.Readers.{place_of}
 use Rattle.session_script.specs.declared.script.Verb.{Verb}
@@ -56,6 +56,12 @@ serving_changed w left h s request k now nodes = record { stands = k.stands; hel
 abbrev pub node_step : State → ℕ → ℕ → Effect (Option InstanceEntry × Client) → Step
 node_step u node s effect = step_by effect (λ (p : Option InstanceEntry × Client). with_client (with_post u node p.0) s p.1)
 
+-- an event on a node and a client, both of which are there
+pub on_both : (u : State) (node s : ℕ) (i : InstanceEntry) (c : Client) (f : Option InstanceEntry → Client → Effect (Option InstanceEntry × Client)) → InstanceAt u.nodes node i → ClientAt u.clients s c → on_request u node s f ≡ node_step u node s (f (Some i) c)
+on_both u node s i c f at client_at =
+    let g : Option InstanceEntry → Client → Step = λ post client. node_step u node s (f post client) in
+    ap (λ (found : Option (Option InstanceEntry)). at_both u found (slice_get u.clients s) g) at ∙ ap (λ (found : Option Client). at_both u (Some (Some i)) found g) client_at
+
 -- ---- a request goes on
 -- as it is held now by the instance, the client being what it was
 pub goes_on : (w left : State) (h : List Item) (s : ℕ) (request : ℕ × Place) (k : Serving w h s request) (i now : InstanceEntry) (held : Held) → left.nodes ≡ slice_set w.nodes request.0 (Some now) → slice_get left.clients s ≡ Some k.c → now.requests ≡ (with_request i s (Some held)).requests → place_left (lacks_stamps now) (place_of_progress held.progress) + client_ends k.c < drive_left w s → drive_left left s < drive_left w s
@@ -65,9 +71,17 @@ goes_on w left h s request k i now held nodes client requests less =
       | inr there ↦ absurd (there.0 refl)
     ]) (subst (λ (found : Option Client). of_client found client_completes < drive_left w s) (sym client) (omega (arith, less)))
 
--- ---- a request ends with a refusal
+-- ---- a request ends
+-- a client whose request is over completes at most its keys
 pub ends_so : (w left : State) (s : ℕ) (c now : Client) → ClientAt w.clients s c → left.clients ≡ slice_set w.clients s now → client_completes now ≤ client_ends c → client_ends c < drive_left w s → of_client (slice_get left.clients s) client_completes < drive_left w s
 ends_so w left s c now at clients fewer less =
     let is : of_client (slice_get left.clients s) client_completes ≡ client_completes now = ap (λ (cs : List Client). of_client (slice_get cs s) client_completes) clients ∙ client_now w.clients s c now client_completes at in
     omega (arith, is, fewer, less)
 
+-- with a completion that may follow
+pub is_over : (w left : State) (h : List Item) (s : ℕ) (request : ℕ × Place) (k : Serving w h s request) (i : InstanceEntry) (now : Client) → left.nodes ≡ slice_set w.nodes request.0 (Some (with_request i s None)) → left.clients ≡ slice_set w.clients s now → client_completes now ≤ client_ends k.c → client_ends k.c < drive_left w s → drive_left left s < drive_left w s
+is_over w left h s request k i now nodes clients fewer less =
+    drives_on w left h request.0 s (with_request i s None) (drive_left w s) (serving_changed w left h s request k (with_request i s None) nodes) (λ (other : Held) has. elim (held_set i s s None other has) [
+      | inl here ↦ absurd (none-some other here.1)
+      | inr there ↦ absurd (there.0 refl)
+    ]) (ends_so w left s k.c now k.client_at clients fewer less)

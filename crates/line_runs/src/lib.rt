@@ -3,8 +3,10 @@
 
 mod choosing;
 mod following;
+mod laws;
 mod point;
 
 pub use choosing::next_event;
 pub use following::follows;
+pub use laws::events_lower_what_is_left;
 pub use point::{Halt, Point, View, refused};
