@@ -19,7 +19,7 @@ use Rattle.line_runs.specs.declared.point.Halt.{Halt}
 use Rattle.line_runs.specs.declared.point.Halt.TheVariants.{NoStamp, NotYet, Refused, Faulted}
 use Rattle.line_runs.specs.declared.point.Point.{Point}
 use Rattle.line_runs.specs.declared.point.Point.TheVariants.{Opens, Drives, Extends, Finishes, Reads, Steps, Over}
-use Rattle.line_runs.specs.Halts.{halt_of, unless_halted, after_write, after_serving, after_opening, follows}
+use Rattle.line_runs.specs.Halts.{halt_of, unless_halted, after_write, after_serving, after_extending, after_opening, follows}
 use Rattle.line_runs.specs.Views.{view_of}
 use Rattle.line_runs.specs.Next.{Clocks, opens_alone, sweep_next, janitor_opens, janitor_next, next}
 use Rattle.line_runs.specs.Left.{one_left, sweep_left, janitor_left, left}
@@ -47,7 +47,7 @@ serving_none (Some NotYet) = refl
 serving_none (Some Refused) = refl
 serving_none (Some Faulted) = refl
 
-pub opened_once : (line : Verb) (halt : Option Halt) → one_left (after_opening line halt) ≡ 0
+opened_once : (line : Verb) (halt : Option Halt) → one_left (after_opening line halt) ≡ 0
 opened_once (verb.Begin target) halt = unless_none Drives halt refl
 opened_once (verb.Commit target) halt = unless_none Drives halt refl
 opened_once (verb.Submit target) halt = unless_none Drives halt refl
@@ -58,6 +58,22 @@ opened_once verb.Abort halt = unless_none Finishes halt refl
 opened_once verb.Finish halt = unless_none Steps halt refl
 opened_once (verb.Sweep node txn) halt = unless_none Steps halt refl
 opened_once _ halt = refl
+
+extending_none : (halt : Option Halt) → one_left (after_extending halt) ≡ 0
+extending_none None = refl
+extending_none (Some NoStamp) = refl
+extending_none (Some NotYet) = refl
+extending_none (Some Refused) = refl
+extending_none (Some Faulted) = refl
+
+pub followed_once : (line : Verb) (at : Point) (halt : Option Halt) → one_left (follows line at halt) ≡ 0
+followed_once line Opens halt = opened_once line halt
+followed_once line Drives halt = serving_none halt
+followed_once line Extends halt = extending_none halt
+followed_once line Finishes halt = unless_none Finishes halt refl
+followed_once line Reads halt = unless_none Reads halt refl
+followed_once line Steps halt = unless_none Steps halt refl
+followed_once line Over halt = refl
 
 -- ---- lines of one event
 alone_lowers : (line : Verb) (at : Point) (halt : Option Halt) (first : Option Event) (e : Event) → opens_alone first at ≡ Some e → one_left (follows line at halt) < one_left at

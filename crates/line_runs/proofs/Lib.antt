@@ -14,3 +14,5 @@ mod Driving
 mod Doings
 mod Lowering
 mod AllLower
+mod Timing
+pub mod Ending

@@ -1,5 +1,5 @@
 // Every run of a line ends, and what is carried out keeps all facts.
-ghost use Rattle.line_runs.specs.Laws.{EventsLowerWhatIsLeft};
+ghost use Rattle.line_runs.specs.Laws.{EventsLowerWhatIsLeft, RunsEnd, LinesKeepFacts, ScriptsAreReached};
 
 use client_parts::{reads_end, settles_end};
 
@@ -10,4 +10,26 @@ pub fn events_lower_what_is_left()
 {
     reads_end();
     settles_end();
+}
+
+/// The run of a line goes to its end: after as many events as can be left at most, none is next.
+pub fn runs_end()
+    ensures { RunsEnd }
+{
+    events_lower_what_is_left();
+}
+
+/// The lines of a script, each to its end, lead from a state that is reached to one that is reached.
+pub fn lines_keep_facts()
+    ensures { LinesKeepFacts }
+{
+    events_lower_what_is_left();
+}
+
+/// So does a whole script, whose setup is in range, whose clocks are ahead by at most the skew, and whose ticks are few: all
+/// facts hold in the end, and the history is isolated with them.
+pub fn scripts_are_reached()
+    ensures { ScriptsAreReached }
+{
+    events_lower_what_is_left();
 }
