@@ -1,3 +1,6 @@
 mod ArgumentLemmas
 mod LineLemmas
+mod NameLemmas
+mod SettingLemmas
+mod SoundLemmas
 mod WordLemmas

@@ -51,6 +51,14 @@ node_of nodes (b ∷ c ∷ bs) = None
 abbrev pub value_of : List ℕ → Option (List ℕ)
 value_of word = if nat_le 1 (length word) && nat_le (length word) 64 && list_all (λ b. nat_le 33 b && nat_le b 126) word then Some word else None
 
+-- a dash, a digit or an ASCII letter
+abbrev pub is_name_byte : ℕ → Bool
+is_name_byte b = b == 45 || (nat_le 48 b && nat_le b 57) || (nat_le 65 b && nat_le b 90) || (nat_le 97 b && nat_le b 122)
+
+-- 1 to 16 letters, digits or dashes
+abbrev pub name_of : List ℕ → Option (List ℕ)
+name_of word = if nat_le 1 (length word) && nat_le (length word) 16 && list_all is_name_byte word then Some word else None
+
 abbrev pub numbered_actor : Option ℕ → Option ℕ → Option Actor
 numbered_actor (Some node) session = Some (Node node)
 numbered_actor None (Some session) = Some (Session session)

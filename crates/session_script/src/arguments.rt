@@ -1,13 +1,15 @@
 // What the words of a line name.
-ghost use Rattle.std.specs.Prelude.{◌≡◌, ◌≤◌, length};
-ghost use Rattle.session_script.specs.Arguments.{is_digit, leads_well, spelled_from, number_of, number_behind, session_of, key_of, node_of, value_of, actor_of};
+ghost use Rattle.std.specs.Prelude.{◌≡◌, ◌<◌, ◌≤◌, length, IfSome};
+ghost use Rattle.session_script.specs.Arguments.{is_digit, leads_well, spelled_from, number_of, number_behind, session_of, key_of, node_of, value_of, name_of, actor_of};
+ghost use Rattle.session_script.specs.Sound.{actor_needs};
 
 use history_book::Actor;
-use stamp_base::{KeyNo, NodeNo, SessionNo, Setup, Value};
+use stamp_base::{KeyNo, Name, NodeNo, SessionNo, Setup, Value};
 
 /// The actor that begins a line.
 pub fn actor_of(setup: &Setup, word: &[u8]) -> Option<Actor>
-    ensures { result ≡ actor_of setup.now.nodes word.now }
+    ensures actor { result ≡ actor_of setup.now.nodes word.now }
+    ensures there { IfSome result (λ actor. actor_needs actor ≤ setup.now.nodes) }
 {
     if word == b"clock".as_slice() {
         return Some(Actor::Clock);
@@ -26,7 +28,8 @@ pub fn actor_of(setup: &Setup, word: &[u8]) -> Option<Actor>
 
 /// A node of the setup, by its letter.
 pub fn node_of(setup: &Setup, word: &[u8]) -> Option<NodeNo>
-    ensures { result ≡ node_of setup.now.nodes word.now }
+    ensures node { result ≡ node_of setup.now.nodes word.now }
+    ensures there { IfSome result (λ node. node < setup.now.nodes) }
 {
     match word {
         [letter] if b'a' <= *letter && (*letter as u64) < b'a' as u64 + setup.nodes => {
@@ -59,6 +62,13 @@ pub fn value_of(word: &[u8]) -> Option<Value>
     Value::new(word)
 }
 
+/// A name.
+pub fn name_of(word: &[u8]) -> Option<Name>
+    ensures { result ≡ name_of word.now }
+{
+    Name::new(word)
+}
+
 fn number_behind(letter: u8, word: &[u8]) -> Option<u64>
     ensures { result ≡ number_behind letter word.now }
 {
@@ -68,7 +78,8 @@ fn number_behind(letter: u8, word: &[u8]) -> Option<u64>
     }
 }
 
-fn number_of(word: &[u8]) -> Option<u64>
+/// A number of at most 19 digits.
+pub fn number_of(word: &[u8]) -> Option<u64>
     ensures { result ≡ number_of word.now }
 {
     if leads_well(word) && word.len() <= 19 {

@@ -1,10 +1,10 @@
-// The forms of lines: how many words each has, which are built, and which only a replay takes.
+// The forms of lines: how many words each has, and which only a replay takes.
 ghost use Rattle.std.specs.Prelude.{◌≡◌};
-ghost use Rattle.session_script.specs.Grammar.{words_in, is_built, is_replay_only};
+ghost use Rattle.session_script.specs.Grammar.{setup_words, verb_words, is_replay_only};
 
-/// The form of a line, whatever its arguments are.
+/// The form of a setup line, whatever its arguments are.
 #[derive(Clone, Copy, Debug, PartialEq, Eq)]
-pub enum Form {
+pub enum SetupForm {
     Nodes,
     Lease,
     Skew,
@@ -18,6 +18,11 @@ pub enum Form {
     Cache,
     Commits,
     Reads,
+}
+
+/// The form of an actor's line, whatever its arguments are.
+#[derive(Clone, Copy, Debug, PartialEq, Eq)]
+pub enum VerbForm {
     Tick,
     Take,
     Renew,
@@ -51,36 +56,38 @@ pub enum Form {
     Await,
 }
 
-impl Form {
-    /// How many words a line of the form has, the setup word or the actor included.
+impl SetupForm {
+    /// How many words a line of the form has, the setup word included.
     pub fn words(self) -> usize
-        ensures { result ≡ words_in self }
+        ensures { result ≡ setup_words self }
     {
         match self {
-            Form::Take | Form::Renew | Form::Crash | Form::Extend => 2,
-            Form::Collect | Form::Abort | Form::Heal | Form::Vanish => 2,
-            Form::Step | Form::Finish | Form::SweepStep | Form::SweepFinish => 2,
-            Form::Nodes | Form::Lease | Form::Skew | Form::Range => 2,
-            Form::Slots | Form::Batch | Form::Workers | Form::Cache => 2,
-            Form::Commits | Form::Reads => 2,
-            Form::Buckets | Form::Lead => 3,
-            Form::Tick | Form::Hold | Form::Free => 3,
-            Form::Accept | Form::Decide | Form::Put | Form::Answer => 3,
-            Form::Begin | Form::Commit | Form::Submit => 3,
-            Form::AskBegin | Form::AskCommit => 3,
-            Form::Read | Form::Fetch | Form::Post | Form::Await => 3,
-            Form::Fault | Form::Write | Form::Sweep | Form::OpenSweep => 4,
+            SetupForm::Nodes | SetupForm::Lease | SetupForm::Skew | SetupForm::Range => 2,
+            SetupForm::Slots | SetupForm::Batch | SetupForm::Workers | SetupForm::Cache => 2,
+            SetupForm::Commits | SetupForm::Reads => 2,
+            SetupForm::Buckets | SetupForm::Lead => 3,
+            SetupForm::Fault => 4,
         }
     }
+}
 
-    /// Whether lines of the form are carried out today.
-    pub fn is_built(self) -> bool
-        ensures { result ≡ is_built self }
+impl VerbForm {
+    /// How many words a line of the form has, the actor included.
+    pub fn words(self) -> usize
+        ensures { result ≡ verb_words self }
     {
-        matches!(
-            self,
-            Form::Take | Form::Begin | Form::Commit | Form::Write | Form::Read
-        )
+        match self {
+            VerbForm::Take | VerbForm::Renew | VerbForm::Crash | VerbForm::Extend => 2,
+            VerbForm::Collect | VerbForm::Abort | VerbForm::Heal | VerbForm::Vanish => 2,
+            VerbForm::Step | VerbForm::Finish => 2,
+            VerbForm::SweepStep | VerbForm::SweepFinish => 2,
+            VerbForm::Tick | VerbForm::Hold | VerbForm::Free => 3,
+            VerbForm::Accept | VerbForm::Decide | VerbForm::Put | VerbForm::Answer => 3,
+            VerbForm::Begin | VerbForm::Commit | VerbForm::Submit => 3,
+            VerbForm::AskBegin | VerbForm::AskCommit => 3,
+            VerbForm::Read | VerbForm::Fetch | VerbForm::Post | VerbForm::Await => 3,
+            VerbForm::Write | VerbForm::Sweep | VerbForm::OpenSweep => 4,
+        }
     }
 
     /// Whether only a replay takes lines of the form.
@@ -88,8 +95,8 @@ impl Form {
         ensures { result ≡ is_replay_only self }
     {
         match self {
-            Form::Accept | Form::Decide | Form::Put | Form::Answer | Form::Extend => true,
-            Form::AskBegin | Form::AskCommit => true,
+            VerbForm::Accept | VerbForm::Decide | VerbForm::Put | VerbForm::Answer => true,
+            VerbForm::Extend | VerbForm::AskBegin | VerbForm::AskCommit => true,
             _ => false,
         }
     }

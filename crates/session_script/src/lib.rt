@@ -3,19 +3,22 @@
 
 mod arguments;
 mod cause;
+mod checked;
 mod cutting;
 mod form;
 mod line;
 mod lines;
+mod posted;
 mod read_so_far;
 mod reading;
 mod script;
+mod setting;
 mod tables;
 mod words;
 
 pub use cause::{ScriptCause, ScriptFault};
 pub use reading::read_script;
-pub use script::{Line, Mode, Script, Target, Verb};
+pub use script::{FAULT_LIMIT, Line, Mode, Script, Target, Verb};
 
 #[cfg(test)]
 mod tests;

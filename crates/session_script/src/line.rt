@@ -1,51 +1,32 @@
-// One line: the tests before its arguments, and then its arguments from left to right.
-ghost use Rattle.std.specs.Prelude.{◌≡◌, ◌≤◌};
-ghost use Rattle.session_script.specs.Script.{form_of, form_at, target_of, key_at, value_at, begin_at, commit_at, write_at, read_at, verb_of, actor_line, setup_line, line_of, is_served, is_run};
+// A line of an actor: the tests before its arguments, and then its arguments from left to right.
+ghost use Rattle.std.specs.Prelude.{◌≡◌, ◌≤◌, IfOk};
+ghost use Rattle.session_script.specs.Sound.{actor_needs, VerbIsSound, LineIsSound};
+ghost use Rattle.session_script.specs.Verbs.{form_of, form_at, verb_of, line_of, is_run};
 ghost use Rattle.session_script.specs.Words.{seen};
 
-use crate::arguments::{actor_of, key_of, node_of, value_of};
 use crate::cause::ScriptCause;
-use crate::form::Form;
+use crate::checked::{
+    key_at, name_at, node_at, number_at, session_at, stage_at, start_at, value_at,
+};
+use crate::form::VerbForm;
 use crate::script::{Line, Mode, Target, Verb};
-use crate::tables::{setup_form, verb_form};
+use crate::tables::verb_form;
 use crate::words::Words;
 use history_book::Actor;
-use stamp_base::{KeyNo, Setup, Value};
+use stamp_base::Setup;
 
-/// What the words of a line say.
-#[tactic(auto, unfolding(crate::specs::Script::line_of))]
-pub fn line_of(mode: Mode, setup: &Setup, number: u64, words: &Words) -> Result<Line, ScriptCause>
-    ensures { result ≡ line_of mode setup.now.nodes number (seen words.now) }
-{
-    if let Some(form) = setup_form(words.first) {
-        return setup_line(form, words);
-    }
-    match actor_of(setup, words.first) {
-        Some(actor) => actor_line(mode, setup, number, actor, words),
-        None => Err(ScriptCause::UnknownActor),
-    }
-}
-
-/// No setup line is built today.
-fn setup_line(form: Form, words: &Words) -> Result<Line, ScriptCause>
-    ensures { result ≡ setup_line form (seen words.now) }
-{
-    if words.count == form.words() {
-        Err(ScriptCause::NotYet)
-    } else {
-        Err(ScriptCause::WrongNumberOfWords)
-    }
-}
-
-#[tactic(auto, unfolding(crate::specs::Script::actor_line))]
-fn actor_line(
+/// What a line of the actor says.
+#[tactic(auto, unfolding(crate::specs::Verbs::line_of))]
+pub fn line_of(
     mode: Mode,
     setup: &Setup,
     number: u64,
     actor: Actor,
     words: &Words,
 ) -> Result<Line, ScriptCause>
-    ensures { result ≡ actor_line mode setup.now.nodes number actor (seen words.now) }
+    requires { actor_needs actor ≤ setup.now.nodes }
+    ensures line { result ≡ line_of mode setup.now.nodes number actor (seen words.now) }
+    ensures sound { IfOk result (LineIsSound setup.now.nodes) }
 {
     let form = form_of(mode, &actor, words)?;
     let verb = verb_of(setup, form, words)?;
@@ -57,41 +38,29 @@ fn actor_line(
 }
 
 /// The form of an actor's line. An actor's word alone names no verb.
-#[tactic(auto, unfolding(crate::specs::Script::form_of))]
-fn form_of(mode: Mode, actor: &Actor, words: &Words) -> Result<Form, ScriptCause>
+#[tactic(auto, unfolding(crate::specs::Verbs::form_of))]
+fn form_of(mode: Mode, actor: &Actor, words: &Words) -> Result<VerbForm, ScriptCause>
     ensures { result ≡ form_of mode actor.now (seen words.now) }
 {
     if words.count < 2 {
         return Err(ScriptCause::WrongNumberOfWords);
     }
     match verb_form(actor, words.second) {
-        Some(form) => tested_form(mode, actor, words, form),
+        Some(form) => tested_form(mode, words, form),
         None => Err(ScriptCause::UnknownVerb),
     }
 }
 
 /// The form, unless a test before the arguments fails.
-fn tested_form(mode: Mode, actor: &Actor, words: &Words, form: Form) -> Result<Form, ScriptCause>
-    ensures { result ≡ form_at mode actor.now (seen words.now) (Some form) }
+fn tested_form(mode: Mode, words: &Words, form: VerbForm) -> Result<VerbForm, ScriptCause>
+    ensures { result ≡ form_at mode (seen words.now) (Some form) }
 {
     if words.count != form.words() {
         Err(ScriptCause::WrongNumberOfWords)
-    } else if !form.is_built() || !is_served(actor) {
-        Err(ScriptCause::NotYet)
     } else if is_run(mode) && form.is_replay_only() {
         Err(ScriptCause::ReplayOnly)
     } else {
         Ok(form)
-    }
-}
-
-/// Whether the actor's lines are carried out today: of the nodes only the first is served.
-fn is_served(actor: &Actor) -> bool
-    ensures { result ≡ is_served actor.now }
-{
-    match actor {
-        Actor::Node(node) => node.value() == 0,
-        _ => true,
     }
 }
 
@@ -101,80 +70,82 @@ fn is_run(mode: Mode) -> bool
     matches!(mode, Mode::Run)
 }
 
-/// The arguments of a line of a form that is built.
-fn verb_of(setup: &Setup, form: Form, words: &Words) -> Result<Verb, ScriptCause>
-    ensures { result ≡ verb_of setup.now.nodes form (seen words.now) }
+/// What a line of the form asks for.
+fn verb_of(setup: &Setup, form: VerbForm, words: &Words) -> Result<Verb, ScriptCause>
+    ensures verb { result ≡ verb_of setup.now.nodes form (seen words.now) }
+    ensures sound { IfOk result (VerbIsSound setup.now.nodes) }
 {
+    let (third, fourth) = (words.third, words.fourth);
     match form {
-        Form::Take => Ok(Verb::Take),
-        Form::Begin => begin_at(setup, words),
-        Form::Commit => commit_at(setup, words),
-        Form::Write => write_at(words),
-        Form::Read => read_at(words),
-        _ => Err(ScriptCause::NotYet),
+        VerbForm::Tick => Ok(Verb::Tick {
+            by: number_at(1, 1_000_000, third)?,
+        }),
+        VerbForm::Take => Ok(Verb::Take),
+        VerbForm::Renew => Ok(Verb::Renew),
+        VerbForm::Crash => Ok(Verb::Crash),
+        VerbForm::Extend => Ok(Verb::Extend),
+        VerbForm::Hold => Ok(Verb::Hold {
+            stage: stage_at(third)?,
+        }),
+        VerbForm::Free => Ok(Verb::Free {
+            stage: stage_at(third)?,
+        }),
+        VerbForm::Accept => Ok(Verb::Accept {
+            session: session_at(third)?,
+        }),
+        VerbForm::Decide => Ok(Verb::Decide {
+            session: session_at(third)?,
+        }),
+        VerbForm::Put => Ok(Verb::Put {
+            session: session_at(third)?,
+        }),
+        VerbForm::Answer => Ok(Verb::Answer {
+            session: session_at(third)?,
+        }),
+        VerbForm::Begin => Ok(Verb::Begin {
+            target: Target::Node(node_at(setup, third)?),
+        }),
+        VerbForm::Commit => Ok(Verb::Commit {
+            target: Target::Node(node_at(setup, third)?),
+        }),
+        VerbForm::Submit => Ok(Verb::Submit {
+            target: Target::Node(node_at(setup, third)?),
+        }),
+        VerbForm::AskBegin => Ok(Verb::AskBegin {
+            node: node_at(setup, third)?,
+        }),
+        VerbForm::AskCommit => Ok(Verb::AskCommit {
+            node: node_at(setup, third)?,
+        }),
+        VerbForm::Write => Ok(Verb::Write {
+            key: key_at(third)?,
+            value: value_at(fourth)?,
+        }),
+        VerbForm::Read => Ok(Verb::Read {
+            key: key_at(third)?,
+        }),
+        VerbForm::Fetch => Ok(Verb::Fetch {
+            key: key_at(third)?,
+        }),
+        VerbForm::Collect => Ok(Verb::Collect),
+        VerbForm::Abort => Ok(Verb::Abort),
+        VerbForm::Heal => Ok(Verb::Heal),
+        VerbForm::Vanish => Ok(Verb::Vanish),
+        VerbForm::Step | VerbForm::SweepStep => Ok(Verb::Step),
+        VerbForm::Finish | VerbForm::SweepFinish => Ok(Verb::Finish),
+        VerbForm::Sweep => Ok(Verb::Sweep {
+            node: node_at(setup, third)?,
+            txn: start_at(fourth)?,
+        }),
+        VerbForm::OpenSweep => Ok(Verb::OpenSweep {
+            node: node_at(setup, third)?,
+            txn: start_at(fourth)?,
+        }),
+        VerbForm::Post => Ok(Verb::Post {
+            name: name_at(third)?,
+        }),
+        VerbForm::Await => Ok(Verb::Await {
+            name: name_at(third)?,
+        }),
     }
-}
-
-#[tactic(auto, unfolding(crate::specs::Script::begin_at))]
-fn begin_at(setup: &Setup, words: &Words) -> Result<Verb, ScriptCause>
-    ensures { result ≡ begin_at setup.now.nodes (seen words.now) }
-{
-    let target = target_of(setup, words)?;
-    Ok(Verb::Begin { target })
-}
-
-#[tactic(auto, unfolding(crate::specs::Script::commit_at))]
-fn commit_at(setup: &Setup, words: &Words) -> Result<Verb, ScriptCause>
-    ensures { result ≡ commit_at setup.now.nodes (seen words.now) }
-{
-    let target = target_of(setup, words)?;
-    Ok(Verb::Commit { target })
-}
-
-#[tactic(auto, unfolding(crate::specs::Script::write_at))]
-fn write_at(words: &Words) -> Result<Verb, ScriptCause>
-    ensures { result ≡ write_at (seen words.now) }
-{
-    let key = key_at(words)?;
-    let value = value_at(words)?;
-    Ok(Verb::Write { key, value })
-}
-
-#[tactic(auto, unfolding(crate::specs::Script::read_at))]
-fn read_at(words: &Words) -> Result<Verb, ScriptCause>
-    ensures { result ≡ read_at (seen words.now) }
-{
-    let key = key_at(words)?;
-    Ok(Verb::Read { key })
-}
-
-/// Where a line sends a request. Of the nodes only the first is served today.
-#[tactic(auto, unfolding(crate::specs::Script::target_of))]
-fn target_of(setup: &Setup, words: &Words) -> Result<Target, ScriptCause>
-    ensures { result ≡ target_of setup.now.nodes (seen words.now) }
-{
-    match node_of(setup, words.third) {
-        Some(node) => {
-            if node.value() == 0 {
-                Ok(Target::Node(node))
-            } else {
-                Err(ScriptCause::NotYet)
-            }
-        }
-        None => Err(ScriptCause::UnknownNode),
-    }
-}
-
-#[tactic(auto, unfolding(crate::specs::Script::key_at))]
-fn key_at(words: &Words) -> Result<KeyNo, ScriptCause>
-    ensures { result ≡ key_at (seen words.now) }
-{
-    key_of(words.third).ok_or(ScriptCause::BadKey)
-}
-
-#[tactic(auto, unfolding(crate::specs::Script::value_at))]
-fn value_at(words: &Words) -> Result<Value, ScriptCause>
-    ensures { result ≡ value_at (seen words.now) }
-{
-    value_of(words.fourth).ok_or(ScriptCause::BadValue)
 }

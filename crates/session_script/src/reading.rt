@@ -1,21 +1,34 @@
 // Reading a script, line by line.
-ghost use Rattle.std.specs.Prelude.{◌≡◌, ◌+◌, ◌<◌, ◌≤◌, length, IfOk, IfErr, OnOk, vec_len};
+ghost use Rattle.std.specs.Prelude.{◌≡◌, ◌+◌, ◌<◌, ◌≤◌, length, IfOk, OnOk, vec_len};
 ghost use Rattle.std.specs.Str.Lines.{lines};
-ghost use Rattle.session_script.specs.Script.{script_of, script_from, after_line, with_line, nothing_read, ReadsScript};
+ghost use Rattle.stamp_base.specs.Setups.{numbers_of};
+ghost use Rattle.session_script.specs.Sound.{actor_needs, LineIsSound};
+ghost use Rattle.session_script.specs.Names.{name_objection};
 ghost use Rattle.session_script.specs.Reading.{so_far, ReadsLine};
+ghost use Rattle.session_script.specs.Results.{unless};
+ghost use Rattle.session_script.specs.Script.{script_of, script_from, after_line, after_words, setup_line, actor_line, after_setting, after_telling, nothing_read, data_of, IsSound, ReadsScript};
+ghost use Rattle.session_script.specs.Settings.{objection, IsInBounds};
+ghost use Rattle.session_script.specs.Words.{seen};
 
+use crate::arguments::actor_of;
 use crate::cause::{ScriptCause, ScriptFault};
 use crate::cutting::{cut_line, is_plain_line, is_silent};
+use crate::form::SetupForm;
 use crate::line::line_of;
 use crate::lines::split_line;
 use crate::read_so_far::ReadSoFar;
 use crate::script::{Line, Mode, Script};
+use crate::setting::{Setting, setting_of};
+use crate::tables::setup_form;
+use crate::words::Words;
+use history_book::Actor;
 use stamp_base::{BYTE_LIMIT, LINE_LIMIT};
 use std::alloc::Global;
 
 /// The script that the bytes are, or the first bad line and its first cause.
 pub fn read_script(alloc: Global, bytes: &[u8], mode: Mode) -> Result<Script, ScriptFault>
     ensures script { ReadsScript result (script_of bytes.now mode) }
+    ensures sound { IfOk result (λ script. IsSound (data_of script)) }
     ensures few { IfOk result (λ script. vec_len script.lines ≤ LINE_LIMIT) }
 {
     if bytes.len() > BYTE_LIMIT {
@@ -64,19 +77,89 @@ fn read_line(
     if !is_plain_line(line) {
         return bad_line(number, ScriptCause::BadByte);
     }
-    match line_of(mode, &reading.script.setup, number, &cut_line(line)) {
-        Ok(line) => add_line(reading, line),
+    read_words(reading, mode, number, &cut_line(line))
+}
+
+/// Reads the words of a line.
+#[tactic(auto, unfolding(crate::specs::Script::after_words))]
+fn read_words(
+    reading: &mut ReadSoFar,
+    mode: Mode,
+    number: u64,
+    words: &Words,
+) -> Result<(), ScriptFault>
+    requires { reading.old.counted < LINE_LIMIT }
+    ensures { ReadsLine result number (after_words mode (so_far reading.old) number (seen words.now)) (so_far reading.new) }
+{
+    if let Some(form) = setup_form(words.first) {
+        return read_setting(reading, number, form, words);
+    }
+    match actor_of(&reading.script.setup, words.first) {
+        Some(actor) => read_actor_line(reading, mode, number, actor, words),
+        None => bad_line(number, ScriptCause::UnknownActor),
+    }
+}
+
+/// Reads a setup line.
+#[tactic(auto, unfolding(crate::specs::Script::setup_line))]
+fn read_setting(
+    reading: &mut ReadSoFar,
+    number: u64,
+    form: SetupForm,
+    words: &Words,
+) -> Result<(), ScriptFault>
+    requires { reading.old.counted < LINE_LIMIT }
+    ensures { ReadsLine result number (setup_line (so_far reading.old) form (seen words.now)) (so_far reading.new) }
+{
+    match setting_of(&reading.script.setup, form, words) {
+        Ok(setting) => add_setting(reading, number, setting),
         Err(cause) => bad_line(number, cause),
     }
 }
 
-fn add_line(reading: &mut ReadSoFar, line: Line) -> Result<(), ScriptFault>
-    requires { reading.old.counted < LINE_LIMIT }
-    ensures ok { OnOk result (so_far reading.new ≡ with_line (so_far reading.old) line) }
-    ensures memory { IfErr result (λ fault. fault ≡ ScriptFault.NoMemory) }
+fn add_setting(reading: &mut ReadSoFar, number: u64, setting: Setting) -> Result<(), ScriptFault>
+    requires room { reading.old.counted < LINE_LIMIT }
+    requires bounds { IsInBounds (numbers_of reading.old.script.setup) setting }
+    ensures { ReadsLine result number
+        (unless (objection reading.old.settings.items (data_of reading.old.script) setting) (after_setting (so_far reading.old) setting))
+        (so_far reading.new) }
 {
-    reading.add(line)?;
-    Ok(())
+    match reading.objection(&setting) {
+        Some(cause) => bad_line(number, cause),
+        None => Ok(reading.set(setting)?),
+    }
+}
+
+/// Reads an actor's line.
+#[tactic(auto, unfolding(crate::specs::Script::actor_line))]
+fn read_actor_line(
+    reading: &mut ReadSoFar,
+    mode: Mode,
+    number: u64,
+    actor: Actor,
+    words: &Words,
+) -> Result<(), ScriptFault>
+    requires room { reading.old.counted < LINE_LIMIT }
+    requires there { actor_needs actor ≤ reading.old.script.setup.nodes }
+    ensures { ReadsLine result number (actor_line mode (so_far reading.old) number actor (seen words.now)) (so_far reading.new) }
+{
+    match line_of(mode, &reading.script.setup, number, actor, words) {
+        Ok(line) => add_line(reading, number, line),
+        Err(cause) => bad_line(number, cause),
+    }
+}
+
+fn add_line(reading: &mut ReadSoFar, number: u64, line: Line) -> Result<(), ScriptFault>
+    requires room { reading.old.counted < LINE_LIMIT }
+    requires sound { LineIsSound reading.old.script.setup.nodes line }
+    ensures { ReadsLine result number
+        (unless (name_objection reading.old.posted line.verb) (after_telling (so_far reading.old) line))
+        (so_far reading.new) }
+{
+    match reading.name_objection(&line.verb) {
+        Some(cause) => bad_line(number, cause),
+        None => Ok(reading.tell(line)?),
+    }
 }
 
 fn bad_line(line: u64, cause: ScriptCause) -> Result<(), ScriptFault>

@@ -1,6 +1,14 @@
+ghost use Rattle.stamp_base.specs.Setups.{numbers_of};
+ghost use Rattle.session_script.specs.Data.{IsSound};
+
+use crate::setting::Setting;
 use history_book::Actor;
 use port_io::Fate;
 use stamp_base::{KeyNo, Name, NodeNo, SessionNo, Setup, Stage, Store, TxnId, Value};
+use std::alloc::{AllocError, Global};
+
+/// The most faults that a script plans.
+pub const FAULT_LIMIT: usize = 32;
 
 /// For which way of carrying out a script is read.
 #[derive(Clone, Copy, Debug, PartialEq, Eq)]
@@ -59,7 +67,8 @@ pub struct Line {
     pub verb: Verb,
 }
 
-/// A script that was read: what it sets, and its actors' lines in file order.
+/// A script that was read: what it sets, and its actors' lines in file order. The numbers of the setup are in their
+/// ranges, and what else holds of every script is stated by this type.
 #[derive(Debug, Drop)]
 pub struct Script {
     pub setup: Setup,
@@ -68,4 +77,70 @@ pub struct Script {
     /// The planned faults: the store, the number of the call on it from 1 on, and its fate.
     pub faults: Vec<(Store, u64, Fate)>,
     pub lines: Vec<Line>,
+    pub ghost sound: { IsSound (record { setup = numbers_of setup; leads = leads.items; faults = faults.items; lines = lines.items }) },
+}
+
+impl Script {
+    ghost use Rattle.std.specs.Prelude.{◌≡◌, ◌<◌, OnOk, OnErr};
+    ghost use Rattle.session_script.specs.declared.setting.Setting.TheVariants.{Nodes, Lead, Fault};
+    ghost use Rattle.session_script.specs.Script.{data_of};
+    ghost use Rattle.session_script.specs.Settings.{IsInBounds, with_setting};
+
+    /// Sets what a setup line sets. Where memory is refused the script is as before.
+    pub(crate) fn set(&mut self, alloc: Global, setting: &Setting) -> Result<(), AllocError>
+        requires bounds { IsInBounds (numbers_of self.old.setup) setting.now }
+        requires sound { IsSound (with_setting (data_of self.old) setting.now) }
+        ensures set { OnOk result (data_of self.new ≡ with_setting (data_of self.old) setting.now) }
+        ensures memory { OnErr result (data_of self.new ≡ data_of self.old) }
+    {
+        match setting {
+            Setting::Nodes(nodes) => self.set_nodes(alloc, *nodes),
+            Setting::Lead { node, lead } => {
+                self.set_lead(*node, *lead);
+                Ok(())
+            }
+            Setting::Fault {
+                store,
+                number,
+                fate,
+            } => self.plan_fault(*store, *number, *fate),
+            Setting::Lease(_)
+            | Setting::Skew(_)
+            | Setting::Range(_)
+            | Setting::Buckets { .. }
+            | Setting::Slots(_)
+            | Setting::Batch(_)
+            | Setting::Workers(_) => {
+                setting.apply_to(&mut self.setup);
+                Ok(())
+            }
+        }
+    }
+
+    fn set_nodes(&mut self, alloc: Global, nodes: u64) -> Result<(), AllocError>
+        requires { IsSound (with_setting (data_of self.old) (Nodes nodes)) }
+        ensures set { OnOk result (data_of self.new ≡ with_setting (data_of self.old) (Nodes nodes)) }
+        ensures memory { OnErr result (data_of self.new ≡ data_of self.old) }
+    {
+        self.leads = vec![in alloc; 0; nodes as usize]?;
+        self.setup.nodes = nodes;
+        Ok(())
+    }
+
+    fn set_lead(&mut self, node: NodeNo, lead: u64)
+        requires there { node < self.old.setup.nodes }
+        requires sound { IsSound (with_setting (data_of self.old) (Lead node lead)) }
+        ensures { data_of self.new ≡ with_setting (data_of self.old) (Lead node lead) }
+    {
+        self.leads[node.value() as usize] = lead;
+    }
+
+    fn plan_fault(&mut self, store: Store, number: u64, fate: Fate) -> Result<(), AllocError>
+        requires { IsSound (with_setting (data_of self.old) (Fault store number fate)) }
+        ensures set { OnOk result (data_of self.new ≡ with_setting (data_of self.old) (Fault store number fate)) }
+        ensures memory { OnErr result (data_of self.new ≡ data_of self.old) }
+    {
+        self.faults.extend_from_slice(&[(store, number, fate)])?;
+        Ok(())
+    }
 }

@@ -1,85 +1,104 @@
-// The words that name a form.
+// The words that name a form, a stage, a store or how a call fails.
 ghost use Rattle.std.specs.Prelude.{◌≡◌, map};
-ghost use Rattle.session_script.specs.Grammar.{named_form, setup_forms, clock_forms, janitor_forms, node_forms, session_forms, verb_forms};
+ghost use Rattle.session_script.specs.Grammar.{named, stages, stores, kinds, setup_forms, clock_forms, janitor_forms, node_forms, session_forms, verb_forms};
 
-use crate::form::Form;
+use crate::form::{SetupForm, VerbForm};
 use history_book::Actor;
+use port_io::Fate;
+use stamp_base::{Stage, Store};
 
-const SETUP_FORMS: [(&str, Form); 13] = [
-    ("nodes", Form::Nodes),
-    ("lease", Form::Lease),
-    ("skew", Form::Skew),
-    ("range", Form::Range),
-    ("buckets", Form::Buckets),
-    ("slots", Form::Slots),
-    ("batch", Form::Batch),
-    ("workers", Form::Workers),
-    ("lead", Form::Lead),
-    ("fault", Form::Fault),
-    ("cache", Form::Cache),
-    ("commits", Form::Commits),
-    ("reads", Form::Reads),
+const SETUP_FORMS: [(&str, SetupForm); 13] = [
+    ("nodes", SetupForm::Nodes),
+    ("lease", SetupForm::Lease),
+    ("skew", SetupForm::Skew),
+    ("range", SetupForm::Range),
+    ("buckets", SetupForm::Buckets),
+    ("slots", SetupForm::Slots),
+    ("batch", SetupForm::Batch),
+    ("workers", SetupForm::Workers),
+    ("lead", SetupForm::Lead),
+    ("fault", SetupForm::Fault),
+    ("cache", SetupForm::Cache),
+    ("commits", SetupForm::Commits),
+    ("reads", SetupForm::Reads),
 ];
 
-const CLOCK_FORMS: [(&str, Form); 3] = [
-    ("tick", Form::Tick),
-    ("post", Form::Post),
-    ("await", Form::Await),
+const CLOCK_FORMS: [(&str, VerbForm); 3] = [
+    ("tick", VerbForm::Tick),
+    ("post", VerbForm::Post),
+    ("await", VerbForm::Await),
 ];
 
-const JANITOR_FORMS: [(&str, Form); 6] = [
-    ("sweep", Form::Sweep),
-    ("open", Form::OpenSweep),
-    ("step", Form::SweepStep),
-    ("finish", Form::SweepFinish),
-    ("post", Form::Post),
-    ("await", Form::Await),
+const JANITOR_FORMS: [(&str, VerbForm); 6] = [
+    ("sweep", VerbForm::Sweep),
+    ("open", VerbForm::OpenSweep),
+    ("step", VerbForm::SweepStep),
+    ("finish", VerbForm::SweepFinish),
+    ("post", VerbForm::Post),
+    ("await", VerbForm::Await),
 ];
 
-const NODE_FORMS: [(&str, Form); 12] = [
-    ("take", Form::Take),
-    ("renew", Form::Renew),
-    ("crash", Form::Crash),
-    ("hold", Form::Hold),
-    ("free", Form::Free),
-    ("accept", Form::Accept),
-    ("decide", Form::Decide),
-    ("put", Form::Put),
-    ("answer", Form::Answer),
-    ("extend", Form::Extend),
-    ("post", Form::Post),
-    ("await", Form::Await),
+const NODE_FORMS: [(&str, VerbForm); 12] = [
+    ("take", VerbForm::Take),
+    ("renew", VerbForm::Renew),
+    ("crash", VerbForm::Crash),
+    ("hold", VerbForm::Hold),
+    ("free", VerbForm::Free),
+    ("accept", VerbForm::Accept),
+    ("decide", VerbForm::Decide),
+    ("put", VerbForm::Put),
+    ("answer", VerbForm::Answer),
+    ("extend", VerbForm::Extend),
+    ("post", VerbForm::Post),
+    ("await", VerbForm::Await),
 ];
 
-const SESSION_FORMS: [(&str, Form); 16] = [
-    ("begin", Form::Begin),
-    ("commit", Form::Commit),
-    ("submit", Form::Submit),
-    ("collect", Form::Collect),
-    ("write", Form::Write),
-    ("read", Form::Read),
-    ("abort", Form::Abort),
-    ("heal", Form::Heal),
-    ("finish", Form::Finish),
-    ("vanish", Form::Vanish),
-    ("fetch", Form::Fetch),
-    ("step", Form::Step),
-    ("ask-begin", Form::AskBegin),
-    ("ask-commit", Form::AskCommit),
-    ("post", Form::Post),
-    ("await", Form::Await),
+const SESSION_FORMS: [(&str, VerbForm); 16] = [
+    ("begin", VerbForm::Begin),
+    ("commit", VerbForm::Commit),
+    ("submit", VerbForm::Submit),
+    ("collect", VerbForm::Collect),
+    ("write", VerbForm::Write),
+    ("read", VerbForm::Read),
+    ("abort", VerbForm::Abort),
+    ("heal", VerbForm::Heal),
+    ("finish", VerbForm::Finish),
+    ("vanish", VerbForm::Vanish),
+    ("fetch", VerbForm::Fetch),
+    ("step", VerbForm::Step),
+    ("ask-begin", VerbForm::AskBegin),
+    ("ask-commit", VerbForm::AskCommit),
+    ("post", VerbForm::Post),
+    ("await", VerbForm::Await),
+];
+
+const STAGES: [(&str, Stage); 3] = [
+    ("request", Stage::Request),
+    ("persist", Stage::Persist),
+    ("reply", Stage::Reply),
+];
+
+const STORES: [(&str, Store); 3] = [
+    ("cells", Store::Cells),
+    ("table", Store::Table),
+    ("master", Store::Master),
+];
+
+const KINDS: [(&str, Fate); 2] = [
+    ("unchanged", Fate::FailsUnchanged),
+    ("applied", Fate::FailsApplied),
 ];
 
 /// The form that a setup word names.
-pub fn setup_form(word: &[u8]) -> Option<Form>
-    ensures { result ≡ named_form setup_forms word.now }
+pub fn setup_form(word: &[u8]) -> Option<SetupForm>
+    ensures { result ≡ named setup_forms word.now }
 {
     look_up(&SETUP_FORMS, word)
 }
 
 /// The form that a verb names for an actor.
-pub fn verb_form(actor: &Actor, verb: &[u8]) -> Option<Form>
-    ensures { result ≡ named_form (verb_forms actor.now) verb.now }
+pub fn verb_form(actor: &Actor, verb: &[u8]) -> Option<VerbForm>
+    ensures { result ≡ named (verb_forms actor.now) verb.now }
 {
     match actor {
         Actor::Clock => look_up(&CLOCK_FORMS, verb),
@@ -89,12 +108,34 @@ pub fn verb_form(actor: &Actor, verb: &[u8]) -> Option<Form>
     }
 }
 
-fn look_up(table: &[(&str, Form)], word: &[u8]) -> Option<Form>
-    ensures { result ≡ named_form (map (λ row. (row.0.now, row.1)) table.now) word.now }
+/// A stage of a node.
+pub fn stage_of(word: &[u8]) -> Option<Stage>
+    ensures { result ≡ named stages word.now }
 {
-    for (text, form) in table {
+    look_up(&STAGES, word)
+}
+
+/// A store.
+pub fn store_of(word: &[u8]) -> Option<Store>
+    ensures { result ≡ named stores word.now }
+{
+    look_up(&STORES, word)
+}
+
+/// How a store call fails.
+pub fn kind_of(word: &[u8]) -> Option<Fate>
+    ensures { result ≡ named kinds word.now }
+{
+    look_up(&KINDS, word)
+}
+
+/// What the word stands for: what the first row of the table that has the word holds beside it.
+fn look_up<T: Copy>(table: &[(&str, T)], word: &[u8]) -> Option<T>
+    ensures { result ≡ named (map (λ row. (row.0.now, row.1)) table.now) word.now }
+{
+    for (text, meaning) in table {
         if word == text.as_bytes() {
-            return Some(*form);
+            return Some(*meaning);
         }
     }
     None

@@ -1,19 +1,39 @@
 use super::*;
 use history_book::Actor;
-use stamp_base::{KeyNo, NodeNo, SessionNo, Setup, Value};
+use port_io::Fate;
+use stamp_base::{KeyNo, Name, NodeNo, SessionNo, Setup, Stage, Store, TxnId, Value};
 use std::test::Fail;
 
 /// How many lines a script has, or its bad line and the text of the cause.
-fn outcome(rt: &HostRuntime, bytes: &[u8]) -> Result<Result<usize, (u64, &'static [u8])>, Fail> {
-    match read_script(rt.alloc(), bytes, Mode::Replay) {
+fn outcome(
+    rt: &HostRuntime,
+    bytes: &[u8],
+    mode: Mode,
+) -> Result<Result<usize, (u64, &'static [u8])>, Fail> {
+    match read_script(rt.alloc(), bytes, mode) {
         Ok(script) => Ok(Ok(script.lines.len())),
         Err(ScriptFault::At { line, cause }) => Ok(Err((line, cause.text()))),
         Err(ScriptFault::NoMemory) => Err(Fail::from("no memory")),
     }
 }
 
+/// Each script is refused at the line for the cause.
+fn refuses(rt: &HostRuntime, mode: Mode, rows: &[(&str, u64, &str)]) -> Result<(), Fail> {
+    for (script, line, cause) in rows {
+        match outcome(rt, script.as_bytes(), mode)? {
+            Ok(_) => return Err(Fail::from(*script)),
+            Err((at, text)) => {
+                if at != *line || text != cause.as_bytes() {
+                    return Err(Fail::from(*script));
+                }
+            }
+        }
+    }
+    Ok(())
+}
+
 #[test]
-fn names_the_first_cause_of_the_first_bad_line(rt: HostRuntime) -> Result<(), Fail> {
+fn names_what_is_wrong_with_the_words(rt: HostRuntime) -> Result<(), Fail> {
     let rows = [
         ("a\0take", 1, "bad byte"),
         ("\0", 1, "bad byte"),
@@ -24,38 +44,90 @@ fn names_the_first_cause_of_the_first_bad_line(rt: HostRuntime) -> Result<(), Fa
         ("s00 begin a", 1, "unknown actor"),
         ("s begin a", 1, "unknown actor"),
         ("c take", 1, "unknown actor"),
+        ("nodes 3\nd take", 2, "unknown actor"),
+        ("nodes 1\nb take", 2, "unknown actor"),
+        ("master take", 1, "unknown actor"),
         ("Clock tick 1", 1, "unknown actor"),
         ("q", 1, "unknown actor"),
         ("a fly", 1, "unknown verb"),
         ("a begin a", 1, "unknown verb"),
         ("s0 take", 1, "unknown verb"),
+        ("janitor commit a", 1, "unknown verb"),
         ("clock begin a b c", 1, "unknown verb"),
         ("a", 1, "wrong number of words"),
         ("s0", 1, "wrong number of words"),
+        ("clock", 1, "wrong number of words"),
         ("lease", 1, "wrong number of words"),
         ("lease 5 5", 1, "wrong number of words"),
+        ("buckets 1", 1, "wrong number of words"),
+        ("fault cells 1", 1, "wrong number of words"),
+        ("cache", 1, "wrong number of words"),
         ("a take now", 1, "wrong number of words"),
         ("a take # so it begins", 1, "wrong number of words"),
         ("s0 begin", 1, "wrong number of words"),
         ("s0 write k0", 1, "wrong number of words"),
         ("s0 write k0 v w x y z", 1, "wrong number of words"),
-        ("lease 5", 1, "not yet"),
+        ("janitor sweep a", 1, "wrong number of words"),
+        ("# a take\n\n \t\na take\nq\n\0", 5, "unknown actor"),
+        ("a take\r\nq\r\n", 2, "unknown actor"),
+    ];
+    refuses(&rt, Mode::Replay, &rows)
+}
+
+#[test]
+fn names_the_forms_that_wait(rt: HostRuntime) -> Result<(), Fail> {
+    let rows = [
+        ("cache 4", 1, "not yet"),
+        ("cache x", 1, "not yet"),
+        ("commits direct", 1, "not yet"),
         ("reads strict", 1, "not yet"),
-        ("fault cells 1 unchanged", 1, "not yet"),
-        ("clock tick 007", 1, "not yet"),
-        ("janitor sweep a 0", 1, "not yet"),
-        ("s0 await p", 1, "not yet"),
-        ("a accept s0", 1, "not yet"),
-        ("b take", 1, "not yet"),
-        ("s0 begin b", 1, "not yet"),
-        ("s0 commit b", 1, "not yet"),
+        ("a take\nreads strict", 2, "not yet"),
+    ];
+    refuses(&rt, Mode::Replay, &rows)?;
+    let rows = [
+        ("a accept s0", 1, "replay only"),
+        ("a accept x", 1, "replay only"),
+        ("a decide s0", 1, "replay only"),
+        ("a put s0", 1, "replay only"),
+        ("a answer s0", 1, "replay only"),
+        ("b extend", 1, "replay only"),
+        ("s0 ask-begin a", 1, "replay only"),
+        ("s0 ask-commit z", 1, "replay only"),
+        ("a accept", 1, "wrong number of words"),
+        ("reads strict", 1, "not yet"),
+    ];
+    refuses(&rt, Mode::Run, &rows)
+}
+
+#[test]
+fn names_what_is_wrong_with_an_argument(rt: HostRuntime) -> Result<(), Fail> {
+    let rows = [
+        ("clock tick 12345678901234567890", 1, "bad number"),
+        ("clock tick 007", 1, "bad number"),
+        ("clock tick x", 1, "bad number"),
+        ("clock tick 1_0", 1, "bad number"),
+        ("clock tick +1", 1, "bad number"),
+        ("clock tick 0", 1, "out of range"),
+        ("clock tick 1000001", 1, "out of range"),
+        ("clock tick 9999999999999999999", 1, "out of range"),
+        ("janitor sweep a 0", 1, "out of range"),
+        ("janitor open a 4611686018427387905", 1, "out of range"),
+        ("janitor open a -1", 1, "bad number"),
+        ("janitor sweep c 0", 1, "unknown node"),
         ("a take\ns1 begin z", 2, "unknown node"),
         ("s1 begin c", 1, "unknown node"),
+        ("nodes 1\ns1 begin b", 2, "unknown node"),
         ("s1 begin ab", 1, "unknown node"),
-        ("s1 commit 0", 1, "unknown node"),
+        ("s1 begin master", 1, "unknown node"),
+        ("s1 commit master", 1, "unknown node"),
+        ("s1 submit 0", 1, "unknown node"),
+        ("s1 ask-commit A", 1, "unknown node"),
+        ("a accept s16", 1, "bad session"),
+        ("b answer a", 1, "bad session"),
+        ("a put s01", 1, "bad session"),
         ("s0 write k4096 v", 1, "bad key"),
         ("s0 read k01", 1, "bad key"),
-        ("s0 read k00", 1, "bad key"),
+        ("s0 fetch k00", 1, "bad key"),
         ("s0 read k", 1, "bad key"),
         ("s0 read 1", 1, "bad key"),
         ("s0 read k12345678901234567890", 1, "bad key"),
@@ -65,18 +137,128 @@ fn names_the_first_cause_of_the_first_bad_line(rt: HostRuntime) -> Result<(), Fa
             1,
             "bad value",
         ),
-        ("# a take\n\n \t\na take\nq\n\0", 5, "unknown actor"),
-        ("a take\r\nlease 5\r\n", 2, "not yet"),
+        ("a hold replies", 1, "unknown stage"),
+        ("b free s0", 1, "unknown stage"),
+        ("a post p_q", 1, "bad name"),
+        ("s0 post abcdefghijklmnopq", 1, "bad name"),
+        ("janitor await p.q", 1, "bad name"),
     ];
-    for (script, line, cause) in rows {
-        match outcome(&rt, script.as_bytes())? {
-            Ok(_) => return Err(Fail::from(script)),
-            Err((at, text)) => {
-                assert_eq!(rt; at, line, "{script}");
-                assert!(rt; text == cause.as_bytes(), "{script}");
-            }
-        }
+    refuses(&rt, Mode::Replay, &rows)
+}
+
+#[test]
+fn names_what_is_wrong_with_a_setup_line(rt: HostRuntime) -> Result<(), Fail> {
+    let rows = [
+        ("nodes 0", 1, "out of range"),
+        ("nodes 9", 1, "out of range"),
+        ("nodes two", 1, "bad number"),
+        ("lease 0", 1, "out of range"),
+        ("lease 1000001", 1, "out of range"),
+        ("skew 1000001", 1, "out of range"),
+        ("skew -1", 1, "bad number"),
+        ("range 0", 1, "out of range"),
+        ("range 4611686018427387905", 1, "out of range"),
+        ("range 12345678901234567890", 1, "bad number"),
+        ("buckets 0 4", 1, "out of range"),
+        ("buckets 4097 x", 1, "out of range"),
+        ("buckets 64 x", 1, "bad number"),
+        ("buckets 64 0", 1, "out of range"),
+        ("buckets 64 65", 1, "out of range"),
+        ("slots 0", 1, "out of range"),
+        ("slots 1025", 1, "out of range"),
+        ("batch 257", 1, "out of range"),
+        ("workers 0", 1, "out of range"),
+        ("workers 9", 1, "out of range"),
+        ("lead a 3", 1, "out of range"),
+        ("skew 1\nlead a 2", 2, "out of range"),
+        ("lead c 1", 1, "unknown node"),
+        ("lead c x", 1, "unknown node"),
+        ("lead master 1", 1, "unknown node"),
+        ("lead a x", 1, "bad number"),
+        ("fault cell 0 none", 1, "unknown store"),
+        ("fault cells x none", 1, "bad number"),
+        ("fault table 0 none", 1, "out of range"),
+        ("fault table 1000001 none", 1, "out of range"),
+        ("fault master 1 none", 1, "unknown kind"),
+        ("fault master 1 works", 1, "unknown kind"),
+    ];
+    refuses(&rt, Mode::Replay, &rows)
+}
+
+#[test]
+fn keeps_setup_lines_in_front_and_each_once(rt: HostRuntime) -> Result<(), Fail> {
+    let rows = [
+        ("a take\nlease 5", 2, "setup order"),
+        ("a take\nlease 0", 2, "out of range"),
+        ("a post p\nfault cells 1 applied", 2, "setup order"),
+        ("lead a 1\nnodes 3", 2, "setup order"),
+        ("lead a 1\nskew 3", 2, "setup order"),
+        ("nodes 2\nlead a 0\nnodes 2", 3, "setup order"),
+        ("skew 2\nlead b 0\nskew 2", 3, "setup order"),
+        ("lease 5\na take\nlease 5", 3, "setup order"),
+        ("nodes 2\nnodes 2", 2, "setup twice"),
+        ("nodes 2\nnodes 3", 2, "setup twice"),
+        ("lease 5\n# again\nlease 6", 3, "setup twice"),
+        ("skew 0\nskew 0", 2, "setup twice"),
+        ("range 5\nrange 6", 2, "setup twice"),
+        ("buckets 1 1\nbuckets 2 2", 2, "setup twice"),
+        ("slots 1\nslots 2", 2, "setup twice"),
+        ("batch 1\nbatch 2", 2, "setup twice"),
+        ("workers 1\nworkers 2", 2, "setup twice"),
+        ("lead a 1\nlead b 1\nlead a 1", 3, "setup twice"),
+        (
+            "fault cells 1 applied\nfault table 1 applied\nfault cells 1 unchanged",
+            3,
+            "setup twice",
+        ),
+    ];
+    refuses(&rt, Mode::Replay, &rows)
+}
+
+#[test]
+fn keeps_the_rules_on_names(rt: HostRuntime) -> Result<(), Fail> {
+    let rows = [
+        ("s0 await p", 1, "name not posted"),
+        ("a post p\ns0 await p\ns1 await q", 3, "name not posted"),
+        ("a post p\ns0 await P", 2, "name not posted"),
+        ("s0 await p\na post p", 1, "name not posted"),
+        ("a post p\ns0 post p", 2, "posted twice"),
+        ("a post p\na post q\njanitor post q", 3, "posted twice"),
+    ];
+    refuses(&rt, Mode::Replay, &rows)?;
+    refuses(&rt, Mode::Run, &rows)?;
+    let script =
+        b"clock post p\na await p\nb await p\ns0 post abcdefghijklmn-Z\njanitor await abcdefghijklmn-Z";
+    assert_eq!(rt; outcome(&rt, script, Mode::Run)?, Ok(5));
+    Ok(())
+}
+
+#[test]
+fn plans_at_most_32_faults(rt: HostRuntime) -> Result<(), Fail> {
+    let mut bytes = Vec::new(rt.alloc());
+    for number in 1..33 {
+        let line = format!(in rt.alloc(); "fault cells {number} unchanged\n")?;
+        bytes.extend_from_slice(line.as_bytes())?;
     }
+    let Ok(script) = read_script(rt.alloc(), &bytes, Mode::Replay) else {
+        return Err(Fail::from("no script"));
+    };
+    assert_eq!(rt; script.faults.len(), 32);
+    let limit = bytes.len();
+    bytes.extend_from_slice(b"fault cells 33 unchanged")?;
+    assert_eq!(rt;
+        outcome(&rt, &bytes, Mode::Replay)?,
+        Err((33, b"too many faults".as_slice()))
+    );
+    bytes.truncate(limit);
+    bytes.extend_from_slice(b"fault cells 32 applied")?;
+    assert_eq!(rt;
+        outcome(&rt, &bytes, Mode::Replay)?,
+        Err((33, b"setup twice".as_slice()))
+    );
+    bytes.truncate(limit);
+    bytes.extend_from_slice(b"lease 1\na take")?;
+    assert_eq!(rt; outcome(&rt, &bytes, Mode::Replay)?, Ok(1));
     Ok(())
 }
 
@@ -90,6 +272,7 @@ fn counts_the_lines_of_a_script(rt: HostRuntime) -> Result<(), Fail> {
         ("\ta  take \t", 1),
         ("a take\r\n\r\ns0 begin a\r\n", 2),
         ("s15 read k4095\ns0 read k0\n", 2),
+        ("lease 5\nb take\ns0 begin b", 2),
         (
             "s0 write k0 aaaaaaaaaaaaaaaaaaaaaaaaaaaaaaaaaaaaaaaaaaaaaaaaaaaaaaaaaaaaaaaa",
             1,
@@ -97,44 +280,171 @@ fn counts_the_lines_of_a_script(rt: HostRuntime) -> Result<(), Fail> {
         ("s0 write k0 #", 1),
     ];
     for (script, count) in rows {
-        match outcome(&rt, script.as_bytes())? {
+        match outcome(&rt, script.as_bytes(), Mode::Replay)? {
             Ok(lines) => assert_eq!(rt; lines, count, "{script}"),
             Err(_) => return Err(Fail::from(script)),
         }
     }
     // A comment may hold any bytes.
-    assert_eq!(rt; outcome(&rt, b"#\xff\0\r\na take")?, Ok(1));
+    assert_eq!(rt; outcome(&rt, b"#\xff\0\r\na take", Mode::Replay)?, Ok(1));
+    Ok(())
+}
+
+/// The one line of a script, which is of the actor and asks for the verb.
+fn says(rt: &HostRuntime, text: &str, actor: &Actor, verb: &Verb) -> Result<(), Fail> {
+    let Ok(script) = read_script(rt.alloc(), text.as_bytes(), Mode::Replay) else {
+        return Err(Fail::from(text));
+    };
+    let [line] = script.lines.as_slice() else {
+        return Err(Fail::from(text));
+    };
+    if line.actor == *actor && line.verb == *verb {
+        Ok(())
+    } else {
+        Err(Fail::from(text))
+    }
+}
+
+#[test]
+fn reads_the_lines_of_nodes(rt: HostRuntime) -> Result<(), Fail> {
+    let actor = Actor::Node(NodeNo::new(1).ok_or("node")?);
+    let session = SessionNo::new(15).ok_or("session")?;
+    let rows = [
+        ("b take", Verb::Take),
+        ("b renew", Verb::Renew),
+        ("b crash", Verb::Crash),
+        ("b extend", Verb::Extend),
+        (
+            "b hold request",
+            Verb::Hold {
+                stage: Stage::Request,
+            },
+        ),
+        (
+            "b hold persist",
+            Verb::Hold {
+                stage: Stage::Persist,
+            },
+        ),
+        (
+            "b free reply",
+            Verb::Free {
+                stage: Stage::Reply,
+            },
+        ),
+        ("b accept s15", Verb::Accept { session }),
+        ("b decide s15", Verb::Decide { session }),
+        ("b put s15", Verb::Put { session }),
+        ("b answer s15", Verb::Answer { session }),
+    ];
+    for (text, verb) in &rows {
+        says(&rt, text, &actor, verb)?;
+    }
+    says(
+        &rt,
+        "clock tick 1000000",
+        &Actor::Clock,
+        &Verb::Tick { by: 1_000_000 },
+    )
+}
+
+#[test]
+fn reads_the_lines_of_the_janitor(rt: HostRuntime) -> Result<(), Fail> {
+    let node = NodeNo::new(1).ok_or("node")?;
+    let txn = TxnId::new(1).ok_or("start")?;
+    let rows = [
+        ("janitor sweep b 1", Verb::Sweep { node, txn }),
+        ("janitor open b 1", Verb::OpenSweep { node, txn }),
+        ("janitor step", Verb::Step),
+        ("janitor finish", Verb::Finish),
+    ];
+    for (text, verb) in &rows {
+        says(&rt, text, &Actor::Janitor, verb)?;
+    }
     Ok(())
 }
 
 #[test]
-fn reads_each_form_that_is_built(rt: HostRuntime) -> Result<(), Fail> {
-    let bytes = b"a take\n# the writer\ns0 begin a\ns0 write k7 v\ns15 read k7\n\ns0 commit a";
+fn reads_the_lines_of_sessions(rt: HostRuntime) -> Result<(), Fail> {
+    let actor = Actor::Session(SessionNo::new(3).ok_or("session")?);
+    let node = NodeNo::new(1).ok_or("node")?;
+    let key = KeyNo::new(7).ok_or("key")?;
+    let value = Value::new(b"v").ok_or("value")?;
+    let name = Name::new(b"p-1").ok_or("name")?;
+    let rows = [
+        (
+            "s3 begin b",
+            Verb::Begin {
+                target: Target::Node(node),
+            },
+        ),
+        (
+            "s3 commit b",
+            Verb::Commit {
+                target: Target::Node(node),
+            },
+        ),
+        (
+            "s3 submit b",
+            Verb::Submit {
+                target: Target::Node(node),
+            },
+        ),
+        ("s3 collect", Verb::Collect),
+        ("s3 write k7 v", Verb::Write { key, value }),
+        ("s3 read k7", Verb::Read { key }),
+        ("s3 fetch k7", Verb::Fetch { key }),
+        ("s3 step", Verb::Step),
+        ("s3 abort", Verb::Abort),
+        ("s3 heal", Verb::Heal),
+        ("s3 finish", Verb::Finish),
+        ("s3 vanish", Verb::Vanish),
+        ("s3 ask-begin b", Verb::AskBegin { node }),
+        ("s3 ask-commit b", Verb::AskCommit { node }),
+        ("s3 post p-1", Verb::Post { name }),
+    ];
+    for (text, verb) in &rows {
+        says(&rt, text, &actor, verb)?;
+    }
+    Ok(())
+}
+
+#[test]
+fn sets_what_setup_lines_say(rt: HostRuntime) -> Result<(), Fail> {
+    let bytes =
+        b"nodes 3\nlease 20\nskew 5\nrange 4611686018427387904\nbuckets 4096 64\nslots 1024\nbatch 256\nworkers 8\nlead c 5\nlead a 1\nfault table 3 applied\nfault cells 1000000 unchanged\n# now\nc take\n";
     let Ok(script) = read_script(rt.alloc(), bytes, Mode::Run) else {
         return Err(Fail::from("no script"));
     };
-    let node = NodeNo::new(0).ok_or("node")?;
-    let s0 = Actor::Session(SessionNo::new(0).ok_or("session")?);
-    let s15 = Actor::Session(SessionNo::new(15).ok_or("session")?);
-    let key = KeyNo::new(7).ok_or("key")?;
-    let value = Value::new(b"v").ok_or("value")?;
-    let target = Target::Node(node);
-    let wanted = [
-        (1, Actor::Node(node), Verb::Take),
-        (3, s0, Verb::Begin { target }),
-        (4, s0, Verb::Write { key, value }),
-        (5, s15, Verb::Read { key }),
-        (7, s0, Verb::Commit { target }),
-    ];
-    assert_eq!(rt; script.lines.len(), wanted.len());
-    for (line, (number, actor, verb)) in script.lines.iter().zip(wanted.iter()) {
-        assert_eq!(rt; line.number, *number);
-        assert!(rt; line.actor == *actor, "actor of line {number}");
-        assert!(rt; line.verb == *verb, "verb of line {number}");
-    }
+    let setup = script.setup;
+    assert_eq!(rt;
+        [setup.nodes, setup.lease, setup.skew, setup.range],
+        [3, 20, 5, 1 << 62]
+    );
+    assert_eq!(rt; [setup.buckets, setup.width, setup.slots], [4096, 64, 1024]);
+    assert_eq!(rt; [setup.batch, setup.workers, setup.cache], [256, 8, 0]);
+    assert_eq!(rt; script.leads.as_slice(), [1, 0, 5].as_slice());
+    let [table, cells] = script.faults.as_slice() else {
+        return Err(Fail::from("faults"));
+    };
+    assert!(rt; *table == (Store::Table, 3, Fate::FailsApplied));
+    assert!(rt; *cells == (Store::Cells, 1_000_000, Fate::FailsUnchanged));
+    let [take] = script.lines.as_slice() else {
+        return Err(Fail::from("lines"));
+    };
+    assert_eq!(rt; take.number, 14);
+    Ok(())
+}
+
+#[test]
+fn sets_nothing_without_setup_lines(rt: HostRuntime) -> Result<(), Fail> {
+    let Ok(script) = read_script(rt.alloc(), b"\n\nb take\n", Mode::Replay) else {
+        return Err(Fail::from("no script"));
+    };
     assert!(rt; script.setup == Setup::default());
     assert_eq!(rt; script.leads.as_slice(), [0, 0].as_slice());
     assert!(rt; script.faults.is_empty());
+    assert_eq!(rt; script.lines.len(), 1);
     Ok(())
 }
 
@@ -143,17 +453,20 @@ fn keeps_the_limits(rt: HostRuntime) -> Result<(), Fail> {
     let alloc = rt.alloc();
     let mut bytes = b"# the limit\n\n".to_vec(alloc)?;
     for _ in 0..131_072 {
-        bytes.extend_from_slice(b"a take\n")?;
+        bytes.extend_from_slice(b"clock tick 1\n")?;
     }
-    assert_eq!(rt; outcome(&rt, &bytes)?, Ok(131_072));
+    assert_eq!(rt; outcome(&rt, &bytes, Mode::Replay)?, Ok(131_072));
     bytes.extend_from_slice(b" \n# still\n\0\n")?;
     assert_eq!(rt;
-        outcome(&rt, &bytes)?,
+        outcome(&rt, &bytes, Mode::Replay)?,
         Err((131_077, b"too many lines".as_slice()))
     );
     let mut feeds = vec![in alloc; b'\n'; 16_777_216]?;
-    assert_eq!(rt; outcome(&rt, &feeds)?, Ok(0));
+    assert_eq!(rt; outcome(&rt, &feeds, Mode::Replay)?, Ok(0));
     feeds.push(b'\n')?;
-    assert_eq!(rt; outcome(&rt, &feeds)?, Err((0, b"too long".as_slice())));
+    assert_eq!(rt;
+        outcome(&rt, &feeds, Mode::Replay)?,
+        Err((0, b"too long".as_slice()))
+    );
     Ok(())
 }

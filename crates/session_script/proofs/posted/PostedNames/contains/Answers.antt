@@ -1,0 +1,10 @@
+use Rattle.std.proofs.Common.{◌≡◌, sym, ap, ◌∙◌}
+use Rattle.std.specs.List.{list_any}
+use Rattle.std.specs.Str.{bytes_eq}
+use Rattle.session_script.proofs.NameLemmas.{any-bytes}
+use Rattle.session_script.proofs.posted.PostedNames.contains.Goals as goal
+
+pub returns : goal.returns
+returns c = c.contains.ensures ∙ any-bytes (λ word. word.items) c.as_slice.result.now c.self.inside.names.keys
+    ∙ ap (λ names. list_any (bytes_eq c.as_slice.result.now) names) c.self.view_is
+    ∙ ap (λ name. list_any (bytes_eq name) c.args.self.now) c.as_slice.ensures.value
