@@ -1,8 +1,7 @@
 -- Each event that the run of any line makes lowers what is left.
-use Rattle.std.proofs.Common.{◌≡◌, ℕ, ◌+◌, ◌<◌, ◌≤◌, Bool, true, false, is_some, List, [], ◌∷◌, Option, Some, None, refl, sym, ◌∙◌, ap, subst, arith}
+use Rattle.std.proofs.Common.{◌≡◌, ◌<◌, is_some, List, Option, Some, None, refl, subst, arith}
 use Rattle.std.proofs.lemmas.Option.{same_Some, none-some}
 use Rattle.port_io.specs.declared.weather.Fate.{Fate}
-use Rattle.history_book.specs.declared.item.Actor.{Actor}
 use Rattle.history_book.specs.declared.item.Actor.TheVariants.{Clock, Node, Session, Janitor}
 use Rattle.history_book.specs.declared.item.Item.{Item}
 use Rattle.client_parts.specs.Sweep.{Sweeping}
@@ -11,7 +10,7 @@ use Rattle.client_parts.specs.Resolve.{SettlesEnd}
 use Rattle.machine.specs.declared.event.Event.{Event}
 use Rattle.machine.specs.declared.event.Event.TheVariants as event
 use Rattle.machine.specs.State.{State}
-use Rattle.machine.specs.Machine.{Step, stepped}
+use Rattle.machine.specs.Machine.{stepped}
 use Rattle.session_script.specs.declared.script.Verb.{Verb}
 use Rattle.session_script.specs.declared.script.Verb.TheVariants as verb
 use Rattle.isolation_laws.specs.Sound.{Stands}
@@ -21,11 +20,10 @@ use Rattle.line_runs.specs.declared.point.Point.{Point}
 use Rattle.line_runs.specs.declared.point.Point.TheVariants.{Opens, Drives, Extends, Finishes, Reads, Steps, Over}
 use Rattle.line_runs.specs.Halts.{halt_of, unless_halted, after_write, after_serving, after_extending, after_opening, follows}
 use Rattle.line_runs.specs.Views.{view_of}
-use Rattle.line_runs.specs.Next.{Clocks, opens_alone, sweep_next, janitor_opens, janitor_next, next}
-use Rattle.line_runs.specs.Left.{one_left, sweep_left, janitor_left, left}
+use Rattle.line_runs.specs.Next.{opens_alone, sweep_next, janitor_opens, janitor_next}
+use Rattle.line_runs.specs.Left.{one_left, janitor_left}
 use Rattle.line_runs.specs.Laws.{EventsLowerWhatIsLeft}
-use Rattle.line_runs.proofs.Stepping.{StepsEnd}
-use Rattle.line_runs.proofs.Sweeping.{SweepLowers, sweep_open_lowers, sweep_first, sweep_lowers}
+use Rattle.line_runs.proofs.Sweeping.{sweep_open_lowers, sweep_first, sweep_lowers}
 use Rattle.line_runs.proofs.Lowering.{session_lowers}
 
 -- ---- a run never opens again

@@ -1,15 +1,13 @@
 -- What events make of a session's client, for what is left of a run.
-use Rattle.std.proofs.Common.{◌≡◌, ℕ, ◌+◌, ◌<◌, ◌≤◌, Bool, true, false, List, [], ◌∷◌, ◌++◌, Option, Some, None, refl, sym, ◌∙◌, ap, subst, arith, length, map}
+use Rattle.std.proofs.Common.{◌≡◌, ℕ, ◌+◌, ◌≤◌, Bool, true, false, List, [], ◌∷◌, ◌++◌, Option, Some, None, refl, ◌∙◌, ap, arith, length}
 use Rattle.std.specs.Prelude.{slice_get, slice_set, if◌then◌else◌}
-use Rattle.client_parts.specs.declared.asks.Ask.{Ask}
-use Rattle.client_parts.specs.declared.asks.Ask.TheVariants.{Shadow, Remove, Erase}
 use Rattle.client_parts.specs.declared.session.State.{State as SessionState}
 use Rattle.client_parts.specs.declared.session.State.TheVariants as phase
 use Rattle.client_parts.specs.Completion.{finish_asks, undo_asks}
-use Rattle.client_parts.specs.SessionSteps.{SessionEntry, has_key, key_added}
+use Rattle.client_parts.specs.SessionSteps.{has_key, key_added}
 use Rattle.oracle_parts.specs.declared.instance.Request.{Request}
 use Rattle.oracle_parts.specs.declared.instance.Request.TheVariants.{Begin, Commit}
-use Rattle.machine.specs.State.{UnderWay, Nothing, Reads, Settles, Completes, Client, State}
+use Rattle.machine.specs.State.{Client, State}
 use Rattle.machine.specs.Clients.{undo_of, finish_of, client_freed, client_aborted, client_committed, unless_gone, unless_gone_by, after_refusal}
 use Rattle.machine.specs.Machine.{Step, at_client}
 use Rattle.isolation_laws.proofs.Lookups.{set_found}

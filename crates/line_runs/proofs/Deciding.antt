@@ -1,7 +1,6 @@
 -- A decision lowers what is left: the request has drawn, has ended, or its node is to extend the range.
-use Rattle.std.proofs.Common.{◌≡◌, ℕ, ◌+◌, ◌<◌, ◌≤◌, ◌==◌, nat_lt, nat_le, Bool, true, false, ◌&&◌, cond, List, [], ◌∷◌, Option, Some, None, is_none, Result, Ok, Err, ◌⊎◌, inl, inr, refl, sym, ◌∙◌, ap, subst, arith}
+use Rattle.std.proofs.Common.{◌≡◌, ℕ, ◌+◌, ◌<◌, ◌≤◌, ◌==◌, Bool, true, false, ◌&&◌, cond, List, Option, Some, None, is_none, refl, sym, ◌∙◌, ap, subst, arith}
 use Rattle.std.specs.Prelude.{slice_get, slice_set}
-use Rattle.std.proofs.lemmas.Option.{same_Some, none-some}
 use Rattle.port_io.specs.declared.weather.Fate.{Fate}
 use Rattle.history_book.specs.declared.cause.Cause.{Cause}
 use Rattle.history_book.specs.declared.cause.Cause.TheVariants as cause
@@ -10,31 +9,24 @@ use Rattle.oracle_parts.specs.declared.buckets.Verdict.{Verdict}
 use Rattle.oracle_parts.specs.declared.buckets.Verdict.TheVariants.{Free, Conflict, Hidden}
 use Rattle.oracle_parts.specs.declared.instance.Decided.{Decided}
 use Rattle.oracle_parts.specs.declared.instance.Held.{Held}
-use Rattle.oracle_parts.specs.declared.instance.Place.{Place}
 use Rattle.oracle_parts.specs.declared.instance.Place.TheVariants as place
 use Rattle.oracle_parts.specs.declared.instance.Progress.{Progress}
 use Rattle.oracle_parts.specs.declared.instance.Progress.TheVariants as progress
-use Rattle.oracle_parts.specs.declared.instance.Request.{Request}
-use Rattle.oracle_parts.specs.declared.instance.Request.TheVariants.{Begin, Commit}
-use Rattle.oracle_parts.specs.Instance.{InstanceEntry, held_of, with_request, place_of_progress}
+use Rattle.oracle_parts.specs.Instance.{InstanceEntry, held_of}
 use Rattle.machine.specs.declared.event.Event.TheVariants as event
 use Rattle.machine.specs.State.{Client, State}
 use Rattle.machine.specs.Effect.{Effect}
 use Rattle.machine.specs.Clients.{after_refusal}
-use Rattle.machine.specs.Machine.{Step, step_by, with_post, with_client, with_reading, at_both, on_request, stepped}
-use Rattle.machine.specs.Readers.{place_of}
+use Rattle.machine.specs.Machine.{Step, with_post, with_client, stepped}
 use Rattle.session_script.specs.declared.script.Verb.{Verb}
 use Rattle.isolation_laws.specs.Words.{InstanceAt, ClientAt}
-use Rattle.isolation_laws.specs.Sound.{Stands}
-use Rattle.isolation_laws.proofs.Lookups.{set_found, held_set, held_by}
-use Rattle.line_runs.specs.Halts.{halt_of, after_serving}
-use Rattle.line_runs.specs.Left.{of_client, keys_of, client_completes, client_ends, lacks_stamps, place_left, drive_left, session_left}
-use Rattle.line_runs.proofs.Holders.{Holder, Served, Changed, drives_on, driven}
+use Rattle.isolation_laws.proofs.Lookups.{set_found}
+use Rattle.line_runs.specs.Left.{of_client, client_completes, client_ends, lacks_stamps, place_left, drive_left}
 use Rattle.line_runs.proofs.Clients.{client_now, refused_left}
-use Rattle.oracle_parts.specs.InstanceSteps.{InstanceStep, IsStop, without_request, moved, no_stamp_told, out_of_stamps, decide_drawn, decide_by as verdict_by, request_verdict, decide_if_accepted, decide_held}
+use Rattle.oracle_parts.specs.InstanceSteps.{InstanceStep, IsStop, out_of_stamps, decide_drawn, decide_by as verdict_by, request_verdict, decide_if_accepted, decide_held}
 use Rattle.machine.specs.Events.Decide.{decide_by, decide_request, decide_on}
 use Rattle.isolation_laws.specs.Sound.{StopOf}
-use Rattle.line_runs.proofs.Serving.{Lowers, Serving, left_to_drive, node_step, on_both, goes_on, ends_so, is_over}
+use Rattle.line_runs.proofs.Serving.{Lowers, Serving, left_to_drive, node_step, on_both, goes_on, ends_so}
 
 -- an effect of the decision that the instance makes
 abbrev decide_effect : ℕ → ℕ → Held → Client → InstanceStep Decided → Effect (Option InstanceEntry × Client)

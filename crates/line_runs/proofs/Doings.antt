@@ -1,45 +1,29 @@
 -- What a session is doing tells of its state and of its next event.
-use Rattle.std.proofs.Common.{◌≡◌, ℕ, ◌+◌, ◌<◌, ◌≤◌, Bool, true, false, cond, is_some, List, [], ◌∷◌, Option, Some, None, ◌⊎◌, inl, inr, refl, sym, ◌∙◌, ap, subst, arith}
-use Rattle.std.specs.Prelude.{slice_get, slice_set}
+use Rattle.std.proofs.Common.{◌≡◌, ℕ, Bool, true, false, cond, Option, Some, None, inl, inr, refl, sym, ◌∙◌, ap}
 use Rattle.std.proofs.lemmas.Option.{same_Some, none-some}
 use Rattle.port_io.specs.declared.weather.Fate.{Fate}
 use Rattle.history_book.specs.declared.cause.Cause.{Cause}
 use Rattle.history_book.specs.declared.cause.Cause.TheVariants as cause
-use Rattle.history_book.specs.declared.item.Actor.{Actor}
-use Rattle.history_book.specs.declared.item.Actor.TheVariants.{Clock, Node, Session, Janitor}
-use Rattle.history_book.specs.declared.item.Item.{Item}
-use Rattle.client_parts.specs.Sweep.{Sweeping}
+use Rattle.history_book.specs.declared.item.Actor.TheVariants.{Session}
 use Rattle.client_parts.specs.declared.session.State.{State as SessionState}
 use Rattle.client_parts.specs.declared.session.State.TheVariants as phase
 use Rattle.client_parts.specs.SessionSteps.{step_refusal}
-use Rattle.oracle_parts.specs.declared.instance.Place.{Place}
-use Rattle.oracle_parts.specs.declared.instance.Place.TheVariants as place
 use Rattle.machine.specs.declared.event.Doing.{Doing}
 use Rattle.machine.specs.declared.event.Event.{Event}
 use Rattle.machine.specs.declared.event.Event.TheVariants as event
 use Rattle.machine.specs.State.{Client, State}
 use Rattle.machine.specs.Clients.{is_reading}
-use Rattle.machine.specs.Machine.{Step, at_client, stepped}
+use Rattle.machine.specs.Machine.{at_client, stepped}
 use Rattle.machine.specs.Events.Step.{step_on, step_by as step_unless}
-use Rattle.machine.specs.Readers.{open_doing, doing_by, client_doing, doing_at, doing_of, place_of, asks_commit}
-use Rattle.session_script.specs.declared.script.Verb.{Verb}
-use Rattle.session_script.specs.declared.script.Verb.TheVariants as verb
+use Rattle.machine.specs.Readers.{open_doing, doing_by, client_doing}
 use Rattle.isolation_laws.specs.Words.{ClientAt}
-use Rattle.isolation_laws.specs.Sound.{Stands}
-use Rattle.line_runs.specs.declared.point.Halt.{Halt}
-use Rattle.line_runs.specs.declared.point.Point.{Point}
-use Rattle.line_runs.specs.declared.point.Point.TheVariants.{Opens, Drives, Extends, Finishes, Reads, Steps, Over}
-use Rattle.line_runs.specs.declared.point.View.{View}
-use Rattle.line_runs.specs.Halts.{halt_of, unless_halted, after_serving, after_extending, follows}
-use Rattle.line_runs.specs.Views.{view_of}
-use Rattle.line_runs.specs.Next.{Clocks, target_node, serves, is_served, finish_next, drive_next, extend_by, extend_next, idle_next, collect_next, read_next, steps_next, session_opens, session_next}
-use Rattle.line_runs.specs.Left.{of_client, client_completes, client_ends, client_reads, client_steps, drive_left_by, drive_left, session_left}
+use Rattle.line_runs.specs.Next.{finish_next, idle_next, read_next, steps_next}
 use Rattle.machine.specs.Clients.{is_reading_by}
 use Rattle.machine.specs.Effect.{refused}
 use Rattle.machine.specs.declared.event.Doing.TheVariants as doing
 use Rattle.line_runs.specs.Halts.{refused_by}
 use Rattle.line_runs.specs.declared.point.Halt.TheVariants.{Refused}
-use Rattle.line_runs.proofs.Working.{ReadWork, SettleWork, CompleteWork, HasWork}
+use Rattle.line_runs.proofs.Working.{HasWork}
 use Rattle.line_runs.proofs.Stepping.{stores_step}
 
 -- ---- what a session is doing tells of its state

@@ -1,7 +1,6 @@
 -- Each event that drives a request lowers what is left, and so does the completion that follows.
-use Rattle.std.proofs.Common.{◌≡◌, ℕ, ◌+◌, ◌<◌, ◌≤◌, Bool, true, false, cond, List, [], ◌∷◌, Option, Some, None, ◌⊎◌, inl, inr, refl, sym, ◌∙◌, ap, subst, arith}
-use Rattle.std.specs.Prelude.{slice_get, slice_set}
-use Rattle.std.proofs.lemmas.Option.{same_Some, none-some}
+use Rattle.std.proofs.Common.{◌≡◌, ℕ, ◌+◌, ◌<◌, Bool, List, Option, Some, None, refl, sym, ◌∙◌, ap, subst, arith}
+use Rattle.std.specs.Prelude.{slice_get}
 use Rattle.port_io.specs.declared.weather.Fate.{Fate}
 use Rattle.history_book.specs.declared.cause.Cause.TheVariants as cause
 use Rattle.history_book.specs.declared.item.Actor.TheVariants.{Node}
@@ -14,11 +13,10 @@ use Rattle.oracle_parts.specs.declared.instance.Progress.TheVariants as progress
 use Rattle.oracle_parts.specs.declared.instance.Request.{Request}
 use Rattle.oracle_parts.specs.declared.instance.Request.TheVariants.{Begin, Commit}
 use Rattle.oracle_parts.specs.Instance.{InstanceEntry, held_of, place_of_progress, stamps_by, stamps_of_held}
-use Rattle.machine.specs.declared.event.Event.{Event}
 use Rattle.machine.specs.declared.event.Event.TheVariants as event
 use Rattle.machine.specs.State.{Client, State}
 use Rattle.machine.specs.Effect.{refused}
-use Rattle.machine.specs.Machine.{Step, with_post, with_client, stepped}
+use Rattle.machine.specs.Machine.{Step, with_client, stepped}
 use Rattle.machine.specs.Events.Answer.{answer_request, answer_on}
 use Rattle.machine.specs.Readers.{holder_from, place_held, place_of, is_commit, asks_commit}
 use Rattle.session_script.specs.declared.script.Verb.{Verb}
@@ -26,11 +24,9 @@ use Rattle.isolation_laws.specs.Words.{ClientAt}
 use Rattle.isolation_laws.specs.Sound.{Stands}
 use Rattle.isolation_laws.proofs.Lookups.{held_by}
 use Rattle.line_runs.specs.declared.point.Point.{Point}
-use Rattle.line_runs.specs.declared.point.Point.TheVariants as point
 use Rattle.line_runs.specs.Next.{Clocks, serves}
-use Rattle.line_runs.specs.Halts.{halt_of, unless_halted, after_serving}
 use Rattle.line_runs.specs.Left.{of_client, client_completes, client_ends, drive_left_by, drive_left, session_left}
-use Rattle.line_runs.proofs.Holders.{Holder, Served, is_served_at}
+use Rattle.line_runs.proofs.Holders.{Served, is_served_at}
 use Rattle.line_runs.proofs.Clients.{client_now}
 use Rattle.line_runs.proofs.Serving.{Lowers, Serving, left_to_drive, node_step, on_both, ends_so}
 use Rattle.line_runs.proofs.Accepting.{accept_lowers}
@@ -78,8 +74,8 @@ serves_lower clocks w h s request verb fate stands at =
       client_at = first.client_at;
     } in
     subst (λ (commit : Bool). Lowers w s verb (stepped w (serves clocks s request.0 commit request.1) fate)) (sym first.served.commit_is)
-      (subst (λ (p : Place). Lowers w s verb (stepped w (serves clocks s request.0 (is_commit held.request) p) fate)) first.served.place_is
-        (served_by clocks w h request.0 s verb fate held held.request held.progress refl refl k refl))
+    (subst (λ (p : Place). Lowers w s verb (stepped w (serves clocks s request.0 (is_commit held.request) p) fate)) first.served.place_is
+    (served_by clocks w h request.0 s verb fate held held.request held.progress refl refl k refl))
 
 -- ---- a completion where no request is left
 pub completion_lowers : (w : State) (s : ℕ) (verb : Verb) (c : Client) (step : Step) → ClientAt w.clients s c → place_of w s ≡ None → FewerAsks w s c step → Lowers w s verb step

@@ -1,7 +1,6 @@
 -- Runs end, and lines lead from what is reached to what is reached. A property that every event keeps is kept by them too.
-use Rattle.std.proofs.Common.{◌≡◌, ℕ, zero, suc, ◌+◌, ◌<◌, ◌≤◌, ◌^◌, List, [], ◌∷◌, ◌++◌, Option, Some, None, refl, sym, ◌∙◌, ap, subst, arith}
+use Rattle.std.proofs.Common.{◌≡◌, ℕ, zero, suc, ◌+◌, ◌<◌, ◌≤◌, ◌^◌, List, [], ◌∷◌, ◌++◌, Option, Some, None, refl, sym, ◌∙◌, subst, arith}
 use Rattle.std.specs.Prelude.{slice_index_or}
-use Rattle.std.proofs.lemmas.Option.{none-some}
 use Rattle.stamp_base.specs.SetupNumbers.{SetupNumbers, AreInRange}
 use Rattle.port_io.specs.declared.weather.Fate.{Fate}
 use Rattle.history_book.specs.declared.item.Item.{Item}
@@ -12,7 +11,6 @@ use Rattle.machine.proofs.PartsKept.{seen_up, leaves_parts}
 use Rattle.session_script.specs.declared.script.Line.{Line}
 use Rattle.session_script.specs.declared.script.Verb.{Verb}
 use Rattle.session_script.specs.Script.{ScriptData}
-use Rattle.isolation_laws.specs.Sound.{Stands}
 use Rattle.isolation_laws.proofs.AlwaysHolds.{facts_stay, stands_at_first}
 use Rattle.line_runs.specs.declared.point.Halt.{Halt}
 use Rattle.line_runs.specs.declared.point.Point.{Point}
@@ -20,8 +18,8 @@ use Rattle.line_runs.specs.declared.point.Point.TheVariants.{Opens, Drives, Exte
 use Rattle.line_runs.specs.Halts.{halt_of, follows}
 use Rattle.line_runs.specs.Views.{view_of}
 use Rattle.line_runs.specs.Next.{Clocks}
-use Rattle.line_runs.specs.Left.{left, one_left}
-use Rattle.line_runs.specs.Runs.{Played, clock_after, fate_of, step_of, played, Run, clocks_of, next_in, run_after, left_in, going_on, run_for, opened, line_run, lines_played, opening_played, script_played}
+use Rattle.line_runs.specs.Left.{one_left}
+use Rattle.line_runs.specs.Runs.{Played, fate_of, Run, clocks_of, next_in, run_after, left_in, going_on, run_for, opened, line_run, lines_played, opening_played, script_played}
 use Rattle.line_runs.specs.Laws.{EventsLowerWhatIsLeft, tick_of, ticks_of, IsPlayable, IsReached, RunsEnd, LinesKeepFacts, ScriptsAreReached}
 use Rattle.line_runs.proofs.AllLower.{followed_once}
 use Rattle.line_runs.proofs.Timing.{tick_ahead, event_timed, InTime, OnTime, in_time}

@@ -1,7 +1,7 @@
 -- An extension lowers what is left: the instance has stamps again, or keeps the refusal, so that the next decision draws or
 -- ends the request. A failed one ends the run.
-use Rattle.std.proofs.Common.{◌≡◌, ℕ, ◌+◌, ◌<◌, ◌≤◌, ◌==◌, Bool, true, false, ◌&&◌, List, [], ◌∷◌, Option, Some, None, is_none, Result, Ok, Err, ◌⊎◌, inl, inr, refl, sym, ◌∙◌, ap, subst, arith}
-use Rattle.std.specs.Prelude.{slice_get, slice_set}
+use Rattle.std.proofs.Common.{◌≡◌, ℕ, ◌+◌, ◌<◌, ◌≤◌, ◌==◌, Bool, true, false, ◌&&◌, List, Option, Some, None, is_none, refl, sym, ◌∙◌, ap, subst, arith}
+use Rattle.std.specs.Prelude.{slice_get}
 use Rattle.std.specs.Option.{option_or}
 use Rattle.std.proofs.lemmas.Bool.{ne_eqb}
 use Rattle.std.proofs.lemmas.Option.{same_Some}
@@ -26,10 +26,9 @@ use Rattle.machine.specs.Machine.{Step, step_by, with_post, at_post, stepped}
 use Rattle.machine.specs.Events.Extend.{extend_by, extend_on}
 use Rattle.machine.specs.Events.Take.{rules_of}
 use Rattle.session_script.specs.declared.script.Verb.{Verb}
-use Rattle.isolation_laws.specs.Words.{InstanceAt}
 use Rattle.line_runs.specs.Halts.{halt_of, after_extending}
 use Rattle.line_runs.specs.Left.{of_client, client_completes, client_ends, lacks_stamps, place_left, drive_left, session_left}
-use Rattle.line_runs.proofs.Holders.{Changed, drives_on}
+use Rattle.line_runs.proofs.Holders.{drives_on}
 use Rattle.line_runs.proofs.Serving.{Serving, serving_changed}
 
 -- the step as an effect on the node and the master record
@@ -46,14 +45,14 @@ can_decide w h node s k now master requests enough =
     let left : State = record (with_post w node (Some now)) { master = master } in
     let ends : ℕ = of_client (slice_get w.clients s) client_ends in
     drives_on w left h node s now (4 + ends) (serving_changed w left h s (node, place.Accepted) k now refl) (λ (other : Held) has.
-      let there : held_of i s ≡ Some other = ap (λ (held_now : List (Option Held)). held_of (record i { requests = held_now }) s) (sym requests) ∙ has in
-      let same : k.served.held ≡ other = same_Some k.served.held other (sym k.served.holder.has ∙ there) in
-      let at : place_of_progress other.progress ≡ place.Accepted = ap (λ (x : Held). place_of_progress x.progress) (sym same) ∙ k.served.place_is in
-      let three : place_left (lacks_stamps now) (place_of_progress other.progress) ≡ 3 = ap (λ (lacks : Bool). place_left lacks (place_of_progress other.progress)) enough ∙ ap (λ (p : Place). place_left false p) at in
-      omega (arith, three)) (completes_less (slice_get w.clients s)) where
-  completes_less : (found : Option Client) → of_client found client_completes < 4 + of_client found client_ends
-  completes_less None = omega arith
-  completes_less (Some c) = omega arith
+    let there : held_of i s ≡ Some other = ap (λ (held_now : List (Option Held)). held_of (record i { requests = held_now }) s) (sym requests) ∙ has in
+    let same : k.served.held ≡ other = same_Some k.served.held other (sym k.served.holder.has ∙ there) in
+    let at : place_of_progress other.progress ≡ place.Accepted = ap (λ (x : Held). place_of_progress x.progress) (sym same) ∙ k.served.place_is in
+    let three : place_left (lacks_stamps now) (place_of_progress other.progress) ≡ 3 = ap (λ (lacks : Bool). place_left lacks (place_of_progress other.progress)) enough ∙ ap (λ (p : Place). place_left false p) at in
+    omega (arith, three)) (completes_less (slice_get w.clients s)) where
+      completes_less : (found : Option Client) → of_client found client_completes < 4 + of_client found client_ends
+      completes_less None = omega arith
+      completes_less (Some c) = omega arith
 
 -- a range that was added is not used up
 widened_enough : (w : State) (h : List Item) (node s : ℕ) (k : Serving w h s (node, place.Accepted)) → lacks_stamps (instance_widened k.served.holder.i (w.master.ceiling + w.setup.range)) ≡ false

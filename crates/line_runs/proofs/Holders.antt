@@ -1,5 +1,5 @@
 -- The request of a session: where it is found, and where it stands after the node that holds it has changed.
-use Rattle.std.proofs.Common.{◌≡◌, ◌≢◌, ℕ, zero, suc, ◌+◌, ◌<◌, ◌≤◌, Bool, true, false, List, [], ◌∷◌, Option, Some, None, ◌⊎◌, inl, inr, refl, sym, ◌∙◌, ap, subst, arith}
+use Rattle.std.proofs.Common.{◌≡◌, ℕ, zero, suc, ◌+◌, ◌<◌, List, [], ◌∷◌, Option, Some, None, inl, inr, refl, sym, ◌∙◌, ap, subst, arith}
 use Rattle.std.specs.Prelude.{slice_get, slice_set}
 use Rattle.std.proofs.lemmas.Option.{same_Some, none-some}
 use Rattle.history_book.specs.declared.item.Item.{Item}
@@ -8,7 +8,7 @@ use Rattle.oracle_parts.specs.declared.instance.Place.{Place}
 use Rattle.oracle_parts.specs.Instance.{InstanceEntry, held_of, place_of_progress}
 use Rattle.machine.specs.State.{Client, State}
 use Rattle.machine.specs.Readers.{held_at, first_holder, holder_from, holder_of, place_held, place_of, is_commit, commit_held, asks_commit}
-use Rattle.isolation_laws.specs.Words.{InstanceAt, HeldBy}
+use Rattle.isolation_laws.specs.Words.{InstanceAt}
 use Rattle.isolation_laws.specs.Sound.{Stands}
 use Rattle.isolation_laws.proofs.Lookups.{set_found, instance_changed, held_by}
 use Rattle.line_runs.specs.Left.{of_client, client_completes, client_ends, lacks_stamps, lacks_at, place_left, request_left, drive_left_by, drive_left}

@@ -16,3 +16,9 @@ mod Lowering
 mod AllLower
 mod Timing
 pub mod Ending
+mod Plain
+mod PlainEvents
+mod Fitting
+mod FittingSteps
+mod AlwaysFit
+mod OpeningItems

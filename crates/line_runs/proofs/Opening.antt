@@ -1,13 +1,12 @@
 -- The first event of a session's line lowers what is left.
-use Rattle.std.proofs.Common.{◌≡◌, ℕ, ◌+◌, ◌*◌, ◌<◌, ◌≤◌, Bool, true, false, List, [], ◌∷◌, Option, Some, None, Result, Ok, Err, refl, sym, ◌∙◌, ap, subst, arith, length}
+use Rattle.std.proofs.Common.{◌≡◌, ℕ, ◌+◌, ◌*◌, ◌<◌, ◌≤◌, Bool, true, false, List, [], ◌∷◌, Option, Some, None, Result, Ok, Err, refl, ap, arith}
 use Rattle.std.specs.Prelude.{slice_get, slice_set}
 use Rattle.port_io.specs.declared.weather.Fate.{Fate}
 use Rattle.port_io.specs.declared.weather.Fate.TheVariants.{Works, FailsUnchanged, FailsApplied}
-use Rattle.port_io.specs.Fates.{fated}
 use Rattle.history_book.specs.declared.cause.Cause.{Cause}
 use Rattle.history_book.specs.declared.item.Item.{Item}
 use Rattle.history_book.specs.declared.item.Item.TheVariants.{AskBegin, AskCommit}
-use Rattle.store_parts.specs.Rows.{Row, put_row, fetched, front_of}
+use Rattle.store_parts.specs.Rows.{Row, fetched, front_of}
 use Rattle.client_parts.specs.KeyRead.{ReadTurn, Asks, Answers, read_over, ReadsEnd}
 use Rattle.client_parts.specs.SessionSteps.{begin_refusal, work_refusal}
 use Rattle.oracle_parts.specs.declared.instance.Place.{Place}
@@ -18,22 +17,21 @@ use Rattle.oracle_parts.specs.InstanceSteps.{InstanceStep, instance_ask}
 use Rattle.machine.specs.declared.event.Event.TheVariants as event
 use Rattle.machine.specs.State.{Client, State}
 use Rattle.machine.specs.Effect.{Effect}
-use Rattle.machine.specs.Clients.{is_reading, client_aborted}
+use Rattle.machine.specs.Clients.{is_reading}
 use Rattle.machine.specs.Machine.{Step, step_by, with_post, with_client, at_client, at_both, stepped}
-use Rattle.machine.specs.Events.AskBegin.{asked_by, begin_asked, ask_begin_by, ask_begin_on}
-use Rattle.machine.specs.Events.AskCommit.{commit_asked, commit_of, ask_commit_by, ask_commit_on}
+use Rattle.machine.specs.Events.AskBegin.{asked_by, ask_begin_by, ask_begin_on}
+use Rattle.machine.specs.Events.AskCommit.{commit_of, ask_commit_by, ask_commit_on}
 use Rattle.machine.specs.Events.Write.{client_wrote, write_refused, write_open, write_on}
 use Rattle.machine.specs.Events.Abort.{abort_by, abort_on}
-use Rattle.machine.specs.Events.Fetch.{client_read, fetch_by, fetch_open, fetch_on}
+use Rattle.machine.specs.Events.Fetch.{client_read, fetch_open, fetch_on}
 use Rattle.machine.specs.Readers.{place_of}
 use Rattle.session_script.specs.declared.script.Verb.{Verb}
-use Rattle.isolation_laws.specs.Words.{ClientAt}
 use Rattle.line_runs.specs.declared.point.Halt.{Halt}
 use Rattle.line_runs.specs.declared.point.Halt.TheVariants.{NoStamp, NotYet, Refused, Faulted}
 use Rattle.line_runs.specs.declared.point.Point.{Point}
-use Rattle.line_runs.specs.declared.point.Point.TheVariants.{Drives, Finishes, Reads, Over}
+use Rattle.line_runs.specs.declared.point.Point.TheVariants.{Drives, Finishes, Reads}
 use Rattle.line_runs.specs.Halts.{halt_of, unless_halted, after_write}
-use Rattle.line_runs.specs.Left.{cells_by, keys_of, of_client, client_completes, client_ends, client_reads, client_fetches, lacks_at, place_left, drive_left_by, drive_left, session_left}
+use Rattle.line_runs.specs.Left.{cells_by, of_client, client_completes, client_ends, client_reads, client_fetches, lacks_at, place_left, drive_left_by, drive_left, session_left}
 use Rattle.line_runs.proofs.Clients.{client_now, client_left, no_client_left, aborted_left, added_long}
 
 -- a run that stopped has nothing left

@@ -1,36 +1,21 @@
 -- A put lowers what is left, whether it is made, finds a mark or fails.
-use Rattle.std.proofs.Common.{◌≡◌, ℕ, ◌+◌, ◌<◌, ◌≤◌, ◌==◌, nat_lt, nat_le, Bool, true, false, ◌&&◌, cond, List, [], ◌∷◌, Option, Some, None, is_none, Result, Ok, Err, ◌⊎◌, inl, inr, refl, sym, ◌∙◌, ap, subst, arith}
-use Rattle.std.specs.Prelude.{slice_get, slice_set}
-use Rattle.std.proofs.lemmas.Option.{same_Some, none-some}
+use Rattle.std.proofs.Common.{◌≡◌, ℕ, ◌+◌, ◌<◌, List, Option, Some, None, refl, sym, ◌∙◌, ap, subst, arith}
 use Rattle.port_io.specs.declared.weather.Fate.{Fate}
-use Rattle.history_book.specs.declared.cause.Cause.{Cause}
-use Rattle.history_book.specs.declared.cause.Cause.TheVariants as cause
 use Rattle.history_book.specs.declared.item.Item.{Item}
-use Rattle.oracle_parts.specs.declared.buckets.Verdict.{Verdict}
-use Rattle.oracle_parts.specs.declared.buckets.Verdict.TheVariants.{Free, Conflict, Hidden}
-use Rattle.oracle_parts.specs.declared.instance.Decided.{Decided}
 use Rattle.oracle_parts.specs.declared.instance.Held.{Held}
-use Rattle.oracle_parts.specs.declared.instance.Place.{Place}
 use Rattle.oracle_parts.specs.declared.instance.Place.TheVariants as place
 use Rattle.oracle_parts.specs.declared.instance.Progress.{Progress}
 use Rattle.oracle_parts.specs.declared.instance.Progress.TheVariants as progress
 use Rattle.oracle_parts.specs.declared.instance.Request.{Request}
-use Rattle.oracle_parts.specs.declared.instance.Request.TheVariants.{Begin, Commit}
-use Rattle.oracle_parts.specs.Instance.{InstanceEntry, held_of, with_request, place_of_progress}
+use Rattle.oracle_parts.specs.declared.instance.Request.TheVariants.{Commit}
+use Rattle.oracle_parts.specs.Instance.{InstanceEntry, held_of, with_request}
 use Rattle.machine.specs.declared.event.Event.TheVariants as event
-use Rattle.machine.specs.State.{Client, State}
+use Rattle.machine.specs.State.{State}
 use Rattle.machine.specs.Effect.{Effect}
-use Rattle.machine.specs.Clients.{after_refusal}
-use Rattle.machine.specs.Machine.{Step, step_by, with_post, with_client, with_reading, at_both, on_request, stepped}
-use Rattle.machine.specs.Readers.{place_of}
+use Rattle.machine.specs.Machine.{Step, step_by, with_post, stepped}
 use Rattle.session_script.specs.declared.script.Verb.{Verb}
-use Rattle.isolation_laws.specs.Words.{InstanceAt, ClientAt}
-use Rattle.isolation_laws.specs.Sound.{Stands}
-use Rattle.isolation_laws.proofs.Lookups.{set_found, held_set, held_by}
-use Rattle.line_runs.specs.Halts.{halt_of, after_serving}
-use Rattle.line_runs.specs.Left.{of_client, keys_of, client_completes, client_ends, lacks_stamps, place_left, drive_left, session_left}
-use Rattle.line_runs.proofs.Holders.{Holder, Served, Changed, drives_on, driven}
-use Rattle.line_runs.proofs.Clients.{client_now, refused_left}
+use Rattle.isolation_laws.specs.Words.{InstanceAt}
+use Rattle.line_runs.specs.Left.{client_ends, drive_left}
 use Rattle.port_io.specs.declared.weather.Fate.TheVariants.{Works, FailsUnchanged, FailsApplied}
 use Rattle.port_io.specs.Fates.{fated}
 use Rattle.stamp_base.specs.declared.stores.Mark.{Mark}
@@ -42,7 +27,7 @@ use Rattle.oracle_parts.specs.InstanceSteps.{moved, settle_if_drawn, settle_held
 use Rattle.oracle_parts.specs.Instance.{unsettled_by}
 use Rattle.machine.specs.Machine.{at_post}
 use Rattle.machine.specs.Events.Put.{to_place, to_place_by, put_by, put_commit, put_on}
-use Rattle.line_runs.proofs.Serving.{Lowers, Serving, left_to_drive, node_step, on_both, goes_on, ends_so, is_over}
+use Rattle.line_runs.proofs.Serving.{Lowers, Serving, left_to_drive, goes_on}
 
 -- the step as an effect on the node and the commit table
 abbrev table_step : State → ℕ → Effect (Option InstanceEntry × Pairs) → Step

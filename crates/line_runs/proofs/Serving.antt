@@ -1,38 +1,23 @@
 -- An event that serves a request lowers what is left: what all of them have in common.
-use Rattle.std.proofs.Common.{◌≡◌, ℕ, ◌+◌, ◌<◌, ◌≤◌, ◌==◌, nat_lt, nat_le, Bool, true, false, ◌&&◌, cond, List, [], ◌∷◌, Option, Some, None, is_none, Result, Ok, Err, ◌⊎◌, inl, inr, refl, sym, ◌∙◌, ap, subst, arith}
+use Rattle.std.proofs.Common.{◌≡◌, ℕ, ◌+◌, ◌<◌, ◌≤◌, List, Option, Some, None, inl, inr, refl, sym, ◌∙◌, ap, subst, arith}
 use Rattle.std.specs.Prelude.{slice_get, slice_set}
 use Rattle.std.proofs.lemmas.Option.{same_Some, none-some}
-use Rattle.port_io.specs.declared.weather.Fate.{Fate}
-use Rattle.history_book.specs.declared.cause.Cause.{Cause}
-use Rattle.history_book.specs.declared.cause.Cause.TheVariants as cause
 use Rattle.history_book.specs.declared.item.Item.{Item}
-use Rattle.oracle_parts.specs.declared.buckets.Verdict.{Verdict}
-use Rattle.oracle_parts.specs.declared.buckets.Verdict.TheVariants.{Free, Conflict, Hidden}
-use Rattle.oracle_parts.specs.declared.instance.Decided.{Decided}
 use Rattle.oracle_parts.specs.declared.instance.Held.{Held}
 use Rattle.oracle_parts.specs.declared.instance.Place.{Place}
-use Rattle.oracle_parts.specs.declared.instance.Place.TheVariants as place
-use Rattle.oracle_parts.specs.declared.instance.Progress.{Progress}
-use Rattle.oracle_parts.specs.declared.instance.Progress.TheVariants as progress
-use Rattle.oracle_parts.specs.declared.instance.Request.{Request}
-use Rattle.oracle_parts.specs.declared.instance.Request.TheVariants.{Begin, Commit}
 use Rattle.oracle_parts.specs.Instance.{InstanceEntry, held_of, with_request, place_of_progress}
-use Rattle.oracle_parts.specs.InstanceSteps.{InstanceStep, moved, epoch_refusal, accept_refusal, accept_unless, accept_if_asked, accept_held, instance_accept}
-use Rattle.machine.specs.declared.event.Event.TheVariants as event
 use Rattle.machine.specs.State.{Client, State}
 use Rattle.machine.specs.Effect.{Effect}
-use Rattle.machine.specs.Clients.{after_refusal}
-use Rattle.machine.specs.Machine.{Step, step_by, with_post, with_client, with_reading, at_both, on_request, stepped}
-use Rattle.machine.specs.Events.Accept.{accept_by, accept_request, accept_on}
+use Rattle.machine.specs.Machine.{Step, step_by, with_post, with_client, at_both, on_request}
 use Rattle.machine.specs.Readers.{place_of}
 use Rattle.session_script.specs.declared.script.Verb.{Verb}
 use Rattle.isolation_laws.specs.Words.{InstanceAt, ClientAt}
 use Rattle.isolation_laws.specs.Sound.{Stands}
-use Rattle.isolation_laws.proofs.Lookups.{set_found, held_set, held_by}
+use Rattle.isolation_laws.proofs.Lookups.{held_set}
 use Rattle.line_runs.specs.Halts.{halt_of, after_serving}
-use Rattle.line_runs.specs.Left.{of_client, keys_of, client_completes, client_ends, lacks_stamps, place_left, drive_left, session_left}
-use Rattle.line_runs.proofs.Holders.{Holder, Served, Changed, drives_on, driven}
-use Rattle.line_runs.proofs.Clients.{client_now, refused_left}
+use Rattle.line_runs.specs.Left.{of_client, client_completes, client_ends, lacks_stamps, place_left, drive_left, session_left}
+use Rattle.line_runs.proofs.Holders.{Served, Changed, drives_on, driven}
+use Rattle.line_runs.proofs.Clients.{client_now}
 
 -- what is left after a step that serves a request is less than it was to drive
 abbrev pub Lowers : State → ℕ → Verb → Step → Type 0

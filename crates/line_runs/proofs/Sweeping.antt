@@ -1,5 +1,5 @@
 -- A step of a sweep lowers what is left of it; a failed one ends it.
-use Rattle.std.proofs.Common.{◌≡◌, ℕ, ◌+◌, ◌<◌, ◌≤◌, nat_lt, Bool, true, false, cond, List, [], ◌∷◌, Option, Some, None, ◌⊎◌, inl, inr, refl, sym, ◌∙◌, ap, subst, arith, length}
+use Rattle.std.proofs.Common.{◌≡◌, ℕ, ◌+◌, ◌<◌, ◌≤◌, nat_lt, Bool, true, false, cond, List, [], ◌∷◌, Option, Some, None, inl, inr, refl, sym, ap, subst, arith, length}
 use Rattle.std.specs.Prelude.{slice_get}
 use Rattle.std.proofs.lemmas.Option.{same_Some}
 use Rattle.port_io.specs.declared.weather.Fate.{Fate}
@@ -9,26 +9,23 @@ use Rattle.history_book.specs.declared.item.Item.{Item}
 use Rattle.stamp_base.specs.declared.stores.Mark.{Mark}
 use Rattle.stamp_base.specs.declared.stores.Mark.TheVariants.{Committed as CommittedMark, Invalid as InvalidMark}
 use Rattle.store_parts.specs.Rows.{Row, keys_of_version}
-use Rattle.store_parts.specs.Pairs.{Pairs}
 use Rattle.client_parts.specs.declared.asks.Ask.{Ask}
 use Rattle.client_parts.specs.declared.asks.Ask.TheVariants as ask
 use Rattle.client_parts.specs.declared.asks.Told.{Told}
 use Rattle.client_parts.specs.declared.asks.Told.TheVariants as told
 use Rattle.client_parts.specs.Completion.{finish_asks, undo_asks, first_ask}
-use Rattle.client_parts.specs.Sweep.{SweepPoint, Table, Marking, Listing, Left, Undecided, Sweeping, sweep_open, sweep_ask, sweep_after_table, sweep_after_marking, sweep_told, sweep_asks, sweep_listed}
+use Rattle.client_parts.specs.Sweep.{SweepPoint, Table, Marking, Listing, Left, Undecided, Sweeping, sweep_ask, sweep_after_table, sweep_after_marking, sweep_told, sweep_asks, sweep_listed}
 use Rattle.oracle_parts.specs.Instance.{InstanceEntry}
 use Rattle.machine.specs.declared.event.Event.TheVariants as event
 use Rattle.machine.specs.State.{State}
-use Rattle.machine.specs.Effect.{Effect}
-use Rattle.machine.specs.StoreSteps.{Met, met, told_by, rows_after}
+use Rattle.machine.specs.StoreSteps.{met, told_by, rows_after}
 use Rattle.machine.specs.Machine.{Step, step_by, at_post, stepped, on_swept}
-use Rattle.machine.specs.Events.SweepOpen.{sweep_open_at, sweep_open_on}
-use Rattle.machine.specs.Events.SweepStep.{SweepParts, still_open, sweep_met, sweep_lists, sweep_at, sweep_step_on}
+use Rattle.machine.specs.Events.SweepOpen.{sweep_open_on}
+use Rattle.machine.specs.Events.SweepStep.{still_open, sweep_met, sweep_lists, sweep_at, sweep_step_on}
 use Rattle.session_script.specs.declared.script.Verb.{Verb}
 use Rattle.isolation_laws.specs.Sound.{Stands}
 use Rattle.isolation_laws.specs.UnderWay.{IsSweptAt}
 use Rattle.line_runs.specs.declared.point.Halt.{Halt}
-use Rattle.line_runs.specs.declared.point.Point.{Point}
 use Rattle.line_runs.specs.declared.point.Point.TheVariants.{Steps}
 use Rattle.line_runs.specs.Halts.{halt_of, unless_halted}
 use Rattle.line_runs.specs.Left.{sweep_left_at, sweep_left, janitor_left}

@@ -1,6 +1,5 @@
 -- What a session that may make a step has under way: a read, the resolve of its own commit, or a completion.
 use Rattle.std.proofs.Common.{◌≡◌, ℕ, Bool, true, false, IsTrue, List, [], ◌∷◌, Option, Some, None, ◌⊎◌, inl, inr, refl, sym, ◌∙◌, ap, subst}
-use Rattle.std.proofs.lemmas.Option.{same_Some}
 use Rattle.history_book.specs.declared.item.Item.{Item}
 use Rattle.client_parts.specs.declared.asks.Ask.{Ask}
 use Rattle.client_parts.specs.declared.session.State.{State as SessionState}
@@ -8,7 +7,7 @@ use Rattle.client_parts.specs.declared.session.State.TheVariants as phase
 use Rattle.client_parts.specs.Completion.{finish_asks, undo_asks}
 use Rattle.client_parts.specs.Resolve.{Settling, own_settling}
 use Rattle.client_parts.specs.KeyRead.{Reading}
-use Rattle.client_parts.specs.SessionSteps.{SessionEntry, step_refusal, has_transaction}
+use Rattle.client_parts.specs.SessionSteps.{step_refusal, has_transaction}
 use Rattle.machine.specs.State.{UnderWay, Nothing, Reads, Settles, Completes, Client, State}
 use Rattle.machine.specs.Clients.{is_reading, is_reading_by}
 use Rattle.machine.specs.Events.Step.{own_resolve, work_by, work_of}
@@ -57,10 +56,10 @@ settles w h s c stands at is_open = elim (stands.holds.under_way.settling.resolv
       let begun = stands.holds.requests.have_begun.begun s c at (subst (λ (state : SessionState). IsTrue (has_transaction state)) (sym is_open) refl) in
       due c is_open none begun.0 begun.1 c.entry.keys refl (stands.holds.requests.keys.some s c at (inr is_open))
   | inr (x, t, under_way, start, own) ↦ record {
-      x = x;
-      is_open = is_open;
-      work = ap (λ (state : SessionState). work_by state c.entry c.under_way) is_open ∙ ap (λ (work : UnderWay). work_by phase.OpenOutcome c.entry work) under_way;
-    }
+    x = x;
+    is_open = is_open;
+    work = ap (λ (state : SessionState). work_by state c.entry c.under_way) is_open ∙ ap (λ (work : UnderWay). work_by phase.OpenOutcome c.entry work) under_way;
+  }
 ]
 
 -- ---- a completion has an ask

@@ -1,5 +1,5 @@
 -- Every run ends, and what a script comes to keeps all facts.
-use Rattle.std.specs.Prelude.{◌≡◌, ℕ, ◌+◌, ◌<◌, ◌≤◌, ◌^◌, All, List, [], ◌∷◌, slice_index_or, Option, None, Some}
+use Rattle.std.specs.Prelude.{◌≡◌, ℕ, ◌+◌, ◌<◌, ◌≤◌, ◌^◌, List, [], ◌∷◌, slice_index_or, None, Some}
 use Rattle.stamp_base.specs.SetupNumbers.{AreInRange}
 use Rattle.port_io.specs.declared.weather.Fate.{Fate}
 use Rattle.history_book.specs.declared.item.Actor.{Actor}
@@ -17,7 +17,7 @@ use Rattle.line_runs.specs.Halts.{halt_of, follows}
 use Rattle.line_runs.specs.Views.{view_of}
 use Rattle.line_runs.specs.Next.{Clocks, next}
 use Rattle.line_runs.specs.Left.{left}
-use Rattle.line_runs.specs.Runs.{Played, Run, next_in, opened, line_run, lines_played, script_played, replayed}
+use Rattle.line_runs.specs.Runs.{Played, next_in, line_run, lines_played, script_played}
 
 -- each event that a run makes lowers what is left, in every state that is reached, under every fate
 abbrev pub EventsLowerWhatIsLeft : Type 0

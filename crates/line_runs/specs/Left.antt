@@ -1,6 +1,5 @@
 -- How many events the run of a line can still make, at most.
-use Rattle.std.specs.Prelude.{ℕ, ◌+◌, ◌*◌, ◌==◌, Bool, true, false, ◌&&◌, if◌then◌else◌, List, length, slice_get, Option, None, Some, is_none}
-use Rattle.history_book.specs.declared.cause.Cause.{Cause}
+use Rattle.std.specs.Prelude.{ℕ, ◌+◌, ◌*◌, ◌==◌, Bool, false, ◌&&◌, if◌then◌else◌, List, length, slice_get, Option, None, Some, is_none}
 use Rattle.history_book.specs.declared.item.Actor.{Actor}
 use Rattle.history_book.specs.declared.item.Actor.TheVariants.{Clock, Node, Session, Janitor}
 use Rattle.store_parts.specs.Rows.{Row, fetched, front_of, keys_of_version}

@@ -5,3 +5,5 @@ pub mod Next
 pub mod Left
 pub mod Runs
 pub mod Laws
+pub mod Answers
+pub mod Planned

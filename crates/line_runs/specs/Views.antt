@@ -1,5 +1,5 @@
 -- What the run of a line looks at in a state.
-use Rattle.std.specs.Prelude.{Bool, false, None}
+use Rattle.std.specs.Prelude.{false, None}
 use Rattle.history_book.specs.declared.item.Actor.{Actor}
 use Rattle.history_book.specs.declared.item.Actor.TheVariants.{Session}
 use Rattle.machine.specs.declared.event.Doing.TheVariants as doing
