@@ -1,5 +1,5 @@
 -- What asks, the calls of a node on its requests, and its crash need follows from whom requests wait for.
-use Rattle.std.proofs.Common.{◌≡◌, ℕ, List, Option, Some, None, ◌⊎◌, inl, inr, refl, sym, ◌∙◌, ap, subst}
+use Rattle.std.proofs.Common.{◌≡◌, ℕ, List, Option, Some, None, ◌⊎◌, inl, inr, refl, sym, ap, subst}
 use Rattle.std.proofs.lemmas.Option.{same_Some, none-some}
 use Rattle.history_book.specs.declared.item.Item.{Item}
 use Rattle.client_parts.specs.declared.session.State.{State as SessionState}
@@ -24,7 +24,7 @@ use Rattle.isolation_laws.proofs.NumbersKept.{in_flight_of, drawn_pending}
 use Rattle.isolation_laws.proofs.Owners.{pending_unplaced}
 use Rattle.isolation_laws.proofs.InversionOfSessions.{work_open}
 use Rattle.cause_laws.specs.Shows.{Tells}
-use Rattle.call_laws.specs.Requests.{PostAt, BeginMayBeAsked, CommitMayBeAsked, RequestMayBeServed, CrashMayBeMade, PutMayBeMade}
+use Rattle.call_laws.specs.Requests.{PostAt, BeginMayBeAsked, CommitMayBeAsked, RequestsAreWaitedFor, PutMayBeMade}
 
 -- ---- who waits
 -- the session of a request that is held
@@ -95,14 +95,8 @@ waits_at : (w : State) (h : List Item) (session node : ℕ) (c : Client) (post :
 waits_at w h session node c None holds client_at at = tt
 waits_at w h session node c (Some i) holds client_at at = serves_found w h session node c i holds client_at at (held_of i session) refl
 
-pub requests_serve : (w : State) (h : List Item) → Tells w h → RequestMayBeServed w
-requests_serve w h tells session node c post client_at at = waits_at w h session node c post tells.stands.holds client_at at
-
-pub crashes_hear : (w : State) (h : List Item) → Tells w h → CrashMayBeMade w
-crashes_hear w h tells node i at = record {
-  waits = λ session c client_at. waits_at w h session node c (Some i) tells.stands.holds client_at at;
-  places = tells.shows.open_asks.sixteen node i at ∙ sym tells.shows.sixteen;
-}
+pub requests_wait : (w : State) (h : List Item) → Tells w h → RequestsAreWaitedFor w
+requests_wait w h tells node post at session c client_at = waits_at w h session node c post tells.stands.holds client_at at
 
 -- ---- the put
 -- a commit that is to be placed is held as drawn

@@ -15,7 +15,7 @@ use Rattle.client_parts.specs.Resolve.{ask_at}
 use Rattle.client_parts.specs.SessionSteps.{EndsFrom, step_refusal, has_transaction}
 use Rattle.machine.specs.State.{UnderWay, Nothing, Reads, Settles, Completes, Client, State}
 use Rattle.machine.specs.Clients.{is_reading, is_reading_by, client_freed}
-use Rattle.machine.specs.Calls.{CanWork}
+use Rattle.machine.specs.Calls.{MayStep, CanWork}
 use Rattle.machine.specs.Events.Step.{own_resolve, work_by, work_of, next_of}
 use Rattle.isolation_laws.specs.Words.{ClientAt}
 use Rattle.isolation_laws.specs.Holds.{Holds}
@@ -124,12 +124,11 @@ work_can c (Completes []) asks fits = absurd (asks refl)
 work_can c (Completes (asked ∷ left)) asks fits = subst (λ (s : SessionState). EndsFrom s c.entry.keys) (sym fits.completing) tt
 
 pub steps_ask : (w : State) (h : List Item) → Tells w h → StepMayBeMade w
-steps_ask w h tells session c at may =
+steps_ask w h tells session c at =
     let holds : Holds w h = tells.stands.holds in
-    let fits : IsWork c (work_of c) = work_fits w h session c holds at may in
-    let asks : next_of (work_of c) ≡ None → ⊥ = state_asks w h session c holds at c.entry.state refl may in
+    let asks : MayStep c → next_of (work_of c) ≡ None → ⊥ = λ may. state_asks w h session c holds at c.entry.state refl may in
     record {
       asks = asks;
-      work = work_can c (work_of c) asks fits;
-      shadow = keeps_next w.rows (next_of (work_of c)) (λ k t commit next. only_shadow w h k t commit holds (work_shadow w h session c holds at (work_of c) fits k t commit next));
+      work = λ may. work_can c (work_of c) (asks may) (work_fits w h session c holds at may);
+      shadow = λ may. keeps_next w.rows (next_of (work_of c)) (λ k t commit next. only_shadow w h k t commit holds (work_shadow w h session c holds at (work_of c) (work_fits w h session c holds at may) k t commit next));
     }

@@ -25,11 +25,12 @@ use Rattle.isolation_laws.specs.Pending.{IsOpen}
 use Rattle.isolation_laws.specs.Cells.{AreRows}
 use Rattle.isolation_laws.specs.Reads.{IsReading, IsResolvedTo}
 use Rattle.isolation_laws.specs.Holds.{Holds}
+use Rattle.isolation_laws.specs.Sound.{Sound}
 use Rattle.isolation_laws.proofs.OnceEach.{one_commit}
 use Rattle.isolation_laws.proofs.StoresStay.{swept_fills}
 use Rattle.isolation_laws.proofs.InversionOfSessions.{work_open, write_may}
 use Rattle.cause_laws.specs.Shows.{Tells}
-use Rattle.call_laws.specs.Stores.{WriteMayBeMade, HealMayBeMade, ReadsFetched, ReadMayGoOn, CanSweep, SweepMayStep}
+use Rattle.call_laws.specs.Stores.{WriteMayBeMade, HealMayBeMade, ReadsFetched, ReadMayGoOn, SweepMayStep}
 
 -- ---- the only shadow that a cell may have
 shadow_only : (rows : List Row) (h : List Item) (k t commit : ℕ) (cell : Cell) → AreRows rows h → Stamped h → Committed h t commit → looked rows k t ≡ Some cell → (shadow : Option ℕ) → cell.shadow ≡ shadow → IfSome shadow (λ there. there ≡ commit)
@@ -123,12 +124,14 @@ keeps_next rows (Some (ask.Remove t)) only = tt
 keeps_next rows (Some (ask.Erase k t)) only = tt
 keeps_next rows (Some (ask.Keys t)) only = tt
 
-sweep_can : (w : State) (h : List Item) → Tells w h → (sweep : Option Sweeping) → w.sweep ≡ sweep → IfSome sweep (λ s. CanSweep w.rows s)
-sweep_can w h tells None is_open = tt
-sweep_can w h tells (Some s) is_open = record {
-  asks = tells.stands.sound.sweeps.asks s is_open;
-  shadow = keeps_next w.rows (sweep_ask s) (λ k t commit next. only_shadow w h k t commit tells.stands.holds (swept_fills w h s (ask.Shadow k t commit) tells.stands.holds is_open next k t commit refl));
-}
+sweep_asks : (w : State) → Sound w → (sweep : Option Sweeping) → w.sweep ≡ sweep → IfSome sweep (λ s. sweep_ask s ≡ None → ⊥)
+sweep_asks w sound None is_open = tt
+sweep_asks w sound (Some s) is_open = sound.sweeps.asks s is_open
+
+sweep_keeps : (w : State) (h : List Item) → Holds w h → (sweep : Option Sweeping) → w.sweep ≡ sweep → IfSome sweep (λ s. KeepsShadowNext (sweep_ask s) w.rows)
+sweep_keeps w h holds None is_open = tt
+sweep_keeps w h holds (Some s) is_open =
+    keeps_next w.rows (sweep_ask s) (λ k t commit next. only_shadow w h k t commit holds (swept_fills w h s (ask.Shadow k t commit) holds is_open next k t commit refl))
 
 pub sweeps_ask : (w : State) (h : List Item) → Tells w h → SweepMayStep w
-sweeps_ask w h tells = sweep_can w h tells w.sweep refl
+sweeps_ask w h tells = record { asks = sweep_asks w tells.stands.sound w.sweep refl; shadow = sweep_keeps w h tells.stands.holds w.sweep refl }

@@ -1,5 +1,5 @@
 -- What asks, the calls of a node on the requests that it holds, and its crash ask of nodes and clients.
-use Rattle.std.specs.Prelude.{◌≡◌, ℕ, List, length, slice_get, Option, None, Some}
+use Rattle.std.specs.Prelude.{◌≡◌, ℕ, slice_get, Option, None, Some}
 use Rattle.client_parts.specs.SessionSteps.{begin_refusal, work_refusal}
 use Rattle.oracle_parts.specs.Instance.{InstanceEntry, held_of}
 use Rattle.machine.specs.State.{Client, State}
@@ -23,17 +23,8 @@ CommitMayBeAsked w =
     (session node : ℕ) (c : Client) (post : Option InstanceEntry) → ClientAt w.clients session c → PostAt w node post → work_refusal c.entry.state (is_reading c) ≡ None → HoldsNone post session
 
 -- the session of a request that a node holds waits for it, or has vanished
-abbrev pub RequestMayBeServed : State → Type 0
-RequestMayBeServed w =
-    (session node : ℕ) (c : Client) (post : Option InstanceEntry) → ClientAt w.clients session c → PostAt w node post → WaitsAt post session c.entry
-
--- all of them, where the instance ends; it has a place for a request of each
-pub record EachIsWaitedFor (clients : List Client) (i : InstanceEntry) : Type 0 where
-  pub waits : (session : ℕ) (c : Client) → ClientAt clients session c → WaitsAt (Some i) session c.entry
-  pub places : length i.requests ≡ length clients
-
-abbrev pub CrashMayBeMade : State → Type 0
-CrashMayBeMade w = (node : ℕ) (i : InstanceEntry) → InstanceAt w.nodes node i → EachIsWaitedFor w.clients i
+abbrev pub RequestsAreWaitedFor : State → Type 0
+RequestsAreWaitedFor w = (node : ℕ) (post : Option InstanceEntry) → PostAt w node post → (session : ℕ) (c : Client) → ClientAt w.clients session c → WaitsAt post session c.entry
 
 -- the commit table has no commit of a transaction whose commit is to be placed
 abbrev pub PutMayBeMade : State → Type 0

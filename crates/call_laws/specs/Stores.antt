@@ -3,7 +3,7 @@ use Rattle.std.specs.Prelude.{◌≡◌, ℕ, ◌≤◌, List, ◌∷◌, None, 
 use Rattle.store_parts.specs.Rows.{Row, IsBare, HasOnly}
 use Rattle.client_parts.specs.declared.resolve.SettlePoint.TheVariants.{Marking}
 use Rattle.client_parts.specs.KeyRead.{Reading, AreFetched}
-use Rattle.client_parts.specs.Sweep.{Sweeping, sweep_ask}
+use Rattle.client_parts.specs.Sweep.{sweep_ask}
 use Rattle.machine.specs.State.{Reads, Client, State}
 use Rattle.machine.specs.Events.Step.{work_of, next_of}
 use Rattle.machine.specs.Calls.{MayStep, CanWork, KeepsShadowNext}
@@ -30,17 +30,14 @@ ReadMayGoOn w = (session : ℕ) (c : Client) (r : Reading) → ClientAt w.client
 -- a step that is not refused asks something; the session can hear what it comes to, and a shadow that it sets is the only one
 -- that the cell may have
 pub record CanStep (rows : List Row) (c : Client) : Type 0 where
-  pub asks : next_of (work_of c) ≡ None → ⊥
-  pub work : CanWork (work_of c) c.entry
-  pub shadow : KeepsShadowNext (next_of (work_of c)) rows
+  pub asks : MayStep c → next_of (work_of c) ≡ None → ⊥
+  pub work : MayStep c → CanWork (work_of c) c.entry
+  pub shadow : MayStep c → KeepsShadowNext (next_of (work_of c)) rows
 
 abbrev pub StepMayBeMade : State → Type 0
-StepMayBeMade w = (session : ℕ) (c : Client) → ClientAt w.clients session c → MayStep c → CanStep w.rows c
+StepMayBeMade w = (session : ℕ) (c : Client) → ClientAt w.clients session c → CanStep w.rows c
 
 -- so does a step of an open sweep
-pub record CanSweep (rows : List Row) (s : Sweeping) : Type 0 where
-  pub asks : sweep_ask s ≡ None → ⊥
-  pub shadow : KeepsShadowNext (sweep_ask s) rows
-
-abbrev pub SweepMayStep : State → Type 0
-SweepMayStep w = IfSome w.sweep (λ s. CanSweep w.rows s)
+pub record SweepMayStep (w : State) : Type 0 where
+  pub asks : IfSome w.sweep (λ s. sweep_ask s ≡ None → ⊥)
+  pub shadow : IfSome w.sweep (λ s. KeepsShadowNext (sweep_ask s) w.rows)

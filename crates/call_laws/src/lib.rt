@@ -1,5 +1,5 @@
-//! What the calls on the parts require of their caller, in every state that is reached: that the facts of the machine give
-//! it, one law for each event whose call requires something.
+//! What the calls on the parts require of their caller holds in every state that is reached: one law for each event whose
+//! call requires something, and one for all that a node does with a request that it holds.
 #![tactic(auto)]
 
 ghost use Rattle.std.specs.Prelude.{List};
@@ -21,8 +21,7 @@ pub use record_calls::{
     take_may_be_made,
 };
 pub use request_calls::{
-    begin_may_be_asked, commit_may_be_asked, crash_may_be_made, put_may_be_made,
-    request_may_be_served,
+    begin_may_be_asked, commit_may_be_asked, put_may_be_made, requests_are_waited_for,
 };
 pub use store_calls::{
     heal_may_be_made, read_may_go_on, step_may_be_made, sweep_may_step, write_may_be_made,

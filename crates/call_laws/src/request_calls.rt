@@ -3,7 +3,7 @@ ghost use Rattle.std.specs.Prelude.{List};
 ghost use Rattle.history_book.specs.declared.item.Item.{Item};
 ghost use Rattle.machine.specs.State.{State};
 ghost use Rattle.cause_laws.specs.Shows.{Tells};
-ghost use Rattle.call_laws.specs.Requests.{BeginMayBeAsked, CommitMayBeAsked, RequestMayBeServed, CrashMayBeMade, PutMayBeMade};
+ghost use Rattle.call_laws.specs.Requests.{BeginMayBeAsked, CommitMayBeAsked, RequestsAreWaitedFor, PutMayBeMade};
 
 /// No node holds a request of a session that may begin.
 pub fn begin_may_be_asked()
@@ -15,14 +15,10 @@ pub fn commit_may_be_asked()
     ensures { (w : State) (h : List Item) → Tells w h → CommitMayBeAsked w }
 {}
 
-/// A session waits for the request that a node accepts, decides or answers, unless it has vanished.
-pub fn request_may_be_served()
-    ensures { (w : State) (h : List Item) → Tells w h → RequestMayBeServed w }
-{}
-
-/// Each session whose request is lost by a crash waits for it, unless it has vanished.
-pub fn crash_may_be_made()
-    ensures { (w : State) (h : List Item) → Tells w h → CrashMayBeMade w }
+/// A session waits for the request that a node holds of it, and accepts, decides, answers or loses by a crash, unless it has
+/// vanished.
+pub fn requests_are_waited_for()
+    ensures { (w : State) (h : List Item) → Tells w h → RequestsAreWaitedFor w }
 {}
 
 /// The put of an instance never finds a commit: the commit table has none of a transaction that is to be placed.

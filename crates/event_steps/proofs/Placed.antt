@@ -1,5 +1,5 @@
 -- A put that failed, by what the table has before and after it.
-use Rattle.std.proofs.Common.{◌≡◌, ◌≢◌, ℕ, List, [], ◌∷◌, ◌++◌, append_assoc, refl, sym, ap, ◌∙◌, subst, Option, None, Some, Result, Err, arith}
+use Rattle.std.proofs.Common.{◌≡◌, ◌≢◌, ℕ, List, [], ◌∷◌, ◌++◌, append_assoc, refl, ◌∙◌, subst, Option, None, Some, Result, Err, arith}
 use Rattle.stamp_base.specs.declared.stores.Store.TheVariants.{Table}
 use Rattle.stamp_base.specs.declared.stores.Mark.{Mark}
 use Rattle.stamp_base.specs.declared.stores.Mark.TheVariants.{Committed}
@@ -18,7 +18,7 @@ use Rattle.machine.specs.Effect.{kept_items}
 use Rattle.machine.specs.Events.Put.{put_by}
 use Rattle.event_steps.specs.declared.stopped.Stopped.{Stopped}
 use Rattle.event_steps.specs.declared.stopped.Stopped.TheVariants.{Fault}
-use Rattle.event_steps.specs.Made.{Leaves, Makes}
+use Rattle.event_steps.specs.Made.{Makes}
 use Rattle.event_steps.specs.Kept.{placed_kept}
 
 -- the table stayed

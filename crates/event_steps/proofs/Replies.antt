@@ -1,5 +1,5 @@
 -- Where a session waits for its request, it waits for the reply that the request gets.
-use Rattle.std.proofs.Common.{◌≡◌, ℕ, Option, None, Some, List, ◌++◌, Result, Ok, Err, refl, arith}
+use Rattle.std.proofs.Common.{◌≡◌, ℕ, Option, None, Some, List, ◌++◌, Result, Ok, refl, arith}
 use Rattle.client_parts.specs.SessionSteps.{SessionEntry}
 use Rattle.oracle_parts.specs.declared.instance.Held.{Held}
 use Rattle.oracle_parts.specs.declared.instance.Progress.{Progress}
@@ -15,7 +15,7 @@ use Rattle.history_book.specs.declared.item.Item.{Item}
 use Rattle.machine.specs.State.{Client}
 use Rattle.machine.specs.Events.Answer.{answer_by}
 use Rattle.event_steps.specs.declared.stopped.Stopped.{Stopped}
-use Rattle.event_steps.specs.Made.{Leaves, Makes, ended}
+use Rattle.event_steps.specs.Made.{Makes, ended}
 use Rattle.event_steps.specs.Waiting.{Waits, WaitsFor}
 use Rattle.event_steps.specs.Replies.{WaitsForReply, replied, reply_told}
 

@@ -1,5 +1,5 @@
 -- What the code's parts stand for in the machine.
-use Rattle.std.specs.Prelude.{◌≡◌, Option, None, Some}
+use Rattle.std.specs.Prelude.{Option, None, Some}
 use Rattle.client_parts.specs.KeyRead.{Reading}
 use Rattle.machine.specs.State as machine
 use Rattle.event_steps.specs.declared.client.UnderWay.{UnderWay}

@@ -1,5 +1,5 @@
 // A node accepts a session's request.
-ghost use Rattle.std.specs.Prelude.{◌≡◌, Some};
+ghost use Rattle.std.specs.Prelude.{Some};
 ghost use Rattle.oracle_parts.specs.Instance.{held_of};
 ghost use Rattle.oracle_parts.specs.InstanceSteps.{instance_accept};
 ghost use Rattle.machine.specs.Events.Accept.{accept_on, accept_request, accept_by};

@@ -2,7 +2,7 @@
 ghost use Rattle.std.specs.Prelude.{◌≡◌, None, Some};
 ghost use Rattle.client_parts.specs.SessionSteps.{begin_refusal, CanAsk};
 ghost use Rattle.oracle_parts.specs.InstanceSteps.{CanAskOf, instance_ask};
-ghost use Rattle.machine.specs.Events.AskBegin.{ask_begin_on, begin_asked, asked_by};
+ghost use Rattle.machine.specs.Events.AskBegin.{ask_begin_on, asked_by};
 ghost use Rattle.event_steps.specs.Made.{Makes};
 ghost use Rattle.event_steps.specs.Waiting.{HoldsNone};
 

@@ -1,5 +1,5 @@
 // How an event tells what it did: its items in the book, in room that was made for them.
-ghost use Rattle.std.specs.Prelude.{◌≡◌, ℕ, ◌≤◌, ◌+◌, ◌++◌, ◌∷◌, [], Err, OnErr, OnOk, if◌then◌else◌};
+ghost use Rattle.std.specs.Prelude.{◌≡◌, ◌≤◌, ◌+◌, ◌++◌, ◌∷◌, [], Err, OnOk, if◌then◌else◌};
 ghost use Rattle.store_parts.specs.StoreCalls.{AsksOnce};
 ghost use Rattle.machine.specs.Effect as effect;
 ghost use Rattle.event_steps.specs.Made.{Makes, no_parts};

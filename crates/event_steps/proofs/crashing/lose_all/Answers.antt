@@ -1,7 +1,7 @@
-use Rattle.std.proofs.Common.{◌≡◌, ◌+◌, ◌<◌, ◌≤◌, ◌++◌, min, length, slice_index_or, take, ap, sym, ◌∙◌, arith}
+use Rattle.std.proofs.Common.{◌≡◌, ◌+◌, ◌<◌, ◌≤◌, ◌++◌, min, length, slice_index_or, take, ◌∙◌, arith}
 use Rattle.history_book.specs.declared.item.Item.TheVariants.{Crash}
 use Rattle.machine.specs.State.{Client}
-use Rattle.machine.specs.Events.Crash.{crashed_client, crashed_clients, crashed_items, all_crashed_items}
+use Rattle.machine.specs.Events.Crash.{crashed_client, crashed_items, all_crashed_items}
 use Rattle.event_steps.proofs.Losses.{not_yet_crashed, crashed_next, all_crashed, told_next, all_told, none_crashed, none_told, waits_next, behind}
 use Rattle.event_steps.proofs.crashing.lose_all.Goals as goal
 

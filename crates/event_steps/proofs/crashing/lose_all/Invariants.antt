@@ -1,4 +1,4 @@
-use Rattle.std.proofs.Common.{◌≡◌, ℕ, ◌+◌, ◌≤◌, ◌++◌, ◌∷◌, take, length}
+use Rattle.std.proofs.Common.{◌≡◌, ◌+◌, ◌≤◌, ◌++◌, ◌∷◌, take}
 use Rattle.history_book.specs.declared.item.Item.TheVariants.{Crash}
 use Rattle.machine.specs.Events.Crash.{crashed_clients, all_crashed_items}
 use Rattle.event_steps.proofs.crashing.lose_all.Given as goal

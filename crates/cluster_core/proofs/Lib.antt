@@ -1,0 +1,6 @@
+pub mod PutBack
+pub mod PartsTouched
+pub mod Fates
+pub mod StoreCallsMade
+pub mod StaysReached
+pub mod RequestHolders

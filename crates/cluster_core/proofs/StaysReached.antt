@@ -1,0 +1,65 @@
+-- A cluster's state is reached with its history: at the opening, and after each call. So the calls on its parts may be made.
+use Rattle.std.proofs.Common.{◌≡◌, ℕ, List, [], ◌++◌, Result, Ok, Err, sym, subst}
+use Rattle.stamp_base.specs.SetupNumbers.{SetupNumbers, AreInRange}
+use Rattle.stamp_base.specs.declared.stores.Store.{Store}
+use Rattle.port_io.specs.declared.weather.Fate.{Fate}
+use Rattle.history_book.specs.declared.item.Item.{Item}
+use Rattle.machine.specs.declared.event.Event.{Event}
+use Rattle.machine.specs.declared.event.Event.TheVariants as event
+use Rattle.machine.specs.State.{State, opening}
+use Rattle.machine.specs.Machine.{asks, IsSteadyAt, reading_of, stepped}
+use Rattle.event_steps.specs.Made.{fate_ahead}
+use Rattle.event_steps.specs.declared.stopped.Stopped.{Stopped}
+use Rattle.event_steps.specs.declared.stopped.Stopped.TheVariants.{Refused, Fault, NoMemory}
+use Rattle.cause_laws.proofs.AlwaysExplained.{tells_stay, tells_at_first}
+use Rattle.call_laws.proofs.BoundsKept.{bounded_first, bounds_stay}
+use Rattle.call_laws.proofs.RecordCalls.{extensions_fit}
+use Rattle.call_laws.proofs.RequestCalls.{begins_ask, commits_ask, requests_wait}
+use Rattle.call_laws.proofs.StoreCalls.{heals_only, writes_bare, sweeps_ask}
+use Rattle.call_laws.proofs.StepCalls.{steps_ask}
+use Rattle.cluster_core.specs.Whole.{Whole, MakesStep, step_under}
+use Rattle.cluster_core.specs.Required.{CanMake}
+use Rattle.cluster_core.specs.Reached.{IsReached}
+
+same_whole : (w : Whole) (state : State) (history : List Item) → w.state ≡ state → w.history ≡ history → IsReached (record { state = state; history = history }) → IsReached w
+same_whole w state history at told reached =
+    subst (λ (s : State). IsReached (record { state = s; history = w.history })) (sym at) (subst (λ (h : List Item). IsReached (record { state = state; history = h })) (sym told) reached)
+
+pub reached_first : (setup : SetupNumbers) (w : Whole) → AreInRange setup → w.state ≡ opening setup → w.history ≡ [] → IsReached w
+reached_first setup w fit at none = same_whole w (opening setup) [] at none (record { told = tells_at_first setup fit; bounded = bounded_first setup })
+
+-- the event as the call made it
+after_event : (old now : Whole) (e : Event) (fate : Fate) → IsReached old → IsSteadyAt old.state.setup.skew old.state.seen (reading_of e) → now.state ≡ (stepped old.state e fate).state → now.history ≡ old.history ++ (stepped old.state e fate).items → IsReached now
+after_event old now e fate reached steady at told =
+    same_whole now (stepped old.state e fate).state (old.history ++ (stepped old.state e fate).items) at told (record {
+      told = tells_stay old.state old.history e fate reached.told steady;
+      bounded = bounds_stay old.state old.history e fate reached.told reached.bounded steady;
+    })
+
+pub reached_after : (ahead : Store → ℕ → Fate) (old now : Whole) (e : Event) (result : Result Unit Stopped) → IsReached old → IsSteadyAt old.state.setup.skew old.state.seen (reading_of e) → MakesStep (step_under ahead old.state e) old now result → IsReached now
+reached_after ahead old now e (Ok _) reached steady made = after_event old now e (fate_ahead (asks old.state e) ahead) reached steady made.parts made.items
+reached_after ahead old now e (Err (Refused why)) reached steady made = after_event old now e (fate_ahead (asks old.state e) ahead) reached steady made.parts made.items
+reached_after ahead old now e (Err (Fault store)) reached steady made = after_event old now e (fate_ahead (asks old.state e) ahead) reached steady made.parts made.items
+reached_after ahead old now e (Err NoMemory) reached steady made = same_whole now old.state old.history made.0 made.1 reached
+
+pub calls_may_be_made : (w : Whole) (e : Event) → IsReached w → IsSteadyAt w.state.setup.skew w.state.seen (reading_of e) → CanMake w.state e
+calls_may_be_made w (event.Take node reading) reached steady = steady.0
+calls_may_be_made w (event.Renew node reading) reached steady = steady.0
+calls_may_be_made w (event.Extend node) reached steady = extensions_fit w.state w.history reached.told
+calls_may_be_made w (event.Crash node) reached steady = requests_wait w.state w.history reached.told
+calls_may_be_made w (event.AskBegin session node) reached steady = begins_ask w.state w.history reached.told
+calls_may_be_made w (event.AskCommit session node) reached steady = commits_ask w.state w.history reached.told
+calls_may_be_made w (event.Accept node session reading) reached steady = requests_wait w.state w.history reached.told
+calls_may_be_made w (event.Decide node session) reached steady = requests_wait w.state w.history reached.told
+calls_may_be_made w (event.Answer node session) reached steady = requests_wait w.state w.history reached.told
+calls_may_be_made w (event.Write session key value) reached steady = writes_bare w.state w.history reached.told
+calls_may_be_made w (event.Step session) reached steady = steps_ask w.state w.history reached.told
+calls_may_be_made w (event.Heal session) reached steady = heals_only w.state w.history reached.told
+calls_may_be_made w event.SweepStep reached steady = sweeps_ask w.state w.history reached.told
+calls_may_be_made w (event.Tick to) reached steady = tt
+calls_may_be_made w (event.Note actor note) reached steady = tt
+calls_may_be_made w (event.Put node session) reached steady = tt
+calls_may_be_made w (event.Fetch session key) reached steady = tt
+calls_may_be_made w (event.Abort session) reached steady = tt
+calls_may_be_made w (event.Vanish session) reached steady = tt
+calls_may_be_made w (event.SweepOpen node txn) reached steady = tt

@@ -1,0 +1,22 @@
+use Rattle.std.proofs.Common.{refl, arith}
+use Rattle.cluster_core.proofs.PutBack.{found, missing, nothing_made}
+use Rattle.cluster_core.proofs.PartsTouched.{request_made}
+use Rattle.cluster_core.proofs.engine.Engine.answer.Goals as goal
+
+pub answer-requires : goal.answer-requires
+answer-requires c =
+    let at = found c.self.inside.posts.items c.args.node c.index-2.result c.index_mut-post.result.now c.index-2.ensures.value (grind arith) c.index_mut-post.ensures.value in
+    let there = found c.self.inside.clients.items c.args.session c.index-3.result c.index_mut-client.result.now c.index-3.ensures.value (grind arith) c.index_mut-client.ensures.value in
+    let may = rw (← c.self.view_is) at c.requires in
+    may c.args.node _ at c.args.session _ there
+
+pub returns-then-index-len : goal.returns-then-index-len
+returns-then-index-len c =
+    let none = missing c.self.inside.posts.items c.args.node (grind arith) in
+    rw (← c.self.view_is) (rw none (nothing_made _ _))
+
+pub returns : goal.returns
+returns c =
+    let at = found c.self.inside.posts.items c.args.node c.index-2.result c.index_mut-post.result.now c.index-2.ensures.value (grind arith) c.index_mut-post.ensures.value in
+    let there = found c.self.inside.clients.items c.args.session c.index-3.result c.index_mut-client.result.now c.index-3.ensures.value (grind arith) c.index_mut-client.ensures.value in
+    rw (← c.self.view_is) (request_made _ _ c.args.node c.args.session c.index_mut-post.result.now c.answer.new.post c.index_mut-client.result.now c.answer.new.client _ _ _ _ at there (rw (c.index-2.ensures.value, c.index-3.ensures.value) refl) c.answer.ensures)

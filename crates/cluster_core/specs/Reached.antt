@@ -1,0 +1,9 @@
+-- What a cluster keeps of its state and its history, from the opening on.
+use Rattle.cause_laws.specs.Shows.{Tells}
+use Rattle.call_laws.specs.Bounds.{Bounded}
+use Rattle.cluster_core.specs.Whole.{Whole}
+
+-- the state is reached with the history: all that the machine keeps holds, and the numbers are far from their ends
+pub record IsReached (w : Whole) : Type 0 where
+  pub told : Tells w.state w.history
+  pub bounded : Bounded w.state

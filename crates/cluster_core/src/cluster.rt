@@ -1,0 +1,117 @@
+// The cluster, whose history is isolated and explained.
+ghost use Rattle.std.specs.Prelude.{◌≡◌, [], IfOk};
+ghost use Rattle.stamp_base.specs.Setups.{numbers_of};
+ghost use Rattle.history_book.specs.Isolation.{Isolated};
+ghost use Rattle.cause_rules.specs.Explained.{Explained};
+ghost use Rattle.machine.specs.State.{opening};
+ghost use Rattle.machine.specs.Machine.{IsSteadyAt, reading_of, asks};
+ghost use Rattle.machine.specs.Readers as read;
+ghost use Rattle.event_steps.specs.Made.{Asks};
+ghost use Rattle.cluster_core.specs.Whole.{MakesStep, step_under};
+
+use crate::Engine;
+use event_steps::Stopped;
+use history_book::Item;
+use machine::{Doing, Event};
+use oracle_parts::Place;
+use port_io::Weather;
+use stamp_base::{NoMemory, NodeNo, SessionNo, Setup, Term};
+use std::alloc::Global;
+use std::marker::Model;
+
+/// The nodes with their oracles, the sessions, the janitor and the stores, with the history of their events. Each event is
+/// one call. The history is isolated, and each of its refusals is shown by what stands before it.
+#[derive(Drop)]
+pub struct Cluster {
+    pub(crate) engine: Engine,
+}
+
+impl Model for Cluster {
+    ghost use Rattle.cluster_core.specs.Whole.{Whole};
+    ghost use Rattle.cluster_core.specs.Codes.{whole_code};
+    ghost use Rattle.cluster_core.specs.Reached.{IsReached};
+
+    ghost Value = { Whole };
+
+    ghost coded = { whole_code };
+
+    ghost view = { λ c. c.engine };
+
+    // The history tells the state, as it does from the opening on.
+    ghost invariant = { λ c. IsReached c.engine };
+}
+
+impl Cluster {
+    /// The record is free, the stores are empty, the sessions are free, and so is the history.
+    pub fn open(alloc: Global, setup: Setup) -> Result<Cluster, NoMemory>
+        ensures state { IfOk result (λ made. made.state ≡ opening (numbers_of setup)) }
+        ensures history { IfOk result (λ made. made.history ≡ []) }
+    {
+        Ok(Cluster {
+            engine: Engine::open(alloc, setup)?,
+        })
+    }
+
+    /// The event is one step of the machine, under the fate that the weather has ahead for the one store that it asks. Where
+    /// memory is refused all is as before, and the weather was not asked. A reading is behind none before it by more than the
+    /// skew, and far from the end of the numbers.
+    pub fn make<W: Weather>(&mut self, weather: &mut W, event: &Event) -> Result<(), Stopped>
+        requires { IsSteadyAt self.old.state.setup.skew self.old.state.seen (reading_of event.now) }
+        ensures made { MakesStep (step_under (W.ahead weather.old) self.old.state event.now) self.old self.new result }
+        ensures asked { Asks result (asks self.old.state event.now) (W.ahead weather.old) (W.ahead weather.new)
+            (W.faults weather.old) (W.faults weather.new) }
+    {
+        self.engine.make(weather, event)
+    }
+
+    /// The history so far.
+    pub fn history(&self) -> &[Item]
+        ensures value { result.now ≡ self.now.history }
+        ensures isolated { Isolated self.now.history }
+        ensures explained { Explained self.now.state.setup self.now.history }
+    {
+        self.engine.history()
+    }
+
+    /// The greatest reading that was handed in, at first 0.
+    pub fn seen(&self) -> u64
+        ensures { result ≡ self.now.state.seen }
+    {
+        self.engine.seen()
+    }
+
+    /// What the session is doing.
+    pub fn doing(&self, session: SessionNo) -> Doing
+        ensures { result ≡ read.doing_of self.now.state session }
+    {
+        self.engine.doing(session)
+    }
+
+    /// The node that holds a request of the session, and where that request stands.
+    pub fn place(&self, session: SessionNo) -> Option<(NodeNo, Place)>
+        ensures { result ≡ read.place_of self.now.state session }
+    {
+        self.engine.place(session)
+    }
+
+    /// Whether a commit of the session is in flight.
+    pub fn asks_commit(&self, session: SessionNo) -> bool
+        ensures { result ≡ read.asks_commit self.now.state session }
+    {
+        self.engine.asks_commit(session)
+    }
+
+    /// The term of the node's oracle. None where it has none.
+    pub fn term_of(&self, node: NodeNo) -> Option<Term>
+        ensures { result ≡ read.term_of self.now.state node }
+    {
+        self.engine.term_of(node)
+    }
+
+    /// Whether a sweep is open.
+    pub fn sweeping(&self) -> bool
+        ensures { result ≡ read.sweeping self.now.state }
+    {
+        self.engine.sweeping()
+    }
+}

@@ -1,0 +1,155 @@
+// All parts of the system with the history that led to them. It knows nothing of isolation.
+ghost use Rattle.std.specs.Prelude.{◌≡◌, [], IfOk, None, replicate};
+ghost use Rattle.stamp_base.specs.Setups.{numbers_of};
+ghost use Rattle.machine.specs.State.{opening, client_new};
+ghost use Rattle.machine.specs.Machine.{asks};
+ghost use Rattle.event_steps.specs.Made.{Asks};
+ghost use Rattle.cluster_core.specs.Whole.{MakesStep, step_under};
+ghost use Rattle.cluster_core.specs.Required.{CanMake};
+ghost use Rattle.cluster_core.specs.Seen.{seen_made};
+
+use cell_store::Cells;
+use commit_table::Table;
+use event_steps::{Client, Stopped};
+use history_book::{Book, Item};
+use invalidator::Sweep;
+use machine::Event;
+use master_record::Master;
+use oracle_core::Instance;
+use port_io::Weather;
+use stamp_base::{NoMemory, SessionNo, Setup};
+use std::alloc::Global;
+use std::marker::Model;
+
+/// The setup, the clients, the nodes' instances, the open sweep, the stores, and the history.
+#[derive(Drop)]
+pub struct Engine {
+    pub(crate) alloc: Global,
+    pub(crate) setup: Setup,
+    // The greatest reading that was handed in.
+    pub(crate) seen: u64,
+    // One for each session, by its number.
+    pub(crate) clients: Vec<Client>,
+    // One for each node of the setup, by its number.
+    pub(crate) posts: Vec<Option<Instance>>,
+    pub(crate) sweep: Option<Sweep>,
+    pub(crate) cells: Cells,
+    pub(crate) table: Table,
+    pub(crate) master: Master,
+    pub(crate) book: Book,
+}
+
+impl Model for Engine {
+    ghost use Rattle.cluster_core.specs.Whole.{Whole};
+    ghost use Rattle.cluster_core.specs.Codes.{whole_code};
+
+    ghost Value = { Whole };
+
+    ghost coded = { whole_code };
+
+    ghost use Rattle.cluster_core.specs.Fields.{whole_of, IsFitted};
+
+    ghost view = { whole_of };
+
+    ghost invariant = { IsFitted };
+}
+
+impl Engine {
+    /// The record is free, the stores are empty, no node has an instance, all sessions are free, and the history is empty.
+    pub fn open(alloc: Global, setup: Setup) -> Result<Engine, NoMemory>
+        ensures state { IfOk result (λ made. made.state ≡ opening (numbers_of setup)) }
+        ensures history { IfOk result (λ made. made.history ≡ []) }
+    {
+        Ok(Engine {
+            alloc,
+            setup,
+            seen: 0,
+            clients: free_clients(alloc)?,
+            posts: vacant_posts(alloc, setup.nodes)?,
+            sweep: None,
+            cells: Cells::new(alloc),
+            table: Table::new(alloc),
+            master: Master::free(setup.lease, setup.skew, setup.range),
+            book: Book::new(alloc),
+        })
+    }
+
+    /// The event is one step of the machine, as far as its calls on the parts may be made. A node that is none of the setup's
+    /// has no part in the system, and nothing happens there.
+    pub fn make<W: Weather>(&mut self, weather: &mut W, event: &Event) -> Result<(), Stopped>
+        requires { CanMake self.old.state event.now }
+        ensures made { MakesStep (step_under (W.ahead weather.old) self.old.state event.now) self.old self.new result }
+        ensures asked { Asks result (asks self.old.state event.now) (W.ahead weather.old) (W.ahead weather.new)
+            (W.faults weather.old) (W.faults weather.new) }
+    {
+        match event {
+            Event::Tick { to } => self.tick(*to),
+            Event::Note { actor, note } => self.note(*actor, *note),
+            Event::Take { node, reading } => self.take(weather, *node, *reading),
+            Event::Renew { node, reading } => self.renew(weather, *node, *reading),
+            Event::Extend { node } => self.extend(weather, *node),
+            Event::Crash { node } => self.crash(*node),
+            Event::AskBegin { session, node } => self.ask_begin(*session, *node),
+            Event::AskCommit { session, node } => self.ask_commit(*session, *node),
+            Event::Accept {
+                node,
+                session,
+                reading,
+            } => self.accept(*node, *session, *reading),
+            Event::Decide { node, session } => self.decide(*node, *session),
+            Event::Put { node, session } => self.put(weather, *node, *session),
+            Event::Answer { node, session } => self.answer(*node, *session),
+            Event::Write {
+                session,
+                key,
+                value,
+            } => self.write(weather, *session, *key, *value),
+            Event::Fetch { session, key } => self.fetch(weather, *session, *key),
+            Event::Step { session } => self.step(weather, *session),
+            Event::Heal { session } => self.heal(weather, *session),
+            Event::Abort { session } => self.abort(*session),
+            Event::Vanish { session } => self.vanish(*session),
+            Event::SweepOpen { node, txn } => self.sweep_open(*node, *txn),
+            Event::SweepStep => self.sweep_step(weather),
+        }
+    }
+
+    /// The history so far.
+    pub fn history(&self) -> &[Item]
+        ensures { result.now ≡ self.now.history }
+    {
+        self.book.items()
+    }
+}
+
+/// A free client for each session.
+fn free_clients(alloc: Global) -> Result<Vec<Client>, NoMemory>
+    ensures { IfOk result (λ clients. clients.items ≡ replicate 16 client_new) }
+{
+    let mut clients = Vec::new(alloc);
+    for i in 0..SessionNo::COUNT {
+        clients.push(Client::new())?;
+    }
+    Ok(clients)
+}
+
+/// So many nodes without an instance.
+fn vacant_posts(alloc: Global, nodes: u64) -> Result<Vec<Option<Instance>>, NoMemory>
+    ensures { IfOk result (λ posts. posts.items ≡ replicate nodes None) }
+{
+    let mut posts = Vec::new(alloc);
+    for i in 0..nodes {
+        posts.push(None)?;
+    }
+    Ok(posts)
+}
+
+/// The greatest reading after an event that hands one in. Where memory was refused it was not handed in.
+pub(crate) fn seen_after(seen: u64, reading: u64, made: &Result<(), Stopped>) -> u64
+    ensures { result ≡ seen_made seen reading made.now }
+{
+    match made {
+        Err(Stopped::NoMemory) => seen,
+        _ => seen.max(reading),
+    }
+}

@@ -1,0 +1,17 @@
+//! The cluster: all parts of the system, each call one step of the machine, and a type that keeps its history isolated and
+//! explained.
+#![tactic(auto)]
+
+mod calls;
+mod clock_events;
+mod cluster;
+mod engine;
+mod readers;
+mod record_events;
+mod request_events;
+mod session_events;
+mod sweep_events;
+
+pub use cluster::Cluster;
+pub use engine::Engine;
+pub use event_steps::Stopped;

@@ -1,0 +1,125 @@
+// The events of a session's request and the node that serves it.
+ghost use Rattle.port_io.specs.declared.weather.Fate.TheVariants.{Works};
+ghost use Rattle.machine.specs.Machine.{stepped, asks};
+ghost use Rattle.event_steps.specs.Made.{Asks};
+ghost use Rattle.cluster_core.specs.Whole.{MakesStep, step_under};
+ghost use Rattle.cluster_core.specs.Required.{CanMake};
+
+use crate::Engine;
+use crate::engine::seen_after;
+use event_steps::Stopped;
+use machine::Event;
+use port_io::Weather;
+use stamp_base::{NodeNo, SessionNo};
+
+impl Engine {
+    /// The node's instance ends.
+    pub(crate) fn crash(&mut self, node: NodeNo) -> Result<(), Stopped>
+        requires { CanMake self.old.state (Event.Crash node) }
+        ensures { MakesStep (stepped self.old.state (Event.Crash node) Works) self.old self.new result }
+    {
+        if node.index() >= self.posts.len() {
+            return Ok(());
+        }
+        let post = &mut self.posts[node.index()];
+        event_steps::crash(&mut self.book, post, &mut self.clients, node)
+    }
+
+    /// The session asks the node for a start.
+    pub(crate) fn ask_begin(&mut self, session: SessionNo, node: NodeNo) -> Result<(), Stopped>
+        requires { CanMake self.old.state (Event.AskBegin session node) }
+        ensures { MakesStep (stepped self.old.state (Event.AskBegin session node) Works) self.old self.new result }
+    {
+        if node.index() >= self.posts.len() {
+            return Ok(());
+        }
+        let post = &mut self.posts[node.index()];
+        let client = &mut self.clients[session.index()];
+        event_steps::ask_begin(&mut self.book, client, post, session, node)
+    }
+
+    /// The session asks the node to commit what it wrote.
+    pub(crate) fn ask_commit(&mut self, session: SessionNo, node: NodeNo) -> Result<(), Stopped>
+        requires { CanMake self.old.state (Event.AskCommit session node) }
+        ensures { MakesStep (stepped self.old.state (Event.AskCommit session node) Works) self.old self.new result }
+    {
+        if node.index() >= self.posts.len() {
+            return Ok(());
+        }
+        let post = &mut self.posts[node.index()];
+        let client = &mut self.clients[session.index()];
+        event_steps::ask_commit(&mut self.book, client, post, session, node)
+    }
+
+    /// The node accepts the session's request.
+    pub(crate) fn accept(
+        &mut self,
+        node: NodeNo,
+        session: SessionNo,
+        reading: u64,
+    ) -> Result<(), Stopped>
+        requires { CanMake self.old.state (Event.Accept node session reading) }
+        ensures { MakesStep (stepped self.old.state (Event.Accept node session reading) Works) self.old self.new result }
+    {
+        if node.index() >= self.posts.len() {
+            self.seen = self.seen.max(reading);
+            return Ok(());
+        }
+        let post = &mut self.posts[node.index()];
+        let client = &mut self.clients[session.index()];
+        let made = event_steps::accept(&mut self.book, post, client, node, session, reading);
+        self.seen = seen_after(self.seen, reading, &made);
+        made
+    }
+
+    /// The node draws the stamp of the session's request.
+    pub(crate) fn decide(&mut self, node: NodeNo, session: SessionNo) -> Result<(), Stopped>
+        requires { CanMake self.old.state (Event.Decide node session) }
+        ensures { MakesStep (stepped self.old.state (Event.Decide node session) Works) self.old self.new result }
+    {
+        if node.index() >= self.posts.len() {
+            return Ok(());
+        }
+        let post = &mut self.posts[node.index()];
+        let client = &mut self.clients[session.index()];
+        event_steps::decide(&mut self.book, post, client, node, session)
+    }
+
+    /// The node places the record of the session's commit.
+    pub(crate) fn put<W: Weather>(
+        &mut self,
+        weather: &mut W,
+        node: NodeNo,
+        session: SessionNo,
+    ) -> Result<(), Stopped>
+        ensures made { MakesStep (step_under (W.ahead weather.old) self.old.state (Event.Put node session)) self.old self.new result }
+        ensures asked { Asks result (asks self.old.state (Event.Put node session)) (W.ahead weather.old) (W.ahead weather.new)
+            (W.faults weather.old) (W.faults weather.new) }
+    {
+        if node.index() >= self.posts.len() {
+            return Ok(());
+        }
+        let post = &mut self.posts[node.index()];
+        event_steps::put(
+            weather,
+            &mut self.book,
+            post,
+            &mut self.table,
+            node,
+            session,
+        )
+    }
+
+    /// The node answers the session's request.
+    pub(crate) fn answer(&mut self, node: NodeNo, session: SessionNo) -> Result<(), Stopped>
+        requires { CanMake self.old.state (Event.Answer node session) }
+        ensures { MakesStep (stepped self.old.state (Event.Answer node session) Works) self.old self.new result }
+    {
+        if node.index() >= self.posts.len() {
+            return Ok(());
+        }
+        let post = &mut self.posts[node.index()];
+        let client = &mut self.clients[session.index()];
+        event_steps::answer(&mut self.book, post, client, node, session)
+    }
+}
