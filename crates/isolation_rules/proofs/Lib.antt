@@ -7,3 +7,5 @@ pub mod WriteLemmas
 mod BestLemmas
 pub mod ReadLemmas
 pub mod WalkLemmas
+mod WorkedHistories
+mod WorkedReads

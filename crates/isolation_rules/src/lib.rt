@@ -2,6 +2,7 @@
 #![tactic(auto)]
 
 mod apart;
+pub mod examples;
 mod fresh;
 mod read;
 mod stamped;

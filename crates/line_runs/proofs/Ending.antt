@@ -54,6 +54,16 @@ tick_gone line at halt = tick_after line (follows line at halt) (followed_once l
 on_time : (P : State → List Item → Type 0) (script : ScriptData) (line : Line) (most : ℕ) (r : Run) → Going P script line most r → OnTime (clocks_of script r.played) script.setup.skew r.played.state.seen
 on_time P script line most r k = record { leads = k.leads; room = omega (arith, k.ahead, k.room); before = k.reached.seen }
 
+comes_in_time : (P : State → List Item → Type 0) (script : ScriptData) (line : Line) (most : ℕ) (r : Run) (e : Event) → Going P script line most r → next_in script line r ≡ Some e → InTime (clocks_of script r.played) (tick_ahead r.point line.verb) script.setup.skew r.played.state.seen e
+comes_in_time P script line most r e k is =
+    let clocks : Clocks = clocks_of script r.played in
+    in_time clocks (tick_ahead r.point line.verb) script.setup.skew r.played.state.seen e (event_timed clocks line.actor line.verb r.point (view_of r.played.state line.actor) e is) (on_time P script line most r k)
+
+-- the reading that the next event hands in is steady
+pub steady_next : (P : State → List Item → Type 0) (script : ScriptData) (line : Line) (most : ℕ) (r : Run) (e : Event) → Going P script line most r → next_in script line r ≡ Some e → IsSteadyAt r.played.state.setup.skew r.played.state.seen (reading_of e)
+steady_next P script line most r e k is =
+    subst (λ (setup : SetupNumbers). IsSteadyAt setup.skew r.played.state.seen (reading_of e)) (sym k.reached.setup) (comes_in_time P script line most r e k is).steady
+
 pub goes_on : (P : State → List Item → Type 0) (script : ScriptData) (line : Line) (most : ℕ) (r : Run) (e : Event) → Keeps P → Going P script line most r → next_in script line r ≡ Some e → Going P script line most (run_after script line r e)
 goes_on P script line most r e keeps k is =
     let p : Played = r.played in
@@ -61,8 +71,8 @@ goes_on P script line most r e keeps k is =
     let fate : Fate = fate_of script p e in
     let step : Step = stepped p.state e fate in
     let clocks : Clocks = clocks_of script p in
-    let it : InTime clocks (tick_ahead r.point line.verb) skew p.state.seen e = in_time clocks (tick_ahead r.point line.verb) skew p.state.seen e (event_timed clocks line.actor line.verb r.point (view_of p.state line.actor) e is) (on_time P script line most r k) in
-    let steady : IsSteadyAt p.state.setup.skew p.state.seen (reading_of e) = subst (λ (setup : SetupNumbers). IsSteadyAt setup.skew p.state.seen (reading_of e)) (sym k.reached.setup) it.steady in
+    let it : InTime clocks (tick_ahead r.point line.verb) skew p.state.seen e = comes_in_time P script line most r e k is in
+    let steady : IsSteadyAt p.state.setup.skew p.state.seen (reading_of e) = steady_next P script line most r e k is in
     let seen : step.state.seen ≡ seen_after p.state.seen (reading_of e) = seen_up p.state e fate in
     let gone : tick_ahead (follows line.verb r.point (halt_of step.stop)) line.verb ≡ 0 = tick_gone line.verb r.point (halt_of step.stop) in
     record {
@@ -83,7 +93,7 @@ pub record Ended (P : State → List Item → Type 0) (script : ScriptData) (lin
   pub going : Going P script line most r
   pub over : next_in script line r ≡ None
 
-less_left : EventsLowerWhatIsLeft → (P : State → List Item → Type 0) (script : ScriptData) (line : Line) (most : ℕ) (r : Run) (e : Event) → Going P script line most r → next_in script line r ≡ Some e → left_in line (run_after script line r e) < left_in line r
+pub less_left : EventsLowerWhatIsLeft → (P : State → List Item → Type 0) (script : ScriptData) (line : Line) (most : ℕ) (r : Run) (e : Event) → Going P script line most r → next_in script line r ≡ Some e → left_in line (run_after script line r e) < left_in line r
 less_left lowers P script line most r e k is = lowers r.played.state r.played.items (clocks_of script r.played) line.actor line.verb r.point e (fate_of script r.played e) k.reached.stands is
 
 ended_now : EventsLowerWhatIsLeft → (P : State → List Item → Type 0) (script : ScriptData) (line : Line) (most : ℕ) (r : Run) → Going P script line most r → left_in line r ≤ 0 → (found : Option Event) → next_in script line r ≡ found → Ended P script line most r
@@ -129,7 +139,7 @@ pub script_keeps : EventsLowerWhatIsLeft → (P : State → List Item → Type 0
 script_keeps lowers P script keeps first in_range playable = lines_keep lowers P script script.lines (opening_played script) keeps (opening_reached script in_range) first playable
 
 -- ---- the facts alone
-abbrev Nothing : State → List Item → Type 0
+abbrev pub Nothing : State → List Item → Type 0
 Nothing w h = Unit {0}
 
 pub runs_end : EventsLowerWhatIsLeft → RunsEnd

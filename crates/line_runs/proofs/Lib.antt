@@ -14,7 +14,7 @@ mod Driving
 mod Doings
 mod Lowering
 mod AllLower
-mod Timing
+pub mod Timing
 pub mod Ending
 mod Plain
 mod PlainEvents

@@ -1,5 +1,3 @@
-mod AnswersLemmas
-mod RunLemmas
 mod PrintLemmas
 mod PromiseLemmas
 mod ReportLemmas

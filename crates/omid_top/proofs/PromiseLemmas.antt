@@ -2,15 +2,15 @@
 use Rattle.std.proofs.Common.{◌≡◌, List, subst}
 use Rattle.history_book.specs.declared.item.Item.{Item}
 use Rattle.history_book.specs.Isolation.{Isolated}
-use Rattle.protocol.specs.Explained.{Explained}
+use Rattle.cause_rules.specs.Explained.{Explained}
 use Rattle.session_script.specs.Script.{ScriptData}
-use Rattle.omid_top.specs.Replay.{replayed}
+use Rattle.line_runs.specs.Answers.{Answers}
+use Rattle.line_runs.specs.Runs.{replayed}
 use Rattle.omid_top.specs.Promise.{KeepsPromise}
-use Rattle.omid_top.proofs.AnswersLemmas.{replayed_answers}
 
-pub promise_kept : (script : ScriptData) (h : List Item) → h ≡ replayed script → Isolated h → Explained h → KeepsPromise script
-promise_kept script h is isolated explained = record {
+pub promise_kept : (script : ScriptData) (h : List Item) → h ≡ replayed script → Isolated h → Explained script.setup h → Answers script (replayed script) → KeepsPromise script
+promise_kept script h is isolated explained answers = record {
   isolated = subst (λ (x : List Item). Isolated x) is isolated;
-  explained = subst (λ (x : List Item). Explained x) is explained;
-  answers = replayed_answers script;
+  explained = subst (λ (x : List Item). Explained script.setup x) is explained;
+  answers = answers;
 }

@@ -1,17 +1,17 @@
 -- What is promised of the history of a script.
 use Rattle.std.specs.Prelude.{ℕ, List, Option, take}
 use Rattle.history_book.specs.Isolation.{Isolated}
-use Rattle.protocol.specs.Explained.{Explained}
+use Rattle.cause_rules.specs.Explained.{Explained}
 use Rattle.port_io.specs.Ports.{Gains}
 use Rattle.session_script.specs.Script.{ScriptData}
-use Rattle.omid_top.specs.Replay.{replayed}
-use Rattle.omid_top.specs.Answers.{Answers}
+use Rattle.line_runs.specs.Runs.{replayed}
+use Rattle.line_runs.specs.Answers.{Answers}
 
--- The history of the script, carried out in file order, is snapshot isolated, shows the cause of every
--- refused commit, and answers every line.
+-- The history of the script, carried out in file order, is snapshot isolated, shows the cause of every refusal, and answers
+-- every line.
 pub record KeepsPromise (script : ScriptData) : Type 0 where
   pub isolated : Isolated (replayed script)
-  pub explained : Explained (replayed script)
+  pub explained : Explained script.setup (replayed script)
   pub answers : Answers script (replayed script)
 
 -- the sink got a front of the text

@@ -3,7 +3,7 @@ use Rattle.std.specs.Prelude.{◌≡◌, ℕ, List, [], ◌∷◌, ◌++◌, ◌
 use Rattle.history_text.specs.Text.{printed}
 use Rattle.session_script.specs.Causes.{cause_text}
 use Rattle.session_script.specs.Script.{ScriptData, BadLine}
-use Rattle.omid_top.specs.Replay.{replayed}
+use Rattle.line_runs.specs.Runs.{replayed}
 use Rattle.omid_top.specs.declared.words.Command.{Command}
 use Rattle.omid_top.specs.declared.words.Command.TheVariants as command
 

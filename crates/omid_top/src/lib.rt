@@ -7,7 +7,7 @@ ghost use Rattle.history_book.specs.declared.item.Item.{Item};
 ghost use Rattle.history_text.specs.Text.{printed};
 ghost use Rattle.session_script.specs.Script.{script_of};
 ghost use Rattle.session_script.specs.declared.script.Mode.TheVariants.{Replay};
-ghost use Rattle.omid_top.specs.Replay.{replayed};
+ghost use Rattle.line_runs.specs.Runs.{replayed};
 ghost use Rattle.omid_top.specs.Texts.{IsReplay, IsAudit, IsKnown, usage_text, bad_line_text, replay_text};
 ghost use Rattle.omid_top.specs.Promise.{KeepsPromise, GainsFront};
 ghost use Rattle.history_reading.specs.History.{AreItems};
@@ -16,7 +16,6 @@ ghost use Rattle.omid_top.specs.Audit.{IsVerdict, Reported, ReportedFront, IsFai
 pub use session_script as script;
 
 mod audit;
-pub mod driver;
 mod gate;
 mod print;
 mod process;

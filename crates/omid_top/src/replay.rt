@@ -1,16 +1,17 @@
 // Replaying a script: reading it, carrying it out in file order, and writing its history.
-ghost use Rattle.std.specs.Prelude.{◌≡◌, ◌≢◌, ◌≤◌, ◌⊎◌, IfSome, IsErrAnd, IsOkAnd};
+ghost use Rattle.std.specs.Prelude.{◌≡◌, ◌≢◌, ◌≤◌, ◌⊎◌, vec_len, IfSome, IsErrAnd, IsOkAnd};
+ghost use Rattle.stamp_base.specs.declared.limits.TheConstants.{LINE_LIMIT};
 ghost use Rattle.port_io.specs.Ports.{Risen, Gains, IsAtEnd};
 ghost use Rattle.history_text.specs.Text.{printed};
 ghost use Rattle.session_script.specs.Script.{script_of, data_of};
 ghost use Rattle.session_script.specs.declared.script.Mode.TheVariants.{Replay};
-ghost use Rattle.omid_top.specs.Replay.{replayed};
+ghost use Rattle.line_runs.specs.Runs.{replayed};
 ghost use Rattle.omid_top.specs.Texts.{bad_line_text, replay_text};
 ghost use Rattle.omid_top.specs.Promise.{KeepsPromise, GainsFront};
 
 use crate::print::{self, written};
 use crate::script::{Mode, Script, ScriptCause, ScriptFault, read_script};
-use crate::{Status, driver};
+use crate::Status;
 use port_io::{ReadStop, Sink, Source, read_up_to};
 use stamp_base::{BYTE_LIMIT, NoMemory};
 use std::alloc::Global;
@@ -67,6 +68,7 @@ fn replay_bytes<K: Sink>(alloc: Global, bytes: &[u8], sink: &mut K) -> Status
 /// Carries the script out and prints its history.
 #[tactic(auto, using(crate::proofs::PromiseLemmas::promise_kept))]
 fn replay_script<K: Sink>(alloc: Global, script: &Script, sink: &mut K) -> Status
+    requires { vec_len script.now.lines ≤ LINE_LIMIT }
     ensures replayed { result.code ≡ 0 → KeepsPromise (data_of script.now) × Gains (K.held sink.old) (K.held sink.new) (printed (replayed (data_of script.now))) }
     ensures sink_failed { result.code ≡ 5 → Risen (K.faults sink.old) (K.faults sink.new) }
     ensures sink_worked { result.code ≢ 5 → K.faults sink.new ≡ K.faults sink.old }
@@ -74,7 +76,7 @@ fn replay_script<K: Sink>(alloc: Global, script: &Script, sink: &mut K) -> Statu
     ensures no_memory { result.code ≡ 6 → sink.new ≡ sink.old }
     ensures codes { (result.code ≡ 0) ⊎ (result.code ≡ 5) ⊎ (result.code ≡ 6) }
 {
-    match driver::replay(alloc, script) {
+    match replay_driver::replay(alloc, script) {
         Ok(cluster) => match print::print_history(sink, cluster.history()) {
             Ok(()) => Status::DONE,
             Err(_) => Status::SINK_FAILED,

@@ -1,0 +1,103 @@
+-- The lines of a script, one more carried out.
+use Rattle.std.proofs.Common.{◌≡◌, ℕ, zero, suc, ◌+◌, ◌*◌, ◌<◌, ◌≤◌, ◌^◌, List, [], ◌∷◌, ◌++◌, take, drop, length, get_or, All, refl, sym, ap, ◌∙◌, arith, subst}
+use Rattle.std.proofs.lemmas.List.{take_more, drop_more, take_all}
+use Rattle.std.proofs.lemmas.List.Elements.{All-head, All-tail}
+use Rattle.std.specs.List.{slice_index_or}
+use Rattle.stamp_base.specs.SetupNumbers.{SetupNumbers}
+use Rattle.stamp_base.specs.declared.stores.Store.{Store}
+use Rattle.stamp_base.specs.declared.stores.Store.TheVariants.{Cells, Table, Master}
+use Rattle.port_io.specs.declared.weather.Fate.{Fate}
+use Rattle.port_io.specs.Planned.{PlannedFault, planned_fate}
+use Rattle.history_book.specs.declared.item.Item.{Item}
+use Rattle.machine.specs.State.{opening}
+use Rattle.isolation_laws.proofs.AlwaysHolds.{stands_at_first}
+use Rattle.session_script.specs.declared.script.Line.{Line}
+use Rattle.session_script.specs.declared.script.Verb.{Verb}
+use Rattle.session_script.specs.declared.script.Verb.TheVariants as verbs
+use Rattle.session_script.specs.Data.{IsSound}
+use Rattle.session_script.specs.Sound.{LineIsSound, rise_of}
+use Rattle.session_script.specs.Script.{ScriptData}
+use Rattle.line_runs.specs.Laws.{IsReached, IsPlayable, tick_of, ticks_of}
+use Rattle.line_runs.specs.Runs.{Calls, Played, calls_on, line_run, lines_played, opening_played, replayed}
+use Rattle.cluster_core.specs.Whole.{Whole}
+use Rattle.replay_driver.specs.Playing.{StandsAt, IsPlayedTo, played_to}
+use Rattle.replay_driver.proofs.Running.{HasEnded}
+
+lines_append : (script : ScriptData) (lines : List Line) (line : Line) (p : Played) → lines_played script (lines ++ line ∷ []) p ≡ (line_run script line (lines_played script lines p)).played
+unfolding lines_played
+lines_append script [] line p = refl
+lines_append script (first ∷ lines) line p = lines_append script lines line (line_run script first p).played
+
+-- one more line was played
+pub played_more : (script : ScriptData) (count : ℕ) (line : Line) → count < length script.lines → line ≡ get_or script.lines count line → played_to script (count + 1) ≡ (line_run script line (played_to script count)).played
+played_more script count line within is =
+    let front : take (count + 1) script.lines ≡ take count script.lines ++ line ∷ [] = take_more script.lines count line within ∙ ap (λ (x : Line). take count script.lines ++ x ∷ []) (sym is) in
+    ap (λ (lines : List Line). lines_played script lines (opening_played script)) front ∙ lines_append script (take count script.lines) line (opening_played script)
+
+-- the ticks that are left begin with those of the line
+pub ticks_from : (lines : List Line) (count : ℕ) (line : Line) → count < length lines → line ≡ get_or lines count line → ticks_of (drop count lines) ≡ tick_of line.verb + ticks_of (drop (count + 1) lines)
+unfolding ticks_of
+ticks_from lines count line within is =
+    let parts : drop count lines ≡ line ∷ drop (count + 1) lines = drop_more lines count line within ∙ ap (λ (x : Line). x ∷ drop (count + 1) lines) (sym is) in
+    ap ticks_of parts
+
+-- what was played to the line's end is what one more line comes to
+pub ended_more : (script : ScriptData) (count : ℕ) (line : Line) (old new : Whole) (before clock : ℕ) (ahead now : Store → ℕ → Fate) → count < length script.lines → line ≡ get_or script.lines count line → IsPlayedTo script count old before ahead → HasEnded script (line_run script line (played_to script count)).played ((played_to script count).clock + tick_of line.verb) new clock now → IsPlayedTo script (count + 1) new clock now
+ended_more script count line old new before clock ahead now within is at ended =
+    let p : Played = played_to script count in
+    let latest : ℕ = p.clock + tick_of line.verb in
+    let more : (line_run script line p).played ≡ played_to script (count + 1) = sym (played_more script count line within is) in
+    let there : HasEnded script (played_to script (count + 1)) latest new clock now = subst (λ (q : Played). HasEnded script q latest new clock now) more ended in
+    record {
+      stands = there.stands;
+      reached = there.reached;
+      playable = record { leads = at.playable.leads; ticks = omega (arith, there.within, ticks_from script.lines count line within is, at.playable.ticks) };
+    }
+
+-- ---- before the first line
+first_call : (faults : List PlannedFault) (store : Store) (n : ℕ) → planned_fate faults store (n + 1) ≡ planned_fate faults store (calls_on (record { cells = 0; table = 0; master = 0 }) store + 1 + n)
+first_call faults Cells n = ap (λ (number : ℕ). planned_fate faults Cells number) (omega arith)
+first_call faults Table n = ap (λ (number : ℕ). planned_fate faults Table number) (omega arith)
+first_call faults Master n = ap (λ (number : ℕ). planned_fate faults Master number) (omega arith)
+
+same_tick : (verb : Verb) → tick_of verb ≡ rise_of verb
+same_tick (verbs.Tick by) = refl
+same_tick verb = refl
+
+ticks_are_few : (nodes : ℕ) (lines : List Line) → All (LineIsSound nodes) lines → ticks_of lines ≤ length lines * 1000000
+unfolding ticks_of
+ticks_are_few nodes [] sound = omega arith
+ticks_are_few nodes (line ∷ lines) sound =
+    let first : LineIsSound nodes line = All-head (LineIsSound nodes) line lines sound in
+    omega (arith, ticks_are_few nodes lines (All-tail (LineIsSound nodes) line lines sound), first.verb.rise, same_tick line.verb)
+
+leads_by_node : (leads : List ℕ) (skew node : ℕ) → All (λ lead. lead ≤ skew) leads → slice_index_or leads node 0 ≤ skew
+leads_by_node [] skew node within = omega arith
+leads_by_node (lead ∷ leads) skew zero within = All-head (λ (n : ℕ). n ≤ skew) lead leads within
+leads_by_node (lead ∷ leads) skew (suc node) within = leads_by_node leads skew node (All-tail (λ (n : ℕ). n ≤ skew) lead leads within)
+
+-- the opening is where a script was played before its first line
+pub opens : (script : ScriptData) (whole : Whole) (clock : ℕ) (ahead : Store → ℕ → Fate) → whole.state ≡ opening script.setup → whole.history ≡ [] → clock ≡ 0 → ((store : Store) (n : ℕ) → ahead store n ≡ planned_fate script.faults store (n + 1)) → StandsAt script (opening_played script) whole clock ahead
+opens script whole clock ahead state history is planned = record {
+  state = state;
+  history = history;
+  time = is;
+  weather = λ store n. planned store n ∙ first_call script.faults store n;
+}
+
+-- ahead of all lines none was carried out, and all can be
+pub none_played : (script : ScriptData) (whole : Whole) (clock : ℕ) (ahead : Store → ℕ → Fate) → IsSound script → length script.lines ≤ 131072 → StandsAt script (opening_played script) whole clock ahead → IsPlayedTo script 0 whole clock ahead
+unfolding lines_played
+none_played script whole clock ahead sound few at = record {
+  stands = at;
+  reached = record { stands = stands_at_first script.setup sound.setup; setup = refl; seen = omega arith };
+  playable = record {
+    leads = λ node. leads_by_node script.leads script.setup.skew node sound.leads_within_skew;
+    ticks = omega (arith, ticks_are_few script.setup.nodes script.lines sound.lines, sound.setup.skew, few);
+  };
+}
+
+-- ---- behind the last line
+pub all_played : (script : ScriptData) (count : ℕ) (whole : Whole) (clock : ℕ) (ahead : Store → ℕ → Fate) → length script.lines ≤ count → IsPlayedTo script count whole clock ahead → whole.history ≡ replayed script
+all_played script count whole clock ahead past at =
+    at.stands.history ∙ ap (λ (lines : List Line). (lines_played script lines (opening_played script)).items) (take_all count script.lines past)

@@ -1,0 +1,4 @@
+mod Ahead
+mod Running
+mod Counting
+mod Making

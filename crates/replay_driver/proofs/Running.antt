@@ -1,0 +1,127 @@
+-- The run of a line, event by event, to its end.
+use Rattle.std.proofs.Common.{◌≡◌, ℕ, zero, suc, ◌+◌, ◌<◌, ◌≤◌, ◌^◌, List, Option, None, Some, refl, sym, ap, ◌∙◌, arith, subst}
+use Rattle.std.specs.List.{slice_index_or}
+use Rattle.stamp_base.specs.declared.stores.Store.{Store}
+use Rattle.port_io.specs.declared.weather.Fate.{Fate}
+use Rattle.machine.specs.declared.event.Event.{Event}
+use Rattle.machine.specs.State.{State}
+use Rattle.machine.specs.Machine.{IsSteadyAt, reading_of}
+use Rattle.session_script.specs.declared.script.Line.{Line}
+use Rattle.session_script.specs.Script.{ScriptData}
+use Rattle.line_runs.specs.declared.point.Halt.{Halt}
+use Rattle.line_runs.specs.declared.point.Point.{Point}
+use Rattle.line_runs.specs.declared.point.Point.TheVariants.{Opens, Drives, Extends, Finishes, Reads, Steps, Over}
+use Rattle.line_runs.specs.Clocks.{clocks}
+use Rattle.line_runs.specs.Halts.{halt_of, follows}
+use Rattle.line_runs.specs.Laws.{IsReached, IsPlayable, EventsLowerWhatIsLeft, tick_of}
+use Rattle.line_runs.specs.Left.{left}
+use Rattle.line_runs.specs.Next.{next}
+use Rattle.line_runs.specs.Runs.{Played, Run, clock_after, fate_of, step_of, played, next_in, run_after, left_in, going_on, run_for, opened, line_run, clocks_of}
+use Rattle.line_runs.specs.Views.{view_of}
+use Rattle.line_runs.proofs.Ending.{Keeps, Going, Nothing, less_left, steady_next, goes_on as event_goes_on}
+use Rattle.cluster_core.specs.Whole.{Whole}
+use Rattle.replay_driver.specs.Advances.{Advances}
+use Rattle.replay_driver.specs.Playing.{StandsAt}
+use Rattle.replay_driver.proofs.Ahead.{stands_on, halt_planned}
+
+-- the run of a line from what was played before it is under way: where it stands, and that it leads where the whole run does
+pub record IsUnderWay (script : ScriptData) (line : Line) (p : Played) (whole : Whole) (clock : ℕ) (ahead : Store → ℕ → Fate) (point : Point) : Type 0 where
+  pub run : Run
+  pub most : ℕ
+  pub leads : run_for most script line run ≡ line_run script line p
+  pub enough : left_in line run ≤ most
+  pub point_is : point ≡ run.point
+  pub stands : StandsAt script run.played whole clock ahead
+  pub going : Going Nothing script line (p.clock + tick_of line.verb) run
+
+pub begins : (script : ScriptData) (line : Line) (p : Played) (whole : Whole) (clock : ℕ) (ahead : Store → ℕ → Fate) → StandsAt script p whole clock ahead → IsReached script p → ((node : ℕ) → slice_index_or script.leads node 0 ≤ script.setup.skew) → p.clock + tick_of line.verb + script.setup.skew ≤ 2 ^ 61 → IsUnderWay script line p whole clock ahead Opens
+begins script line p whole clock ahead at reached leads room = record {
+  run = opened p;
+  most = left_in line (opened p);
+  leads = refl;
+  enough = omega arith;
+  point_is = refl;
+  stands = at;
+  going = record { reached = reached; has = tt; leads = leads; ahead = omega arith; room = room };
+}
+
+-- the next event that the code chooses is that of the run
+pub next_same : (script : ScriptData) (line : Line) (p : Played) (whole : Whole) (clock : ℕ) (ahead : Store → ℕ → Fate) (point : Point) (k : IsUnderWay script line p whole clock ahead point) → next (clocks clock script.leads) line.actor line.verb point (view_of whole.state line.actor) ≡ next_in script line k.run
+next_same script line p whole clock ahead point k = rw (k.stands.time, k.stands.state, k.point_is) refl
+
+pub chosen : (script : ScriptData) (line : Line) (p : Played) (whole : Whole) (clock : ℕ) (ahead : Store → ℕ → Fate) (point : Point) (k : IsUnderWay script line p whole clock ahead point) (leads : List ℕ) (event : Option Event) → leads ≡ script.leads → event ≡ next (clocks clock leads) line.actor line.verb point (view_of whole.state line.actor) → next_in script line k.run ≡ event
+chosen script line p whole clock ahead point k leads event same is =
+    sym (next_same script line p whole clock ahead point k) ∙ sym (is ∙ ap (λ (xs : List ℕ). next (clocks clock xs) line.actor line.verb point (view_of whole.state line.actor)) same)
+
+-- ---- one event more
+one_run : (script : ScriptData) (line : Line) (r : Run) (e : Event) (most : ℕ) → next_in script line r ≡ Some e → run_for (suc most) script line r ≡ run_for most script line (run_after script line r e)
+unfolding run_for
+one_run script line r e most is = ap (λ (o : Option Event). going_on r o (λ x. run_for most script line (run_after script line r x))) is
+
+pub record HasOneMore (script : ScriptData) (line : Line) (r : Run) (e : Event) (all : Run) : Type 0 where
+  pub most : ℕ
+  pub leads : run_for most script line (run_after script line r e) ≡ all
+  pub enough : left_in line (run_after script line r e) ≤ most
+
+one_more_of : (script : ScriptData) (line : Line) (r : Run) (e : Event) (all : Run) (most : ℕ) → next_in script line r ≡ Some e → left_in line (run_after script line r e) < left_in line r → left_in line r ≤ most → run_for most script line r ≡ all → HasOneMore script line r e all
+one_more_of script line r e all zero is lower enough leads = absurd (omega (arith, lower, enough))
+one_more_of script line r e all (suc most) is lower enough leads = record {
+  most = most;
+  leads = sym (one_run script line r e most is) ∙ leads;
+  enough = omega (arith, lower, enough);
+}
+
+point_same : (script : ScriptData) (line : Line) (r : Run) (e : Event) (halt : Option Halt) (old new : Whole) (clock : ℕ) (point further_point : Point) (before now : Store → ℕ → Fate) → StandsAt script r.played old clock before → Advances e halt old new before now → point ≡ r.point → further_point ≡ follows line.verb point halt → further_point ≡ (run_after script line r e).point
+point_same script line r e halt old new clock point further_point before now at made here is =
+    is ∙ (ap (λ (x : Point). follows line.verb x halt) here ∙ ap (λ (h : Option Halt). follows line.verb r.point h) (halt_planned script r.played e halt old new clock before now at made))
+
+nothing_is_lost : Keeps Nothing
+nothing_is_lost w h e fate has steady = tt
+
+-- the event is made, and the run goes on
+pub goes_on : (law : EventsLowerWhatIsLeft) (script : ScriptData) (line : Line) (p : Played) (old new : Whole) (clock after : ℕ) (before now : Store → ℕ → Fate) (point further_point : Point) (e : Event) (halt : Option Halt) (k : IsUnderWay script line p old clock before point) → next_in script line k.run ≡ Some e → Advances e halt old new before now → after ≡ clock_after clock e → further_point ≡ follows line.verb point halt → IsUnderWay script line p new after now further_point
+goes_on law script line p old new clock after before now point further_point e halt k is made clock_is point_is =
+    let one : HasOneMore script line k.run e (line_run script line p) = one_more_of script line k.run e (line_run script line p) k.most is (less_left law Nothing script line (p.clock + tick_of line.verb) k.run e k.going is) k.enough k.leads in
+    record {
+      run = run_after script line k.run e;
+      most = one.most;
+      leads = one.leads;
+      enough = one.enough;
+      point_is = point_same script line k.run e halt old new clock point further_point before now k.stands made k.point_is point_is;
+      stands = stands_on script k.run.played e halt old new clock after before now k.stands made clock_is;
+      going = event_goes_on Nothing script line (p.clock + tick_of line.verb) k.run e nothing_is_lost k.going is;
+    }
+
+same_left : (line : Line) (w v : State) (at by : Point) → w ≡ v → at ≡ by → left w line.actor line.verb at ≡ left v line.actor line.verb by
+same_left line w v at by state point = rw (state, point) refl
+
+-- the code's measure falls
+pub falls : (law : EventsLowerWhatIsLeft) (script : ScriptData) (line : Line) (p : Played) (old new : Whole) (clock after : ℕ) (before now : Store → ℕ → Fate) (point further_point : Point) (e : Event) (halt : Option Halt) (k : IsUnderWay script line p old clock before point) → next_in script line k.run ≡ Some e → Advances e halt old new before now → after ≡ clock_after clock e → further_point ≡ follows line.verb point halt → left new.state line.actor line.verb further_point < left old.state line.actor line.verb point
+falls law script line p old new clock after before now point further_point e halt k is made clock_is point_is =
+    let low : left_in line (run_after script line k.run e) < left_in line k.run = less_left law Nothing script line (p.clock + tick_of line.verb) k.run e k.going is in
+    let here : left old.state line.actor line.verb point ≡ left_in line k.run = same_left line old.state k.run.played.state point k.run.point k.stands.state k.point_is in
+    let at : StandsAt script (played script k.run.played e) new after now = stands_on script k.run.played e halt old new clock after before now k.stands made clock_is in
+    let there : left new.state line.actor line.verb further_point ≡ left_in line (run_after script line k.run e) = same_left line new.state (played script k.run.played e).state further_point _ at.state (point_same script line k.run e halt old new clock point further_point before now k.stands made k.point_is point_is) in
+    omega (arith, low, here, there)
+
+-- the reading of the next event is steady
+pub steady_under_way : (script : ScriptData) (line : Line) (p : Played) (whole : Whole) (clock : ℕ) (ahead : Store → ℕ → Fate) (point : Point) (k : IsUnderWay script line p whole clock ahead point) (e : Event) → next_in script line k.run ≡ Some e → IsSteadyAt whole.state.setup.skew whole.state.seen (reading_of e)
+steady_under_way script line p whole clock ahead point k e is =
+    subst (λ (w : State). IsSteadyAt w.setup.skew w.seen (reading_of e)) (sym k.stands.state) (steady_next Nothing script line (p.clock + tick_of line.verb) k.run e k.going is)
+
+-- ---- the end
+over : (script : ScriptData) (line : Line) (r : Run) (most : ℕ) → next_in script line r ≡ None → run_for most script line r ≡ r
+unfolding run_for
+over script line r zero is = refl
+over script line r (suc most) is = ap (λ (o : Option Event). going_on r o (λ x. run_for most script line (run_after script line r x))) is
+
+-- what was played once the run is over, by this clock at the latest
+pub record HasEnded (script : ScriptData) (p : Played) (latest : ℕ) (whole : Whole) (clock : ℕ) (ahead : Store → ℕ → Fate) : Type 0 where
+  pub stands : StandsAt script p whole clock ahead
+  pub reached : IsReached script p
+  pub within : p.clock ≤ latest
+
+pub ends : (script : ScriptData) (line : Line) (p : Played) (whole : Whole) (clock : ℕ) (ahead : Store → ℕ → Fate) (point : Point) (k : IsUnderWay script line p whole clock ahead point) → next_in script line k.run ≡ None → HasEnded script (line_run script line p).played (p.clock + tick_of line.verb) whole clock ahead
+ends script line p whole clock ahead point k is =
+    let all : k.run ≡ line_run script line p = sym (over script line k.run k.most is) ∙ k.leads in
+    subst (λ (r : Run). HasEnded script r.played (p.clock + tick_of line.verb) whole clock ahead) all (record { stands = k.stands; reached = k.going.reached; within = omega (arith, k.going.ahead) })

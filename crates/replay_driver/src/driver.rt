@@ -1,0 +1,47 @@
+// Carrying out a script line by line.
+ghost use Rattle.std.specs.Prelude.{◌≡◌, ◌<◌, ◌≤◌, ◌+◌, IfOk, OnOk, length, vec_len};
+ghost use Rattle.stamp_base.specs.declared.limits.TheConstants.{LINE_LIMIT};
+ghost use Rattle.stamp_base.specs.Setups.{numbers_of};
+ghost use Rattle.session_script.specs.Script.{data_of};
+ghost use Rattle.line_runs.specs.Runs.{replayed};
+ghost use Rattle.replay_driver.specs.Playing.{IsPlayedTo};
+
+use crate::play::Play;
+use cluster_core::Cluster;
+use line_runs::{Point, events_lower_what_is_left, follows};
+use port_io::{PlannedWeather, Weather};
+use session_script::Script;
+use stamp_base::{LINE_LIMIT, NoMemory};
+use std::alloc::Global;
+
+/// The cluster once all the script's lines were carried out, each to its end. A refused line ends nothing: its refusal stands
+/// in the history.
+pub fn replay(alloc: Global, script: &Script) -> Result<Cluster, NoMemory>
+    requires { vec_len script.now.lines ≤ LINE_LIMIT }
+    ensures history { IfOk result (λ cluster. cluster.history ≡ replayed (data_of script.now)) }
+    ensures setup { IfOk result (λ cluster. cluster.state.setup ≡ numbers_of script.now.setup) }
+{
+    let mut play = Play::open(alloc, script.setup, &script.faults)?;
+    for place in 0..script.lines.len() {
+        play_line(&mut play, script, place)?;
+    }
+    Ok(play.cluster)
+}
+
+/// Carries out the line at this place, event by event, to its end.
+fn play_line(play: &mut Play, script: &Script, place: usize) -> Result<(), NoMemory>
+    requires place { place < length script.now.lines.items }
+    requires played { IsPlayedTo (data_of script.now) place play.old.cluster play.old.clock
+        (⟦<PlannedWeather as Weather>⟧.ahead play.old.weather) }
+    ensures { OnOk result (IsPlayedTo (data_of script.now) (place + 1) play.new.cluster play.new.clock
+        (⟦<PlannedWeather as Weather>⟧.ahead play.new.weather)) }
+{
+    events_lower_what_is_left();
+    let line = &script.lines[place];
+    let mut point = Point::Opens;
+    while let Some(event) = play.next(&script.leads, line, point) {
+        let halt = play.make(&event)?;
+        point = follows(&line.verb, point, halt);
+    }
+    Ok(())
+}

@@ -1,5 +1,0 @@
-pub mod Kept
-pub mod LatestLemmas
-pub mod NewestLemmas
-pub mod ShadowLemmas
-pub mod WriteListLemmas

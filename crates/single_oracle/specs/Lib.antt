@@ -1,4 +1,0 @@
-pub mod Whole
-pub mod Events
-pub mod Fields
-pub mod OpenRows
