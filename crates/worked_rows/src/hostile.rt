@@ -11,13 +11,18 @@ const CALLS: [(&str, u64); 3] = [("cells", 11), ("table", 6), ("master", 2)];
 
 const KINDS: [&str; 2] = ["unchanged", "applied"];
 
-/// The planned fault, and how the history ends after the first twelve lines.
-const ENDS: [(&str, &str); 4] = [
+/// The planned fault, and how the history ends after the first eleven lines.
+static ENDS: [(&str, &str); 4] = [
     ("", NO_FAULT_HISTORY),
     (MARK_FAULTS, MARK_FAULTS_HISTORY),
     (PUT_FAULTS, PUT_FAULTS_HISTORY),
     (TAKE_FAULTS, TAKE_FAULTS_HISTORY),
 ];
+
+/// Behind a function, a proof that goes over the rows does not look into their texts.
+fn ends() -> &'static [(&'static str, &'static str)] {
+    &ENDS
+}
 
 #[test]
 fn each_fault_leaves_an_isolated_history(rt: HostRuntime) -> Result<(), Fail> {
@@ -39,7 +44,7 @@ fn each_fault_leaves_an_isolated_history(rt: HostRuntime) -> Result<(), Fail> {
 
 #[test]
 fn faults_are_told(rt: HostRuntime) -> Result<(), Fail> {
-    for (fault, end) in ENDS {
+    for (fault, end) in ends() {
         let script = joined(rt.alloc(), &[fault, HOSTILE])?;
         let history = joined(rt.alloc(), &[HOSTILE_BEGINS, end])?;
         let (written, status) = answer_of(&rt, rt.alloc(), &["replay"], &script)?;

@@ -385,7 +385,69 @@ end s0 start=1 read-only
 refused s0 no-transaction
 ";
 
-static REPLAYS: [Replay; 13] = [
+/// A begin is told once that it has to wait, and answered every time.
+const TOLD_ONCE: &str = "\
+a take
+s0 begin a
+s0 write k0 v
+s0 submit a
+s1 begin a
+s1 collect
+a answer s1
+a put s0
+a answer s1
+";
+
+const TOLD_ONCE_HISTORY: &str = "\
+take a reading=0 term=1 epoch=0 until=10 ceiling=100
+ask-begin s0 a
+accept s0 a term=1 reading=0
+draw s0 a term=1 start=1
+begin s0 start=1
+write s0 start=1 k0 v
+ask-commit s0 a start=1
+accept s0 a term=1 reading=0
+draw s0 a term=1 start=1 commit=2
+ask-begin s1 a
+accept s1 a term=1 reading=0
+draw s1 a term=1 start=3
+refused s1 not-yet commit=2
+placed start=1 commit=2
+begin s1 start=3
+";
+
+/// A cell is erased while a read of it is under way.
+const GONE_CELL: &str = "\
+a take
+s0 begin a
+s0 write k0 v
+s1 begin a
+s1 fetch k0
+s0 abort
+s1 step
+s1 step
+";
+
+const GONE_CELL_HISTORY: &str = "\
+take a reading=0 term=1 epoch=0 until=10 ceiling=100
+ask-begin s0 a
+accept s0 a term=1 reading=0
+draw s0 a term=1 start=1
+begin s0 start=1
+write s0 start=1 k0 v
+ask-begin s1 a
+accept s1 a term=1 reading=0
+draw s1 a term=1 start=2
+begin s1 start=2
+step s1 fetch k0 cells=1
+end s0 start=1 aborted
+step s0 erase k0 1
+step s1 get 1 absent
+step s1 look k0 1 gone
+read s1 start=2 k0 none
+";
+
+static REPLAYS: [Replay; 15] = [
     Replay {
         name: "plain_path",
         script: &[PLAIN_PATH],
@@ -454,6 +516,16 @@ static REPLAYS: [Replay; 13] = [
         name: "read only",
         script: &[READ_ONLY],
         history: &[READ_ONLY_HISTORY],
+    },
+    Replay {
+        name: "told once",
+        script: &[TOLD_ONCE],
+        history: &[TOLD_ONCE_HISTORY],
+    },
+    Replay {
+        name: "gone cell",
+        script: &[GONE_CELL],
+        history: &[GONE_CELL_HISTORY],
     },
 ];
 

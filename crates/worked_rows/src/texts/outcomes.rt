@@ -179,7 +179,117 @@ step s0 erase k0 1
 refused s0 no-transaction
 ";
 
-static REPLAYS: [Replay; 6] = [
+/// A session vanishes while its commit is in flight. The commit goes on, and a sweep completes it.
+const GONE_IN_FLIGHT: &str = "\
+a take
+s0 begin a
+s0 write k0 v
+s0 submit a
+s0 vanish
+s0 collect
+janitor sweep a 1
+";
+
+const GONE_IN_FLIGHT_HISTORY: &str = "\
+take a reading=0 term=1 epoch=0 until=10 ceiling=100
+ask-begin s0 a
+accept s0 a term=1 reading=0
+draw s0 a term=1 start=1
+begin s0 start=1
+write s0 start=1 k0 v
+ask-commit s0 a start=1
+accept s0 a term=1 reading=0
+draw s0 a term=1 start=1 commit=2
+vanish s0
+placed start=1 commit=2
+committed s0 start=1 commit=2
+step janitor get 1 committed=2
+step janitor keys 1 count=1
+step janitor shadow k0 1 2
+step janitor remove 1
+";
+
+/// A completion that fails frees its session, and a heal that fails is used up.
+const FAULTED_SHADOWS: &str = "\
+fault cells 2 unchanged
+fault cells 4 applied
+a take
+s0 begin a
+s0 write k0 v
+s0 commit a
+s1 begin a
+s1 read k0
+s1 heal
+s1 heal
+s1 read k0
+s0 begin a
+";
+
+const FAULTED_SHADOWS_HISTORY: &str = "\
+take a reading=0 term=1 epoch=0 until=10 ceiling=100
+ask-begin s0 a
+accept s0 a term=1 reading=0
+draw s0 a term=1 start=1
+begin s0 start=1
+write s0 start=1 k0 v
+ask-commit s0 a start=1
+accept s0 a term=1 reading=0
+draw s0 a term=1 start=1 commit=2
+placed start=1 commit=2
+committed s0 start=1 commit=2
+fault s0 cells
+ask-begin s1 a
+accept s1 a term=1 reading=0
+draw s1 a term=1 start=3
+begin s1 start=3
+step s1 fetch k0 cells=1
+step s1 get 1 committed=2
+read s1 start=3 k0 from=1 v
+fault s1 cells
+refused s1 idle
+step s1 fetch k0 cells=1
+read s1 start=3 k0 from=1 v
+ask-begin s0 a
+accept s0 a term=1 reading=0
+draw s0 a term=1 start=4
+begin s0 start=4
+";
+
+/// A session that settles its own commit starts over after a fault.
+const FAULTED_RESOLVE: &str = "\
+fault table 1 unchanged
+fault table 2 unchanged
+a take
+s0 begin a
+s0 write k0 v
+s0 commit a
+s0 finish
+s0 finish
+";
+
+const FAULTED_RESOLVE_HISTORY: &str = "\
+take a reading=0 term=1 epoch=0 until=10 ceiling=100
+ask-begin s0 a
+accept s0 a term=1 reading=0
+draw s0 a term=1 start=1
+begin s0 start=1
+write s0 start=1 k0 v
+ask-commit s0 a start=1
+accept s0 a term=1 reading=0
+draw s0 a term=1 start=1 commit=2
+fault a table
+refused s0 open start=1
+step s0 look k0 1 none
+fault s0 table
+step s0 look k0 1 none
+step s0 get 1 absent
+mark s0 start=1
+step s0 look k0 1 none
+end s0 start=1 dead
+step s0 erase k0 1
+";
+
+static REPLAYS: [Replay; 9] = [
     Replay {
         name: "faulted_put, without effect",
         script: &["fault table 1 unchanged\n", FAULTED_PUT],
@@ -209,6 +319,21 @@ static REPLAYS: [Replay; 6] = [
         name: "faulted_take_and_write, the write",
         script: &[FAULTED_WRITE],
         history: &[FAULTED_WRITE_HISTORY],
+    },
+    Replay {
+        name: "vanished with a commit in flight",
+        script: &[GONE_IN_FLIGHT],
+        history: &[GONE_IN_FLIGHT_HISTORY],
+    },
+    Replay {
+        name: "faulted shadows",
+        script: &[FAULTED_SHADOWS],
+        history: &[FAULTED_SHADOWS_HISTORY],
+    },
+    Replay {
+        name: "faulted resolve",
+        script: &[FAULTED_RESOLVE],
+        history: &[FAULTED_RESOLVE_HISTORY],
     },
 ];
 

@@ -322,7 +322,120 @@ take b reading=17 term=2 epoch=100 until=27 ceiling=200
 refused a replaced found=2
 ";
 
-static REPLAYS: [Replay; 10] = [
+/// The commit is placed between the reader's look at the table and its mark, which finds it.
+const FOUND_RECORD: &str = "\
+s1 begin b
+s1 fetch k0
+s1 step
+a put s0
+s1 step
+s1 heal
+s0 collect
+";
+
+const FOUND_RECORD_HISTORY: &str = "\
+ask-begin s1 b
+accept s1 b term=2 reading=12
+draw s1 b term=2 start=101
+begin s1 start=101
+step s1 fetch k0 cells=1
+step s1 get 1 absent
+placed start=1 commit=2
+step s1 mark 1 committed=2
+read s1 start=101 k0 from=1 v
+step s1 shadow k0 1 2
+committed s0 start=1 commit=2
+step s0 shadow k0 1 2
+step s0 remove 1
+";
+
+/// Two readers come upon one cell, and the second finds the mark of the first.
+const FOUND_MARK: &str = "\
+s1 begin b
+s2 begin b
+s1 fetch k0
+s1 step
+s2 read k0
+s1 step
+s1 step
+";
+
+const FOUND_MARK_HISTORY: &str = "\
+ask-begin s1 b
+accept s1 b term=2 reading=12
+draw s1 b term=2 start=101
+begin s1 start=101
+ask-begin s2 b
+accept s2 b term=2 reading=12
+draw s2 b term=2 start=102
+begin s2 start=102
+step s1 fetch k0 cells=1
+step s1 get 1 absent
+step s2 fetch k0 cells=1
+step s2 get 1 absent
+mark s2 start=1
+step s2 look k0 1 none
+read s2 start=102 k0 none
+step s1 mark 1 invalid
+step s1 look k0 1 none
+read s1 start=101 k0 none
+";
+
+/// A renewal fails and takes effect: the record goes on, and the oracle counts on its old lease.
+const FAULTED_RENEWAL: &str = "\
+fault master 2 applied
+a take
+clock tick 5
+a renew
+clock tick 5
+s0 begin a
+clock tick 2
+b take
+clock tick 5
+b take
+";
+
+const FAULTED_RENEWAL_HISTORY: &str = "\
+take a reading=0 term=1 epoch=0 until=10 ceiling=100
+tick 5
+renew a reading=5 term=1 until=15
+fault a master
+tick 10
+ask-begin s0 a
+refused s0 expired reading=10 until=10
+tick 12
+refused b early reading=12 until=15
+tick 17
+take b reading=17 term=2 epoch=100 until=27 ceiling=200
+";
+
+/// An extension fails and takes effect: the stamps of that range are never drawn from, until the next one.
+const FAULTED_EXTENSION: &str = "\
+range 1
+fault master 2 applied
+a take
+s0 begin a
+s1 begin a
+s1 collect
+";
+
+const FAULTED_EXTENSION_HISTORY: &str = "\
+take a reading=0 term=1 epoch=0 until=10 ceiling=1
+ask-begin s0 a
+accept s0 a term=1 reading=0
+draw s0 a term=1 start=1
+begin s0 start=1
+ask-begin s1 a
+accept s1 a term=1 reading=0
+refused s1 no-stamp last=1
+extend a term=1 ceiling=2
+fault a master
+extend a term=1 ceiling=3
+draw s1 a term=1 start=2
+begin s1 start=2
+";
+
+static REPLAYS: [Replay; 14] = [
     Replay {
         name: "late_put",
         script: &[DRAWN, LATE_PUT],
@@ -372,6 +485,26 @@ static REPLAYS: [Replay; 10] = [
         name: "renewals",
         script: &[RENEWALS],
         history: &[RENEWALS_HISTORY],
+    },
+    Replay {
+        name: "found record",
+        script: &[DRAWN, FOUND_RECORD],
+        history: &[DRAWN_HISTORY, FOUND_RECORD_HISTORY],
+    },
+    Replay {
+        name: "found mark",
+        script: &[DRAWN, FOUND_MARK],
+        history: &[DRAWN_HISTORY, FOUND_MARK_HISTORY],
+    },
+    Replay {
+        name: "faulted renewal",
+        script: &[FAULTED_RENEWAL],
+        history: &[FAULTED_RENEWAL_HISTORY],
+    },
+    Replay {
+        name: "faulted extension",
+        script: &[FAULTED_EXTENSION],
+        history: &[FAULTED_EXTENSION_HISTORY],
     },
 ];
 
