@@ -5,6 +5,18 @@ use std::alloc::{AllocError, Global};
 use std::sync::Wait;
 use std::thread::Threads;
 
+/// More bytes than any of the texts has.
+const ROOM: usize = 65_536;
+
+/// The pieces, one behind the other.
+pub fn joined(alloc: Global, pieces: &[&str]) -> Result<Vec<u8>, AllocError> {
+    let mut text = Vec::new(alloc);
+    for piece in pieces {
+        text.extend_from_slice(piece.as_bytes())?;
+    }
+    Ok(text)
+}
+
 /// What the program writes for the words and the input, and its status.
 pub fn answer_of<R: Threads + Wait + Sync>(
     rt: &R,
@@ -28,7 +40,7 @@ pub fn written_for<R: Threads + Wait + Sync>(
 ) -> Result<(Vec<u8>, u8), AllocError> {
     let bytes = input.to_vec(alloc)?;
     let mut source = MemSource::new(bytes, Vec::new(alloc));
-    let mut sink = match MemSink::open(alloc, 4096, Vec::new(alloc)) {
+    let mut sink = match MemSink::open(alloc, ROOM, Vec::new(alloc)) {
         Ok(sink) => sink,
         Err(_) => return Err(AllocError),
     };

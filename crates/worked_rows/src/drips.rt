@@ -1,7 +1,31 @@
-// A sink that takes one byte at a time.
-ghost use Rattle.std.specs.Prelude.{Some};
+// A source and a sink that move one byte at a time.
+ghost use Rattle.std.specs.Prelude.{None, Some};
 
-use port_io::{Failed, Sink};
+use port_io::{Failed, Sink, Source};
+
+/// Gives one byte per read. It does not tell what is left.
+#[derive(Drop)]
+pub struct DripSource {
+    pub bytes: Vec<u8>,
+    pub at: usize,
+}
+
+impl Source for DripSource {
+    ghost left = { λ _. None };
+
+    ghost faults = { λ _. 0 };
+
+    fn read(&mut self, buf: &mut [u8]) -> Result<usize, Failed> {
+        match self.bytes.get(self.at) {
+            Some(byte) if !buf.is_empty() => {
+                buf[0] = *byte;
+                self.at += 1;
+                Ok(1)
+            }
+            _ => Ok(0),
+        }
+    }
+}
 
 /// Takes one byte per write. Want of memory counts as a fault.
 #[derive(Drop)]

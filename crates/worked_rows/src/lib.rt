@@ -4,12 +4,18 @@
 #[cfg(test)]
 mod audits;
 #[cfg(test)]
+mod bad_scripts;
+#[cfg(test)]
 mod calls;
 #[cfg(test)]
 mod drips;
 #[cfg(test)]
 mod faults;
 #[cfg(test)]
+mod hostile;
+#[cfg(test)]
 mod rows;
+#[cfg(test)]
+mod texts;
 #[cfg(test)]
 mod words;

@@ -1,6 +1,6 @@
 // What becomes of the words that the system hands in.
+use crate::bad_scripts::USAGE;
 use crate::calls::written_for;
-use crate::rows::USAGE;
 use omid_top::words_behind;
 use std::env::{Env, FillError};
 use std::test::Fail;
