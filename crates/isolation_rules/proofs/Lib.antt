@@ -7,5 +7,3 @@ pub mod WriteLemmas
 mod BestLemmas
 pub mod ReadLemmas
 pub mod WalkLemmas
-mod WorkedHistories
-mod WorkedReads

@@ -4,5 +4,4 @@ pub mod FreshPairs
 pub mod ReadPairs
 pub mod Best
 pub mod Judged
-pub mod WorkedHistories
 pub use Rattle.history_book.specs.Isolation.{Stamped, WasListed}

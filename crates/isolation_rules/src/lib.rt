@@ -2,7 +2,6 @@
 #![tactic(auto)]
 
 mod apart;
-pub mod examples;
 mod fresh;
 mod read;
 mod stamped;

@@ -1,8 +1,10 @@
-// Small histories beside the definitions: what isolation allows, and what it refuses.
+//! Small histories beside the definition of isolation: what it allows, and what it refuses.
+#![tactic(auto)]
+
 ghost use Rattle.std.specs.Prelude.{None, Some};
 ghost use Rattle.history_book.specs.Members.{AtEach};
 ghost use Rattle.history_book.specs.Isolation.{RightRead, Apart, Stamped, Fresh, Isolated};
-ghost use Rattle.isolation_rules.specs.WorkedHistories.{both_committed, read_of, from_first, unlisted_read, listed_read, own_write, stale_begin, asked_before, one_commit_of_two, one_start_of_two, start_as_commit, commit_of_three};
+ghost use Rattle.worked_histories.specs.WorkedHistories.{both_committed, read_of, from_first, unlisted_read, listed_read, own_write, stale_begin, asked_before, one_commit_of_two, one_start_of_two, start_as_commit, commit_of_three};
 
 /// Where both of two transactions that wrote one key are committed, neither below the other's start, they are not apart.
 pub fn two_writers_are_not_apart()

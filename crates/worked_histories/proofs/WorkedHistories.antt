@@ -4,7 +4,7 @@ use Rattle.history_book.specs.Members.{◌∈◌, AtEach}
 use Rattle.history_book.specs.Isolation.{last_write, NewStamps, Apart, Stamped, StartsAbove, Fresh, Isolated, before_ask, has_ask}
 use Rattle.history_book.specs.declared.item.Item.TheVariants.{AskBegin, Begin, Placed}
 use Rattle.history_book.proofs.MemberLemmas.{AtEach-push}
-use Rattle.isolation_rules.specs.WorkedHistories.{p, q, both_committed, stale_begin, asked_before, one_commit_of_two, one_start_of_two, start_as_commit, commit_of_three}
+use Rattle.worked_histories.specs.WorkedHistories.{p, q, both_committed, stale_begin, asked_before, one_commit_of_two, one_start_of_two, start_as_commit, commit_of_three}
 
 pub both_not_apart : Apart both_committed → ⊥
 unfolding ◌∈◌ last_write

@@ -1,5 +1,5 @@
-use Rattle.isolation_rules.proofs.WorkedHistories.{stale_not_fresh, asked_fresh, one_commit_wrong, one_start_wrong, start_as_commit_wrong, above_stamped, at_start_wrong, below_start_wrong}
-use Rattle.isolation_rules.proofs.examples.stamps_tell_times_apart.Goals as goal
+use Rattle.worked_histories.proofs.WorkedHistories.{stale_not_fresh, asked_fresh, one_commit_wrong, one_start_wrong, start_as_commit_wrong, above_stamped, at_start_wrong, below_start_wrong}
+use Rattle.worked_histories.proofs.stamps_tell_times_apart.Goals as goal
 
 pub returns : goal.returns
 returns c = record {

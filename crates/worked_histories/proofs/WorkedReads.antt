@@ -9,7 +9,7 @@ use Rattle.history_book.specs.declared.item.StoreStep.TheVariants.{Keys}
 use Rattle.history_book.specs.declared.item.Item.{Item}
 use Rattle.history_book.specs.declared.item.Item.TheVariants.{Write, Read, Placed, Step}
 use Rattle.history_book.proofs.MemberLemmas.{AtEach-push}
-use Rattle.isolation_rules.specs.WorkedHistories.{p, q, read_of, from_first, unlisted_read, listed_read, own_write}
+use Rattle.worked_histories.specs.WorkedHistories.{p, q, read_of, from_first, unlisted_read, listed_read, own_write}
 
 nothing_right : (h : List Item) → AtEach (RightRead h) []
 nothing_right h = record { at = λ n x e. absurd (cc) }

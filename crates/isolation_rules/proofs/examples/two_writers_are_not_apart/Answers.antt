@@ -1,5 +1,0 @@
-use Rattle.isolation_rules.proofs.WorkedHistories.{both_not_apart}
-use Rattle.isolation_rules.proofs.examples.two_writers_are_not_apart.Goals as goal
-
-pub returns : goal.returns
-returns c = both_not_apart

@@ -1,0 +1,2 @@
+mod WorkedHistories
+mod WorkedReads
