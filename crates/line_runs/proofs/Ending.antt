@@ -1,4 +1,4 @@
--- Runs end, and lines lead from what is reached to what is reached. A property that every event keeps is kept by them too.
+-- Public laws, for the proofs of crates above: runs end, and lines lead from what is reached to what is reached. A property that every event keeps is kept by them too.
 use Rattle.std.proofs.Common.{◌≡◌, ℕ, zero, suc, ◌+◌, ◌<◌, ◌≤◌, ◌^◌, List, [], ◌∷◌, ◌++◌, Option, Some, None, refl, sym, ◌∙◌, subst, arith}
 use Rattle.std.specs.Prelude.{slice_index_or}
 use Rattle.stamp_base.specs.SetupNumbers.{SetupNumbers, AreInRange}
@@ -131,7 +131,7 @@ lines_keep lowers P script (line ∷ lines) p keeps reached has playable =
     lines_keep lowers P script lines next keeps run.going.reached run.going.has (record { leads = playable.leads; ticks = omega (arith, by_then, room) })
 
 -- ---- whole scripts
-opening_reached : (script : ScriptData) → AreInRange script.setup → IsReached script (opening_played script)
+pub opening_reached : (script : ScriptData) → AreInRange script.setup → IsReached script (opening_played script)
 opening_reached script in_range = record { stands = stands_at_first script.setup in_range; setup = refl; seen = omega arith }
 
 -- what every event keeps, and holds at first, holds of what a script comes to

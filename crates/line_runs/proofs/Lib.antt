@@ -22,3 +22,14 @@ mod Fitting
 mod FittingSteps
 mod AlwaysFit
 mod OpeningItems
+mod WorkItems
+mod Walks
+mod LaterEvents
+mod OpenedLines
+mod OwnItems
+mod ReadLines
+mod ReadSteps
+mod FetchLines
+mod OwnLines
+mod LineWalks
+mod ScriptWalks

@@ -105,7 +105,7 @@ crash_begins w node (Some i) = behind _ _ _ (inl refl) (all_crashed_plain node i
 
 -- ---- asks
 -- the instance takes the request, or is full
-ask_begins_if : (s : ℕ) (c : Client) (ask : Item) (A : Item → Type 0) (i : InstanceEntry) (request : Request) (full : Bool) → A ask → ((n : ℕ) → A (item.Refused (Session s) (cause.Full n))) → let step : InstanceStep (Unit {0}) = cond full (stays i (cause.Full (in_flight i))) (record { left = with_request i (session_of request) (Some (just_asked request)); answer = Ok tt }) in Begins A (asked_by s c ask step step.answer).items
+pub ask_begins_if : (s : ℕ) (c : Client) (ask : Item) (A : Item → Type 0) (i : InstanceEntry) (request : Request) (full : Bool) → A ask → ((n : ℕ) → A (item.Refused (Session s) (cause.Full n))) → let step : InstanceStep (Unit {0}) = cond full (stays i (cause.Full (in_flight i))) (record { left = with_request i (session_of request) (Some (just_asked request)); answer = Ok tt }) in Begins A (asked_by s c ask step step.answer).items
 ask_begins_if s c ask A i request true asked refused = alone A _ (refused (in_flight i))
 ask_begins_if s c ask A i request false asked refused = alone A _ asked
 

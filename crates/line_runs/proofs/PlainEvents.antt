@@ -53,7 +53,7 @@ step_plain actor (ask.Remove txn) answer = refl
 step_plain actor (ask.Erase key txn) answer = refl
 step_plain actor (ask.Keys txn) answer = refl
 
-effect_plain : (actor : Actor) (asked : Ask) (answer : Told) → AllPlain (mark_kept actor asked answer)
+pub effect_plain : (actor : Actor) (asked : Ask) (answer : Told) → AllPlain (mark_kept actor asked answer)
 effect_plain actor (ask.Mark txn) told.Marked = one_plain _ refl
 effect_plain actor (ask.Mark txn) _ = no_plain
 effect_plain actor (ask.Get txn) answer = no_plain

@@ -1,8 +1,9 @@
 -- Every run ends, and what a script comes to keeps all facts.
 use Rattle.std.specs.Prelude.{◌≡◌, ℕ, ◌+◌, ◌<◌, ◌≤◌, ◌^◌, List, [], ◌∷◌, slice_index_or, None, Some}
-use Rattle.stamp_base.specs.SetupNumbers.{AreInRange}
+use Rattle.stamp_base.specs.SetupNumbers.{SetupNumbers, AreInRange}
 use Rattle.port_io.specs.declared.weather.Fate.{Fate}
 use Rattle.history_book.specs.declared.item.Actor.{Actor}
+use Rattle.history_book.specs.declared.item.Actor.TheVariants.{Node, Session}
 use Rattle.history_book.specs.declared.item.Item.{Item}
 use Rattle.machine.specs.declared.event.Event.{Event}
 use Rattle.machine.specs.State.{State}
@@ -15,9 +16,10 @@ use Rattle.isolation_laws.specs.Sound.{Stands}
 use Rattle.line_runs.specs.declared.point.Point.{Point}
 use Rattle.line_runs.specs.Halts.{halt_of, follows}
 use Rattle.line_runs.specs.Views.{view_of}
-use Rattle.line_runs.specs.Next.{Clocks, next}
+use Rattle.line_runs.specs.Next.{Clocks, target_node, next}
+use Rattle.line_runs.specs.Answers.{Answers}
 use Rattle.line_runs.specs.Left.{left}
-use Rattle.line_runs.specs.Runs.{Played, next_in, line_run, lines_played, script_played}
+use Rattle.line_runs.specs.Runs.{Played, next_in, line_run, lines_played, script_played, replayed}
 
 -- each event that a run makes lowers what is left, in every state that is reached, under every fate
 abbrev pub EventsLowerWhatIsLeft : Type 0
@@ -58,3 +60,27 @@ LinesKeepFacts =
 -- so does a whole script
 abbrev pub ScriptsAreReached : Type 0
 ScriptsAreReached = (script : ScriptData) → AreInRange script.setup → IsPlayable script 0 script.lines → IsReached script (script_played script)
+
+-- ---- each line is answered
+-- the actor is one of the system's, and so is the node that a session asks
+abbrev pub ActorFits : SetupNumbers → Actor → Type 0
+ActorFits setup (Node n) = n < setup.nodes
+ActorFits setup (Session s) = s < 16
+ActorFits setup _ = Unit {0}
+
+abbrev pub VerbFits : SetupNumbers → Verb → Type 0
+VerbFits setup (verb.Begin to) = target_node to < setup.nodes
+VerbFits setup (verb.Commit to) = target_node to < setup.nodes
+VerbFits setup (verb.Submit to) = target_node to < setup.nodes
+VerbFits setup (verb.AskBegin node) = node < setup.nodes
+VerbFits setup (verb.AskCommit node) = node < setup.nodes
+VerbFits setup _ = Unit {0}
+
+-- so it is of each line
+unfoldable pub AreLinesOf : SetupNumbers → List Line → Type 0
+AreLinesOf setup [] = Unit {0}
+AreLinesOf setup (line ∷ lines) = ActorFits setup line.actor × VerbFits setup line.verb × AreLinesOf setup lines
+
+-- the history of a script answers its lines
+abbrev pub LinesAreAnswered : Type 0
+LinesAreAnswered = (script : ScriptData) → AreInRange script.setup → IsPlayable script 0 script.lines → AreLinesOf script.setup script.lines → Answers script (replayed script)

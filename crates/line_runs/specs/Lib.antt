@@ -4,6 +4,6 @@ pub mod Views
 pub mod Next
 pub mod Left
 pub mod Runs
-pub mod Laws
 pub mod Answers
 pub mod Planned
+pub mod Laws

@@ -1,5 +1,5 @@
 // Every run of a line ends, and what is carried out keeps all facts.
-ghost use Rattle.line_runs.specs.Laws.{EventsLowerWhatIsLeft, RunsEnd, LinesKeepFacts, ScriptsAreReached};
+ghost use Rattle.line_runs.specs.Laws.{EventsLowerWhatIsLeft, RunsEnd, LinesKeepFacts, ScriptsAreReached, LinesAreAnswered};
 
 use client_parts::{reads_end, settles_end};
 
@@ -30,6 +30,15 @@ pub fn lines_keep_facts()
 /// facts hold in the end, and the history is isolated with them.
 pub fn scripts_are_reached()
     ensures { ScriptsAreReached }
+{
+    events_lower_what_is_left();
+}
+
+/// The history of a script answers its lines: each line of an actor with an opening item is answered once, in order, a read that
+/// it has begun ends before the next, and nothing opens a line that is not there. All that is asked beside is that the script's
+/// lines name actors and nodes of the system.
+pub fn lines_are_answered()
+    ensures { LinesAreAnswered }
 {
     events_lower_what_is_left();
 }

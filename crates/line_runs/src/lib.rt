@@ -8,5 +8,7 @@ mod point;
 
 pub use choosing::next_event;
 pub use following::follows;
-pub use laws::{events_lower_what_is_left, lines_keep_facts, runs_end, scripts_are_reached};
+pub use laws::{
+    events_lower_what_is_left, lines_are_answered, lines_keep_facts, runs_end, scripts_are_reached,
+};
 pub use point::{Halt, Point, View, refused};
