@@ -1,5 +1,5 @@
 // The cluster, whose history is isolated and explained.
-ghost use Rattle.std.specs.Prelude.{◌≡◌, [], IfOk};
+ghost use Rattle.std.specs.Prelude.{◌≡◌, ◌↔◌, [], Some, IfOk, IsTrue};
 ghost use Rattle.stamp_base.specs.Setups.{numbers_of};
 ghost use Rattle.history_book.specs.Isolation.{Isolated};
 ghost use Rattle.cause_rules.specs.Explained.{Explained};
@@ -78,6 +78,14 @@ impl Cluster {
         ensures { result ≡ self.now.state.seen }
     {
         self.engine.seen()
+    }
+
+    /// Whether a reading may be handed in: it is behind none before it by more than the skew, and far from the end of the
+    /// numbers.
+    pub fn is_steady(&self, reading: u64) -> bool
+        ensures { IsTrue result ↔ IsSteadyAt self.now.state.setup.skew self.now.state.seen (Some reading) }
+    {
+        self.engine.is_steady(reading)
     }
 
     /// What the session is doing.

@@ -15,3 +15,6 @@ mod sweep_events;
 pub use cluster::Cluster;
 pub use engine::Engine;
 pub use event_steps::Stopped;
+
+#[cfg(test)]
+mod tests;

@@ -1,16 +1,21 @@
 // What can be read of the state.
-ghost use Rattle.std.specs.Prelude.{◌≡◌, ◌≤◌, length, Some};
+ghost use Rattle.std.specs.Prelude.{◌≡◌, ◌≤◌, ◌↔◌, IsTrue, length, Some};
 ghost use Rattle.oracle_parts.specs.Instance.{request_of_held};
+ghost use Rattle.machine.specs.Machine.{IsSteadyAt};
 ghost use Rattle.machine.specs.Readers as read;
 ghost use Rattle.cluster_core.specs.Holders.{request_held};
 
 use crate::Engine;
 use client_parts::State;
 use event_steps::Client;
+use lease_keeper::is_steady;
 use machine::Doing;
 use oracle_core::Instance;
 use oracle_parts::{Place, Request};
 use stamp_base::{NodeNo, SessionNo, Term};
+
+/// Readings are far from the end of the numbers.
+const GREATEST_READING: u64 = 1 << 61;
 
 impl Engine {
     /// The greatest reading that was handed in, at first 0.
@@ -18,6 +23,14 @@ impl Engine {
         ensures { result ≡ self.now.state.seen }
     {
         self.seen
+    }
+
+    /// Whether a reading may be handed in: it is behind none before it by more than the skew, and far from the end of the
+    /// numbers.
+    pub fn is_steady(&self, reading: u64) -> bool
+        ensures { IsTrue result ↔ IsSteadyAt self.now.state.setup.skew self.now.state.seen (Some reading) }
+    {
+        reading <= GREATEST_READING && is_steady(self.seen, reading, self.setup.skew)
     }
 
     /// What the session is doing.
