@@ -40,4 +40,4 @@ unfolding AreLinesOf
 lines_fit setup [] sound there = tt
 lines_fit setup (line ∷ lines) sound there =
     let first : LineIsSound setup.nodes line = All-head (LineIsSound setup.nodes) line lines sound in
-    (actor_fits setup line.actor first.actor (there 0 line (omega arith) (omega arith)), (verb_fits setup line.verb first.verb.needs, lines_fit setup lines (All-tail (LineIsSound setup.nodes) line lines sound) (λ k d within here. there (suc k) d (omega (arith, within)) (omega (arith, within)))))
+    (actor_fits setup line.actor first.actor (there 0 line (omega arith) (omega arith)), verb_fits setup line.verb first.verb.needs, lines_fit setup lines (All-tail (LineIsSound setup.nodes) line lines sound) (λ k d within here. there (suc k) d (omega (arith, within)) (omega (arith, here))))
