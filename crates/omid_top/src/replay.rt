@@ -9,9 +9,9 @@ ghost use Rattle.line_runs.specs.Runs.{replayed};
 ghost use Rattle.omid_top.specs.Texts.{bad_line_text, replay_text};
 ghost use Rattle.omid_top.specs.Promise.{KeepsPromise, GainsFront};
 
+use crate::Status;
 use crate::print::{self, written};
 use crate::script::{Mode, Script, ScriptCause, ScriptFault, read_script};
-use crate::Status;
 use port_io::{ReadStop, Sink, Source, read_up_to};
 use stamp_base::{BYTE_LIMIT, NoMemory};
 use std::alloc::Global;

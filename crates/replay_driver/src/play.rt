@@ -123,10 +123,7 @@ fn answered(answer: Result<(), Stopped>) -> Result<Option<Halt>, NoMemory>
     }
 }
 
-fn copied(
-    alloc: Global,
-    faults: &[(Store, u64, Fate)],
-) -> Result<Vec<(Store, u64, Fate)>, NoMemory>
+fn copied(alloc: Global, faults: &[(Store, u64, Fate)]) -> Result<Vec<(Store, u64, Fate)>, NoMemory>
     ensures { IfOk result (λ copy. copy.items ≡ faults.now) }
 {
     let mut copy = Vec::new(alloc);

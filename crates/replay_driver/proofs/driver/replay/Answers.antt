@@ -16,9 +16,9 @@ loop-place-init c =
     let script = data_of c.args.script.now in
     record {
       played =
-        none_played script _ _ _ c.args.script.now.sound (omega (arith, c.requires, c.args.script.now.lines.ok))
-        (opens script _ _ _ c.in_ok-play.ensures.state c.in_ok-play.ensures.history c.in_ok-play.ensures.clock
-        (λ store n. c.in_ok-play.ensures.weather store n ∙ ap (λ (faults : List PlannedFault). planned_fate faults store (n + 1)) c.deref.ensures.value));
+          none_played script _ _ _ c.args.script.now.sound (omega (arith, c.requires, c.args.script.now.lines.ok))
+          (opens script _ _ _ c.in_ok-play.ensures.state c.in_ok-play.ensures.history c.in_ok-play.ensures.clock
+          (λ store n. c.in_ok-play.ensures.weather store n ∙ ap (λ (faults : List PlannedFault). planned_fate faults store (n + 1)) c.deref.ensures.value));
       there = λ k d none within. absurd (omega (arith, none));
     }
 
