@@ -5,26 +5,17 @@ use Rattle.history_book.specs.declared.cause.Cause.TheVariants.{Undecided}
 use Rattle.history_book.specs.declared.item.Actor.{Actor}
 use Rattle.history_book.specs.declared.item.Item.{Item}
 use Rattle.history_book.specs.declared.item.Item.TheVariants as item
-use Rattle.store_parts.specs.Rows.{Row, HasOnly}
+use Rattle.store_parts.specs.Rows.{Row}
 use Rattle.store_parts.specs.Pairs.{Pairs, mark_of}
 use Rattle.store_parts.specs.declared.pairs.Put.{Put}
 use Rattle.store_parts.specs.declared.pairs.Put.TheVariants.{Placed, Found}
 use Rattle.client_parts.specs.declared.asks.Ask.{Ask}
-use Rattle.client_parts.specs.declared.asks.Ask.TheVariants.{Mark, Shadow}
+use Rattle.client_parts.specs.declared.asks.Ask.TheVariants.{Mark}
 use Rattle.client_parts.specs.declared.asks.Told.{Told}
 use Rattle.client_parts.specs.declared.asks.Told.TheVariants as told
 use Rattle.client_parts.specs.Sweep.{Sweeping}
 use Rattle.machine.specs.StoreSteps.{Met, told_entry}
-
--- a shadow that is there, where one is to be set, is the same commit
-abbrev pub KeepsShadow : Ask → List Row → Type 0
-KeepsShadow (Shadow key txn commit) rows = HasOnly rows key txn commit
-KeepsShadow _ rows = Unit {0}
-
--- the same for what is asked next, if anything is
-abbrev pub KeepsShadowNext : Option Ask → List Row → Type 0
-KeepsShadowNext None rows = Unit {0}
-KeepsShadowNext (Some asked) rows = KeepsShadow asked rows
+pub use Rattle.machine.specs.Calls.{KeepsShadow, KeepsShadowNext}
 
 -- the answer, where the call worked
 abbrev pub answer_of : {E : Type 0} → Result Told E → Option Told

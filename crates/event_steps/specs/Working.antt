@@ -2,11 +2,12 @@
 use Rattle.std.specs.Prelude.{◌≡◌, ℕ, Bool, true, false, List, [], ◌∷◌, Option, None, Some}
 use Rattle.history_book.specs.declared.item.Item.{Item}
 use Rattle.client_parts.specs.declared.asks.Told.{Told}
-use Rattle.client_parts.specs.SessionSteps.{SessionEntry, CanFree, CanCommit, step_refusal}
+use Rattle.client_parts.specs.SessionSteps.{SessionEntry}
 use Rattle.client_parts.specs.Resolve.{Settling, settle_turn}
 use Rattle.client_parts.specs.KeyRead.{ReadTurn, Asks, Answers, read_told}
 use Rattle.machine.specs.State.{UnderWay, Nothing, Reads, Settles, Completes, Client}
-use Rattle.machine.specs.Clients.{client_freed, is_reading}
+use Rattle.machine.specs.Clients.{client_freed}
+pub use Rattle.machine.specs.Calls.{MayStep, CanWork}
 use Rattle.machine.specs.Events.Fetch.{client_read, read_items}
 use Rattle.machine.specs.Events.Step.{client_settled, settle_items, after_asks}
 
@@ -42,13 +43,3 @@ settles (Some x) = Settles x
 abbrev pub is_nothing : UnderWay → Bool
 is_nothing Nothing = true
 is_nothing _ = false
-
--- the session can hear what its work may come to
-abbrev pub CanWork : UnderWay → SessionEntry → Type 0
-CanWork (Settles x) e = CanCommit e
-CanWork (Completes asks) e = CanFree e
-CanWork _ e = Unit {0}
-
--- no refusal stands against the client's next step
-abbrev pub MayStep : Client → Type 0
-MayStep c = step_refusal c.entry.state (is_reading c) ≡ None

@@ -1,0 +1,4 @@
+pub mod Numbers
+pub mod Accounts
+pub mod Rule
+pub mod Ends

@@ -1,0 +1,4 @@
+pub mod Tickets
+pub mod Accounts
+pub mod Rule
+pub mod Ends

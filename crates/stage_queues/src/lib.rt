@@ -1,0 +1,29 @@
+//! The queues between the stages of each node's pipeline, the passes by which threads use them, the pools of batches, and the
+//! places where threads wait. The accounts of the queues are clauses of these calls; `docs/QUEUES.md` says what they promise.
+#![tactic(auto)]
+
+mod batch_queue;
+mod buffers;
+mod laws;
+mod node;
+mod node_pass;
+mod opening;
+mod pass;
+mod queues;
+mod request_queue;
+mod settled_queue;
+mod sizes;
+mod waiting;
+
+pub use batch_queue::BatchQueue;
+pub use laws::settled_once;
+pub use node_pass::NodePass;
+pub use pass::StagePass;
+pub use queues::Queues;
+pub use request_queue::RequestQueue;
+pub use request_rule::Ticket;
+pub use settled_queue::SettledQueue;
+pub use waiting::Waiter;
+
+#[cfg(test)]
+mod tests;

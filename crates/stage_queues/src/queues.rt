@@ -1,0 +1,157 @@
+ghost use Rattle.std.specs.Prelude.{◌≡◌, ℕ, ◌+◌, ◌-◌, ◌^◌, ◌<◌, [], length, IfSome, MatchOption, slice_get};
+ghost use Rattle.stage_queues.specs.NodePasses.{joined_node, TellsNode};
+ghost use Rattle.stage_queues.specs.Passes.{AreNodePassesOf, pass_at};
+ghost use Rattle.stage_queues.specs.Plan.{node_ring};
+
+use crate::batch_queue::BatchQueue;
+use crate::node::NodeQueues;
+use crate::node_pass::NodePass;
+use crate::pass::StagePass;
+use crate::request_queue::RequestQueue;
+use crate::settled_queue::SettledQueue;
+use crate::waiting::{Waiter, actor_place};
+use batch_pool::Batch;
+use stamp_base::{NodeNo, Stage};
+use std::marker::Model;
+use std::sync::Wait;
+use std::sync::atomic::{AtomicBool, Ordering};
+use std::thread::Parker;
+
+/// The queues and pools of all nodes, and where their threads wait.
+#[derive(Drop)]
+pub struct Queues {
+    pub(crate) nodes: Vec<NodeQueues>,
+    pub(crate) buffers: usize,
+    pub(crate) actors: Vec<Parker>,
+    pub(crate) closed: AtomicBool,
+}
+
+impl Model for Queues {
+    ghost use Rattle.stage_queues.specs.Plan.{Plan, AreNumbered};
+
+    ghost Value = { Plan };
+
+    ghost view = { λ q. record { nodes = q.nodes.items; buffers = q.buffers } };
+
+    ghost invariant = { λ q. AreNumbered q.nodes.items };
+}
+
+impl Queues {
+    /// How many buffers the pool of each node has.
+    pub fn buffers(&self) -> usize
+        ensures { result ≡ self.now.buffers }
+    {
+        self.buffers
+    }
+
+    /// The queue of requests of a node.
+    pub fn requests(&self, node: NodeNo) -> &RequestQueue
+        requires { node < length self.now.nodes }
+        ensures { IfSome (slice_get self.now.nodes node) (λ rings. result.now ≡ node_ring node rings.requests) }
+    {
+        &self.nodes[node.index()].requests
+    }
+
+    /// The queue of batches of a node.
+    pub fn batches(&self, node: NodeNo) -> &BatchQueue
+        requires { node < length self.now.nodes }
+        ensures { IfSome (slice_get self.now.nodes node) (λ rings. result.now ≡ node_ring node rings.batches) }
+    {
+        &self.nodes[node.index()].batches
+    }
+
+    /// The queue of settled batches of a node.
+    pub fn settled(&self, node: NodeNo) -> &SettledQueue
+        requires { node < length self.now.nodes }
+        ensures { IfSome (slice_get self.now.nodes node) (λ rings. result.now ≡ node_ring node rings.settled) }
+    {
+        &self.nodes[node.index()].settled
+    }
+
+    /// An empty batch of the node's pool. None only where all its buffers were out at that step.
+    pub fn take_batch<R: Wait>(&self, rt: &R, node: NodeNo, pass: &mut StagePass) -> Option<Batch>
+        requires node { node < length self.now.nodes }
+        requires held { pass.old.held < 2 ^ 32 }
+        ensures held { MatchOption result (pass.new ≡ pass.old) (λ _. pass.new ≡ record pass.old { held = pass.old.held + 1 }) }
+        ensures empty { IfSome result (λ batch. (batch.entries ≡ []) × (0 < batch.room)) }
+    {
+        let batch = self.nodes[node.index()].buffers.lock(rt).pool.take()?;
+        pass.held += 1;
+        Some(batch)
+    }
+
+    /// Gives a batch back to the node's pool, and wakes the node's request stage.
+    pub fn give_batch<R: Wait>(&self, rt: &R, node: NodeNo, pass: &mut StagePass, batch: Batch)
+        requires node { node < length self.now.nodes }
+        requires held { 0 < pass.old.held }
+        ensures { pass.new ≡ record pass.old { held = pass.old.held - 1 } }
+    {
+        let queues = &self.nodes[node.index()];
+        queues.buffers.lock(rt).pool.give(batch);
+        pass.held -= 1;
+        queues.requests.reader.unpark();
+    }
+
+    /// Parks the waiter until it is woken. It may be woken for no reason, and once the queues are closed it does not wait.
+    pub fn wait<R: Wait>(&self, rt: &R, waiter: Waiter) {
+        if let Some(parker) = self.parker(waiter) {
+            if !self.closed() {
+                parker.park(rt);
+            }
+        }
+    }
+
+    /// Wakes the waiter. Where it does not wait, its next wait ends at once.
+    pub fn wake(&self, waiter: Waiter) {
+        if let Some(parker) = self.parker(waiter) {
+            parker.unpark();
+        }
+    }
+
+    /// Closes the queues, and wakes every waiter.
+    pub fn close(&self) {
+        self.closed.store(true, Ordering::SeqCst);
+        for actor in &self.actors {
+            actor.unpark();
+        }
+        for node in &self.nodes {
+            node.requests.reader.unpark();
+            node.batches.wake_readers();
+            node.settled.reader.unpark();
+        }
+    }
+
+    /// Whether the queues are closed.
+    pub fn closed(&self) -> bool {
+        self.closed.load(Ordering::SeqCst)
+    }
+
+    fn parker(&self, waiter: Waiter) -> Option<&Parker> {
+        match waiter {
+            Waiter::Actor(actor) => self.actors.get(actor_place(actor)),
+            Waiter::Stage(node, stage, number) => {
+                let queues = self.nodes.get(node.index())?;
+                match stage {
+                    Stage::Request => Some(&queues.requests.reader),
+                    Stage::Persist => queues.batches.readers.get(number as usize),
+                    Stage::Reply => Some(&queues.settled.reader),
+                }
+            }
+        }
+    }
+
+    /// Joins the passes that two threads have, node by node, into `mine`.
+    pub(crate) fn join_nodes(&self, mine: &mut [NodePass], theirs: &mut [NodePass])
+        requires mine { AreNodePassesOf self.now.nodes mine.old }
+        requires theirs { AreNodePassesOf self.now.nodes theirs.old }
+        ensures length { length mine.new ≡ length mine.old }
+        ensures joined { (node : ℕ) → node < length mine.old → pass_at mine.new node ≡ joined_node (pass_at mine.old node) (pass_at theirs.old node) }
+        ensures tells { (node : ℕ) → node < length mine.old → TellsNode (pass_at mine.new node) }
+    {
+        for i in 0..self.nodes.len() {
+            let own = mine[i].take();
+            let other = theirs[i].take();
+            mine[i] = self.nodes[i].join(own, other);
+        }
+    }
+}

@@ -1,0 +1,58 @@
+ghost use Rattle.std.specs.Prelude.{◌≡◌, IfNone, MatchOption, MatchResult};
+ghost use Rattle.stage_queues.specs.NodePasses.{ticket_put, TakesTicket, TookAllTickets};
+ghost use Rattle.stage_queues.specs.Passes.{at_node, with_node, SendsTickets, ReceivesTickets};
+ghost use Rattle.stage_queues.specs.Plan.{node_ring};
+
+use crate::pass::StagePass;
+use request_rule::{RequestRing, Ticket};
+use std::marker::Model;
+use std::sync::Wait;
+use std::thread::Parker;
+
+/// A node's queue of requests: from the threads of sessions to its request stage, which waits here.
+#[derive(Drop)]
+pub struct RequestQueue {
+    pub(crate) node: usize,
+    pub(crate) ring: RequestRing,
+    pub(crate) reader: Parker,
+}
+
+impl Model for RequestQueue {
+    ghost use Rattle.stage_queues.specs.Plan.{NodeRing};
+
+    ghost Value = { NodeRing };
+
+    ghost view = { λ q. record { node = q.node; ring = q.ring } };
+}
+
+impl RequestQueue {
+    pub(crate) fn new(node: usize, ring: RequestRing) -> RequestQueue
+        ensures { result ≡ node_ring node ring }
+    {
+        RequestQueue {
+            node,
+            ring,
+            reader: Parker::new(),
+        }
+    }
+
+    /// Sends a ticket and wakes the request stage. Err only where the queue was full at that step.
+    pub fn send<R: Wait>(&self, rt: &R, pass: &mut StagePass, ticket: Ticket) -> Result<(), Ticket>
+        requires { SendsTickets self.now pass.old }
+        ensures { MatchResult result (λ _. pass.new ≡ with_node pass.old self.now.node (ticket_put ticket (at_node pass.old self.now.node))) (λ back. (back ≡ ticket) × (pass.new ≡ pass.old)) }
+    {
+        pass.nodes[self.node].send_ticket(rt, &self.ring, ticket)?;
+        self.reader.unpark();
+        Ok(())
+    }
+
+    /// Receives the ticket at the front. None only where the queue was empty at that step.
+    pub fn receive<R: Wait>(&self, rt: &R, pass: &mut StagePass) -> Option<Ticket>
+        requires { ReceivesTickets self.now pass.old }
+        ensures rest { MatchOption result (pass.new ≡ pass.old) (λ _. pass.new ≡ with_node pass.old self.now.node (at_node pass.new self.now.node)) }
+        ensures taken { MatchOption result (pass.new ≡ pass.old) (λ ticket. TakesTicket ticket (at_node pass.old self.now.node) (at_node pass.new self.now.node)) }
+        ensures empty { IfNone result (TookAllTickets (at_node pass.old self.now.node)) }
+    {
+        pass.nodes[self.node].take_ticket(rt, &self.ring)
+    }
+}

@@ -1,0 +1,33 @@
+ghost use Rattle.std.specs.Prelude.{◌≡◌, ◌≤◌, ◌<◌};
+
+use stamp_base::Setup;
+
+/// How many tickets a request queue has room for.
+pub const REQUEST_ROOM: usize = 64;
+
+/// How much is opened.
+#[derive(Clone, Copy)]
+pub struct Sizes {
+    pub nodes: usize,
+    pub workers: usize,
+    /// How many entries a batch has room for.
+    pub batch: usize,
+    pub senders: usize,
+    pub ghost few: { workers ≤ 8 },
+    pub ghost have_room: { 0 < batch },
+}
+
+impl Sizes {
+    pub fn of(setup: &Setup, senders: usize) -> Sizes
+        ensures nodes { result.nodes ≡ setup.now.nodes }
+        ensures workers { result.workers ≡ setup.now.workers }
+        ensures senders { result.senders ≡ senders }
+    {
+        Sizes {
+            nodes: setup.nodes as usize,
+            workers: setup.workers as usize,
+            batch: setup.batch as usize,
+            senders,
+        }
+    }
+}
