@@ -8,9 +8,9 @@ use Rattle.line_runs.specs.Answers.{Answers}
 use Rattle.line_runs.specs.Runs.{replayed}
 use Rattle.omid_top.specs.Promise.{KeepsPromise}
 
-pub promise_kept : (script : ScriptData) (h : List Item) → h ≡ replayed script → Isolated h → Explained script.setup h → Answers script (replayed script) → KeepsPromise script
+pub promise_kept : (script : ScriptData) (h : List Item) → h ≡ replayed script → Isolated h → Explained script.setup h → Answers script h → KeepsPromise script
 promise_kept script h is isolated explained answers = record {
   isolated = subst (λ (x : List Item). Isolated x) is isolated;
   explained = subst (λ (x : List Item). Explained script.setup x) is explained;
-  answers = answers;
+  answers = subst (λ (x : List Item). Answers script x) is answers;
 }

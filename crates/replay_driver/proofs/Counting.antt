@@ -85,16 +85,19 @@ opens script whole clock ahead state history is planned = record {
   weather = λ store n. planned store n ∙ first_call script.faults store n;
 }
 
+pub playable_at_first : (script : ScriptData) → IsSound script → length script.lines ≤ 131072 → IsPlayable script 0 script.lines
+playable_at_first script sound few = record {
+  leads = λ node. leads_by_node script.leads script.setup.skew node sound.leads_within_skew;
+  ticks = omega (arith, ticks_are_few script.setup.nodes script.lines sound.lines, sound.setup.skew, few);
+}
+
 -- ahead of all lines none was carried out, and all can be
 pub none_played : (script : ScriptData) (whole : Whole) (clock : ℕ) (ahead : Store → ℕ → Fate) → IsSound script → length script.lines ≤ 131072 → StandsAt script (opening_played script) whole clock ahead → IsPlayedTo script 0 whole clock ahead
 unfolding lines_played
 none_played script whole clock ahead sound few at = record {
   stands = at;
   reached = record { stands = stands_at_first script.setup sound.setup; setup = refl; seen = omega arith };
-  playable = record {
-    leads = λ node. leads_by_node script.leads script.setup.skew node sound.leads_within_skew;
-    ticks = omega (arith, ticks_are_few script.setup.nodes script.lines sound.lines, sound.setup.skew, few);
-  };
+  playable = playable_at_first script sound few;
 }
 
 -- ---- behind the last line

@@ -2,3 +2,4 @@ mod Ahead
 mod Running
 mod Counting
 mod Making
+mod Fitting

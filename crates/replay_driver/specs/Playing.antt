@@ -1,8 +1,10 @@
 -- How far a script was carried out.
-use Rattle.std.specs.Prelude.{◌≡◌, ℕ, ◌+◌, take, drop}
+use Rattle.std.specs.Prelude.{◌≡◌, ℕ, ◌+◌, ◌<◌, take, drop}
 use Rattle.stamp_base.specs.declared.stores.Store.{Store}
 use Rattle.port_io.specs.declared.weather.Fate.{Fate}
 use Rattle.port_io.specs.Planned.{PlannedFault, planned_fate}
+use Rattle.history_book.specs.declared.item.Actor.{Actor}
+use Rattle.history_book.specs.declared.item.Actor.TheVariants.{Session}
 use Rattle.session_script.specs.Script.{ScriptData}
 use Rattle.line_runs.specs.Runs.{Calls, Played, calls_on, lines_played, opening_played}
 use Rattle.line_runs.specs.Laws.{IsReached, IsPlayable}
@@ -25,3 +27,8 @@ pub record IsPlayedTo (script : ScriptData) (count : ℕ) (whole : Whole) (clock
   pub stands : StandsAt script (played_to script count) whole clock ahead
   pub reached : IsReached script (played_to script count)
   pub playable : IsPlayable script (played_to script count).clock (drop count script.lines)
+
+-- the actor is no session, or is one that there is
+abbrev pub SessionIsThere : Actor → Type 0
+SessionIsThere (Session session) = session < 16
+SessionIsThere _ = Unit {0}

@@ -3,12 +3,14 @@ ghost use Rattle.std.specs.Prelude.{◌≡◌, ◌<◌, ◌≤◌, ◌+◌, IfOk
 ghost use Rattle.stamp_base.specs.declared.limits.TheConstants.{LINE_LIMIT};
 ghost use Rattle.stamp_base.specs.Setups.{numbers_of};
 ghost use Rattle.session_script.specs.Script.{data_of};
+ghost use Rattle.line_runs.specs.Answers.{Answers};
 ghost use Rattle.line_runs.specs.Runs.{replayed};
-ghost use Rattle.replay_driver.specs.Playing.{IsPlayedTo};
+ghost use Rattle.replay_driver.specs.Playing.{IsPlayedTo, SessionIsThere};
 
 use crate::play::Play;
 use cluster_core::Cluster;
-use line_runs::{Point, events_lower_what_is_left, follows};
+use history_book::Actor;
+use line_runs::{Point, events_lower_what_is_left, follows, lines_are_answered};
 use port_io::{PlannedWeather, Weather};
 use session_script::Script;
 use stamp_base::{LINE_LIMIT, NoMemory};
@@ -19,13 +21,25 @@ use std::alloc::Global;
 pub fn replay(alloc: Global, script: &Script) -> Result<Cluster, NoMemory>
     requires { vec_len script.now.lines ≤ LINE_LIMIT }
     ensures history { IfOk result (λ cluster. cluster.history ≡ replayed (data_of script.now)) }
+    ensures answered { IfOk result (λ cluster. Answers (data_of script.now) cluster.history) }
     ensures setup { IfOk result (λ cluster. cluster.state.setup ≡ numbers_of script.now.setup) }
 {
+    lines_are_answered();
     let mut play = Play::open(alloc, script.setup, &script.faults)?;
     for place in 0..script.lines.len() {
+        see_session(&script.lines[place].actor);
         play_line(&mut play, script, place)?;
     }
     Ok(play.cluster)
+}
+
+/// A session that a line names is one of those that there are, as its type says.
+fn see_session(actor: &Actor)
+    ensures { SessionIsThere actor.now }
+{
+    if let Actor::Session(session) = actor {
+        let _ = session.index();
+    }
 }
 
 /// Carries out the line at this place, event by event, to its end.

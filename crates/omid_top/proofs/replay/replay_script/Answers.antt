@@ -10,7 +10,7 @@ use Rattle.omid_top.proofs.replay.replay_script.Goals as goal
 
 pub returns-in-Ok-print_history-clause-replayed : goal.returns-in-Ok-print_history-clause-replayed
 returns-in-Ok-print_history-clause-replayed g c = λ _. (
-  promise_kept (data_of c.args.script.now) _ c.in-Ok.ensures.history c.history.ensures.isolated
-      (subst (λ (setup : SetupNumbers). Explained setup c.in-Ok.cluster.history) c.in-Ok.ensures.setup c.history.ensures.explained) ?,
+  promise_kept (data_of c.args.script.now) c.in-Ok.cluster.history c.in-Ok.ensures.history c.history.ensures.isolated
+      (subst (λ (setup : SetupNumbers). Explained setup c.in-Ok.cluster.history) c.in-Ok.ensures.setup c.history.ensures.explained) c.in-Ok.ensures.answered,
   subst (λ (h : List Item). Gains (g.K.Sink.held c.args.sink.now) (g.K.Sink.held c.print_history.new.sink) (printed h)) (c.history.ensures.value ∙ c.in-Ok.ensures.history) c.in-Ok-print_history.ensures.all,
 )

@@ -1,8 +1,11 @@
-use Rattle.std.proofs.Common.{ap, ◌∙◌, ◌+◌, arith, List}
+use Rattle.std.proofs.Common.{ap, ◌∙◌, ◌+◌, arith, List, subst, sym}
 use Rattle.port_io.specs.Planned.{PlannedFault, planned_fate}
+use Rattle.history_book.specs.declared.item.Item.{Item}
+use Rattle.line_runs.specs.Answers.{Answers}
 use Rattle.machine.specs.State.{State}
 use Rattle.session_script.specs.Script.{data_of}
-use Rattle.replay_driver.proofs.Counting.{opens, none_played, all_played}
+use Rattle.replay_driver.proofs.Counting.{opens, none_played, playable_at_first, all_played}
+use Rattle.replay_driver.proofs.Fitting.{one_more_there, lines_fit}
 use Rattle.replay_driver.proofs.driver.replay.Goals as goal
 
 pub open-requires : goal.open-requires
@@ -11,20 +14,30 @@ open-requires c = rw c.deref.ensures.value c.args.script.now.sound.one_fault_eac
 pub loop-place-init : goal.loop-place-init
 loop-place-init c =
     let script = data_of c.args.script.now in
-    none_played script _ _ _ c.args.script.now.sound (omega (arith, c.requires, c.args.script.now.lines.ok))
-    (opens script _ _ _ c.in_ok-play.ensures.state c.in_ok-play.ensures.history c.in_ok-play.ensures.clock
-    (λ store n. c.in_ok-play.ensures.weather store n ∙ ap (λ (faults : List PlannedFault). planned_fate faults store (n + 1)) c.deref.ensures.value))
+    record {
+      played =
+          none_played script _ _ _ c.args.script.now.sound (omega (arith, c.requires, c.args.script.now.lines.ok))
+          (opens script _ _ _ c.in_ok-play.ensures.state c.in_ok-play.ensures.history c.in_ok-play.ensures.clock
+          (λ store n. c.in_ok-play.ensures.weather store n ∙ ap (λ (faults : List PlannedFault). planned_fate faults store (n + 1)) c.deref.ensures.value));
+      there = λ k d none within. absurd (omega (arith, none));
+    }
 
 pub play_line-requires : goal.play_line-requires
-play_line-requires c = record { place = omega (arith, c.loop-place-test.true, c.args.script.now.lines.ok); played = c.loop-place.invariant }
+play_line-requires c = record { place = omega (arith, c.loop-place-test.true, c.args.script.now.lines.ok); played = c.loop-place.invariant.played }
 
 pub loop-place-preserved : goal.loop-place-preserved
-loop-place-preserved c = c.in_ok-play_line.ensures
+loop-place-preserved c = record {
+  played = c.in_ok-play_line.ensures;
+  there = one_more_there c.loop-place.place c.args.script.now.lines.items c.index.result.now (omega (arith, c.loop-place-test.true, c.args.script.now.lines.ok)) c.index.ensures c.loop-place.invariant.there c.see_session.ensures;
+}
 
 pub returns : goal.returns
 returns c =
-    let at = c.loop-place.invariant in
+    let script = data_of c.args.script.now in
+    let at = c.loop-place.invariant.played in
+    let history = all_played script c.loop-place.place _ _ _ (omega (arith, c.loop-place-test.false, c.args.script.now.lines.ok)) at in
     record {
-      history = all_played (data_of c.args.script.now) c.loop-place.place _ _ _ (omega (arith, c.loop-place-test.false, c.args.script.now.lines.ok)) at;
+      history = history;
+      answered = subst (λ (h : List Item). Answers script h) (sym history) (c.lines_are_answered.ensures script c.args.script.now.sound.setup (playable_at_first script c.args.script.now.sound (omega (arith, c.requires, c.args.script.now.lines.ok))) (lines_fit script.setup script.lines c.args.script.now.sound.lines (λ k d below here. c.loop-place.invariant.there k d (omega (arith, below, c.loop-place-test.false, c.args.script.now.lines.ok)) here)));
       setup = ap (λ (w : State). w.setup) at.stands.state ∙ at.reached.setup;
     }
