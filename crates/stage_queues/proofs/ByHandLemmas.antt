@@ -1,5 +1,5 @@
 -- What the passes of the tests by hand may do at the first node.
-use Rattle.std.proofs.Common.{◌≡◌, ℕ, zero, suc, ◌+◌, ◌*◌, ◌<◌, List, [], ◌∷◌, length, get_or, refl, sym, ap, ◌∙◌, subst, arith}
+use Rattle.std.proofs.Common.{◌≡◌, ℕ, zero, suc, ◌+◌, ◌*◌, ◌<◌, List, [], ◌∷◌, length, get_or, refl, ap, ◌∙◌, subst, arith}
 use Rattle.std.specs.Prelude.{Some, IfSome, slice_get}
 use Rattle.stage_queues.specs.Plan.{NodeRings, Plan, node_ring}
 use Rattle.stage_queues.specs.Passes.{StageAccount, SendsTickets, ReceivesTickets, SendsBatches, ReceivesBatches, UsesSettled}

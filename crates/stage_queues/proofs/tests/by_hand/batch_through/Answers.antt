@@ -1,4 +1,4 @@
-use Rattle.std.proofs.Common.{◌+◌, ◌<◌, length, sym, subst, arith}
+use Rattle.std.proofs.Common.{◌+◌, sym, subst, arith}
 use Rattle.stage_queues.specs.Plan.{node_ring}
 use Rattle.stage_queues.specs.Passes.{StageAccount, SendsBatches, ReceivesBatches}
 use Rattle.stage_queues.proofs.ByHandLemmas.{at_place, request_stage, worker}

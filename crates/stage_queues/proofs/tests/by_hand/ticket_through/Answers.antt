@@ -1,4 +1,4 @@
-use Rattle.std.proofs.Common.{◌<◌, length, sym, subst, arith}
+use Rattle.std.proofs.Common.{sym, subst, arith}
 use Rattle.stage_queues.specs.Passes.{SendsTickets, ReceivesTickets}
 use Rattle.stage_queues.proofs.ByHandLemmas.{at_place, request_stage, session}
 use Rattle.stage_queues.proofs.tests.by_hand.ticket_through.Goals as goal
