@@ -1,5 +1,5 @@
 -- What passes have from first to last, for the tests on threads.
-use Rattle.std.specs.Prelude.{◌≡◌, ◌<◌, true, false, length}
+use Rattle.std.specs.Prelude.{◌≡◌, ◌<◌, true, length}
 use Rattle.queue_passes.specs.Holds.{Ring, Holds}
 use Rattle.request_rule.specs.declared.account.RequestAccount.{RequestAccount}
 

@@ -2,3 +2,4 @@ mod JoinLemmas
 mod OpeningLemmas
 pub mod PlaceLemmas
 mod NewLemmas
+mod ByHandLemmas

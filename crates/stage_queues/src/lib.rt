@@ -1,5 +1,5 @@
 //! The queues between the stages of each node's pipeline, the passes by which threads use them, the pools of batches, and the
-//! places where threads wait. The accounts of the queues are clauses of these calls; `docs/QUEUES.md` says what they promise.
+//! places where threads wait. The accounts of the queues are clauses of these calls; `docs/PIPELINE.md` says what they promise.
 #![tactic(auto)]
 
 mod batch_queue;

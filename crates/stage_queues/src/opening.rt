@@ -7,7 +7,7 @@ ghost use Rattle.settled_rule.specs.Accounts.{settled_account, first_account as 
 ghost use Rattle.stage_queues.specs.NodePasses.{nothing};
 ghost use Rattle.stage_queues.specs.Opening.{opened_passes, node_passes, session_passes, stage_pass, worker_pass, HasRoom, IsNew};
 ghost use Rattle.stage_queues.specs.Halfway.{IsOpening, AreRoots};
-ghost use Rattle.stage_queues.specs.Plan.{NodeRings};
+ghost use Rattle.stage_queues.specs.Plan.{NodeRings, AreNumbered};
 
 use crate::batch_queue::BatchQueue;
 use crate::buffers::Buffers;
@@ -54,6 +54,7 @@ impl Queues {
         senders: usize,
     ) -> Result<(Queues, Vec<StagePass>), NoMemory>
         ensures nodes { IfOk result (λ opened. length opened.0.nodes ≡ setup.now.nodes) }
+        ensures numbered { IfOk result (λ opened. AreNumbered opened.0.nodes) }
         ensures buffers { IfOk result (λ opened. opened.0.buffers ≡ setup.now.workers + 2) }
         ensures room { IfOk result (λ opened. All (HasRoom opened.0.buffers) opened.0.nodes) }
         ensures passes { IfOk result (λ opened. opened.1.items ≡ opened_passes setup.now.nodes setup.now.workers senders opened.0.nodes) }
@@ -100,6 +101,7 @@ impl Opening {
         requires opening { IsOpening sizes.now self }
         requires whole { vec_len self.queues ≡ sizes.now.nodes }
         ensures new { IfOk result (λ opened. All (IsNew opened.0) opened.1.items) }
+        ensures numbered { IfOk result (λ opened. AreNumbered opened.0.nodes) }
         ensures room { IfOk result (λ opened. All (HasRoom opened.0.buffers) opened.0.nodes) }
         ensures queues { IfOk result (λ opened. (opened.0.nodes ≡ self.queues.items) × (opened.0.buffers ≡ sizes.now.workers + 2)) }
         ensures passes { IfOk result (λ opened. opened.1.items ≡ opened_passes sizes.now.nodes sizes.now.workers sizes.now.senders self.queues.items) }

@@ -5,6 +5,7 @@ use super::*;
 use stamp_base::{NodeNo, Setup};
 use std::test::Fail;
 
+mod by_hand;
 mod closing;
 
 fn one_worker() -> Setup

@@ -1,5 +1,4 @@
-use Rattle.std.specs.Prelude.{All}
-use Rattle.request_rule.specs.Ends.{IsSenders, IsReceivers}
+use Rattle.request_rule.specs.Ends.{IsReceivers}
 use Rattle.request_rule.proofs.tests.take_all.Given as goal
 
 abbrev pub invariant-loop : goal.invariant-loop
