@@ -15,6 +15,3 @@ mod sweep_events;
 pub use cluster::Cluster;
 pub use engine::Engine;
 pub use event_steps::Stopped;
-
-#[cfg(test)]
-mod tests;
