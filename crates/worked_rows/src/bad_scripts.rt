@@ -1,8 +1,8 @@
 // What the program says of words that are no command, and of bytes that are no script.
 use crate::calls::answer_of;
-use crate::texts::commits::{PLAIN_HISTORY, PLAIN_PATH};
 use std::alloc::{AllocError, Global};
 use std::test::Fail;
+use worked_texts::commits::{PLAIN_HISTORY, PLAIN_PATH};
 
 pub const USAGE: &str = "usage: omid replay [summary|json] | run | audit | storm N\n";
 

@@ -1,12 +1,12 @@
 // Sources and sinks that fail, or move a byte at a time.
 use crate::drips::{DripSink, DripSource};
-use crate::texts::commits::{PLAIN_HISTORY, PLAIN_PATH};
 use omid_top::{OpenGate, omid};
 use port_io::{MemSink, MemSource, Sink, Source};
 use std::alloc::{AllocError, Global};
 use std::sync::Wait;
 use std::test::Fail;
 use std::thread::Threads;
+use worked_texts::commits::{PLAIN_HISTORY, PLAIN_PATH};
 
 /// More bytes than any text here has.
 const ROOM: usize = 1024;

@@ -1,10 +1,10 @@
 // A script under each fault that can be planned for it: all is carried out, and what is written is isolated.
 use crate::calls::{answer_of, joined};
-use crate::texts::hostile::{
+use std::test::Fail;
+use worked_texts::hostile::{
     HOSTILE, HOSTILE_BEGINS, MARK_FAULTS, MARK_FAULTS_HISTORY, NO_FAULT_HISTORY, PUT_FAULTS,
     PUT_FAULTS_HISTORY, TAKE_FAULTS, TAKE_FAULTS_HISTORY,
 };
-use std::test::Fail;
 
 /// The calls that the script makes on each store.
 const CALLS: [(&str, u64); 3] = [("cells", 11), ("table", 6), ("master", 2)];

@@ -16,6 +16,4 @@ mod hostile;
 #[cfg(test)]
 mod rows;
 #[cfg(test)]
-mod texts;
-#[cfg(test)]
 mod words;

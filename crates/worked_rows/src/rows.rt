@@ -1,14 +1,7 @@
 // What a replay writes for a script, byte for byte, and that it is isolated.
 use crate::calls::{answer_of, joined};
-use crate::texts::{commits, examples, many_keys, outcomes, refusals, takeovers};
 use std::test::Fail;
-
-/// A script that is carried out, and the history that must be written for it, each in pieces.
-pub struct Replay {
-    pub name: &'static str,
-    pub script: &'static [&'static str],
-    pub history: &'static [&'static str],
-}
+use worked_texts::{commits, examples, many_keys, outcomes, refusals, takeovers};
 
 #[test]
 fn each_script_is_replayed(rt: HostRuntime) -> Result<(), Fail> {

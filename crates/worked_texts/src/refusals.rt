@@ -1,5 +1,5 @@
 // Calls that come before what they need, and what they are told.
-use crate::rows::Replay;
+use crate::Replay;
 
 /// One slot, which one session has.
 const ORDER: &str = "\

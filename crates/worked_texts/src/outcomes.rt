@@ -1,5 +1,5 @@
 // Store faults, crashes and sessions that vanish, and what becomes of their transactions.
-use crate::rows::Replay;
+use crate::Replay;
 
 /// The put of a commit fails: its session finds out what became of it.
 const FAULTED_PUT: &str = "\

@@ -1,5 +1,5 @@
 // Transactions at one oracle: commits, conflicts, reads, and the bounded memory of conflicts.
-use crate::rows::Replay;
+use crate::Replay;
 
 pub const PLAIN_PATH: &str = "\
 a take

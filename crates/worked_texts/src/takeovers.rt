@@ -1,5 +1,5 @@
 // Two oracles: leases and takeovers, and commits of the old one that come late.
-use crate::rows::Replay;
+use crate::Replay;
 
 /// The first oracle has drawn a commit and not placed it when the second one takes over.
 const DRAWN: &str = "\

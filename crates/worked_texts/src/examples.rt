@@ -1,5 +1,5 @@
 // The scripts of `examples/` without their comments, and what each prints.
-use crate::rows::Replay;
+use crate::Replay;
 
 /// `takeover.omid`
 const TAKEOVER: &str = "\

@@ -1,5 +1,5 @@
 // A transaction that reads what it wrote, writes 64 keys and then one more, and commits.
-use crate::rows::Replay;
+use crate::Replay;
 
 const OWN_WRITES: &str = "\
 a take
