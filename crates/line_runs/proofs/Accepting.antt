@@ -19,7 +19,7 @@ use Rattle.machine.specs.Effect.{Effect}
 use Rattle.machine.specs.Clients.{after_refusal}
 use Rattle.machine.specs.Machine.{Step, step_by, with_post, with_client, with_reading, at_both, stepped}
 use Rattle.machine.specs.Events.Accept.{accept_by, accept_request, accept_on}
-use Rattle.session_script.specs.declared.script.Verb.{Verb}
+use Rattle.script_data.specs.declared.line.Verb.{Verb}
 use Rattle.isolation_laws.specs.Words.{InstanceAt, ClientAt}
 use Rattle.isolation_laws.proofs.Lookups.{set_found}
 use Rattle.line_runs.specs.Left.{of_client, client_completes, client_ends, lacks_stamps, place_left, drive_left}

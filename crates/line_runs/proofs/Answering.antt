@@ -13,7 +13,7 @@ use Rattle.machine.specs.declared.event.Event.TheVariants as event
 use Rattle.machine.specs.State.{Client, State}
 use Rattle.machine.specs.Effect.{Effect}
 use Rattle.machine.specs.Machine.{Step, with_post, with_client, stepped}
-use Rattle.session_script.specs.declared.script.Verb.{Verb}
+use Rattle.script_data.specs.declared.line.Verb.{Verb}
 use Rattle.isolation_laws.specs.Words.{InstanceAt, ClientAt}
 use Rattle.line_runs.specs.Left.{client_ends, drive_left}
 use Rattle.oracle_parts.specs.declared.instance.Reply.{Reply}

@@ -18,7 +18,7 @@ use Rattle.machine.specs.State.{Client, State}
 use Rattle.machine.specs.Effect.{Effect}
 use Rattle.machine.specs.Clients.{after_refusal}
 use Rattle.machine.specs.Machine.{Step, with_post, with_client, stepped}
-use Rattle.session_script.specs.declared.script.Verb.{Verb}
+use Rattle.script_data.specs.declared.line.Verb.{Verb}
 use Rattle.isolation_laws.specs.Words.{InstanceAt, ClientAt}
 use Rattle.isolation_laws.proofs.Lookups.{set_found}
 use Rattle.line_runs.specs.Left.{of_client, client_completes, client_ends, lacks_stamps, place_left, drive_left}

@@ -19,7 +19,7 @@ use Rattle.machine.specs.Effect.{refused}
 use Rattle.machine.specs.Machine.{Step, with_client, stepped}
 use Rattle.machine.specs.Events.Answer.{answer_request, answer_on}
 use Rattle.machine.specs.Readers.{holder_from, place_held, place_of, is_commit, asks_commit}
-use Rattle.session_script.specs.declared.script.Verb.{Verb}
+use Rattle.script_data.specs.declared.line.Verb.{Verb}
 use Rattle.isolation_laws.specs.Words.{ClientAt}
 use Rattle.isolation_laws.specs.Sound.{Stands}
 use Rattle.isolation_laws.proofs.Lookups.{held_by}

@@ -8,9 +8,9 @@ use Rattle.machine.specs.declared.event.Event.{Event}
 use Rattle.machine.specs.State.{State, opening}
 use Rattle.machine.specs.Machine.{Step, stepped, reading_of, seen_after, IsSteadyAt}
 use Rattle.machine.proofs.PartsKept.{seen_up, leaves_parts}
-use Rattle.session_script.specs.declared.script.Line.{Line}
-use Rattle.session_script.specs.declared.script.Verb.{Verb}
-use Rattle.session_script.specs.Script.{ScriptData}
+use Rattle.script_data.specs.declared.line.Line.{Line}
+use Rattle.script_data.specs.declared.line.Verb.{Verb}
+use Rattle.script_data.specs.Data.{ScriptData}
 use Rattle.isolation_laws.proofs.AlwaysHolds.{facts_stay, stands_at_first}
 use Rattle.line_runs.specs.declared.point.Halt.{Halt}
 use Rattle.line_runs.specs.declared.point.Point.{Point}
@@ -20,7 +20,8 @@ use Rattle.line_runs.specs.Views.{view_of}
 use Rattle.line_runs.specs.Next.{Clocks}
 use Rattle.line_runs.specs.Left.{one_left}
 use Rattle.line_runs.specs.Runs.{Played, fate_of, Run, clocks_of, next_in, run_after, left_in, going_on, run_for, opened, line_run, lines_played, opening_played, script_played}
-use Rattle.line_runs.specs.Laws.{EventsLowerWhatIsLeft, tick_of, ticks_of, IsPlayable, IsReached, RunsEnd, LinesKeepFacts, ScriptsAreReached}
+use Rattle.script_data.specs.Ticks.{tick_of, ticks_of}
+use Rattle.line_runs.specs.Laws.{EventsLowerWhatIsLeft, IsPlayable, IsReached, RunsEnd, LinesKeepFacts, ScriptsAreReached}
 use Rattle.line_runs.proofs.AllLower.{followed_once}
 use Rattle.line_runs.proofs.Timing.{tick_ahead, event_timed, InTime, OnTime, in_time}
 

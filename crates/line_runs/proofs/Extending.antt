@@ -25,7 +25,7 @@ use Rattle.machine.specs.Effect.{Effect}
 use Rattle.machine.specs.Machine.{Step, step_by, with_post, at_post, stepped}
 use Rattle.machine.specs.Events.Extend.{extend_by, extend_on}
 use Rattle.machine.specs.Events.Take.{rules_of}
-use Rattle.session_script.specs.declared.script.Verb.{Verb}
+use Rattle.script_data.specs.declared.line.Verb.{Verb}
 use Rattle.line_runs.specs.Halts.{halt_of, after_extending}
 use Rattle.line_runs.specs.Left.{of_client, client_completes, client_ends, lacks_stamps, place_left, drive_left, session_left}
 use Rattle.line_runs.proofs.Holders.{drives_on}

@@ -17,8 +17,8 @@ use Rattle.machine.specs.Clients.{is_reading}
 use Rattle.machine.specs.Machine.{Step, at_client, stepped}
 use Rattle.machine.specs.Events.Step.{step_on}
 use Rattle.machine.specs.Readers.{client_doing, doing_at, doing_of, place_of, asks_commit}
-use Rattle.session_script.specs.declared.script.Verb.{Verb}
-use Rattle.session_script.specs.declared.script.Verb.TheVariants as verb
+use Rattle.script_data.specs.declared.line.Verb.{Verb}
+use Rattle.script_data.specs.declared.line.Verb.TheVariants as verb
 use Rattle.isolation_laws.specs.Words.{ClientAt}
 use Rattle.isolation_laws.specs.Sound.{Stands}
 use Rattle.line_runs.specs.declared.point.Halt.{Halt}

@@ -25,7 +25,7 @@ use Rattle.machine.specs.Events.Write.{client_wrote, write_refused, write_open, 
 use Rattle.machine.specs.Events.Abort.{abort_by, abort_on}
 use Rattle.machine.specs.Events.Fetch.{client_read, fetch_open, fetch_on}
 use Rattle.machine.specs.Readers.{place_of}
-use Rattle.session_script.specs.declared.script.Verb.{Verb}
+use Rattle.script_data.specs.declared.line.Verb.{Verb}
 use Rattle.line_runs.specs.declared.point.Halt.{Halt}
 use Rattle.line_runs.specs.declared.point.Halt.TheVariants.{NoStamp, NotYet, Refused, Faulted}
 use Rattle.line_runs.specs.declared.point.Point.{Point}

@@ -8,8 +8,8 @@ use Rattle.history_book.specs.declared.item.Note.TheVariants as note
 use Rattle.history_book.specs.declared.item.StoreStep.TheVariants as step
 use Rattle.history_book.specs.declared.item.Item.{Item}
 use Rattle.history_book.specs.declared.item.Item.TheVariants as item
-use Rattle.session_script.specs.declared.script.Verb.{Verb}
-use Rattle.session_script.specs.declared.script.Verb.TheVariants as verb
+use Rattle.script_data.specs.declared.line.Verb.{Verb}
+use Rattle.script_data.specs.declared.line.Verb.TheVariants as verb
 use Rattle.line_runs.specs.Next.{target_node}
 use Rattle.line_runs.specs.Answers.{opener, Opens, IsTick, IsNote, IsTake, IsRenew, IsCrash, IsVanish, IsAskBegin, IsAskCommit, IsWrite, IsFetch, IsOpeningOf, IsRefusal, IsReadOnly, EndsInstead, IsAnswer}
 

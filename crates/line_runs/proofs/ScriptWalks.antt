@@ -6,11 +6,12 @@ use Rattle.std.proofs.lemmas.Bool.Decides.{eqb_tells}
 use Rattle.history_book.specs.declared.item.Actor.{Actor}
 use Rattle.history_book.specs.declared.item.Actor.TheVariants.{Clock, Node, Session, Janitor}
 use Rattle.history_book.specs.declared.item.Item.{Item}
-use Rattle.session_script.specs.declared.script.Line.{Line}
-use Rattle.session_script.specs.Script.{ScriptData}
+use Rattle.script_data.specs.declared.line.Line.{Line}
+use Rattle.script_data.specs.Data.{ScriptData}
 use Rattle.line_runs.specs.Answers.{same_actor, has_opening, is_of, Answered}
 use Rattle.line_runs.specs.Runs.{Played, left_in, opened, line_run, lines_played, opening_played, script_played}
-use Rattle.line_runs.specs.Laws.{EventsLowerWhatIsLeft, tick_of, ticks_of, IsPlayable, IsReached, ActorFits, VerbFits, AreLinesOf, LinesAreAnswered}
+use Rattle.script_data.specs.Ticks.{tick_of, ticks_of}
+use Rattle.line_runs.specs.Laws.{EventsLowerWhatIsLeft, IsPlayable, IsReached, ActorFits, VerbFits, AreLinesOf, LinesAreAnswered}
 use Rattle.line_runs.proofs.AlwaysFit.{Fit, fit_stays, fit_at_first}
 use Rattle.line_runs.proofs.Ending.{Keeps, Going, Ended, line_ends, opening_reached}
 use Rattle.line_runs.proofs.Timing.{tick_ahead}

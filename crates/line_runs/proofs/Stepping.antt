@@ -24,7 +24,7 @@ use Rattle.machine.specs.StoreSteps.{met, told_by}
 use Rattle.machine.specs.Machine.{Step, step_by, with_client, at_client, stepped}
 use Rattle.machine.specs.Events.Fetch.{client_read}
 use Rattle.machine.specs.Events.Step.{StepParts, read_step, settle_step, client_settled, complete_step, after_asks, work_by, work_of, step_at, step_on, step_by as step_unless}
-use Rattle.session_script.specs.declared.script.Verb.{Verb}
+use Rattle.script_data.specs.declared.line.Verb.{Verb}
 use Rattle.isolation_laws.specs.Words.{ClientAt}
 use Rattle.line_runs.specs.declared.point.Point.{Point}
 use Rattle.line_runs.specs.declared.point.Point.TheVariants as point

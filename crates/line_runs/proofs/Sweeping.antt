@@ -22,7 +22,7 @@ use Rattle.machine.specs.StoreSteps.{met, told_by, rows_after}
 use Rattle.machine.specs.Machine.{Step, step_by, at_post, stepped, on_swept}
 use Rattle.machine.specs.Events.SweepOpen.{sweep_open_on}
 use Rattle.machine.specs.Events.SweepStep.{still_open, sweep_met, sweep_lists, sweep_at, sweep_step_on}
-use Rattle.session_script.specs.declared.script.Verb.{Verb}
+use Rattle.script_data.specs.declared.line.Verb.{Verb}
 use Rattle.isolation_laws.specs.Sound.{Stands}
 use Rattle.isolation_laws.specs.UnderWay.{IsSweptAt}
 use Rattle.line_runs.specs.declared.point.Halt.{Halt}

@@ -3,8 +3,8 @@ use Rattle.std.proofs.Common.{◌≡◌, ℕ, List, [], ◌∷◌, ◌++◌, Opt
 use Rattle.std.proofs.lemmas.Option.{none-some}
 use Rattle.history_book.specs.declared.item.Actor.{Actor}
 use Rattle.history_book.specs.declared.item.Item.{Item}
-use Rattle.session_script.specs.declared.script.Line.{Line}
-use Rattle.session_script.specs.declared.script.Verb.{Verb}
+use Rattle.script_data.specs.declared.line.Line.{Line}
+use Rattle.script_data.specs.declared.line.Verb.{Verb}
 use Rattle.line_runs.specs.Answers.{Opens, IsAnswer, read_begun, EndsRead, Answered}
 use Rattle.line_runs.proofs.Plain.{AllPlain}
 

@@ -10,10 +10,10 @@ use Rattle.history_book.specs.declared.item.Note.TheVariants as note
 use Rattle.history_book.specs.declared.item.StoreStep.TheVariants as step
 use Rattle.history_book.specs.declared.item.Item.{Item}
 use Rattle.history_book.specs.declared.item.Item.TheVariants as item
-use Rattle.session_script.specs.declared.script.Line.{Line}
-use Rattle.session_script.specs.declared.script.Verb.{Verb}
-use Rattle.session_script.specs.declared.script.Verb.TheVariants as verb
-use Rattle.session_script.specs.Script.{ScriptData}
+use Rattle.script_data.specs.declared.line.Line.{Line}
+use Rattle.script_data.specs.declared.line.Verb.{Verb}
+use Rattle.script_data.specs.declared.line.Verb.TheVariants as verb
+use Rattle.script_data.specs.Data.{ScriptData}
 use Rattle.line_runs.specs.Next.{target_node}
 
 -- the actor whose line the item opens

@@ -1,7 +1,7 @@
 -- The clocks of a script that is carried out: their sums stay in the range of numbers.
 use Rattle.std.specs.Prelude.{ℕ, ◌≤◌, ◌^◌, All, List}
-use Rattle.session_script.specs.declared.script.Verb.{Verb}
-use Rattle.session_script.specs.declared.script.Verb.TheVariants as verb
+use Rattle.script_data.specs.declared.line.Verb.{Verb}
+use Rattle.script_data.specs.declared.line.Verb.TheVariants as verb
 use Rattle.line_runs.specs.Next.{Clocks}
 
 abbrev pub clocks : ℕ → List ℕ → Clocks

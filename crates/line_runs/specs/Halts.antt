@@ -2,8 +2,8 @@
 use Rattle.std.specs.Prelude.{Option, None, Some}
 use Rattle.history_book.specs.declared.cause.Cause.{Cause}
 use Rattle.history_book.specs.declared.cause.Cause.TheVariants as cause
-use Rattle.session_script.specs.declared.script.Verb.{Verb}
-use Rattle.session_script.specs.declared.script.Verb.TheVariants as verb
+use Rattle.script_data.specs.declared.line.Verb.{Verb}
+use Rattle.script_data.specs.declared.line.Verb.TheVariants as verb
 use Rattle.machine.specs.Effect.{Stop, Refuses, Faults}
 use Rattle.line_runs.specs.declared.point.Halt.{Halt}
 use Rattle.line_runs.specs.declared.point.Halt.TheVariants.{NoStamp, NotYet, Refused, Faulted}

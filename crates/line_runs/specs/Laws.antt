@@ -8,10 +8,11 @@ use Rattle.history_book.specs.declared.item.Item.{Item}
 use Rattle.machine.specs.declared.event.Event.{Event}
 use Rattle.machine.specs.State.{State}
 use Rattle.machine.specs.Machine.{stepped}
-use Rattle.session_script.specs.declared.script.Line.{Line}
-use Rattle.session_script.specs.declared.script.Verb.{Verb}
-use Rattle.session_script.specs.declared.script.Verb.TheVariants as verb
-use Rattle.session_script.specs.Script.{ScriptData}
+use Rattle.script_data.specs.declared.line.Line.{Line}
+use Rattle.script_data.specs.declared.line.Verb.{Verb}
+use Rattle.script_data.specs.declared.line.Verb.TheVariants as verb
+use Rattle.script_data.specs.Data.{ScriptData}
+use Rattle.script_data.specs.Ticks.{ticks_of}
 use Rattle.isolation_laws.specs.Sound.{Stands}
 use Rattle.line_runs.specs.declared.point.Point.{Point}
 use Rattle.line_runs.specs.Halts.{halt_of, follows}
@@ -28,14 +29,6 @@ EventsLowerWhatIsLeft =
     left (stepped w e fate).state actor verb (follows verb point (halt_of (stepped w e fate).stop)) < left w actor verb point
 
 -- ---- what is asked of a script: its numbers are in range, no clock is ahead by more than the skew, and its ticks are few
-abbrev pub tick_of : Verb → ℕ
-tick_of (verb.Tick by) = by
-tick_of _ = 0
-
-unfoldable pub ticks_of : List Line → ℕ
-ticks_of [] = 0
-ticks_of (line ∷ lines) = tick_of line.verb + ticks_of lines
-
 pub record IsPlayable (script : ScriptData) (clock : ℕ) (lines : List Line) : Type 0 where
   pub leads : (node : ℕ) → slice_index_or script.leads node 0 ≤ script.setup.skew
   pub ticks : clock + ticks_of lines + script.setup.skew ≤ 2 ^ 61

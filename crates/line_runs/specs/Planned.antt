@@ -9,10 +9,10 @@ use Rattle.history_book.specs.declared.item.Actor.{Actor}
 use Rattle.history_book.specs.declared.item.Actor.TheVariants.{Clock, Node, Session}
 use Rattle.history_book.specs.declared.item.Item.{Item}
 use Rattle.history_book.specs.declared.item.Item.TheVariants as item
-use Rattle.session_script.specs.declared.script.Line.{Line}
-use Rattle.session_script.specs.declared.script.Verb.{Verb}
-use Rattle.session_script.specs.declared.script.Verb.TheVariants as verb
-use Rattle.session_script.specs.Script.{ScriptData}
+use Rattle.script_data.specs.declared.line.Line.{Line}
+use Rattle.script_data.specs.declared.line.Verb.{Verb}
+use Rattle.script_data.specs.declared.line.Verb.TheVariants as verb
+use Rattle.script_data.specs.Data.{ScriptData}
 use Rattle.cause_rules.specs.Since.{last_told}
 use Rattle.cause_rules.specs.Asks.{its_node}
 

@@ -10,8 +10,8 @@ use Rattle.machine.specs.declared.event.Event.{Event}
 use Rattle.machine.specs.declared.event.Event.TheVariants as event
 use Rattle.machine.specs.State.{State, opening}
 use Rattle.machine.specs.Machine.{Step, stepped, asks}
-use Rattle.session_script.specs.declared.script.Line.{Line}
-use Rattle.session_script.specs.Script.{ScriptData}
+use Rattle.script_data.specs.declared.line.Line.{Line}
+use Rattle.script_data.specs.Data.{ScriptData}
 use Rattle.line_runs.specs.declared.point.Point.{Point}
 use Rattle.line_runs.specs.declared.point.Point.TheVariants.{Opens}
 use Rattle.line_runs.specs.Halts.{halt_of, follows}

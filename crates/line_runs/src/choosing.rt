@@ -7,7 +7,7 @@ use crate::point::{Point, View};
 use history_book::{Actor, Note};
 use machine::{Doing, Event};
 use oracle_parts::Place;
-use session_script::{Line, Target, Verb};
+use script_data::{Line, Target, Verb};
 use stamp_base::{NodeNo, SessionNo};
 
 /// The event that the run of the line makes next from this point on; None where the run is over. The base clock and the leads

@@ -3,7 +3,7 @@ ghost use Rattle.std.specs.Prelude.{◌≡◌};
 ghost use Rattle.line_runs.specs.Halts as halts;
 
 use crate::point::{Halt, Point};
-use session_script::Verb;
+use script_data::Verb;
 
 /// Where the run stands after an event that was made at this point, by how the event stopped, if it did.
 pub fn follows(verb: &Verb, point: Point, halt: Option<Halt>) -> Point

@@ -3,7 +3,7 @@ use Rattle.std.proofs.Common.{◌≡◌, List, subst}
 use Rattle.history_book.specs.declared.item.Item.{Item}
 use Rattle.history_book.specs.Isolation.{Isolated}
 use Rattle.cause_rules.specs.Explained.{Explained}
-use Rattle.session_script.specs.Script.{ScriptData}
+use Rattle.script_data.specs.Data.{ScriptData}
 use Rattle.line_runs.specs.Answers.{Answers}
 use Rattle.line_runs.specs.Runs.{replayed}
 use Rattle.omid_top.specs.Promise.{KeepsPromise}

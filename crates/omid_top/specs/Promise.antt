@@ -3,7 +3,7 @@ use Rattle.std.specs.Prelude.{ℕ, List, Option, take}
 use Rattle.history_book.specs.Isolation.{Isolated}
 use Rattle.cause_rules.specs.Explained.{Explained}
 use Rattle.port_io.specs.Ports.{Gains}
-use Rattle.session_script.specs.Script.{ScriptData}
+use Rattle.script_data.specs.Data.{ScriptData}
 use Rattle.line_runs.specs.Runs.{replayed}
 use Rattle.line_runs.specs.Answers.{Answers}
 

@@ -1,8 +1,9 @@
 -- The texts that the program writes besides histories, and the words that it knows.
 use Rattle.std.specs.Prelude.{◌≡◌, ℕ, List, [], ◌∷◌, ◌++◌, ◌⊎◌, Result, Ok, Err, codes, decimal}
 use Rattle.history_text.specs.Text.{printed}
-use Rattle.session_script.specs.Causes.{cause_text}
-use Rattle.session_script.specs.Script.{ScriptData, BadLine}
+use Rattle.script_lines.specs.Causes.{cause_text}
+use Rattle.script_data.specs.Data.{ScriptData}
+use Rattle.session_script.specs.Script.{BadLine}
 use Rattle.line_runs.specs.Runs.{replayed}
 use Rattle.omid_top.specs.declared.words.Command.{Command}
 use Rattle.omid_top.specs.declared.words.Command.TheVariants as command

@@ -6,7 +6,7 @@ ghost use Rattle.port_io.specs.Ports.{Risen, Gains, IsAtEnd};
 ghost use Rattle.history_book.specs.declared.item.Item.{Item};
 ghost use Rattle.history_text.specs.Text.{printed};
 ghost use Rattle.session_script.specs.Script.{script_of};
-ghost use Rattle.session_script.specs.declared.script.Mode.TheVariants.{Replay};
+ghost use Rattle.script_lines.specs.declared.mode.Mode.TheVariants.{Replay};
 ghost use Rattle.line_runs.specs.Runs.{replayed};
 ghost use Rattle.omid_top.specs.Texts.{IsReplay, IsAudit, IsKnown, usage_text, bad_line_text, replay_text};
 ghost use Rattle.omid_top.specs.Promise.{KeepsPromise, GainsFront};

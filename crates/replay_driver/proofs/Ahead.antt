@@ -9,7 +9,7 @@ use Rattle.machine.specs.declared.event.Event.{Event}
 use Rattle.machine.specs.State.{State}
 use Rattle.machine.specs.Machine.{Step, asks, stepped}
 use Rattle.event_steps.specs.Made.{fate_ahead}
-use Rattle.session_script.specs.Script.{ScriptData}
+use Rattle.script_data.specs.Data.{ScriptData}
 use Rattle.line_runs.specs.declared.point.Halt.{Halt}
 use Rattle.line_runs.specs.Halts.{halt_of}
 use Rattle.line_runs.specs.Runs.{Calls, Played, calls_on, one_more, calls_after, clock_after, fate_by, fate_of, step_of, played}

@@ -11,13 +11,14 @@ use Rattle.port_io.specs.Planned.{PlannedFault, planned_fate}
 use Rattle.history_book.specs.declared.item.Item.{Item}
 use Rattle.machine.specs.State.{opening}
 use Rattle.isolation_laws.proofs.AlwaysHolds.{stands_at_first}
-use Rattle.session_script.specs.declared.script.Line.{Line}
-use Rattle.session_script.specs.declared.script.Verb.{Verb}
-use Rattle.session_script.specs.declared.script.Verb.TheVariants as verbs
-use Rattle.session_script.specs.Data.{IsSound}
-use Rattle.session_script.specs.Sound.{LineIsSound, rise_of}
-use Rattle.session_script.specs.Script.{ScriptData}
-use Rattle.line_runs.specs.Laws.{IsReached, IsPlayable, tick_of, ticks_of}
+use Rattle.script_data.specs.declared.line.Line.{Line}
+use Rattle.script_data.specs.declared.line.Verb.{Verb}
+use Rattle.script_data.specs.declared.line.Verb.TheVariants as verbs
+use Rattle.script_data.specs.Data.{IsSound}
+use Rattle.script_data.specs.Sound.{LineIsSound}
+use Rattle.script_data.specs.Data.{ScriptData}
+use Rattle.script_data.specs.Ticks.{tick_of, ticks_of}
+use Rattle.line_runs.specs.Laws.{IsReached, IsPlayable}
 use Rattle.line_runs.specs.Runs.{Calls, Played, calls_on, line_run, lines_played, opening_played, replayed}
 use Rattle.cluster_core.specs.Whole.{Whole}
 use Rattle.replay_driver.specs.Playing.{StandsAt, IsPlayedTo, played_to}
@@ -60,16 +61,12 @@ first_call faults Cells n = ap (λ (number : ℕ). planned_fate faults Cells num
 first_call faults Table n = ap (λ (number : ℕ). planned_fate faults Table number) (omega arith)
 first_call faults Master n = ap (λ (number : ℕ). planned_fate faults Master number) (omega arith)
 
-same_tick : (verb : Verb) → tick_of verb ≡ rise_of verb
-same_tick (verbs.Tick by) = refl
-same_tick verb = refl
-
 ticks_are_few : (nodes : ℕ) (lines : List Line) → All (LineIsSound nodes) lines → ticks_of lines ≤ length lines * 1000000
 unfolding ticks_of
 ticks_are_few nodes [] sound = omega arith
 ticks_are_few nodes (line ∷ lines) sound =
     let first : LineIsSound nodes line = All-head (LineIsSound nodes) line lines sound in
-    omega (arith, ticks_are_few nodes lines (All-tail (LineIsSound nodes) line lines sound), first.verb.rise, same_tick line.verb)
+    omega (arith, ticks_are_few nodes lines (All-tail (LineIsSound nodes) line lines sound), first.verb.rise)
 
 leads_by_node : (leads : List ℕ) (skew node : ℕ) → All (λ lead. lead ≤ skew) leads → slice_index_or leads node 0 ≤ skew
 leads_by_node [] skew node within = omega arith

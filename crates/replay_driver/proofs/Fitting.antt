@@ -6,11 +6,11 @@ use Rattle.std.proofs.lemmas.List.Elements.{All-head, All-tail}
 use Rattle.stamp_base.specs.SetupNumbers.{SetupNumbers}
 use Rattle.history_book.specs.declared.item.Actor.{Actor}
 use Rattle.history_book.specs.declared.item.Actor.TheVariants.{Clock, Node, Session, Janitor}
-use Rattle.session_script.specs.declared.script.Line.{Line}
-use Rattle.session_script.specs.declared.script.Target.TheVariants as targets
-use Rattle.session_script.specs.declared.script.Verb.{Verb}
-use Rattle.session_script.specs.declared.script.Verb.TheVariants as verbs
-use Rattle.session_script.specs.Sound.{LineIsSound, actor_needs, verb_needs}
+use Rattle.script_data.specs.declared.line.Line.{Line}
+use Rattle.script_data.specs.declared.line.Target.TheVariants as targets
+use Rattle.script_data.specs.declared.line.Verb.{Verb}
+use Rattle.script_data.specs.declared.line.Verb.TheVariants as verbs
+use Rattle.script_data.specs.Sound.{LineIsSound, actor_needs, verb_needs}
 use Rattle.line_runs.specs.Laws.{ActorFits, VerbFits, AreLinesOf}
 use Rattle.replay_driver.specs.Playing.{SessionIsThere}
 

@@ -13,11 +13,11 @@ use Rattle.event_steps.specs.declared.stopped.Stopped.TheVariants.{Refused, Faul
 use Rattle.line_runs.specs.declared.point.Halt.{Halt}
 use Rattle.line_runs.specs.Clocks.{TicksWithin, HaveRoom}
 use Rattle.line_runs.specs.Halts.{halt_of}
-use Rattle.line_runs.specs.Laws.{tick_of}
+use Rattle.script_data.specs.Ticks.{tick_of}
 use Rattle.machine.specs.Effect.{Stop}
-use Rattle.session_script.specs.declared.script.Verb.{Verb}
-use Rattle.session_script.specs.declared.script.Verb.TheVariants as verbs
-use Rattle.session_script.specs.Script.{ScriptData}
+use Rattle.script_data.specs.declared.line.Verb.{Verb}
+use Rattle.script_data.specs.declared.line.Verb.TheVariants as verbs
+use Rattle.script_data.specs.Data.{ScriptData}
 use Rattle.cluster_core.specs.Whole.{Whole, MakesStep, step_under}
 use Rattle.replay_driver.specs.Advances.{Advances, MovesOn, IsSaidOf}
 

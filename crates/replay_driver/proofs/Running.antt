@@ -6,14 +6,15 @@ use Rattle.port_io.specs.declared.weather.Fate.{Fate}
 use Rattle.machine.specs.declared.event.Event.{Event}
 use Rattle.machine.specs.State.{State}
 use Rattle.machine.specs.Machine.{IsSteadyAt, reading_of}
-use Rattle.session_script.specs.declared.script.Line.{Line}
-use Rattle.session_script.specs.Script.{ScriptData}
+use Rattle.script_data.specs.declared.line.Line.{Line}
+use Rattle.script_data.specs.Data.{ScriptData}
 use Rattle.line_runs.specs.declared.point.Halt.{Halt}
 use Rattle.line_runs.specs.declared.point.Point.{Point}
 use Rattle.line_runs.specs.declared.point.Point.TheVariants.{Opens, Drives, Extends, Finishes, Reads, Steps, Over}
 use Rattle.line_runs.specs.Clocks.{clocks}
 use Rattle.line_runs.specs.Halts.{halt_of, follows}
-use Rattle.line_runs.specs.Laws.{IsReached, IsPlayable, EventsLowerWhatIsLeft, tick_of}
+use Rattle.script_data.specs.Ticks.{tick_of}
+use Rattle.line_runs.specs.Laws.{IsReached, IsPlayable, EventsLowerWhatIsLeft}
 use Rattle.line_runs.specs.Left.{left}
 use Rattle.line_runs.specs.Next.{next}
 use Rattle.line_runs.specs.Runs.{Played, Run, clock_after, fate_of, step_of, played, next_in, run_after, left_in, going_on, run_for, opened, line_run, clocks_of}

@@ -5,7 +5,7 @@ use Rattle.port_io.specs.declared.weather.Fate.{Fate}
 use Rattle.port_io.specs.Planned.{PlannedFault, planned_fate}
 use Rattle.history_book.specs.declared.item.Actor.{Actor}
 use Rattle.history_book.specs.declared.item.Actor.TheVariants.{Session}
-use Rattle.session_script.specs.Script.{ScriptData}
+use Rattle.script_data.specs.Data.{ScriptData}
 use Rattle.line_runs.specs.Runs.{Calls, Played, calls_on, lines_played, opening_played}
 use Rattle.line_runs.specs.Laws.{IsReached, IsPlayable}
 use Rattle.cluster_core.specs.Whole.{Whole}

@@ -17,7 +17,7 @@ use history_book::Actor;
 use line_runs::{Halt, Point, View, next_event, refused};
 use machine::{Doing, Event};
 use port_io::{Fate, PlannedWeather, Weather};
-use session_script::Line;
+use script_data::Line;
 use stamp_base::{NoMemory, SessionNo, Setup, Store};
 use std::alloc::Global;
 

@@ -1,6 +1,4 @@
-mod ArgumentLemmas
 mod LineLemmas
 mod NameLemmas
 mod SettingLemmas
 mod SoundLemmas
-mod WordLemmas

@@ -8,12 +8,12 @@ use Rattle.std.proofs.lemmas.List.Folds.{list_any-append}
 use Rattle.stamp_base.specs.declared.stores.Store.{Store}
 use Rattle.stamp_base.specs.declared.stores.Store.TheVariants.{Cells, Table, Master}
 use Rattle.port_io.specs.Planned.{PlannedFault, same_store}
-use Rattle.session_script.specs.declared.script.TheConstants.{FAULT_LIMIT}
+use Rattle.script_data.specs.declared.limits.TheConstants.{FAULT_LIMIT}
 use Rattle.session_script.specs.declared.setting.Setting.{Setting}
 use Rattle.session_script.specs.declared.setting.Setting.TheVariants.{Nodes, Lease, Skew, Range, Buckets, Slots, Batch, Workers, Lead, Fault}
 use Rattle.port_io.specs.declared.weather.Fate.{Fate}
-use Rattle.session_script.specs.declared.cause.ScriptCause.TheVariants.{SetupOrder, SetupTwice, TooManyFaults}
-use Rattle.session_script.specs.Data.{ScriptData, AreWithinSkew}
+use Rattle.script_lines.specs.declared.cause.ScriptCause.TheVariants.{SetupOrder, SetupTwice, TooManyFaults}
+use Rattle.script_data.specs.Data.{ScriptData, AreWithinSkew}
 use Rattle.session_script.specs.Settings.{with_setting, sets_same, AreSet, is_lead, bounds_leads, is_fault, comes_late, objection}
 
 -- what holds where nothing speaks against the setting

@@ -9,12 +9,12 @@ use Rattle.stamp_base.specs.SetupNumbers.{SetupNumbers, AreInRange}
 use Rattle.port_io.specs.declared.weather.Fate.{Fate}
 use Rattle.stamp_base.specs.declared.stores.Store.{Store}
 use Rattle.port_io.specs.Planned.{PlannedFault, OneEach}
-use Rattle.session_script.specs.declared.script.Line.{Line}
+use Rattle.script_data.specs.declared.line.Line.{Line}
 use Rattle.session_script.specs.declared.setting.Setting.{Setting}
 use Rattle.session_script.specs.declared.setting.Setting.TheVariants.{Nodes, Lease, Skew, Range, Buckets, Slots, Batch, Workers, Lead, Fault}
-use Rattle.session_script.specs.Data.{ScriptData, AreWithinSkew, IsSound}
+use Rattle.script_data.specs.Data.{ScriptData, AreWithinSkew, IsSound}
 use Rattle.session_script.specs.Settings.{IsInBounds, with_number, with_setting, sets_same, AreSet, objection}
-use Rattle.session_script.specs.Sound.{LineIsSound}
+use Rattle.script_data.specs.Sound.{LineIsSound}
 use Rattle.session_script.proofs.SettingLemmas.{MayStand, NoLeads, may_stand}
 
 -- before the first line of an actor, every line is sound

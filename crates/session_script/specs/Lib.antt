@@ -1,13 +1,4 @@
-pub mod Arguments
-pub mod Causes
-pub mod Checked
-pub mod Data
-pub mod Grammar
 pub mod Names
 pub mod Reading
-pub mod Results
 pub mod Script
 pub mod Settings
-pub mod Sound
-pub mod Verbs
-pub mod Words

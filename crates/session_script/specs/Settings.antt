@@ -4,18 +4,18 @@ use Rattle.std.specs.List.{list_any}
 use Rattle.stamp_base.specs.Ranges.{IsWithin}
 use Rattle.stamp_base.specs.SetupNumbers.{SetupNumbers}
 use Rattle.port_io.specs.Planned.{PlannedFault, same_store}
-use Rattle.session_script.specs.declared.form.SetupForm.{SetupForm}
-use Rattle.session_script.specs.declared.form.SetupForm.TheVariants as forms
-use Rattle.session_script.specs.declared.script.TheConstants.{FAULT_LIMIT}
+use Rattle.script_lines.specs.declared.form.SetupForm.{SetupForm}
+use Rattle.script_lines.specs.declared.form.SetupForm.TheVariants as forms
+use Rattle.script_data.specs.declared.limits.TheConstants.{FAULT_LIMIT}
 use Rattle.session_script.specs.declared.setting.Setting.{Setting}
 use Rattle.session_script.specs.declared.setting.Setting.TheVariants.{Nodes, Lease, Skew, Range, Buckets, Slots, Batch, Workers, Lead, Fault}
-use Rattle.session_script.specs.declared.cause.ScriptCause.{ScriptCause}
-use Rattle.session_script.specs.declared.cause.ScriptCause.TheVariants.{WrongNumberOfWords, NotYet, SetupOrder, SetupTwice, TooManyFaults}
-use Rattle.session_script.specs.Checked.{number_at, node_at, store_at, kind_at}
-use Rattle.session_script.specs.Data.{ScriptData}
-use Rattle.session_script.specs.Grammar.{setup_words}
-use Rattle.session_script.specs.Results.{◌>>=◌}
-use Rattle.session_script.specs.Words.{LineWords}
+use Rattle.script_lines.specs.declared.cause.ScriptCause.{ScriptCause}
+use Rattle.script_lines.specs.declared.cause.ScriptCause.TheVariants.{WrongNumberOfWords, NotYet, SetupOrder, SetupTwice, TooManyFaults}
+use Rattle.script_lines.specs.Checked.{number_at, node_at, store_at, kind_at}
+use Rattle.script_data.specs.Data.{ScriptData}
+use Rattle.script_lines.specs.Grammar.{setup_words}
+use Rattle.script_lines.specs.Results.{◌>>=◌}
+use Rattle.script_lines.specs.Words.{LineWords}
 
 -- what a setup line of the form sets, its arguments read from left to right
 abbrev pub arguments_of : SetupNumbers → SetupForm → LineWords → Result Setting ScriptCause

@@ -1,24 +1,19 @@
 //! Scripts: what a session's bytes ask for, or the first bad line and why it is bad.
 #![tactic(auto)]
 
-mod arguments;
-mod cause;
-mod checked;
-mod cutting;
-mod form;
-mod line;
+mod fault;
 mod lines;
 mod posted;
 mod read_so_far;
 mod reading;
 mod script;
 mod setting;
-mod tables;
-mod words;
 
-pub use cause::{ScriptCause, ScriptFault};
+pub use fault::ScriptFault;
 pub use reading::read_script;
-pub use script::{FAULT_LIMIT, Line, Mode, Script, Target, Verb};
+pub use script::Script;
+pub use script_data::{FAULT_LIMIT, Line, Target, Verb};
+pub use script_lines::{Mode, ScriptCause};
 
 #[cfg(test)]
 mod tests;

@@ -3,8 +3,8 @@ ghost use Rattle.std.specs.Prelude.{◌≡◌, ◌++◌, ◌∷◌, [], false, N
 ghost use Rattle.std.specs.List.{list_any};
 ghost use Rattle.std.specs.Str.{bytes_eq};
 
-use crate::script::Verb;
 use indexmap::IndexSet;
+use script_data::Verb;
 use stamp_base::Name;
 use std::alloc::{AllocError, Global};
 use std::marker::Model;

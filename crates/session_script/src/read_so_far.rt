@@ -2,13 +2,14 @@
 ghost use Rattle.std.specs.Prelude.{◌≡◌, ◌+◌, ◌<◌, ◌≤◌, false, All, None, IfOk, OnOk, length};
 ghost use Rattle.std.specs.List.{list_any};
 ghost use Rattle.stamp_base.specs.declared.limits.TheConstants.{LINE_LIMIT};
-ghost use Rattle.session_script.specs.Data.{AreWithinSkew};
+ghost use Rattle.script_data.specs.Data.{AreWithinSkew};
 ghost use Rattle.session_script.specs.Settings.{is_lead, AreSet};
 
-use crate::cause::ScriptCause;
 use crate::posted::PostedNames;
-use crate::script::{FAULT_LIMIT, Line, Script, Verb};
+use crate::script::Script;
 use crate::setting::{Setting, any_lead, any_same};
+use script_data::{FAULT_LIMIT, Line, Verb};
+use script_lines::ScriptCause;
 use stamp_base::{LINE_LIMIT, Setup};
 use std::alloc::{AllocError, Global};
 
@@ -30,7 +31,7 @@ pub struct ReadSoFar {
 
 impl ReadSoFar {
     ghost use Rattle.stamp_base.specs.Setups.{numbers_of};
-    ghost use Rattle.session_script.specs.Sound.{LineIsSound};
+    ghost use Rattle.script_data.specs.Sound.{LineIsSound};
     ghost use Rattle.session_script.specs.Reading.{so_far};
     ghost use Rattle.session_script.specs.Script.{nothing_read, after_setting, after_telling, data_of};
     ghost use Rattle.session_script.specs.Names.{name_objection};

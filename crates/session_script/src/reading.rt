@@ -2,26 +2,25 @@
 ghost use Rattle.std.specs.Prelude.{◌≡◌, ◌+◌, ◌<◌, ◌≤◌, length, IfOk, OnOk, vec_len};
 ghost use Rattle.std.specs.Str.Lines.{lines};
 ghost use Rattle.stamp_base.specs.Setups.{numbers_of};
-ghost use Rattle.session_script.specs.Sound.{actor_needs, LineIsSound};
+ghost use Rattle.script_data.specs.Sound.{actor_needs, LineIsSound};
 ghost use Rattle.session_script.specs.Names.{name_objection};
 ghost use Rattle.session_script.specs.Reading.{so_far, ReadsLine};
-ghost use Rattle.session_script.specs.Results.{unless};
+ghost use Rattle.script_lines.specs.Results.{unless};
 ghost use Rattle.session_script.specs.Script.{script_of, script_from, after_line, after_words, setup_line, actor_line, after_setting, after_telling, nothing_read, data_of, IsSound, ReadsScript};
 ghost use Rattle.session_script.specs.Settings.{objection, IsInBounds};
-ghost use Rattle.session_script.specs.Words.{seen};
+ghost use Rattle.script_lines.specs.Words.{seen};
 
-use crate::arguments::actor_of;
-use crate::cause::{ScriptCause, ScriptFault};
-use crate::cutting::{cut_line, is_plain_line, is_silent};
-use crate::form::SetupForm;
-use crate::line::line_of;
+use crate::fault::ScriptFault;
 use crate::lines::split_line;
 use crate::read_so_far::ReadSoFar;
-use crate::script::{Line, Mode, Script};
+use crate::script::Script;
 use crate::setting::{Setting, setting_of};
-use crate::tables::setup_form;
-use crate::words::Words;
 use history_book::Actor;
+use script_data::Line;
+use script_lines::{
+    Mode, ScriptCause, SetupForm, Words, actor_of, cut_line, is_plain_line, is_silent, line_of,
+    setup_form,
+};
 use stamp_base::{BYTE_LIMIT, LINE_LIMIT};
 use std::alloc::Global;
 

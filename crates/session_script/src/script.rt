@@ -1,71 +1,11 @@
 ghost use Rattle.stamp_base.specs.Setups.{numbers_of};
-ghost use Rattle.session_script.specs.Data.{IsSound};
+ghost use Rattle.script_data.specs.Data.{IsSound};
 
 use crate::setting::Setting;
-use history_book::Actor;
 use port_io::Fate;
-use stamp_base::{KeyNo, Name, NodeNo, SessionNo, Setup, Stage, Store, TxnId, Value};
+use script_data::Line;
+use stamp_base::{NodeNo, Setup, Store};
 use std::alloc::{AllocError, Global};
-
-/// The most faults that a script plans.
-pub const FAULT_LIMIT: usize = 32;
-
-/// For which way of carrying out a script is read.
-#[derive(Clone, Copy, Debug, PartialEq, Eq)]
-pub enum Mode {
-    /// In file order, on one thread.
-    Replay,
-    /// On threads.
-    Run,
-}
-
-/// Where a begin or a commit is sent.
-#[derive(Clone, Copy, Debug, PartialEq, Eq)]
-pub enum Target {
-    Node(NodeNo),
-}
-
-/// What an actor's line asks for.
-#[derive(Clone, Copy, Debug, PartialEq, Eq)]
-pub enum Verb {
-    Tick { by: u64 },
-    Take,
-    Renew,
-    Crash,
-    Extend,
-    Hold { stage: Stage },
-    Free { stage: Stage },
-    Accept { session: SessionNo },
-    Decide { session: SessionNo },
-    Put { session: SessionNo },
-    Answer { session: SessionNo },
-    Begin { target: Target },
-    Commit { target: Target },
-    Submit { target: Target },
-    AskBegin { node: NodeNo },
-    AskCommit { node: NodeNo },
-    Write { key: KeyNo, value: Value },
-    Read { key: KeyNo },
-    Fetch { key: KeyNo },
-    Collect,
-    Abort,
-    Heal,
-    Vanish,
-    Step,
-    Finish,
-    Sweep { node: NodeNo, txn: TxnId },
-    OpenSweep { node: NodeNo, txn: TxnId },
-    Post { name: Name },
-    Await { name: Name },
-}
-
-/// A line of an actor. Lines are numbered from 1, empty ones and comments included.
-#[derive(Clone, Copy, Debug, PartialEq, Eq)]
-pub struct Line {
-    pub number: u64,
-    pub actor: Actor,
-    pub verb: Verb,
-}
 
 /// A script that was read: what it sets, and its actors' lines in file order. The numbers of the setup are in their
 /// ranges, and what else holds of every script is stated by this type.

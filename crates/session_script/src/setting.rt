@@ -3,13 +3,10 @@ ghost use Rattle.std.specs.Prelude.{◌≡◌, IfOk};
 ghost use Rattle.std.specs.List.{list_any};
 ghost use Rattle.stamp_base.specs.Setups.{numbers_of};
 ghost use Rattle.session_script.specs.Settings.{arguments_of, setting_of, IsInBounds, with_number, sets_same, is_lead, bounds_leads, is_fault};
-ghost use Rattle.session_script.specs.Words.{seen};
+ghost use Rattle.script_lines.specs.Words.{seen};
 
-use crate::cause::ScriptCause;
-use crate::checked::{kind_at, node_at, number_at, store_at};
-use crate::form::SetupForm;
-use crate::words::Words;
 use port_io::Fate;
+use script_lines::{ScriptCause, SetupForm, Words, kind_at, node_at, number_at, store_at};
 use stamp_base::{NodeNo, Setup, Stamp, Store};
 
 /// What a setup line sets.

@@ -1,7 +1,6 @@
 use super::*;
-use history_book::Actor;
 use port_io::Fate;
-use stamp_base::{KeyNo, Name, NodeNo, SessionNo, Setup, Stage, Store, TxnId, Value};
+use stamp_base::{Setup, Stage, Store};
 use std::test::Fail;
 
 /// How many lines a script has, or its bad line and the text of the cause.
@@ -33,43 +32,24 @@ fn refuses(rt: &HostRuntime, mode: Mode, rows: &[(&str, u64, &str)]) -> Result<(
 }
 
 #[test]
-fn names_what_is_wrong_with_the_words(rt: HostRuntime) -> Result<(), Fail> {
+fn names_the_first_bad_line(rt: HostRuntime) -> Result<(), Fail> {
     let rows = [
         ("a\0take", 1, "bad byte"),
         ("\0", 1, "bad byte"),
         ("a take\r", 1, "bad byte"),
         ("a take\r\r\n", 1, "bad byte"),
         ("q\x7f", 1, "bad byte"),
-        ("s16 begin a", 1, "unknown actor"),
-        ("s00 begin a", 1, "unknown actor"),
-        ("s begin a", 1, "unknown actor"),
-        ("c take", 1, "unknown actor"),
         ("nodes 3\nd take", 2, "unknown actor"),
         ("nodes 1\nb take", 2, "unknown actor"),
-        ("master take", 1, "unknown actor"),
-        ("Clock tick 1", 1, "unknown actor"),
-        ("q", 1, "unknown actor"),
-        ("a fly", 1, "unknown verb"),
-        ("a begin a", 1, "unknown verb"),
-        ("s0 take", 1, "unknown verb"),
-        ("janitor commit a", 1, "unknown verb"),
-        ("clock begin a b c", 1, "unknown verb"),
-        ("a", 1, "wrong number of words"),
-        ("s0", 1, "wrong number of words"),
-        ("clock", 1, "wrong number of words"),
         ("lease", 1, "wrong number of words"),
         ("lease 5 5", 1, "wrong number of words"),
         ("buckets 1", 1, "wrong number of words"),
         ("fault cells 1", 1, "wrong number of words"),
         ("cache", 1, "wrong number of words"),
-        ("a take now", 1, "wrong number of words"),
-        ("a take # so it begins", 1, "wrong number of words"),
-        ("s0 begin", 1, "wrong number of words"),
-        ("s0 write k0", 1, "wrong number of words"),
-        ("s0 write k0 v w x y z", 1, "wrong number of words"),
-        ("janitor sweep a", 1, "wrong number of words"),
         ("# a take\n\n \t\na take\nq\n\0", 5, "unknown actor"),
         ("a take\r\nq\r\n", 2, "unknown actor"),
+        ("a take\ns1 begin z", 2, "unknown node"),
+        ("nodes 1\ns1 begin b", 2, "unknown node"),
     ];
     refuses(&rt, Mode::Replay, &rows)
 }
@@ -84,66 +64,27 @@ fn names_the_forms_that_wait(rt: HostRuntime) -> Result<(), Fail> {
         ("a take\nreads strict", 2, "not yet"),
     ];
     refuses(&rt, Mode::Replay, &rows)?;
-    let rows = [
-        ("a accept s0", 1, "replay only"),
-        ("a accept x", 1, "replay only"),
-        ("a decide s0", 1, "replay only"),
-        ("a put s0", 1, "replay only"),
-        ("a answer s0", 1, "replay only"),
-        ("b extend", 1, "replay only"),
-        ("s0 ask-begin a", 1, "replay only"),
-        ("s0 ask-commit z", 1, "replay only"),
-        ("a accept", 1, "wrong number of words"),
-        ("reads strict", 1, "not yet"),
-    ];
     refuses(&rt, Mode::Run, &rows)
 }
 
 #[test]
-fn names_what_is_wrong_with_an_argument(rt: HostRuntime) -> Result<(), Fail> {
+fn takes_in_a_run_what_runs_take(rt: HostRuntime) -> Result<(), Fail> {
     let rows = [
-        ("clock tick 12345678901234567890", 1, "bad number"),
-        ("clock tick 007", 1, "bad number"),
-        ("clock tick x", 1, "bad number"),
-        ("clock tick 1_0", 1, "bad number"),
-        ("clock tick +1", 1, "bad number"),
-        ("clock tick 0", 1, "out of range"),
-        ("clock tick 1000001", 1, "out of range"),
-        ("clock tick 9999999999999999999", 1, "out of range"),
-        ("janitor sweep a 0", 1, "out of range"),
-        ("janitor open a 4611686018427387905", 1, "out of range"),
-        ("janitor open a -1", 1, "bad number"),
-        ("janitor sweep c 0", 1, "unknown node"),
-        ("a take\ns1 begin z", 2, "unknown node"),
-        ("s1 begin c", 1, "unknown node"),
-        ("nodes 1\ns1 begin b", 2, "unknown node"),
-        ("s1 begin ab", 1, "unknown node"),
-        ("s1 begin master", 1, "unknown node"),
-        ("s1 commit master", 1, "unknown node"),
-        ("s1 submit 0", 1, "unknown node"),
-        ("s1 ask-commit A", 1, "unknown node"),
-        ("a accept s16", 1, "bad session"),
-        ("b answer a", 1, "bad session"),
-        ("a put s01", 1, "bad session"),
-        ("s0 write k4096 v", 1, "bad key"),
-        ("s0 read k01", 1, "bad key"),
-        ("s0 fetch k00", 1, "bad key"),
-        ("s0 read k", 1, "bad key"),
-        ("s0 read 1", 1, "bad key"),
-        ("s0 read k12345678901234567890", 1, "bad key"),
-        ("s0 read k-1", 1, "bad key"),
-        (
-            "s0 write k0 aaaaaaaaaaaaaaaaaaaaaaaaaaaaaaaaaaaaaaaaaaaaaaaaaaaaaaaaaaaaaaaaa",
-            1,
-            "bad value",
-        ),
-        ("a hold replies", 1, "unknown stage"),
-        ("b free s0", 1, "unknown stage"),
-        ("a post p_q", 1, "bad name"),
-        ("s0 post abcdefghijklmnopq", 1, "bad name"),
-        ("janitor await p.q", 1, "bad name"),
+        ("a accept s0", 1, "replay only"),
+        ("# run\n\na accept s0", 3, "replay only"),
+        ("a hold persist\na accept s0", 2, "replay only"),
     ];
-    refuses(&rt, Mode::Replay, &rows)
+    refuses(&rt, Mode::Run, &rows)?;
+    let Ok(script) = read_script(rt.alloc(), b"# run\na hold persist\n", Mode::Run) else {
+        return Err(Fail::from("no script"));
+    };
+    let [hold] = script.lines.as_slice() else {
+        return Err(Fail::from("lines"));
+    };
+    let stage = Stage::Persist;
+    assert_eq!(rt; hold.number, 2);
+    assert!(rt; hold.verb == Verb::Hold { stage });
+    Ok(())
 }
 
 #[test]
@@ -298,125 +239,6 @@ fn counts_the_lines_of_a_script(rt: HostRuntime) -> Result<(), Fail> {
     }
     // A comment may hold any bytes.
     assert_eq!(rt; outcome(&rt, b"#\xff\0\r\na take", Mode::Replay)?, Ok(1));
-    Ok(())
-}
-
-/// The one line of a script, which is of the actor and asks for the verb.
-fn says(rt: &HostRuntime, text: &str, actor: &Actor, verb: &Verb) -> Result<(), Fail> {
-    let Ok(script) = read_script(rt.alloc(), text.as_bytes(), Mode::Replay) else {
-        return Err(Fail::from(text));
-    };
-    let [line] = script.lines.as_slice() else {
-        return Err(Fail::from(text));
-    };
-    if line.actor == *actor && line.verb == *verb {
-        Ok(())
-    } else {
-        Err(Fail::from(text))
-    }
-}
-
-#[test]
-fn reads_the_lines_of_nodes(rt: HostRuntime) -> Result<(), Fail> {
-    let actor = Actor::Node(NodeNo::new(1).ok_or("node")?);
-    let session = SessionNo::new(15).ok_or("session")?;
-    let rows = [
-        ("b take", Verb::Take),
-        ("b renew", Verb::Renew),
-        ("b crash", Verb::Crash),
-        ("b extend", Verb::Extend),
-        (
-            "b hold request",
-            Verb::Hold {
-                stage: Stage::Request,
-            },
-        ),
-        (
-            "b hold persist",
-            Verb::Hold {
-                stage: Stage::Persist,
-            },
-        ),
-        (
-            "b free reply",
-            Verb::Free {
-                stage: Stage::Reply,
-            },
-        ),
-        ("b accept s15", Verb::Accept { session }),
-        ("b decide s15", Verb::Decide { session }),
-        ("b put s15", Verb::Put { session }),
-        ("b answer s15", Verb::Answer { session }),
-    ];
-    for (text, verb) in &rows {
-        says(&rt, text, &actor, verb)?;
-    }
-    says(
-        &rt,
-        "clock tick 1000000",
-        &Actor::Clock,
-        &Verb::Tick { by: 1_000_000 },
-    )
-}
-
-#[test]
-fn reads_the_lines_of_the_janitor(rt: HostRuntime) -> Result<(), Fail> {
-    let node = NodeNo::new(1).ok_or("node")?;
-    let txn = TxnId::new(1).ok_or("start")?;
-    let rows = [
-        ("janitor sweep b 1", Verb::Sweep { node, txn }),
-        ("janitor open b 1", Verb::OpenSweep { node, txn }),
-        ("janitor step", Verb::Step),
-        ("janitor finish", Verb::Finish),
-    ];
-    for (text, verb) in &rows {
-        says(&rt, text, &Actor::Janitor, verb)?;
-    }
-    Ok(())
-}
-
-#[test]
-fn reads_the_lines_of_sessions(rt: HostRuntime) -> Result<(), Fail> {
-    let actor = Actor::Session(SessionNo::new(3).ok_or("session")?);
-    let node = NodeNo::new(1).ok_or("node")?;
-    let key = KeyNo::new(7).ok_or("key")?;
-    let value = Value::new(b"v").ok_or("value")?;
-    let name = Name::new(b"p-1").ok_or("name")?;
-    let rows = [
-        (
-            "s3 begin b",
-            Verb::Begin {
-                target: Target::Node(node),
-            },
-        ),
-        (
-            "s3 commit b",
-            Verb::Commit {
-                target: Target::Node(node),
-            },
-        ),
-        (
-            "s3 submit b",
-            Verb::Submit {
-                target: Target::Node(node),
-            },
-        ),
-        ("s3 collect", Verb::Collect),
-        ("s3 write k7 v", Verb::Write { key, value }),
-        ("s3 read k7", Verb::Read { key }),
-        ("s3 fetch k7", Verb::Fetch { key }),
-        ("s3 step", Verb::Step),
-        ("s3 abort", Verb::Abort),
-        ("s3 heal", Verb::Heal),
-        ("s3 finish", Verb::Finish),
-        ("s3 vanish", Verb::Vanish),
-        ("s3 ask-begin b", Verb::AskBegin { node }),
-        ("s3 ask-commit b", Verb::AskCommit { node }),
-        ("s3 post p-1", Verb::Post { name }),
-    ];
-    for (text, verb) in &rows {
-        says(&rt, text, &actor, verb)?;
-    }
     Ok(())
 }
 

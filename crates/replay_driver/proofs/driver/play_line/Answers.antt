@@ -1,7 +1,7 @@
 use Rattle.std.proofs.Common.{ℕ, ◌+◌, ◌≡◌, List, get_or, drop, length, Option, None, Some, sym, ap, ◌∙◌, arith}
 use Rattle.port_io.specs.contracts.planned.PlannedWeatherWeather.TheImpl.{ahead-value}
 use Rattle.session_script.specs.Script.{data_of}
-use Rattle.line_runs.specs.Laws.{ticks_of, tick_of}
+use Rattle.script_data.specs.Ticks.{ticks_of, tick_of}
 use Rattle.line_runs.specs.Runs.{next_in}
 use Rattle.replay_driver.specs.Playing.{played_to}
 use Rattle.replay_driver.proofs.Running.{begins, chosen, goes_on, falls, ends, steady_under_way}

@@ -1,0 +1,2 @@
+/// The most faults that a script plans.
+pub const FAULT_LIMIT: usize = 32;

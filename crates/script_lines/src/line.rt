@@ -1,0 +1,152 @@
+// A line of an actor: the tests before its arguments, and then its arguments from left to right.
+ghost use Rattle.std.specs.Prelude.{◌≡◌, ◌≤◌, IfOk};
+ghost use Rattle.script_data.specs.Sound.{actor_needs, VerbIsSound, LineIsSound};
+ghost use Rattle.script_lines.specs.Verbs.{form_of, form_at, verb_of, line_of, is_run};
+ghost use Rattle.script_lines.specs.Words.{seen};
+
+use crate::cause::ScriptCause;
+use crate::checked::{
+    key_at, name_at, node_at, number_at, session_at, stage_at, start_at, value_at,
+};
+use crate::form::VerbForm;
+use crate::mode::Mode;
+use crate::tables::verb_form;
+use crate::words::Words;
+use history_book::Actor;
+use script_data::{Line, Target, Verb};
+use stamp_base::Setup;
+
+/// What a line of the actor says.
+#[tactic(auto, unfolding(crate::specs::Verbs::line_of))]
+pub fn line_of(
+    mode: Mode,
+    setup: &Setup,
+    number: u64,
+    actor: Actor,
+    words: &Words,
+) -> Result<Line, ScriptCause>
+    requires { actor_needs actor ≤ setup.now.nodes }
+    ensures line { result ≡ line_of mode setup.now.nodes number actor (seen words.now) }
+    ensures sound { IfOk result (LineIsSound setup.now.nodes) }
+{
+    let form = form_of(mode, &actor, words)?;
+    let verb = verb_of(setup, form, words)?;
+    Ok(Line {
+        number,
+        actor,
+        verb,
+    })
+}
+
+/// The form of an actor's line. An actor's word alone names no verb.
+#[tactic(auto, unfolding(crate::specs::Verbs::form_of))]
+fn form_of(mode: Mode, actor: &Actor, words: &Words) -> Result<VerbForm, ScriptCause>
+    ensures { result ≡ form_of mode actor.now (seen words.now) }
+{
+    if words.count < 2 {
+        return Err(ScriptCause::WrongNumberOfWords);
+    }
+    match verb_form(actor, words.second) {
+        Some(form) => tested_form(mode, words, form),
+        None => Err(ScriptCause::UnknownVerb),
+    }
+}
+
+/// The form, unless a test before the arguments fails.
+fn tested_form(mode: Mode, words: &Words, form: VerbForm) -> Result<VerbForm, ScriptCause>
+    ensures { result ≡ form_at mode (seen words.now) (Some form) }
+{
+    if words.count != form.words() {
+        Err(ScriptCause::WrongNumberOfWords)
+    } else if is_run(mode) && form.is_replay_only() {
+        Err(ScriptCause::ReplayOnly)
+    } else {
+        Ok(form)
+    }
+}
+
+fn is_run(mode: Mode) -> bool
+    ensures { result ≡ is_run mode }
+{
+    matches!(mode, Mode::Run)
+}
+
+/// What a line of the form asks for.
+fn verb_of(setup: &Setup, form: VerbForm, words: &Words) -> Result<Verb, ScriptCause>
+    ensures verb { result ≡ verb_of setup.now.nodes form (seen words.now) }
+    ensures sound { IfOk result (VerbIsSound setup.now.nodes) }
+{
+    let (third, fourth) = (words.third, words.fourth);
+    match form {
+        VerbForm::Tick => Ok(Verb::Tick {
+            by: number_at(1, 1_000_000, third)?,
+        }),
+        VerbForm::Take => Ok(Verb::Take),
+        VerbForm::Renew => Ok(Verb::Renew),
+        VerbForm::Crash => Ok(Verb::Crash),
+        VerbForm::Extend => Ok(Verb::Extend),
+        VerbForm::Hold => Ok(Verb::Hold {
+            stage: stage_at(third)?,
+        }),
+        VerbForm::Free => Ok(Verb::Free {
+            stage: stage_at(third)?,
+        }),
+        VerbForm::Accept => Ok(Verb::Accept {
+            session: session_at(third)?,
+        }),
+        VerbForm::Decide => Ok(Verb::Decide {
+            session: session_at(third)?,
+        }),
+        VerbForm::Put => Ok(Verb::Put {
+            session: session_at(third)?,
+        }),
+        VerbForm::Answer => Ok(Verb::Answer {
+            session: session_at(third)?,
+        }),
+        VerbForm::Begin => Ok(Verb::Begin {
+            target: Target::Node(node_at(setup, third)?),
+        }),
+        VerbForm::Commit => Ok(Verb::Commit {
+            target: Target::Node(node_at(setup, third)?),
+        }),
+        VerbForm::Submit => Ok(Verb::Submit {
+            target: Target::Node(node_at(setup, third)?),
+        }),
+        VerbForm::AskBegin => Ok(Verb::AskBegin {
+            node: node_at(setup, third)?,
+        }),
+        VerbForm::AskCommit => Ok(Verb::AskCommit {
+            node: node_at(setup, third)?,
+        }),
+        VerbForm::Write => Ok(Verb::Write {
+            key: key_at(third)?,
+            value: value_at(fourth)?,
+        }),
+        VerbForm::Read => Ok(Verb::Read {
+            key: key_at(third)?,
+        }),
+        VerbForm::Fetch => Ok(Verb::Fetch {
+            key: key_at(third)?,
+        }),
+        VerbForm::Collect => Ok(Verb::Collect),
+        VerbForm::Abort => Ok(Verb::Abort),
+        VerbForm::Heal => Ok(Verb::Heal),
+        VerbForm::Vanish => Ok(Verb::Vanish),
+        VerbForm::Step | VerbForm::SweepStep => Ok(Verb::Step),
+        VerbForm::Finish | VerbForm::SweepFinish => Ok(Verb::Finish),
+        VerbForm::Sweep => Ok(Verb::Sweep {
+            node: node_at(setup, third)?,
+            txn: start_at(fourth)?,
+        }),
+        VerbForm::OpenSweep => Ok(Verb::OpenSweep {
+            node: node_at(setup, third)?,
+            txn: start_at(fourth)?,
+        }),
+        VerbForm::Post => Ok(Verb::Post {
+            name: name_at(third)?,
+        }),
+        VerbForm::Await => Ok(Verb::Await {
+            name: name_at(third)?,
+        }),
+    }
+}

@@ -1,0 +1,142 @@
+// The words that name a form, a stage, a store or how a call fails.
+ghost use Rattle.std.specs.Prelude.{◌≡◌, map};
+ghost use Rattle.script_lines.specs.Grammar.{named, stages, stores, kinds, setup_forms, clock_forms, janitor_forms, node_forms, session_forms, verb_forms};
+
+use crate::form::{SetupForm, VerbForm};
+use history_book::Actor;
+use port_io::Fate;
+use stamp_base::{Stage, Store};
+
+const SETUP_FORMS: [(&str, SetupForm); 13] = [
+    ("nodes", SetupForm::Nodes),
+    ("lease", SetupForm::Lease),
+    ("skew", SetupForm::Skew),
+    ("range", SetupForm::Range),
+    ("buckets", SetupForm::Buckets),
+    ("slots", SetupForm::Slots),
+    ("batch", SetupForm::Batch),
+    ("workers", SetupForm::Workers),
+    ("lead", SetupForm::Lead),
+    ("fault", SetupForm::Fault),
+    ("cache", SetupForm::Cache),
+    ("commits", SetupForm::Commits),
+    ("reads", SetupForm::Reads),
+];
+
+const CLOCK_FORMS: [(&str, VerbForm); 3] = [
+    ("tick", VerbForm::Tick),
+    ("post", VerbForm::Post),
+    ("await", VerbForm::Await),
+];
+
+const JANITOR_FORMS: [(&str, VerbForm); 6] = [
+    ("sweep", VerbForm::Sweep),
+    ("open", VerbForm::OpenSweep),
+    ("step", VerbForm::SweepStep),
+    ("finish", VerbForm::SweepFinish),
+    ("post", VerbForm::Post),
+    ("await", VerbForm::Await),
+];
+
+const NODE_FORMS: [(&str, VerbForm); 12] = [
+    ("take", VerbForm::Take),
+    ("renew", VerbForm::Renew),
+    ("crash", VerbForm::Crash),
+    ("hold", VerbForm::Hold),
+    ("free", VerbForm::Free),
+    ("accept", VerbForm::Accept),
+    ("decide", VerbForm::Decide),
+    ("put", VerbForm::Put),
+    ("answer", VerbForm::Answer),
+    ("extend", VerbForm::Extend),
+    ("post", VerbForm::Post),
+    ("await", VerbForm::Await),
+];
+
+const SESSION_FORMS: [(&str, VerbForm); 16] = [
+    ("begin", VerbForm::Begin),
+    ("commit", VerbForm::Commit),
+    ("submit", VerbForm::Submit),
+    ("collect", VerbForm::Collect),
+    ("write", VerbForm::Write),
+    ("read", VerbForm::Read),
+    ("abort", VerbForm::Abort),
+    ("heal", VerbForm::Heal),
+    ("finish", VerbForm::Finish),
+    ("vanish", VerbForm::Vanish),
+    ("fetch", VerbForm::Fetch),
+    ("step", VerbForm::Step),
+    ("ask-begin", VerbForm::AskBegin),
+    ("ask-commit", VerbForm::AskCommit),
+    ("post", VerbForm::Post),
+    ("await", VerbForm::Await),
+];
+
+const STAGES: [(&str, Stage); 3] = [
+    ("request", Stage::Request),
+    ("persist", Stage::Persist),
+    ("reply", Stage::Reply),
+];
+
+const STORES: [(&str, Store); 3] = [
+    ("cells", Store::Cells),
+    ("table", Store::Table),
+    ("master", Store::Master),
+];
+
+const KINDS: [(&str, Fate); 2] = [
+    ("unchanged", Fate::FailsUnchanged),
+    ("applied", Fate::FailsApplied),
+];
+
+/// The form that a setup word names.
+pub fn setup_form(word: &[u8]) -> Option<SetupForm>
+    ensures { result ≡ named setup_forms word.now }
+{
+    look_up(&SETUP_FORMS, word)
+}
+
+/// The form that a verb names for an actor.
+pub fn verb_form(actor: &Actor, verb: &[u8]) -> Option<VerbForm>
+    ensures { result ≡ named (verb_forms actor.now) verb.now }
+{
+    match actor {
+        Actor::Clock => look_up(&CLOCK_FORMS, verb),
+        Actor::Janitor => look_up(&JANITOR_FORMS, verb),
+        Actor::Node(_) => look_up(&NODE_FORMS, verb),
+        Actor::Session(_) => look_up(&SESSION_FORMS, verb),
+    }
+}
+
+/// A stage of a node.
+pub fn stage_of(word: &[u8]) -> Option<Stage>
+    ensures { result ≡ named stages word.now }
+{
+    look_up(&STAGES, word)
+}
+
+/// A store.
+pub fn store_of(word: &[u8]) -> Option<Store>
+    ensures { result ≡ named stores word.now }
+{
+    look_up(&STORES, word)
+}
+
+/// How a store call fails.
+pub fn kind_of(word: &[u8]) -> Option<Fate>
+    ensures { result ≡ named kinds word.now }
+{
+    look_up(&KINDS, word)
+}
+
+/// What the word stands for: what the first row of the table that has the word holds beside it.
+fn look_up<T: Copy>(table: &[(&str, T)], word: &[u8]) -> Option<T>
+    ensures { result ≡ named (map (λ row. (row.0.now, row.1)) table.now) word.now }
+{
+    for (text, meaning) in table {
+        if word == text.as_bytes() {
+            return Some(*meaning);
+        }
+    }
+    None
+}
