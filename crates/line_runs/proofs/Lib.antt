@@ -6,30 +6,30 @@ mod Deciding
 mod Putting
 mod Answering
 mod Extending
-mod Working
+pub mod Working
 mod Stepping
 mod Opening
 mod Sweeping
 mod Driving
 mod Doings
 mod Lowering
-mod AllLower
+pub mod AllLower
 pub mod Timing
 pub mod Ending
-mod Plain
-mod PlainEvents
-mod Fitting
+pub mod Plain
+pub mod PlainEvents
+pub mod Fitting
 mod FittingSteps
-mod AlwaysFit
-mod OpeningItems
-mod WorkItems
-mod Walks
-mod LaterEvents
-mod OpenedLines
-mod OwnItems
-mod ReadLines
-mod ReadSteps
-mod FetchLines
-mod OwnLines
-mod LineWalks
-mod ScriptWalks
+pub mod AlwaysFit
+pub mod OpeningItems
+pub mod WorkItems
+pub mod Walks
+pub mod LaterEvents
+pub mod OpenedLines
+pub mod OwnItems
+pub mod ReadLines
+pub mod ReadSteps
+pub mod FetchLines
+pub mod OwnLines
+pub mod LineWalks
+pub mod ScriptWalks

@@ -68,7 +68,7 @@ first_not : (actor : Actor) (clocks : Clocks) (w : State) (h : List Item) (line 
 first_not actor clocks w h line e fate stands fit in_range asks differ false none is = plain_not actor (stepped w e fate).items (events_plain w e fate (first_opens_none clocks line.actor line.verb (view_of w line.actor) e none is))
 first_not actor clocks w h line e fate stands fit in_range asks differ true opening is = begins_not actor line.actor line.verb (stepped w e fate).items (differ opening) (line_answered clocks w h line.actor line.verb (view_of w line.actor) e fate stands fit in_range asks opening is)
 
-any_not : (actor : Actor) (clocks : Clocks) (w : State) (h : List Item) (line : Line) (at : Point) (e : Event) (fate : Fate) → Rattle.isolation_laws.specs.Sound.Stands w h → Fit w → ActorFits w.setup line.actor → VerbFits w.setup line.verb → (has_opening line.actor line.verb ≡ true → line.actor ≡ actor → ⊥) → next clocks line.actor line.verb at (view_of w line.actor) ≡ Some e → AllNot actor (stepped w e fate).items
+pub any_not : (actor : Actor) (clocks : Clocks) (w : State) (h : List Item) (line : Line) (at : Point) (e : Event) (fate : Fate) → Rattle.isolation_laws.specs.Sound.Stands w h → Fit w → ActorFits w.setup line.actor → VerbFits w.setup line.verb → (has_opening line.actor line.verb ≡ true → line.actor ≡ actor → ⊥) → next clocks line.actor line.verb at (view_of w line.actor) ≡ Some e → AllNot actor (stepped w e fate).items
 any_not actor clocks w h line Opens e fate stands fit in_range asks differ is = first_not actor clocks w h line e fate stands fit in_range asks differ (has_opening line.actor line.verb) refl is
 any_not actor clocks w h line Drives e fate stands fit in_range asks differ is = later_plain clocks w line.actor actor line.verb Drives (view_of w line.actor) e fate tt is
 any_not actor clocks w h line Extends e fate stands fit in_range asks differ is = later_plain clocks w line.actor actor line.verb Extends (view_of w line.actor) e fate tt is

@@ -19,7 +19,7 @@ use Rattle.line_runs.proofs.Walks.{AllNot, LineItems, walks_over, walks_line, wa
 use Rattle.line_runs.proofs.LineWalks.{IsFit, run_keeps, Other, other_goes_on, Own, own_goes_on, own_ends}
 
 -- ---- whether a line is one of the actor's
-actor_same : (a b : Actor) → same_actor a b ≡ true → a ≡ b
+pub actor_same : (a b : Actor) → same_actor a b ≡ true → a ≡ b
 actor_same Clock Clock is = refl
 actor_same (Node n) (Node m) is = elim (eqb_tells n m) [
   | inl same ↦ ap (λ (k : ℕ). Node k) same.1
@@ -38,13 +38,13 @@ itself n = elim (eqb_tells n n) [
   | inr other ↦ absurd (other.1 refl)
 ]
 
-same_itself : (a : Actor) → same_actor a a ≡ true
+pub same_itself : (a : Actor) → same_actor a a ≡ true
 same_itself Clock = refl
 same_itself (Node n) = itself n
 same_itself (Session s) = itself s
 same_itself Janitor = refl
 
-both_true : (a b : Bool) → a && b ≡ true → (a ≡ true) × (b ≡ true)
+pub both_true : (a b : Bool) → a && b ≡ true → (a ≡ true) × (b ≡ true)
 both_true true true is = (refl, refl)
 both_true true false is = absurd (cc)
 both_true false b is = absurd (cc)
@@ -56,7 +56,7 @@ not_own actor line is opening same =
     let clash : true ≡ false = sym both ∙ is in cc
 
 -- ---- one line
-fit_kept : Keeps IsFit
+pub fit_kept : Keeps IsFit
 fit_kept w h e fate fit steady = fit_stays w e fate fit
 
 -- what was played has its parts, and the line is of the script

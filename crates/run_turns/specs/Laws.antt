@@ -1,0 +1,74 @@
+-- What is proved of turns.
+use Rattle.std.specs.Prelude.{◌≡◌, ℕ, ◌<◌, ◌⊎◌, Bool, List, [], ◌∷◌, ◌++◌, filter, Option, None, Some}
+use Rattle.stamp_base.specs.SetupNumbers.{AreInRange}
+use Rattle.port_io.specs.declared.weather.Fate.{Fate}
+use Rattle.history_book.specs.declared.item.Actor.{Actor}
+use Rattle.history_book.specs.declared.item.Item.{Item}
+use Rattle.machine.specs.declared.event.Doing.TheVariants.{Reading}
+use Rattle.machine.specs.declared.event.Event.{Event}
+use Rattle.machine.specs.State.{State}
+use Rattle.machine.specs.Machine.{stepped}
+use Rattle.session_script.specs.declared.script.Line.{Line}
+use Rattle.session_script.specs.declared.script.Verb.{Verb}
+use Rattle.session_script.specs.declared.script.Verb.TheVariants as verb
+use Rattle.session_script.specs.Data.{ScriptData}
+use Rattle.isolation_laws.specs.Sound.{Stands}
+use Rattle.line_runs.specs.declared.point.Point.{Point}
+use Rattle.line_runs.specs.declared.point.Point.TheVariants.{Opens, Reads}
+use Rattle.line_runs.specs.Answers.{is_of, Answered, Answers}
+use Rattle.line_runs.specs.Halts.{halt_of, follows}
+use Rattle.line_runs.specs.Laws.{IsPlayable, IsReached, AreLinesOf}
+use Rattle.line_runs.specs.Left.{left}
+use Rattle.line_runs.specs.Next.{Clocks}
+use Rattle.line_runs.specs.Views.{view_of}
+use Rattle.run_turns.specs.declared.ahead.Ahead.TheVariants.{Makes}
+use Rattle.run_turns.specs.declared.seat.Seat.{Seat}
+use Rattle.run_turns.specs.declared.turn.Turn.{Turn}
+use Rattle.run_turns.specs.Waiting.{own_next}
+use Rattle.run_turns.specs.Seats.{lines_left, present_line}
+use Rattle.run_turns.specs.Carried.{Carried, seat_of, carried, carried_items, AreWhole}
+
+-- ---- each line ends
+-- each event of an own turn lowers what is left of its line, in every state that is reached, under every fate
+abbrev pub OwnEventsLowerWhatIsLeft : Type 0
+OwnEventsLowerWhatIsLeft =
+    (w : State) (h : List Item) (clocks : Clocks) (names : List (List ℕ)) (actor : Actor) (verb : Verb) (point : Point) (unawaited : Bool) (e : Event) (fate : Fate) → Stands w h → own_next clocks names actor verb point (view_of w actor) unawaited ≡ Makes e →
+    left (stepped w e fate).state actor verb (follows verb point (halt_of (stepped w e fate).stop)) < left w actor verb point
+
+-- ---- all facts hold, whichever turns were made
+abbrev pub TurnsKeepFacts : Type 0
+TurnsKeepFacts = (script : ScriptData) (turns : List Turn) → AreInRange script.setup → IsPlayable script 0 script.lines → IsReached script (carried script turns).played
+
+-- ---- lines are answered
+-- what answers these lines from here on answers all lines of the actor from the beginning
+abbrev pub IsAnsweredTo : Actor → List Line → List Item → Option ℕ → List Line → Type 0
+IsAnsweredTo actor all h begun lines = (later : List Item) → Answered actor begun (filter (is_of actor) lines) later → Answered actor None (filter (is_of actor) all) (h ++ later)
+
+-- the lines that are not answered: the present one is, once it has opened
+abbrev pub unanswered : Point → List Line → List Line
+unanswered Opens lines = lines
+unanswered _ [] = []
+unanswered _ (line ∷ lines) = lines
+
+-- the present line has begun a read, which is under way
+pub record OwesRead (script : ScriptData) (c : Carried) (seat : Seat) : Type 0 where
+  pub key : ℕ
+  pub line : Line
+  pub present : present_line script seat ≡ Some line
+  pub reads : line.verb ≡ verb.Read key
+  pub point : seat.point ≡ Reads
+  pub doing : (view_of c.played.state seat.actor).doing ≡ Reading
+  pub answered : IsAnsweredTo seat.actor script.lines c.played.items (Some key) (unanswered seat.point (lines_left script seat))
+
+-- the lines that the actor has passed are answered, and so is the present line where it has opened; a read under way is owed
+abbrev pub IsAnsweredSoFar : ScriptData → Carried → Seat → Type 0
+IsAnsweredSoFar script c seat = IsAnsweredTo seat.actor script.lines c.played.items None (unanswered seat.point (lines_left script seat)) ⊎ OwesRead script c seat
+
+abbrev pub TurnsAnswerSoFar : Type 0
+TurnsAnswerSoFar =
+    (script : ScriptData) (turns : List Turn) (actor : Actor) (seat : Seat) → AreInRange script.setup → IsPlayable script 0 script.lines → AreLinesOf script.setup script.lines → seat_of (carried script turns).seats actor ≡ Some seat →
+    (seat.actor ≡ actor) × IsAnsweredSoFar script (carried script turns) seat
+
+-- whole turns answer every line
+abbrev pub TurnsAnswer : Type 0
+TurnsAnswer = (script : ScriptData) (turns : List Turn) → AreInRange script.setup → IsPlayable script 0 script.lines → AreLinesOf script.setup script.lines → AreWhole script turns → Answers script (carried_items script turns)

@@ -1,0 +1,5 @@
+pub mod Waiting
+pub mod Seats
+pub mod Carried
+pub mod Lawful
+pub mod Laws

@@ -1,0 +1,83 @@
+-- How far the actors have come with their lines.
+use Rattle.std.specs.Prelude.{ℕ, zero, suc, ◌+◌, Bool, true, false, ◌||◌, List, [], ◌∷◌, ◌++◌, drop, filter, slice_get, Option, None, Some}
+use Rattle.std.specs.List.{list_any}
+use Rattle.stamp_base.specs.SetupNumbers.{SetupNumbers}
+use Rattle.history_book.specs.declared.item.Actor.{Actor}
+use Rattle.history_book.specs.declared.item.Actor.TheVariants.{Clock, Node, Session, Janitor}
+use Rattle.history_book.specs.declared.item.Item.{Item}
+use Rattle.history_book.specs.declared.item.Item.TheVariants as item
+use Rattle.machine.specs.Machine.{Step}
+use Rattle.session_script.specs.declared.script.Line.{Line}
+use Rattle.session_script.specs.declared.script.Verb.{Verb}
+use Rattle.session_script.specs.declared.script.Verb.TheVariants as verb
+use Rattle.session_script.specs.Data.{ScriptData}
+use Rattle.line_runs.specs.declared.point.Point.TheVariants.{Opens}
+use Rattle.line_runs.specs.declared.point.View.{View}
+use Rattle.line_runs.specs.Answers.{same_actor}
+use Rattle.line_runs.specs.Halts.{halt_of, follows}
+use Rattle.line_runs.specs.Next.{Clocks}
+use Rattle.run_turns.specs.declared.ahead.Ahead.{Ahead}
+use Rattle.run_turns.specs.declared.ahead.Ahead.TheVariants.{Passes}
+use Rattle.run_turns.specs.declared.seat.Seat.{Seat}
+use Rattle.run_turns.specs.Waiting.{own_next}
+
+-- ---- the seats before the first line: clock, janitor, the nodes and the 16 sessions
+abbrev pub first_seat : Actor → Seat
+first_seat actor = record { actor = actor; place = 0; point = Opens; unawaited = false }
+
+-- so many seats of actors of one kind, by their numbers
+unfoldable pub seats_of : (ℕ → Actor) → ℕ → List Seat
+seats_of kind zero = []
+seats_of kind (suc n) = seats_of kind n ++ first_seat (kind n) ∷ []
+
+abbrev pub first_seats : SetupNumbers → List Seat
+first_seats setup = first_seat Clock ∷ first_seat Janitor ∷ seats_of (λ n. Node n) setup.nodes ++ seats_of (λ s. Session s) 16
+
+-- ---- the lines of an actor
+abbrev pub lines_of : ScriptData → Actor → List Line
+lines_of script actor = filter (λ line. same_actor line.actor actor) script.lines
+
+-- those that are not passed
+abbrev pub lines_left : ScriptData → Seat → List Line
+lines_left script seat = drop seat.place (lines_of script seat.actor)
+
+abbrev pub present_line : ScriptData → Seat → Option Line
+present_line script seat = slice_get (lines_of script seat.actor) seat.place
+
+-- ---- passing lines with nothing left to do
+-- once a collect is passed, no ask is left unawaited
+abbrev pub still_unawaited : Verb → Bool → Bool
+still_unawaited verb.Collect unawaited = false
+still_unawaited _ unawaited = unawaited
+
+abbrev pub with_next_line : Line → Seat → Seat
+with_next_line line seat = record { actor = seat.actor; place = seat.place + 1; point = Opens; unawaited = still_unawaited line.verb seat.unawaited }
+
+abbrev pub ahead_of : Clocks → List (List ℕ) → View → Line → Seat → Ahead
+ahead_of clocks names view line seat = own_next clocks names line.actor line.verb seat.point view seat.unawaited
+
+abbrev pub if_passed : Ahead → Seat → Seat → Seat
+if_passed Passes on here = on
+if_passed _ on here = here
+
+-- the seat once each line with nothing left to do is passed, these lines being ahead of it
+unfoldable pub passed : Clocks → List (List ℕ) → View → List Line → Seat → Seat
+passed clocks names view [] seat = seat
+passed clocks names view (line ∷ lines) seat = if_passed (ahead_of clocks names view line seat) (passed clocks names view lines (with_next_line line seat)) seat
+
+-- ---- an event of the seat's line
+abbrev pub is_ask : Item → Bool
+is_ask (item.AskBegin session node) = true
+is_ask (item.AskCommit session node start) = true
+is_ask _ = false
+
+-- an ask was made
+abbrev pub was_asked : List Item → Bool
+was_asked items = list_any is_ask items
+
+abbrev pub with_event_of : Line → Step → Seat → Seat
+with_event_of line step seat = record seat { point = follows line.verb seat.point (halt_of step.stop); unawaited = seat.unawaited || was_asked step.items }
+
+abbrev pub with_event_at : Option Line → Step → Seat → Seat
+with_event_at None step seat = seat
+with_event_at (Some line) step seat = with_event_of line step seat

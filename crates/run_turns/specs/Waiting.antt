@@ -1,0 +1,52 @@
+-- The next event of a line that is carried out on threads, where stages serve the requests: instead of serving its session's
+-- request, a line waits for it. Everything else is as in file order.
+use Rattle.std.specs.Prelude.{ℕ, Bool, true, false, List, Option, None, Some, if◌then◌else◌}
+use Rattle.std.specs.List.{list_any}
+use Rattle.std.specs.Str.{bytes_eq}
+use Rattle.history_book.specs.declared.item.Actor.{Actor}
+use Rattle.history_book.specs.declared.item.Actor.TheVariants.{Session}
+use Rattle.oracle_parts.specs.declared.instance.Place.{Place}
+use Rattle.machine.specs.declared.event.Event.{Event}
+use Rattle.session_script.specs.declared.script.Verb.{Verb}
+use Rattle.session_script.specs.declared.script.Verb.TheVariants as verb
+use Rattle.line_runs.specs.declared.point.Point.{Point}
+use Rattle.line_runs.specs.declared.point.Point.TheVariants.{Opens, Drives, Extends}
+use Rattle.line_runs.specs.declared.point.View.{View}
+use Rattle.line_runs.specs.Next.{Clocks, is_served, finish_next, idle_next, next}
+use Rattle.run_turns.specs.declared.ahead.Why.TheVariants.{Reply, Name}
+use Rattle.run_turns.specs.declared.ahead.Ahead.{Ahead}
+use Rattle.run_turns.specs.declared.ahead.Ahead.TheVariants.{Makes, Waits, Passes}
+
+-- a line without a next event is passed
+abbrev pub made_next : Option Event → Ahead
+made_next None = Passes
+made_next (Some e) = Makes e
+
+-- a request that the line has served is waited for; once it has ended, a completion follows
+abbrev pub drive_ahead : ℕ → Verb → View → Option (ℕ × Place) → Ahead
+drive_ahead session verb view None = made_next (finish_next session view.doing)
+drive_ahead session verb view (Some request) = if is_served verb request.1 then Waits Reply else Passes
+
+-- a session with no request in flight has come too late to collect it where no line has waited for it, and has nothing to
+-- collect otherwise
+abbrev pub collect_ahead : ℕ → View → Bool → Option (ℕ × Place) → Ahead
+collect_ahead session view unawaited (Some request) = Waits Reply
+collect_ahead session view true None = made_next (finish_next session view.doing)
+collect_ahead session view false None = made_next (idle_next session view.doing)
+
+abbrev pub is_posted : List (List ℕ) → List ℕ → Bool
+is_posted names name = list_any (bytes_eq name) names
+
+-- a name is awaited until it is posted
+abbrev pub own_opens : Clocks → List (List ℕ) → Actor → Verb → View → Bool → Ahead
+own_opens clocks names actor (verb.Await name) view unawaited = if is_posted names name then made_next (next clocks actor (verb.Await name) Opens view) else Waits Name
+own_opens clocks names (Session session) verb.Collect view unawaited = collect_ahead session view unawaited view.request
+own_opens clocks names actor verb view unawaited = made_next (next clocks actor verb Opens view)
+
+-- what is ahead of an actor's line, by the names that are posted, and by whether the session's last ask was made and no later
+-- line has waited for its answer; it is the node that asks for a further range of stamps
+abbrev pub own_next : Clocks → List (List ℕ) → Actor → Verb → Point → View → Bool → Ahead
+own_next clocks names actor verb Opens view unawaited = own_opens clocks names actor verb view unawaited
+own_next clocks names (Session session) verb Drives view unawaited = drive_ahead session verb view view.request
+own_next clocks names (Session session) verb Extends view unawaited = Passes
+own_next clocks names actor verb point view unawaited = made_next (next clocks actor verb point view)

@@ -1,0 +1,11 @@
+//! What a list of turns makes of a script that is carried out on threads: at each turn an actor makes the next event of its
+//! present line, or a stage of a node serves a request.
+#![tactic(auto)]
+
+mod ahead;
+mod seat;
+mod turn;
+
+pub use ahead::{Ahead, Why};
+pub use seat::{Holds, Seat};
+pub use turn::Turn;
