@@ -9,8 +9,8 @@ use Rattle.history_book.specs.declared.item.Note.TheVariants as note
 use Rattle.machine.specs.declared.event.Event.{Event}
 use Rattle.machine.specs.declared.event.Event.TheVariants as event
 use Rattle.machine.specs.Machine.{Step}
-use Rattle.session_script.specs.declared.script.Line.{Line}
-use Rattle.session_script.specs.Data.{ScriptData}
+use Rattle.script_data.specs.declared.line.Line.{Line}
+use Rattle.script_data.specs.Data.{ScriptData}
 use Rattle.line_runs.specs.Answers.{same_actor}
 use Rattle.line_runs.specs.Next.{reading_at}
 use Rattle.line_runs.specs.Runs.{Played, clocks_of, step_of, played, opening_played}

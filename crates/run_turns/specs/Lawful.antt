@@ -14,7 +14,7 @@ use Rattle.oracle_parts.specs.Instance.{InstanceEntry}
 use Rattle.machine.specs.declared.event.Event.{Event}
 use Rattle.machine.specs.declared.event.Event.TheVariants as event
 use Rattle.machine.specs.State.{State}
-use Rattle.session_script.specs.Data.{ScriptData}
+use Rattle.script_data.specs.Data.{ScriptData}
 use Rattle.line_runs.specs.declared.point.View.{View}
 use Rattle.line_runs.specs.Runs.{Played, step_of}
 use Rattle.line_runs.specs.Views.{view_of}

@@ -8,10 +8,10 @@ use Rattle.machine.specs.declared.event.Doing.TheVariants.{Reading}
 use Rattle.machine.specs.declared.event.Event.{Event}
 use Rattle.machine.specs.State.{State}
 use Rattle.machine.specs.Machine.{stepped}
-use Rattle.session_script.specs.declared.script.Line.{Line}
-use Rattle.session_script.specs.declared.script.Verb.{Verb}
-use Rattle.session_script.specs.declared.script.Verb.TheVariants as verb
-use Rattle.session_script.specs.Data.{ScriptData}
+use Rattle.script_data.specs.declared.line.Line.{Line}
+use Rattle.script_data.specs.declared.line.Verb.{Verb}
+use Rattle.script_data.specs.declared.line.Verb.TheVariants as verb
+use Rattle.script_data.specs.Data.{ScriptData}
 use Rattle.isolation_laws.specs.Sound.{Stands}
 use Rattle.line_runs.specs.declared.point.Point.{Point}
 use Rattle.line_runs.specs.declared.point.Point.TheVariants.{Opens, Reads}
