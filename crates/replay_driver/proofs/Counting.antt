@@ -12,8 +12,6 @@ use Rattle.history_book.specs.declared.item.Item.{Item}
 use Rattle.machine.specs.State.{opening}
 use Rattle.isolation_laws.proofs.AlwaysHolds.{stands_at_first}
 use Rattle.script_data.specs.declared.line.Line.{Line}
-use Rattle.script_data.specs.declared.line.Verb.{Verb}
-use Rattle.script_data.specs.declared.line.Verb.TheVariants as verbs
 use Rattle.script_data.specs.Data.{IsSound}
 use Rattle.script_data.specs.Sound.{LineIsSound}
 use Rattle.script_data.specs.Data.{ScriptData}
