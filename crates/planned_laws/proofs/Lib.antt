@@ -9,3 +9,4 @@ pub mod FaultCounts
 pub mod OneEvent
 pub mod LineClocks
 pub mod PlannedLines
+pub mod AnyOrder

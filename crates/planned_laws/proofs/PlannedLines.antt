@@ -129,7 +129,7 @@ over_ticked clocks ticks line view Opens over = sym (ap (λ (tick : Option ℕ).
 over_ticked clocks ticks line view _ over = refl
 
 -- ---- lines in file order
-ticks_on : (ticks rest : List ℕ) (tick : Option ℕ) → ticks_with ticks tick ++ rest ≡ ticks ++ with_tick tick rest
+pub ticks_on : (ticks rest : List ℕ) (tick : Option ℕ) → ticks_with ticks tick ++ rest ≡ ticks ++ with_tick tick rest
 ticks_on ticks rest None = refl
 ticks_on ticks rest (Some by) = append_assoc ticks (by ∷ []) rest
 

@@ -3,6 +3,7 @@
 #![tactic(auto)]
 
 ghost use Rattle.planned_laws.specs.Laws.{PlannedAtFirst, EventsStayPlanned, PlannedInTheEnd, LinesReadClocks, ScriptsArePlanned};
+ghost use Rattle.planned_laws.specs.Orders.{EventsStayTold, OrdersArePlanned};
 
 use line_runs::events_lower_what_is_left;
 
@@ -36,3 +37,15 @@ pub fn scripts_are_planned()
 {
     events_lower_what_is_left();
 }
+
+/// What was played stays reached, and shown by its history, with every event that reads the clocks, where none of them is ahead
+/// by more than the skew and the ticks are few.
+pub fn events_stay_told()
+    ensures { EventsStayTold }
+{}
+
+/// The history of events in any order is as planned, where each reads the clocks as they stand when it is made and the clock
+/// ticks as the script's lines say.
+pub fn orders_are_planned()
+    ensures { OrdersArePlanned }
+{}
