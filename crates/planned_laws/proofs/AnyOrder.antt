@@ -11,15 +11,15 @@ use Rattle.machine.specs.declared.event.Event.{Event}
 use Rattle.machine.specs.declared.event.Event.TheVariants as event
 use Rattle.machine.specs.Machine.{reading_of, seen_after, IsSteadyAt}
 use Rattle.machine.proofs.PartsKept.{seen_up, leaves_parts}
-use Rattle.session_script.specs.declared.script.Line.{Line}
-use Rattle.session_script.specs.declared.script.Verb.{Verb}
-use Rattle.session_script.specs.declared.script.Verb.TheVariants as verb
-use Rattle.session_script.specs.Script.{ScriptData}
+use Rattle.script_data.specs.declared.line.Line.{Line}
+use Rattle.script_data.specs.declared.line.Verb.{Verb}
+use Rattle.script_data.specs.declared.line.Verb.TheVariants as verb
+use Rattle.script_data.specs.Data.{ScriptData}
 use Rattle.isolation_laws.proofs.AlwaysHolds.{facts_stay}
 use Rattle.cause_laws.proofs.AlwaysExplained.{tells_stay, tells_at_first}
 use Rattle.line_runs.specs.Next.{Clocks}
 use Rattle.line_runs.specs.Runs.{Played, fate_of, step_of, clocks_of, played, opening_played}
-use Rattle.line_runs.specs.Laws.{tick_of, ticks_of}
+use Rattle.script_data.specs.Ticks.{tick_of, ticks_of}
 use Rattle.line_runs.specs.Planned.{tick_by, with_tick, ticks_in}
 use Rattle.line_runs.proofs.Ending.{opening_reached}
 use Rattle.line_runs.proofs.Timing.{Timed, InTime, in_time}

@@ -12,7 +12,7 @@ use Rattle.port_io.specs.declared.weather.Fate.TheVariants.{Works}
 use Rattle.port_io.specs.Planned.{PlannedFault, same_store, is_of, planned_fate}
 use Rattle.history_book.specs.declared.item.Item.{Item}
 use Rattle.history_book.specs.declared.item.Item.TheVariants as item
-use Rattle.session_script.specs.Script.{ScriptData}
+use Rattle.script_data.specs.Data.{ScriptData}
 use Rattle.line_runs.specs.Next.{Clocks}
 use Rattle.line_runs.specs.Planned.{is_fault_of, plans}
 use Rattle.line_runs.specs.Runs.{Calls, calls_on, one_more, calls_after, fate_by}

@@ -7,8 +7,8 @@ use Rattle.oracle_parts.specs.declared.instance.Place.TheVariants as place
 use Rattle.machine.specs.declared.event.Doing.{Doing}
 use Rattle.machine.specs.declared.event.Doing.TheVariants as doing
 use Rattle.machine.specs.declared.event.Event.{Event}
-use Rattle.session_script.specs.declared.script.Verb.{Verb}
-use Rattle.session_script.specs.declared.script.Verb.TheVariants as verb
+use Rattle.script_data.specs.declared.line.Verb.{Verb}
+use Rattle.script_data.specs.declared.line.Verb.TheVariants as verb
 use Rattle.line_runs.specs.declared.point.Point.{Point}
 use Rattle.line_runs.specs.declared.point.Point.TheVariants.{Opens, Drives, Extends, Finishes, Reads, Steps, Over}
 use Rattle.line_runs.specs.declared.point.View.{View}

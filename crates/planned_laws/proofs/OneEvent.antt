@@ -14,7 +14,7 @@ use Rattle.history_book.proofs.MemberLemmas.{AtEach-push}
 use Rattle.machine.specs.declared.event.Event.{Event}
 use Rattle.machine.specs.declared.event.Event.TheVariants as event
 use Rattle.machine.specs.Machine.{asks}
-use Rattle.session_script.specs.Script.{ScriptData}
+use Rattle.script_data.specs.Data.{ScriptData}
 use Rattle.cause_rules.specs.Asks.{its_node}
 use Rattle.cause_laws.proofs.SinceWords.{last_told-push}
 use Rattle.cause_laws.specs.Shows.{Tells}

@@ -5,10 +5,10 @@ use Rattle.std.proofs.lemmas.List.{append-nil}
 use Rattle.history_book.specs.declared.item.Actor.{Actor}
 use Rattle.history_book.specs.declared.item.Actor.TheVariants.{Clock}
 use Rattle.machine.specs.declared.event.Event.{Event}
-use Rattle.session_script.specs.declared.script.Line.{Line}
-use Rattle.session_script.specs.declared.script.Verb.{Verb}
-use Rattle.session_script.specs.declared.script.Verb.TheVariants as verb
-use Rattle.session_script.specs.Script.{ScriptData}
+use Rattle.script_data.specs.declared.line.Line.{Line}
+use Rattle.script_data.specs.declared.line.Verb.{Verb}
+use Rattle.script_data.specs.declared.line.Verb.TheVariants as verb
+use Rattle.script_data.specs.Data.{ScriptData}
 use Rattle.cause_laws.specs.Shows.{Tells}
 use Rattle.cause_laws.proofs.AlwaysExplained.{tells_stay, tells_at_first}
 use Rattle.line_runs.specs.declared.point.Halt.{Halt}
@@ -21,7 +21,8 @@ use Rattle.line_runs.specs.Views.{view_of}
 use Rattle.line_runs.specs.Next.{Clocks, next}
 use Rattle.line_runs.specs.Planned.{tick_by, with_tick, ticks_in}
 use Rattle.line_runs.specs.Runs.{Played, step_of, Run, clocks_of, next_in, run_after, left_in, going_on, run_for, opened, line_run, lines_played, opening_played, script_played}
-use Rattle.line_runs.specs.Laws.{EventsLowerWhatIsLeft, tick_of, ticks_of, IsPlayable, IsReached}
+use Rattle.script_data.specs.Ticks.{tick_of, ticks_of}
+use Rattle.line_runs.specs.Laws.{EventsLowerWhatIsLeft, IsPlayable, IsReached}
 use Rattle.line_runs.proofs.Ending.{Keeps, Going, Ended, goes_on, line_ends, opening_reached}
 use Rattle.line_runs.proofs.Timing.{tick_ahead}
 use Rattle.planned_laws.specs.SoFar.{ReadsClocks, ticks_with, tick_at, PlannedSoFar}

@@ -2,7 +2,7 @@
 use Rattle.std.specs.Prelude.{◌≡◌, ℕ, ◌+◌, ◌≤◌, ◌^◌, unwrap_or, List, [], ◌∷◌, Option, slice_index_or}
 use Rattle.stamp_base.specs.SetupNumbers.{AreInRange}
 use Rattle.machine.specs.declared.event.Event.{Event}
-use Rattle.session_script.specs.Script.{ScriptData}
+use Rattle.script_data.specs.Data.{ScriptData}
 use Rattle.cause_laws.specs.Shows.{Tells}
 use Rattle.line_runs.specs.Runs.{Played, clocks_of, played, opening_played}
 use Rattle.line_runs.specs.Laws.{IsPlayable, IsReached}

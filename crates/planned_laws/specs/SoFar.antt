@@ -6,8 +6,8 @@ use Rattle.history_book.specs.Members.{AtEach}
 use Rattle.history_book.specs.declared.item.Actor.{Actor}
 use Rattle.machine.specs.declared.event.Event.{Event}
 use Rattle.machine.specs.declared.event.Event.TheVariants as event
-use Rattle.session_script.specs.declared.script.Verb.{Verb}
-use Rattle.session_script.specs.Script.{ScriptData}
+use Rattle.script_data.specs.declared.line.Verb.{Verb}
+use Rattle.script_data.specs.Data.{ScriptData}
 use Rattle.cause_rules.specs.Since.{last_told}
 use Rattle.line_runs.specs.declared.point.Point.{Point}
 use Rattle.line_runs.specs.declared.point.Point.TheVariants.{Opens}
