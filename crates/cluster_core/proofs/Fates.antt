@@ -21,8 +21,8 @@ use Rattle.machine.specs.Events.Put.{put_on, put_commit, to_place, commit_asks, 
 use Rattle.machine.specs.Events.Write.{write_on, write_open, write_refused, write_asks, open_asks}
 use Rattle.machine.specs.Events.Fetch.{fetch_on, fetch_open, fetch_asks, epoch_asks}
 use Rattle.machine.specs.Events.Heal.{heal_on, heal_at, heal_asks, offer_of, offer_asks}
-use Rattle.event_steps.specs.Made.{Makes, fate_ahead}
-use Rattle.event_steps.specs.declared.stopped.Stopped.{Stopped}
+use Rattle.event_parts.specs.Made.{Makes, fate_ahead}
+use Rattle.event_parts.specs.declared.stopped.Stopped.{Stopped}
 
 pub by_fate : {P : Type 0} → (effect other : Effect P) (old now : P) (before after : List Item) (result : Result Unit Stopped) → effect ≡ other → Makes other old now before after result → Makes effect old now before after result
 by_fate effect other old now before after result same made = subst (λ (e : Effect _). Makes e old now before after result) (sym same) made

@@ -6,8 +6,8 @@ use Rattle.oracle_parts.specs.Instance.{InstanceEntry}
 use Rattle.machine.specs.State.{Client, State}
 use Rattle.machine.specs.Effect.{Effect}
 use Rattle.machine.specs.Machine.{with_post, with_client, with_reading, on_clients, on_ask, on_request, on_client, on_sweep}
-use Rattle.event_steps.specs.Made.{Makes}
-use Rattle.event_steps.specs.declared.stopped.Stopped.{Stopped}
+use Rattle.event_parts.specs.Made.{Makes}
+use Rattle.event_parts.specs.declared.stopped.Stopped.{Stopped}
 use Rattle.cluster_core.specs.Seen.{seen_made}
 use Rattle.cluster_core.specs.Whole.{effect_of}
 use Rattle.cluster_core.proofs.PutBack.{put_back, put_back_seen, same_post, same_client, same_both}

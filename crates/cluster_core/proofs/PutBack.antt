@@ -9,9 +9,9 @@ use Rattle.oracle_parts.specs.Instance.{InstanceEntry}
 use Rattle.machine.specs.State.{Client, State}
 use Rattle.machine.specs.Effect.{Effect}
 use Rattle.machine.specs.Machine.{step_by, nothing, with_post, with_client}
-use Rattle.event_steps.specs.Made.{Leaves, Makes, AsksNone}
-use Rattle.event_steps.specs.declared.stopped.Stopped.{Stopped}
-use Rattle.event_steps.specs.declared.stopped.Stopped.TheVariants.{Refused, Fault, NoMemory}
+use Rattle.event_parts.specs.Made.{Leaves, Makes, AsksNone}
+use Rattle.event_parts.specs.declared.stopped.Stopped.{Stopped}
+use Rattle.event_parts.specs.declared.stopped.Stopped.TheVariants.{Refused, Fault, NoMemory}
 use Rattle.cluster_core.specs.Seen.{seen_made}
 use Rattle.cluster_core.specs.Whole.{effect_of}
 

@@ -8,9 +8,9 @@ use Rattle.machine.specs.declared.event.Event.{Event}
 use Rattle.machine.specs.declared.event.Event.TheVariants as event
 use Rattle.machine.specs.State.{State, opening}
 use Rattle.machine.specs.Machine.{asks, IsSteadyAt, reading_of, stepped}
-use Rattle.event_steps.specs.Made.{fate_ahead}
-use Rattle.event_steps.specs.declared.stopped.Stopped.{Stopped}
-use Rattle.event_steps.specs.declared.stopped.Stopped.TheVariants.{Refused, Fault, NoMemory}
+use Rattle.event_parts.specs.Made.{fate_ahead}
+use Rattle.event_parts.specs.declared.stopped.Stopped.{Stopped}
+use Rattle.event_parts.specs.declared.stopped.Stopped.TheVariants.{Refused, Fault, NoMemory}
 use Rattle.cause_laws.proofs.AlwaysExplained.{tells_stay, tells_at_first}
 use Rattle.call_laws.proofs.BoundsKept.{bounded_first, bounds_stay}
 use Rattle.call_laws.proofs.RecordCalls.{extensions_fit}

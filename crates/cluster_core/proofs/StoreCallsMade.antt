@@ -19,8 +19,8 @@ use Rattle.machine.specs.Events.Write.{write_on}
 use Rattle.machine.specs.Events.Fetch.{fetch_on}
 use Rattle.machine.specs.Events.Step.{StepParts, step_on, step_asks}
 use Rattle.machine.specs.Events.Heal.{heal_on}
-use Rattle.event_steps.specs.Made.{Makes, fate_ahead}
-use Rattle.event_steps.specs.declared.stopped.Stopped.{Stopped}
+use Rattle.event_parts.specs.Made.{Makes, fate_ahead}
+use Rattle.event_parts.specs.declared.stopped.Stopped.{Stopped}
 use Rattle.cluster_core.specs.Seen.{seen_made}
 use Rattle.cluster_core.specs.Whole.{effect_of, step_under}
 use Rattle.cluster_core.proofs.PutBack.{put_back, put_back_seen, same_post, same_client}

@@ -14,7 +14,7 @@ use Rattle.invalidator.specs.contracts.sweep.Sweep as sweeps
 use Rattle.oracle_parts.specs.Instance.{InstanceEntry}
 use Rattle.oracle_core.specs.contracts.instance.Instance as instances
 use Rattle.machine.specs.State.{Client, State}
-use Rattle.event_steps.specs.contracts.client.Client as clients
+use Rattle.event_parts.specs.contracts.client.Client as clients
 use Rattle.cluster_core.specs.Whole.{Whole}
 
 abbrev pub Sizes : Type 0

@@ -7,8 +7,8 @@ use Rattle.machine.specs.declared.event.Event.{Event}
 use Rattle.machine.specs.State.{State}
 use Rattle.machine.specs.Effect.{Effect}
 use Rattle.machine.specs.Machine.{Step, stepped, asks}
-use Rattle.event_steps.specs.Made.{Makes, fate_ahead}
-use Rattle.event_steps.specs.declared.stopped.Stopped.{Stopped}
+use Rattle.event_parts.specs.Made.{Makes, fate_ahead}
+use Rattle.event_parts.specs.declared.stopped.Stopped.{Stopped}
 
 -- the state of the machine, and the history that led to it
 pub record Whole : Type 0 where

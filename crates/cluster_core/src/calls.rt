@@ -2,11 +2,11 @@
 ghost use Rattle.std.specs.Prelude.{◌≤◌, ◌+◌, ◌^◌};
 ghost use Rattle.port_io.specs.declared.weather.Fate.TheVariants.{Works};
 ghost use Rattle.machine.specs.Machine.{stepped, asks};
-ghost use Rattle.event_steps.specs.Made.{Asks};
+ghost use Rattle.event_parts.specs.Made.{Asks};
 ghost use Rattle.cluster_core.specs.Whole.{MakesStep, step_under};
 
 use crate::Cluster;
-use event_steps::Stopped;
+use event_parts::Stopped;
 use history_book::{Actor, Note};
 use machine::Event;
 use port_io::{CalmWeather, Weather};

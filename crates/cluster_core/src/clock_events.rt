@@ -4,7 +4,7 @@ ghost use Rattle.machine.specs.Machine.{stepped};
 ghost use Rattle.cluster_core.specs.Whole.{MakesStep};
 
 use crate::Engine;
-use event_steps::Stopped;
+use event_parts::Stopped;
 use history_book::{Actor, Note};
 use machine::Event;
 
@@ -13,13 +13,13 @@ impl Engine {
     pub(crate) fn tick(&mut self, to: u64) -> Result<(), Stopped>
         ensures { MakesStep (stepped self.old.state (Event.Tick to) Works) self.old self.new result }
     {
-        event_steps::tick(&mut self.book, to)
+        node_events::tick(&mut self.book, to)
     }
 
     /// The actor notes its part in the script.
     pub(crate) fn note(&mut self, actor: Actor, note: Note) -> Result<(), Stopped>
         ensures { MakesStep (stepped self.old.state (Event.Note actor note) Works) self.old self.new result }
     {
-        event_steps::note(&mut self.book, actor, note)
+        node_events::note(&mut self.book, actor, note)
     }
 }

@@ -6,11 +6,11 @@ ghost use Rattle.cause_rules.specs.Explained.{Explained};
 ghost use Rattle.machine.specs.State.{opening};
 ghost use Rattle.machine.specs.Machine.{IsSteadyAt, reading_of, asks};
 ghost use Rattle.machine.specs.Readers as read;
-ghost use Rattle.event_steps.specs.Made.{Asks};
+ghost use Rattle.event_parts.specs.Made.{Asks};
 ghost use Rattle.cluster_core.specs.Whole.{MakesStep, step_under};
 
 use crate::Engine;
-use event_steps::Stopped;
+use event_parts::Stopped;
 use history_book::Item;
 use machine::{Doing, Event};
 use oracle_parts::Place;

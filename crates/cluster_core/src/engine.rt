@@ -3,14 +3,14 @@ ghost use Rattle.std.specs.Prelude.{◌≡◌, [], IfOk, None, replicate};
 ghost use Rattle.stamp_base.specs.Setups.{numbers_of};
 ghost use Rattle.machine.specs.State.{opening, client_new};
 ghost use Rattle.machine.specs.Machine.{asks};
-ghost use Rattle.event_steps.specs.Made.{Asks};
+ghost use Rattle.event_parts.specs.Made.{Asks};
 ghost use Rattle.cluster_core.specs.Whole.{MakesStep, step_under};
 ghost use Rattle.cluster_core.specs.Required.{CanMake};
 ghost use Rattle.cluster_core.specs.Seen.{seen_made};
 
 use cell_store::Cells;
 use commit_table::Table;
-use event_steps::{Client, Stopped};
+use event_parts::{Client, Stopped};
 use history_book::{Book, Item};
 use invalidator::Sweep;
 use machine::Event;

@@ -9,9 +9,9 @@ mod engine;
 mod readers;
 mod record_events;
 mod request_events;
-mod session_events;
 mod sweep_events;
+mod transaction_events;
 
 pub use cluster::Cluster;
 pub use engine::Engine;
-pub use event_steps::Stopped;
+pub use event_parts::Stopped;

@@ -7,7 +7,7 @@ ghost use Rattle.cluster_core.specs.Holders.{request_held};
 
 use crate::Engine;
 use client_parts::State;
-use event_steps::Client;
+use event_parts::Client;
 use lease_keeper::is_steady;
 use machine::Doing;
 use oracle_core::Instance;

@@ -1,12 +1,12 @@
 // The events of a node and the master record.
 ghost use Rattle.machine.specs.Machine.{asks};
-ghost use Rattle.event_steps.specs.Made.{Asks};
+ghost use Rattle.event_parts.specs.Made.{Asks};
 ghost use Rattle.cluster_core.specs.Whole.{MakesStep, step_under};
 ghost use Rattle.cluster_core.specs.Required.{CanMake};
 
 use crate::Engine;
 use crate::engine::seen_after;
-use event_steps::Stopped;
+use event_parts::Stopped;
 use machine::Event;
 use port_io::Weather;
 use stamp_base::NodeNo;
@@ -29,7 +29,7 @@ impl Engine {
             return Ok(());
         }
         let post = &mut self.posts[node.index()];
-        let made = event_steps::take(
+        let made = node_events::take(
             weather,
             &mut self.book,
             self.alloc,
@@ -60,7 +60,7 @@ impl Engine {
             return Ok(());
         }
         let post = &mut self.posts[node.index()];
-        let made = event_steps::renew(
+        let made = node_events::renew(
             weather,
             &mut self.book,
             post,
@@ -87,6 +87,6 @@ impl Engine {
             return Ok(());
         }
         let post = &mut self.posts[node.index()];
-        event_steps::extend(weather, &mut self.book, post, &mut self.master, node)
+        node_events::extend(weather, &mut self.book, post, &mut self.master, node)
     }
 }

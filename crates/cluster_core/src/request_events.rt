@@ -1,13 +1,13 @@
 // The events of a session's request and the node that serves it.
 ghost use Rattle.port_io.specs.declared.weather.Fate.TheVariants.{Works};
 ghost use Rattle.machine.specs.Machine.{stepped, asks};
-ghost use Rattle.event_steps.specs.Made.{Asks};
+ghost use Rattle.event_parts.specs.Made.{Asks};
 ghost use Rattle.cluster_core.specs.Whole.{MakesStep, step_under};
 ghost use Rattle.cluster_core.specs.Required.{CanMake};
 
 use crate::Engine;
 use crate::engine::seen_after;
-use event_steps::Stopped;
+use event_parts::Stopped;
 use machine::Event;
 use port_io::Weather;
 use stamp_base::{NodeNo, SessionNo};
@@ -22,7 +22,7 @@ impl Engine {
             return Ok(());
         }
         let post = &mut self.posts[node.index()];
-        event_steps::crash(&mut self.book, post, &mut self.clients, node)
+        node_events::crash(&mut self.book, post, &mut self.clients, node)
     }
 
     /// The session asks the node for a start.
@@ -35,7 +35,7 @@ impl Engine {
         }
         let post = &mut self.posts[node.index()];
         let client = &mut self.clients[session.index()];
-        event_steps::ask_begin(&mut self.book, client, post, session, node)
+        session_events::ask_begin(&mut self.book, client, post, session, node)
     }
 
     /// The session asks the node to commit what it wrote.
@@ -48,7 +48,7 @@ impl Engine {
         }
         let post = &mut self.posts[node.index()];
         let client = &mut self.clients[session.index()];
-        event_steps::ask_commit(&mut self.book, client, post, session, node)
+        session_events::ask_commit(&mut self.book, client, post, session, node)
     }
 
     /// The node accepts the session's request.
@@ -67,7 +67,7 @@ impl Engine {
         }
         let post = &mut self.posts[node.index()];
         let client = &mut self.clients[session.index()];
-        let made = event_steps::accept(&mut self.book, post, client, node, session, reading);
+        let made = node_events::accept(&mut self.book, post, client, node, session, reading);
         self.seen = seen_after(self.seen, reading, &made);
         made
     }
@@ -82,7 +82,7 @@ impl Engine {
         }
         let post = &mut self.posts[node.index()];
         let client = &mut self.clients[session.index()];
-        event_steps::decide(&mut self.book, post, client, node, session)
+        node_events::decide(&mut self.book, post, client, node, session)
     }
 
     /// The node places the record of the session's commit.
@@ -100,7 +100,7 @@ impl Engine {
             return Ok(());
         }
         let post = &mut self.posts[node.index()];
-        event_steps::put(
+        node_events::put(
             weather,
             &mut self.book,
             post,
@@ -120,6 +120,6 @@ impl Engine {
         }
         let post = &mut self.posts[node.index()];
         let client = &mut self.clients[session.index()];
-        event_steps::answer(&mut self.book, post, client, node, session)
+        node_events::answer(&mut self.book, post, client, node, session)
     }
 }

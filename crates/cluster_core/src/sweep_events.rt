@@ -1,12 +1,12 @@
 // The events of the janitor.
 ghost use Rattle.port_io.specs.declared.weather.Fate.TheVariants.{Works};
 ghost use Rattle.machine.specs.Machine.{stepped, asks};
-ghost use Rattle.event_steps.specs.Made.{Asks};
+ghost use Rattle.event_parts.specs.Made.{Asks};
 ghost use Rattle.cluster_core.specs.Whole.{MakesStep, step_under};
 ghost use Rattle.cluster_core.specs.Required.{CanMake};
 
 use crate::Engine;
-use event_steps::Stopped;
+use event_parts::Stopped;
 use machine::Event;
 use port_io::Weather;
 use stamp_base::{NodeNo, TxnId};
@@ -20,7 +20,7 @@ impl Engine {
             return Ok(());
         }
         let post = &self.posts[node.index()];
-        event_steps::sweep_open(&mut self.book, &mut self.sweep, post, node, txn)
+        step_events::sweep_open(&mut self.book, &mut self.sweep, post, node, txn)
     }
 
     /// The janitor makes the next step of the sweep.
@@ -30,7 +30,7 @@ impl Engine {
         ensures asked { Asks result (asks self.old.state Event.SweepStep) (W.ahead weather.old) (W.ahead weather.new)
             (W.faults weather.old) (W.faults weather.new) }
     {
-        event_steps::sweep_step(
+        step_events::sweep_step(
             weather,
             &mut self.book,
             &mut self.sweep,

@@ -8,7 +8,7 @@ use Rattle.history_book.specs.declared.item.Item.{Item}
 use Rattle.machine.specs.declared.event.Event.{Event}
 use Rattle.machine.specs.State.{State}
 use Rattle.machine.specs.Machine.{Step, asks, stepped}
-use Rattle.event_steps.specs.Made.{fate_ahead}
+use Rattle.event_parts.specs.Made.{fate_ahead}
 use Rattle.script_data.specs.Data.{ScriptData}
 use Rattle.line_runs.specs.declared.point.Halt.{Halt}
 use Rattle.line_runs.specs.Halts.{halt_of}

@@ -5,8 +5,8 @@ use Rattle.stamp_base.specs.declared.stores.Store.{Store}
 use Rattle.port_io.specs.declared.weather.Fate.{Fate}
 use Rattle.machine.specs.declared.event.Event.{Event}
 use Rattle.machine.specs.Machine.{asks}
-use Rattle.event_steps.specs.declared.stopped.Stopped.{Stopped}
-use Rattle.event_steps.specs.declared.stopped.Stopped.TheVariants as stopped
+use Rattle.event_parts.specs.declared.stopped.Stopped.{Stopped}
+use Rattle.event_parts.specs.declared.stopped.Stopped.TheVariants as stopped
 use Rattle.line_runs.specs.declared.point.Halt.{Halt}
 use Rattle.line_runs.specs.declared.point.Halt.TheVariants.{Faulted}
 use Rattle.line_runs.specs.Halts.{halt_of, refused_by}

@@ -1,0 +1,17 @@
+-- What the code's parts stand for in the machine.
+use Rattle.std.specs.Prelude.{Option, None, Some}
+use Rattle.client_parts.specs.KeyRead.{Reading}
+use Rattle.machine.specs.State as machine
+use Rattle.event_parts.specs.declared.client.UnderWay.{UnderWay}
+use Rattle.event_parts.specs.declared.client.UnderWay.TheVariants as work
+
+-- a read that has its answer is under way no longer
+abbrev pub reading_way : Option Reading → machine.UnderWay
+reading_way None = machine.Nothing
+reading_way (Some reading) = machine.Reads reading
+
+abbrev pub way_of : UnderWay → machine.UnderWay
+way_of work.Nothing = machine.Nothing
+way_of (work.Reads run) = reading_way run
+way_of (work.Settles settle) = machine.Settles settle
+way_of (work.Completes asks) = machine.Completes asks

@@ -1,0 +1,300 @@
+ghost use Rattle.std.specs.Prelude.{◌≡◌, None};
+ghost use Rattle.client_parts.specs.KeyRead.{ReadTurn, next_of, reading_left};
+ghost use Rattle.client_parts.specs.SessionSteps as step;
+ghost use Rattle.machine.specs.State as state;
+ghost use Rattle.machine.specs.Clients as left;
+ghost use Rattle.machine.specs.Events.Write.{client_wrote, write_refused};
+ghost use Rattle.machine.specs.Events.Fetch.{client_read};
+ghost use Rattle.machine.specs.Events.Heal.{offer_of};
+ghost use Rattle.event_parts.specs.Parts.{way_of};
+
+use client_parts::State;
+use client_txn::Session;
+use history_book::Cause;
+use invalidator::Settle;
+use oracle_parts::{Reply, Request};
+use reader_resolve::{Next, ReadRun};
+use shadow_cells::Completion;
+use stamp_base::{KeyList, KeyNo, Stamp, TxnId};
+use std::marker::Model;
+
+/// What a session has under way between two of its events.
+#[derive(Drop)]
+pub(crate) enum UnderWay {
+    Nothing,
+    Reads(ReadRun),
+    /// The resolve of its own commit, whose outcome is open.
+    Settles(Settle),
+    Completes(Completion),
+}
+
+/// A client: its session, what it has under way, and the shadow that its last read offers to set.
+#[derive(Drop)]
+pub struct Client {
+    pub(crate) session: Session,
+    pub(crate) under_way: UnderWay,
+    pub(crate) heal: Option<(KeyNo, TxnId, Stamp)>,
+}
+
+impl Model for Client {
+    ghost use Rattle.machine.specs.State as machine;
+
+    ghost Value = { machine.Client };
+
+    ghost use Rattle.event_parts.specs.Parts.{way_of};
+
+    ghost view = { λ c. record { entry = c.session; under_way = way_of c.under_way; heal = c.heal } };
+}
+
+impl Client {
+    ghost use Rattle.event_parts.specs.Waiting.{Waits};
+    ghost use Rattle.event_parts.specs.Replies.{WaitsForReply, replied};
+
+    /// A free session, with nothing under way.
+    pub fn new() -> Client
+        ensures { result ≡ state.client_new }
+    {
+        Client {
+            session: Session::new(),
+            under_way: UnderWay::Nothing,
+            heal: None,
+        }
+    }
+
+    /// Whether a read is under way.
+    pub fn is_reading(&self) -> bool
+        ensures { result ≡ left.is_reading self.now }
+    {
+        match &self.under_way {
+            UnderWay::Reads(run) => run.next().is_some(),
+            _ => false,
+        }
+    }
+
+    /// What the session is about.
+    pub fn state(&self) -> State
+        ensures value { result ≡ self.now.entry.state }
+        ensures sense { step.MakesSense self.now.entry }
+    {
+        self.session.state()
+    }
+
+    /// The start of its transaction.
+    pub fn start(&self) -> Option<Stamp>
+        ensures { result ≡ self.now.entry.start }
+    {
+        self.session.start()
+    }
+
+    /// The epoch that its last begin was answered with.
+    pub fn epoch(&self) -> Option<u64>
+        ensures { result ≡ self.now.entry.epoch }
+    {
+        self.session.epoch()
+    }
+
+    /// The keys that its transaction has written.
+    pub fn keys(&self) -> &KeyList
+        ensures { result.now ≡ self.now.entry.keys }
+    {
+        self.session.keys()
+    }
+
+    /// Whether a begin may be asked: refused as gone, or busy.
+    pub fn check_begin(&self) -> Result<(), Cause>
+        ensures { step.IsAnswer (step.begin_refusal self.now.entry.state) result }
+    {
+        self.session.check_begin()
+    }
+
+    /// Whether the transaction may go on: refused as gone, without a transaction, or busy.
+    pub fn check_work(&self) -> Result<(), Cause>
+        ensures { step.IsAnswer (step.work_refusal self.now.entry.state (left.is_reading self.now)) result }
+    {
+        self.session.check_work(self.is_reading())
+    }
+
+    /// Whether the transaction may write the key: refused as gone, without a transaction, busy, or with 64 other keys, in
+    /// this order.
+    pub fn check_write(&self, key: KeyNo) -> Result<(), Cause>
+        ensures { step.IsAnswer (write_refused self.now key) result }
+    {
+        self.check_work()?;
+        self.session.check_write(key)
+    }
+
+    /// Whether the session may vanish: refused as gone.
+    pub fn check_vanish(&self) -> Result<(), Cause>
+        ensures { step.IsAnswer (step.vanish_refusal self.now.entry.state) result }
+    {
+        self.session.check_vanish()
+    }
+
+    /// A begin was asked, or the commit of a transaction that has written.
+    pub fn asked(&mut self)
+        requires { step.CanAsk self.old.entry }
+        ensures { self.new ≡ left.client_asked self.old }
+    {
+        self.session.asked();
+        self.rest();
+    }
+
+    /// The begin was answered.
+    pub fn begun(&mut self, start: Stamp, epoch: u64)
+        requires { step.CanBegin self.old.entry }
+        ensures { self.new ≡ left.client_begun self.old start epoch }
+    {
+        self.session.begun(start, epoch);
+        self.rest();
+    }
+
+    /// The transaction has ended without a commit, and what it wrote is to be undone.
+    pub fn aborted(&mut self)
+        requires { step.CanAbort self.old.entry }
+        ensures { self.new ≡ left.client_aborted self.old }
+    {
+        self.under_way = undo_of(self.session.start(), self.session.keys());
+        self.session.aborted();
+        self.heal = None;
+    }
+
+    /// The transaction has its commit, and is to be finished.
+    pub fn committed(&mut self, commit: Stamp)
+        requires { step.CanCommit self.old.entry }
+        ensures { self.new ≡ left.client_committed self.old commit }
+    {
+        self.under_way = finish_of(self.session.start(), commit, self.session.keys());
+        self.session.committed(commit);
+        self.heal = None;
+    }
+
+    /// It is not known whether the commit was placed.
+    pub fn opened(&mut self)
+        requires { step.CanOpen self.old.entry }
+        ensures { self.new ≡ left.client_opened self.old }
+    {
+        self.session.opened();
+        self.rest();
+    }
+
+    /// The session is gone for good.
+    pub fn vanished(&mut self)
+        requires { step.CanVanish self.old.entry }
+        ensures { self.new ≡ left.client_vanished self.old }
+    {
+        self.session.vanished();
+        self.rest();
+    }
+
+    /// A refusal has ended the request that the session waits for, unless it has vanished.
+    pub fn refused(&mut self, request: &Request)
+        requires { Waits request.now self.old.entry }
+        ensures { self.new ≡ left.after_refusal request.now self.old }
+    {
+        if self.session.state() == State::Gone {
+            return;
+        }
+        match request {
+            Request::Begin { .. } => self.freed(),
+            Request::Commit { .. } => self.aborted(),
+        }
+    }
+
+    /// The request that the session waits for was answered, unless it has vanished.
+    pub fn replied(&mut self, reply: &Reply)
+        requires { WaitsForReply reply.now self.old.entry }
+        ensures { self.new ≡ replied reply.now self.old }
+    {
+        if self.session.state() == State::Gone {
+            return;
+        }
+        match reply {
+            Reply::Begun { start, epoch } => self.begun(*start, *epoch),
+            Reply::Committed { commit } => self.committed(*commit),
+            Reply::Invalid => self.aborted(),
+            Reply::Open => self.opened(),
+        }
+    }
+
+    /// The key was written, or its write has failed: it joins the write list. No shadow is offered.
+    pub fn wrote(&mut self, key: KeyNo)
+        requires { write_refused self.old key ≡ None }
+        ensures { self.new ≡ client_wrote self.old key }
+    {
+        // The key may be written, so this is not refused.
+        let _ = self.session.wrote(key);
+        self.heal = None;
+    }
+
+    /// A read was begun: it goes on, or it has its answer, and with it the shadow that may be set.
+    pub fn reads(&mut self, run: ReadRun, next: Next)
+        ensures { (turn : ReadTurn) → run ≡ reading_left turn → next ≡ next_of turn → self.new ≡ client_read self.old turn }
+    {
+        match next {
+            Next::Ask(_) => {
+                self.under_way = UnderWay::Reads(run);
+                self.heal = None;
+            }
+            Next::Done(answer) => {
+                self.under_way = UnderWay::Nothing;
+                self.heal = answer.heal;
+            }
+        }
+    }
+
+    /// The shadow that it may set: only an open transaction without a read under way has an offer.
+    pub fn offer(&self) -> Option<(KeyNo, TxnId, Stamp)>
+        ensures { result ≡ offer_of self.now }
+    {
+        match self.session.state() {
+            State::Open if !self.is_reading() => self.heal,
+            _ => None,
+        }
+    }
+
+    /// The offer is used up.
+    pub fn offers_none(&mut self)
+        ensures { self.new ≡ record self.old { heal = None } }
+    {
+        self.heal = None;
+    }
+
+    /// The begin was refused, the transaction has ended without writes, or its completion has ended.
+    pub fn freed(&mut self)
+        requires { step.CanFree self.old.entry }
+        ensures { self.new ≡ left.client_freed self.old }
+    {
+        self.session.freed();
+        self.rest();
+    }
+
+    /// Nothing is under way, and no shadow is offered.
+    fn rest(&mut self)
+        ensures { self.new ≡ record self.old { under_way = state.Nothing; heal = None } }
+    {
+        self.under_way = UnderWay::Nothing;
+        self.heal = None;
+    }
+}
+
+/// Each cell of the transaction is to be erased.
+fn undo_of(start: Option<Stamp>, keys: &KeyList) -> UnderWay
+    ensures { way_of result ≡ left.undo_of start keys.now }
+{
+    match start {
+        Some(start) if !keys.as_slice().is_empty() => {
+            UnderWay::Completes(Completion::undo(start, *keys))
+        }
+        _ => UnderWay::Nothing,
+    }
+}
+
+/// Each cell of the transaction is to get its shadow, and then the record goes.
+fn finish_of(start: Option<Stamp>, commit: Stamp, keys: &KeyList) -> UnderWay
+    ensures { way_of result ≡ left.finish_of start commit keys.now }
+{
+    match start {
+        Some(start) => UnderWay::Completes(Completion::finish(start, commit, *keys)),
+        None => UnderWay::Nothing,
+    }
+}

@@ -1,0 +1,104 @@
+// How an event tells what it did: its items in the book, in room that was made for them.
+ghost use Rattle.std.specs.Prelude.{◌≡◌, ◌≤◌, ◌+◌, ◌++◌, ◌∷◌, [], Err, OnOk, if◌then◌else◌};
+ghost use Rattle.store_parts.specs.StoreCalls.{AsksOnce};
+ghost use Rattle.client_parts.specs.KeyRead.{ReadTurn, next_of};
+ghost use Rattle.machine.specs.Effect as effect;
+ghost use Rattle.machine.specs.Events.Fetch.{read_items, found_of as found_item_of};
+ghost use Rattle.event_parts.specs.Made.{Makes, no_parts};
+ghost use Rattle.event_parts.specs.Kept.{made_items};
+
+use crate::Stopped;
+use history_book::{Actor, Book, Cause, Found, Item};
+use port_io::{Fate, Weather};
+use reader_resolve::Next;
+use stamp_base::{KeyNo, NoMemory, SessionNo, Stamp, Store, TxnId, Value};
+
+/// The book has room for n items more.
+pub fn make_room(book: &mut Book, n: usize) -> Result<(), NoMemory>
+    ensures items { book.new.items ≡ book.old.items }
+    ensures room { OnOk result (n ≤ book.new.spare) }
+{
+    let lacking = n.saturating_sub(book.spare());
+    book.reserve(lacking)?;
+    Ok(())
+}
+
+/// The actor is told why the event is refused, which changes nothing else.
+pub fn refuse(book: &mut Book, actor: Actor, cause: Cause) -> Result<(), Stopped>
+    ensures { Makes (effect.refused no_parts actor cause) no_parts no_parts book.old.items book.new.items result }
+{
+    let told = cause;
+    book.append(Item::Refused { actor, cause: told })?;
+    Err(Stopped::Refused(cause))
+}
+
+/// The same, in room that was made.
+pub fn tell(book: &mut Book, actor: Actor, cause: Cause) -> Result<(), Stopped>
+    requires { 1 ≤ book.old.spare }
+    ensures items { book.new.items ≡ book.old.items ++ Item.Refused actor cause ∷ [] }
+    ensures answer { result ≡ Err (Stopped.Refused cause) }
+{
+    let told = cause;
+    book.append_reserved(Item::Refused { actor, cause: told });
+    Err(Stopped::Refused(cause))
+}
+
+/// The same for a refusal that a request is told once: where it was told before, nothing is appended.
+pub fn tell_once(book: &mut Book, told: bool, actor: Actor, cause: Cause) -> Result<(), Stopped>
+    requires { 1 ≤ book.old.spare }
+    ensures items { book.new.items ≡ book.old.items ++ (if told then [] else Item.Refused actor cause ∷ []) }
+    ensures answer { result ≡ Err (Stopped.Refused cause) }
+{
+    if told {
+        return Err(Stopped::Refused(cause));
+    }
+    tell(book, actor, cause)
+}
+
+/// The actor's call on the store failed. The change that it made all the same stands before the fault.
+pub fn fail(book: &mut Book, actor: Actor, store: Store, made: Option<Item>) -> Result<(), Stopped>
+    requires { 2 ≤ book.old.spare }
+    ensures items { book.new.items ≡ book.old.items ++ made_items made ++ Item.Fault actor store ∷ [] }
+    ensures answer { result ≡ Err (Stopped.Fault store) }
+{
+    if let Some(item) = made {
+        book.append_reserved(item);
+    }
+    book.append_reserved(Item::Fault { actor, store });
+    Err(Stopped::Fault(store))
+}
+
+/// A read that has its answer is told.
+pub fn tell_read(book: &mut Book, session: SessionNo, start: Stamp, key: KeyNo, next: &Next)
+    requires { 1 ≤ book.old.spare }
+    ensures { (turn : ReadTurn) → next.now ≡ next_of turn → book.new.items ≡ book.old.items ++ read_items session start key turn }
+{
+    if let Next::Done(answer) = next {
+        book.append_reserved(Item::Read {
+            session,
+            start,
+            key,
+            answer: found_of(&answer.found),
+        });
+    }
+}
+
+fn found_of(found: &Option<(TxnId, Value)>) -> Option<Found>
+    ensures { result ≡ found_item_of found.now }
+{
+    match found {
+        Some((from, value)) => Some(Found {
+            from: *from,
+            value: *value,
+        }),
+        None => None,
+    }
+}
+
+/// The fate of the one call that an event makes on the store.
+pub fn fate_of<W: Weather>(weather: &mut W, store: Store) -> Fate
+    ensures fate { result ≡ W.ahead weather.old store 0 }
+    ensures asked { AsksOnce store (W.ahead weather.old) (W.ahead weather.new) (W.faults weather.old) (W.faults weather.new) }
+{
+    weather.next(store)
+}

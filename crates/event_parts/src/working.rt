@@ -1,0 +1,227 @@
+// How a client goes on with what it has under way: what it asks next, and what the answer makes of it.
+ghost use Rattle.std.specs.Prelude.{◌≡◌, ◌≤◌, ◌++◌, Bool, None, Some, IfSome};
+ghost use Rattle.client_parts.specs.SessionSteps.{IsAnswer, step_refusal, CanFree, CanCommit};
+ghost use Rattle.client_parts.specs.Asks.{FitsNext};
+ghost use Rattle.client_parts.specs.Sweep.{IsKeys};
+ghost use Rattle.client_parts.specs.Resolve.{Settling, SettleTurn, Decides, settle_by, outcome_of};
+ghost use Rattle.client_parts.specs.KeyRead.{ReadTurn, next_of as next_after, next_ask, read_told, reading_left};
+ghost use Rattle.machine.specs.State as state;
+ghost use Rattle.machine.specs.Clients.{is_reading};
+ghost use Rattle.machine.specs.Events.Fetch.{read_items};
+ghost use Rattle.machine.specs.Events.Step.{next_of, own_resolve, work_by, work_of, client_settled, settle_items};
+ghost use Rattle.event_parts.specs.Working.{client_told, told_items, client_failed, offered_by, settles, is_nothing, CanWork};
+
+use crate::Client;
+use crate::client::UnderWay;
+use crate::ledger::tell_read;
+use client_parts::{Ask, Outcome, State, Told};
+use history_book::{Book, Cause, Ending, Item};
+use invalidator::Settle;
+use reader_resolve::{Next, ReadRun};
+use stamp_base::{KeyNo, SessionNo, Stamp, TxnId};
+
+impl Client {
+    /// Whether there is a step to make: refused as gone, or idle.
+    pub fn check_step(&self) -> Result<(), Cause>
+        ensures { IsAnswer (step_refusal self.now.entry.state (is_reading self.now)) result }
+    {
+        self.session.check_step(self.is_reading())
+    }
+
+    /// The next step of what is under way, or of the resolve of the own commit, whose outcome is open.
+    pub fn next(&self) -> Option<Ask>
+        ensures next { result ≡ next_of (work_of self.now) }
+        ensures no_listing { IfSome result (λ ask. IsKeys ask → ⊥) }
+    {
+        match &self.under_way {
+            UnderWay::Nothing => self.own_ask(),
+            UnderWay::Reads(run) => match run.next() {
+                Some(ask) => Some(ask),
+                None => self.own_ask(),
+            },
+            UnderWay::Settles(settle) => Some(settle.next()),
+            UnderWay::Completes(completion) => completion.next(),
+        }
+    }
+
+    /// Takes the answer to the next step. What it decides is told.
+    pub fn told(&mut self, book: &mut Book, session: SessionNo, answer: Told)
+        requires room { 1 ≤ book.old.spare }
+        requires answer { FitsNext (next_of (work_of self.old)) answer }
+        requires work { CanWork (work_of self.old) self.old.entry }
+        ensures client { self.new ≡ client_told self.old (work_of self.old) answer }
+        ensures items { book.new.items ≡ book.old.items ++ told_items session self.old (work_of self.old) answer }
+    {
+        self.take_up();
+        self.told_at_work(book, session, answer);
+    }
+
+    /// The next step has failed. A read ends without an answer, a resolve starts over, and a completion frees its session.
+    pub fn failed(&mut self)
+        requires { CanWork (work_of self.old) self.old.entry }
+        ensures { self.new ≡ client_failed self.old (work_of self.old) }
+    {
+        match &self.under_way {
+            UnderWay::Completes(_) => self.freed(),
+            _ => self.under_way = UnderWay::Nothing,
+        }
+    }
+
+    /// The first step of the resolve of its own commit.
+    fn own_ask(&self) -> Option<Ask>
+        ensures next { result ≡ next_of (work_by self.now.entry.state self.now.entry state.Nothing) }
+        ensures no_listing { IfSome result (λ ask. IsKeys ask → ⊥) }
+    {
+        match self.own_settle() {
+            Some(settle) => Some(settle.next()),
+            None => None,
+        }
+    }
+
+    /// The resolve of its own commit, where the outcome is open, by the first key that it wrote.
+    fn own_settle(&self) -> Option<Settle>
+        ensures { settles result ≡ work_by self.now.entry.state self.now.entry state.Nothing }
+    {
+        match (self.session.state(), self.session.start()) {
+            (State::OpenOutcome, Some(start)) => own_settle(start, self.session.keys().as_slice()),
+            _ => None,
+        }
+    }
+
+    /// Where nothing is under way and the outcome is open, the resolve of its own commit is.
+    fn take_up(&mut self)
+        ensures { self.new ≡ record self.old { under_way = work_of self.old } }
+    {
+        if self.has_nothing() {
+            self.under_way = match self.own_settle() {
+                Some(settle) => UnderWay::Settles(settle),
+                None => UnderWay::Nothing,
+            };
+        }
+    }
+
+    /// Whether nothing is under way. A read that has its answer is not.
+    fn has_nothing(&self) -> bool
+        ensures { result ≡ is_nothing self.now.under_way }
+    {
+        match &self.under_way {
+            UnderWay::Nothing => true,
+            UnderWay::Reads(run) => run.next().is_none(),
+            UnderWay::Settles(_) | UnderWay::Completes(_) => false,
+        }
+    }
+
+    fn told_at_work(&mut self, book: &mut Book, session: SessionNo, answer: Told)
+        requires room { 1 ≤ book.old.spare }
+        requires answer { FitsNext (next_of self.old.under_way) answer }
+        requires work { CanWork self.old.under_way self.old.entry }
+        ensures client { self.new ≡ client_told self.old self.old.under_way answer }
+        ensures items { book.new.items ≡ book.old.items ++ told_items session self.old self.old.under_way answer }
+    {
+        match &mut self.under_way {
+            UnderWay::Nothing => {}
+            UnderWay::Reads(run) => read_on(book, run, &mut self.heal, session, answer),
+            UnderWay::Settles(settle) => {
+                let outcome = settle.told(answer);
+                self.settled(book, session, &outcome);
+            }
+            UnderWay::Completes(completion) => {
+                completion.done();
+                if completion.next().is_none() {
+                    self.freed();
+                }
+            }
+        }
+    }
+
+    /// The resolve of its own commit goes on, or has decided, which is told.
+    fn settled(&mut self, book: &mut Book, session: SessionNo, outcome: &Option<Outcome>)
+        requires room { 1 ≤ book.old.spare }
+        requires work { CanCommit self.old.entry }
+        ensures client { (x : Settling) (turn : SettleTurn) → self.old.under_way ≡ state.Settles (settle_by x turn) →
+            outcome.now ≡ outcome_of turn → self.new ≡ client_settled self.old x turn }
+        ensures items { (turn : SettleTurn) → outcome.now ≡ outcome_of turn →
+            book.new.items ≡ book.old.items ++ settle_items session self.old.entry.start turn }
+    {
+        let start = self.session.start();
+        match outcome {
+            None => {}
+            Some(Outcome::Committed { commit, .. }) => {
+                self.committed(*commit);
+                tell_committed(book, session, start, *commit);
+            }
+            Some(Outcome::Dead) => {
+                self.aborted();
+                tell_dead(book, session, start);
+            }
+        }
+    }
+}
+
+/// The read goes on, or has its answer, which is told, and with it the shadow that may be set.
+fn read_on(
+    book: &mut Book,
+    run: &mut ReadRun,
+    heal: &mut Option<(KeyNo, TxnId, Stamp)>,
+    session: SessionNo,
+    answer: Told,
+)
+    requires room { 1 ≤ book.old.spare }
+    requires answer { FitsNext (next_ask run.old) answer }
+    ensures run { IfSome run.old (λ r. run.new ≡ reading_left (read_told r answer)) }
+    ensures heal { IfSome run.old (λ r. heal.new ≡ offered_by (read_told r answer)) }
+    ensures items { IfSome run.old (λ r. book.new.items ≡ book.old.items ++ read_items session r.start r.key (read_told r answer)) }
+{
+    let key = run.key();
+    let start = run.reader();
+    let next = run.step(answer);
+    tell_read(book, session, start, key, &next);
+    *heal = offered(&next);
+}
+
+/// The shadow that a read offers: none until it has its answer.
+fn offered(next: &Next) -> Option<(KeyNo, TxnId, Stamp)>
+    ensures { (turn : ReadTurn) → next.now ≡ next_after turn → result ≡ offered_by turn }
+{
+    match next {
+        Next::Ask(_) => None,
+        Next::Done(answer) => answer.heal,
+    }
+}
+
+/// The resolve of the commit of a transaction that wrote these keys.
+fn own_settle(start: Stamp, keys: &[KeyNo]) -> Option<Settle>
+    ensures { settles result ≡ own_resolve (Some start) keys.now }
+{
+    if keys.is_empty() {
+        None
+    } else {
+        Some(Settle::open(keys[0], start, true, true))
+    }
+}
+
+fn tell_committed(book: &mut Book, session: SessionNo, start: Option<Stamp>, commit: Stamp)
+    requires { 1 ≤ book.old.spare }
+    ensures { (by_table : Bool) → book.new.items ≡ book.old.items ++ settle_items session start (Decides (Outcome.Committed commit by_table)) }
+{
+    if let Some(start) = start {
+        book.append_reserved(Item::Committed {
+            session,
+            start,
+            commit,
+        });
+    }
+}
+
+fn tell_dead(book: &mut Book, session: SessionNo, start: Option<Stamp>)
+    requires { 1 ≤ book.old.spare }
+    ensures { book.new.items ≡ book.old.items ++ settle_items session start (Decides Outcome.Dead) }
+{
+    if let Some(start) = start {
+        book.append_reserved(Item::End {
+            session,
+            start,
+            how: Ending::Dead,
+        });
+    }
+}

@@ -1,4 +1,0 @@
-use Rattle.event_steps.proofs.renewing.renew.Goals as goal
-
-pub returns-in-Some-clause-made : goal.returns-in-Some-clause-made
-returns-in-Some-clause-made g c = λ setup rules. rw c.in-Some.is (c.renew_held.ensures.made setup rules)

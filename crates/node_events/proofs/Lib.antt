@@ -1,0 +1,4 @@
+mod KeptItems
+mod Losses
+mod Placed
+mod Replies

@@ -1,0 +1,5 @@
+-- The definitions that the contracts of the events cite.
+pub use Rattle.machine.specs.Effect
+pub use Rattle.machine.specs.Events
+pub use Rattle.event_parts.specs.Made
+pub use Rattle.event_parts.specs.Waiting

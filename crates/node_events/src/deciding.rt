@@ -1,0 +1,113 @@
+// A node decides a session's request.
+ghost use Rattle.std.specs.Prelude.{◌≡◌, Some};
+ghost use Rattle.oracle_parts.specs.Instance.{held_of};
+ghost use Rattle.oracle_parts.specs.InstanceSteps.{instance_decide};
+ghost use Rattle.oracle_parts.specs.InstanceLaws.{stamp_of};
+ghost use Rattle.machine.specs.Events.Decide.{decide_on, decide_request, decide_by, draw_item as draw_item_of};
+ghost use Rattle.event_parts.specs.Made.{Makes};
+ghost use Rattle.event_parts.specs.Waiting.{Waits, WaitsFor, WaitsAt};
+
+use event_parts::{Client, Stopped, ledger};
+use history_book::{Actor, Book, Cause, Item};
+use oracle_core::Instance;
+use oracle_parts::{Decided, Held, Request};
+use stamp_base::{NodeNo, SessionNo, Stamp, Term};
+
+/// The node draws the stamp of the session's request: refused as NoOracle, then as NoRequest unless it was accepted, then as
+/// Conflict or Hidden, or by the record's refusal that the instance keeps, which end the request, or as NoStamp, which it
+/// is told once.
+pub fn decide(
+    book: &mut Book,
+    post: &mut Option<Instance>,
+    client: &mut Client,
+    node: NodeNo,
+    session: SessionNo,
+) -> Result<(), Stopped>
+    requires { WaitsAt post.old session client.old.entry }
+    ensures { Makes (decide_on node session post.old client.old) (post.old, client.old) (post.new, client.new)
+        book.old.items book.new.items result }
+{
+    match post {
+        None => ledger::refuse(book, Actor::Node(node), Cause::NoOracle { node }),
+        Some(instance) => decide_at(book, instance, client, node, session),
+    }
+}
+
+fn decide_at(
+    book: &mut Book,
+    instance: &mut Instance,
+    client: &mut Client,
+    node: NodeNo,
+    session: SessionNo,
+) -> Result<(), Stopped>
+    requires { WaitsFor (held_of instance.old session) client.old.entry }
+    ensures { Makes (decide_request node session instance.old client.old (held_of instance.old session))
+        (Some instance.old, client.old) (Some instance.new, client.new) book.old.items book.new.items result }
+{
+    match instance.held(session) {
+        None => ledger::refuse(book, Actor::Node(node), Cause::NoRequest { session }),
+        Some(held) => decide_held(book, instance, client, node, session, &held),
+    }
+}
+
+fn decide_held(
+    book: &mut Book,
+    instance: &mut Instance,
+    client: &mut Client,
+    node: NodeNo,
+    session: SessionNo,
+    held: &Held,
+) -> Result<(), Stopped>
+    requires { Waits held.now.request client.old.entry }
+    ensures { Makes (decide_by node session held.now (instance_decide instance.old session).left client.old (instance_decide instance.old session).answer)
+        (Some instance.old, client.old) (Some instance.new, client.new) book.old.items book.new.items result }
+{
+    ledger::make_room(book, 1)?;
+    let decided = instance.decide(session);
+    match &decided {
+        Ok(drawn) => {
+            let stamp = stamp_drawn(drawn);
+            book.append_reserved(draw_item(node, instance.term(), &held.request, stamp));
+            Ok(())
+        }
+        Err(cause @ Cause::NoRequest { .. }) => ledger::tell(book, Actor::Node(node), *cause),
+        Err(cause @ Cause::NoStamp { .. }) => {
+            ledger::tell_once(book, held.told_no_stamp, Actor::Session(session), *cause)
+        }
+        Err(cause) => {
+            client.refused(&held.request);
+            ledger::tell(book, Actor::Session(session), *cause)
+        }
+    }
+}
+
+fn stamp_drawn(decided: &Decided) -> Stamp
+    ensures { result ≡ stamp_of decided.now }
+{
+    match decided {
+        Decided::Started(start) => *start,
+        Decided::Drawn(commit) => *commit,
+    }
+}
+
+/// The stamp is a begin's start, or a commit.
+fn draw_item(node: NodeNo, term: Term, request: &Request, stamp: Stamp) -> Item
+    ensures { result ≡ draw_item_of node term request.now stamp }
+{
+    match request {
+        Request::Begin { session } => Item::Draw {
+            session: *session,
+            node,
+            term,
+            start: stamp,
+            commit: None,
+        },
+        Request::Commit { session, start, .. } => Item::Draw {
+            session: *session,
+            node,
+            term,
+            start: *start,
+            commit: Some(stamp),
+        },
+    }
+}

@@ -1,0 +1,133 @@
+// A node places the record of a session's commit.
+ghost use Rattle.std.specs.Prelude.{◌≡◌, Some};
+ghost use Rattle.oracle_parts.specs.Instance.{held_of};
+ghost use Rattle.oracle_parts.specs.InstanceSteps.{instance_settle};
+ghost use Rattle.machine.specs.Events.Put.{put_on, put_commit, put_asks, commit_asks, to_place as to_place_of};
+ghost use Rattle.event_parts.specs.Made.{Makes, Asks};
+ghost use Rattle.event_parts.specs.Kept.{made_items, placed_kept};
+
+use commit_table::{Put, StoreError, Table};
+use event_parts::{Stopped, ledger};
+use history_book::{Actor, Book, Cause, Item, StoreStep};
+use oracle_core::Instance;
+use oracle_parts::{Held, Progress, Request, Settled};
+use port_io::Weather;
+use stamp_base::{Mark, NodeNo, SessionNo, Stamp, Store};
+
+/// The node places the record of the session's commit, unless a mark stands in its place: refused as NoOracle, then as
+/// NoRequest unless the commit was drawn and is not settled. The commit is settled in all ways, also where the call fails.
+pub fn put<W: Weather>(
+    weather: &mut W,
+    book: &mut Book,
+    post: &mut Option<Instance>,
+    table: &mut Table,
+    node: NodeNo,
+    session: SessionNo,
+) -> Result<(), Stopped>
+    ensures made { Makes (put_on node session (W.ahead weather.old Store.Table 0) post.old table.old.pairs)
+        (post.old, table.old.pairs) (post.new, table.new.pairs) book.old.items book.new.items result }
+    ensures places { table.new.places ≡ table.old.places }
+    ensures asked { Asks result (put_asks session post.old) (W.ahead weather.old) (W.ahead weather.new)
+        (W.faults weather.old) (W.faults weather.new) }
+{
+    match post {
+        None => ledger::refuse(book, Actor::Node(node), Cause::NoOracle { node }),
+        Some(instance) => put_at(weather, book, instance, table, node, session),
+    }
+}
+
+fn put_at<W: Weather>(
+    weather: &mut W,
+    book: &mut Book,
+    instance: &mut Instance,
+    table: &mut Table,
+    node: NodeNo,
+    session: SessionNo,
+) -> Result<(), Stopped>
+    ensures made { Makes (put_commit node session (W.ahead weather.old Store.Table 0) instance.old table.old.pairs (to_place_of (held_of instance.old session)))
+        (Some instance.old, table.old.pairs) (Some instance.new, table.new.pairs) book.old.items book.new.items result }
+    ensures places { table.new.places ≡ table.old.places }
+    ensures asked { Asks result (commit_asks (to_place_of (held_of instance.old session))) (W.ahead weather.old) (W.ahead weather.new)
+        (W.faults weather.old) (W.faults weather.new) }
+{
+    match to_place(&instance.held(session)) {
+        None => ledger::refuse(book, Actor::Node(node), Cause::NoRequest { session }),
+        Some((start, commit)) => put_drawn(
+            weather, book, instance, table, node, session, start, commit,
+        ),
+    }
+}
+
+fn put_drawn<W: Weather>(
+    weather: &mut W,
+    book: &mut Book,
+    instance: &mut Instance,
+    table: &mut Table,
+    node: NodeNo,
+    session: SessionNo,
+    start: Stamp,
+    commit: Stamp,
+) -> Result<(), Stopped>
+    ensures made { Makes (put_commit node session (W.ahead weather.old Store.Table 0) instance.old table.old.pairs (Some (start, commit)))
+        (Some instance.old, table.old.pairs) (Some instance.new, table.new.pairs) book.old.items book.new.items result }
+    ensures places { table.new.places ≡ table.old.places }
+    ensures asked { Asks result (Some Store.Table) (W.ahead weather.old) (W.ahead weather.new)
+        (W.faults weather.old) (W.faults weather.new) }
+{
+    ledger::make_room(book, 2)?;
+    let before = table.mark_of(start);
+    match table.put_if_absent(weather, start, Mark::Committed(commit)) {
+        Ok(Put::Placed) => {
+            settle(instance, session, Settled::Placed);
+            book.append_reserved(Item::Placed { start, commit });
+            Ok(())
+        }
+        Ok(Put::Found(_)) => {
+            settle(instance, session, Settled::Invalid);
+            book.append_reserved(Item::Step {
+                actor: Actor::Node(node),
+                what: StoreStep::PutFound { txn: start },
+            });
+            Ok(())
+        }
+        Err(StoreError::StoreFault) => {
+            settle(instance, session, Settled::Faulted);
+            let made = placed_item(before, table.mark_of(start), start, commit);
+            ledger::fail(book, Actor::Node(node), Store::Table, made)
+        }
+        Err(StoreError::NoMemory) => Err(Stopped::NoMemory),
+    }
+}
+
+/// The start and the commit of a commit that was drawn and is not settled.
+fn to_place(held: &Option<Held>) -> Option<(Stamp, Stamp)>
+    ensures { result ≡ to_place_of held.now }
+{
+    match held {
+        Some(
+            Held {
+                request: Request::Commit { start, .. },
+                progress: Progress::Drawn { stamp },
+                ..
+            },
+        ) => Some((*start, *stamp)),
+        _ => None,
+    }
+}
+
+/// The commit is settled. It was drawn, so this is not refused.
+fn settle(instance: &mut Instance, session: SessionNo, how: Settled)
+    ensures { instance.new ≡ (instance_settle instance.old session how).left }
+{
+    let _ = instance.settle(session, how);
+}
+
+/// What a failed put made all the same: the transaction has an entry, and had none before.
+fn placed_item(before: Option<Mark>, now: Option<Mark>, start: Stamp, commit: Stamp) -> Option<Item>
+    ensures { made_items result ≡ placed_kept before now start commit }
+{
+    match (before, now) {
+        (None, Some(_)) => Some(Item::Placed { start, commit }),
+        _ => None,
+    }
+}

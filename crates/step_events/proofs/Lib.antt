@@ -1,0 +1,3 @@
+mod PlacedMarks
+mod SweepSteps
+mod WorkSteps

@@ -1,0 +1,73 @@
+-- The machine's step meets what is asked next, and then hears the answer, or that the store failed.
+use Rattle.std.proofs.Common.{◌≡◌, ℕ, List, [], ◌∷◌, ◌++◌, Option, None, Some, refl, sym, ◌∙◌, ap, append_assoc, subst}
+use Rattle.std.proofs.lemmas.Option.{none-some, same_Some}
+use Rattle.stamp_base.specs.declared.stores.Store.{Store}
+use Rattle.port_io.specs.declared.weather.Fate.{Fate}
+use Rattle.history_book.specs.declared.item.Actor.TheVariants.{Session}
+use Rattle.history_book.specs.declared.item.Item.{Item}
+use Rattle.store_parts.specs.Rows.{Row}
+use Rattle.store_parts.specs.Pairs.{Pairs}
+use Rattle.client_parts.specs.declared.asks.Ask.{Ask}
+use Rattle.client_parts.specs.declared.asks.Told.{Told}
+use Rattle.client_parts.specs.Resolve.{Settling, settle_ask}
+use Rattle.client_parts.specs.KeyRead.{Reading, read_ask}
+use Rattle.machine.specs.State.{UnderWay, Nothing, Reads, Settles, Completes, Client}
+use Rattle.machine.specs.Effect.{Effect, Faults}
+use Rattle.machine.specs.StoreSteps.{Met, met, store_of}
+use Rattle.machine.specs.Events.Step.{StepParts, step_at, stepped_on, step_failed, next_of, read_by, settle_by, complete_by}
+use Rattle.event_parts.specs.Made.{Leaves}
+use Rattle.step_events.specs.Meeting.{IsMet}
+use Rattle.event_parts.specs.Working.{client_told, told_items, client_failed}
+
+-- what a step comes to, by what it was told
+abbrev by_told : ℕ → Client → UnderWay → Ask → Met → Option Told → Effect StepParts
+by_told session c work asked m None = step_failed (client_failed c work) asked m
+by_told session c work asked m (Some answer) = stepped_on (client_told c work answer) m (told_items session c work answer)
+
+reads_by : (session : ℕ) (c : Client) (r : Reading) (m : Met) (told : Option Told) → read_by session c r m told ≡ by_told session c (Reads r) (read_ask r) m told
+reads_by session c r m None = refl
+reads_by session c r m (Some answer) = refl
+
+settles_by : (session : ℕ) (c : Client) (x : Settling) (m : Met) (told : Option Told) → settle_by session c x m told ≡ by_told session c (Settles x) (settle_ask x) m told
+settles_by session c x m None = refl
+settles_by session c x m (Some answer) = refl
+
+completes_by : (session : ℕ) (c : Client) (asked : Ask) (asks : List Ask) (m : Met) (told : Option Told) → complete_by c asked asks m told ≡ by_told session c (Completes (asked ∷ asks)) asked m told
+completes_by session c asked asks m None = refl
+completes_by session c asked asks m (Some answer) = refl
+
+-- the step that meets this ask
+abbrev by_met : ℕ → Fate → Client → List Row → Pairs → UnderWay → Ask → Effect StepParts
+by_met session fate c rows pairs work asked = by_told session c work asked (met (Session session) asked fate rows pairs) (met (Session session) asked fate rows pairs).told
+
+step_is : (session : ℕ) (fate : Fate) (c : Client) (rows : List Row) (pairs : Pairs) (work : UnderWay) (asked : Ask) → next_of work ≡ Some asked → step_at session fate c rows pairs work ≡ by_met session fate c rows pairs work asked
+step_is session fate c rows pairs Nothing asked is = elim (none-some asked is) [ ]
+step_is session fate c rows pairs (Reads r) asked is = reads_by session c r (met (Session session) (read_ask r) fate rows pairs) _ ∙ ap (by_met session fate c rows pairs (Reads r)) (same_Some _ _ is)
+step_is session fate c rows pairs (Settles x) asked is = settles_by session c x (met (Session session) (settle_ask x) fate rows pairs) _ ∙ ap (by_met session fate c rows pairs (Settles x)) (same_Some _ _ is)
+step_is session fate c rows pairs (Completes []) asked is = elim (none-some asked is) [ ]
+step_is session fate c rows pairs (Completes (first ∷ asks)) asked is = completes_by session c first asks (met (Session session) first fate rows pairs) _ ∙ ap (by_met session fate c rows pairs (Completes (first ∷ asks))) (same_Some _ _ is)
+
+left_parts : {a b : Client} {r s : List Row} {p q : Pairs} → a ≡ b → r ≡ s → p ≡ q → ◌≡◌ {A = StepParts} (a, r, p) (b, s, q)
+left_parts d e f = cc
+
+pub step_heard : (session : ℕ) (fate : Fate) (c c_now : Client) (rows rows_now : List Row) (pairs pairs_now : Pairs) (work : UnderWay) (asked : Ask) (answer : Told) (before between after : List Item) → next_of work ≡ Some asked → IsMet (met (Session session) asked fate rows pairs) rows_now pairs_now before between (Some answer) → c_now ≡ client_told c work answer → after ≡ between ++ told_items session c work answer → Leaves (step_at session fate c rows pairs work) (c_now, rows_now, pairs_now) before after None
+step_heard session fate c c_now rows rows_now pairs pairs_now work asked answer before between after is is_met of_client of_items =
+    let m : Met = met (Session session) asked fate rows pairs in
+    subst (λ (e : Effect StepParts). Leaves e (c_now, rows_now, pairs_now) before after None)
+    (sym (step_is session fate c rows pairs work asked is ∙ ap (by_told session c work asked m) is_met.told))
+    (record {
+      parts = left_parts of_client is_met.rows is_met.pairs;
+      items = of_items ∙ ap (λ (b : List Item). b ++ told_items session c work answer) is_met.items ∙ append_assoc before m.items (told_items session c work answer);
+      stop = refl;
+    })
+
+pub step_faulted : (session : ℕ) (fate : Fate) (c c_now : Client) (rows rows_now : List Row) (pairs pairs_now : Pairs) (work : UnderWay) (asked : Ask) (before after : List Item) (store : Store) → next_of work ≡ Some asked → IsMet (met (Session session) asked fate rows pairs) rows_now pairs_now before after None → c_now ≡ client_failed c work → store ≡ store_of asked → Leaves (step_at session fate c rows pairs work) (c_now, rows_now, pairs_now) before after (Some (Faults store))
+step_faulted session fate c c_now rows rows_now pairs pairs_now work asked before after store is is_met of_client of_store =
+    let m : Met = met (Session session) asked fate rows pairs in
+    subst (λ (e : Effect StepParts). Leaves e (c_now, rows_now, pairs_now) before after (Some (Faults store)))
+    (sym (step_is session fate c rows pairs work asked is ∙ ap (by_told session c work asked m) is_met.told))
+    (record {
+      parts = left_parts of_client is_met.rows is_met.pairs;
+      items = is_met.items;
+      stop = ap (λ s. Some (Faults s)) (sym of_store);
+    })

@@ -1,0 +1,12 @@
+//! The events that make one step of what is under way, a session's or the janitor's: each over the parts that it touches, exact
+//! to the machine's definition of it.
+#![tactic(auto)]
+
+mod asks;
+mod healing;
+mod stepping;
+mod sweeping;
+
+pub use healing::heal;
+pub use stepping::step;
+pub use sweeping::{sweep_open, sweep_step};

@@ -1,0 +1,80 @@
+// A session makes the next step of what it has under way.
+ghost use Rattle.std.specs.Prelude.{◌≡◌, ◌≤◌, ◌++◌, None, Some, IfSome};
+ghost use Rattle.client_parts.specs.Asks.{FitsNext};
+ghost use Rattle.client_parts.specs.Sweep.{IsKeys};
+ghost use Rattle.machine.specs.StoreSteps as steps;
+ghost use Rattle.machine.specs.Events.Step.{step_on, step_at, step_asks, next_of, work_of};
+ghost use Rattle.event_parts.specs.Made.{Makes, Asks, fate_ahead};
+ghost use Rattle.step_events.specs.Meeting.{KeepsShadow, KeepsShadowNext};
+ghost use Rattle.event_parts.specs.Working.{CanWork, MayStep};
+
+use crate::asks;
+use cell_store::Cells;
+use client_parts::Ask;
+use commit_table::{StoreError, Table};
+use event_parts::{Client, Stopped, ledger};
+use history_book::{Actor, Book};
+use port_io::Weather;
+use stamp_base::SessionNo;
+
+/// The session makes the next step of its read, of the resolve of its own commit, or of its completion: refused as gone or
+/// idle. A failed step ends a read without an answer, lets a resolve start over, and frees a session that completes.
+pub fn step<W: Weather>(
+    weather: &mut W,
+    book: &mut Book,
+    client: &mut Client,
+    cells: &mut Cells,
+    table: &mut Table,
+    session: SessionNo,
+) -> Result<(), Stopped>
+    requires work { MayStep client.old → CanWork (work_of client.old) client.old.entry }
+    requires shadow { MayStep client.old → KeepsShadowNext (next_of (work_of client.old)) cells.old.rows }
+    ensures made { Makes (step_on session (fate_ahead (step_asks client.old) (W.ahead weather.old)) client.old cells.old.rows table.old.pairs)
+        (client.old, cells.old.rows, table.old.pairs) (client.new, cells.new.rows, table.new.pairs) book.old.items book.new.items result }
+    ensures places { table.new.places ≡ table.old.places }
+    ensures asked { Asks result (step_asks client.old) (W.ahead weather.old) (W.ahead weather.new)
+        (W.faults weather.old) (W.faults weather.new) }
+{
+    if let Err(cause) = client.check_step() {
+        return ledger::refuse(book, Actor::Session(session), cause);
+    }
+    ledger::make_room(book, 2)?;
+    match client.next() {
+        None => Ok(()),
+        Some(ask) => step_asked(weather, book, client, cells, table, session, &ask),
+    }
+}
+
+#[tactic(auto, using(crate::proofs::WorkSteps::step_heard, crate::proofs::WorkSteps::step_faulted))]
+fn step_asked<W: Weather>(
+    weather: &mut W,
+    book: &mut Book,
+    client: &mut Client,
+    cells: &mut Cells,
+    table: &mut Table,
+    session: SessionNo,
+    ask: &Ask,
+) -> Result<(), Stopped>
+    requires room { 2 ≤ book.old.spare }
+    requires next { next_of (work_of client.old) ≡ Some ask.now }
+    requires no_listing { IsKeys ask.now → ⊥ }
+    requires work { CanWork (work_of client.old) client.old.entry }
+    requires shadow { KeepsShadow ask.now cells.old.rows }
+    ensures made { Makes (step_at session (W.ahead weather.old (steps.store_of ask.now) 0) client.old cells.old.rows table.old.pairs (work_of client.old))
+        (client.old, cells.old.rows, table.old.pairs) (client.new, cells.new.rows, table.new.pairs) book.old.items book.new.items result }
+    ensures places { table.new.places ≡ table.old.places }
+    ensures asked { Asks result (Some (steps.store_of ask.now)) (W.ahead weather.old) (W.ahead weather.new)
+        (W.faults weather.old) (W.faults weather.new) }
+{
+    match asks::meet(weather, book, Actor::Session(session), ask, cells, table) {
+        Ok(answer) => {
+            client.told(book, session, answer);
+            Ok(())
+        }
+        Err(StoreError::StoreFault) => {
+            client.failed();
+            Err(Stopped::Fault(asks::store_of(ask)))
+        }
+        Err(StoreError::NoMemory) => Err(Stopped::NoMemory),
+    }
+}
