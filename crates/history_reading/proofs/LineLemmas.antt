@@ -1,16 +1,34 @@
 -- How the lines of a history follow from their front, and what its items are.
-use Rattle.std.proofs.Common.{◌≡◌, ℕ, zero, suc, ◌+◌, ◌-◌, ◌<◌, ◌≤◌, Bool, true, false, cond, nat_lt, List, [], ◌∷◌, ◌++◌, append_assoc, None, Some, ◌⊎◌, inl, inr, length, take, drop, filter, refl, sym, ◌∙◌, subst, arith, add-one}
-use Rattle.std.specs.Prelude.{slice_get, IfSome, Result, Ok, Err, IfErr, IsErrAnd}
+use Rattle.std.proofs.Common.{◌≡◌, ℕ, zero, suc, ◌+◌, ◌-◌, ◌<◌, ◌≤◌, Bool, true, false, cond, nat_lt, List, [], ◌∷◌, ◌++◌, append_assoc, Option, None, Some, ◌⊎◌, inl, inr, length, take, drop, filter, refl, sym, ◌∙◌, subst, arith, add-one}
+use Rattle.std.specs.Prelude.{slice_index, slice_get, IfSome, Result, Ok, Err, IfErr, IsErrAnd}
 use Rattle.std.specs.List.{position, position_or_len}
 use Rattle.std.proofs.lemmas.List.Quantifiers.{position-Some}
 use Rattle.std.proofs.lemmas.List.Splits.{slice_split_first, slice_split_none}
 use Rattle.std.proofs.lemmas.List.Sums.{position_or_len_is, fails_before_first}
+use Rattle.std.proofs.lemmas.Bool.{le-ltb, lt-ltb}
 use Rattle.std.proofs.lemmas.Grind.{common_steps}
 use Rattle.std.proofs.lemmas.List.Elements.{filter-append}
+use Rattle.memchr.specs.Find.{IsFirstByte, Nowhere, Passes, is_byte}
 use Rattle.stamp_base.specs.declared.limits.TheConstants.{BYTE_LIMIT}
 use Rattle.history_reading.specs.declared.history.HistoryFault.{HistoryFault}
 use Rattle.history_reading.specs.declared.history.HistoryFault.TheVariants.{At, NoMemory}
 use Rattle.history_reading.specs.History.{is_line_feed, lines_of, says_something, IsNoItem, IsFaultAt, IsFaultOf}
+
+-- a search for the first line feed
+unmarked : (b : Bool) → (b ≡ true → ⊥) → b ≡ false
+unmarked true no_mark = absurd (no_mark refl)
+unmarked false no_mark = refl
+
+none_below : (bytes : List ℕ) (n : ℕ) → Nowhere (Passes (is_byte 10) bytes) 0 n → (k : ℕ) → k < n → is_line_feed (slice_index bytes k) ≡ false
+none_below bytes n nowhere k below = unmarked (is_line_feed (slice_index bytes k)) (nowhere k (omega arith) below)
+
+pub first_feed-is : (bytes : List ℕ) (r : Option ℕ) → IsFirstByte (is_byte 10) bytes r → r ≡ position is_line_feed bytes
+first_feed-is bytes None nowhere =
+    let at : position_or_len is_line_feed bytes ≡ length bytes = position_or_len_is is_line_feed bytes (length bytes) 0 (omega arith) (none_below bytes (length bytes) nowhere) (λ h. absurd (omega (arith, h))) in
+    rw (at, le-ltb (length bytes) (length bytes) (omega arith)) refl
+first_feed-is bytes (Some end) found =
+    let at : position_or_len is_line_feed bytes ≡ end = position_or_len_is is_line_feed bytes end 0 (omega (arith, found.0.high)) (none_below bytes end found.0.before) (λ _. found.1) in
+    rw (at, lt-ltb end (length bytes) found.0.high) refl
 
 -- the first line ends at the first line feed
 pub lines-front : (bytes : List ℕ) (end : ℕ) → position is_line_feed bytes ≡ Some end → lines_of bytes ≡ take end bytes ∷ lines_of (drop (end + 1) bytes)

@@ -7,6 +7,7 @@ ghost use Rattle.history_reading.specs.History.{is_line_feed, lines_of, says_som
 
 use crate::read_item;
 use history_book::Item;
+use memchr::memchr;
 use stamp_base::BYTE_LIMIT;
 use std::alloc::{AllocError, Global};
 
@@ -90,5 +91,5 @@ fn line_end(bytes: &[u8]) -> Option<usize>
     ensures place { result ≡ position is_line_feed bytes.now }
     ensures within { IfSome result (λ end. end < length bytes.now) }
 {
-    bytes.iter().position(|b| *b == b'\n')
+    memchr(b'\n', bytes)
 }

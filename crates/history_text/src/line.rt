@@ -66,13 +66,18 @@ impl LineBuf {
     }
 
     /// Adds a number, of 20 digits at most.
+    #[tactic(auto, using(std::proofs::lemmas::Fmt::decimal_digit))]
     pub fn push_number(&mut self, number: u64)
         requires { length self.old + 20 ≤ 256 }
         ensures text { self.new ≡ self.old ++ decimal number }
         ensures len { length self.new ≤ length self.old + 20 }
     {
-        let mut buffer = itoa::Buffer::new();
-        self.push_text(buffer.format(number).as_bytes());
+        if number < 10 {
+            self.push_text(&[b'0' + number as u8]);
+        } else {
+            let mut buffer = itoa::Buffer::new();
+            self.push_text(buffer.format(number).as_bytes());
+        }
     }
 
     /// Adds a name and the number that it has.

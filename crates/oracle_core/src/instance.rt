@@ -1,4 +1,4 @@
-ghost use Rattle.std.specs.Prelude.{◌≡◌, ◌≤◌, ◌^◌, ◌↔◌, IfOk, IsTrue, Ok, None, Some, length};
+ghost use Rattle.std.specs.Prelude.{◌≡◌, ◌≤◌, ◌^◌, ◌↔◌, IfOk, IfSome, IsTrue, Ok, None, Some, length};
 ghost use Rattle.stamp_base.specs.Ranges.{IsStampRange};
 ghost use Rattle.oracle_parts.specs.Buckets as memory;
 ghost use Rattle.oracle_parts.specs.Instance as entry;
@@ -151,35 +151,35 @@ impl Instance {
     pub fn request_of(&self, session: SessionNo) -> Option<(Request, Place)>
         ensures { result ≡ entry.request_at self.now session }
     {
-        requests::request_of(&self.held(session))
+        requests::request_of(&self.requests[session.index()])
     }
 
     /// Where the request of a session stands. None exactly where the session has none.
     pub fn place(&self, session: SessionNo) -> Option<Place>
         ensures { result ≡ entry.place_at self.now session }
     {
-        requests::place_of(&self.held(session))
+        requests::place_of(&self.requests[session.index()])
     }
 
     /// The start of a session's request and, of a commit, the commit. None exactly where nothing was drawn for it.
     pub fn drawn(&self, session: SessionNo) -> Option<(Stamp, Option<Stamp>)>
         ensures { result ≡ entry.stamps_at self.now session }
     {
-        requests::stamps_of(&self.held(session))
+        requests::stamps_of(&self.requests[session.index()])
     }
 
     /// Whether the session has a request that was refused as NoStamp before.
     pub fn told_no_stamp(&self, session: SessionNo) -> bool
         ensures { result ≡ entry.was_told_no_stamp self.now session }
     {
-        requests::told_no_stamp(&self.held(session))
+        requests::told_no_stamp(&self.requests[session.index()])
     }
 
     /// Whether the session has a request that was refused as NotYet before.
     pub fn told_not_yet(&self, session: SessionNo) -> bool
         ensures { result ≡ entry.was_told_not_yet self.now session }
     {
-        requests::told_not_yet(&self.held(session))
+        requests::told_not_yet(&self.requests[session.index()])
     }
 
     /// Takes a slot for the request. Refused as Full exactly where all slots are taken.
@@ -206,14 +206,25 @@ impl Instance {
         ensures left { self.new ≡ (step.instance_accept self.old session reading).left }
         ensures answer { result ≡ (step.instance_accept self.old session reading).answer }
     {
-        match self.held(session) {
+        let refusal = match &self.requests[session.index()] {
             Some(
-                held @ Held {
+                Held {
+                    request,
                     progress: Progress::Asked,
                     ..
                 },
-            ) => self.accept_asked(session, held, reading),
-            _ => Err(Cause::NoRequest { session }),
+            ) => self.accept_refusal(request, reading),
+            _ => return Err(Cause::NoRequest { session }),
+        };
+        match refusal {
+            None => {
+                self.advance(session, Progress::Accepted);
+                Ok(())
+            }
+            Some(cause) => {
+                self.end(session);
+                Err(cause)
+            }
         }
     }
 
@@ -225,14 +236,26 @@ impl Instance {
         ensures left { self.new ≡ (step.instance_decide self.old session).left }
         ensures answer { result ≡ (step.instance_decide self.old session).answer }
     {
-        match self.held(session) {
+        let verdict = match &self.requests[session.index()] {
             Some(
-                held @ Held {
+                Held {
+                    request,
                     progress: Progress::Accepted,
                     ..
                 },
-            ) => self.decide_accepted(session, held),
-            _ => Err(Cause::NoRequest { session }),
+            ) => self.verdict(request),
+            _ => return Err(Cause::NoRequest { session }),
+        };
+        match verdict {
+            Verdict::Free => self.decide_free(session),
+            Verdict::Conflict { key, by } => {
+                self.end(session);
+                Err(Cause::Conflict { key, by })
+            }
+            Verdict::Hidden { key, water } => {
+                self.end(session);
+                Err(Cause::Hidden { key, water })
+            }
         }
     }
 
@@ -241,8 +264,11 @@ impl Instance {
         ensures left { self.new ≡ (step.instance_settle self.old session how).left }
         ensures answer { result ≡ (step.instance_settle self.old session how).answer }
     {
-        match self.held(session) {
-            Some(held) => self.settle_held(session, held, how),
+        match requests::unsettled_of(&self.requests[session.index()]) {
+            Some(commit) => {
+                self.advance(session, Progress::Settled { commit, how });
+                Ok(())
+            }
             None => Err(Cause::NoRequest { session }),
         }
     }
@@ -254,15 +280,17 @@ impl Instance {
         ensures left { self.new ≡ (step.instance_answer self.old session).left }
         ensures answer { result ≡ (step.instance_answer self.old session).answer }
     {
-        let found = self.held(session);
-        match &found {
+        match &self.requests[session.index()] {
             Some(
-                held @ Held {
+                Held {
                     request: Request::Begin { .. },
                     progress: Progress::Drawn { stamp },
                     ..
                 },
-            ) => self.answer_begin(session, *held, *stamp),
+            ) => {
+                let start = *stamp;
+                self.answer_begin(session, start)
+            }
             Some(
                 Held {
                     request: Request::Commit { .. },
@@ -270,8 +298,9 @@ impl Instance {
                     ..
                 },
             ) => {
+                let reply = reply_of(*commit, *how);
                 self.end(session);
-                Ok(reply_of(*commit, *how))
+                Ok(reply)
             }
             _ => Err(Cause::NoRequest { session }),
         }
@@ -302,22 +331,6 @@ impl Instance {
         }
     }
 
-    fn accept_asked(&mut self, session: SessionNo, held: Held, reading: u64) -> Result<(), Cause>
-        ensures left { self.new ≡ (step.accept_unless self.old session held (step.accept_refusal self.old reading held.request)).left }
-        ensures answer { result ≡ (step.accept_unless self.old session held (step.accept_refusal self.old reading held.request)).answer }
-    {
-        match self.accept_refusal(&held.request, reading) {
-            None => {
-                self.advance(session, held, Progress::Accepted);
-                Ok(())
-            }
-            Some(cause) => {
-                self.end(session);
-                Err(cause)
-            }
-        }
-    }
-
     /// Why a request that was asked is not accepted.
     fn accept_refusal(&self, request: &Request, reading: u64) -> Option<Cause>
         ensures { result ≡ step.accept_refusal self.now reading request.now }
@@ -337,23 +350,6 @@ impl Instance {
         }
     }
 
-    fn decide_accepted(&mut self, session: SessionNo, held: Held) -> Result<Decided, Cause>
-        ensures left { self.new ≡ (step.decide_by self.old session held (step.request_verdict self.old.buckets held.request)).left }
-        ensures answer { result ≡ (step.decide_by self.old session held (step.request_verdict self.old.buckets held.request)).answer }
-    {
-        match self.verdict(&held.request) {
-            Verdict::Free => self.decide_free(session, held),
-            Verdict::Conflict { key, by } => {
-                self.end(session);
-                Err(Cause::Conflict { key, by })
-            }
-            Verdict::Hidden { key, water } => {
-                self.end(session);
-                Err(Cause::Hidden { key, water })
-            }
-        }
-    }
-
     fn verdict(&self, request: &Request) -> Verdict
         ensures { result ≡ step.request_verdict self.now.buckets request.now }
     {
@@ -363,29 +359,25 @@ impl Instance {
         }
     }
 
-    fn decide_free(&mut self, session: SessionNo, held: Held) -> Result<Decided, Cause>
-        ensures left { self.new ≡ (step.decide_free self.old session held).left }
-        ensures answer { result ≡ (step.decide_free self.old session held).answer }
+    fn decide_free(&mut self, session: SessionNo) -> Result<Decided, Cause>
+        ensures left { IfSome (entry.held_of self.old session) (λ held. self.new ≡ (step.decide_free self.old session held).left) }
+        ensures answer { IfSome (entry.held_of self.old session) (λ held. result ≡ (step.decide_free self.old session held).answer) }
     {
         match self.range.draw() {
-            Some(stamp) => Ok(self.decide_drawn(session, held, stamp)),
-            None => self.out_of_stamps(session, held),
+            Some(stamp) => Ok(self.decide_drawn(session, stamp)),
+            None => self.out_of_stamps(session),
         }
     }
 
-    fn out_of_stamps(&mut self, session: SessionNo, held: Held) -> Result<Decided, Cause>
-        ensures left { self.new ≡ (step.out_of_stamps self.old session held self.old.stop).left }
-        ensures answer { result ≡ (step.out_of_stamps self.old session held self.old.stop).answer }
+    fn out_of_stamps(&mut self, session: SessionNo) -> Result<Decided, Cause>
+        ensures left { IfSome (entry.held_of self.old session) (λ held. self.new ≡ (step.out_of_stamps self.old session held self.old.stop).left) }
+        ensures answer { IfSome (entry.held_of self.old session) (λ held. result ≡ (step.out_of_stamps self.old session held self.old.stop).answer) }
     {
         match self.stop {
             None => {
-                self.put(
-                    session,
-                    Held {
-                        told_no_stamp: true,
-                        ..held
-                    },
-                );
+                if let Some(held) = &mut self.requests[session.index()] {
+                    held.told_no_stamp = true;
+                }
                 Err(Cause::NoStamp {
                     last: self.range.last(),
                 })
@@ -397,43 +389,32 @@ impl Instance {
         }
     }
 
-    /// The stamp was drawn for the request.
-    fn decide_drawn(&mut self, session: SessionNo, held: Held, stamp: Stamp) -> Decided
-        requires { self.old.last ≡ stamp }
-        ensures left { self.new ≡ (step.decide_drawn self.old session held stamp).left }
-        ensures answer { Ok result ≡ (step.decide_drawn self.old session held stamp).answer }
-    {
-        self.record(&held.request, stamp);
-        self.advance(session, held, Progress::Drawn { stamp });
-        requests::decided_by(&held.request, stamp)
-    }
-
-    /// The keys of a commit are recorded with its stamp.
+    /// The stamp was drawn for the request. The keys of a commit are recorded with it.
     #[tactic(auto, unfolding(oracle_parts::specs::Buckets::record_pairs))]
-    fn record(&mut self, request: &Request, stamp: Stamp)
-        ensures { self.new ≡ record self.old { buckets = memory.record_pairs self.old.buckets (step.pairs_by request.now stamp) } }
+    fn decide_drawn(&mut self, session: SessionNo, stamp: Stamp) -> Decided
+        requires { self.old.last ≡ stamp }
+        ensures left { IfSome (entry.held_of self.old session) (λ held. self.new ≡ (step.decide_drawn self.old session held stamp).left) }
+        ensures answer { IfSome (entry.held_of self.old session) (λ held. Ok result ≡ (step.decide_drawn self.old session held stamp).answer) }
     {
-        if let Request::Commit { keys, .. } = request {
-            self.buckets.keep(keys, stamp);
-        }
-    }
-
-    fn settle_held(&mut self, session: SessionNo, held: Held, how: Settled) -> Result<(), Cause>
-        ensures left { self.new ≡ (step.settle_if_drawn self.old session how held (entry.unsettled_by held.request held.progress)).left }
-        ensures answer { result ≡ (step.settle_if_drawn self.old session how held (entry.unsettled_by held.request held.progress)).answer }
-    {
-        match requests::unsettled_commit(&held) {
-            Some(commit) => {
-                self.advance(session, held, Progress::Settled { commit, how });
-                Ok(())
+        let decided = match &self.requests[session.index()] {
+            Some(
+                Held {
+                    request: Request::Commit { keys, .. },
+                    ..
+                },
+            ) => {
+                self.buckets.keep(keys, stamp);
+                Decided::Drawn(stamp)
             }
-            None => Err(Cause::NoRequest { session }),
-        }
+            _ => Decided::Started(stamp),
+        };
+        self.advance(session, Progress::Drawn { stamp });
+        decided
     }
 
-    fn answer_begin(&mut self, session: SessionNo, held: Held, start: Stamp) -> Result<Reply, Cause>
-        ensures left { self.new ≡ (step.answer_begin self.old session held start (entry.least_unsettled self.old.requests start)).left }
-        ensures answer { result ≡ (step.answer_begin self.old session held start (entry.least_unsettled self.old.requests start)).answer }
+    fn answer_begin(&mut self, session: SessionNo, start: Stamp) -> Result<Reply, Cause>
+        ensures left { IfSome (entry.held_of self.old session) (λ held. self.new ≡ (step.answer_begin self.old session held start (entry.least_unsettled self.old.requests start)).left) }
+        ensures answer { IfSome (entry.held_of self.old session) (λ held. result ≡ (step.answer_begin self.old session held start (entry.least_unsettled self.old.requests start)).answer) }
     {
         match requests::least_unsettled(&self.requests, start) {
             None => {
@@ -444,23 +425,21 @@ impl Instance {
                 })
             }
             Some(commit) => {
-                self.put(
-                    session,
-                    Held {
-                        told_not_yet: true,
-                        ..held
-                    },
-                );
+                if let Some(held) = &mut self.requests[session.index()] {
+                    held.told_not_yet = true;
+                }
                 Err(Cause::NotYet { commit })
             }
         }
     }
 
     /// The request that is held has come this far.
-    fn advance(&mut self, session: SessionNo, held: Held, progress: Progress)
-        ensures { self.new ≡ step.moved self.old session held progress }
+    fn advance(&mut self, session: SessionNo, progress: Progress)
+        ensures { IfSome (entry.held_of self.old session) (λ held. self.new ≡ step.moved self.old session held progress) }
     {
-        self.put(session, Held { progress, ..held });
+        if let Some(held) = &mut self.requests[session.index()] {
+            held.progress = progress;
+        }
     }
 
     /// The session has this request from now on.

@@ -3,7 +3,7 @@ ghost use Rattle.std.specs.Prelude.{◌≡◌, ℕ, List};
 ghost use Rattle.oracle_parts.specs.Instance as entry;
 ghost use Rattle.oracle_parts.specs.InstanceSteps as step;
 
-use oracle_parts::{Decided, Held, Place, Progress, Request};
+use oracle_parts::{Held, Place, Progress, Request};
 use stamp_base::{SessionNo, Stamp};
 
 pub fn session_of(request: &Request) -> SessionNo
@@ -24,16 +24,6 @@ pub fn just_asked(request: Request) -> Held
         progress: Progress::Asked,
         told_no_stamp: false,
         told_not_yet: false,
-    }
-}
-
-/// What a stamp is to a request.
-pub fn decided_by(request: &Request, stamp: Stamp) -> Decided
-    ensures { result ≡ step.decided_by request.now stamp }
-{
-    match request {
-        Request::Begin { .. } => Decided::Started(stamp),
-        Request::Commit { .. } => Decided::Drawn(stamp),
     }
 }
 
@@ -127,6 +117,16 @@ pub fn unsettled_commit(held: &Held) -> Option<Stamp>
             ..
         } => Some(*stamp),
         _ => None,
+    }
+}
+
+/// The commit of the request that is held, where it is drawn and not settled.
+pub fn unsettled_of(held: &Option<Held>) -> Option<Stamp>
+    ensures { result ≡ entry.unsettled_commit held.now }
+{
+    match held {
+        None => None,
+        Some(held) => unsettled_commit(held),
     }
 }
 

@@ -3,6 +3,7 @@ ghost use Rattle.std.specs.Prelude.{◌≡◌, ◌<◌, ◌≤◌, length, IfSom
 ghost use Rattle.script_lines.specs.Arguments.{is_digit, leads_well, spelled_from, number_of, number_behind, session_of, key_of, node_of, value_of, name_of, actor_of};
 ghost use Rattle.script_data.specs.Sound.{actor_needs};
 
+use crate::tables::is_same;
 use history_book::Actor;
 use stamp_base::{KeyNo, Name, NodeNo, SessionNo, Setup, Value};
 
@@ -11,10 +12,10 @@ pub fn actor_of(setup: &Setup, word: &[u8]) -> Option<Actor>
     ensures actor { result ≡ actor_of setup.now.nodes word.now }
     ensures there { IfSome result (λ actor. actor_needs actor ≤ setup.now.nodes) }
 {
-    if word == b"clock".as_slice() {
+    if is_same(word, b"clock") {
         return Some(Actor::Clock);
     }
-    if word == b"janitor".as_slice() {
+    if is_same(word, b"janitor") {
         return Some(Actor::Janitor);
     }
     if let Some(node) = node_of(setup, word) {

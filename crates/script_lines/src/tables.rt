@@ -1,5 +1,6 @@
 // The words that name a form, a stage, a store or how a call fails.
 ghost use Rattle.std.specs.Prelude.{◌≡◌, map};
+ghost use Rattle.std.specs.Str.{bytes_eq};
 ghost use Rattle.script_lines.specs.Grammar.{named, stages, stores, kinds, setup_forms, clock_forms, janitor_forms, node_forms, session_forms, verb_forms};
 
 use crate::form::{SetupForm, VerbForm};
@@ -134,9 +135,28 @@ fn look_up<T: Copy>(table: &[(&str, T)], word: &[u8]) -> Option<T>
     ensures { result ≡ named (map (λ row. (row.0.now, row.1)) table.now) word.now }
 {
     for (text, meaning) in table {
-        if word == text.as_bytes() {
+        if is_same(word, text.as_bytes()) {
             return Some(*meaning);
         }
     }
     None
+}
+
+/// Whether a word is a text. Most words that are not have another length, or differ in the first byte.
+pub fn is_same(word: &[u8], text: &[u8]) -> bool
+    ensures { result ≡ bytes_eq word.now text.now }
+{
+    if word.len() != text.len() {
+        return false;
+    }
+    let mut left = text;
+    let mut rest = word;
+    while let [t, more @ ..] = left {
+        match rest {
+            [b, after @ ..] if t == b => rest = after,
+            _ => return false,
+        }
+        left = more;
+    }
+    rest.is_empty()
 }

@@ -37,10 +37,20 @@ fn word_len(bytes: &[u8]) -> usize
     len
 }
 
+/// Whether the bytes are the word. Most bytes that are not differ in the first place, so this stops there.
 pub fn is_word(bytes: &[u8], word: &[u8]) -> bool
     ensures { result ≡ is_word word.now bytes.now }
 {
-    bytes == word
+    let mut left = word;
+    let mut rest = bytes;
+    while let [w, more @ ..] = left {
+        match rest {
+            [b, after @ ..] if w == b => rest = after,
+            _ => return false,
+        }
+        left = more;
+    }
+    rest.is_empty()
 }
 
 #[tactic(auto, unfolding(crate::specs::ReadWords::after_text))]
