@@ -4,6 +4,7 @@ ghost use Rattle.stamp_base.specs.declared.limits.TheConstants.{LINE_LIMIT};
 ghost use Rattle.stamp_base.specs.Setups.{numbers_of};
 ghost use Rattle.session_script.specs.Script.{data_of};
 ghost use Rattle.line_runs.specs.Answers.{Answers};
+ghost use Rattle.line_runs.specs.Planned.{Planned};
 ghost use Rattle.line_runs.specs.Runs.{replayed};
 ghost use Rattle.replay_driver.specs.Playing.{IsPlayedTo, SessionIsThere};
 
@@ -11,6 +12,7 @@ use crate::play::Play;
 use cluster_core::Cluster;
 use history_book::Actor;
 use line_runs::{Point, events_lower_what_is_left, follows, lines_are_answered};
+use planned_laws::scripts_are_planned;
 use port_io::{PlannedWeather, Weather};
 use session_script::Script;
 use stamp_base::{LINE_LIMIT, NoMemory};
@@ -22,9 +24,11 @@ pub fn replay(alloc: Global, script: &Script) -> Result<Cluster, NoMemory>
     requires { vec_len script.now.lines ≤ LINE_LIMIT }
     ensures history { IfOk result (λ cluster. cluster.history ≡ replayed (data_of script.now)) }
     ensures answered { IfOk result (λ cluster. Answers (data_of script.now) cluster.history) }
+    ensures planned { IfOk result (λ cluster. Planned (data_of script.now) cluster.history) }
     ensures setup { IfOk result (λ cluster. cluster.state.setup ≡ numbers_of script.now.setup) }
 {
     lines_are_answered();
+    scripts_are_planned();
     let mut play = Play::open(alloc, script.setup, &script.faults)?;
     for place in 0..script.lines.len() {
         see_session(&script.lines[place].actor);

@@ -2,6 +2,7 @@ use Rattle.std.proofs.Common.{ap, ◌∙◌, ◌+◌, arith, List, subst, sym}
 use Rattle.port_io.specs.Planned.{PlannedFault, planned_fate}
 use Rattle.history_book.specs.declared.item.Item.{Item}
 use Rattle.line_runs.specs.Answers.{Answers}
+use Rattle.line_runs.specs.Planned.{Planned}
 use Rattle.machine.specs.State.{State}
 use Rattle.session_script.specs.Script.{data_of}
 use Rattle.replay_driver.proofs.Counting.{opens, none_played, playable_at_first, all_played}
@@ -36,8 +37,10 @@ returns c =
     let script = data_of c.args.script.now in
     let at = c.loop-place.invariant.played in
     let history = all_played script c.loop-place.place _ _ _ (omega (arith, c.loop-place-test.false, c.args.script.now.lines.ok)) at in
+    let playable = playable_at_first script c.args.script.now.sound (omega (arith, c.requires, c.args.script.now.lines.ok)) in
     record {
       history = history;
-      answered = subst (λ (h : List Item). Answers script h) (sym history) (c.lines_are_answered.ensures script c.args.script.now.sound.setup (playable_at_first script c.args.script.now.sound (omega (arith, c.requires, c.args.script.now.lines.ok))) (lines_fit script.setup script.lines c.args.script.now.sound.lines (λ k d below here. c.loop-place.invariant.there k d (omega (arith, below, c.loop-place-test.false, c.args.script.now.lines.ok)) here)));
+      answered = subst (λ (h : List Item). Answers script h) (sym history) (c.lines_are_answered.ensures script c.args.script.now.sound.setup playable (lines_fit script.setup script.lines c.args.script.now.sound.lines (λ k d below here. c.loop-place.invariant.there k d (omega (arith, below, c.loop-place-test.false, c.args.script.now.lines.ok)) here)));
+      planned = subst (λ (h : List Item). Planned script h) (sym history) (c.scripts_are_planned.ensures script c.args.script.now.sound.setup playable);
       setup = ap (λ (w : State). w.setup) at.stands.state ∙ at.reached.setup;
     }
