@@ -1,0 +1,9 @@
+mod OwnEvents
+mod SeatLists
+mod StillReading
+mod OwnSessions
+mod WalksOn
+mod OwnWalks
+mod OwnTimes
+mod OwnTurns
+mod Passing

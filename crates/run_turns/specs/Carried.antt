@@ -21,7 +21,7 @@ use Rattle.run_turns.specs.declared.seat.Holds.{Holds}
 use Rattle.run_turns.specs.declared.seat.Seat.{Seat}
 use Rattle.run_turns.specs.declared.turn.Turn.{Turn}
 use Rattle.run_turns.specs.declared.turn.Turn.TheVariants as turn
-use Rattle.run_turns.specs.Seats.{first_seats, lines_left, present_line, ahead_of, passed, with_event_at}
+use Rattle.run_turns.specs.Seats.{first_seats, lines_left, present_line, is_posted, ahead_of, passed, with_event_at}
 
 -- what was carried out so far: state, history, clock and calls, the names that are posted, the stages that are held node by
 -- node, and how far each actor has come
@@ -33,7 +33,7 @@ pub record Carried : Type 0 where
 
 -- ---- names and stages
 abbrev pub names_after : List (List ℕ) → Event → List (List ℕ)
-names_after names (event.Note actor (note.Post name)) = names ++ name ∷ []
+names_after names (event.Note actor (note.Post name)) = if is_posted names name then names else names ++ name ∷ []
 names_after names _ = names
 
 abbrev pub none_held : Holds

@@ -32,7 +32,7 @@ use Rattle.run_turns.specs.Carried.{Carried, seat_of, carried, carried_items, Ar
 -- each event of an own turn lowers what is left of its line, in every state that is reached, under every fate
 abbrev pub OwnEventsLowerWhatIsLeft : Type 0
 OwnEventsLowerWhatIsLeft =
-    (w : State) (h : List Item) (clocks : Clocks) (names : List (List ℕ)) (actor : Actor) (verb : Verb) (point : Point) (unawaited : Bool) (e : Event) (fate : Fate) → Stands w h → own_next clocks names actor verb point (view_of w actor) unawaited ≡ Makes e →
+    (w : State) (h : List Item) (clocks : Clocks) (posted : Bool) (actor : Actor) (verb : Verb) (point : Point) (unawaited : Bool) (e : Event) (fate : Fate) → Stands w h → own_next clocks posted actor verb point (view_of w actor) unawaited ≡ Makes e →
     left (stepped w e fate).state actor verb (follows verb point (halt_of (stepped w e fate).stop)) < left w actor verb point
 
 -- ---- all facts hold, whichever turns were made

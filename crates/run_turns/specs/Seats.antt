@@ -1,6 +1,7 @@
 -- How far the actors have come with their lines.
 use Rattle.std.specs.Prelude.{ℕ, zero, suc, ◌+◌, Bool, true, false, ◌||◌, List, [], ◌∷◌, ◌++◌, drop, filter, slice_get, Option, None, Some}
 use Rattle.std.specs.List.{list_any}
+use Rattle.std.specs.Str.{bytes_eq}
 use Rattle.stamp_base.specs.SetupNumbers.{SetupNumbers}
 use Rattle.history_book.specs.declared.item.Actor.{Actor}
 use Rattle.history_book.specs.declared.item.Actor.TheVariants.{Clock, Node, Session, Janitor}
@@ -53,8 +54,16 @@ still_unawaited _ unawaited = unawaited
 abbrev pub with_next_line : Line → Seat → Seat
 with_next_line line seat = record { actor = seat.actor; place = seat.place + 1; point = Opens; unawaited = still_unawaited line.verb seat.unawaited }
 
+abbrev pub is_posted : List (List ℕ) → List ℕ → Bool
+is_posted names name = list_any (bytes_eq name) names
+
+-- the name that a line awaits is posted
+abbrev pub name_posted : List (List ℕ) → Verb → Bool
+name_posted names (verb.Await name) = is_posted names name
+name_posted names _ = true
+
 abbrev pub ahead_of : Clocks → List (List ℕ) → View → Line → Seat → Ahead
-ahead_of clocks names view line seat = own_next clocks names line.actor line.verb seat.point view seat.unawaited
+ahead_of clocks names view line seat = own_next clocks (name_posted names line.verb) line.actor line.verb seat.point view seat.unawaited
 
 abbrev pub if_passed : Ahead → Seat → Seat → Seat
 if_passed Passes on here = on
