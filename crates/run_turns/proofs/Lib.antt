@@ -6,4 +6,6 @@ mod WalksOn
 mod OwnWalks
 mod OwnTimes
 mod OwnTurns
-mod Passing
+mod SeatsOn
+mod PassLines
+mod Facts

@@ -1,7 +1,6 @@
 -- How far the actors have come with their lines.
-use Rattle.std.specs.Prelude.{ℕ, zero, suc, ◌+◌, Bool, true, false, ◌||◌, List, [], ◌∷◌, ◌++◌, drop, filter, slice_get, Option, None, Some}
+use Rattle.std.specs.Prelude.{if◌then◌else◌, ℕ, zero, suc, ◌+◌, Bool, true, false, ◌||◌, List, [], ◌∷◌, ◌++◌, drop, filter, slice_get, Option, None, Some}
 use Rattle.std.specs.List.{list_any}
-use Rattle.std.specs.Str.{bytes_eq}
 use Rattle.stamp_base.specs.SetupNumbers.{SetupNumbers}
 use Rattle.history_book.specs.declared.item.Actor.{Actor}
 use Rattle.history_book.specs.declared.item.Actor.TheVariants.{Clock, Node, Session, Janitor}
@@ -54,25 +53,19 @@ still_unawaited _ unawaited = unawaited
 abbrev pub with_next_line : Line → Seat → Seat
 with_next_line line seat = record { actor = seat.actor; place = seat.place + 1; point = Opens; unawaited = still_unawaited line.verb seat.unawaited }
 
-abbrev pub is_posted : List (List ℕ) → List ℕ → Bool
-is_posted names name = list_any (bytes_eq name) names
+abbrev pub ahead_of : Clocks → Bool → View → Line → Seat → Ahead
+ahead_of clocks posted view line seat = own_next clocks posted line.actor line.verb seat.point view seat.unawaited
 
--- the name that a line awaits is posted
-abbrev pub name_posted : List (List ℕ) → Verb → Bool
-name_posted names (verb.Await name) = is_posted names name
-name_posted names _ = true
+-- nothing is left to do
+abbrev pub is_passed : Ahead → Bool
+is_passed Passes = true
+is_passed _ = false
 
-abbrev pub ahead_of : Clocks → List (List ℕ) → View → Line → Seat → Ahead
-ahead_of clocks names view line seat = own_next clocks (name_posted names line.verb) line.actor line.verb seat.point view seat.unawaited
-
-abbrev pub if_passed : Ahead → Seat → Seat → Seat
-if_passed Passes on here = on
-if_passed _ on here = here
-
--- the seat once each line with nothing left to do is passed, these lines being ahead of it
-unfoldable pub passed : Clocks → List (List ℕ) → View → List Line → Seat → Seat
-passed clocks names view [] seat = seat
-passed clocks names view (line ∷ lines) seat = if_passed (ahead_of clocks names view line seat) (passed clocks names view lines (with_next_line line seat)) seat
+-- the seat once each line with nothing left to do is passed, these lines being ahead of it; a line that awaits a name is not
+-- passed, whether or not the name is posted
+unfoldable pub passed : Clocks → View → List Line → Seat → Seat
+passed clocks view [] seat = seat
+passed clocks view (line ∷ lines) seat = if is_passed (ahead_of clocks true view line seat) then passed clocks view lines (with_next_line line seat) else seat
 
 -- ---- an event of the seat's line
 abbrev pub is_ask : Item → Bool

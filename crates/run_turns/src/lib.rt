@@ -3,9 +3,13 @@
 #![tactic(auto)]
 
 mod ahead;
+mod choosing;
+mod passing;
 mod seat;
 mod turn;
 
 pub use ahead::{Ahead, Why};
+pub use choosing::own_event;
+pub use passing::pass;
 pub use seat::{Holds, Seat};
 pub use turn::Turn;

@@ -17,28 +17,32 @@ use Rattle.run_turns.specs.declared.ahead.Ahead.TheVariants.{Makes, Waits, Passe
 use Rattle.run_turns.specs.declared.seat.Seat.{Seat}
 use Rattle.run_turns.specs.declared.turn.Turn.{Turn}
 use Rattle.run_turns.specs.declared.turn.Turn.TheVariants as turn
-use Rattle.run_turns.specs.Seats.{lines_of, lines_left, present_line, with_next_line, ahead_of, if_passed, passed, with_event_at}
+use Rattle.run_turns.specs.Seats.{lines_of, lines_left, present_line, with_next_line, ahead_of, is_passed, passed, with_event_at}
 use Rattle.run_turns.specs.Carried.{Carried, seat_of, moved, with_event, seat_passed, all_passed}
 use Rattle.run_turns.proofs.SeatLists.{find_map, drop_next}
 
 -- ---- passing
-passed_by : (P : Seat → Type 0) (ahead : Ahead) (on here : Seat) → (ahead ≡ Passes → P on) → P here → P (if_passed ahead on here)
-passed_by P Passes on here goes stays = goes refl
-passed_by P (Makes e) on here goes stays = stays
-passed_by P (Waits why) on here goes stays = stays
+only_passes : (ahead : Ahead) → is_passed ahead ≡ true → ahead ≡ Passes
+only_passes Passes is = refl
+only_passes (Makes e) is = absurd (cc)
+only_passes (Waits why) is = absurd (cc)
+
+passed_by : (P : Seat → Type 0) (passes : Bool) (on here : Seat) → (passes ≡ true → P on) → P here → P (cond passes on here)
+passed_by P true on here goes stays = goes refl
+passed_by P false on here goes stays = stays
 
 -- what holds of a seat and its lines holds once lines are passed, where each that is passed keeps it
-abbrev pub PassKeeps : ScriptData → Clocks → List (List ℕ) → View → (Seat → List Line → Type 0) → Type 0
-PassKeeps script clocks names view Q = (seat : Seat) (line : Line) (lines : List Line) → lines_left script seat ≡ line ∷ lines → ahead_of clocks names view line seat ≡ Passes → Q seat (line ∷ lines) → Q (with_next_line line seat) lines
+abbrev pub PassKeeps : ScriptData → Clocks → View → (Seat → List Line → Type 0) → Type 0
+PassKeeps script clocks view Q = (seat : Seat) (line : Line) (lines : List Line) → lines_left script seat ≡ line ∷ lines → ahead_of clocks true view line seat ≡ Passes → Q seat (line ∷ lines) → Q (with_next_line line seat) lines
 
-pub passed_keeps : (script : ScriptData) (clocks : Clocks) (names : List (List ℕ)) (view : View) (Q : Seat → List Line → Type 0) → PassKeeps script clocks names view Q → (rest : List Line) (seat : Seat) → lines_left script seat ≡ rest → Q seat rest → let after : Seat = passed clocks names view rest seat in Q after (lines_left script after)
+pub passed_keeps : (script : ScriptData) (clocks : Clocks) (view : View) (Q : Seat → List Line → Type 0) → PassKeeps script clocks view Q → (rest : List Line) (seat : Seat) → lines_left script seat ≡ rest → Q seat rest → let after : Seat = passed clocks view rest seat in Q after (lines_left script after)
 unfolding passed
-passed_keeps script clocks names view Q keeps [] seat is holds = subst (λ (lines : List Line). Q seat lines) (sym is) holds
-passed_keeps script clocks names view Q keeps (line ∷ lines) seat is holds = passed_by (λ (after : Seat). Q after (lines_left script after)) (ahead_of clocks names view line seat) (passed clocks names view lines (with_next_line line seat)) seat (λ passes. passed_keeps script clocks names view Q keeps lines (with_next_line line seat) (drop_next seat.place (lines_of script seat.actor) line lines is) (keeps seat line lines is passes holds)) (subst (λ (left : List Line). Q seat left) (sym is) holds)
+passed_keeps script clocks view Q keeps [] seat is holds = subst (λ (lines : List Line). Q seat lines) (sym is) holds
+passed_keeps script clocks view Q keeps (line ∷ lines) seat is holds = passed_by (λ (after : Seat). Q after (lines_left script after)) (is_passed (ahead_of clocks true view line seat)) (passed clocks view lines (with_next_line line seat)) seat (λ passes. passed_keeps script clocks view Q keeps lines (with_next_line line seat) (drop_next seat.place (lines_of script seat.actor) line lines is) (keeps seat line lines is (only_passes (ahead_of clocks true view line seat) passes) holds)) (subst (λ (left : List Line). Q seat left) (sym is) holds)
 
 -- a seat keeps its actor
 pub passed_actor : (script : ScriptData) (c : Carried) (seat : Seat) → (seat_passed script c seat).actor ≡ seat.actor
-passed_actor script c seat = passed_keeps script (clocks_of script c.played) c.names (view_of c.played.state seat.actor) (λ (after : Seat) lines. after.actor ≡ seat.actor) (λ s line lines is passes same. same) (lines_left script seat) seat refl refl
+passed_actor script c seat = passed_keeps script (clocks_of script c.played) (view_of c.played.state seat.actor) (λ (after : Seat) lines. after.actor ≡ seat.actor) (λ s line lines is passes same. same) (lines_left script seat) seat refl refl
 
 moved_by : (step : Step) (seat : Seat) (line : Option Line) (mine : Bool) → (cond mine (with_event_at line step seat) seat).actor ≡ seat.actor
 moved_by step seat line false = refl
