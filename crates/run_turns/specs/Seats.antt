@@ -11,6 +11,7 @@ use Rattle.session_script.specs.declared.script.Line.{Line}
 use Rattle.session_script.specs.declared.script.Verb.{Verb}
 use Rattle.session_script.specs.declared.script.Verb.TheVariants as verb
 use Rattle.session_script.specs.Data.{ScriptData}
+use Rattle.line_runs.specs.declared.point.Halt.{Halt}
 use Rattle.line_runs.specs.declared.point.Point.TheVariants.{Opens}
 use Rattle.line_runs.specs.declared.point.View.{View}
 use Rattle.line_runs.specs.Answers.{same_actor}
@@ -77,8 +78,12 @@ is_ask _ = false
 abbrev pub was_asked : List Item → Bool
 was_asked items = list_any is_ask items
 
+-- the seat goes on from its point, by how the event stopped, and by whether it asked
+abbrev pub gone_on : Verb → Option Halt → Bool → Seat → Seat
+gone_on verb halt asked seat = record seat { point = follows verb seat.point halt; unawaited = seat.unawaited || asked }
+
 abbrev pub with_event_of : Line → Step → Seat → Seat
-with_event_of line step seat = record seat { point = follows line.verb seat.point (halt_of step.stop); unawaited = seat.unawaited || was_asked step.items }
+with_event_of line step seat = gone_on line.verb (halt_of step.stop) (was_asked step.items) seat
 
 abbrev pub with_event_at : Option Line → Step → Seat → Seat
 with_event_at None step seat = seat

@@ -4,12 +4,14 @@
 
 mod ahead;
 mod choosing;
+mod laws;
 mod passing;
 mod seat;
 mod turn;
 
 pub use ahead::{Ahead, Why};
 pub use choosing::own_event;
+pub use laws::{own_events_lower_what_is_left, turns_keep_facts};
 pub use passing::pass;
-pub use seat::{Holds, Seat};
-pub use turn::Turn;
+pub use seat::{Holds, Seat, was_asked};
+pub use turn::{Turn, stage_turn};

@@ -1,0 +1,19 @@
+// Each line ends, all facts hold, and lines are answered, whichever turns are made.
+ghost use Rattle.run_turns.specs.Laws.{OwnEventsLowerWhatIsLeft, TurnsKeepFacts};
+
+use line_runs::events_lower_what_is_left;
+
+/// Each event of an own turn leaves fewer to make of its line, in every state that is reached, whatever becomes of its store
+/// call. So each line ends, once it no longer waits.
+pub fn own_events_lower_what_is_left()
+    ensures { OwnEventsLowerWhatIsLeft }
+{
+    events_lower_what_is_left();
+}
+
+/// Whichever turns are made of a script whose setup is in range, whose clocks are ahead by at most the skew and whose ticks are
+/// few, all facts hold after them, and the history is isolated with them.
+pub fn turns_keep_facts()
+    ensures { TurnsKeepFacts }
+{
+}
