@@ -81,7 +81,7 @@ first_tick line lines Reads = omega arith
 first_tick line lines Steps = omega arith
 first_tick line lines Over = omega arith
 
-later_ticks : (at : Point) (line : Line) (lines : List Line) → IsLater at → unanswered at (line ∷ lines) ≡ lines
+pub later_ticks : (at : Point) (line : Line) (lines : List Line) → IsLater at → unanswered at (line ∷ lines) ≡ lines
 later_ticks Opens line lines later = absurd later
 later_ticks Drives line lines later = refl
 later_ticks Extends line lines later = refl

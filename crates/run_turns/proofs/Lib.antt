@@ -9,3 +9,6 @@ mod OwnTurns
 mod SeatsOn
 mod PassLines
 mod Facts
+mod SoFar
+mod AllSeats
+mod Answered

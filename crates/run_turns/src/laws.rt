@@ -1,5 +1,5 @@
 // Each line ends, all facts hold, and lines are answered, whichever turns are made.
-ghost use Rattle.run_turns.specs.Laws.{OwnEventsLowerWhatIsLeft, TurnsKeepFacts};
+ghost use Rattle.run_turns.specs.Laws.{OwnEventsLowerWhatIsLeft, TurnsKeepFacts, TurnsAnswerSoFar, TurnsAnswer};
 
 use line_runs::events_lower_what_is_left;
 
@@ -15,5 +15,18 @@ pub fn own_events_lower_what_is_left()
 /// few, all facts hold after them, and the history is isolated with them.
 pub fn turns_keep_facts()
     ensures { TurnsKeepFacts }
+{
+}
+
+/// Whichever turns are made, the lines that an actor has passed are answered in the history, and so is its present line once it
+/// has opened; a read under way is owed.
+pub fn turns_answer_so_far()
+    ensures { TurnsAnswerSoFar }
+{
+}
+
+/// Where no actor has a line left, the history answers every line of the script.
+pub fn turns_answer()
+    ensures { TurnsAnswer }
 {
 }
