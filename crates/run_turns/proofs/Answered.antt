@@ -37,7 +37,7 @@ all_so_far : (script : ScriptData) (turns : List Turn) → AreInRange script.set
 all_so_far script turns in_range playable of_script = so_far_all script playable of_script turns (all_passed script (at_first script)) (so_far_passed script (at_first script) (facts_at_first script in_range) (at_opening script))
 
 -- ---- so far
-none_unanswered : (at : Point) → unanswered at [] ≡ []
+pub none_unanswered : (at : Point) → unanswered at [] ≡ []
 none_unanswered Opens = refl
 none_unanswered Drives = refl
 none_unanswered Extends = refl
@@ -83,7 +83,7 @@ turns_answer_so_far script turns actor seat in_range playable of_script sits =
     (at.0, seat_so_far script c seat (lines_left script seat) refl mine)
 
 -- ---- whole turns
-whole_seat : (script : ScriptData) (c : Carried) (actor : Actor) (seat : Seat) → All (λ (s : Seat). lines_left script s ≡ []) c.seats → seat_of c.seats actor ≡ Some seat → lines_left script seat ≡ []
+pub whole_seat : (script : ScriptData) (c : Carried) (actor : Actor) (seat : Seat) → All (λ (s : Seat). lines_left script s ≡ []) c.seats → seat_of c.seats actor ≡ Some seat → lines_left script seat ≡ []
 whole_seat script c actor seat whole sits =
     let k : Place c.seats seat = find_place (λ (x : Seat). same_actor x.actor actor) c.seats seat sits in
     subst (λ (s : Seat). lines_left script s ≡ []) (k.is seat) (whole k.place seat k.inside)

@@ -35,7 +35,7 @@ use Rattle.run_turns.specs.Carried.{Carried, seat_of, event_of, moved, with_even
 use Rattle.run_turns.specs.Laws.{unanswered, TurnsKeepFacts}
 use Rattle.run_turns.proofs.OwnTimes.{own_tick, own_timed}
 use Rattle.run_turns.proofs.OwnTurns.{OwnTurn, own_turn, StageTurn, stage_turn, IsOwn}
-use Rattle.run_turns.proofs.SeatsOn.{passed_keeps, seat_after, passed_seat, turned_seat}
+use Rattle.run_turns.proofs.SeatsOn.{passed_keeps, own_moved, other_stays, seat_after, passed_seat, turned_seat}
 use Rattle.run_turns.proofs.SeatLists.{find_true, get_drop}
 
 -- ---- one event that comes at its time
@@ -121,9 +121,6 @@ still_ticks : (script : ScriptData) (c : Carried) (t : Turn) (e : Event) (found 
 still_ticks script c t e None stays = omega arith
 still_ticks script c t e (Some seat) stays = subst (λ (after : Seat). seat_ticks script (seat_passed script (with_event script c t e) after) ≤ seat_ticks script seat) (sym (stays seat refl)) (passing_ticks script (with_event script c t e) seat)
 
-other_stays : (script : ScriptData) (step : Step) (actor : Actor) (seat : Seat) → same_actor seat.actor actor ≡ false → moved script (turn.Own actor) step seat ≡ seat
-other_stays script step actor seat not = ap (λ (mine : Bool). cond mine (with_event_at (present_line script seat) step seat) seat) not
-
 -- ---- a stage's turn
 facts_staged : (script : ScriptData) (c : Carried) (t : Turn) (e : Event) → IsPlayable script 0 script.lines → Facts script c → StageTurn script c e → ((step : Step) (seat : Seat) → moved script t step seat ≡ seat) → Facts script (all_passed script (with_event script c t e))
 facts_staged script c t e playable k staged stays =
@@ -132,11 +129,7 @@ facts_staged script c t e playable k staged stays =
 
 -- ---- an own turn
 -- of the clock
-clock_moved : (script : ScriptData) (step : Step) (seat : Seat) (line : Line) → seat.actor ≡ Clock → present_line script seat ≡ Some line → moved script (turn.Own Clock) step seat ≡ with_event_of line step seat
-clock_moved script step seat line same present =
-    ap (λ (mine : Bool). cond mine (with_event_at (present_line script seat) step seat) seat) (ap (λ (a : Actor). same_actor a Clock) same) ∙ ap (λ (found : Option Line). with_event_at found step seat) present
-
-clock_ticks : (script : ScriptData) (c : Carried) (e : Event) (k : OwnTurn script c Clock e) → ticks_left script (option_map (seat_after script c (turn.Own Clock) e) (seat_of c.seats Clock)) + tick_ahead k.seat.point k.line.verb ≤ ticks_left script (seat_of c.seats Clock)
+pub clock_ticks : (script : ScriptData) (c : Carried) (e : Event) (k : OwnTurn script c Clock e) → ticks_left script (option_map (seat_after script c (turn.Own Clock) e) (seat_of c.seats Clock)) + tick_ahead k.seat.point k.line.verb ≤ ticks_left script (seat_of c.seats Clock)
 clock_ticks script c e k =
     let step : Step = step_of script c.played e in
     let after : Seat = with_event_of k.line step k.seat in
@@ -145,7 +138,7 @@ clock_ticks script c e k =
     let before : seat_ticks script k.seat ≡ tick_ahead k.seat.point k.line.verb + ticks_of lines = ap (λ (ls : List Line). ticks_of (unanswered k.seat.point ls)) left ∙ first_tick k.line lines k.seat.point in
     let now : seat_ticks script after ≡ ticks_of lines = ap (λ (ls : List Line). ticks_of (unanswered after.point ls)) left ∙ ap (λ (ls : List Line). ticks_of ls) (later_ticks after.point k.line lines (follows_later k.line.verb k.seat.point step)) in
     let passes : seat_ticks script (seat_passed script (with_event script c (turn.Own Clock) e) after) ≤ seat_ticks script after = passing_ticks script (with_event script c (turn.Own Clock) e) after in
-    let moves : seat_ticks script (seat_after script c (turn.Own Clock) e k.seat) ≡ seat_ticks script (seat_passed script (with_event script c (turn.Own Clock) e) after) = ap (λ (seat : Seat). seat_ticks script (seat_passed script (with_event script c (turn.Own Clock) e) seat)) (clock_moved script step k.seat k.line k.same k.present) in
+    let moves : seat_ticks script (seat_after script c (turn.Own Clock) e k.seat) ≡ seat_ticks script (seat_passed script (with_event script c (turn.Own Clock) e) after) = ap (λ (seat : Seat). seat_ticks script (seat_passed script (with_event script c (turn.Own Clock) e) seat)) (own_moved script Clock step k.seat k.line k.same k.present) in
     let here : seat_ticks script (seat_after script c (turn.Own Clock) e k.seat) + tick_ahead k.seat.point k.line.verb ≤ seat_ticks script k.seat = omega (arith, before, now, passes, moves) in
     subst (λ (found : Option Seat). ticks_left script (option_map (seat_after script c (turn.Own Clock) e) found) + tick_ahead k.seat.point k.line.verb ≤ ticks_left script found) (sym k.sits) here
 

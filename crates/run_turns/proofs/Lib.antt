@@ -12,3 +12,5 @@ mod Facts
 mod SoFar
 mod AllSeats
 mod Answered
+mod OnPlan
+mod WholePlan

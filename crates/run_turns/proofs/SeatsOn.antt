@@ -12,12 +12,13 @@ use Rattle.line_runs.specs.Answers.{same_actor}
 use Rattle.line_runs.specs.Next.{Clocks}
 use Rattle.line_runs.specs.Runs.{clocks_of, step_of}
 use Rattle.line_runs.specs.Views.{view_of}
+use Rattle.line_runs.proofs.ScriptWalks.{same_itself}
 use Rattle.run_turns.specs.declared.ahead.Ahead.{Ahead}
 use Rattle.run_turns.specs.declared.ahead.Ahead.TheVariants.{Makes, Waits, Passes}
 use Rattle.run_turns.specs.declared.seat.Seat.{Seat}
 use Rattle.run_turns.specs.declared.turn.Turn.{Turn}
 use Rattle.run_turns.specs.declared.turn.Turn.TheVariants as turn
-use Rattle.run_turns.specs.Seats.{lines_of, lines_left, present_line, with_next_line, ahead_of, is_passed, passed, with_event_at}
+use Rattle.run_turns.specs.Seats.{lines_of, lines_left, present_line, with_next_line, ahead_of, is_passed, passed, with_event_of, with_event_at}
 use Rattle.run_turns.specs.Carried.{Carried, seat_of, moved, with_event, seat_passed, all_passed}
 use Rattle.run_turns.proofs.SeatLists.{find_map, drop_next}
 
@@ -57,6 +58,15 @@ moved_actor script (turn.Put node session) step seat = refl
 moved_actor script (turn.Answer node session) step seat = refl
 moved_actor script (turn.Extend node) step seat = refl
 
+-- the seat of the actor whose turn it is goes on
+pub own_moved : (script : ScriptData) (actor : Actor) (step : Step) (seat : Seat) (line : Line) → seat.actor ≡ actor → present_line script seat ≡ Some line → moved script (turn.Own actor) step seat ≡ with_event_of line step seat
+own_moved script actor step seat line same present =
+    ap (λ (mine : Bool). cond mine (with_event_at (present_line script seat) step seat) seat) (ap (λ (a : Actor). same_actor a actor) same ∙ same_itself actor) ∙ ap (λ (found : Option Line). with_event_at found step seat) present
+
+-- and that of another stays
+pub other_stays : (script : ScriptData) (step : Step) (actor : Actor) (seat : Seat) → same_actor seat.actor actor ≡ false → moved script (turn.Own actor) step seat ≡ seat
+other_stays script step actor seat not = ap (λ (mine : Bool). cond mine (with_event_at (present_line script seat) step seat) seat) not
+
 -- ---- the seats after a turn
 mapped : (f : Seat → Seat) → ((seat : Seat) → (f seat).actor ≡ seat.actor) → (seats : List Seat) (actor : Actor) → seat_of (map f seats) actor ≡ option_map f (seat_of seats actor)
 mapped f same seats actor = find_map (λ (seat : Seat). same_actor seat.actor actor) f (λ seat. ap (λ (a : Actor). same_actor a actor) (same seat)) seats
@@ -65,7 +75,7 @@ mapped f same seats actor = find_map (λ (seat : Seat). same_actor seat.actor ac
 abbrev pub seat_after : ScriptData → Carried → Turn → Event → Seat → Seat
 seat_after script c t e seat = seat_passed script (with_event script c t e) (moved script t (step_of script c.played e) seat)
 
-mapped_twice : (f g : Seat → Seat) (found : Option Seat) → option_map g (option_map f found) ≡ option_map (λ (seat : Seat). g (f seat)) found
+pub mapped_twice : (f g : Seat → Seat) (found : Option Seat) → option_map g (option_map f found) ≡ option_map (λ (seat : Seat). g (f seat)) found
 mapped_twice f g None = refl
 mapped_twice f g (Some seat) = refl
 

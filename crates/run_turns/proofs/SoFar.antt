@@ -37,7 +37,7 @@ use Rattle.run_turns.proofs.OwnSessions.{not_of}
 use Rattle.run_turns.proofs.OwnTurns.{OwnTurn, own_turn, StageTurn, stage_turn, present_own, present_fits}
 use Rattle.run_turns.proofs.OwnWalks.{OwnLine, stands_past, stands_on, passed_line}
 use Rattle.run_turns.proofs.SeatLists.{get_drop, drop_get}
-use Rattle.run_turns.proofs.SeatsOn.{passed_keeps, seat_after, passed_seat, turned_seat}
+use Rattle.run_turns.proofs.SeatsOn.{passed_keeps, own_moved, other_stays, mapped_twice, passed_seat, turned_seat}
 use Rattle.run_turns.proofs.StillReading.{IsNotOf, still_reads}
 use Rattle.run_turns.proofs.WalksOn.{answered_past, Present, StandsSo, stands_next}
 
@@ -102,14 +102,10 @@ apart_own script c who actor e of_script k own not =
     record {
       none = others_not script c who actor e own (own_fits script c who e of_script k own) other own.next;
       reads = λ s key is reads. still_under_way script c e k s key (not_of s (clocks_of script c.played) own.line.actor own.line.verb own.seat.point (view_of c.played.state own.line.actor) e (λ same. other (same ∙ sym is)) own.next) reads;
-      stays = λ seat same. ap (λ (mine : Bool). cond mine (with_event_at (present_line script seat) (step_of script c.played e) seat) seat) (ap (λ (a : Actor). same_actor a who) same ∙ not);
+      stays = λ seat same. other_stays script (step_of script c.played e) who seat (ap (λ (a : Actor). same_actor a who) same ∙ not);
     }
 
 -- ---- the actor's own event
-own_moved : (script : ScriptData) (actor : Actor) (step : Step) (seat : Seat) (line : Line) → seat.actor ≡ actor → present_line script seat ≡ Some line → moved script (turn.Own actor) step seat ≡ with_event_of line step seat
-own_moved script actor step seat line same present =
-    ap (λ (mine : Bool). cond mine (with_event_at (present_line script seat) step seat) seat) (ap (λ (a : Actor). same_actor a actor) same ∙ same_itself actor) ∙ ap (λ (found : Option Line). with_event_at found step seat) present
-
 own_at : (script : ScriptData) (c : Carried) (actor : Actor) (e : Event) → AreLinesOf script.setup script.lines → Facts script c → OwnTurn script c actor e → IsAt script c actor (seat_of c.seats actor) → IsAt script (with_event script c (turn.Own actor) e) actor (option_map (moved script (turn.Own actor) (step_of script c.played e)) (seat_of c.seats actor))
 own_at script c actor e of_script k own at =
     let w : State = c.played.state in
@@ -148,10 +144,6 @@ made_at script c (turn.Extend node) e actor of_script k is at = staged_at script
 pub record SoFar (script : ScriptData) (c : Carried) : Type 0 where
   pub facts : Facts script c
   pub at : (actor : Actor) → IsAt script c actor (seat_of c.seats actor)
-
-mapped_twice : (f g : Seat → Seat) (found : Option Seat) → option_map g (option_map f found) ≡ option_map (λ (seat : Seat). g (f seat)) found
-mapped_twice f g None = refl
-mapped_twice f g (Some seat) = refl
 
 at_made : (script : ScriptData) (c : Carried) (t : Turn) (e : Event) → AreLinesOf script.setup script.lines → SoFar script c → event_of script c t ≡ Some e → (actor : Actor) → IsAt script (all_passed script (with_event script c t e)) actor (seat_of (all_passed script (with_event script c t e)).seats actor)
 at_made script c t e of_script k is actor =
