@@ -224,7 +224,8 @@ fn collect_next(
     }
 }
 
-fn is_served(verb: &Verb, place: Place) -> bool
+/// Whether a line of this verb has its session's request served on from this place.
+pub fn is_served(verb: &Verb, place: Place) -> bool
     ensures { result ≡ next.is_served verb.now place }
 {
     match verb {
@@ -291,7 +292,8 @@ fn extend_next(request: Option<(NodeNo, Place)>) -> Option<Event>
 
 // ---- what is under way
 
-fn finish_next(session: SessionNo, doing: Doing) -> Option<Event>
+/// A completion goes on.
+pub fn finish_next(session: SessionNo, doing: Doing) -> Option<Event>
     ensures { result ≡ next.finish_next session doing }
 {
     match doing {
@@ -300,7 +302,8 @@ fn finish_next(session: SessionNo, doing: Doing) -> Option<Event>
     }
 }
 
-fn idle_next(session: SessionNo, doing: Doing) -> Option<Event>
+/// A session with nothing to collect makes a step, which is refused, unless something else of it is under way.
+pub fn idle_next(session: SessionNo, doing: Doing) -> Option<Event>
     ensures { result ≡ next.idle_next session doing }
 {
     match doing {

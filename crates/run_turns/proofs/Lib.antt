@@ -1,0 +1,16 @@
+mod OwnEvents
+mod SeatLists
+mod StillReading
+mod OwnSessions
+mod WalksOn
+mod OwnWalks
+mod OwnTimes
+mod OwnTurns
+mod SeatsOn
+mod PassLines
+mod Facts
+mod SoFar
+mod AllSeats
+mod Answered
+mod OnPlan
+mod WholePlan

@@ -1,5 +1,7 @@
 -- What a list of turns makes of a script.
 use Rattle.std.specs.Prelude.{ℕ, Bool, true, false, if◌then◌else◌, List, [], ◌∷◌, ◌++◌, All, ◌≡◌, map, fold, find, replicate, slice_index_or, slice_set, Option, None, Some}
+use Rattle.std.specs.List.{list_any}
+use Rattle.std.specs.Str.{bytes_eq}
 use Rattle.stamp_base.specs.declared.stage.Stage.{Stage}
 use Rattle.stamp_base.specs.declared.stage.Stage.TheVariants.{Request, Persist, Reply}
 use Rattle.history_book.specs.declared.item.Actor.{Actor}
@@ -10,6 +12,8 @@ use Rattle.machine.specs.declared.event.Event.{Event}
 use Rattle.machine.specs.declared.event.Event.TheVariants as event
 use Rattle.machine.specs.Machine.{Step}
 use Rattle.script_data.specs.declared.line.Line.{Line}
+use Rattle.script_data.specs.declared.line.Verb.{Verb}
+use Rattle.script_data.specs.declared.line.Verb.TheVariants as verb
 use Rattle.script_data.specs.Data.{ScriptData}
 use Rattle.line_runs.specs.Answers.{same_actor}
 use Rattle.line_runs.specs.Next.{reading_at}
@@ -32,8 +36,16 @@ pub record Carried : Type 0 where
   pub seats : List Seat
 
 -- ---- names and stages
+abbrev pub is_posted : List (List ℕ) → List ℕ → Bool
+is_posted names name = list_any (bytes_eq name) names
+
+-- the name that a line awaits is posted
+abbrev pub name_posted : List (List ℕ) → Verb → Bool
+name_posted names (verb.Await name) = is_posted names name
+name_posted names _ = true
+
 abbrev pub names_after : List (List ℕ) → Event → List (List ℕ)
-names_after names (event.Note actor (note.Post name)) = names ++ name ∷ []
+names_after names (event.Note actor (note.Post name)) = if is_posted names name then names else names ++ name ∷ []
 names_after names _ = names
 
 abbrev pub none_held : Holds
@@ -60,7 +72,7 @@ held_after held _ = held
 -- ---- what is ahead of a seat's present line
 abbrev pub ahead_at : ScriptData → Carried → Seat → Option Line → Ahead
 ahead_at script c seat None = Passes
-ahead_at script c seat (Some line) = ahead_of (clocks_of script c.played) c.names (view_of c.played.state seat.actor) line seat
+ahead_at script c seat (Some line) = ahead_of (clocks_of script c.played) (name_posted c.names line.verb) (view_of c.played.state seat.actor) line seat
 
 abbrev pub seat_ahead : ScriptData → Carried → Seat → Ahead
 seat_ahead script c seat = ahead_at script c seat (present_line script seat)
@@ -106,7 +118,7 @@ with_event script c turn e = record {
 
 -- every actor passes its lines with nothing left to do
 abbrev pub seat_passed : ScriptData → Carried → Seat → Seat
-seat_passed script c seat = passed (clocks_of script c.played) c.names (view_of c.played.state seat.actor) (lines_left script seat) seat
+seat_passed script c seat = passed (clocks_of script c.played) (view_of c.played.state seat.actor) (lines_left script seat) seat
 
 abbrev pub all_passed : ScriptData → Carried → Carried
 all_passed script c = record c { seats = map (seat_passed script c) c.seats }

@@ -1,5 +1,5 @@
 -- Which turns can be made.
-use Rattle.std.specs.Prelude.{◌≡◌, ◌≢◌, ℕ, Bool, true, false, List, [], slice_get, Option, None, Some, IsSomeAnd}
+use Rattle.std.specs.Prelude.{◌≡◌, ◌≢◌, ℕ, ◌==◌, if◌then◌else◌, Bool, true, false, List, [], slice_get, Option, None, Some, IsSomeAnd}
 use Rattle.std.specs.List.{list_any}
 use Rattle.stamp_base.specs.declared.stage.Stage.{Stage}
 use Rattle.stamp_base.specs.declared.stage.Stage.TheVariants.{Request, Persist, Reply}
@@ -65,6 +65,23 @@ IsInPlace w (turn.Decide node session) = (session_view w session).request ≡ So
 IsInPlace w (turn.Put node session) = ((session_view w session).request ≡ Some (node, place.Drawn)) × ((session_view w session).commit ≡ true)
 IsInPlace w (turn.Answer node session) = (session_view w session).request ≡ Some (node, answered_from (session_view w session).commit)
 IsInPlace w (turn.Extend node) = LacksStamps (slice_get w.nodes node)
+
+-- the turn by which a stage serves a request from this place on, if it does
+abbrev pub serving_turn : Stage → ℕ → ℕ → Bool → Place → Option Turn
+serving_turn Request node session commit place.Asked = Some (turn.Accept node session)
+serving_turn Request node session commit place.Accepted = Some (turn.Decide node session)
+serving_turn Persist node session true place.Drawn = Some (turn.Put node session)
+serving_turn Reply node session false place.Drawn = Some (turn.Answer node session)
+serving_turn Reply node session true place.Settled = Some (turn.Answer node session)
+serving_turn _ node session commit at = None
+
+abbrev pub serving_turn_of : Stage → ℕ → ℕ → Bool → Option (ℕ × Place) → Option Turn
+serving_turn_of stage node session commit None = None
+serving_turn_of stage node session commit (Some request) = if request.0 == node then serving_turn stage node session commit request.1 else None
+
+-- the turn that a node's stage can make of a session's request as it stands
+abbrev pub stage_turn : Stage → ℕ → ℕ → View → Option Turn
+stage_turn stage node session view = serving_turn_of stage node session view.commit view.request
 
 -- ---- turns whose event appends nothing are left out, but for those that open a sweep
 abbrev pub IsTold : ScriptData → Played → Event → Type 0

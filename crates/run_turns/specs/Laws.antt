@@ -3,6 +3,7 @@ use Rattle.std.specs.Prelude.{◌≡◌, ℕ, ◌<◌, ◌⊎◌, Bool, List, []
 use Rattle.stamp_base.specs.SetupNumbers.{AreInRange}
 use Rattle.port_io.specs.declared.weather.Fate.{Fate}
 use Rattle.history_book.specs.declared.item.Actor.{Actor}
+use Rattle.history_book.specs.declared.item.Actor.TheVariants.{Clock}
 use Rattle.history_book.specs.declared.item.Item.{Item}
 use Rattle.machine.specs.declared.event.Doing.TheVariants.{Reading}
 use Rattle.machine.specs.declared.event.Event.{Event}
@@ -20,7 +21,9 @@ use Rattle.line_runs.specs.Halts.{halt_of, follows}
 use Rattle.line_runs.specs.Laws.{IsPlayable, IsReached, AreLinesOf}
 use Rattle.line_runs.specs.Left.{left}
 use Rattle.line_runs.specs.Next.{Clocks}
+use Rattle.line_runs.specs.Planned.{ticks_in, Planned}
 use Rattle.line_runs.specs.Views.{view_of}
+use Rattle.planned_laws.specs.SoFar.{PlannedSoFar}
 use Rattle.run_turns.specs.declared.ahead.Ahead.TheVariants.{Makes}
 use Rattle.run_turns.specs.declared.seat.Seat.{Seat}
 use Rattle.run_turns.specs.declared.turn.Turn.{Turn}
@@ -32,23 +35,42 @@ use Rattle.run_turns.specs.Carried.{Carried, seat_of, carried, carried_items, Ar
 -- each event of an own turn lowers what is left of its line, in every state that is reached, under every fate
 abbrev pub OwnEventsLowerWhatIsLeft : Type 0
 OwnEventsLowerWhatIsLeft =
-    (w : State) (h : List Item) (clocks : Clocks) (names : List (List ℕ)) (actor : Actor) (verb : Verb) (point : Point) (unawaited : Bool) (e : Event) (fate : Fate) → Stands w h → own_next clocks names actor verb point (view_of w actor) unawaited ≡ Makes e →
+    (w : State) (h : List Item) (clocks : Clocks) (posted : Bool) (actor : Actor) (verb : Verb) (point : Point) (unawaited : Bool) (e : Event) (fate : Fate) → Stands w h → own_next clocks posted actor verb point (view_of w actor) unawaited ≡ Makes e →
     left (stepped w e fate).state actor verb (follows verb point (halt_of (stepped w e fate).stop)) < left w actor verb point
 
 -- ---- all facts hold, whichever turns were made
 abbrev pub TurnsKeepFacts : Type 0
 TurnsKeepFacts = (script : ScriptData) (turns : List Turn) → AreInRange script.setup → IsPlayable script 0 script.lines → IsReached script (carried script turns).played
 
--- ---- lines are answered
--- what answers these lines from here on answers all lines of the actor from the beginning
-abbrev pub IsAnsweredTo : Actor → List Line → List Item → Option ℕ → List Line → Type 0
-IsAnsweredTo actor all h begun lines = (later : List Item) → Answered actor begun (filter (is_of actor) lines) later → Answered actor None (filter (is_of actor) all) (h ++ later)
-
+-- ---- the script's plan
 -- the lines that are not answered: the present one is, once it has opened
 abbrev pub unanswered : Point → List Line → List Line
 unanswered Opens lines = lines
 unanswered _ [] = []
 unanswered _ (line ∷ lines) = lines
+
+-- the ticks that are ahead of the clock
+abbrev pub ticks_ahead : ScriptData → Option Seat → List ℕ
+ticks_ahead script None = []
+ticks_ahead script (Some seat) = ticks_in (unanswered seat.point (lines_left script seat))
+
+-- faults, times and readings are the planned ones, the clock having ticked as its lines say up to its seat
+pub record IsPlannedSoFar (script : ScriptData) (c : Carried) : Type 0 where
+  pub ticks : List ℕ
+  pub planned : PlannedSoFar script ticks c.played
+  pub ahead : ticks ++ ticks_ahead script (seat_of c.seats Clock) ≡ ticks_in script.lines
+
+abbrev pub TurnsArePlannedSoFar : Type 0
+TurnsArePlannedSoFar = (script : ScriptData) (turns : List Turn) → AreInRange script.setup → IsPlayable script 0 script.lines → IsPlannedSoFar script (carried script turns)
+
+-- whole turns make the history that the script plans
+abbrev pub TurnsArePlanned : Type 0
+TurnsArePlanned = (script : ScriptData) (turns : List Turn) → AreInRange script.setup → IsPlayable script 0 script.lines → AreWhole script turns → Planned script (carried_items script turns)
+
+-- ---- lines are answered
+-- what answers these lines from here on answers all lines of the actor from the beginning
+abbrev pub IsAnsweredTo : Actor → List Line → List Item → Option ℕ → List Line → Type 0
+IsAnsweredTo actor all h begun lines = (later : List Item) → Answered actor begun (filter (is_of actor) lines) later → Answered actor None (filter (is_of actor) all) (h ++ later)
 
 -- the present line has begun a read, which is under way
 pub record OwesRead (script : ScriptData) (c : Carried) (seat : Seat) : Type 0 where

@@ -1,5 +1,5 @@
 -- How far the actors have come with their lines.
-use Rattle.std.specs.Prelude.{ℕ, zero, suc, ◌+◌, Bool, true, false, ◌||◌, List, [], ◌∷◌, ◌++◌, drop, filter, slice_get, Option, None, Some}
+use Rattle.std.specs.Prelude.{if◌then◌else◌, ℕ, zero, suc, ◌+◌, Bool, true, false, ◌||◌, List, [], ◌∷◌, ◌++◌, drop, filter, slice_get, Option, None, Some}
 use Rattle.std.specs.List.{list_any}
 use Rattle.stamp_base.specs.SetupNumbers.{SetupNumbers}
 use Rattle.history_book.specs.declared.item.Actor.{Actor}
@@ -11,6 +11,7 @@ use Rattle.script_data.specs.declared.line.Line.{Line}
 use Rattle.script_data.specs.declared.line.Verb.{Verb}
 use Rattle.script_data.specs.declared.line.Verb.TheVariants as verb
 use Rattle.script_data.specs.Data.{ScriptData}
+use Rattle.line_runs.specs.declared.point.Halt.{Halt}
 use Rattle.line_runs.specs.declared.point.Point.TheVariants.{Opens}
 use Rattle.line_runs.specs.declared.point.View.{View}
 use Rattle.line_runs.specs.Answers.{same_actor}
@@ -53,17 +54,19 @@ still_unawaited _ unawaited = unawaited
 abbrev pub with_next_line : Line → Seat → Seat
 with_next_line line seat = record { actor = seat.actor; place = seat.place + 1; point = Opens; unawaited = still_unawaited line.verb seat.unawaited }
 
-abbrev pub ahead_of : Clocks → List (List ℕ) → View → Line → Seat → Ahead
-ahead_of clocks names view line seat = own_next clocks names line.actor line.verb seat.point view seat.unawaited
+abbrev pub ahead_of : Clocks → Bool → View → Line → Seat → Ahead
+ahead_of clocks posted view line seat = own_next clocks posted line.actor line.verb seat.point view seat.unawaited
 
-abbrev pub if_passed : Ahead → Seat → Seat → Seat
-if_passed Passes on here = on
-if_passed _ on here = here
+-- nothing is left to do
+abbrev pub is_passed : Ahead → Bool
+is_passed Passes = true
+is_passed _ = false
 
--- the seat once each line with nothing left to do is passed, these lines being ahead of it
-unfoldable pub passed : Clocks → List (List ℕ) → View → List Line → Seat → Seat
-passed clocks names view [] seat = seat
-passed clocks names view (line ∷ lines) seat = if_passed (ahead_of clocks names view line seat) (passed clocks names view lines (with_next_line line seat)) seat
+-- the seat once each line with nothing left to do is passed, these lines being ahead of it; a line that awaits a name is not
+-- passed, whether or not the name is posted
+unfoldable pub passed : Clocks → View → List Line → Seat → Seat
+passed clocks view [] seat = seat
+passed clocks view (line ∷ lines) seat = if is_passed (ahead_of clocks true view line seat) then passed clocks view lines (with_next_line line seat) else seat
 
 -- ---- an event of the seat's line
 abbrev pub is_ask : Item → Bool
@@ -75,8 +78,12 @@ is_ask _ = false
 abbrev pub was_asked : List Item → Bool
 was_asked items = list_any is_ask items
 
+-- the seat goes on from its point, by how the event stopped, and by whether it asked
+abbrev pub gone_on : Verb → Option Halt → Bool → Seat → Seat
+gone_on verb halt asked seat = record seat { point = follows verb seat.point halt; unawaited = seat.unawaited || asked }
+
 abbrev pub with_event_of : Line → Step → Seat → Seat
-with_event_of line step seat = record seat { point = follows line.verb seat.point (halt_of step.stop); unawaited = seat.unawaited || was_asked step.items }
+with_event_of line step seat = gone_on line.verb (halt_of step.stop) (was_asked step.items) seat
 
 abbrev pub with_event_at : Option Line → Step → Seat → Seat
 with_event_at None step seat = seat

@@ -1,8 +1,6 @@
 -- The next event of a line that is carried out on threads, where stages serve the requests: instead of serving its session's
 -- request, a line waits for it. Everything else is as in file order.
-use Rattle.std.specs.Prelude.{ℕ, Bool, true, false, List, Option, None, Some, if◌then◌else◌}
-use Rattle.std.specs.List.{list_any}
-use Rattle.std.specs.Str.{bytes_eq}
+use Rattle.std.specs.Prelude.{ℕ, Bool, true, false, Option, None, Some, if◌then◌else◌}
 use Rattle.history_book.specs.declared.item.Actor.{Actor}
 use Rattle.history_book.specs.declared.item.Actor.TheVariants.{Session}
 use Rattle.oracle_parts.specs.declared.instance.Place.{Place}
@@ -34,19 +32,16 @@ collect_ahead session view unawaited (Some request) = Waits Reply
 collect_ahead session view true None = made_next (finish_next session view.doing)
 collect_ahead session view false None = made_next (idle_next session view.doing)
 
-abbrev pub is_posted : List (List ℕ) → List ℕ → Bool
-is_posted names name = list_any (bytes_eq name) names
-
 -- a name is awaited until it is posted
-abbrev pub own_opens : Clocks → List (List ℕ) → Actor → Verb → View → Bool → Ahead
-own_opens clocks names actor (verb.Await name) view unawaited = if is_posted names name then made_next (next clocks actor (verb.Await name) Opens view) else Waits Name
-own_opens clocks names (Session session) verb.Collect view unawaited = collect_ahead session view unawaited view.request
-own_opens clocks names actor verb view unawaited = made_next (next clocks actor verb Opens view)
+abbrev pub own_opens : Clocks → Bool → Actor → Verb → View → Bool → Ahead
+own_opens clocks posted actor (verb.Await name) view unawaited = if posted then made_next (next clocks actor (verb.Await name) Opens view) else Waits Name
+own_opens clocks posted (Session session) verb.Collect view unawaited = collect_ahead session view unawaited view.request
+own_opens clocks posted actor verb view unawaited = made_next (next clocks actor verb Opens view)
 
--- what is ahead of an actor's line, by the names that are posted, and by whether the session's last ask was made and no later
--- line has waited for its answer; it is the node that asks for a further range of stamps
-abbrev pub own_next : Clocks → List (List ℕ) → Actor → Verb → Point → View → Bool → Ahead
-own_next clocks names actor verb Opens view unawaited = own_opens clocks names actor verb view unawaited
-own_next clocks names (Session session) verb Drives view unawaited = drive_ahead session verb view view.request
-own_next clocks names (Session session) verb Extends view unawaited = Passes
-own_next clocks names actor verb point view unawaited = made_next (next clocks actor verb point view)
+-- what is ahead of an actor's line, by whether the name that it awaits is posted, and whether the session's last ask was made and
+-- no later line has waited for its answer; it is the node that asks for a further range of stamps
+abbrev pub own_next : Clocks → Bool → Actor → Verb → Point → View → Bool → Ahead
+own_next clocks posted actor verb Opens view unawaited = own_opens clocks posted actor verb view unawaited
+own_next clocks posted (Session session) verb Drives view unawaited = drive_ahead session verb view view.request
+own_next clocks posted (Session session) verb Extends view unawaited = Passes
+own_next clocks posted actor verb point view unawaited = made_next (next clocks actor verb point view)

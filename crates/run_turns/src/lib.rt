@@ -3,9 +3,15 @@
 #![tactic(auto)]
 
 mod ahead;
+mod choosing;
+mod laws;
+mod passing;
 mod seat;
 mod turn;
 
 pub use ahead::{Ahead, Why};
-pub use seat::{Holds, Seat};
-pub use turn::Turn;
+pub use choosing::own_event;
+pub use laws::{own_events_lower_what_is_left, turns_answer, turns_answer_so_far, turns_are_planned, turns_are_planned_so_far, turns_keep_facts};
+pub use passing::pass;
+pub use seat::{Holds, Seat, was_asked};
+pub use turn::{Turn, stage_turn};
