@@ -1,6 +1,5 @@
 ghost use Rattle.std.specs.Prelude.{◌≡◌, ◌≤◌, ◌^◌, ◌↔◌, IfOk, IfSome, IsTrue, Ok, None, Some, length};
 ghost use Rattle.stamp_base.specs.Ranges.{IsStampRange};
-ghost use Rattle.oracle_parts.specs.Buckets as memory;
 ghost use Rattle.oracle_parts.specs.Instance as entry;
 ghost use Rattle.oracle_parts.specs.InstanceSteps as step;
 
