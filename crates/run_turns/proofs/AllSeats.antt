@@ -1,5 +1,5 @@
 -- Each actor of the system has a seat, whichever turns are made; so an actor without one has no line.
-use Rattle.std.proofs.Common.{◌≡◌, ℕ, zero, suc, ◌+◌, ◌<◌, Bool, true, false, cond, ◌&&◌, List, [], ◌∷◌, ◌++◌, Option, Some, None, inl, inr, refl, sym, ◌∙◌, ap, subst, arith}
+use Rattle.std.proofs.Common.{◌≡◌, ℕ, zero, suc, ◌<◌, Bool, true, false, cond, ◌&&◌, List, [], ◌∷◌, ◌++◌, Option, Some, None, inl, inr, refl, sym, ◌∙◌, ap, subst, arith}
 use Rattle.std.specs.Prelude.{map, filter, find, fold}
 use Rattle.std.specs.Option.{option_map}
 use Rattle.std.proofs.lemmas.Bool.Decides.{eqb_tells}
@@ -17,7 +17,7 @@ use Rattle.line_runs.proofs.ScriptWalks.{actor_same, same_itself}
 use Rattle.run_turns.specs.declared.seat.Seat.{Seat}
 use Rattle.run_turns.specs.declared.turn.Turn.{Turn}
 use Rattle.run_turns.specs.Seats.{first_seat, seats_of, first_seats, lines_of}
-use Rattle.run_turns.specs.Carried.{Carried, seat_of, event_of, with_event, seat_passed, all_passed, turned_by, turned, at_first}
+use Rattle.run_turns.specs.Carried.{Carried, seat_of, event_of, seat_passed, all_passed, turned_by, turned, at_first}
 use Rattle.run_turns.specs.Laws.{IsAnsweredTo}
 use Rattle.run_turns.proofs.SeatLists.{find_true, filter_both}
 use Rattle.run_turns.proofs.SeatsOn.{seat_after, passed_seat, turned_seat}

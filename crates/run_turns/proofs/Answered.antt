@@ -1,31 +1,29 @@
 -- Whichever turns are made, the lines that an actor has passed are answered, and whole turns answer every line.
-use Rattle.std.proofs.Common.{◌≡◌, ℕ, List, [], ◌∷◌, ◌++◌, Option, Some, None, ◌⊎◌, inl, inr, refl, sym, ◌∙◌, ap, subst}
-use Rattle.std.specs.Prelude.{filter, All, length, slice_index_or}
+use Rattle.std.proofs.Common.{◌≡◌, ℕ, List, [], ◌∷◌, Option, Some, None, inl, inr, refl, sym, ◌∙◌, ap, subst}
+use Rattle.std.specs.Prelude.{filter, All}
 use Rattle.std.proofs.lemmas.List.{append-nil}
 use Rattle.std.proofs.lemmas.Option.{none-some}
 use Rattle.stamp_base.specs.SetupNumbers.{AreInRange}
 use Rattle.history_book.specs.declared.item.Actor.{Actor}
-use Rattle.history_book.specs.declared.item.Actor.TheVariants.{Session}
 use Rattle.history_book.specs.declared.item.Item.{Item}
 use Rattle.machine.specs.declared.event.Doing.{Doing}
 use Rattle.machine.specs.declared.event.Doing.TheVariants as doing
 use Rattle.machine.specs.declared.event.Event.TheVariants as event
 use Rattle.machine.specs.Readers.{doing_of}
-use Rattle.machine.specs.State.{State}
 use Rattle.script_data.specs.declared.line.Line.{Line}
 use Rattle.script_data.specs.Data.{ScriptData}
 use Rattle.line_runs.specs.declared.point.Point.{Point}
 use Rattle.line_runs.specs.declared.point.Point.TheVariants.{Opens, Drives, Extends, Finishes, Reads, Steps, Over}
 use Rattle.line_runs.specs.Answers.{same_actor, is_of, Answered}
-use Rattle.line_runs.specs.Laws.{ActorFits, AreLinesOf, IsPlayable}
+use Rattle.line_runs.specs.Laws.{AreLinesOf, IsPlayable}
 use Rattle.line_runs.specs.Next.{read_next}
 use Rattle.line_runs.specs.Views.{view_of}
 use Rattle.line_runs.proofs.ReadSteps.{read_has_next}
 use Rattle.line_runs.proofs.Walks.{walks_end}
 use Rattle.run_turns.specs.declared.seat.Seat.{Seat}
 use Rattle.run_turns.specs.declared.turn.Turn.{Turn}
-use Rattle.run_turns.specs.Seats.{lines_of, lines_left, present_line}
-use Rattle.run_turns.specs.Carried.{Carried, seat_of, all_passed, turned, at_first, carried, carried_items, AreWhole}
+use Rattle.run_turns.specs.Seats.{lines_of, lines_left}
+use Rattle.run_turns.specs.Carried.{Carried, seat_of, all_passed, at_first, carried, carried_items, AreWhole}
 use Rattle.run_turns.specs.Laws.{IsAnsweredTo, unanswered, OwesRead, IsAnsweredSoFar, TurnsAnswerSoFar, TurnsAnswer}
 use Rattle.run_turns.proofs.AllSeats.{at_opening, has_seat, no_lines}
 use Rattle.run_turns.proofs.Facts.{facts_at_first, later_ticks}

@@ -1,5 +1,5 @@
 -- Whichever turns are made, all facts hold, and the clock has not ticked further than its lines say.
-use Rattle.std.proofs.Common.{◌≡◌, ℕ, suc, ◌+◌, ◌≤◌, ◌^◌, Bool, true, false, cond, List, [], ◌∷◌, ◌++◌, Option, Some, None, ◌⊎◌, inl, inr, refl, sym, ◌∙◌, ap, subst, arith}
+use Rattle.std.proofs.Common.{◌≡◌, ℕ, suc, ◌+◌, ◌≤◌, ◌^◌, Bool, true, false, cond, List, [], ◌∷◌, Option, Some, None, refl, sym, ◌∙◌, ap, subst, arith}
 use Rattle.std.specs.Prelude.{filter, fold, drop, slice_index_or}
 use Rattle.std.specs.Option.{option_map}
 use Rattle.stamp_base.specs.SetupNumbers.{SetupNumbers, AreInRange}
@@ -10,15 +10,12 @@ use Rattle.machine.specs.declared.event.Event.{Event}
 use Rattle.machine.specs.Machine.{Step, stepped, reading_of, seen_after, IsSteadyAt}
 use Rattle.machine.proofs.PartsKept.{seen_up, leaves_parts}
 use Rattle.script_data.specs.declared.line.Line.{Line}
-use Rattle.script_data.specs.declared.line.Verb.{Verb}
 use Rattle.script_data.specs.Data.{ScriptData}
 use Rattle.isolation_laws.proofs.AlwaysHolds.{facts_stay}
-use Rattle.line_runs.specs.declared.point.Halt.{Halt}
 use Rattle.line_runs.specs.declared.point.Point.{Point}
 use Rattle.line_runs.specs.declared.point.Point.TheVariants.{Opens, Drives, Extends, Finishes, Reads, Steps, Over}
 use Rattle.line_runs.specs.Answers.{same_actor}
-use Rattle.line_runs.specs.Halts.{halt_of, follows}
-use Rattle.script_data.specs.Ticks.{tick_of, ticks_of}
+use Rattle.script_data.specs.Ticks.{ticks_of}
 use Rattle.line_runs.specs.Laws.{IsPlayable, IsReached}
 use Rattle.line_runs.specs.Runs.{Played, fate_of, clocks_of, step_of, played}
 use Rattle.line_runs.specs.Views.{view_of}
@@ -26,16 +23,16 @@ use Rattle.line_runs.proofs.AlwaysFit.{Fit, fit_stays, fit_at_first}
 use Rattle.line_runs.proofs.Ending.{opening_reached}
 use Rattle.line_runs.proofs.LaterEvents.{IsLater}
 use Rattle.line_runs.proofs.OwnLines.{follows_later}
-use Rattle.line_runs.proofs.ScriptWalks.{actor_same, same_itself}
+use Rattle.line_runs.proofs.ScriptWalks.{actor_same}
 use Rattle.line_runs.proofs.Timing.{tick_ahead, Timed, InTime, in_time}
 use Rattle.run_turns.specs.declared.seat.Seat.{Seat}
 use Rattle.run_turns.specs.declared.turn.Turn.{Turn}
 use Rattle.run_turns.specs.declared.turn.Turn.TheVariants as turn
-use Rattle.run_turns.specs.Seats.{lines_of, lines_left, present_line, with_next_line, ahead_of, with_event_at, with_event_of}
-use Rattle.run_turns.specs.Carried.{Carried, seat_of, event_of, moved, with_event, seat_passed, all_passed, turned_by, turned, at_first, carried}
+use Rattle.run_turns.specs.Seats.{lines_of, lines_left, with_event_of}
+use Rattle.run_turns.specs.Carried.{Carried, seat_of, event_of, moved, with_event, seat_passed, all_passed, turned_by, turned, at_first}
 use Rattle.run_turns.specs.Laws.{unanswered, TurnsKeepFacts}
 use Rattle.run_turns.proofs.OwnTimes.{own_tick, own_timed}
-use Rattle.run_turns.proofs.OwnTurns.{OwnTurn, own_turn, StageTurn, stage_turn, IsOwn}
+use Rattle.run_turns.proofs.OwnTurns.{OwnTurn, own_turn, StageTurn, stage_turn}
 use Rattle.run_turns.proofs.SeatsOn.{passed_keeps, own_moved, other_stays, seat_after, passed_seat, turned_seat}
 use Rattle.run_turns.proofs.SeatLists.{find_true, get_drop}
 

@@ -1,10 +1,8 @@
 -- Whichever turns are made, the history keeps to the script's plan, and the clock ticks as its lines say.
-use Rattle.std.proofs.Common.{◌≡◌, ℕ, suc, ◌+◌, ◌≤◌, ◌^◌, Bool, true, false, cond, List, [], ◌∷◌, ◌++◌, append_assoc, Option, Some, None, ◌⊎◌, inl, inr, refl, sym, ◌∙◌, ap, subst, arith}
-use Rattle.std.specs.Prelude.{filter, fold, drop, slice_index_or, unwrap_or, All}
+use Rattle.std.proofs.Common.{◌≡◌, ℕ, suc, ◌≤◌, Bool, true, false, List, [], ◌∷◌, ◌++◌, append_assoc, Option, Some, None, inl, inr, refl, sym, ◌∙◌, ap, subst, arith}
+use Rattle.std.specs.Prelude.{fold, drop, unwrap_or}
 use Rattle.std.specs.Option.{option_map}
-use Rattle.std.proofs.lemmas.List.{append-nil}
-use Rattle.std.proofs.lemmas.Option.{same_Some, none-some}
-use Rattle.stamp_base.specs.SetupNumbers.{AreInRange}
+use Rattle.std.proofs.lemmas.Option.{same_Some}
 use Rattle.history_book.specs.declared.item.Actor.{Actor}
 use Rattle.history_book.specs.declared.item.Actor.TheVariants.{Clock, Node, Session, Janitor}
 use Rattle.machine.specs.declared.event.Event.{Event}
@@ -18,32 +16,30 @@ use Rattle.line_runs.specs.declared.point.Point.{Point}
 use Rattle.line_runs.specs.declared.point.Point.TheVariants.{Opens, Drives, Extends, Finishes, Reads, Steps, Over}
 use Rattle.line_runs.specs.declared.point.View.{View}
 use Rattle.line_runs.specs.Answers.{same_actor}
-use Rattle.script_data.specs.Ticks.{tick_of}
 use Rattle.line_runs.specs.Laws.{IsPlayable}
 use Rattle.line_runs.specs.Next.{Clocks, reading_at}
 use Rattle.line_runs.specs.Planned.{tick_by, with_tick, ticks_in}
-use Rattle.line_runs.specs.Runs.{clocks_of, step_of, played}
+use Rattle.line_runs.specs.Runs.{clocks_of, step_of}
 use Rattle.line_runs.specs.Views.{view_of}
 use Rattle.line_runs.proofs.OwnLines.{follows_later}
-use Rattle.line_runs.proofs.LaterEvents.{IsLater}
 use Rattle.line_runs.proofs.ScriptWalks.{actor_same}
 use Rattle.line_runs.proofs.Timing.{tick_ahead}
-use Rattle.planned_laws.specs.Laws.{PlannedAtFirst, EventsStayPlanned, PlannedInTheEnd, LinesReadClocks}
+use Rattle.planned_laws.specs.Laws.{EventsStayPlanned, LinesReadClocks}
 use Rattle.planned_laws.specs.Orders.{IsTold, EventsStayTold}
-use Rattle.planned_laws.specs.SoFar.{ReadsClocks, ticks_with, tick_at, PlannedSoFar}
+use Rattle.planned_laws.specs.SoFar.{ReadsClocks, ticks_with, tick_at}
 use Rattle.run_turns.specs.declared.ahead.Ahead.TheVariants.{Passes}
 use Rattle.run_turns.specs.declared.seat.Seat.{Seat}
 use Rattle.run_turns.specs.declared.turn.Turn.{Turn}
 use Rattle.run_turns.specs.declared.turn.Turn.TheVariants as turn
-use Rattle.run_turns.specs.Seats.{lines_of, lines_left, with_next_line, ahead_of, with_event_of, first_seat}
+use Rattle.run_turns.specs.Seats.{lines_of, lines_left, ahead_of, with_event_of}
 use Rattle.run_turns.specs.Waiting.{own_opens}
-use Rattle.run_turns.specs.Carried.{Carried, seat_of, event_of, moved, with_event, seat_passed, all_passed, turned_by, turned, at_first, carried, AreWhole}
-use Rattle.run_turns.specs.Laws.{unanswered, ticks_ahead, IsPlannedSoFar, TurnsArePlannedSoFar, TurnsArePlanned}
-use Rattle.run_turns.proofs.Facts.{Facts, facts_turned, facts_at_first, later_ticks, clock_ticks, ticks_left}
+use Rattle.run_turns.specs.Carried.{Carried, seat_of, event_of, moved, with_event, seat_passed, all_passed, turned_by, turned}
+use Rattle.run_turns.specs.Laws.{unanswered, ticks_ahead, IsPlannedSoFar}
+use Rattle.run_turns.proofs.Facts.{Facts, facts_turned, later_ticks, clock_ticks, ticks_left}
 use Rattle.run_turns.proofs.OwnEvents.{IsNextOf}
 use Rattle.run_turns.proofs.OwnTurns.{OwnTurn, own_turn, present_own}
 use Rattle.run_turns.proofs.SeatLists.{find_true, get_drop, drop_get}
-use Rattle.run_turns.proofs.SeatsOn.{passed_keeps, own_moved, other_stays, seat_after, passed_seat, turned_seat}
+use Rattle.run_turns.proofs.SeatsOn.{passed_keeps, own_moved, other_stays, seat_after, turned_seat}
 
 -- ---- own events and those of stages read the clocks
 collect_tick : (actor : Actor) → tick_by actor verb.Collect ≡ None

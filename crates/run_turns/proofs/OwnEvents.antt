@@ -1,6 +1,6 @@
 -- The events of an actor's own turns: each is the next one of its line in file order, or the first of a completion that a
 -- collect goes on with. So each lowers what is left of its line.
-use Rattle.std.proofs.Common.{◌≡◌, ℕ, ◌+◌, ◌<◌, Bool, true, false, cond, List, Option, Some, None, ◌⊎◌, inl, inr, refl, sym, ◌∙◌, ap, subst, arith}
+use Rattle.std.proofs.Common.{◌≡◌, ℕ, ◌<◌, Bool, true, false, cond, List, Option, Some, None, ◌⊎◌, inl, inr, refl, sym, ◌∙◌, ap, subst, arith}
 use Rattle.std.proofs.lemmas.Option.{none-some}
 use Rattle.port_io.specs.declared.weather.Fate.{Fate}
 use Rattle.history_book.specs.declared.item.Actor.{Actor}
@@ -13,7 +13,6 @@ use Rattle.machine.specs.Machine.{stepped}
 use Rattle.script_data.specs.declared.line.Verb.{Verb}
 use Rattle.script_data.specs.declared.line.Verb.TheVariants as verb
 use Rattle.isolation_laws.specs.Sound.{Stands}
-use Rattle.line_runs.specs.declared.point.Halt.{Halt}
 use Rattle.line_runs.specs.declared.point.Point.{Point}
 use Rattle.line_runs.specs.declared.point.Point.TheVariants.{Opens, Drives, Extends, Finishes, Reads, Steps, Over}
 use Rattle.line_runs.specs.declared.point.View.{View}
@@ -22,8 +21,7 @@ use Rattle.line_runs.specs.Laws.{EventsLowerWhatIsLeft}
 use Rattle.line_runs.specs.Left.{drive_left, left}
 use Rattle.line_runs.specs.Next.{Clocks, is_served, finish_next, drive_next, idle_next, collect_next, next}
 use Rattle.line_runs.specs.Views.{view_of}
-use Rattle.run_turns.specs.declared.ahead.Ahead.{Ahead}
-use Rattle.run_turns.specs.declared.ahead.Ahead.TheVariants.{Makes, Waits, Passes}
+use Rattle.run_turns.specs.declared.ahead.Ahead.TheVariants.{Waits, Passes}
 use Rattle.run_turns.specs.declared.ahead.Why.TheVariants.{Reply, Name}
 use Rattle.run_turns.specs.Waiting.{made_next, drive_ahead, collect_ahead, own_opens, own_next}
 use Rattle.run_turns.specs.Carried.{made_by}

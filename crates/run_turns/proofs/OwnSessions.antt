@@ -1,5 +1,5 @@
 -- The events of an actor's own turns are of no other session.
-use Rattle.std.proofs.Common.{◌≡◌, ℕ, Bool, true, false, cond, Option, Some, None, ◌⊎◌, inl, inr, refl, sym, ap, subst}
+use Rattle.std.proofs.Common.{◌≡◌, ℕ, Bool, true, false, cond, Option, Some, None, inl, inr, sym, ap, subst}
 use Rattle.history_book.specs.declared.item.Actor.{Actor}
 use Rattle.history_book.specs.declared.item.Actor.TheVariants.{Clock, Node, Session, Janitor}
 use Rattle.oracle_parts.specs.declared.instance.Place.{Place}
@@ -7,13 +7,12 @@ use Rattle.oracle_parts.specs.declared.instance.Place.TheVariants as place
 use Rattle.machine.specs.declared.event.Doing.{Doing}
 use Rattle.machine.specs.declared.event.Doing.TheVariants as doing
 use Rattle.machine.specs.declared.event.Event.{Event}
-use Rattle.machine.specs.declared.event.Event.TheVariants as event
 use Rattle.script_data.specs.declared.line.Verb.{Verb}
 use Rattle.script_data.specs.declared.line.Verb.TheVariants as verb
 use Rattle.line_runs.specs.declared.point.Point.{Point}
 use Rattle.line_runs.specs.declared.point.Point.TheVariants.{Opens, Drives, Extends, Finishes, Reads, Steps, Over}
 use Rattle.line_runs.specs.declared.point.View.{View}
-use Rattle.line_runs.specs.Next.{Clocks, serves, is_served, finish_next, drive_next, extend_by, extend_next, idle_next, collect_next, read_next, steps_next, sweep_next, name_opens, clock_opens, node_opens, session_opens, janitor_opens, session_next, janitor_next, opens_alone, next}
+use Rattle.line_runs.specs.Next.{Clocks, serves, is_served, finish_next, drive_next, extend_next, idle_next, collect_next, read_next, steps_next, sweep_next, name_opens, clock_opens, node_opens, session_opens, janitor_opens, session_next, janitor_next, opens_alone, next}
 use Rattle.run_turns.proofs.OwnEvents.{IsNextOf}
 use Rattle.run_turns.proofs.StillReading.{IsNotOf}
 

@@ -1,6 +1,6 @@
 -- What makes an event: a line of the actor's seat, or a stage.
 use Rattle.std.proofs.Common.{◌≡◌, ℕ, zero, suc, List, [], ◌∷◌, Option, Some, None, refl, sym, ◌∙◌, subst}
-use Rattle.std.specs.Prelude.{filter, slice_get}
+use Rattle.std.specs.Prelude.{slice_get}
 use Rattle.std.proofs.lemmas.Option.{same_Some, none-some}
 use Rattle.stamp_base.specs.SetupNumbers.{SetupNumbers}
 use Rattle.history_book.specs.declared.item.Actor.{Actor}
@@ -19,8 +19,8 @@ use Rattle.line_runs.proofs.Timing.{Timed}
 use Rattle.run_turns.specs.declared.seat.Seat.{Seat}
 use Rattle.run_turns.specs.declared.turn.Turn.{Turn}
 use Rattle.run_turns.specs.declared.turn.Turn.TheVariants as turn
-use Rattle.run_turns.specs.Seats.{lines_of, present_line}
-use Rattle.run_turns.specs.Carried.{Carried, name_posted, ahead_at, seat_ahead, ahead_in, seat_of, made_by, event_of}
+use Rattle.run_turns.specs.Seats.{present_line}
+use Rattle.run_turns.specs.Carried.{Carried, name_posted, ahead_at, ahead_in, seat_of, made_by, event_of}
 use Rattle.run_turns.proofs.OwnEvents.{IsNextOf, own_is_next}
 use Rattle.run_turns.proofs.SeatLists.{find_true, Filtered, filtered}
 use Rattle.run_turns.proofs.StillReading.{IsNotOf}

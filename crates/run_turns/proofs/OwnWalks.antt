@@ -1,6 +1,6 @@
 -- What an event leaves of an actor's walk: one of its own line takes it further, and one of another leaves it; and a line with
 -- nothing left to do is answered.
-use Rattle.std.proofs.Common.{◌≡◌, ℕ, Bool, true, false, cond, ◌&&◌, List, [], ◌∷◌, ◌++◌, Option, Some, None, ◌⊎◌, inl, inr, refl, sym, ◌∙◌, ap, subst}
+use Rattle.std.proofs.Common.{◌≡◌, ℕ, Bool, true, false, cond, ◌&&◌, List, [], ◌∷◌, ◌++◌, Option, Some, None, inl, inr, refl, sym, ◌∙◌, ap, subst}
 use Rattle.std.proofs.lemmas.Option.{none-some}
 use Rattle.port_io.specs.declared.weather.Fate.{Fate}
 use Rattle.history_book.specs.declared.item.Actor.{Actor}
@@ -17,7 +17,7 @@ use Rattle.script_data.specs.declared.line.Verb.{Verb}
 use Rattle.script_data.specs.declared.line.Verb.TheVariants as verb
 use Rattle.isolation_laws.specs.Sound.{Stands}
 use Rattle.line_runs.specs.declared.point.Point.{Point}
-use Rattle.line_runs.specs.declared.point.Point.TheVariants.{Opens, Drives, Extends, Finishes, Reads, Steps, Over}
+use Rattle.line_runs.specs.declared.point.Point.TheVariants.{Opens, Drives, Reads}
 use Rattle.line_runs.specs.declared.point.View.{View}
 use Rattle.line_runs.specs.Answers.{same_actor, has_opening, is_of}
 use Rattle.line_runs.specs.Halts.{halt_of, follows}
@@ -27,19 +27,18 @@ use Rattle.line_runs.specs.Views.{view_of}
 use Rattle.line_runs.proofs.AlwaysFit.{Fit}
 use Rattle.line_runs.proofs.LaterEvents.{IsLater}
 use Rattle.line_runs.proofs.LineWalks.{any_not}
-use Rattle.line_runs.proofs.OwnLines.{AfterOpen, ReadOn, follows_later, later_plain, opens_line, opens_some, read_next_is}
+use Rattle.line_runs.proofs.OwnLines.{follows_later, later_plain, opens_line, opens_some, read_next_is}
 use Rattle.line_runs.proofs.ReadLines.{ReadsKey, EndsOrReads}
 use Rattle.line_runs.proofs.ReadSteps.{read_goes_on, read_has_next}
-use Rattle.line_runs.proofs.ScriptWalks.{same_itself, both_true}
+use Rattle.line_runs.proofs.ScriptWalks.{same_itself}
 use Rattle.line_runs.proofs.Walks.{AllNot}
-use Rattle.run_turns.specs.declared.ahead.Ahead.{Ahead}
-use Rattle.run_turns.specs.declared.ahead.Ahead.TheVariants.{Makes, Waits, Passes}
+use Rattle.run_turns.specs.declared.ahead.Ahead.TheVariants.{Waits, Passes}
 use Rattle.run_turns.specs.declared.ahead.Why.TheVariants.{Name}
 use Rattle.run_turns.specs.Carried.{made_by}
 use Rattle.run_turns.specs.Laws.{IsAnsweredTo}
 use Rattle.run_turns.specs.Waiting.{made_next, own_opens, own_next}
 use Rattle.run_turns.proofs.OwnEvents.{IsNextOf, made_is}
-use Rattle.run_turns.proofs.WalksOn.{answered_past, answered_skip, answered_line, answered_begun, answered_read, ReadUnderWay, Present, StandsSo, stands_next}
+use Rattle.run_turns.proofs.WalksOn.{answered_past, answered_skip, answered_line, answered_begun, answered_read, ReadUnderWay, Present, StandsSo}
 
 -- ---- another's event
 -- it opens no line of the actor, and a read under way goes on

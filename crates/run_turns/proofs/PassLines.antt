@@ -1,6 +1,6 @@
 -- The loop that passes lines comes to the seat of the definition.
-use Rattle.std.proofs.Common.{◌≡◌, ℕ, suc, ◌+◌, ◌<◌, ◌≤◌, Bool, true, false, cond, List, [], ◌∷◌, Some, refl, sym, ◌∙◌, ap, subst, arith, length, zero}
-use Rattle.std.specs.Prelude.{drop, slice_get, slice_index_or}
+use Rattle.std.proofs.Common.{◌≡◌, ℕ, suc, ◌+◌, ◌<◌, ◌≤◌, Bool, true, false, cond, List, [], ◌∷◌, refl, sym, ◌∙◌, ap, subst, arith, length, zero}
+use Rattle.std.specs.Prelude.{drop, slice_index_or}
 use Rattle.std.proofs.lemmas.Option.{same_Some, slice_get_read}
 use Rattle.script_data.specs.declared.line.Line.{Line}
 use Rattle.line_runs.specs.declared.point.View.{View}

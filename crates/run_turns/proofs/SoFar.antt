@@ -1,22 +1,18 @@
 -- Whichever turns are made, each actor's lines are answered up to its seat.
-use Rattle.std.proofs.Common.{◌≡◌, ℕ, suc, ◌+◌, Bool, true, false, cond, List, [], ◌∷◌, ◌++◌, Option, Some, None, ◌⊎◌, inl, inr, refl, sym, ◌∙◌, ap, subst}
-use Rattle.std.specs.Prelude.{drop, find, fold}
+use Rattle.std.proofs.Common.{◌≡◌, ℕ, suc, Bool, true, false, List, [], ◌∷◌, ◌++◌, Option, Some, None, inl, inr, refl, sym, ◌∙◌, ap, subst}
+use Rattle.std.specs.Prelude.{drop, fold}
 use Rattle.std.specs.Option.{option_map}
-use Rattle.std.proofs.lemmas.Option.{same_Some, none-some}
 use Rattle.stamp_base.specs.SetupNumbers.{SetupNumbers}
-use Rattle.port_io.specs.declared.weather.Fate.{Fate}
 use Rattle.history_book.specs.declared.item.Actor.{Actor}
 use Rattle.history_book.specs.declared.item.Actor.TheVariants.{Session}
 use Rattle.history_book.specs.declared.item.Item.{Item}
 use Rattle.machine.specs.declared.event.Event.{Event}
-use Rattle.machine.specs.Machine.{Step, stepped}
+use Rattle.machine.specs.Machine.{Step}
 use Rattle.machine.specs.State.{State}
 use Rattle.script_data.specs.declared.line.Line.{Line}
 use Rattle.script_data.specs.Data.{ScriptData}
-use Rattle.line_runs.specs.declared.point.Point.{Point}
-use Rattle.line_runs.specs.Answers.{same_actor, has_opening}
+use Rattle.line_runs.specs.Answers.{same_actor}
 use Rattle.line_runs.specs.Laws.{ActorFits, VerbFits, AreLinesOf, IsPlayable}
-use Rattle.line_runs.specs.Next.{next}
 use Rattle.line_runs.specs.Runs.{fate_of, clocks_of, step_of}
 use Rattle.line_runs.specs.Views.{view_of}
 use Rattle.line_runs.specs.declared.point.Point.TheVariants.{Drives}

@@ -1,12 +1,10 @@
 -- A session whose transaction is open has no request in flight. So an event that is not its own leaves its client as it was,
 -- and a read under way goes on.
-use Rattle.std.proofs.Common.{◌≡◌, ℕ, zero, suc, Bool, true, false, List, [], ◌∷◌, Option, Some, None, ◌⊎◌, inl, inr, refl, sym, ◌∙◌, ap, subst}
+use Rattle.std.proofs.Common.{◌≡◌, ℕ, zero, suc, false, List, [], ◌∷◌, Option, Some, None, inl, inr, refl, sym, ◌∙◌, ap, subst}
 use Rattle.std.specs.Prelude.{slice_get, slice_set, slice_index_or}
 use Rattle.std.proofs.lemmas.Bool.Decides.{eqb_tells}
-use Rattle.std.proofs.lemmas.Option.{same_Some}
 use Rattle.port_io.specs.declared.weather.Fate.{Fate}
 use Rattle.history_book.specs.declared.item.Item.{Item}
-use Rattle.client_parts.specs.declared.session.State.{State as SessionState}
 use Rattle.client_parts.specs.declared.session.State.TheVariants as phase
 use Rattle.oracle_parts.specs.declared.instance.Held.{Held}
 use Rattle.oracle_parts.specs.declared.instance.Request.{Request}
@@ -15,12 +13,10 @@ use Rattle.oracle_parts.specs.Instance.{InstanceEntry, held_of, stamps_of_held}
 use Rattle.machine.specs.declared.event.Event.{Event}
 use Rattle.machine.specs.declared.event.Event.TheVariants as event
 use Rattle.machine.specs.State.{Client, State}
-use Rattle.machine.specs.Machine.{Step, step_by, with_reading, with_post, with_client, at_post, at_client, at_both, stepped}
+use Rattle.machine.specs.Machine.{Step, step_by, with_reading, with_post, at_post, at_client, at_both, stepped}
 use Rattle.machine.specs.Readers.{held_at}
 use Rattle.machine.specs.Events.Accept.{accept_request, accept_on}
 use Rattle.machine.specs.Events.Answer.{answer_request, answer_on}
-use Rattle.machine.specs.Events.AskBegin.{ask_begin_on}
-use Rattle.machine.specs.Events.AskCommit.{ask_commit_on}
 use Rattle.machine.specs.Events.Crash.{crashed_client, crashed_clients, crash_on}
 use Rattle.machine.specs.Events.Decide.{decide_request, decide_on}
 use Rattle.machine.proofs.PartsKept.{leaves_parts}

@@ -10,17 +10,13 @@ use Rattle.script_data.specs.declared.line.Line.{Line}
 use Rattle.script_data.specs.Data.{ScriptData}
 use Rattle.cause_laws.specs.Shows.{Tells}
 use Rattle.line_runs.specs.Answers.{same_actor}
-use Rattle.line_runs.specs.Laws.{IsPlayable}
 use Rattle.line_runs.specs.Planned.{tick_by, with_tick, ticks_in}
-use Rattle.line_runs.specs.Runs.{opening_played}
 use Rattle.line_runs.proofs.Ending.{opening_reached}
 use Rattle.planned_laws.specs.Laws.{PlannedAtFirst, PlannedInTheEnd}
-use Rattle.planned_laws.specs.Orders.{IsTold}
 use Rattle.planned_laws.specs.SoFar.{PlannedSoFar}
 use Rattle.run_turns.specs.declared.seat.Seat.{Seat}
-use Rattle.run_turns.specs.declared.turn.Turn.{Turn}
 use Rattle.run_turns.specs.Seats.{first_seat, lines_of, lines_left}
-use Rattle.run_turns.specs.Carried.{Carried, seat_of, seat_passed, all_passed, at_first, carried, AreWhole}
+use Rattle.run_turns.specs.Carried.{Carried, seat_of, all_passed, at_first, carried}
 use Rattle.run_turns.specs.Laws.{unanswered, ticks_ahead, IsPlannedSoFar, TurnsArePlannedSoFar, TurnsArePlanned}
 use Rattle.run_turns.proofs.Answered.{none_unanswered, whole_seat}
 use Rattle.run_turns.proofs.Facts.{facts_at_first}

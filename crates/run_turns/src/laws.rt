@@ -3,7 +3,9 @@ ghost use Rattle.run_turns.specs.Laws.{OwnEventsLowerWhatIsLeft, TurnsKeepFacts,
 
 use cause_laws::told_at_first;
 use line_runs::events_lower_what_is_left;
-use planned_laws::{events_stay_planned, events_stay_told, lines_read_clocks, planned_at_first, planned_in_the_end};
+use planned_laws::{
+    events_stay_planned, events_stay_told, lines_read_clocks, planned_at_first, planned_in_the_end,
+};
 
 /// Each event of an own turn leaves fewer to make of its line, in every state that is reached, whatever becomes of its store
 /// call. So each line ends, once it no longer waits.
@@ -17,21 +19,18 @@ pub fn own_events_lower_what_is_left()
 /// few, all facts hold after them, and the history is isolated with them.
 pub fn turns_keep_facts()
     ensures { TurnsKeepFacts }
-{
-}
+{}
 
 /// Whichever turns are made, the lines that an actor has passed are answered in the history, and so is its present line once it
 /// has opened; a read under way is owed.
 pub fn turns_answer_so_far()
     ensures { TurnsAnswerSoFar }
-{
-}
+{}
 
 /// Where no actor has a line left, the history answers every line of the script.
 pub fn turns_answer()
     ensures { TurnsAnswer }
-{
-}
+{}
 
 /// Whichever turns are made, the history keeps to the script's plan: no store has more faults than are planned for it, the clock
 /// has ticked as its lines say up to its seat, and each reading is that of its node's clock.

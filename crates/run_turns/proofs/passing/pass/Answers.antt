@@ -1,12 +1,12 @@
-use Rattle.std.proofs.Common.{◌≡◌, refl, sym, ◌∙◌, arith}
-use Rattle.run_turns.proofs.PassLines.{PassesOn, passes_on, passes_no_more, passes_all}
+use Rattle.std.proofs.Common.{refl, sym, ◌∙◌}
+use Rattle.run_turns.proofs.PassLines.{passes_on, passes_no_more, passes_all}
 use Rattle.run_turns.proofs.passing.pass.Goals as goal
 
 pub loop-seat-init : goal.loop-seat-init
 loop-seat-init c = record { inside = c.requires.place; same = refl }
 
 pub loop-seat-preserved : goal.loop-seat-preserved
-loop-seat-preserved c = 
+loop-seat-preserved c =
     passes_on _ _ _ _ _ _ c.index-lines-seat.result c.index-lines-seat-in-loop-seat.result c.loop-seat.invariant c.loop-seat-test.true c.index-lines-seat.is
     (sym c.is_passed.ensures ∙ c.if-is_passed.true) c.index-lines-seat-in-loop-seat.is c.with_next_line.ensures
 

@@ -1,4 +1,4 @@
-use Rattle.std.specs.Prelude.{ℕ, ◌-◌, length}
+use Rattle.std.specs.Prelude.{◌-◌, length}
 use Rattle.line_runs.specs.Clocks.{clocks}
 use Rattle.run_turns.proofs.PassLines.{PassesOn}
 use Rattle.run_turns.proofs.passing.pass.Given as goal
