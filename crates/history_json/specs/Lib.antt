@@ -1,0 +1,4 @@
+pub mod History
+pub mod Json
+pub mod Members
+pub mod Words

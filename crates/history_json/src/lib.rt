@@ -1,0 +1,12 @@
+//! Histories as JSON: each item an object on a line of its own, and histories of both formats read back.
+#![tactic(auto)]
+
+mod history;
+mod line;
+mod objects;
+mod rows;
+mod texts;
+mod words;
+
+pub use history::{Format, format_of, read_history};
+pub use line::{from_line, printed_line, to_line};
