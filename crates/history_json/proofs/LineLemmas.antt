@@ -12,11 +12,11 @@ use Rattle.history_reading.specs.History.{lines_of, says_something}
 use Rattle.history_json.specs.declared.history.Format.{Format}
 use Rattle.history_json.specs.History.{line_format, first_format, format_of, IsLineOf, AreLinesOf, IsNoItem, IsFaultAt, IsFaultOf, AddsLine}
 
-appended : (format : Format) (xs ys : List (List ℕ)) (as bs : List Item) → AreLinesOf format xs as → AreLinesOf format ys bs → AreLinesOf format (xs ++ ys) (as ++ bs)
-appended format [] ys [] bs one other = other
-appended format [] ys (a ∷ as) bs one other = absurd one
-appended format (x ∷ xs) ys [] bs one other = absurd one
-appended format (x ∷ xs) ys (a ∷ as) bs one other = (one.0, appended format xs ys as bs one.1 other)
+appended : (format : Format) (xs ys : List (List ℕ)) (one other : List Item) → AreLinesOf format xs one → AreLinesOf format ys other → AreLinesOf format (xs ++ ys) (one ++ other)
+appended format [] ys [] other are also = also
+appended format [] ys (a ∷ one) other are also = absurd are
+appended format (x ∷ xs) ys [] other are also = absurd are
+appended format (x ∷ xs) ys (a ∷ one) other are also = (are.0, appended format xs ys one other are.1 also)
 
 -- what the items of the lines that are left make of the items so far
 abbrev pub Told : Format → List (List ℕ) → List (List ℕ) → List Item → Type 0

@@ -73,7 +73,13 @@ fn read_lines(alloc: Global, bytes: &[u8]) -> Result<Vec<Item>, HistoryFault>
 }
 
 /// Adds the item that the line of this number is, where it says something.
-fn add_line(alloc: Global, items: &mut Vec<Item>, format: Format, number: u64, line: &[u8]) -> Result<(), HistoryFault>
+fn add_line(
+    alloc: Global,
+    items: &mut Vec<Item>,
+    format: Format,
+    number: u64,
+    line: &[u8],
+) -> Result<(), HistoryFault>
     ensures read { OnOk result (AddsLine format line.now items.old.items items.new.items) }
     ensures right { OnOk result (IsNoItem format line.now → ⊥) }
     ensures bad { IfErr result (λ fault. IsFaultAt format number line.now fault) }

@@ -2,6 +2,7 @@
 #![tactic(auto)]
 
 mod history;
+mod laws;
 mod line;
 mod objects;
 mod rows;
@@ -9,4 +10,8 @@ mod texts;
 mod words;
 
 pub use history::{Format, format_of, read_history};
+pub use laws::one_history;
 pub use line::{from_line, printed_line, to_line};
+
+#[cfg(test)]
+mod tests;

@@ -42,10 +42,32 @@ fn node_row(kind: &[u8]) -> Option<Row>
         return Some(&["tick ", "to"]);
     }
     if is_kind(kind, b"take") {
-        return Some(&["take ", "node", " reading=", "reading", " term=", "term", " epoch=", "epoch", " until=", "until", " ceiling=", "ceiling"]);
+        return Some(&[
+            "take ",
+            "node",
+            " reading=",
+            "reading",
+            " term=",
+            "term",
+            " epoch=",
+            "epoch",
+            " until=",
+            "until",
+            " ceiling=",
+            "ceiling",
+        ]);
     }
     if is_kind(kind, b"renew") {
-        return Some(&["renew ", "node", " reading=", "reading", " term=", "term", " until=", "until"]);
+        return Some(&[
+            "renew ",
+            "node",
+            " reading=",
+            "reading",
+            " term=",
+            "term",
+            " until=",
+            "until",
+        ]);
     }
     if is_kind(kind, b"extend") {
         return Some(&["extend ", "node", " term=", "term", " ceiling=", "ceiling"]);
@@ -67,7 +89,16 @@ fn request_row(kind: &[u8], object: &Value) -> Option<Row>
         return Some(&["ask-commit ", "session", " ", "node", " start=", "start"]);
     }
     if is_kind(kind, b"accept") {
-        return Some(&["accept ", "session", " ", "node", " term=", "term", " reading=", "reading"]);
+        return Some(&[
+            "accept ",
+            "session",
+            " ",
+            "node",
+            " term=",
+            "term",
+            " reading=",
+            "reading",
+        ]);
     }
     if is_kind(kind, b"draw") {
         return draw_row(object);
@@ -86,13 +117,22 @@ fn session_row(kind: &[u8], object: &Value) -> Option<Row>
         return Some(&["begin ", "session", " start=", "start"]);
     }
     if is_kind(kind, b"write") {
-        return Some(&["write ", "session", " start=", "start", " ", "key", " ", "value"]);
+        return Some(&[
+            "write ", "session", " start=", "start", " ", "key", " ", "value",
+        ]);
     }
     if is_kind(kind, b"read") {
         return read_row(object);
     }
     if is_kind(kind, b"committed") {
-        return Some(&["committed ", "session", " start=", "start", " commit=", "commit"]);
+        return Some(&[
+            "committed ",
+            "session",
+            " start=",
+            "start",
+            " commit=",
+            "commit",
+        ]);
     }
     if is_kind(kind, b"end") {
         return Some(&["end ", "session", " start=", "start", " ", "how"]);
@@ -130,9 +170,14 @@ fn draw_row(object: &Value) -> Option<Row>
     ensures { option_map (λ row. map (λ part. part.now) row.now) result ≡ draw_row (view object.now) }
 {
     if object.get("commit").is_some() {
-        return Some(&["draw ", "session", " ", "node", " term=", "term", " start=", "start", " commit=", "commit"]);
+        return Some(&[
+            "draw ", "session", " ", "node", " term=", "term", " start=", "start", " commit=",
+            "commit",
+        ]);
     }
-    Some(&["draw ", "session", " ", "node", " term=", "term", " start=", "start"])
+    Some(&[
+        "draw ", "session", " ", "node", " term=", "term", " start=", "start",
+    ])
 }
 
 #[tactic(auto, unfolding(crate::specs::Words::read_row))]
@@ -140,7 +185,9 @@ fn read_row(object: &Value) -> Option<Row>
     ensures { option_map (λ row. map (λ part. part.now) row.now) result ≡ read_row (view object.now) }
 {
     if object.get("from").is_some() {
-        return Some(&["read ", "session", " start=", "start", " ", "key", " from=", "from", " ", "value"]);
+        return Some(&[
+            "read ", "session", " start=", "start", " ", "key", " from=", "from", " ", "value",
+        ]);
     }
     Some(&["read ", "session", " start=", "start", " ", "key", " none"])
 }

@@ -119,7 +119,13 @@ pub fn step_words(alloc: Global, what: StoreStep) -> Result<String, AllocError>
     ensures { IfOk result (λ s. string_bytes s ≡ step_text what) }
 {
     let mut line = LineBuf::new();
-    print_body(&Item::Step { actor: Actor::Clock, what }, &mut line);
+    print_body(
+        &Item::Step {
+            actor: Actor::Clock,
+            what,
+        },
+        &mut line,
+    );
     String::from_str(alloc, text_of(&line.as_slice()[b"step clock ".len()..]))
 }
 
@@ -128,6 +134,12 @@ pub fn cause_words(alloc: Global, cause: Cause) -> Result<String, AllocError>
     ensures { IfOk result (λ s. string_bytes s ≡ cause_text cause) }
 {
     let mut line = LineBuf::new();
-    print_body(&Item::Refused { actor: Actor::Clock, cause }, &mut line);
+    print_body(
+        &Item::Refused {
+            actor: Actor::Clock,
+            cause,
+        },
+        &mut line,
+    );
     String::from_str(alloc, text_of(&line.as_slice()[b"refused clock ".len()..]))
 }

@@ -15,13 +15,27 @@ pub fn tick(alloc: Global, to: u64) -> Result<Value, AllocError>
     json!(in alloc; {"kind": "tick", "to": to})
 }
 
-pub fn take(alloc: Global, node: NodeNo, reading: u64, term: Term, epoch: u64, until: u64, ceiling: u64) -> Result<Value, AllocError>
+pub fn take(
+    alloc: Global,
+    node: NodeNo,
+    reading: u64,
+    term: Term,
+    epoch: u64,
+    until: u64,
+    ceiling: u64,
+) -> Result<Value, AllocError>
     ensures { IfOk result (λ made. view made ≡ data_of (item.Take node reading term epoch until ceiling)) }
 {
     json!(in alloc; {"ceiling": ceiling, "epoch": epoch, "kind": "take", "node": node_name(node), "reading": reading, "term": term.value(), "until": until})
 }
 
-pub fn renew(alloc: Global, node: NodeNo, reading: u64, term: Term, until: u64) -> Result<Value, AllocError>
+pub fn renew(
+    alloc: Global,
+    node: NodeNo,
+    reading: u64,
+    term: Term,
+    until: u64,
+) -> Result<Value, AllocError>
     ensures { IfOk result (λ made. view made ≡ data_of (item.Renew node reading term until)) }
 {
     json!(in alloc; {"kind": "renew", "node": node_name(node), "reading": reading, "term": term.value(), "until": until})

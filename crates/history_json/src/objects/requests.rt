@@ -16,21 +16,39 @@ pub fn ask_begin(alloc: Global, session: SessionNo, node: NodeNo) -> Result<Valu
     json!(in alloc; {"kind": "ask-begin", "node": node_name(node), "session": session})
 }
 
-pub fn ask_commit(alloc: Global, session: SessionNo, node: NodeNo, start: Stamp) -> Result<Value, AllocError>
+pub fn ask_commit(
+    alloc: Global,
+    session: SessionNo,
+    node: NodeNo,
+    start: Stamp,
+) -> Result<Value, AllocError>
     ensures { IfOk result (λ made. view made ≡ data_of (item.AskCommit session node start)) }
 {
     let session = session_name(alloc, session)?;
     json!(in alloc; {"kind": "ask-commit", "node": node_name(node), "session": session, "start": start.value()})
 }
 
-pub fn accept(alloc: Global, session: SessionNo, node: NodeNo, term: Term, reading: u64) -> Result<Value, AllocError>
+pub fn accept(
+    alloc: Global,
+    session: SessionNo,
+    node: NodeNo,
+    term: Term,
+    reading: u64,
+) -> Result<Value, AllocError>
     ensures { IfOk result (λ made. view made ≡ data_of (item.Accept session node term reading)) }
 {
     let session = session_name(alloc, session)?;
     json!(in alloc; {"kind": "accept", "node": node_name(node), "reading": reading, "session": session, "term": term.value()})
 }
 
-pub fn draw(alloc: Global, session: SessionNo, node: NodeNo, term: Term, start: Stamp, commit: Option<Stamp>) -> Result<Value, AllocError>
+pub fn draw(
+    alloc: Global,
+    session: SessionNo,
+    node: NodeNo,
+    term: Term,
+    start: Stamp,
+    commit: Option<Stamp>,
+) -> Result<Value, AllocError>
     ensures { IfOk result (λ made. view made ≡ data_of (item.Draw session node term start commit)) }
 {
     match commit {
@@ -39,14 +57,27 @@ pub fn draw(alloc: Global, session: SessionNo, node: NodeNo, term: Term, start: 
     }
 }
 
-fn begin_draw(alloc: Global, session: SessionNo, node: NodeNo, term: Term, start: Stamp) -> Result<Value, AllocError>
+fn begin_draw(
+    alloc: Global,
+    session: SessionNo,
+    node: NodeNo,
+    term: Term,
+    start: Stamp,
+) -> Result<Value, AllocError>
     ensures { IfOk result (λ made. view made ≡ data_of (item.Draw session node term start None)) }
 {
     let session = session_name(alloc, session)?;
     json!(in alloc; {"kind": "draw", "node": node_name(node), "session": session, "start": start.value(), "term": term.value()})
 }
 
-fn commit_draw(alloc: Global, session: SessionNo, node: NodeNo, term: Term, start: Stamp, commit: Stamp) -> Result<Value, AllocError>
+fn commit_draw(
+    alloc: Global,
+    session: SessionNo,
+    node: NodeNo,
+    term: Term,
+    start: Stamp,
+    commit: Stamp,
+) -> Result<Value, AllocError>
     ensures { IfOk result (λ made. view made ≡ data_of (item.Draw session node term start (Some commit))) }
 {
     let session = session_name(alloc, session)?;

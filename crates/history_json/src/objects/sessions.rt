@@ -17,7 +17,13 @@ pub fn begin(alloc: Global, session: SessionNo, start: Stamp) -> Result<Value, A
     json!(in alloc; {"kind": "begin", "session": session, "start": start.value()})
 }
 
-pub fn write(alloc: Global, session: SessionNo, start: Stamp, key: KeyNo, value: stamp_base::Value) -> Result<Value, AllocError>
+pub fn write(
+    alloc: Global,
+    session: SessionNo,
+    start: Stamp,
+    key: KeyNo,
+    value: stamp_base::Value,
+) -> Result<Value, AllocError>
     ensures { IfOk result (λ made. view made ≡ data_of (item.Write session start key value)) }
 {
     let key = key_name(alloc, key)?;
@@ -25,7 +31,13 @@ pub fn write(alloc: Global, session: SessionNo, start: Stamp, key: KeyNo, value:
     json!(in alloc; {"key": key, "kind": "write", "session": session, "start": start.value(), "value": value_text(&value)})
 }
 
-pub fn read(alloc: Global, session: SessionNo, start: Stamp, key: KeyNo, answer: Option<Found>) -> Result<Value, AllocError>
+pub fn read(
+    alloc: Global,
+    session: SessionNo,
+    start: Stamp,
+    key: KeyNo,
+    answer: Option<Found>,
+) -> Result<Value, AllocError>
     ensures { IfOk result (λ made. view made ≡ data_of (item.Read session start key answer)) }
 {
     match answer {
@@ -34,7 +46,12 @@ pub fn read(alloc: Global, session: SessionNo, start: Stamp, key: KeyNo, answer:
     }
 }
 
-fn read_none(alloc: Global, session: SessionNo, start: Stamp, key: KeyNo) -> Result<Value, AllocError>
+fn read_none(
+    alloc: Global,
+    session: SessionNo,
+    start: Stamp,
+    key: KeyNo,
+) -> Result<Value, AllocError>
     ensures { IfOk result (λ made. view made ≡ data_of (item.Read session start key None)) }
 {
     let key = key_name(alloc, key)?;
@@ -42,7 +59,14 @@ fn read_none(alloc: Global, session: SessionNo, start: Stamp, key: KeyNo) -> Res
     json!(in alloc; {"key": key, "kind": "read", "session": session, "start": start.value()})
 }
 
-fn read_some(alloc: Global, session: SessionNo, start: Stamp, key: KeyNo, from: TxnId, value: stamp_base::Value) -> Result<Value, AllocError>
+fn read_some(
+    alloc: Global,
+    session: SessionNo,
+    start: Stamp,
+    key: KeyNo,
+    from: TxnId,
+    value: stamp_base::Value,
+) -> Result<Value, AllocError>
     ensures { IfOk result (λ made. view made ≡ data_of (item.Read session start key (Some (record { from = from; value = value })))) }
 {
     let key = key_name(alloc, key)?;
@@ -50,14 +74,24 @@ fn read_some(alloc: Global, session: SessionNo, start: Stamp, key: KeyNo, from: 
     json!(in alloc; {"from": from.value(), "key": key, "kind": "read", "session": session, "start": start.value(), "value": value_text(&value)})
 }
 
-pub fn committed(alloc: Global, session: SessionNo, start: Stamp, commit: Stamp) -> Result<Value, AllocError>
+pub fn committed(
+    alloc: Global,
+    session: SessionNo,
+    start: Stamp,
+    commit: Stamp,
+) -> Result<Value, AllocError>
     ensures { IfOk result (λ made. view made ≡ data_of (item.Committed session start commit)) }
 {
     let session = session_name(alloc, session)?;
     json!(in alloc; {"commit": commit.value(), "kind": "committed", "session": session, "start": start.value()})
 }
 
-pub fn end(alloc: Global, session: SessionNo, start: Stamp, how: Ending) -> Result<Value, AllocError>
+pub fn end(
+    alloc: Global,
+    session: SessionNo,
+    start: Stamp,
+    how: Ending,
+) -> Result<Value, AllocError>
     ensures { IfOk result (λ made. view made ≡ data_of (item.End session start how)) }
 {
     let session = session_name(alloc, session)?;
