@@ -8,4 +8,4 @@ mod StepTexts
 mod CauseTexts
 mod ActorTexts
 pub mod RoundTrip
-mod LineLemmas
+pub mod LineLemmas

@@ -76,7 +76,7 @@ fn read_line(items: &mut Vec<Item>, number: u64, line: &[u8]) -> Result<(), Hist
 }
 
 /// The first line and the bytes after it, where a line feed ends it; without a line feed, all bytes are one line.
-fn cut_line(bytes: &[u8]) -> Option<(&[u8], &[u8])>
+pub fn cut_line(bytes: &[u8]) -> Option<(&[u8], &[u8])>
     ensures lines { MatchOption result (lines_of bytes.now ≡ bytes.now ∷ []) (λ cut. lines_of bytes.now ≡ cut.0.now ∷ lines_of cut.1.now) }
     ensures shorter { IfSome result (λ cut. length cut.1.now < length bytes.now) }
 {

@@ -5,7 +5,7 @@ mod history;
 mod laws;
 mod reading;
 
-pub use history::{HistoryFault, read_history};
+pub use history::{HistoryFault, cut_line, read_history};
 pub use laws::texts_differ;
 pub use reading::read_item;
 

@@ -1,0 +1,5 @@
+pub mod History
+pub mod Json
+pub mod Laws
+pub mod Members
+pub mod Words

@@ -1,0 +1,17 @@
+//! Histories as JSON: each item an object on a line of its own, and histories of both formats read back.
+#![tactic(auto)]
+
+mod history;
+mod laws;
+mod line;
+mod objects;
+mod rows;
+mod texts;
+mod words;
+
+pub use history::{Format, format_of, read_history};
+pub use laws::one_history;
+pub use line::{from_line, printed_line, to_line};
+
+#[cfg(test)]
+mod tests;

@@ -1,0 +1,81 @@
+// An item's line of JSON, written and read.
+ghost use Rattle.std.specs.Prelude.{◌≡◌, ◌≤◌, ◌↔◌, IfOk, IfSome, IsTrue, Some, string_bytes};
+ghost use Rattle.serde_json.specs.Data.{depth};
+ghost use Rattle.serde_json.specs.Read.{max_depth};
+ghost use Rattle.serde_json.specs.View.{view};
+ghost use Rattle.history_book.specs.declared.item.Item.{Item};
+ghost use Rattle.history_text.specs.Fits.{FitsItem};
+ghost use Rattle.history_json.specs.Json.{data_of, json_line, json_text, IsJsonLineOf};
+
+use crate::objects::object_of;
+use crate::words::words_of;
+use history_book::Item;
+use history_reading::read_item;
+use serde_json::Value;
+use stamp_base::NoMemory;
+use std::alloc::{AllocError, Global};
+
+/// The item's line without its line feed. `from_line` reads it as the item.
+pub fn to_line(alloc: Global, item: &Item) -> Result<String, NoMemory>
+    ensures text { IfOk result (λ line. string_bytes line ≡ json_line item.now) }
+    ensures read_again { IfOk result (λ line. IsJsonLineOf (string_bytes line) item.now) }
+{
+    Ok(object_of(alloc, item)?.to_string(alloc)?)
+}
+
+/// The item whose line of JSON the bytes are. Blanks, escapes and the order of the members are free.
+pub fn from_line(alloc: Global, line: &[u8]) -> Result<Option<Item>, NoMemory>
+    ensures found { IfOk result (λ found. IfSome found (IsJsonLineOf line.now)) }
+    ensures fits { IfOk result (λ found. IfSome found FitsItem) }
+    ensures only { IfOk result (λ found. (item : Item) → FitsItem item → IsJsonLineOf line.now item → found ≡ Some item) }
+{
+    match Value::from_slice(alloc, line) {
+        Ok(value) => Ok(item_of(alloc, &value)?),
+        Err(error) if error.is_memory() => Err(NoMemory),
+        Err(_) => Ok(None),
+    }
+}
+
+/// The item that the value is.
+fn item_of(alloc: Global, value: &Value) -> Result<Option<Item>, AllocError>
+    requires { depth (view value.now) ≤ max_depth }
+    ensures found { IfOk result (λ found. IfSome found (λ item. view value.now ≡ data_of item)) }
+    ensures fits { IfOk result (λ found. IfSome found FitsItem) }
+    ensures only { IfOk result (λ found. (item : Item) → FitsItem item → view value.now ≡ data_of item → found ≡ Some item) }
+{
+    let Some(item) = candidate(alloc, value)? else {
+        return Ok(None);
+    };
+    let same = is_object_of(alloc, value, &item)?;
+    Ok(if same { Some(item) } else { None })
+}
+
+/// An item that the value may be: its object decides.
+fn candidate(alloc: Global, value: &Value) -> Result<Option<Item>, AllocError>
+    ensures fits { IfOk result (λ found. IfSome found FitsItem) }
+    ensures only { IfOk result (λ found. (item : Item) → FitsItem item → view value.now ≡ data_of item → found ≡ Some item) }
+{
+    match words_of(alloc, value)? {
+        Some(words) => Ok(read_item(&words)),
+        None => Ok(None),
+    }
+}
+
+/// Whether the value is the item's object: whether both are written alike.
+fn is_object_of(alloc: Global, value: &Value, item: &Item) -> Result<bool, AllocError>
+    requires { depth (view value.now) ≤ max_depth }
+    ensures { IfOk result (λ same. IsTrue same ↔ (view value.now ≡ data_of item.now)) }
+{
+    let written = value.to_vec(alloc)?;
+    let other = object_of(alloc, item)?.to_vec(alloc)?;
+    Ok(written.as_slice() == other.as_slice())
+}
+
+/// The item's line as a history prints it, with its line feed.
+pub fn printed_line(alloc: Global, item: &Item) -> Result<String, NoMemory>
+    ensures { IfOk result (λ line. string_bytes line ≡ json_text item.now) }
+{
+    let mut line = to_line(alloc, item)?;
+    line.push_str("\n")?;
+    Ok(line)
+}

@@ -1,0 +1,331 @@
+// Each kind of item both ways, lines that are written otherwise, and lines that are almost one.
+use crate::{from_line, printed_line, read_history, to_line};
+use history_book::Item;
+use history_reading::{HistoryFault, read_item};
+use std::test::Fail;
+
+/// Lines of text, and the same items in JSON.
+const LINES: [(&str, &str); 40] = [
+    ("tick 12", "{\"kind\":\"tick\",\"to\":12}"),
+    (
+        "note s1 post p",
+        "{\"actor\":\"s1\",\"kind\":\"note\",\"name\":\"p\",\"note\":\"post\"}",
+    ),
+    (
+        "note s1 await p",
+        "{\"actor\":\"s1\",\"kind\":\"note\",\"name\":\"p\",\"note\":\"await\"}",
+    ),
+    (
+        "note a hold persist",
+        "{\"actor\":\"a\",\"kind\":\"note\",\"name\":\"persist\",\"note\":\"hold\"}",
+    ),
+    (
+        "note janitor free reply",
+        "{\"actor\":\"janitor\",\"kind\":\"note\",\"name\":\"reply\",\"note\":\"free\"}",
+    ),
+    (
+        "take a reading=0 term=1 epoch=0 until=10 ceiling=100",
+        "{\"ceiling\":100,\"epoch\":0,\"kind\":\"take\",\"node\":\"a\",\"reading\":0,\"term\":1,\"until\":10}",
+    ),
+    (
+        "renew a reading=5 term=1 until=15",
+        "{\"kind\":\"renew\",\"node\":\"a\",\"reading\":5,\"term\":1,\"until\":15}",
+    ),
+    (
+        "extend h term=1 ceiling=200",
+        "{\"ceiling\":200,\"kind\":\"extend\",\"node\":\"h\",\"term\":1}",
+    ),
+    (
+        "ask-begin s0 a",
+        "{\"kind\":\"ask-begin\",\"node\":\"a\",\"session\":\"s0\"}",
+    ),
+    (
+        "ask-commit s1 b start=1",
+        "{\"kind\":\"ask-commit\",\"node\":\"b\",\"session\":\"s1\",\"start\":1}",
+    ),
+    (
+        "accept s1 c term=1 reading=0",
+        "{\"kind\":\"accept\",\"node\":\"c\",\"reading\":0,\"session\":\"s1\",\"term\":1}",
+    ),
+    (
+        "draw s1 d term=1 start=1",
+        "{\"kind\":\"draw\",\"node\":\"d\",\"session\":\"s1\",\"start\":1,\"term\":1}",
+    ),
+    (
+        "draw s1 e term=1 start=1 commit=2",
+        "{\"commit\":2,\"kind\":\"draw\",\"node\":\"e\",\"session\":\"s1\",\"start\":1,\"term\":1}",
+    ),
+    (
+        "begin s0 start=1",
+        "{\"kind\":\"begin\",\"session\":\"s0\",\"start\":1}",
+    ),
+    (
+        "write s1 start=1 k0 a\"b\\c",
+        "{\"key\":\"k0\",\"kind\":\"write\",\"session\":\"s1\",\"start\":1,\"value\":\"a\\\"b\\\\c\"}",
+    ),
+    (
+        "read s1 start=3 k0 none",
+        "{\"key\":\"k0\",\"kind\":\"read\",\"session\":\"s1\",\"start\":3}",
+    ),
+    (
+        "read s1 start=3 k0 from=1 v",
+        "{\"from\":1,\"key\":\"k0\",\"kind\":\"read\",\"session\":\"s1\",\"start\":3,\"value\":\"v\"}",
+    ),
+    (
+        "placed start=1 commit=2",
+        "{\"commit\":2,\"kind\":\"placed\",\"start\":1}",
+    ),
+    (
+        "committed s15 start=1 commit=4611686018427387904",
+        "{\"commit\":4611686018427387904,\"kind\":\"committed\",\"session\":\"s15\",\"start\":1}",
+    ),
+    (
+        "mark janitor start=1",
+        "{\"actor\":\"janitor\",\"kind\":\"mark\",\"start\":1}",
+    ),
+    (
+        "step s0 shadow k0 1 2",
+        "{\"actor\":\"s0\",\"kind\":\"step\",\"text\":\"shadow k0 1 2\"}",
+    ),
+    (
+        "step s0 fetch k4095 cells=2",
+        "{\"actor\":\"s0\",\"kind\":\"step\",\"text\":\"fetch k4095 cells=2\"}",
+    ),
+    (
+        "step s2 get 1 absent",
+        "{\"actor\":\"s2\",\"kind\":\"step\",\"text\":\"get 1 absent\"}",
+    ),
+    (
+        "step s2 mark 1 committed=2",
+        "{\"actor\":\"s2\",\"kind\":\"step\",\"text\":\"mark 1 committed=2\"}",
+    ),
+    (
+        "step s2 look k0 1 gone",
+        "{\"actor\":\"s2\",\"kind\":\"step\",\"text\":\"look k0 1 gone\"}",
+    ),
+    (
+        "step s2 remove 1",
+        "{\"actor\":\"s2\",\"kind\":\"step\",\"text\":\"remove 1\"}",
+    ),
+    (
+        "step s2 erase k0 1",
+        "{\"actor\":\"s2\",\"kind\":\"step\",\"text\":\"erase k0 1\"}",
+    ),
+    (
+        "step janitor keys 1 count=2",
+        "{\"actor\":\"janitor\",\"kind\":\"step\",\"text\":\"keys 1 count=2\"}",
+    ),
+    (
+        "step f put 1 invalid",
+        "{\"actor\":\"f\",\"kind\":\"step\",\"text\":\"put 1 invalid\"}",
+    ),
+    (
+        "end s1 start=1 read-only",
+        "{\"how\":\"read-only\",\"kind\":\"end\",\"session\":\"s1\",\"start\":1}",
+    ),
+    (
+        "end s1 start=1 aborted",
+        "{\"how\":\"aborted\",\"kind\":\"end\",\"session\":\"s1\",\"start\":1}",
+    ),
+    (
+        "end s1 start=1 dead",
+        "{\"how\":\"dead\",\"kind\":\"end\",\"session\":\"s1\",\"start\":1}",
+    ),
+    (
+        "refused s1 conflict key=k0 by=3",
+        "{\"actor\":\"s1\",\"kind\":\"refused\",\"text\":\"conflict key=k0 by=3\"}",
+    ),
+    (
+        "refused g crashed node=g term=1",
+        "{\"actor\":\"g\",\"kind\":\"refused\",\"text\":\"crashed node=g term=1\"}",
+    ),
+    (
+        "refused clock busy",
+        "{\"actor\":\"clock\",\"kind\":\"refused\",\"text\":\"busy\"}",
+    ),
+    (
+        "fault s1 cells",
+        "{\"actor\":\"s1\",\"kind\":\"fault\",\"store\":\"cells\"}",
+    ),
+    (
+        "fault a table",
+        "{\"actor\":\"a\",\"kind\":\"fault\",\"store\":\"table\"}",
+    ),
+    (
+        "fault a master",
+        "{\"actor\":\"a\",\"kind\":\"fault\",\"store\":\"master\"}",
+    ),
+    (
+        "crash a term=18446744073709551615",
+        "{\"kind\":\"crash\",\"node\":\"a\",\"term\":18446744073709551615}",
+    ),
+    ("vanish s1", "{\"kind\":\"vanish\",\"session\":\"s1\"}"),
+];
+
+#[test]
+fn each_line_is_written_and_read(rt: HostRuntime) -> Result<(), Fail> {
+    for (text, json) in LINES {
+        let item = read_item(text.as_bytes()).ok_or(text)?;
+        assert!(rt; to_line(rt.alloc(), &item)?.as_str() == json, "{json}");
+        assert!(rt;
+            from_line(rt.alloc(), json.as_bytes())? == Some(item),
+            "{json}"
+        );
+        let line = printed_line(rt.alloc(), &item)?;
+        match line.as_bytes() {
+            [body @ .., b'\n'] => assert!(rt; body == json.as_bytes(), "{json}"),
+            _ => return Err(Fail::from(json)),
+        }
+    }
+    Ok(())
+}
+
+/// Lines with blanks, escapes, another order or a repeated member, and the same items in text.
+const FREE: [(&str, &str); 4] = [
+    (
+        " { \"start\" : 1 ,\t\"session\":\"s0\", \"kind\":\"begin\" } \r",
+        "begin s0 start=1",
+    ),
+    (
+        "{\"kind\":\"begin\",\"session\":\"s0\",\"start\":1,\"start\":2}",
+        "begin s0 start=2",
+    ),
+    (
+        "{\"kind\":\"b\\u0065gin\",\"session\":\"\\u00730\",\"start\":1}",
+        "begin s0 start=1",
+    ),
+    (
+        "{\"k\\u0065y\":\"k0\",\"kind\":\"write\",\"session\":\"s0\",\"start\":1,\"value\":\"a\\/b\"}",
+        "write s0 start=1 k0 a/b",
+    ),
+];
+
+#[test]
+fn blanks_escapes_and_order_are_free(rt: HostRuntime) -> Result<(), Fail> {
+    for (json, text) in FREE {
+        let item = read_item(text.as_bytes()).ok_or(text)?;
+        assert!(rt;
+            from_line(rt.alloc(), json.as_bytes())? == Some(item),
+            "{json}"
+        );
+    }
+    Ok(())
+}
+
+const BROKEN: [&str; 48] = [
+    "",
+    "{",
+    "{}",
+    "[]",
+    "null",
+    "\"begin\"",
+    "1",
+    "{\"kind\":\"begin\",\"session\":\"s0\",\"start\":1,\"term\":1}",
+    "{\"kind\":\"begin\",\"session\":\"s0\"}",
+    "{\"session\":\"s0\",\"start\":1}",
+    "{\"kind\":\"begin\",\"session\":\"s0\",\"start\":2.0}",
+    "{\"kind\":\"begin\",\"session\":\"s0\",\"start\":1e0}",
+    "{\"kind\":\"begin\",\"session\":\"s0\",\"start\":01}",
+    "{\"kind\":\"tick\",\"to\":-0}",
+    "{\"kind\":\"tick\",\"to\":-1}",
+    "{\"kind\":\"tick\",\"to\":18446744073709551616}",
+    "{\"kind\":\"tick\",\"to\":\"12\"}",
+    "{\"kind\":\"tick\",\"to\":null}",
+    "{\"kind\":\"tick\",\"to\":12} x",
+    "{\"kind\":\"tick\",\"to\":12}{\"kind\":\"tick\",\"to\":12}",
+    "{\"kind\":\"tick\",\"to\":12,}",
+    "{\"kind\":\"tock\",\"to\":12}",
+    "{\"kind\":[\"tick\"],\"to\":12}",
+    "{\"Kind\":\"tick\",\"to\":12}",
+    "{\"commit\":null,\"kind\":\"draw\",\"node\":\"a\",\"session\":\"s1\",\"start\":1,\"term\":1}",
+    "{\"from\":1,\"key\":\"k0\",\"kind\":\"read\",\"session\":\"s1\",\"start\":3}",
+    "{\"key\":\"k0\",\"kind\":\"read\",\"session\":\"s1\",\"start\":3,\"value\":\"v\"}",
+    "{\"key\":\"k0\",\"kind\":\"read\",\"session\":\"s1\",\"start\":3,\"value\":null}",
+    "{\"kind\":\"begin\",\"session\":\"s16\",\"start\":1}",
+    "{\"kind\":\"begin\",\"session\":\"0\",\"start\":1}",
+    "{\"kind\":\"begin\",\"session\":0,\"start\":1}",
+    "{\"kind\":\"begin\",\"session\":\"s0\",\"start\":0}",
+    "{\"kind\":\"begin\",\"session\":\"s0\",\"start\":4611686018427387905}",
+    "{\"kind\":\"crash\",\"node\":\"i\",\"term\":1}",
+    "{\"kind\":\"crash\",\"node\":\"a\",\"term\":0}",
+    "{\"key\":\"k4096\",\"kind\":\"write\",\"session\":\"s0\",\"start\":1,\"value\":\"v\"}",
+    "{\"key\":\"k0\",\"kind\":\"write\",\"session\":\"s0\",\"start\":1,\"value\":\"\"}",
+    "{\"key\":\"k0\",\"kind\":\"write\",\"session\":\"s0\",\"start\":1,\"value\":\"a b\"}",
+    "{\"key\":\"k0\",\"kind\":\"write\",\"session\":\"s0\",\"start\":1,\"value\":1}",
+    "{\"actor\":\"s0\",\"kind\":\"note\",\"name\":\"p_1\",\"note\":\"post\"}",
+    "{\"actor\":\"s0\",\"kind\":\"note\",\"name\":\"persist\",\"note\":\"keep\"}",
+    "{\"actor\":\"s0 post\",\"kind\":\"note\",\"name\":\"\",\"note\":\"p\"}",
+    "{\"actor\":\"s0 fetch\",\"kind\":\"step\",\"text\":\"k0 cells=2\"}",
+    "{\"actor\":\"s0\",\"kind\":\"step\",\"text\":\"shadow k0 1\"}",
+    "{\"actor\":\"s0\",\"kind\":\"refused\",\"text\":\"conflict key=0 by=3\"}",
+    "{\"how\":\"done\",\"kind\":\"end\",\"session\":\"s1\",\"start\":1}",
+    "{\"actor\":\"a\",\"kind\":\"fault\",\"store\":\"disk\"}",
+    "tick 12",
+];
+
+#[test]
+fn broken_lines_are_no_items(rt: HostRuntime) -> Result<(), Fail> {
+    for line in BROKEN {
+        assert!(rt; from_line(rt.alloc(), line.as_bytes())?.is_none(), "{line}");
+    }
+    assert!(rt; from_line(rt.alloc(), b"{\"kind\":\"tick\",\"to\":\xff}")?.is_none());
+    Ok(())
+}
+
+/// Whether the bytes are a history whose line of this number is the first bad one.
+fn is_bad_at(rt: HostRuntime, bytes: &[u8], line: u64) -> bool {
+    read_history(rt.alloc(), bytes).is_err_and(|fault| fault == HistoryFault::At { line })
+}
+
+#[test]
+fn histories_are_of_one_format(rt: HostRuntime) -> Result<(), Fail> {
+    let begin = "{\"kind\":\"begin\",\"session\":\"s0\",\"start\":1}";
+    let item = read_item(b"begin s0 start=1").ok_or(begin)?;
+    let json =
+        b"\n{\"kind\":\"begin\",\"session\":\"s0\",\"start\":1}\r\n\n{\"session\":\"s0\",\"start\":1,\"kind\":\"begin\"}";
+    match read_history(rt.alloc(), json) {
+        Ok(items) => assert!(rt; items.as_slice() == [item, item].as_slice()),
+        Err(_) => return Err(Fail::from(begin)),
+    }
+    match read_history(rt.alloc(), b"begin s0 start=1\n\nbegin s0 start=1\n") {
+        Ok(items) => assert!(rt; items.as_slice() == [item, item].as_slice()),
+        Err(_) => return Err(Fail::from(begin)),
+    }
+    assert!(rt;
+        is_bad_at(
+            rt,
+            b"{\"kind\":\"begin\",\"session\":\"s0\",\"start\":1}\nbegin s1 start=2\n",
+            2
+        )
+    );
+    assert!(rt;
+        is_bad_at(
+            rt,
+            b"{\"kind\":\"begin\",\"session\":\"s0\",\"start\":1}\n{\"kind\":\"begin\",\"session\":\"s1\",\"start\":2.0}\n",
+            2
+        )
+    );
+    assert!(rt;
+        is_bad_at(
+            rt,
+            b"begin s0 start=1\n\n{\"kind\":\"begin\",\"session\":\"s1\",\"start\":2}\n",
+            3
+        )
+    );
+    assert!(rt;
+        is_bad_at(
+            rt,
+            b" {\"kind\":\"begin\",\"session\":\"s0\",\"start\":1}\n",
+            1
+        )
+    );
+    assert!(rt;
+        is_bad_at(
+            rt,
+            b"{\"kind\":\"begin\",\"session\":\"s0\",\"start\":1}\n \n",
+            2
+        )
+    );
+    assert!(rt; read_history(rt.alloc(), b"\n\n").is_ok_and(|items| items.is_empty()));
+    Ok(())
+}
