@@ -7,10 +7,11 @@ ghost use Rattle.line_runs.specs.Answers.{Answers};
 ghost use Rattle.line_runs.specs.Runs.{replayed};
 ghost use Rattle.replay_driver.specs.Playing.{IsPlayedTo, SessionIsThere};
 
-use crate::play::Play;
+use crate::play::{make, next};
 use cluster_core::Cluster;
 use history_book::Actor;
 use line_runs::{Point, events_lower_what_is_left, follows, lines_are_answered};
+use planned_cluster::PlannedCluster;
 use port_io::{PlannedWeather, Weather};
 use session_script::Script;
 use stamp_base::{LINE_LIMIT, NoMemory};
@@ -25,7 +26,7 @@ pub fn replay(alloc: Global, script: &Script) -> Result<Cluster, NoMemory>
     ensures setup { IfOk result (λ cluster. cluster.state.setup ≡ numbers_of script.now.setup) }
 {
     lines_are_answered();
-    let mut play = Play::open(alloc, script.setup, &script.faults)?;
+    let mut play = PlannedCluster::open(alloc, script.setup, &script.faults)?;
     for place in 0..script.lines.len() {
         see_session(&script.lines[place].actor);
         play_line(&mut play, script, place)?;
@@ -43,7 +44,7 @@ fn see_session(actor: &Actor)
 }
 
 /// Carries out the line at this place, event by event, to its end.
-fn play_line(play: &mut Play, script: &Script, place: usize) -> Result<(), NoMemory>
+fn play_line(play: &mut PlannedCluster, script: &Script, place: usize) -> Result<(), NoMemory>
     requires place { place < length script.now.lines.items }
     requires played { IsPlayedTo (data_of script.now) place play.old.cluster play.old.clock
         (⟦<PlannedWeather as Weather>⟧.ahead play.old.weather) }
@@ -53,8 +54,8 @@ fn play_line(play: &mut Play, script: &Script, place: usize) -> Result<(), NoMem
     events_lower_what_is_left();
     let line = &script.lines[place];
     let mut point = Point::Opens;
-    while let Some(event) = play.next(&script.leads, line, point) {
-        let halt = play.make(&event)?;
+    while let Some(event) = next(play, &script.leads, line, point) {
+        let halt = make(play, &event)?;
         point = follows(&line.verb, point, halt);
     }
     Ok(())
