@@ -1,25 +1,21 @@
 -- The lines of a script, one more carried out.
-use Rattle.std.proofs.Common.{◌≡◌, ℕ, zero, suc, ◌+◌, ◌*◌, ◌<◌, ◌≤◌, ◌^◌, List, [], ◌∷◌, ◌++◌, take, drop, length, get_or, All, refl, sym, ap, ◌∙◌, arith, subst}
+use Rattle.std.proofs.Common.{◌≡◌, ℕ, zero, suc, ◌+◌, ◌*◌, ◌<◌, ◌≤◌, List, [], ◌∷◌, ◌++◌, take, drop, length, get_or, All, refl, sym, ap, ◌∙◌, arith, subst}
 use Rattle.std.proofs.lemmas.List.{take_more, drop_more, take_all}
 use Rattle.std.proofs.lemmas.List.Elements.{All-head, All-tail}
 use Rattle.std.specs.List.{slice_index_or}
-use Rattle.stamp_base.specs.SetupNumbers.{SetupNumbers}
 use Rattle.stamp_base.specs.declared.stores.Store.{Store}
-use Rattle.stamp_base.specs.declared.stores.Store.TheVariants.{Cells, Table, Master}
 use Rattle.port_io.specs.declared.weather.Fate.{Fate}
-use Rattle.port_io.specs.Planned.{PlannedFault, planned_fate}
-use Rattle.history_book.specs.declared.item.Item.{Item}
-use Rattle.machine.specs.State.{opening}
 use Rattle.isolation_laws.proofs.AlwaysHolds.{stands_at_first}
 use Rattle.script_data.specs.declared.line.Line.{Line}
 use Rattle.script_data.specs.Data.{IsSound}
 use Rattle.script_data.specs.Sound.{LineIsSound}
 use Rattle.script_data.specs.Data.{ScriptData}
 use Rattle.script_data.specs.Ticks.{tick_of, ticks_of}
-use Rattle.line_runs.specs.Laws.{IsReached, IsPlayable}
-use Rattle.line_runs.specs.Runs.{Calls, Played, calls_on, line_run, lines_played, opening_played, replayed}
+use Rattle.line_runs.specs.Laws.{IsPlayable}
+use Rattle.line_runs.specs.Runs.{Played, line_run, lines_played, opening_played, replayed}
 use Rattle.cluster_core.specs.Whole.{Whole}
-use Rattle.replay_driver.specs.Playing.{StandsAt, IsPlayedTo, played_to}
+use Rattle.planned_cluster.specs.Standing.{StandsAt}
+use Rattle.replay_driver.specs.Playing.{IsPlayedTo, played_to}
 use Rattle.replay_driver.proofs.Running.{HasEnded}
 
 lines_append : (script : ScriptData) (lines : List Line) (line : Line) (p : Played) → lines_played script (lines ++ line ∷ []) p ≡ (line_run script line (lines_played script lines p)).played
@@ -54,11 +50,6 @@ ended_more script count line old new before clock ahead now within is at ended =
     }
 
 -- ---- before the first line
-first_call : (faults : List PlannedFault) (store : Store) (n : ℕ) → planned_fate faults store (n + 1) ≡ planned_fate faults store (calls_on (record { cells = 0; table = 0; master = 0 }) store + 1 + n)
-first_call faults Cells n = ap (λ (number : ℕ). planned_fate faults Cells number) (omega arith)
-first_call faults Table n = ap (λ (number : ℕ). planned_fate faults Table number) (omega arith)
-first_call faults Master n = ap (λ (number : ℕ). planned_fate faults Master number) (omega arith)
-
 ticks_are_few : (nodes : ℕ) (lines : List Line) → All (LineIsSound nodes) lines → ticks_of lines ≤ length lines * 1000000
 unfolding ticks_of
 ticks_are_few nodes [] sound = omega arith
@@ -70,15 +61,6 @@ leads_by_node : (leads : List ℕ) (skew node : ℕ) → All (λ lead. lead ≤ 
 leads_by_node [] skew node within = omega arith
 leads_by_node (lead ∷ leads) skew zero within = All-head (λ (n : ℕ). n ≤ skew) lead leads within
 leads_by_node (lead ∷ leads) skew (suc node) within = leads_by_node leads skew node (All-tail (λ (n : ℕ). n ≤ skew) lead leads within)
-
--- the opening is where a script was played before its first line
-pub opens : (script : ScriptData) (whole : Whole) (clock : ℕ) (ahead : Store → ℕ → Fate) → whole.state ≡ opening script.setup → whole.history ≡ [] → clock ≡ 0 → ((store : Store) (n : ℕ) → ahead store n ≡ planned_fate script.faults store (n + 1)) → StandsAt script (opening_played script) whole clock ahead
-opens script whole clock ahead state history is planned = record {
-  state = state;
-  history = history;
-  time = is;
-  weather = λ store n. planned store n ∙ first_call script.faults store n;
-}
 
 pub playable_at_first : (script : ScriptData) → IsSound script → length script.lines ≤ 131072 → IsPlayable script 0 script.lines
 playable_at_first script sound few = record {

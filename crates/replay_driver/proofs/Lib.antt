@@ -1,4 +1,3 @@
-mod Ahead
 mod Running
 mod Counting
 mod Making

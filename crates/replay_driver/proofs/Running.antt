@@ -10,20 +10,19 @@ use Rattle.script_data.specs.declared.line.Line.{Line}
 use Rattle.script_data.specs.Data.{ScriptData}
 use Rattle.line_runs.specs.declared.point.Halt.{Halt}
 use Rattle.line_runs.specs.declared.point.Point.{Point}
-use Rattle.line_runs.specs.declared.point.Point.TheVariants.{Opens, Drives, Extends, Finishes, Reads, Steps, Over}
+use Rattle.line_runs.specs.declared.point.Point.TheVariants.{Opens}
 use Rattle.line_runs.specs.Clocks.{clocks}
 use Rattle.line_runs.specs.Halts.{halt_of, follows}
 use Rattle.script_data.specs.Ticks.{tick_of}
-use Rattle.line_runs.specs.Laws.{IsReached, IsPlayable, EventsLowerWhatIsLeft}
+use Rattle.line_runs.specs.Laws.{IsReached, EventsLowerWhatIsLeft}
 use Rattle.line_runs.specs.Left.{left}
 use Rattle.line_runs.specs.Next.{next}
-use Rattle.line_runs.specs.Runs.{Played, Run, clock_after, fate_of, step_of, played, next_in, run_after, left_in, going_on, run_for, opened, line_run, clocks_of}
+use Rattle.line_runs.specs.Runs.{Played, Run, step_of, played, next_in, run_after, left_in, going_on, run_for, opened, line_run}
 use Rattle.line_runs.specs.Views.{view_of}
 use Rattle.line_runs.proofs.Ending.{Keeps, Going, Nothing, less_left, steady_next, goes_on as event_goes_on}
 use Rattle.cluster_core.specs.Whole.{Whole}
-use Rattle.replay_driver.specs.Advances.{Advances}
-use Rattle.replay_driver.specs.Playing.{StandsAt}
-use Rattle.replay_driver.proofs.Ahead.{stands_on, halt_planned}
+use Rattle.planned_cluster.specs.Standing.{StandsAt}
+use Rattle.replay_driver.specs.Playing.{Advances}
 
 -- the run of a line from what was played before it is under way: where it stands, and that it leads where the whole run does
 pub record IsUnderWay (script : ScriptData) (line : Line) (p : Played) (whole : Whole) (clock : ℕ) (ahead : Store → ℕ → Fate) (point : Point) : Type 0 where
@@ -72,24 +71,24 @@ one_more_of script line r e all (suc most) is lower enough leads = record {
   enough = omega (arith, lower, enough);
 }
 
-point_same : (script : ScriptData) (line : Line) (r : Run) (e : Event) (halt : Option Halt) (old new : Whole) (clock : ℕ) (point further_point : Point) (before now : Store → ℕ → Fate) → StandsAt script r.played old clock before → Advances e halt old new before now → point ≡ r.point → further_point ≡ follows line.verb point halt → further_point ≡ (run_after script line r e).point
-point_same script line r e halt old new clock point further_point before now at made here is =
-    is ∙ (ap (λ (x : Point). follows line.verb x halt) here ∙ ap (λ (h : Option Halt). follows line.verb r.point h) (halt_planned script r.played e halt old new clock before now at made))
+point_same : (script : ScriptData) (line : Line) (r : Run) (e : Event) (halt : Option Halt) (point further_point : Point) → halt ≡ halt_of (step_of script r.played e).stop → point ≡ r.point → further_point ≡ follows line.verb point halt → further_point ≡ (run_after script line r e).point
+point_same script line r e halt point further_point stopped here is =
+    is ∙ (ap (λ (x : Point). follows line.verb x halt) here ∙ ap (λ (h : Option Halt). follows line.verb r.point h) stopped)
 
 nothing_is_lost : Keeps Nothing
 nothing_is_lost w h e fate has steady = tt
 
 -- the event is made, and the run goes on
-pub goes_on : (law : EventsLowerWhatIsLeft) (script : ScriptData) (line : Line) (p : Played) (old new : Whole) (clock after : ℕ) (before now : Store → ℕ → Fate) (point further_point : Point) (e : Event) (halt : Option Halt) (k : IsUnderWay script line p old clock before point) → next_in script line k.run ≡ Some e → Advances e halt old new before now → after ≡ clock_after clock e → further_point ≡ follows line.verb point halt → IsUnderWay script line p new after now further_point
-goes_on law script line p old new clock after before now point further_point e halt k is made clock_is point_is =
+pub goes_on : (law : EventsLowerWhatIsLeft) (script : ScriptData) (line : Line) (p : Played) (old new : Whole) (clock after : ℕ) (before now : Store → ℕ → Fate) (point further_point : Point) (e : Event) (halt : Option Halt) (k : IsUnderWay script line p old clock before point) → next_in script line k.run ≡ Some e → Advances script k.run.played e halt new after now → further_point ≡ follows line.verb point halt → IsUnderWay script line p new after now further_point
+goes_on law script line p old new clock after before now point further_point e halt k is made point_is =
     let one : HasOneMore script line k.run e (line_run script line p) = one_more_of script line k.run e (line_run script line p) k.most is (less_left law Nothing script line (p.clock + tick_of line.verb) k.run e k.going is) k.enough k.leads in
     record {
       run = run_after script line k.run e;
       most = one.most;
       leads = one.leads;
       enough = one.enough;
-      point_is = point_same script line k.run e halt old new clock point further_point before now k.stands made k.point_is point_is;
-      stands = stands_on script k.run.played e halt old new clock after before now k.stands made clock_is;
+      point_is = point_same script line k.run e halt point further_point made.stop k.point_is point_is;
+      stands = made.stands;
       going = event_goes_on Nothing script line (p.clock + tick_of line.verb) k.run e nothing_is_lost k.going is;
     }
 
@@ -97,12 +96,11 @@ same_left : (line : Line) (w v : State) (at by : Point) → w ≡ v → at ≡ b
 same_left line w v at by state point = rw (state, point) refl
 
 -- the code's measure falls
-pub falls : (law : EventsLowerWhatIsLeft) (script : ScriptData) (line : Line) (p : Played) (old new : Whole) (clock after : ℕ) (before now : Store → ℕ → Fate) (point further_point : Point) (e : Event) (halt : Option Halt) (k : IsUnderWay script line p old clock before point) → next_in script line k.run ≡ Some e → Advances e halt old new before now → after ≡ clock_after clock e → further_point ≡ follows line.verb point halt → left new.state line.actor line.verb further_point < left old.state line.actor line.verb point
-falls law script line p old new clock after before now point further_point e halt k is made clock_is point_is =
+pub falls : (law : EventsLowerWhatIsLeft) (script : ScriptData) (line : Line) (p : Played) (old new : Whole) (clock after : ℕ) (before now : Store → ℕ → Fate) (point further_point : Point) (e : Event) (halt : Option Halt) (k : IsUnderWay script line p old clock before point) → next_in script line k.run ≡ Some e → Advances script k.run.played e halt new after now → further_point ≡ follows line.verb point halt → left new.state line.actor line.verb further_point < left old.state line.actor line.verb point
+falls law script line p old new clock after before now point further_point e halt k is made point_is =
     let low : left_in line (run_after script line k.run e) < left_in line k.run = less_left law Nothing script line (p.clock + tick_of line.verb) k.run e k.going is in
     let here : left old.state line.actor line.verb point ≡ left_in line k.run = same_left line old.state k.run.played.state point k.run.point k.stands.state k.point_is in
-    let at : StandsAt script (played script k.run.played e) new after now = stands_on script k.run.played e halt old new clock after before now k.stands made clock_is in
-    let there : left new.state line.actor line.verb further_point ≡ left_in line (run_after script line k.run e) = same_left line new.state (played script k.run.played e).state further_point _ at.state (point_same script line k.run e halt old new clock point further_point before now k.stands made k.point_is point_is) in
+    let there : left new.state line.actor line.verb further_point ≡ left_in line (run_after script line k.run e) = same_left line new.state (played script k.run.played e).state further_point _ made.stands.state (point_same script line k.run e halt point further_point made.stop k.point_is point_is) in
     omega (arith, low, here, there)
 
 -- the reading of the next event is steady

@@ -1,22 +1,21 @@
 -- How far a script was carried out.
-use Rattle.std.specs.Prelude.{◌≡◌, ℕ, ◌+◌, ◌<◌, take, drop}
+use Rattle.std.specs.Prelude.{◌≡◌, ℕ, ◌<◌, take, drop, Option, None, Some, Result, Ok, Err, IsOkAnd, IsErr}
+use Rattle.stamp_base.specs.declared.memory.NoMemory.{NoMemory}
 use Rattle.stamp_base.specs.declared.stores.Store.{Store}
 use Rattle.port_io.specs.declared.weather.Fate.{Fate}
-use Rattle.port_io.specs.Planned.{PlannedFault, planned_fate}
 use Rattle.history_book.specs.declared.item.Actor.{Actor}
 use Rattle.history_book.specs.declared.item.Actor.TheVariants.{Session}
+use Rattle.machine.specs.declared.event.Event.{Event}
+use Rattle.event_parts.specs.declared.stopped.Stopped.{Stopped}
+use Rattle.event_parts.specs.declared.stopped.Stopped.TheVariants as stopped
 use Rattle.script_data.specs.Data.{ScriptData}
-use Rattle.line_runs.specs.Runs.{Calls, Played, calls_on, lines_played, opening_played}
+use Rattle.line_runs.specs.declared.point.Halt.{Halt}
+use Rattle.line_runs.specs.declared.point.Halt.TheVariants.{Faulted}
+use Rattle.line_runs.specs.Halts.{halt_of, refused_by}
+use Rattle.line_runs.specs.Runs.{Played, step_of, played, lines_played, opening_played}
 use Rattle.line_runs.specs.Laws.{IsReached, IsPlayable}
 use Rattle.cluster_core.specs.Whole.{Whole}
-
--- cluster, clock and weather stand where the script was played so far: the fates ahead are the planned ones of the calls that
--- were not made yet
-pub record StandsAt (script : ScriptData) (p : Played) (whole : Whole) (clock : ℕ) (ahead : Store → ℕ → Fate) : Type 0 where
-  pub state : whole.state ≡ p.state
-  pub history : whole.history ≡ p.items
-  pub time : clock ≡ p.clock
-  pub weather : (store : Store) (n : ℕ) → ahead store n ≡ planned_fate script.faults store (calls_on p.calls store + 1 + n)
+use Rattle.planned_cluster.specs.Standing.{StandsAt}
 
 -- what the first lines of a script come to
 abbrev pub played_to : ScriptData → ℕ → Played
@@ -32,3 +31,15 @@ pub record IsPlayedTo (script : ScriptData) (count : ℕ) (whole : Whole) (clock
 abbrev pub SessionIsThere : Actor → Type 0
 SessionIsThere (Session session) = session < 16
 SessionIsThere _ = Unit {0}
+
+-- this is said of what a call answered: how its event stopped, or that memory was refused
+abbrev pub IsSaidOf : Result Unit Stopped → Result (Option Halt) NoMemory → Type 0
+IsSaidOf (Ok _) result = IsOkAnd result (λ halt. halt ≡ None)
+IsSaidOf (Err (stopped.Refused why)) result = IsOkAnd result (λ halt. halt ≡ Some (refused_by why))
+IsSaidOf (Err (stopped.Fault store)) result = IsOkAnd result (λ halt. halt ≡ Some Faulted)
+IsSaidOf (Err stopped.NoMemory) result = IsErr result
+
+-- the event was played too, and this is how it stopped
+pub record Advances (script : ScriptData) (p : Played) (event : Event) (halt : Option Halt) (whole : Whole) (clock : ℕ) (ahead : Store → ℕ → Fate) : Type 0 where
+  pub stands : StandsAt script (played script p event) whole clock ahead
+  pub stop : halt ≡ halt_of (step_of script p event).stop

@@ -8,10 +8,11 @@ ghost use Rattle.line_runs.specs.Planned.{Planned};
 ghost use Rattle.line_runs.specs.Runs.{replayed};
 ghost use Rattle.replay_driver.specs.Playing.{IsPlayedTo, SessionIsThere};
 
-use crate::play::Play;
+use crate::play::{make, next};
 use cluster_core::Cluster;
 use history_book::Actor;
 use line_runs::{Point, events_lower_what_is_left, follows, lines_are_answered};
+use planned_cluster::PlannedCluster;
 use planned_laws::scripts_are_planned;
 use port_io::{PlannedWeather, Weather};
 use session_script::Script;
@@ -29,7 +30,7 @@ pub fn replay(alloc: Global, script: &Script) -> Result<Cluster, NoMemory>
 {
     lines_are_answered();
     scripts_are_planned();
-    let mut play = Play::open(alloc, script.setup, &script.faults)?;
+    let mut play = PlannedCluster::open(alloc, script.setup, &script.faults)?;
     for place in 0..script.lines.len() {
         see_session(&script.lines[place].actor);
         play_line(&mut play, script, place)?;
@@ -47,7 +48,7 @@ fn see_session(actor: &Actor)
 }
 
 /// Carries out the line at this place, event by event, to its end.
-fn play_line(play: &mut Play, script: &Script, place: usize) -> Result<(), NoMemory>
+fn play_line(play: &mut PlannedCluster, script: &Script, place: usize) -> Result<(), NoMemory>
     requires place { place < length script.now.lines.items }
     requires played { IsPlayedTo (data_of script.now) place play.old.cluster play.old.clock
         (⟦<PlannedWeather as Weather>⟧.ahead play.old.weather) }
@@ -57,8 +58,8 @@ fn play_line(play: &mut Play, script: &Script, place: usize) -> Result<(), NoMem
     events_lower_what_is_left();
     let line = &script.lines[place];
     let mut point = Point::Opens;
-    while let Some(event) = play.next(&script.leads, line, point) {
-        let halt = play.make(&event)?;
+    while let Some(event) = next(play, &script.leads, line, point) {
+        let halt = make(play, &event)?;
         point = follows(&line.verb, point, halt);
     }
     Ok(())

@@ -1,11 +1,8 @@
-use Rattle.std.proofs.Common.{ℕ, ◌+◌, ◌≡◌, List, get_or, drop, length, Option, None, Some, sym, ap, ◌∙◌, arith}
-use Rattle.port_io.specs.contracts.planned.PlannedWeatherWeather.TheImpl.{ahead-value}
+use Rattle.std.proofs.Common.{◌∙◌, arith}
 use Rattle.session_script.specs.Script.{data_of}
-use Rattle.script_data.specs.Ticks.{ticks_of, tick_of}
-use Rattle.line_runs.specs.Runs.{next_in}
 use Rattle.replay_driver.specs.Playing.{played_to}
 use Rattle.replay_driver.proofs.Running.{begins, chosen, goes_on, falls, ends, steady_under_way}
-use Rattle.replay_driver.proofs.Making.{have_room}
+use Rattle.planned_cluster.proofs.Rooms.{have_room}
 use Rattle.replay_driver.proofs.Counting.{ticks_from, ended_more}
 use Rattle.replay_driver.proofs.driver.play_line.Goals as goal
 
@@ -34,13 +31,13 @@ pub loop-event-smaller : goal.loop-event-smaller
 loop-event-smaller c =
     falls c.events_lower_what_is_left.ensures (data_of c.args.script.now) c.index-line.result.now _ _ _ _ _ _ _ _ _ c.in-Some.event c.in_ok-halt.halt c.loop-event.invariant
     (chosen (data_of c.args.script.now) c.index-line.result.now _ _ _ _ _ c.loop-event.invariant _ _ c.deref.ensures.value c.next.ensures ∙ c.in-Some.is)
-    c.in_ok-halt.ensures.made c.in_ok-halt.ensures.clock c.follows-point.ensures
+    (c.in_ok-halt.ensures (data_of c.args.script.now) c.loop-event.invariant.run.played c.loop-event.invariant.stands) c.follows-point.ensures
 
 pub loop-event-preserved : goal.loop-event-preserved
 loop-event-preserved c =
     goes_on c.events_lower_what_is_left.ensures (data_of c.args.script.now) c.index-line.result.now _ _ _ _ _ _ _ _ _ c.in-Some.event c.in_ok-halt.halt c.loop-event.invariant
     (chosen (data_of c.args.script.now) c.index-line.result.now _ _ _ _ _ c.loop-event.invariant _ _ c.deref.ensures.value c.next.ensures ∙ c.in-Some.is)
-    c.in_ok-halt.ensures.made c.in_ok-halt.ensures.clock c.follows-point.ensures
+    (c.in_ok-halt.ensures (data_of c.args.script.now) c.loop-event.invariant.run.played c.loop-event.invariant.stands) c.follows-point.ensures
 
 pub returns : goal.returns
 returns c =

@@ -1,11 +1,10 @@
-use Rattle.std.proofs.Common.{ap, ◌∙◌, ◌+◌, arith, List, subst, sym}
-use Rattle.port_io.specs.Planned.{PlannedFault, planned_fate}
+use Rattle.std.proofs.Common.{ap, ◌∙◌, arith, List, refl, subst, sym}
 use Rattle.history_book.specs.declared.item.Item.{Item}
 use Rattle.line_runs.specs.Answers.{Answers}
 use Rattle.line_runs.specs.Planned.{Planned}
 use Rattle.machine.specs.State.{State}
 use Rattle.session_script.specs.Script.{data_of}
-use Rattle.replay_driver.proofs.Counting.{opens, none_played, playable_at_first, all_played}
+use Rattle.replay_driver.proofs.Counting.{none_played, playable_at_first, all_played}
 use Rattle.replay_driver.proofs.Fitting.{one_more_there, lines_fit}
 use Rattle.replay_driver.proofs.driver.replay.Goals as goal
 
@@ -18,8 +17,7 @@ loop-place-init c =
     record {
       played =
           none_played script _ _ _ c.args.script.now.sound (omega (arith, c.requires, c.args.script.now.lines.ok))
-          (opens script _ _ _ c.in_ok-play.ensures.state c.in_ok-play.ensures.history c.in_ok-play.ensures.clock
-          (λ store n. c.in_ok-play.ensures.weather store n ∙ ap (λ (faults : List PlannedFault). planned_fate faults store (n + 1)) c.deref.ensures.value));
+          (c.in_ok-play.ensures script refl (sym c.deref.ensures.value));
       there = λ k d none within. absurd (omega (arith, none));
     }
 

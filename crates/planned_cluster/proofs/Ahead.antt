@@ -1,5 +1,5 @@
 -- An event that is made on the cluster is made of what was played, and the fates ahead stay the planned ones.
-use Rattle.std.proofs.Common.{◌≡◌, ◌≢◌, ℕ, ◌+◌, List, ◌++◌, Option, None, Some, refl, sym, ap, ◌∙◌, arith}
+use Rattle.std.proofs.Common.{◌≡◌, ◌≢◌, ℕ, ◌+◌, List, ◌++◌, Option, None, Some, refl, ap, ◌∙◌, arith}
 use Rattle.stamp_base.specs.declared.stores.Store.{Store}
 use Rattle.stamp_base.specs.declared.stores.Store.TheVariants.{Cells, Table, Master}
 use Rattle.port_io.specs.declared.weather.Fate.{Fate}
@@ -8,14 +8,25 @@ use Rattle.history_book.specs.declared.item.Item.{Item}
 use Rattle.machine.specs.declared.event.Event.{Event}
 use Rattle.machine.specs.State.{State}
 use Rattle.machine.specs.Machine.{Step, asks, stepped}
-use Rattle.event_parts.specs.Made.{fate_ahead}
+use Rattle.event_parts.specs.Made.{fate_ahead, AsksOf}
 use Rattle.script_data.specs.Data.{ScriptData}
-use Rattle.line_runs.specs.declared.point.Halt.{Halt}
-use Rattle.line_runs.specs.Halts.{halt_of}
-use Rattle.line_runs.specs.Runs.{Calls, Played, calls_on, one_more, calls_after, clock_after, fate_by, fate_of, step_of, played}
+use Rattle.line_runs.specs.Runs.{Calls, Played, calls_on, one_more, calls_after, clock_after, fate_by, step_of, played}
 use Rattle.cluster_core.specs.Whole.{Whole, step_under}
-use Rattle.replay_driver.specs.Advances.{Advances, MovesOn, IsOneOn}
-use Rattle.replay_driver.specs.Playing.{StandsAt}
+use Rattle.planned_cluster.specs.Standing.{StandsAt}
+
+-- the weather is one call on this store further on
+pub record IsOneOn (store : Store) (before now : Store → ℕ → Fate) : Type 0 where
+  pub moved : (n : ℕ) → now store n ≡ before store (n + 1)
+  pub kept : (other : Store) (n : ℕ) → other ≢ store → now other n ≡ before other n
+
+-- so it is where a store was asked, and else it is as before
+abbrev pub MovesOn : Option Store → (Store → ℕ → Fate) → (Store → ℕ → Fate) → Type 0
+MovesOn None before now = (store : Store) (n : ℕ) → now store n ≡ before store n
+MovesOn (Some store) before now = IsOneOn store before now
+
+pub moves_on : (asked : Option Store) (before now : Store → ℕ → Fate) (faults after : ℕ) → AsksOf asked before now faults after → MovesOn asked before now
+moves_on None before now faults after asks = asks.kept
+moves_on (Some store) before now faults after asks = record { moved = asks.moved; kept = asks.kept }
 
 -- the fates ahead are the planned ones, once these calls were made
 abbrev pub ArePlanned : List PlannedFault → Calls → (Store → ℕ → Fate) → Type 0
@@ -49,22 +60,18 @@ fate_planned script calls (Some store) ahead planned =
     let same : calls_on calls store + 1 + 0 ≡ calls_on calls store + 1 = omega arith in
     planned store 0 ∙ ap (λ (number : ℕ). planned_fate script.faults store number) same
 
-step_planned : (script : ScriptData) (p : Played) (w : State) (ahead : Store → ℕ → Fate) (e : Event) → w ≡ p.state → ArePlanned script.faults p.calls ahead → step_under ahead w e ≡ step_of script p e
+pub step_planned : (script : ScriptData) (p : Played) (w : State) (ahead : Store → ℕ → Fate) (e : Event) → w ≡ p.state → ArePlanned script.faults p.calls ahead → step_under ahead w e ≡ step_of script p e
 step_planned script p w ahead e same planned =
     ap (λ (v : State). stepped v e (fate_ahead (asks v e) ahead)) same ∙ ap (λ (fate : Fate). stepped p.state e fate) (fate_planned script p.calls (asks p.state e) ahead planned)
 
-pub halt_planned : (script : ScriptData) (p : Played) (e : Event) (halt : Option Halt) (old new : Whole) (clock : ℕ) (before now : Store → ℕ → Fate) → StandsAt script p old clock before → Advances e halt old new before now → halt ≡ halt_of (step_of script p e).stop
-halt_planned script p e halt old new clock before now at made =
-    made.stop ∙ ap (λ (step : Step). halt_of step.stop) (step_planned script p old.state before e at.state at.weather)
-
 -- the cluster stands where the script was played with the event too
-pub stands_on : (script : ScriptData) (p : Played) (e : Event) (halt : Option Halt) (old new : Whole) (clock after : ℕ) (before now : Store → ℕ → Fate) → StandsAt script p old clock before → Advances e halt old new before now → after ≡ clock_after clock e → StandsAt script (played script p e) new after now
-stands_on script p e halt old new clock after before now at made is =
+pub stands_on : (script : ScriptData) (p : Played) (e : Event) (old new : Whole) (clock after : ℕ) (before now : Store → ℕ → Fate) → StandsAt script p old clock before → new.state ≡ (step_under before old.state e).state → new.history ≡ old.history ++ (step_under before old.state e).items → MovesOn (asks old.state e) before now → after ≡ clock_after clock e → StandsAt script (played script p e) new after now
+stands_on script p e old new clock after before now at state history moves is =
     let step : step_under before old.state e ≡ step_of script p e = step_planned script p old.state before e at.state at.weather in
-    let on : MovesOn (asks p.state e) before now = rw at.state at made.weather in
+    let on : MovesOn (asks p.state e) before now = rw at.state at moves in
     record {
-      state = made.state ∙ ap (λ (s : Step). s.state) step;
-      history = made.history ∙ (ap (λ (h : List Item). h ++ (step_under before old.state e).items) at.history ∙ ap (λ (s : Step). p.items ++ s.items) step);
+      state = state ∙ ap (λ (s : Step). s.state) step;
+      history = history ∙ (ap (λ (h : List Item). h ++ (step_under before old.state e).items) at.history ∙ ap (λ (s : Step). p.items ++ s.items) step);
       time = is ∙ ap (λ (n : ℕ). clock_after n e) at.time;
       weather = still_planned script.faults p.calls (asks p.state e) before now at.weather on;
     }

@@ -1,0 +1,3 @@
+mod Ahead
+pub mod Making
+pub mod Rooms

@@ -1,0 +1,102 @@
+ghost use Rattle.std.specs.Prelude.{◌≡◌, IfOk};
+ghost use Rattle.stamp_base.specs.Setups.{numbers_of};
+ghost use Rattle.port_io.specs.Planned.{OneEach};
+ghost use Rattle.history_book.specs.declared.item.Actor.TheVariants.{Session};
+ghost use Rattle.machine.specs.Machine.{IsSteadyAt, reading_of};
+ghost use Rattle.line_runs.specs.Views.{view_of};
+ghost use Rattle.planned_cluster.specs.Standing.{OpensFor, PlaysOn, clock_made};
+
+use cluster_core::{Cluster, Stopped};
+use history_book::Actor;
+use line_runs::View;
+use machine::{Doing, Event};
+use port_io::{Fate, PlannedWeather, Weather};
+use stamp_base::{NoMemory, SessionNo, Setup, Store};
+use std::alloc::Global;
+
+/// The cluster, the weather that is still ahead, and the base clock.
+#[derive(Drop)]
+pub struct PlannedCluster {
+    pub cluster: Cluster,
+    pub weather: PlannedWeather,
+    pub clock: u64,
+}
+
+impl PlannedCluster {
+    /// Before the first event, for any script with this setup and these faults.
+    pub fn open(
+        alloc: Global,
+        setup: Setup,
+        faults: &[(Store, u64, Fate)],
+    ) -> Result<PlannedCluster, NoMemory>
+        requires { OneEach faults.now }
+        ensures { IfOk result (λ made. OpensFor (numbers_of setup) faults.now made.cluster made.clock
+            (⟦<PlannedWeather as Weather>⟧.ahead made.weather)) }
+    {
+        Ok(PlannedCluster {
+            cluster: Cluster::open(alloc, setup)?,
+            weather: PlannedWeather::new(copied(alloc, faults)?),
+            clock: 0,
+        })
+    }
+
+    /// Makes the event, under the fate that is planned for the next call on the store that it asks. Where memory is refused all
+    /// is as before.
+    pub fn make(&mut self, event: &Event) -> Result<(), Stopped>
+        requires { IsSteadyAt self.old.cluster.state.setup.skew self.old.cluster.state.seen (reading_of event.now) }
+        ensures { PlaysOn event.now result
+            self.old.cluster self.old.clock (⟦<PlannedWeather as Weather>⟧.ahead self.old.weather)
+            self.new.cluster self.new.clock (⟦<PlannedWeather as Weather>⟧.ahead self.new.weather) }
+    {
+        let answer = self.cluster.make(&mut self.weather, event);
+        self.clock = clock_made(self.clock, event, &answer);
+        answer
+    }
+
+    /// What a run of the actor looks at.
+    pub fn view(&self, actor: Actor) -> View
+        ensures { result ≡ view_of self.now.cluster.state actor }
+    {
+        match actor {
+            Actor::Session(session) => self.view_of_session(session),
+            Actor::Clock | Actor::Node(_) | Actor::Janitor => {
+                View {
+                    doing: Doing::Gone,
+                    request: None,
+                    commit: false,
+                    sweeping: self.cluster.sweeping(),
+                }
+            }
+        }
+    }
+
+    fn view_of_session(&self, session: SessionNo) -> View
+        ensures { result ≡ view_of self.now.cluster.state (Session session) }
+    {
+        View {
+            doing: self.cluster.doing(session),
+            request: self.cluster.place(session),
+            commit: self.cluster.asks_commit(session),
+            sweeping: self.cluster.sweeping(),
+        }
+    }
+}
+
+/// A tick that was made sets the base clock.
+fn clock_made(clock: u64, event: &Event, answer: &Result<(), Stopped>) -> u64
+    ensures { result ≡ clock_made clock event.now answer.now }
+{
+    match (event, answer) {
+        (_, Err(Stopped::NoMemory)) => clock,
+        (Event::Tick { to }, _) => *to,
+        _ => clock,
+    }
+}
+
+fn copied(alloc: Global, faults: &[(Store, u64, Fate)]) -> Result<Vec<(Store, u64, Fate)>, NoMemory>
+    ensures { IfOk result (λ copy. copy.items ≡ faults.now) }
+{
+    let mut copy = Vec::new(alloc);
+    copy.extend_from_slice(faults)?;
+    Ok(copy)
+}
