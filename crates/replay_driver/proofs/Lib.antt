@@ -3,3 +3,5 @@ mod Running
 mod Counting
 mod Making
 mod Fitting
+mod Storming
+mod StormValues
