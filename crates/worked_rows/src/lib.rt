@@ -16,6 +16,8 @@ mod hostile;
 #[cfg(test)]
 mod rows;
 #[cfg(test)]
+mod storms;
+#[cfg(test)]
 mod texts;
 #[cfg(test)]
 mod words;
