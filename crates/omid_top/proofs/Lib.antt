@@ -1,3 +1,5 @@
+mod CommandLemmas
 mod PrintLemmas
 mod PromiseLemmas
 mod ReportLemmas
+mod WordLemmas

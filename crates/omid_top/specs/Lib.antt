@@ -1,3 +1,4 @@
-pub mod Texts
-pub mod Promise
 pub mod Audit
+pub mod Commands
+pub mod Promise
+pub mod Texts

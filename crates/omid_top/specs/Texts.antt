@@ -1,10 +1,15 @@
 -- The texts that the program writes besides histories, and the words that it knows.
 use Rattle.std.specs.Prelude.{◌≡◌, ℕ, List, [], ◌∷◌, ◌++◌, ◌⊎◌, Result, Ok, Err, codes, decimal}
+use Rattle.stamp_base.specs.Ranges.{IsWithin}
+use Rattle.history_book.specs.declared.item.Item.{Item}
+use Rattle.history_text.specs.Summary.{summarized}
 use Rattle.history_text.specs.Text.{printed}
 use Rattle.script_lines.specs.Causes.{cause_text}
 use Rattle.script_data.specs.Data.{ScriptData}
 use Rattle.session_script.specs.Script.{BadLine}
 use Rattle.line_runs.specs.Runs.{replayed}
+use Rattle.omid_top.specs.declared.form.Form.{Form}
+use Rattle.omid_top.specs.declared.form.Form.TheVariants as form
 use Rattle.omid_top.specs.declared.words.Command.{Command}
 use Rattle.omid_top.specs.declared.words.Command.TheVariants as command
 
@@ -12,16 +17,29 @@ use Rattle.omid_top.specs.declared.words.Command.TheVariants as command
 abbrev pub IsReplay : List (List ℕ) → Type 0
 IsReplay words = words ≡ codes "replay" ∷ []
 
+abbrev pub IsReplaySummary : List (List ℕ) → Type 0
+IsReplaySummary words = words ≡ codes "replay" ∷ codes "summary" ∷ []
+
 abbrev pub IsAudit : List (List ℕ) → Type 0
 IsAudit words = words ≡ codes "audit" ∷ []
 
+-- the storm of so many transactions: their number in decimal, with no zero before it
+pub record IsStorm (transactions : ℕ) (words : List (List ℕ)) : Type 0 where
+  pub named : words ≡ codes "storm" ∷ decimal transactions ∷ []
+  pub within : IsWithin 1 20000 transactions
+
+abbrev pub IsAnyStorm : List (List ℕ) → Type 0
+IsAnyStorm words = (transactions : ℕ) × IsStorm transactions words
+
 -- the words name a command that is built
 abbrev pub IsKnown : List (List ℕ) → Type 0
-IsKnown words = IsReplay words ⊎ IsAudit words
+IsKnown words = IsReplay words ⊎ IsReplaySummary words ⊎ IsAudit words ⊎ IsAnyStorm words
 
 abbrev pub Names : Command → List (List ℕ) → Type 0
 Names command.Replay words = IsReplay words
+Names command.ReplaySummary words = IsReplaySummary words
 Names command.Audit words = IsAudit words
+Names (command.Storm transactions) words = IsStorm transactions words
 
 abbrev pub usage_text : List ℕ
 usage_text = codes "usage: omid replay [summary|json] | run | audit | storm N" ++ 10 ∷ []
@@ -30,7 +48,12 @@ usage_text = codes "usage: omid replay [summary|json] | run | audit | storm N" +
 abbrev pub bad_line_text : BadLine → List ℕ
 bad_line_text bad = codes "script line " ++ decimal bad.line ++ codes ": " ++ cause_text bad.cause ++ 10 ∷ []
 
--- what `replay` writes for what it read
-abbrev pub replay_text : Result ScriptData BadLine → List ℕ
-replay_text (Ok script) = printed (replayed script)
-replay_text (Err bad) = bad_line_text bad
+-- what a replay writes for what it read, where this is the text of a history
+abbrev pub replay_text : (List Item → List ℕ) → Result ScriptData BadLine → List ℕ
+replay_text text (Ok script) = text (replayed script)
+replay_text text (Err bad) = bad_line_text bad
+
+-- the text of a history in a form
+abbrev pub text_in : Form → List Item → List ℕ
+text_in form.History = printed
+text_in form.Summary = summarized

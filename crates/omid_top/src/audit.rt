@@ -1,9 +1,10 @@
 // Auditing a history: reading it, judging it, and reporting what was found.
-ghost use Rattle.std.specs.Prelude.{◌≡◌, ◌≢◌, ℕ, ◌≤◌, ◌⊎◌, IfOk, IfSome, IsOk, List};
-ghost use Rattle.port_io.specs.Ports.{Risen, Gains, IsAtEnd};
+ghost use Rattle.std.specs.Prelude.{◌≡◌, ◌≢◌, ℕ, ◌⊎◌, IfOk, IsOk, List};
+ghost use Rattle.port_io.specs.Ports.{Risen, Gains};
 ghost use Rattle.history_book.specs.declared.item.Item.{Item};
 ghost use Rattle.omid_top.specs.Promise.{GainsFront};
 ghost use Rattle.history_reading.specs.History.{AreItems};
+ghost use Rattle.omid_top.specs.Commands.{Audits};
 ghost use Rattle.omid_top.specs.Audit.{IsReportOn, IsVerdict, Reported, ReportedFront, IsFairTo, report_status, report_text};
 
 use crate::report::Report;
@@ -17,16 +18,12 @@ use std::alloc::Global;
 
 /// Reads a history, judges it, and writes the report.
 pub fn audit_source<S: Source, K: Sink>(alloc: Global, source: &mut S, sink: &mut K) -> Status
-    ensures read { (result.code ≡ 0) ⊎ (result.code ≡ 7) → IsAtEnd (S.left source.new) }
-    ensures audited { IsVerdict result.code → IfSome (S.left source.old) (λ bytes. Reported bytes result.code (K.held sink.old) (K.held sink.new)) }
-    ensures fair { IfSome (S.left source.old) (λ bytes. (items : List Item) → AreItems bytes items → IsFairTo items result.code) }
+    ensures audit { Audits result.code (S.left source.old) (S.left source.new) (K.held sink.old) (K.held sink.new) }
     ensures source_failed { result.code ≡ 4 → Risen (S.faults source.old) (S.faults source.new) × (sink.new ≡ sink.old) }
     ensures source_worked { result.code ≢ 4 → S.faults source.new ≡ S.faults source.old }
     ensures sink_failed { result.code ≡ 5 → Risen (K.faults sink.old) (K.faults sink.new) }
     ensures sink_worked { result.code ≢ 5 → K.faults sink.new ≡ K.faults sink.old }
-    ensures cut { result.code ≡ 5 → IfSome (S.left source.old) (λ bytes. ReportedFront bytes (K.held sink.old) (K.held sink.new)) }
     ensures no_memory { result.code ≡ 6 → sink.new ≡ sink.old }
-    ensures codes { (result.code ≤ 7) × (result.code ≢ 1) × (result.code ≢ 2) }
 {
     match read_up_to(alloc, source, BYTE_LIMIT) {
         Ok(bytes) => audit_bytes(alloc, &bytes, sink),

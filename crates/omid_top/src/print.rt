@@ -1,20 +1,35 @@
 // Writing texts and histories. It takes no memory.
-ghost use Rattle.std.specs.Prelude.{◌≡◌, ◌+◌, ◌≤◌, ◌<◌, ◌^◌, OnOk, OnErr, IfErr, length};
+ghost use Rattle.std.specs.Prelude.{◌≡◌, ◌+◌, ◌≤◌, ◌<◌, ◌^◌, OnOk, OnErr, length};
 ghost use Rattle.port_io.specs.Ports.{Risen, Gains};
 ghost use Rattle.history_text.specs.Text.{text_of, printed};
-ghost use Rattle.omid_top.specs.Texts.{usage_text, bad_line_text};
+ghost use Rattle.history_text.specs.Summary.{summarized};
+ghost use Rattle.omid_top.specs.Texts.{usage_text, bad_line_text, text_in};
 ghost use Rattle.omid_top.specs.Promise.{GainsFront};
 ghost use Rattle.omid_top.specs.Audit.{report_text};
 
 use crate::Status;
+use crate::form::Form;
 use crate::report::Report;
 use crate::script::ScriptCause;
 use history_book::Item;
-use history_text::{LineBuf, print_item};
+use history_text::{LineBuf, Summary, print_item};
 use port_io::{Failed, Sink, write_all_of};
 
+/// Writes this text of the history.
+pub fn print_in<K: Sink>(form: Form, sink: &mut K, items: &[Item]) -> Result<(), Failed>
+    ensures all { OnOk result (Gains (K.held sink.old) (K.held sink.new) (text_in form items.now)) }
+    ensures front { OnErr result (GainsFront (K.held sink.old) (K.held sink.new) (text_in form items.now)) }
+    ensures failed { OnErr result (Risen (K.faults sink.old) (K.faults sink.new)) }
+    ensures worked { OnOk result (K.faults sink.new ≡ K.faults sink.old) }
+{
+    match form {
+        Form::History => print_history(sink, items),
+        Form::Summary => print_summary(sink, items),
+    }
+}
+
 /// Writes the items, each by one write of its line.
-pub fn print_history<K: Sink>(sink: &mut K, items: &[Item]) -> Result<(), Failed>
+fn print_history<K: Sink>(sink: &mut K, items: &[Item]) -> Result<(), Failed>
     ensures all { OnOk result (Gains (K.held sink.old) (K.held sink.new) (printed items.now)) }
     ensures front { OnErr result (GainsFront (K.held sink.old) (K.held sink.new) (printed items.now)) }
     ensures failed { OnErr result (Risen (K.faults sink.old) (K.faults sink.new)) }
@@ -29,6 +44,18 @@ pub fn print_history<K: Sink>(sink: &mut K, items: &[Item]) -> Result<(), Failed
         }
     }
     Ok(())
+}
+
+/// Writes the summary of the items.
+fn print_summary<K: Sink>(sink: &mut K, items: &[Item]) -> Result<(), Failed>
+    ensures all { OnOk result (Gains (K.held sink.old) (K.held sink.new) (summarized items.now)) }
+    ensures front { OnErr result (GainsFront (K.held sink.old) (K.held sink.new) (summarized items.now)) }
+    ensures failed { OnErr result (Risen (K.faults sink.old) (K.faults sink.new)) }
+    ensures worked { OnOk result (K.faults sink.new ≡ K.faults sink.old) }
+{
+    let mut line = LineBuf::new();
+    Summary::of(items).print(&mut line);
+    print_text(sink, line.as_slice())
 }
 
 /// Writes the usage line.
@@ -88,16 +115,5 @@ fn print_text<K: Sink>(sink: &mut K, text: &[u8]) -> Result<(), Failed>
     match write_all_of(sink, text) {
         Ok(()) => Ok(()),
         Err(_) => Err(Failed),
-    }
-}
-
-/// The status once a text was to be written.
-pub fn written(answer: Result<(), Failed>, status: Status) -> Status
-    ensures all { OnOk answer (result ≡ status) }
-    ensures cut { IfErr answer (λ _. result.code ≡ 5) }
-{
-    match answer {
-        Ok(()) => status,
-        Err(_) => Status::SINK_FAILED,
     }
 }

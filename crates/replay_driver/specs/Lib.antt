@@ -1,1 +1,4 @@
+pub mod Advances
+pub mod Drafts
 pub mod Playing
+pub mod Storm

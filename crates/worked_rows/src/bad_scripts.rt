@@ -7,14 +7,13 @@ use worked_texts::commits::{PLAIN_HISTORY, PLAIN_PATH};
 pub const USAGE: &str = "usage: omid replay [summary|json] | run | audit | storm N\n";
 
 /// Words that are no command, or none that is built yet.
-const NO_COMMANDS: [&[&str]; 7] = [
+const NO_COMMANDS: [&[&str]; 6] = [
     &[],
     &["replay", "now"],
     &["audit", "now"],
     &["Replay"],
     &["run"],
-    &["storm", "1"],
-    &["replay", "summary"],
+    &["replay", "json"],
 ];
 
 /// A script, and what is said of it.

@@ -16,4 +16,6 @@ mod hostile;
 #[cfg(test)]
 mod rows;
 #[cfg(test)]
+mod storms;
+#[cfg(test)]
 mod words;

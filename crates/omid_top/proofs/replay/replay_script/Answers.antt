@@ -1,16 +1,16 @@
 use Rattle.std.proofs.Common.{List, subst, ◌∙◌}
 use Rattle.stamp_base.specs.SetupNumbers.{SetupNumbers}
 use Rattle.history_book.specs.declared.item.Item.{Item}
-use Rattle.history_text.specs.Text.{printed}
 use Rattle.cause_rules.specs.Explained.{Explained}
 use Rattle.port_io.specs.Ports.{Gains}
 use Rattle.session_script.specs.Script.{data_of}
+use Rattle.omid_top.specs.Texts.{text_in}
 use Rattle.omid_top.proofs.PromiseLemmas.{promise_kept}
 use Rattle.omid_top.proofs.replay.replay_script.Goals as goal
 
-pub returns-in-Ok-print_history-clause-replayed : goal.returns-in-Ok-print_history-clause-replayed
-returns-in-Ok-print_history-clause-replayed g c = λ _. (
+pub returns-in-Ok-print_in-clause-replayed : goal.returns-in-Ok-print_in-clause-replayed
+returns-in-Ok-print_in-clause-replayed g c = λ _. (
   promise_kept (data_of c.args.script.now) c.in-Ok.cluster.history c.in-Ok.ensures.history c.history.ensures.isolated
-      (subst (λ (setup : SetupNumbers). Explained setup c.in-Ok.cluster.history) c.in-Ok.ensures.setup c.history.ensures.explained) c.in-Ok.ensures.answered,
-  subst (λ (h : List Item). Gains (g.K.Sink.held c.args.sink.now) (g.K.Sink.held c.print_history.new.sink) (printed h)) (c.history.ensures.value ∙ c.in-Ok.ensures.history) c.in-Ok-print_history.ensures.all,
+      (subst (λ (setup : SetupNumbers). Explained setup c.in-Ok.cluster.history) c.in-Ok.ensures.setup c.history.ensures.explained) c.in-Ok.ensures.answered c.in-Ok.ensures.planned,
+  subst (λ (h : List Item). Gains (g.K.Sink.held c.args.sink.now) (g.K.Sink.held c.print_in.new.sink) (text_in c.args.form h)) (c.history.ensures.value ∙ c.in-Ok.ensures.history) c.in-Ok-print_in.ensures.all,
 )

@@ -1,0 +1,91 @@
+-- The records of commands, where nothing was written; and what a source that was read to its end, or too far, had left.
+use Rattle.std.proofs.Common.{◌≡◌, ◌≢◌, ℕ, ◌<◌, ◌≤◌, List, ◌⊎◌, inl, inr, Option, None, Some, Err, length, arith, refl}
+use Rattle.std.specs.Prelude.{IfSome}
+use Rattle.std.proofs.lemmas.Bool.{lt-ltb}
+use Rattle.stamp_base.specs.declared.limits.TheConstants.{BYTE_LIMIT}
+use Rattle.history_book.specs.declared.item.Item.{Item}
+use Rattle.history_reading.specs.History.{AreItems}
+use Rattle.script_lines.specs.declared.cause.ScriptCause.TheVariants.{TooLong}
+use Rattle.script_lines.specs.declared.mode.Mode.TheVariants.{Replay}
+use Rattle.session_script.specs.Script.{script_of}
+use Rattle.omid_top.specs.Audit.{IsVerdict, IsFairTo}
+use Rattle.omid_top.specs.Commands.{Replays, Audits, Storms}
+use Rattle.omid_top.proofs.ReportLemmas.{silent_is_fair}
+
+-- ---- statuses
+no_verdict : (code : ℕ) → 3 < code → code < 7 → IsVerdict code → ⊥
+no_verdict code low high (inl e) = omega (arith, e, low)
+no_verdict code low high (inr (inl e)) = omega (arith, e, low)
+no_verdict code low high (inr (inr e)) = omega (arith, e, high)
+
+no_end : (code : ℕ) → 3 < code → code < 7 → (code ≡ 0) ⊎ (code ≡ 7) → ⊥
+no_end code low high (inl e) = omega (arith, e, low)
+no_end code low high (inr e) = omega (arith, e, high)
+
+pub audit_codes : (code : ℕ) → IsVerdict code ⊎ (code ≡ 5) ⊎ (code ≡ 6) → (code ≤ 7) × (code ≢ 1) × (code ≢ 2)
+audit_codes code (inl (inl e)) = (omega (arith, e), λ o. omega (arith, e, o), λ o. omega (arith, e, o))
+audit_codes code (inl (inr (inl e))) = (omega (arith, e), λ o. omega (arith, e, o), λ o. omega (arith, e, o))
+audit_codes code (inl (inr (inr e))) = (omega (arith, e), λ o. omega (arith, e, o), λ o. omega (arith, e, o))
+audit_codes code (inr (inl e)) = (omega (arith, e), λ o. omega (arith, e, o), λ o. omega (arith, e, o))
+audit_codes code (inr (inr e)) = (omega (arith, e), λ o. omega (arith, e, o), λ o. omega (arith, e, o))
+
+pub replay_codes : (code : ℕ) → (code ≡ 0) ⊎ (code ≡ 3) ⊎ (code ≡ 5) ⊎ (code ≡ 6) → (code ≡ 0) ⊎ ((3 ≤ code) × (code ≤ 6))
+replay_codes code (inl e) = inl e
+replay_codes code (inr (inl e)) = inr (omega (arith, e), omega (arith, e))
+replay_codes code (inr (inr (inl e))) = inr (omega (arith, e), omega (arith, e))
+replay_codes code (inr (inr (inr e))) = inr (omega (arith, e), omega (arith, e))
+
+pub named_codes : (code : ℕ) → (code ≡ 3) ⊎ (code ≡ 5) → (code ≡ 0) ⊎ ((3 ≤ code) × (code ≤ 6))
+named_codes code (inl e) = inr (omega (arith, e), omega (arith, e))
+named_codes code (inr e) = inr (omega (arith, e), omega (arith, e))
+
+pub named_is_not_done : {P : Type 0} (code : ℕ) → (code ≡ 3) ⊎ (code ≡ 5) → code ≡ 0 → P
+named_is_not_done code (inl e) done = absurd (omega (arith, e, done))
+named_is_not_done code (inr e) done = absurd (omega (arith, e, done))
+
+-- a report of too many bytes is none of an end
+pub too_many_is_no_end : {P : Type 0} (code : ℕ) → (IsVerdict code → 3 ≡ code) → (code ≡ 0) ⊎ (code ≡ 7) → P
+too_many_is_no_end code is (inl e) = absurd (omega (arith, e, is (inl e)))
+too_many_is_no_end code is (inr e) = absurd (omega (arith, e, is (inr (inr e))))
+
+-- ---- nothing was written
+fair_in_silence : (left : Option (List ℕ)) (code : ℕ) → (IsVerdict code → ⊥) → IfSome left (λ bytes. (items : List Item) → AreItems bytes items → IsFairTo items code)
+fair_in_silence None code silent = tt
+fair_in_silence (Some bytes) code silent = λ items read. silent_is_fair items code silent
+
+pub replays_silently : (text : List Item → List ℕ) (code : ℕ) (left rest held now : Option (List ℕ)) → 3 < code → code < 7 → (code ≡ 5 → ⊥) → Replays text code left rest held now
+replays_silently text code left rest held now low high whole = record {
+  read = λ e. absurd (omega (arith, e, low));
+  replayed = λ e. absurd (omega (arith, e, low));
+  bad_line = λ e. absurd (omega (arith, e, low));
+  cut = λ five. absurd (whole five);
+  codes = inr (omega (arith, low), omega (arith, high));
+}
+
+pub audits_silently : (code : ℕ) (left rest held now : Option (List ℕ)) → 3 < code → code < 7 → (code ≡ 5 → ⊥) → Audits code left rest held now
+audits_silently code left rest held now low high whole = record {
+  read = λ is. absurd (no_end code low high is);
+  audited = λ verdict. absurd (no_verdict code low high verdict);
+  fair = fair_in_silence left code (no_verdict code low high);
+  cut = λ five. absurd (whole five);
+  codes = (omega (arith, high), λ e. omega (arith, e, low), λ e. omega (arith, e, low));
+}
+
+pub storms_silently : (transactions : ℕ) (held now : Option (List ℕ)) → Storms transactions 6 held now
+storms_silently transactions held now = record {
+  stormed = λ e. absurd (omega (arith, e));
+  cut = λ e. absurd (omega (arith, e));
+  codes = inr (inr refl);
+}
+
+-- ---- more bytes than a script may have
+too_long : (bytes : List ℕ) → BYTE_LIMIT < length bytes → script_of bytes Replay ≡ Err (record { line = 0; cause = TooLong })
+too_long bytes long = rw (lt-ltb BYTE_LIMIT (length bytes) long) refl
+
+pub of_too_long : (left : Option (List ℕ)) (P : List ℕ → Type 0) → ((bytes : List ℕ) → script_of bytes Replay ≡ Err (record { line = 0; cause = TooLong }) → P bytes) → IfSome left (λ bytes. BYTE_LIMIT < length bytes) → IfSome left P
+of_too_long None P holds long = tt
+of_too_long (Some bytes) P holds long = holds bytes (too_long bytes long)
+
+pub reported_codes : (code : ℕ) → IsVerdict code ⊎ (code ≡ 5) → IsVerdict code ⊎ (code ≡ 5) ⊎ (code ≡ 6)
+reported_codes code (inl verdict) = inl verdict
+reported_codes code (inr five) = inr (inl five)
