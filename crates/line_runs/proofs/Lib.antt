@@ -7,7 +7,7 @@ mod Putting
 mod Answering
 mod Extending
 pub mod Working
-mod Stepping
+pub mod Stepping
 mod Opening
 mod Sweeping
 mod Driving

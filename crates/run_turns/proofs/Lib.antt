@@ -14,3 +14,6 @@ mod AllSeats
 mod Answered
 mod OnPlan
 mod WholePlan
+mod OwnKinds
+mod ToldEvents
+mod OwnTold

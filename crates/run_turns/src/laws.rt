@@ -1,5 +1,5 @@
 // Each line ends, all facts hold, and lines are answered, whichever turns are made.
-ghost use Rattle.run_turns.specs.Laws.{OwnEventsLowerWhatIsLeft, TurnsKeepFacts, TurnsAnswerSoFar, TurnsAnswer, TurnsArePlannedSoFar, TurnsArePlanned};
+ghost use Rattle.run_turns.specs.Laws.{OwnEventsLowerWhatIsLeft, TurnsKeepFacts, TurnsAnswerSoFar, TurnsAnswer, TurnsArePlannedSoFar, TurnsArePlanned, OwnTurnsAreTold};
 
 use cause_laws::told_at_first;
 use line_runs::events_lower_what_is_left;
@@ -50,4 +50,11 @@ pub fn turns_are_planned()
 {
     turns_are_planned_so_far();
     planned_in_the_end();
+}
+
+/// Each event of an own turn appends an item to the history, or opens a sweep, where the script's lines are of the forms for
+/// threads.
+pub fn own_turns_are_told()
+    ensures { OwnTurnsAreTold }
+{
 }
