@@ -1,4 +1,4 @@
-mod Holders
+pub mod Holders
 mod Clients
 mod Serving
 mod Accepting

@@ -17,3 +17,5 @@ mod WholePlan
 mod OwnKinds
 mod ToldEvents
 mod OwnTold
+mod QuietTurns
+mod StageTold

@@ -1,6 +1,5 @@
 -- What an own event is that opens no line: a step of the session, its heal or its abort, or the janitor's.
-use Rattle.std.proofs.Common.{◌≡◌, ℕ, Bool, true, false, cond, Option, Some, None, refl, subst}
-use Rattle.std.proofs.lemmas.Option.{none-some, same_Some}
+use Rattle.std.proofs.Common.{◌≡◌, ℕ, Bool, true, false, cond, Option, Some, None, refl}
 use Rattle.history_book.specs.declared.item.Actor.{Actor}
 use Rattle.history_book.specs.declared.item.Actor.TheVariants.{Clock, Node, Session, Janitor}
 use Rattle.oracle_parts.specs.declared.instance.Place.{Place}
@@ -14,13 +13,13 @@ use Rattle.line_runs.specs.declared.point.Point.{Point}
 use Rattle.line_runs.specs.declared.point.Point.TheVariants.{Opens, Drives, Extends, Finishes, Reads, Steps, Over}
 use Rattle.line_runs.specs.declared.point.View.{View}
 use Rattle.line_runs.specs.Answers.{clock_opening, node_opening, session_opening, name_opening, has_opening}
-use Rattle.line_runs.specs.Next.{Clocks, is_served, finish_next, idle_next, read_next, steps_next, sweep_next, clock_opens, node_opens, session_opens, janitor_opens, janitor_next, next}
+use Rattle.line_runs.specs.Next.{Clocks, is_served, finish_next, idle_next, read_next, steps_next, sweep_next}
 use Rattle.line_runs.proofs.LaterEvents.{IsLater}
 use Rattle.run_turns.specs.declared.ahead.Ahead.{Ahead}
 use Rattle.run_turns.specs.declared.ahead.Ahead.TheVariants.{Makes, Waits, Passes}
 use Rattle.run_turns.specs.declared.ahead.Why.TheVariants.{Reply}
 use Rattle.run_turns.specs.Waiting.{made_next, drive_ahead, collect_ahead, own_opens, own_next}
-use Rattle.run_turns.specs.Laws.{IsForThreads}
+use Rattle.run_turns.specs.Told.{IsForThreads}
 
 -- ---- the kinds
 abbrev pub OwnKind : Actor → Event → Type 0

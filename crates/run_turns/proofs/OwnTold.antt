@@ -1,23 +1,21 @@
 -- Each event of an own turn appends an item, or opens a sweep.
-use Rattle.std.proofs.Common.{◌≡◌, ◌≢◌, ℕ, zero, suc, ◌<◌, Bool, true, false, List, [], ◌∷◌, Option, Some, None, ◌⊎◌, inl, inr, refl, sym, ◌∙◌, ap, subst}
+use Rattle.std.proofs.Common.{◌≡◌, ℕ, zero, suc, ◌<◌, Bool, true, false, List, [], ◌∷◌, Some, inl, inr, refl, sym, subst}
 use Rattle.std.specs.Prelude.{slice_get}
 use Rattle.std.proofs.lemmas.Option.{same_Some, none-some}
 use Rattle.history_book.specs.declared.item.Actor.{Actor}
-use Rattle.history_book.specs.declared.item.Actor.TheVariants.{Clock, Node, Session, Janitor}
+use Rattle.history_book.specs.declared.item.Actor.TheVariants.{Session, Janitor}
 use Rattle.history_book.specs.declared.item.Item.{Item}
 use Rattle.machine.specs.declared.event.Event.{Event}
 use Rattle.machine.specs.declared.event.Event.TheVariants as event
-use Rattle.machine.specs.State.{Client, State}
+use Rattle.machine.specs.State.{Client}
 use Rattle.session_script.specs.declared.script.Line.{Line}
-use Rattle.session_script.specs.declared.script.Verb.{Verb}
 use Rattle.session_script.specs.Data.{ScriptData}
 use Rattle.isolation_laws.specs.Sound.{Stands}
 use Rattle.isolation_laws.specs.Words.{ClientAt}
 use Rattle.line_runs.specs.declared.point.Point.{Point}
 use Rattle.line_runs.specs.declared.point.Point.TheVariants.{Opens, Drives, Extends, Finishes, Reads, Steps, Over}
 use Rattle.line_runs.specs.Answers.{same_actor, has_opening, IsAnswer}
-use Rattle.line_runs.specs.Laws.{ActorFits, AreLinesOf, IsPlayable}
-use Rattle.line_runs.specs.Next.{next}
+use Rattle.line_runs.specs.Laws.{ActorFits}
 use Rattle.line_runs.specs.Runs.{Played, fate_of, clocks_of, step_of}
 use Rattle.line_runs.specs.Views.{view_of}
 use Rattle.line_runs.proofs.AlwaysFit.{Fit, found}
@@ -26,12 +24,9 @@ use Rattle.line_runs.proofs.OpenedLines.{line_answered}
 use Rattle.line_runs.proofs.OpeningItems.{Begins}
 use Rattle.run_turns.specs.declared.ahead.Ahead.{Ahead}
 use Rattle.run_turns.specs.declared.ahead.Ahead.TheVariants.{Makes, Waits, Passes}
-use Rattle.run_turns.specs.declared.turn.Turn.{Turn}
-use Rattle.run_turns.specs.declared.turn.Turn.TheVariants as turn
-use Rattle.run_turns.specs.Carried.{Carried, name_posted, made_by, event_of, all_passed, at_first, carried}
+use Rattle.run_turns.specs.Carried.{Carried, name_posted, made_by, all_passed, at_first, carried}
 use Rattle.run_turns.specs.Lawful.{IsTold}
-use Rattle.run_turns.specs.Laws.{IsForThreads, AreForThreads, OwnTurnsAreTold}
-use Rattle.run_turns.specs.Seats.{present_line}
+use Rattle.run_turns.specs.Told.{IsForThreads, AreForThreads, OwnTurnsAreTold}
 use Rattle.run_turns.specs.Waiting.{own_next}
 use Rattle.run_turns.proofs.Facts.{Facts, facts_at_first, facts_all}
 use Rattle.run_turns.proofs.OwnEvents.{IsNextOf}
@@ -43,7 +38,7 @@ use Rattle.run_turns.proofs.SoFar.{own_fits}
 use Rattle.run_turns.proofs.ToldEvents.{Appends, step_told, heal_told, abort_told, sweep_told}
 
 -- ---- an event that appends an item is told
-told_by : (script : ScriptData) (p : Played) (e : Event) → Appends (step_of script p e).items → IsTold script p e
+pub told_by : (script : ScriptData) (p : Played) (e : Event) → Appends (step_of script p e).items → IsTold script p e
 told_by script p (event.SweepOpen node txn) some = tt
 told_by script p e some = λ none. subst (λ (items : List Item). Appends items) none some
 

@@ -1,6 +1,5 @@
 -- Steps of sessions, heals, aborts and steps of a sweep append an item each.
-use Rattle.std.proofs.Common.{◌≡◌, ℕ, ◌<◌, Bool, true, false, List, [], ◌∷◌, ◌++◌, Option, Some, None, ◌⊎◌, inl, inr, refl, sym, ◌∙◌, ap, subst}
-use Rattle.std.specs.Prelude.{slice_get}
+use Rattle.std.proofs.Common.{◌≡◌, ℕ, Bool, true, false, List, [], ◌∷◌, ◌++◌, Option, Some, None, inl, inr, refl, sym, ◌∙◌, ap, subst}
 use Rattle.port_io.specs.declared.weather.Fate.{Fate}
 use Rattle.port_io.specs.declared.weather.Fate.TheVariants.{Works, FailsUnchanged, FailsApplied}
 use Rattle.history_book.specs.declared.cause.Cause.{Cause}
@@ -18,13 +17,12 @@ use Rattle.client_parts.specs.KeyRead.{Reading, read_ask}
 use Rattle.client_parts.specs.Resolve.{Settling, settle_ask}
 use Rattle.client_parts.specs.SessionSteps.{work_refusal, step_refusal}
 use Rattle.client_parts.specs.Sweep.{Sweeping, sweep_ask}
-use Rattle.machine.specs.declared.event.Event.{Event}
 use Rattle.machine.specs.declared.event.Event.TheVariants as event
 use Rattle.machine.specs.State.{UnderWay, Reads, Settles, Completes, Client, State}
 use Rattle.machine.specs.Clients.{is_reading}
 use Rattle.machine.specs.Machine.{Step, at_client, with_client, stepped}
 use Rattle.machine.specs.Machine.{step_by as machine_step_by}
-use Rattle.machine.specs.StoreSteps.{Met, items_met, mark_kept, told_by, store_of, met}
+use Rattle.machine.specs.StoreSteps.{Met, mark_kept, told_by, met}
 use Rattle.machine.specs.Events.Abort.{abort_by, abort_on}
 use Rattle.machine.specs.Events.Heal.{heal_by, heal_at, heal_on, offer_of}
 use Rattle.machine.specs.Events.Step.{work_by, work_of, read_by, settle_by, complete_by, step_by, step_at, step_on}
@@ -32,7 +30,7 @@ use Rattle.machine.specs.Events.SweepStep.{sweep_by, sweep_lists, sweep_at, swee
 use Rattle.isolation_laws.specs.Sound.{Stands}
 use Rattle.isolation_laws.specs.Words.{ClientAt}
 use Rattle.line_runs.proofs.Stepping.{stores_step, step_is}
-use Rattle.line_runs.proofs.Working.{ReadWork, SettleWork, CompleteWork, HasWork, has_work}
+use Rattle.line_runs.proofs.Working.{ReadWork, CompleteWork, HasWork, has_work}
 use Rattle.line_runs.proofs.WorkItems.{HasNumber, starts}
 
 -- an item is appended
@@ -44,7 +42,7 @@ first_appends : (xs ys : List Item) → Appends xs → Appends (xs ++ ys)
 first_appends [] ys some = absurd some
 first_appends (x ∷ xs) ys some = tt
 
-last_appends : (xs : List Item) (y : Item) → Appends (xs ++ y ∷ [])
+pub last_appends : (xs : List Item) (y : Item) → Appends (xs ++ y ∷ [])
 last_appends [] y = tt
 last_appends (x ∷ xs) y = tt
 

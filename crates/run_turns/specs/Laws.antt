@@ -27,11 +27,9 @@ use Rattle.planned_laws.specs.SoFar.{PlannedSoFar}
 use Rattle.run_turns.specs.declared.ahead.Ahead.TheVariants.{Makes}
 use Rattle.run_turns.specs.declared.seat.Seat.{Seat}
 use Rattle.run_turns.specs.declared.turn.Turn.{Turn}
-use Rattle.run_turns.specs.declared.turn.Turn.TheVariants as turn
 use Rattle.run_turns.specs.Waiting.{own_next}
 use Rattle.run_turns.specs.Seats.{lines_left, present_line}
-use Rattle.run_turns.specs.Carried.{Carried, seat_of, event_of, carried, carried_items, AreWhole}
-use Rattle.run_turns.specs.Lawful.{IsTold}
+use Rattle.run_turns.specs.Carried.{Carried, seat_of, carried, carried_items, AreWhole}
 
 -- ---- each line ends
 -- each event of an own turn lowers what is left of its line, in every state that is reached, under every fate
@@ -39,28 +37,6 @@ abbrev pub OwnEventsLowerWhatIsLeft : Type 0
 OwnEventsLowerWhatIsLeft =
     (w : State) (h : List Item) (clocks : Clocks) (posted : Bool) (actor : Actor) (verb : Verb) (point : Point) (unawaited : Bool) (e : Event) (fate : Fate) → Stands w h → own_next clocks posted actor verb point (view_of w actor) unawaited ≡ Makes e →
     left (stepped w e fate).state actor verb (follows verb point (halt_of (stepped w e fate).stop)) < left w actor verb point
-
--- ---- own turns are told
--- the form is one for threads: it serves no request, and makes none that no line waits for
-abbrev pub IsForThreads : Verb → Type 0
-IsForThreads verb.Extend = ⊥
-IsForThreads (verb.Accept session) = ⊥
-IsForThreads (verb.Decide session) = ⊥
-IsForThreads (verb.Put session) = ⊥
-IsForThreads (verb.Answer session) = ⊥
-IsForThreads (verb.AskBegin node) = ⊥
-IsForThreads (verb.AskCommit node) = ⊥
-IsForThreads _ = Unit {0}
-
-unfoldable pub AreForThreads : List Line → Type 0
-AreForThreads [] = Unit {0}
-AreForThreads (line ∷ lines) = IsForThreads line.verb × AreForThreads lines
-
--- each event of an own turn appends an item, or opens a sweep
-abbrev pub OwnTurnsAreTold : Type 0
-OwnTurnsAreTold =
-    (script : ScriptData) (turns : List Turn) (actor : Actor) (e : Event) → AreInRange script.setup → IsPlayable script 0 script.lines → AreLinesOf script.setup script.lines → AreForThreads script.lines → event_of script (carried script turns) (turn.Own actor) ≡ Some e →
-    IsTold script (carried script turns).played e
 
 -- ---- all facts hold, whichever turns were made
 abbrev pub TurnsKeepFacts : Type 0
