@@ -2,7 +2,7 @@
 use Rattle.std.proofs.Common.{◌≡◌, ℕ, zero, suc, ◌+◌, ◌==◌, Bool, true, false, cond, List, [], ◌∷◌, ◌++◌, Option, Some, None, Result, Ok, Err, refl, sym, ◌∙◌, ap, subst}
 use Rattle.std.specs.Prelude.{slice_get, slice_set, slice_index_or}
 use Rattle.std.proofs.lemmas.List.{append-nil}
-use Rattle.std.proofs.lemmas.Option.{same_Some, none-some}
+use Rattle.std.proofs.lemmas.Option.{none-some}
 use Rattle.history_book.specs.declared.cause.Cause.{Cause}
 use Rattle.history_book.specs.declared.cause.Cause.TheVariants as cause
 use Rattle.history_book.specs.declared.item.Item.{Item}
@@ -16,8 +16,7 @@ use Rattle.oracle_parts.specs.declared.instance.Reply.{Reply}
 use Rattle.oracle_parts.specs.declared.instance.Reply.TheVariants as reply
 use Rattle.oracle_parts.specs.declared.instance.Request.{Request}
 use Rattle.oracle_parts.specs.declared.instance.Request.TheVariants.{Begin, Commit}
-use Rattle.oracle_parts.specs.declared.instance.Settled.TheVariants as how
-use Rattle.oracle_parts.specs.Instance.{InstanceEntry, held_of, with_request, stamps_by, stamps_of_held, least_unsettled, not_yet_of_held}
+use Rattle.oracle_parts.specs.Instance.{InstanceEntry, held_of, with_request, stamps_of_held, least_unsettled, not_yet_of_held}
 use Rattle.oracle_parts.specs.InstanceSteps.{InstanceStep, IsStop, out_of_stamps, decide_drawn, decide_by as verdict_by, decide_if_accepted, decide_held, instance_decide, request_verdict, answer_begin, answer_if_ready, answer_held, instance_answer}
 use Rattle.machine.specs.declared.event.Event.{Event}
 use Rattle.machine.specs.declared.event.Event.TheVariants as event
@@ -29,8 +28,7 @@ use Rattle.machine.specs.Events.Decide.{decide_by, decide_request, decide_on}
 use Rattle.machine.proofs.Refusals.{same_both}
 use Rattle.session_script.specs.Data.{ScriptData}
 use Rattle.isolation_laws.specs.Sound.{StopOf, Stands}
-use Rattle.isolation_laws.specs.Words.{InstanceAt}
-use Rattle.line_runs.specs.Runs.{Played, fate_of, played}
+use Rattle.line_runs.specs.Runs.{Played, fate_of}
 use Rattle.run_turns.specs.Told.{QuietTurnsChangeNothing}
 
 -- ---- a request that was told is put back as it was

@@ -1,7 +1,7 @@
 -- An acceptance, a put and an extension that a stage can make append an item each.
-use Rattle.std.proofs.Common.{◌≡◌, ◌≢◌, ℕ, Bool, true, false, List, [], ◌∷◌, ◌++◌, Option, Some, None, Result, Ok, Err, refl, sym, ◌∙◌, ap, subst}
+use Rattle.std.proofs.Common.{◌≡◌, ℕ, List, Option, Some, None, Result, Ok, Err, refl, sym, subst}
 use Rattle.std.specs.Prelude.{slice_get}
-use Rattle.std.proofs.lemmas.Option.{same_Some, none-some}
+use Rattle.std.proofs.lemmas.Option.{same_Some}
 use Rattle.stamp_base.specs.declared.stores.Mark.{Mark}
 use Rattle.port_io.specs.declared.weather.Fate.{Fate}
 use Rattle.port_io.specs.declared.weather.Fate.TheVariants.{Works, FailsUnchanged, FailsApplied}
@@ -21,23 +21,20 @@ use Rattle.oracle_parts.specs.InstanceSteps.{instance_accept}
 use Rattle.machine.specs.declared.event.Event.{Event}
 use Rattle.machine.specs.declared.event.Event.TheVariants as event
 use Rattle.machine.specs.State.{Client, State}
-use Rattle.machine.specs.Machine.{Step, at_post, at_both, stepped, reading_of}
+use Rattle.machine.specs.Machine.{Step, at_post, at_both}
 use Rattle.machine.specs.Readers.{place_of}
 use Rattle.machine.specs.Events.Accept.{accept_by, accept_request, accept_on}
 use Rattle.machine.specs.Events.Extend.{extend_by, extend_on}
 use Rattle.machine.specs.Events.Put.{to_place, put_by, put_commit, put_on}
 use Rattle.session_script.specs.Data.{ScriptData}
 use Rattle.isolation_laws.specs.Sound.{Stands}
-use Rattle.isolation_laws.specs.Words.{ClientAt}
 use Rattle.isolation_laws.proofs.Lookups.{held_by}
 use Rattle.line_runs.specs.Next.{reading_at}
-use Rattle.line_runs.specs.Runs.{Played, fate_of, clocks_of, step_of}
+use Rattle.line_runs.specs.Runs.{Played, fate_of, clocks_of}
 use Rattle.line_runs.proofs.Holders.{Served, is_served_at}
-use Rattle.run_turns.specs.declared.turn.Turn.{Turn}
 use Rattle.run_turns.specs.declared.turn.Turn.TheVariants as turn
-use Rattle.run_turns.specs.Carried.{Carried, event_of}
-use Rattle.run_turns.specs.Lawful.{LacksStamps, IsInPlace, IsTold}
-use Rattle.run_turns.specs.Told.{AlwaysTells, StageTurnsAreTold}
+use Rattle.run_turns.specs.Lawful.{LacksStamps, IsTold}
+use Rattle.run_turns.specs.Told.{StageTurnsAreTold}
 use Rattle.run_turns.proofs.OwnTold.{told_by}
 use Rattle.run_turns.proofs.ToldEvents.{Appends, last_appends}
 

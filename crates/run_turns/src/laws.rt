@@ -62,11 +62,9 @@ pub fn own_turns_are_told()
 /// An acceptance, a put and an extension append an item wherever their stage can make them.
 pub fn stage_turns_are_told()
     ensures { StageTurnsAreTold }
-{
-}
+{}
 
 /// A decision and an answer that append nothing change nothing: so they can be left out.
 pub fn quiet_turns_change_nothing()
     ensures { QuietTurnsChangeNothing }
-{
-}
+{}
