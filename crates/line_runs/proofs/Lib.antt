@@ -1,4 +1,4 @@
-mod Holders
+pub mod Holders
 mod Clients
 mod Serving
 mod Accepting
@@ -7,7 +7,7 @@ mod Putting
 mod Answering
 mod Extending
 pub mod Working
-mod Stepping
+pub mod Stepping
 mod Opening
 mod Sweeping
 mod Driving

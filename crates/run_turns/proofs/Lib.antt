@@ -14,3 +14,8 @@ mod AllSeats
 mod Answered
 mod OnPlan
 mod WholePlan
+mod OwnKinds
+mod ToldEvents
+mod OwnTold
+mod QuietTurns
+mod StageTold

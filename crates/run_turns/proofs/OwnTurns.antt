@@ -19,7 +19,7 @@ use Rattle.line_runs.proofs.Timing.{Timed}
 use Rattle.run_turns.specs.declared.seat.Seat.{Seat}
 use Rattle.run_turns.specs.declared.turn.Turn.{Turn}
 use Rattle.run_turns.specs.declared.turn.Turn.TheVariants as turn
-use Rattle.run_turns.specs.Seats.{present_line}
+use Rattle.run_turns.specs.Seats.{present_line, ahead_of}
 use Rattle.run_turns.specs.Carried.{Carried, name_posted, ahead_at, ahead_in, seat_of, made_by, event_of}
 use Rattle.run_turns.proofs.OwnEvents.{IsNextOf, own_is_next}
 use Rattle.run_turns.proofs.SeatLists.{find_true, Filtered, filtered}
@@ -54,12 +54,14 @@ pub record OwnTurn (script : ScriptData) (c : Carried) (actor : Actor) (e : Even
   pub present : present_line script seat ≡ Some line
   pub own : line.actor ≡ actor
   pub next : IsNextOf (clocks_of script c.played) line.actor line.verb seat.point (view_of c.played.state line.actor) e
+  pub makes : made_by (ahead_of (clocks_of script c.played) (name_posted c.names line.verb) (view_of c.played.state line.actor) line seat) ≡ Some e
 
 own_line : (script : ScriptData) (c : Carried) (actor : Actor) (e : Event) (seat : Seat) → seat_of c.seats actor ≡ Some seat → (line : Option Line) → present_line script seat ≡ line → made_by (ahead_at script c seat line) ≡ Some e → OwnTurn script c actor e
 own_line script c actor e seat sits None present makes = absurd (none-some e makes)
 own_line script c actor e seat sits (Some line) present makes =
     let same : seat.actor ≡ actor = actor_same seat.actor actor (find_true (λ (x : Seat). same_actor x.actor actor) c.seats seat sits) in
     let own : line.actor ≡ seat.actor = present_own script seat line present in
+    let mine : made_by (ahead_of (clocks_of script c.played) (name_posted c.names line.verb) (view_of c.played.state line.actor) line seat) ≡ Some e = subst (λ (a : Actor). made_by (ahead_of (clocks_of script c.played) (name_posted c.names line.verb) (view_of c.played.state a) line seat) ≡ Some e) (sym own) makes in
     record {
       seat = seat;
       sits = sits;
@@ -67,7 +69,8 @@ own_line script c actor e seat sits (Some line) present makes =
       line = line;
       present = present;
       own = own ∙ same;
-      next = subst (λ (a : Actor). IsNextOf (clocks_of script c.played) line.actor line.verb seat.point (view_of c.played.state a) e) (sym own) (own_is_next (clocks_of script c.played) (name_posted c.names line.verb) line.actor line.verb seat.point (view_of c.played.state seat.actor) seat.unawaited e makes);
+      next = own_is_next (clocks_of script c.played) (name_posted c.names line.verb) line.actor line.verb seat.point (view_of c.played.state line.actor) seat.unawaited e mine;
+      makes = mine;
     }
 
 own_seat : (script : ScriptData) (c : Carried) (actor : Actor) (e : Event) (found : Option Seat) → seat_of c.seats actor ≡ found → made_by (ahead_in script c found) ≡ Some e → OwnTurn script c actor e

@@ -56,7 +56,7 @@ collect_none (Node n) is = cc
 collect_none (Session s) is = cc
 collect_none Janitor is = cc
 
-collects_not : (actor : Actor) (line : Verb) → line ≡ verb.Collect → has_opening actor line ≡ true → ⊥
+pub collects_not : (actor : Actor) (line : Verb) → line ≡ verb.Collect → has_opening actor line ≡ true → ⊥
 collects_not actor line is opening = collect_none actor (ap (λ (v : Verb). has_opening actor v) (sym is) ∙ opening)
 
 -- what the events of a line need: the state is reached, and the line is the actor's

@@ -77,7 +77,7 @@ apart_staged script c t e actor k staged stays = record {
 
 -- another actor's
 -- the line that makes it is one of the system
-own_fits : (script : ScriptData) (c : Carried) (who : Actor) (e : Event) → AreLinesOf script.setup script.lines → Facts script c → (own : OwnTurn script c who e) → OwnLine who c.played.state c.played.items own.line
+pub own_fits : (script : ScriptData) (c : Carried) (who : Actor) (e : Event) → AreLinesOf script.setup script.lines → Facts script c → (own : OwnTurn script c who e) → OwnLine who c.played.state c.played.items own.line
 own_fits script c who e of_script k own =
     let fits : ActorFits script.setup own.line.actor × VerbFits script.setup own.line.verb = present_fits script own.seat own.line of_script own.present in
     record {

@@ -3,3 +3,4 @@ pub mod Seats
 pub mod Carried
 pub mod Lawful
 pub mod Laws
+pub mod Told

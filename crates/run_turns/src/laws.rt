@@ -1,5 +1,6 @@
 // Each line ends, all facts hold, and lines are answered, whichever turns are made.
 ghost use Rattle.run_turns.specs.Laws.{OwnEventsLowerWhatIsLeft, TurnsKeepFacts, TurnsAnswerSoFar, TurnsAnswer, TurnsArePlannedSoFar, TurnsArePlanned};
+ghost use Rattle.run_turns.specs.Told.{OwnTurnsAreTold, StageTurnsAreTold, QuietTurnsChangeNothing};
 
 use cause_laws::told_at_first;
 use line_runs::events_lower_what_is_left;
@@ -51,3 +52,19 @@ pub fn turns_are_planned()
     turns_are_planned_so_far();
     planned_in_the_end();
 }
+
+/// Each event of an own turn appends an item to the history, or opens a sweep, where the script's lines are of the forms for
+/// threads.
+pub fn own_turns_are_told()
+    ensures { OwnTurnsAreTold }
+{}
+
+/// An acceptance, a put and an extension append an item wherever their stage can make them.
+pub fn stage_turns_are_told()
+    ensures { StageTurnsAreTold }
+{}
+
+/// A decision and an answer that append nothing change nothing: so they can be left out.
+pub fn quiet_turns_change_nothing()
+    ensures { QuietTurnsChangeNothing }
+{}

@@ -12,7 +12,8 @@ mod turn;
 pub use ahead::{Ahead, Why};
 pub use choosing::own_event;
 pub use laws::{
-    own_events_lower_what_is_left, turns_answer, turns_answer_so_far, turns_are_planned,
+    own_events_lower_what_is_left, own_turns_are_told, quiet_turns_change_nothing,
+    stage_turns_are_told, turns_answer, turns_answer_so_far, turns_are_planned,
     turns_are_planned_so_far, turns_keep_facts,
 };
 pub use passing::pass;
