@@ -1,5 +1,5 @@
 -- Lines that are added to a script that is being made.
-use Rattle.std.specs.Prelude.{◌≡◌, ℕ, ◌+◌, List, ◌++◌, length}
+use Rattle.std.specs.Prelude.{◌≡◌, ◌+◌, List, ◌++◌, length}
 use Rattle.script_data.specs.declared.line.Line.{Line}
 use Rattle.replay_driver.specs.Storm.{Action, lines_from}
 
