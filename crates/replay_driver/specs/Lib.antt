@@ -1,4 +1,3 @@
-pub mod Advances
 pub mod Drafts
 pub mod Playing
 pub mod Storm
