@@ -1,12 +1,12 @@
 -- Whichever turns are made, all facts hold, and the clock has not ticked further than its lines say.
-use Rattle.std.proofs.Common.{◌≡◌, ℕ, suc, ◌+◌, ◌≤◌, ◌^◌, Bool, true, false, cond, List, [], ◌∷◌, Option, Some, None, refl, sym, ◌∙◌, ap, subst, arith}
-use Rattle.std.specs.Prelude.{filter, fold, drop, slice_index_or}
+use Rattle.std.proofs.Common.{◌≡◌, ℕ, suc, ◌+◌, ◌≤◌, Bool, true, false, cond, List, [], ◌∷◌, Option, Some, None, refl, sym, ◌∙◌, ap, subst, arith}
+use Rattle.std.specs.Prelude.{filter, fold, drop}
 use Rattle.std.specs.Option.{option_map}
-use Rattle.stamp_base.specs.SetupNumbers.{SetupNumbers, AreInRange}
-use Rattle.port_io.specs.declared.weather.Fate.{Fate}
+use Rattle.stamp_base.specs.SetupNumbers.{AreInRange}
 use Rattle.history_book.specs.declared.item.Actor.{Actor}
 use Rattle.history_book.specs.declared.item.Actor.TheVariants.{Clock, Node, Session, Janitor}
 use Rattle.machine.specs.declared.event.Event.{Event}
+<<<<<<< HEAD
 use Rattle.machine.specs.Machine.{Step, stepped, reading_of, seen_after, IsSteadyAt}
 use Rattle.machine.proofs.PartsKept.{seen_up, leaves_parts}
 use Rattle.script_data.specs.declared.line.Line.{Line}
@@ -18,47 +18,35 @@ use Rattle.line_runs.specs.Answers.{same_actor}
 use Rattle.script_data.specs.Ticks.{ticks_of}
 use Rattle.line_runs.specs.Laws.{IsPlayable, IsReached}
 use Rattle.line_runs.specs.Runs.{Played, fate_of, clocks_of, step_of, played}
+=======
+use Rattle.machine.specs.Machine.{Step}
+use Rattle.script_data.specs.declared.line.Line.{Line}
+use Rattle.script_data.specs.Data.{ScriptData}
+use Rattle.line_runs.specs.declared.point.Point.{Point}
+use Rattle.line_runs.specs.declared.point.Point.TheVariants.{Opens, Drives, Extends, Finishes, Reads, Steps, Over}
+use Rattle.line_runs.specs.Answers.{same_actor}
+use Rattle.script_data.specs.Ticks.{ticks_of}
+use Rattle.line_runs.specs.Laws.{IsPlayable, IsReached}
+use Rattle.line_runs.specs.Runs.{clocks_of, step_of, played}
+>>>>>>> 8061f8b298b18bc394adc8fe8e1dcd2f4c94b389
 use Rattle.line_runs.specs.Views.{view_of}
-use Rattle.line_runs.proofs.AlwaysFit.{Fit, fit_stays, fit_at_first}
+use Rattle.line_runs.proofs.AlwaysFit.{Fit, fit_at_first}
 use Rattle.line_runs.proofs.Ending.{opening_reached}
 use Rattle.line_runs.proofs.LaterEvents.{IsLater}
 use Rattle.line_runs.proofs.OwnLines.{follows_later}
 use Rattle.line_runs.proofs.ScriptWalks.{actor_same}
-use Rattle.line_runs.proofs.Timing.{tick_ahead, Timed, InTime, in_time}
+use Rattle.line_runs.proofs.Timing.{tick_ahead, Timed}
 use Rattle.run_turns.specs.declared.seat.Seat.{Seat}
 use Rattle.run_turns.specs.declared.turn.Turn.{Turn}
 use Rattle.run_turns.specs.declared.turn.Turn.TheVariants as turn
 use Rattle.run_turns.specs.Seats.{lines_of, lines_left, with_event_of}
 use Rattle.run_turns.specs.Carried.{Carried, seat_of, event_of, moved, with_event, seat_passed, all_passed, turned_by, turned, at_first}
 use Rattle.run_turns.specs.Laws.{unanswered, TurnsKeepFacts}
+use Rattle.run_turns.proofs.MadeEvents.{Made, event_made}
 use Rattle.run_turns.proofs.OwnTimes.{own_tick, own_timed}
 use Rattle.run_turns.proofs.OwnTurns.{OwnTurn, own_turn, StageTurn, stage_turn}
 use Rattle.run_turns.proofs.SeatsOn.{passed_keeps, own_moved, other_stays, seat_after, passed_seat, turned_seat}
 use Rattle.run_turns.proofs.SeatLists.{find_true, get_drop}
-
--- ---- one event that comes at its time
--- what was played after it
-pub record Made (script : ScriptData) (p : Played) (tick : ℕ) (e : Event) : Type 0 where
-  pub reached : IsReached script (played script p e)
-  pub fit : Fit (played script p e).state
-  pub at_most : (played script p e).clock ≤ p.clock + tick
-
-pub event_made : (script : ScriptData) (p : Played) (tick : ℕ) (e : Event) → ((node : ℕ) → slice_index_or script.leads node 0 ≤ script.setup.skew) → p.clock + tick + script.setup.skew ≤ 2 ^ 61 → IsReached script p → Fit p.state → Timed (clocks_of script p) tick e → Made script p tick e
-event_made script p tick e leads room reached fit timed =
-    let skew : ℕ = script.setup.skew in
-    let fate : Fate = fate_of script p e in
-    let it : InTime (clocks_of script p) tick skew p.state.seen e = in_time (clocks_of script p) tick skew p.state.seen e timed (record { leads = leads; room = omega (arith, room); before = reached.seen }) in
-    let steady : IsSteadyAt p.state.setup.skew p.state.seen (reading_of e) = subst (λ (setup : SetupNumbers). IsSteadyAt setup.skew p.state.seen (reading_of e)) (sym reached.setup) it.steady in
-    let seen : (stepped p.state e fate).state.seen ≡ seen_after p.state.seen (reading_of e) = seen_up p.state e fate in
-    record {
-      reached = record {
-        stands = facts_stay p.state p.items e fate reached.stands steady;
-        setup = (leaves_parts p.state e fate).setup ∙ reached.setup;
-        seen = omega (arith, seen, it.seen_most, it.at_least);
-      };
-      fit = fit_stays p.state e fate fit;
-      at_most = it.at_most;
-    }
 
 -- ---- the ticks that are ahead of the clock's seat
 abbrev pub seat_ticks : ScriptData → Seat → ℕ

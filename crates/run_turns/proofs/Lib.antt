@@ -8,10 +8,12 @@ mod OwnTimes
 mod OwnTurns
 mod SeatsOn
 mod PassLines
+mod MadeEvents
 mod Facts
 mod SoFar
 mod AllSeats
 mod Answered
+mod PlanTicks
 mod OnPlan
 mod WholePlan
 mod OwnKinds
@@ -19,3 +21,4 @@ mod ToldEvents
 mod OwnTold
 mod QuietTurns
 mod StageTold
+mod WorkedTurns

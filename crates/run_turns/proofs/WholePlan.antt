@@ -20,7 +20,8 @@ use Rattle.run_turns.specs.Carried.{Carried, seat_of, all_passed, at_first, carr
 use Rattle.run_turns.specs.Laws.{unanswered, ticks_ahead, IsPlannedSoFar, TurnsArePlannedSoFar, TurnsArePlanned}
 use Rattle.run_turns.proofs.Answered.{none_unanswered, whole_seat}
 use Rattle.run_turns.proofs.Facts.{facts_at_first}
-use Rattle.run_turns.proofs.OnPlan.{PlanLaws, OnPlan, passing_ahead, plan_all}
+use Rattle.run_turns.proofs.OnPlan.{PlanLaws, OnPlan, plan_all}
+use Rattle.run_turns.proofs.PlanTicks.{passing_ahead}
 use Rattle.run_turns.proofs.SeatsOn.{passed_seat}
 
 -- ---- the clock's ticks are the script's

@@ -4,3 +4,4 @@ pub mod Carried
 pub mod Lawful
 pub mod Laws
 pub mod Told
+pub mod WorkedTurns

@@ -8,6 +8,7 @@ mod laws;
 mod passing;
 mod seat;
 mod turn;
+mod worked;
 
 pub use ahead::{Ahead, Why};
 pub use choosing::own_event;
@@ -19,3 +20,4 @@ pub use laws::{
 pub use passing::pass;
 pub use seat::{Holds, Seat, was_asked};
 pub use turn::{Turn, stage_turn};
+pub use worked::a_crash_ends_the_wait;
