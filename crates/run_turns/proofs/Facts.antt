@@ -6,19 +6,6 @@ use Rattle.stamp_base.specs.SetupNumbers.{AreInRange}
 use Rattle.history_book.specs.declared.item.Actor.{Actor}
 use Rattle.history_book.specs.declared.item.Actor.TheVariants.{Clock, Node, Session, Janitor}
 use Rattle.machine.specs.declared.event.Event.{Event}
-<<<<<<< HEAD
-use Rattle.machine.specs.Machine.{Step, stepped, reading_of, seen_after, IsSteadyAt}
-use Rattle.machine.proofs.PartsKept.{seen_up, leaves_parts}
-use Rattle.script_data.specs.declared.line.Line.{Line}
-use Rattle.script_data.specs.Data.{ScriptData}
-use Rattle.isolation_laws.proofs.AlwaysHolds.{facts_stay}
-use Rattle.line_runs.specs.declared.point.Point.{Point}
-use Rattle.line_runs.specs.declared.point.Point.TheVariants.{Opens, Drives, Extends, Finishes, Reads, Steps, Over}
-use Rattle.line_runs.specs.Answers.{same_actor}
-use Rattle.script_data.specs.Ticks.{ticks_of}
-use Rattle.line_runs.specs.Laws.{IsPlayable, IsReached}
-use Rattle.line_runs.specs.Runs.{Played, fate_of, clocks_of, step_of, played}
-=======
 use Rattle.machine.specs.Machine.{Step}
 use Rattle.script_data.specs.declared.line.Line.{Line}
 use Rattle.script_data.specs.Data.{ScriptData}
@@ -28,7 +15,6 @@ use Rattle.line_runs.specs.Answers.{same_actor}
 use Rattle.script_data.specs.Ticks.{ticks_of}
 use Rattle.line_runs.specs.Laws.{IsPlayable, IsReached}
 use Rattle.line_runs.specs.Runs.{clocks_of, step_of, played}
->>>>>>> 8061f8b298b18bc394adc8fe8e1dcd2f4c94b389
 use Rattle.line_runs.specs.Views.{view_of}
 use Rattle.line_runs.proofs.AlwaysFit.{Fit, fit_at_first}
 use Rattle.line_runs.proofs.Ending.{opening_reached}

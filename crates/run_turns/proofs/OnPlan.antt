@@ -7,18 +7,8 @@ use Rattle.history_book.specs.declared.item.Actor.TheVariants.{Clock, Node, Sess
 use Rattle.machine.specs.declared.event.Event.{Event}
 use Rattle.machine.specs.declared.event.Event.TheVariants as event
 use Rattle.machine.specs.Machine.{Step}
-<<<<<<< HEAD
-use Rattle.script_data.specs.declared.line.Line.{Line}
-use Rattle.script_data.specs.declared.line.Verb.{Verb}
-use Rattle.script_data.specs.declared.line.Verb.TheVariants as verb
-use Rattle.script_data.specs.Data.{ScriptData}
-use Rattle.line_runs.specs.declared.point.Point.{Point}
-use Rattle.line_runs.specs.declared.point.Point.TheVariants.{Opens, Drives, Extends, Finishes, Reads, Steps, Over}
-use Rattle.line_runs.specs.declared.point.View.{View}
-=======
 use Rattle.script_data.specs.declared.line.Line.{Line}
 use Rattle.script_data.specs.Data.{ScriptData}
->>>>>>> 8061f8b298b18bc394adc8fe8e1dcd2f4c94b389
 use Rattle.line_runs.specs.Answers.{same_actor}
 use Rattle.line_runs.specs.Laws.{IsPlayable}
 use Rattle.line_runs.specs.Next.{reading_at}
