@@ -1,6 +1,8 @@
--- The ordered maps of an indexed walk, after one more item, and what they are asked.
+-- The maps of an indexed walk, after one more item, and what they are asked.
 use Rattle.std.proofs.Common.{◌≡◌, ◌≤◌, ◌<◌, ◌==◌, ◌&&◌, ℕ, Bool, true, false, cond, List, [], ◌∷◌, ◌++◌, Option, Some, None, IsSome, is_some, length, ◌⊎◌, inl, inr, refl, sym, ap, subst, ◌∙◌, arith}
+use Rattle.std.specs.Prelude.{nat_eq}
 use Rattle.std.specs.Ordering.{nat_cmp, is_lt}
+use Rattle.std.specs.HashMap as hash
 use Rattle.std.specs.declared.ops.Bound.TheVariants.{Excluded, Unbounded}
 use Rattle.std.specs.BTreeMap.Range.{IsInRange}
 use Rattle.std.specs.declared.cmp.Ordering.TheVariants.{Less}
@@ -14,9 +16,9 @@ use Rattle.history_book.specs.declared.item.Item.TheVariants.{Write}
 use Rattle.isolation_rules.specs.declared.version.Version.{Version}
 use Rattle.isolation_rules.specs.Best.{IsOwn, IsWritten}
 use Rattle.isolation_rules.proofs.WriteLemmas.{last_write_at}
-use Rattle.si_judge.specs.Indexed.{pair_cmp, HasVersions, HasLastWrites}
+use Rattle.si_judge.specs.Indexed.{pair_cmp, pair_eq, HasVersions, LastWrites, HasLastWrites}
 use Rattle.si_judge.specs.declared.commits.Commit.{Commit}
-use Rattle.si_judge.specs.Commits.{Commits, commit_at, HasCommits}
+use Rattle.si_judge.specs.Commits.{Commits, commit_of, commit_at, HasCommits}
 use Rattle.si_judge.proofs.CommitLemmas.{has_committed, committed_is_held}
 use Rattle.si_judge.proofs.PushLemmas.{write_here, write_stays, last_write_stays, written_is, wrote_or_none}
 
@@ -36,6 +38,16 @@ pair_updated {X} m n a b w put p q = by (is_at (pair_cmp (a, b)) (p, q)) refl
         let tests = both_true (p == a) (q == b) (sym (at_pair a b p q) ∙ e) in
         inl (eqb-true p a tests.0, eqb-true q b tests.1, put.0 (p, q) ∙ ap (λ r. cond r (Some w) (get pair_cmp m (p, q))) e)
     by false e = inr (λ one two. grind (arith, nat_tests, e, one, two), put.0 (p, q) ∙ ap (λ r. cond r (Some w) (get pair_cmp m (p, q))) e)
+
+-- the same of a map by hash
+pair_put : (m n : LastWrites) (a b : ℕ) (w : Version) → hash.Updates pair_eq m n (a, b) (Some w) → (p q : ℕ) → ((p ≡ a) × (q ≡ b) × (hash.get pair_eq n (p, q) ≡ Some w)) ⊎ ((p ≡ a → q ≡ b → ⊥) × (hash.get pair_eq n (p, q) ≡ hash.get pair_eq m (p, q)))
+pair_put m n a b w put p q = by (pair_eq (a, b) (p, q)) refl
+  where
+    by : (r : Bool) → pair_eq (a, b) (p, q) ≡ r → ((p ≡ a) × (q ≡ b) × (hash.get pair_eq n (p, q) ≡ Some w)) ⊎ ((p ≡ a → q ≡ b → ⊥) × (hash.get pair_eq n (p, q) ≡ hash.get pair_eq m (p, q)))
+    by true e =
+        let tests = both_true (nat_eq a p) (nat_eq b q) e in
+        inl (sym (eqb-true a p tests.0), sym (eqb-true b q tests.1), put.0 (p, q) ∙ ap (λ r. cond r (Some w) (hash.get pair_eq m (p, q))) e)
+    by false e = inr (λ one two. grind (arith, nat_tests, e, one, two), put.0 (p, q) ∙ ap (λ r. cond r (Some w) (hash.get pair_eq m (p, q))) e)
 
 -- an item that writes nothing for a committed transaction changes no version
 pub versions_skip : (h part : List Item) (x : Item) (m : BTreeMap (ℕ × ℕ) Version) → ((t c k : ℕ) (v : List ℕ) → Committed h t c → written_by t k x ≡ Some v → ⊥) → HasVersions h part m → HasVersions h (part ++ x ∷ []) m
@@ -64,16 +76,16 @@ unfolding writer written_key
 one_writer s t k v r u l w e = (ap writer e, ap written_key e)
 
 -- a write of a transaction that is not committed is no version
-pub open_write_skips : (h : List Item) (commits : Commits) (session u l : ℕ) (w : List ℕ) → HasCommits h (length h) commits → get nat_cmp commits u ≡ None → (t c k : ℕ) (v : List ℕ) → Committed h t c → written_by t k (Write session u l w) ≡ Some v → ⊥
+pub open_write_skips : (h : List Item) (commits : Commits) (session u l : ℕ) (w : List ℕ) → HasCommits h (length h) commits → commit_of commits u ≡ None → (t c k : ℕ) (v : List ℕ) → Committed h t c → written_by t k (Write session u l w) ≡ Some v → ⊥
 open_write_skips h commits session u l w has none t c k v committed some =
     let is = written_is t k (Write session u l w) v some in
     let same = (one_writer session u l w is.0 t k v is.1).0 in
     let held = committed_is_held h commits has t c committed in
-    let clash : None ≡ Some (commit_at c held.0) = sym none ∙ ap (λ n. get nat_cmp commits n) same ∙ held.1 in
+    let clash : None ≡ Some (commit_at c held.0) = sym none ∙ ap (λ n. commit_of commits n) same ∙ held.1 in
     absurd (cc)
 
 -- the commit of a committed transaction is one
-one_of_commits : (h : List Item) (commits : Commits) (t d : ℕ) (commit : Commit) → HasCommits h (length h) commits → get nat_cmp commits t ≡ Some commit → Committed h t d → d ≡ commit.stamp
+one_of_commits : (h : List Item) (commits : Commits) (t d : ℕ) (commit : Commit) → HasCommits h (length h) commits → commit_of commits t ≡ Some commit → Committed h t d → d ≡ commit.stamp
 one_of_commits h commits t d commit has there committed =
     let held = committed_is_held h commits has t d committed in
     ap (λ (c : Commit). c.stamp) (same_Some _ _ (sym held.1 ∙ there))
@@ -92,7 +104,7 @@ writes_itself : (session t k : ℕ) (v : List ℕ) → written_by t k (Write ses
 writes_itself session t k v = grind (arith, nat_tests)
 
 -- a write of a committed transaction takes the place of its earlier write of the key
-pub versions_entered : (h part : List Item) (commits : Commits) (commit : Commit) (session t k p : ℕ) (v : List ℕ) (m n : BTreeMap (ℕ × ℕ) Version) → HasCommits h (length h) commits → get nat_cmp commits t ≡ Some commit → length part ≡ p → Updates pair_cmp m n (k, commit.stamp) (Some (record { place = p; found = record { from = t; value = v } })) → HasVersions h part m → HasVersions h (part ++ Write session t k v ∷ []) n
+pub versions_entered : (h part : List Item) (commits : Commits) (commit : Commit) (session t k p : ℕ) (v : List ℕ) (m n : BTreeMap (ℕ × ℕ) Version) → HasCommits h (length h) commits → commit_of commits t ≡ Some commit → length part ≡ p → Updates pair_cmp m n (k, commit.stamp) (Some (record { place = p; found = record { from = t; value = v } })) → HasVersions h part m → HasVersions h (part ++ Write session t k v ∷ []) n
 unfolding made
 versions_entered h part commits commit session t k p v m n has there at put old = record {
   held = λ l d version e. elim (pair_updated m n k commit.stamp (made p t v) put l d) [
@@ -174,7 +186,7 @@ last_other h s k l c version m has is other = λ t d candidate.
     lesser_key l c k s d other is.below (is.last (k, d) (pair_below k d s candidate.below) (has.whole t d k candidate.wrote.0 candidate.committed candidate.wrote.1))
 
 -- with no items there is no last write
-pub writes_empty : (m : BTreeMap (ℕ × ℕ) Version) → IsEmpty m → HasLastWrites [] m
+pub writes_empty : (m : LastWrites) → hash.IsEmpty m → HasLastWrites [] m
 unfolding last_write
 writes_empty m empty = λ t k. rw empty refl
 
@@ -184,13 +196,13 @@ own_stays part x t k (Some version) none old =
     (old.0, write_stays part x version.found.from k version.found.value version.place (ap (λ n. written_by n k x) old.0 ∙ none) old.1)
 
 -- an item that writes nothing leaves the last writes
-pub writes_skip : (part : List Item) (x : Item) (m : BTreeMap (ℕ × ℕ) Version) → ((t k : ℕ) (v : List ℕ) → written_by t k x ≡ Some v → ⊥) → HasLastWrites part m → HasLastWrites (part ++ x ∷ []) m
+pub writes_skip : (part : List Item) (x : Item) (m : LastWrites) → ((t k : ℕ) (v : List ℕ) → written_by t k x ≡ Some v → ⊥) → HasLastWrites part m → HasLastWrites (part ++ x ∷ []) m
 writes_skip part x m none old = λ t k. own_stays part x t k _ (wrote_or_none t k x _ (λ n. n) (λ v some. absurd (none t k v some))) (old t k)
 
 -- a write is its transaction's last at its key
-pub writes_entered : (part : List Item) (session t k p : ℕ) (v : List ℕ) (m n : BTreeMap (ℕ × ℕ) Version) → length part ≡ p → Updates pair_cmp m n (t, k) (Some (record { place = p; found = record { from = t; value = v } })) → HasLastWrites part m → HasLastWrites (part ++ Write session t k v ∷ []) n
+pub writes_entered : (part : List Item) (session t k p : ℕ) (v : List ℕ) (m n : LastWrites) → length part ≡ p → hash.Updates pair_eq m n (t, k) (Some (record { place = p; found = record { from = t; value = v } })) → HasLastWrites part m → HasLastWrites (part ++ Write session t k v ∷ []) n
 unfolding made
-writes_entered part session t k p v m n at put old = λ u l. elim (pair_updated m n t k (made p t v) put u l) [
+writes_entered part session t k p v m n at put old = λ u l. elim (pair_put m n t k (made p t v) put u l) [
   | inl here ↦ subst (λ (o : Option Version). IsOwn (part ++ Write session t k v ∷ []) u l o) (sym here.2)
       (sym here.0, subst (λ (a : ℕ). IsWritten (part ++ Write session t k v ∷ []) a (made p t v)) (sym here.1) (entered_written part session t k p v at (writes_itself session t k v)))
   | inr other ↦ subst (λ (o : Option Version). IsOwn (part ++ Write session t k v ∷ []) u l o) (sym other.1)

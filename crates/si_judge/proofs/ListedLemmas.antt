@@ -1,14 +1,13 @@
 -- The transactions whose keys were listed, after one more item.
 use Rattle.std.proofs.Common.{◌≡◌, ◌==◌, ◌||◌, ℕ, Bool, true, false, cond, List, [], ◌∷◌, ◌++◌, refl, sym, ap, ◌∙◌, arith}
 use Rattle.std.specs.List.{list_any}
-use Rattle.std.specs.Ordering.{nat_cmp}
-use Rattle.std.specs.BTreeMap.{is_at}
-use Rattle.std.specs.BTreeSet.{BTreeSet, contains, Updates}
+use Rattle.std.specs.Prelude.{nat_eq}
+use Rattle.std.specs.HashSet.{contains, Updates}
 use Rattle.std.proofs.lemmas.Bool.Decides.{nat_tests}
 use Rattle.std.proofs.lemmas.List.Folds.{list_any-append}
 use Rattle.history_book.specs.declared.item.Item.{Item}
 use Rattle.isolation_rules.specs.Best.{lists}
-use Rattle.si_judge.specs.Indexed.{HasListed}
+use Rattle.si_judge.specs.Indexed.{HasListed, Txns}
 
 or_false : (a : Bool) → (a || false) ≡ a
 or_false true = refl
@@ -23,11 +22,11 @@ chosen true false = refl
 chosen false true = refl
 chosen false false = refl
 
-at_number : (t u : ℕ) → is_at (nat_cmp t) u ≡ (u == t)
+at_number : (t u : ℕ) → nat_eq t u ≡ (u == t)
 at_number t u = grind (arith, nat_tests)
 
 -- the transaction that an item lists is entered
-pub listed_entered : (part : List Item) (x : Item) (txn : ℕ) (m n : BTreeSet ℕ) → ((t : ℕ) → lists t x ≡ (t == txn)) → Updates nat_cmp m n txn true → HasListed part m → HasListed (part ++ x ∷ []) n
+pub listed_entered : (part : List Item) (x : Item) (txn : ℕ) (m n : Txns) → ((t : ℕ) → lists t x ≡ (t == txn)) → Updates nat_eq m n txn true → HasListed part m → HasListed (part ++ x ∷ []) n
 listed_entered part x txn m n one put old = λ t.
-    put.0 t ∙ ap (λ b. cond b true (contains nat_cmp m t)) (at_number txn t) ∙ chosen (contains nat_cmp m t) (t == txn)
+    put.0 t ∙ ap (λ b. cond b true (contains nat_eq m t)) (at_number txn t) ∙ chosen (contains nat_eq m t) (t == txn)
     ∙ ap (λ b. b || (t == txn)) (old t) ∙ ap (λ b. list_any (λ y. lists t y) part || b) (sym (one t)) ∙ sym (any_push part x t)

@@ -22,38 +22,38 @@ use Rattle.isolation_rules.proofs.KeyLemmas.{any_writes, and_parts}
 use Rattle.isolation_rules.proofs.PlaceLemmas.{both_at}
 use Rattle.si_judge.specs.declared.marks.Marks.{Marks}
 use Rattle.si_judge.specs.declared.commits.Commit.{Commit}
-use Rattle.si_judge.specs.Commits.{Commits, commit_at, HasCommits}
+use Rattle.si_judge.specs.Commits.{Commits, commit_of, commit_at, HasCommits}
 use Rattle.si_judge.specs.Marks.{IsMarked, KeepsMarks}
 use Rattle.si_judge.specs.Indexed.{pair_cmp}
 use Rattle.si_judge.specs.OverlapIndex.{Written, HasWrite, HasWrites, KeepsWrites, MarksOverlaps, MarksAll}
 
 -- ---- the committed writes
-pub write_noted : (commits : Commits) (old new : Written) (x : Item) (session t k : ℕ) (value : List ℕ) (commit : Commit) → x ≡ Write session t k value → Some commit ≡ get nat_cmp commits t → Updates pair_cmp old new (k, t) (Some commit) → HasWrite commits new x
+pub write_noted : (commits : Commits) (old new : Written) (x : Item) (session t k : ℕ) (value : List ℕ) (commit : Commit) → x ≡ Write session t k value → Some commit ≡ commit_of commits t → Updates pair_cmp old new (k, t) (Some commit) → HasWrite commits new x
 write_noted commits old new x session t k value commit is there updates =
     subst (λ (y : Item). HasWrite commits new y) (sym is) (subst (λ (o : Option Commit). IfSome o (λ d. get pair_cmp new (k, t) ≡ Some d)) there updates.1)
 
-pub write_missing : (commits : Commits) (written : Written) (x : Item) (session t k : ℕ) (value : List ℕ) → x ≡ Write session t k value → None ≡ get nat_cmp commits t → HasWrite commits written x
+pub write_missing : (commits : Commits) (written : Written) (x : Item) (session t k : ℕ) (value : List ℕ) → x ≡ Write session t k value → None ≡ commit_of commits t → HasWrite commits written x
 write_missing commits written x session t k value is none =
     subst (λ (y : Item). HasWrite commits written y) (sym is) (subst (λ (o : Option Commit). IfSome o (λ d. get pair_cmp written (k, t) ≡ Some d)) none tt)
 
 key_is : (k t : ℕ) (q : ℕ × ℕ) → is_at (pair_cmp (k, t)) q ≡ true → (k, t) ≡ q
 key_is k t q e = tells_apart (exact_pairs nat_cmp nat_cmp exact_unsigned exact_unsigned) (k, t) q e
 
-pub writes_kept : (commits : Commits) (old new : Written) (k t : ℕ) (commit : Commit) → Some commit ≡ get nat_cmp commits t → Updates pair_cmp old new (k, t) (Some commit) → KeepsWrites commits old new
+pub writes_kept : (commits : Commits) (old new : Written) (k t : ℕ) (commit : Commit) → Some commit ≡ commit_of commits t → Updates pair_cmp old new (k, t) (Some commit) → KeepsWrites commits old new
 writes_kept commits old new k t commit there updates = record { at = λ l u other found was. by l u other found was (is_at (pair_cmp (k, t)) (l, u)) refl }
   where
-    by : (l u : ℕ) (other : Commit) → get nat_cmp commits u ≡ Some other → get pair_cmp old (l, u) ≡ Some other → (r : Bool) → is_at (pair_cmp (k, t)) (l, u) ≡ r → get pair_cmp new (l, u) ≡ Some other
+    by : (l u : ℕ) (other : Commit) → commit_of commits u ≡ Some other → get pair_cmp old (l, u) ≡ Some other → (r : Bool) → is_at (pair_cmp (k, t)) (l, u) ≡ r → get pair_cmp new (l, u) ≡ Some other
     by l u other found was true e =
         let same : (k, t) ≡ (l, u) = key_is k t (l, u) e in
         let start : t ≡ u = ap (λ (q : ℕ × ℕ). q.1) same in
-        let one : Some commit ≡ Some other = there ∙ ap (λ n. get nat_cmp commits n) start ∙ found in
+        let one : Some commit ≡ Some other = there ∙ ap (λ n. commit_of commits n) start ∙ found in
         sym (ap (λ q. get pair_cmp new q) same) ∙ updates.1 ∙ one
     by l u other found was false e = updates.2 (l, u) e ∙ was
 
 write_stays : (commits : Commits) (old new : Written) → KeepsWrites commits old new → (x : Item) → HasWrite commits old x → HasWrite commits new x
-write_stays commits old new keeps (Write session t k value) has = by (get nat_cmp commits t) refl has
+write_stays commits old new keeps (Write session t k value) has = by (commit_of commits t) refl has
   where
-    by : (o : Option Commit) → get nat_cmp commits t ≡ o → IfSome o (λ d. get pair_cmp old (k, t) ≡ Some d) → IfSome o (λ d. get pair_cmp new (k, t) ≡ Some d)
+    by : (o : Option Commit) → commit_of commits t ≡ o → IfSome o (λ d. get pair_cmp old (k, t) ≡ Some d) → IfSome o (λ d. get pair_cmp new (k, t) ≡ Some d)
     by None e was = tt
     by (Some d) e was = keeps.at k t d e was
 write_stays commits old new keeps _ has = has
@@ -176,11 +176,11 @@ any_at (x ∷ xs) t k e = elim (or_cases (writes t k x) (list_any (λ y. writes 
   | inr later ↦ let found = any_at xs t k later in record { place = suc found.place; item = found.item; there = found.there; writes = found.writes }
 ]
 
-write_has : (commits : Commits) (written : Written) (t k : ℕ) (x : Item) (commit : Commit) → writes t k x ≡ true → HasWrite commits written x → get nat_cmp commits t ≡ Some commit → get pair_cmp written (k, t) ≡ Some commit
+write_has : (commits : Commits) (written : Written) (t k : ℕ) (x : Item) (commit : Commit) → writes t k x ≡ true → HasWrite commits written x → commit_of commits t ≡ Some commit → get pair_cmp written (k, t) ≡ Some commit
 write_has commits written t k (Write session start key value) commit is has found =
     let parts = and_parts (start == t) (key == k) is in
-    let at_start = subst (λ (n : ℕ). IfSome (get nat_cmp commits n) (λ d. get pair_cmp written (key, n) ≡ Some d)) (eqb-true start t parts.0) has in
-    let at_key = subst (λ (n : ℕ). IfSome (get nat_cmp commits t) (λ d. get pair_cmp written (n, t) ≡ Some d)) (eqb-true key k parts.1) at_start in
+    let at_start = subst (λ (n : ℕ). IfSome (commit_of commits n) (λ d. get pair_cmp written (key, n) ≡ Some d)) (eqb-true start t parts.0) has in
+    let at_key = subst (λ (n : ℕ). IfSome (commit_of commits t) (λ d. get pair_cmp written (n, t) ≡ Some d)) (eqb-true key k parts.1) at_start in
     subst (λ (o : Option Commit). IfSome o (λ d. get pair_cmp written (k, t) ≡ Some d)) found at_key
 write_has commits written t k _ commit is has found = absurd (cc)
 

@@ -1,7 +1,7 @@
 -- Items that share no stamp with those behind.
-use Rattle.std.proofs.Common.{◌≡◌, ℕ, true, ◌≤◌, suc, List, Some, slice_get, arith, inl, inr, sym, ap, subst, ◌∙◌}
+use Rattle.std.proofs.Common.{◌≡◌, ℕ, true, ◌≤◌, suc, List, Some, length, slice_get, arith, inl, inr, sym, ap, subst, ◌∙◌}
 use Rattle.std.proofs.lemmas.Bool.{cases_lt}
-use Rattle.std.proofs.lemmas.Option.{same_Some}
+use Rattle.std.proofs.lemmas.Option.{same_Some, slice_get_within}
 use Rattle.history_book.specs.declared.item.Item.{Item}
 use Rattle.history_book.specs.declared.item.Item.TheVariants.{Begin, Placed}
 use Rattle.isolation_rules.specs.declared.verdict.Rule.TheVariants as rule
@@ -14,6 +14,9 @@ use Rattle.si_judge.specs.StampIndex.{HasStamps, KeepsStamps, IsClear}
 -- the index has the stamps of the items behind a place
 pub record HasBehind (h : List Item) (index : Stamps) (place : ℕ) : Type 0 where
   pub at : (j : ℕ) (y : Item) → place ≤ j → slice_get h j ≡ Some y → HasStamps index y
+
+pub behind_none : (h : List Item) (index : Stamps) → HasBehind h index (length h)
+behind_none h index = record { at = λ j y le there. let less = slice_get_within h j y there in absurd (omega (arith, le, less)) }
 
 pub clear_passes : (h : List Item) (index : Stamps) (place : ℕ) (x : Item) → slice_get h place ≡ Some x → HasBehind h index (suc place) → IsClear index x → Passes rule.Stamped h place
 clear_passes h index place x here behind clear = λ j broken. elim broken [

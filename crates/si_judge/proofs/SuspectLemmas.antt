@@ -16,6 +16,9 @@ all_true zero i = refl
 all_true (suc n) zero = refl
 all_true (suc n) (suc i) = all_true n i
 
+pub marked_pass : (rule : Rule) (h : List Item) (n : ℕ) → ArePassed rule h (replicate n true)
+marked_pass rule h n = record { passes = λ i off. let on = all_true n i in absurd (cc) }
+
 -- one more mark
 pub mark_passes : (rule : Rule) (h : List Item) (marks : List Bool) (place : ℕ) (mark : Bool) → place < length marks → ArePassed rule h marks → (mark ≡ false → Passes rule h place) → ArePassed rule h (set marks place mark)
 mark_passes rule h marks place mark less old here = record {

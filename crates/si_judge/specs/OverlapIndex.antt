@@ -1,13 +1,12 @@
 -- What an index of the writes of committed transactions holds.
 pub use Rattle.si_judge.specs.Marks.{IsMarked, KeepsMarks}
 use Rattle.std.specs.Prelude.{◌≡◌, ℕ, ◌<◌, ◌≤◌, List, Some, slice_get, IfSome}
-use Rattle.std.specs.Ordering.{nat_cmp}
 use Rattle.std.specs.BTreeMap.{BTreeMap, get}
 use Rattle.history_book.specs.declared.item.Item.{Item}
 use Rattle.history_book.specs.declared.item.Item.TheVariants.{Write}
 use Rattle.si_judge.specs.Indexed.{pair_cmp}
 use Rattle.si_judge.specs.declared.commits.Commit.{Commit}
-use Rattle.si_judge.specs.Commits.{Commits}
+use Rattle.si_judge.specs.Commits.{Commits, commit_of}
 use Rattle.si_judge.specs.declared.marks.Marks.{Marks}
 
 -- commits, by the keys that they wrote and by their transactions
@@ -16,7 +15,7 @@ Written = BTreeMap (ℕ × ℕ) Commit
 
 -- where the item is a write of a committed transaction, the map has its commit
 abbrev pub HasWrite : Commits → Written → Item → Type 0
-HasWrite commits written (Write session t k value) = IfSome (get nat_cmp commits t) (λ commit. get pair_cmp written (k, t) ≡ Some commit)
+HasWrite commits written (Write session t k value) = IfSome (commit_of commits t) (λ commit. get pair_cmp written (k, t) ≡ Some commit)
 HasWrite commits written _ = Unit {0}
 
 pub record HasWrites (h : List Item) (n : ℕ) (commits : Commits) (written : Written) : Type 0 where
@@ -24,7 +23,7 @@ pub record HasWrites (h : List Item) (n : ℕ) (commits : Commits) (written : Wr
 
 -- the commits that the old map has the new one has
 pub record KeepsWrites (commits : Commits) (old new : Written) : Type 0 where
-  pub at : (k t : ℕ) (commit : Commit) → get nat_cmp commits t ≡ Some commit → get pair_cmp old (k, t) ≡ Some commit → get pair_cmp new (k, t) ≡ Some commit
+  pub at : (k t : ℕ) (commit : Commit) → commit_of commits t ≡ Some commit → get pair_cmp old (k, t) ≡ Some commit → get pair_cmp new (k, t) ≡ Some commit
 
 -- where another transaction that wrote the key k started after t and up to its commit, both are marked
 abbrev pub MarksOverlaps : Written → ℕ → ℕ → Commit → Marks → Type 0

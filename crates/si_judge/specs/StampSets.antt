@@ -1,12 +1,16 @@
 -- Sets of stamps.
-use Rattle.std.specs.Prelude.{◌≡◌, ℕ, true}
-use Rattle.std.specs.Ordering.{nat_cmp}
-use Rattle.std.specs.BTreeSet.{BTreeSet, contains}
+use Rattle.std.specs.Prelude.{◌≡◌, ℕ, true, nat_eq}
+use Rattle.std.specs.declared.hash.FoldHasher.{FoldHasher}
+use Rattle.std.specs.declared.hash.BuildHasherDefault.{BuildHasherDefault}
+use Rattle.std.specs.HashSet.{HashSet, contains}
+
+abbrev pub StampSet : Type 0
+StampSet = HashSet ℕ (BuildHasherDefault FoldHasher)
 
 -- the set has the stamp
-abbrev pub Has : BTreeSet ℕ → ℕ → Type 0
-Has stamps t = contains nat_cmp stamps t ≡ true
+abbrev pub Has : StampSet → ℕ → Type 0
+Has stamps t = contains nat_eq stamps t ≡ true
 
 -- what the old set has the new one has
-abbrev pub HasAll : BTreeSet ℕ → BTreeSet ℕ → Type 0
+abbrev pub HasAll : StampSet → StampSet → Type 0
 HasAll old new = (t : ℕ) → Has old t → Has new t

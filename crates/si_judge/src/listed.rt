@@ -8,12 +8,12 @@ ghost use Rattle.si_judge.specs.Indexed.{HasListed};
 use history_book::{Item, StoreStep};
 use stamp_base::{NoMemory, TxnId};
 use std::alloc::Global;
-use std::collections::BTreeSet;
+use std::collections::HashSet;
 
 /// The transactions whose keys were listed, of the items passed so far.
 #[derive(Drop)]
 pub struct Listed {
-    txns: BTreeSet<TxnId>,
+    txns: HashSet<u64>,
 }
 
 impl Listed {
@@ -22,7 +22,7 @@ impl Listed {
         ensures { HasListed [] result.txns }
     {
         Listed {
-            txns: BTreeSet::new(alloc),
+            txns: HashSet::new(alloc),
         }
     }
 
@@ -32,7 +32,7 @@ impl Listed {
             HasListed (part ++ item.now ∷ []) self.new.txns) }
     {
         if let Some(txn) = listed_by(item) {
-            self.txns.insert(txn)?;
+            self.txns.insert(txn.value())?;
         }
         Ok(())
     }
@@ -41,7 +41,7 @@ impl Listed {
     pub fn has(&self, txn: TxnId) -> bool
         ensures { (part : List Item) → HasListed part self.now.txns → Decides result (isolation.WasListed part txn) }
     {
-        self.txns.contains(&txn)
+        self.txns.contains(&txn.value())
     }
 }
 

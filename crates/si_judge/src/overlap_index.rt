@@ -5,7 +5,7 @@ ghost use Rattle.history_book.specs.Isolation as isolation;
 ghost use Rattle.si_judge.specs.OverlapIndex.{HasWrite, HasWrites, KeepsMarks, KeepsWrites, MarksAll, MarksOverlaps};
 ghost use Rattle.si_judge.specs.Suspects.{AreSuspects};
 
-use crate::commits::{Commit, commits_by_start};
+use crate::commits::{Commit, Commits, commits_by_start};
 use crate::marks::Marks;
 use history_book::Item;
 use isolation_rules::Rule;
@@ -31,7 +31,7 @@ pub fn overlap_suspects(alloc: Global, items: &[Item]) -> Result<Vec<bool>, NoMe
 fn committed_writes(
     alloc: Global,
     items: &[Item],
-    commits: &BTreeMap<Stamp, Commit>,
+    commits: &Commits,
 ) -> Result<BTreeMap<(KeyNo, Stamp), Commit>, NoMemory>
     ensures { IfOk result (λ written. HasWrites items.now (length items.now) commits.now written) }
 {
@@ -44,14 +44,14 @@ fn committed_writes(
 
 fn note_write(
     written: &mut BTreeMap<(KeyNo, Stamp), Commit>,
-    commits: &BTreeMap<Stamp, Commit>,
+    commits: &Commits,
     item: &Item,
 ) -> Result<(), NoMemory>
     ensures noted { OnOk result (HasWrite commits.now written.new item.now) }
     ensures kept { OnOk result (KeepsWrites commits.now written.old written.new) }
 {
     match item {
-        Item::Write { start, key, .. } => match commits.get(start) {
+        Item::Write { start, key, .. } => match commits.get(&start.value()) {
             Some(commit) => {
                 written.insert((*key, *start), *commit)?;
                 Ok(())

@@ -7,10 +7,11 @@ use history_book::Item;
 use isolation_rules::Rule;
 use stamp_base::{NoMemory, Stamp};
 use std::alloc::Global;
-use std::collections::BTreeSet;
+use std::collections::HashSet;
 
 /// Whether each place is a suspect. The items are taken from the last to the first, and the stamps of those
 /// behind are kept.
+#[tactic(auto, using(crate::proofs::StampIndexLemmas::behind_none, crate::proofs::SuspectLemmas::marked_pass))]
 pub fn stamp_suspects(alloc: Global, items: &[Item]) -> Result<Vec<bool>, NoMemory>
     ensures { IfOk result (λ suspects. AreSuspects Rule.Stamped items.now suspects.items) }
 {
@@ -27,9 +28,9 @@ pub fn stamp_suspects(alloc: Global, items: &[Item]) -> Result<Vec<bool>, NoMemo
 #[derive(Drop)]
 struct Stamps {
     /// The starts of placed items.
-    placed: BTreeSet<Stamp>,
+    placed: HashSet<u64>,
     /// The starts of begins, and the commits.
-    drawn: BTreeSet<Stamp>,
+    drawn: HashSet<u64>,
 }
 
 impl Stamps {
@@ -37,8 +38,8 @@ impl Stamps {
 
     fn new(alloc: Global) -> Stamps {
         Stamps {
-            placed: BTreeSet::new(alloc),
-            drawn: BTreeSet::new(alloc),
+            placed: HashSet::new(alloc),
+            drawn: HashSet::new(alloc),
         }
     }
 
@@ -47,9 +48,11 @@ impl Stamps {
         ensures { result ≡ false → IsClear self.now item.now }
     {
         match item {
-            Item::Begin { start, .. } => self.drawn.contains(start),
+            Item::Begin { start, .. } => self.drawn.contains(&start.value()),
             Item::Placed { start, commit } => {
-                *commit <= *start || self.placed.contains(start) || self.drawn.contains(commit)
+                *commit <= *start
+                    || self.placed.contains(&start.value())
+                    || self.drawn.contains(&commit.value())
             }
             _ => false,
         }
@@ -70,10 +73,10 @@ impl Stamps {
     }
 }
 
-fn keep(stamps: &mut BTreeSet<Stamp>, stamp: Stamp) -> Result<(), NoMemory>
+fn keep(stamps: &mut HashSet<u64>, stamp: Stamp) -> Result<(), NoMemory>
     ensures added { OnOk result (Has stamps.new stamp) }
     ensures kept { OnOk result (HasAll stamps.old stamps.new) }
 {
-    stamps.insert(stamp)?;
+    stamps.insert(stamp.value())?;
     Ok(())
 }

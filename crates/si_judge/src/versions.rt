@@ -6,7 +6,7 @@ ghost use Rattle.isolation_rules.specs.Best.{Sees};
 ghost use Rattle.si_judge.specs.Commits.{HasCommits};
 ghost use Rattle.si_judge.specs.Indexed.{HasVersions};
 
-use crate::commits::{Commit, commits_by_start};
+use crate::commits::{Commits, commits_by_start};
 use history_book::{Found, Item};
 use isolation_rules::Version;
 use stamp_base::{KeyNo, NoMemory, Stamp};
@@ -45,7 +45,7 @@ impl VersionIndex {
 fn versions_of(
     alloc: Global,
     items: &[Item],
-    commits: &BTreeMap<Stamp, Commit>,
+    commits: &Commits,
 ) -> Result<BTreeMap<(KeyNo, Stamp), Version>, NoMemory>
     requires { HasCommits items.now (length items.now) commits.now }
     ensures { IfOk result (λ versions. HasVersions items.now items.now versions) }
@@ -60,7 +60,7 @@ fn versions_of(
 /// Enters what the item writes, where its transaction committed, in place of an earlier write of the key.
 fn enter_version(
     versions: &mut BTreeMap<(KeyNo, Stamp), Version>,
-    commits: &BTreeMap<Stamp, Commit>,
+    commits: &Commits,
     place: usize,
     item: &Item,
 ) -> Result<(), NoMemory>
@@ -76,7 +76,7 @@ fn enter_version(
     else {
         return Ok(());
     };
-    let Some(commit) = commits.get(start) else {
+    let Some(commit) = commits.get(&start.value()) else {
         return Ok(());
     };
     let found = Found {

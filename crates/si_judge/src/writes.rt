@@ -8,12 +8,12 @@ use history_book::{Found, Item};
 use isolation_rules::Version;
 use stamp_base::{KeyNo, NoMemory, Stamp};
 use std::alloc::Global;
-use std::collections::BTreeMap;
+use std::collections::HashMap;
 
 /// The last write of each transaction at each key, of the items passed so far.
 #[derive(Drop)]
 pub struct LastWrites {
-    versions: BTreeMap<(Stamp, KeyNo), Version>,
+    versions: HashMap<(u64, u64), Version>,
 }
 
 impl LastWrites {
@@ -22,7 +22,7 @@ impl LastWrites {
         ensures { HasLastWrites [] result.versions }
     {
         LastWrites {
-            versions: BTreeMap::new(alloc),
+            versions: HashMap::new(alloc),
         }
     }
 
@@ -45,7 +45,7 @@ impl LastWrites {
             value: *value,
         };
         self.versions
-            .insert((*start, *key), Version { place, found })?;
+            .insert((start.value(), key.value()), Version { place, found })?;
         Ok(())
     }
 
@@ -53,6 +53,6 @@ impl LastWrites {
     pub fn last(&self, start: Stamp, key: KeyNo) -> Option<Version>
         ensures { (part : List Item) → HasLastWrites part self.now.versions → IsOwn part start key result }
     {
-        self.versions.get(&(start, key)).copied()
+        self.versions.get(&(start.value(), key.value())).copied()
     }
 }

@@ -1,6 +1,10 @@
-use Rattle.std.proofs.Common.{sym, ◌∙◌}
+use Rattle.std.proofs.Common.{sym, ap, ◌∙◌}
+use Rattle.std.specs.Prelude.{nat_eq}
+use Rattle.std.specs.HashSet.{contains}
 use Rattle.isolation_rules.proofs.WriteLemmas.{any_listed, listed_any}
 use Rattle.si_judge.proofs.listed.Listed.has.Goals as goal
 
 pub returns : goal.returns
-returns c = λ part has. (λ e. any_listed part c.args.txn (sym (c.contains.ensures ∙ has c.args.txn) ∙ e), λ listed. (c.contains.ensures ∙ has c.args.txn) ∙ listed_any part c.args.txn listed)
+returns c = λ part has.
+    let is = c.contains.ensures ∙ ap (λ n. contains nat_eq c.args.self.now.txns n) c.value.ensures.value ∙ has c.args.txn in
+    (λ e. any_listed part c.args.txn (sym is ∙ e), λ listed. is ∙ listed_any part c.args.txn listed)

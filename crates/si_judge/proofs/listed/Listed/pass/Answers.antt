@@ -1,5 +1,8 @@
+use Rattle.std.proofs.Common.{ℕ, true, subst}
+use Rattle.std.specs.Prelude.{nat_eq}
+use Rattle.std.specs.HashSet.{Updates}
 use Rattle.si_judge.proofs.ListedLemmas.{listed_entered}
 use Rattle.si_judge.proofs.listed.Listed.pass.Goals as goal
 
 pub returns-in_ok-insert : goal.returns-in_ok-insert
-returns-in_ok-insert c = λ part old. listed_entered part c.args.item.now c.in-Some.txn c.args.self.now.txns c.insert.new.self c.in-Some.ensures c.in_ok-insert.ensures.updates old
+returns-in_ok-insert c = λ part old. listed_entered part c.args.item.now c.in-Some.txn c.args.self.now.txns c.insert.new.self c.in-Some.ensures (subst (λ (n : ℕ). Updates nat_eq c.args.self.now.txns c.insert.new.self n true) c.value.ensures.value c.in_ok-insert.ensures.updates) old
