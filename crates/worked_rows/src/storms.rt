@@ -1,11 +1,11 @@
 // Storms, and the summaries of histories.
 use crate::bad_scripts::USAGE;
 use crate::calls::answer_of;
-use crate::texts::commits::PLAIN_PATH;
 use omid_top::{OpenGate, omid};
 use port_io::{MemSink, MemSource};
 use std::alloc::AllocError;
 use std::test::Fail;
+use worked_texts::commits::PLAIN_PATH;
 
 /// How many transactions, and the summary of their history.
 const STORMS: [(&str, &str); 6] = [
