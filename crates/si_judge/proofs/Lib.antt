@@ -8,3 +8,4 @@ mod StampIndexLemmas
 mod AskIndexLemmas
 mod CommitLemmas
 mod OverlapIndexLemmas
+mod TurnLemmas

@@ -163,13 +163,13 @@ all_done written left marks end done = record {
 }
 
 -- ---- what is not marked passes
-record WriteAt (h : List Item) (t k : ℕ) : Type 0 where
-  place : ℕ
-  item : Item
-  there : slice_get h place ≡ Some item
-  writes : writes t k item ≡ true
+pub record WriteAt (h : List Item) (t k : ℕ) : Type 0 where
+  pub place : ℕ
+  pub item : Item
+  pub there : slice_get h place ≡ Some item
+  pub writes : writes t k item ≡ true
 
-any_at : (xs : List Item) (t k : ℕ) → list_any (λ x. writes t k x) xs ≡ true → WriteAt xs t k
+pub any_at : (xs : List Item) (t k : ℕ) → list_any (λ x. writes t k x) xs ≡ true → WriteAt xs t k
 any_at [] t k e = absurd (cc)
 any_at (x ∷ xs) t k e = elim (or_cases (writes t k x) (list_any (λ y. writes t k y) xs) e) [
   | inl here ↦ record { place = zero; item = x; there = refl; writes = here }

@@ -3,6 +3,8 @@ pub mod Indexed
 pub mod Suspects
 pub mod Marks
 pub mod OverlapIndex
+pub mod Follows
+pub mod Turns
 pub mod StampSets
 pub mod StampIndex
 pub mod AskStarts

@@ -15,6 +15,7 @@ mod search;
 mod stamp_index;
 #[cfg(test)]
 mod tests;
+mod turns;
 mod versions;
 mod writes;
 
@@ -29,7 +30,7 @@ use std::alloc::Global;
 /// of items that break it the one with the least first number and then the least second; items are
 /// numbered from 1.
 ///
-/// Each rule is judged over ordered sets and maps, in the time of a sort of the items and in memory for each
+/// Each rule is judged over sets and maps, in about the time of a sort of the items and in memory for each
 /// of them; where many transactions that wrote one key overlap, the time grows with their pairs. Where that
 /// memory is refused, a walk over all pairs is made in its place, in a time that grows with the square of the
 /// number of items and more, so the answer is never NoMemory.

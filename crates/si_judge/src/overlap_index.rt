@@ -1,12 +1,15 @@
 // An index of the writes of committed transactions, which finds the places where the rule on commits may
 // be broken.
-ghost use Rattle.std.specs.Prelude.{length, IfOk, OnOk};
+ghost use Rattle.std.specs.Prelude.{◌≡◌, ℕ, true, length, IfOk, OnOk};
 ghost use Rattle.history_book.specs.Isolation as isolation;
+ghost use Rattle.isolation_rules.specs.Judged.{Passes};
+ghost use Rattle.si_judge.specs.Commits.{HasCommits};
 ghost use Rattle.si_judge.specs.OverlapIndex.{HasWrite, HasWrites, KeepsMarks, KeepsWrites, MarksAll, MarksOverlaps};
 ghost use Rattle.si_judge.specs.Suspects.{AreSuspects};
 
 use crate::commits::{Commit, Commits, commits_by_start};
 use crate::marks::Marks;
+use crate::turns::turns_of;
 use history_book::Item;
 use isolation_rules::Rule;
 use stamp_base::{KeyNo, NoMemory, Stamp};
@@ -14,14 +17,49 @@ use std::alloc::Global;
 use std::collections::BTreeMap;
 use std::ops::Bound;
 
-/// Whether each place is a suspect: those of two commits are where both wrote a key, and one commit is not
-/// below the other's start.
+/// Whether each place is a suspect: none where the writers of each key take turns, and else those that are
+/// marked.
 pub fn overlap_suspects(alloc: Global, items: &[Item]) -> Result<Vec<bool>, NoMemory>
     requires { isolation.Stamped items.now }
     ensures { IfOk result (λ suspects. AreSuspects Rule.Apart items.now suspects.items) }
 {
     let commits = commits_by_start(alloc, items)?;
-    let written = committed_writes(alloc, items, &commits)?;
+    let turns = turns_of(alloc, items, &commits)?;
+    suspects_by(alloc, items, &commits, turns.apart)
+}
+
+/// The same where it is told whether no commits overlap.
+fn suspects_by(
+    alloc: Global,
+    items: &[Item],
+    commits: &Commits,
+    apart: bool,
+) -> Result<Vec<bool>, NoMemory>
+    requires commits { HasCommits items.now (length items.now) commits.now }
+    requires apart { apart ≡ true → (i : ℕ) → Passes Rule.Apart items.now i }
+    ensures { IfOk result (λ suspects. AreSuspects Rule.Apart items.now suspects.items) }
+{
+    if apart {
+        no_suspects(alloc, items)
+    } else {
+        marked_overlaps(alloc, items, commits)
+    }
+}
+
+fn no_suspects(alloc: Global, items: &[Item]) -> Result<Vec<bool>, NoMemory>
+    requires { (i : ℕ) → Passes Rule.Apart items.now i }
+    ensures { IfOk result (λ suspects. AreSuspects Rule.Apart items.now suspects.items) }
+{
+    let marks = Marks::new(alloc, items.len())?;
+    Ok(marks.each)
+}
+
+/// Marks the places of two commits where both wrote a key, and one commit is not below the other's start.
+fn marked_overlaps(alloc: Global, items: &[Item], commits: &Commits) -> Result<Vec<bool>, NoMemory>
+    requires { HasCommits items.now (length items.now) commits.now }
+    ensures { IfOk result (λ suspects. AreSuspects Rule.Apart items.now suspects.items) }
+{
+    let written = committed_writes(alloc, items, commits)?;
     let mut marks = Marks::new(alloc, items.len())?;
     mark_all_overlaps(&written, &mut marks);
     Ok(marks.each)

@@ -1,9 +1,5 @@
-use Rattle.std.proofs.Common.{arith}
-use Rattle.si_judge.proofs.OverlapIndexLemmas.{unmarked_passes}
+use Rattle.si_judge.proofs.TurnLemmas.{told_apart}
 use Rattle.si_judge.proofs.overlap_index.overlap_suspects.Goals as goal
 
-pub returns : goal.returns
-returns c = record {
-  each = omega (arith, c.mark_all_overlaps.ensures.kept.each, c.in_ok-marks.ensures);
-  unmarked = unmarked_passes c.args.items.now c.in_ok-commits.commits c.in_ok-written.written c.mark_all_overlaps.new.marks c.in_ok-commits.ensures c.in_ok-written.ensures c.mark_all_overlaps.ensures.marked;
-}
+pub suspects_by-requires-clause-apart : goal.suspects_by-requires-clause-apart
+suspects_by-requires-clause-apart c = λ on. told_apart c.args.items.now c.in_ok-commits.commits c.in_ok-turns.turns c.in_ok-commits.ensures c.in_ok-turns.ensures on
