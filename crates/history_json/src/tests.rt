@@ -1,11 +1,12 @@
 // Each kind of item both ways, lines that are written otherwise, and lines that are almost one.
 use crate::{from_line, printed_line, read_history, to_line};
-use history_book::Item;
 use history_reading::{HistoryFault, read_item};
+use stamp_base::NoMemory;
+use std::alloc::Global;
 use std::test::Fail;
 
 /// Lines of text, and the same items in JSON.
-const LINES: [(&str, &str); 40] = [
+static LINES: [(&str, &str); 40] = [
     ("tick 12", "{\"kind\":\"tick\",\"to\":12}"),
     (
         "note s1 post p",
@@ -162,26 +163,48 @@ const LINES: [(&str, &str); 40] = [
     ("vanish s1", "{\"kind\":\"vanish\",\"session\":\"s1\"}"),
 ];
 
+/// Behind a function, a proof that goes over the rows does not look into their texts.
+fn lines() -> &'static [(&'static str, &'static str)] {
+    &LINES
+}
+
+/// Whether the bytes are the line of the item that the text is.
+fn reads_as(alloc: Global, json: &[u8], text: &str) -> Result<bool, NoMemory> {
+    match from_line(alloc, json) {
+        Ok(Some(found)) => match read_item(text.as_bytes()) {
+            Some(item) => Ok(found == item),
+            None => Ok(false),
+        },
+        Ok(None) => Ok(false),
+        Err(NoMemory) => Err(NoMemory),
+    }
+}
+
+/// Whether the item that the text is is written as this line, alone and in a history.
+fn is_written(alloc: Global, text: &str, json: &str) -> Result<bool, NoMemory> {
+    let Some(item) = read_item(text.as_bytes()) else {
+        return Ok(false);
+    };
+    let line = to_line(alloc, &item)?;
+    let printed = printed_line(alloc, &item)?;
+    let whole = match printed.as_bytes() {
+        [body @ .., b'\n'] => body == json.as_bytes(),
+        _ => false,
+    };
+    Ok(whole && line.as_bytes() == json.as_bytes())
+}
+
 #[test]
 fn each_line_is_written_and_read(rt: HostRuntime) -> Result<(), Fail> {
-    for (text, json) in LINES {
-        let item = read_item(text.as_bytes()).ok_or(text)?;
-        assert!(rt; to_line(rt.alloc(), &item)?.as_str() == json, "{json}");
-        assert!(rt;
-            from_line(rt.alloc(), json.as_bytes())? == Some(item),
-            "{json}"
-        );
-        let line = printed_line(rt.alloc(), &item)?;
-        match line.as_bytes() {
-            [body @ .., b'\n'] => assert!(rt; body == json.as_bytes(), "{json}"),
-            _ => return Err(Fail::from(json)),
-        }
+    for (text, json) in lines() {
+        assert!(rt; is_written(rt.alloc(), text, json)?);
+        assert!(rt; reads_as(rt.alloc(), json.as_bytes(), text)?);
     }
     Ok(())
 }
 
 /// Lines with blanks, escapes, another order or a repeated member, and the same items in text.
-const FREE: [(&str, &str); 4] = [
+static FREE: [(&str, &str); 4] = [
     (
         " { \"start\" : 1 ,\t\"session\":\"s0\", \"kind\":\"begin\" } \r",
         "begin s0 start=1",
@@ -200,19 +223,19 @@ const FREE: [(&str, &str); 4] = [
     ),
 ];
 
+fn free() -> &'static [(&'static str, &'static str)] {
+    &FREE
+}
+
 #[test]
 fn blanks_escapes_and_order_are_free(rt: HostRuntime) -> Result<(), Fail> {
-    for (json, text) in FREE {
-        let item = read_item(text.as_bytes()).ok_or(text)?;
-        assert!(rt;
-            from_line(rt.alloc(), json.as_bytes())? == Some(item),
-            "{json}"
-        );
+    for (json, text) in free() {
+        assert!(rt; reads_as(rt.alloc(), json.as_bytes(), text)?);
     }
     Ok(())
 }
 
-const BROKEN: [&str; 48] = [
+static BROKEN: [&str; 48] = [
     "",
     "{",
     "{}",
@@ -263,69 +286,89 @@ const BROKEN: [&str; 48] = [
     "tick 12",
 ];
 
+fn broken() -> &'static [&'static str] {
+    &BROKEN
+}
+
+fn is_no_item(alloc: Global, line: &[u8]) -> Result<bool, NoMemory> {
+    match from_line(alloc, line) {
+        Ok(Some(_)) => Ok(false),
+        Ok(None) => Ok(true),
+        Err(NoMemory) => Err(NoMemory),
+    }
+}
+
 #[test]
 fn broken_lines_are_no_items(rt: HostRuntime) -> Result<(), Fail> {
-    for line in BROKEN {
-        assert!(rt; from_line(rt.alloc(), line.as_bytes())?.is_none(), "{line}");
+    for line in broken() {
+        assert!(rt; is_no_item(rt.alloc(), line.as_bytes())?);
     }
-    assert!(rt; from_line(rt.alloc(), b"{\"kind\":\"tick\",\"to\":\xff}")?.is_none());
+    assert!(rt; is_no_item(rt.alloc(), b"{\"kind\":\"tick\",\"to\":\xff}")?);
     Ok(())
 }
 
+/// Whether the bytes are a history of two items, both as the text says.
+fn has_twice(alloc: Global, bytes: &[u8], text: &str) -> bool {
+    let Some(item) = read_item(text.as_bytes()) else {
+        return false;
+    };
+    match read_history(alloc, bytes) {
+        Ok(items) => items.len() == 2 && items.iter().all(|found| *found == item),
+        Err(_) => false,
+    }
+}
+
+fn is_empty(alloc: Global, bytes: &[u8]) -> bool {
+    match read_history(alloc, bytes) {
+        Ok(items) => items.is_empty(),
+        Err(_) => false,
+    }
+}
+
 /// Whether the bytes are a history whose line of this number is the first bad one.
-fn is_bad_at(rt: HostRuntime, bytes: &[u8], line: u64) -> bool {
-    read_history(rt.alloc(), bytes).is_err_and(|fault| fault == HistoryFault::At { line })
+fn is_bad_at(alloc: Global, bytes: &[u8], line: u64) -> bool {
+    match read_history(alloc, bytes) {
+        Err(HistoryFault::At { line: found }) => found == line,
+        _ => false,
+    }
+}
+
+const BEGIN: &str = "begin s0 start=1";
+
+/// Histories with a bad line, and its number.
+static BAD: [(&str, u64); 5] = [
+    (
+        "{\"kind\":\"begin\",\"session\":\"s0\",\"start\":1}\nbegin s1 start=2\n",
+        2,
+    ),
+    (
+        "{\"kind\":\"begin\",\"session\":\"s0\",\"start\":1}\n{\"kind\":\"begin\",\"session\":\"s1\",\"start\":2.0}\n",
+        2,
+    ),
+    (
+        "begin s0 start=1\n\n{\"kind\":\"begin\",\"session\":\"s1\",\"start\":2}\n",
+        3,
+    ),
+    (" {\"kind\":\"begin\",\"session\":\"s0\",\"start\":1}\n", 1),
+    (
+        "{\"kind\":\"begin\",\"session\":\"s0\",\"start\":1}\n \n",
+        2,
+    ),
+];
+
+fn bad() -> &'static [(&'static str, u64)] {
+    &BAD
 }
 
 #[test]
 fn histories_are_of_one_format(rt: HostRuntime) -> Result<(), Fail> {
-    let begin = "{\"kind\":\"begin\",\"session\":\"s0\",\"start\":1}";
-    let item = read_item(b"begin s0 start=1").ok_or(begin)?;
     let json =
         b"\n{\"kind\":\"begin\",\"session\":\"s0\",\"start\":1}\r\n\n{\"session\":\"s0\",\"start\":1,\"kind\":\"begin\"}";
-    match read_history(rt.alloc(), json) {
-        Ok(items) => assert!(rt; items.as_slice() == [item, item].as_slice()),
-        Err(_) => return Err(Fail::from(begin)),
+    assert!(rt; has_twice(rt.alloc(), json, BEGIN));
+    assert!(rt; has_twice(rt.alloc(), b"begin s0 start=1\n\nbegin s0 start=1\n", BEGIN));
+    for (text, line) in bad() {
+        assert!(rt; is_bad_at(rt.alloc(), text.as_bytes(), *line));
     }
-    match read_history(rt.alloc(), b"begin s0 start=1\n\nbegin s0 start=1\n") {
-        Ok(items) => assert!(rt; items.as_slice() == [item, item].as_slice()),
-        Err(_) => return Err(Fail::from(begin)),
-    }
-    assert!(rt;
-        is_bad_at(
-            rt,
-            b"{\"kind\":\"begin\",\"session\":\"s0\",\"start\":1}\nbegin s1 start=2\n",
-            2
-        )
-    );
-    assert!(rt;
-        is_bad_at(
-            rt,
-            b"{\"kind\":\"begin\",\"session\":\"s0\",\"start\":1}\n{\"kind\":\"begin\",\"session\":\"s1\",\"start\":2.0}\n",
-            2
-        )
-    );
-    assert!(rt;
-        is_bad_at(
-            rt,
-            b"begin s0 start=1\n\n{\"kind\":\"begin\",\"session\":\"s1\",\"start\":2}\n",
-            3
-        )
-    );
-    assert!(rt;
-        is_bad_at(
-            rt,
-            b" {\"kind\":\"begin\",\"session\":\"s0\",\"start\":1}\n",
-            1
-        )
-    );
-    assert!(rt;
-        is_bad_at(
-            rt,
-            b"{\"kind\":\"begin\",\"session\":\"s0\",\"start\":1}\n \n",
-            2
-        )
-    );
-    assert!(rt; read_history(rt.alloc(), b"\n\n").is_ok_and(|items| items.is_empty()));
+    assert!(rt; is_empty(rt.alloc(), b"\n\n"));
     Ok(())
 }
