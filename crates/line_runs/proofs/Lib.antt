@@ -1,6 +1,6 @@
 pub mod Holders
 mod Clients
-mod Serving
+pub mod Serving
 mod Accepting
 mod Deciding
 mod Putting
@@ -10,7 +10,7 @@ pub mod Working
 pub mod Stepping
 mod Opening
 mod Sweeping
-mod Driving
+pub mod Driving
 mod Doings
 mod Lowering
 pub mod AllLower

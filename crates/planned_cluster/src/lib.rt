@@ -5,4 +5,4 @@
 mod planned;
 
 pub use cluster_core::{Cluster, Stopped};
-pub use planned::PlannedCluster;
+pub use planned::{PlannedCluster, see_session};

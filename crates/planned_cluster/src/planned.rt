@@ -4,6 +4,7 @@ ghost use Rattle.port_io.specs.Planned.{OneEach};
 ghost use Rattle.history_book.specs.declared.item.Actor.TheVariants.{Session};
 ghost use Rattle.machine.specs.Machine.{IsSteadyAt, reading_of};
 ghost use Rattle.line_runs.specs.Views.{view_of};
+ghost use Rattle.planned_cluster.specs.Fitting.{SessionIsThere};
 ghost use Rattle.planned_cluster.specs.Standing.{OpensFor, PlaysOn, clock_made};
 
 use cluster_core::{Cluster, Stopped};
@@ -99,4 +100,13 @@ fn copied(alloc: Global, faults: &[(Store, u64, Fate)]) -> Result<Vec<(Store, u6
     let mut copy = Vec::new(alloc);
     copy.extend_from_slice(faults)?;
     Ok(copy)
+}
+
+/// A session that a line names is one of those that there are, as its type says.
+pub fn see_session(actor: &Actor)
+    ensures { SessionIsThere actor.now }
+{
+    if let Actor::Session(session) = actor {
+        let _ = session.index();
+    }
 }

@@ -16,6 +16,7 @@ use Rattle.line_runs.specs.Runs.{Played, line_run, lines_played, opening_played,
 use Rattle.cluster_core.specs.Whole.{Whole}
 use Rattle.planned_cluster.specs.Standing.{StandsAt}
 use Rattle.replay_driver.specs.Playing.{IsPlayedTo, played_to}
+use Rattle.planned_cluster.proofs.Playable.{playable_at_first}
 use Rattle.replay_driver.proofs.Running.{HasEnded}
 
 lines_append : (script : ScriptData) (lines : List Line) (line : Line) (p : Played) → lines_played script (lines ++ line ∷ []) p ≡ (line_run script line (lines_played script lines p)).played
@@ -50,24 +51,6 @@ ended_more script count line old new before clock ahead now within is at ended =
     }
 
 -- ---- before the first line
-ticks_are_few : (nodes : ℕ) (lines : List Line) → All (LineIsSound nodes) lines → ticks_of lines ≤ length lines * 1000000
-unfolding ticks_of
-ticks_are_few nodes [] sound = omega arith
-ticks_are_few nodes (line ∷ lines) sound =
-    let first : LineIsSound nodes line = All-head (LineIsSound nodes) line lines sound in
-    omega (arith, ticks_are_few nodes lines (All-tail (LineIsSound nodes) line lines sound), first.verb.rise)
-
-leads_by_node : (leads : List ℕ) (skew node : ℕ) → All (λ lead. lead ≤ skew) leads → slice_index_or leads node 0 ≤ skew
-leads_by_node [] skew node within = omega arith
-leads_by_node (lead ∷ leads) skew zero within = All-head (λ (n : ℕ). n ≤ skew) lead leads within
-leads_by_node (lead ∷ leads) skew (suc node) within = leads_by_node leads skew node (All-tail (λ (n : ℕ). n ≤ skew) lead leads within)
-
-pub playable_at_first : (script : ScriptData) → IsSound script → length script.lines ≤ 131072 → IsPlayable script 0 script.lines
-playable_at_first script sound few = record {
-  leads = λ node. leads_by_node script.leads script.setup.skew node sound.leads_within_skew;
-  ticks = omega (arith, ticks_are_few script.setup.nodes script.lines sound.lines, sound.setup.skew, few);
-}
-
 -- ahead of all lines none was carried out, and all can be
 pub none_played : (script : ScriptData) (whole : Whole) (clock : ℕ) (ahead : Store → ℕ → Fate) → IsSound script → length script.lines ≤ 131072 → StandsAt script (opening_played script) whole clock ahead → IsPlayedTo script 0 whole clock ahead
 unfolding lines_played

@@ -1,6 +1,5 @@
 mod Running
 mod Counting
 mod Making
-mod Fitting
 mod Storming
 mod StormValues

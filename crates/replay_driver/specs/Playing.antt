@@ -1,10 +1,8 @@
 -- How far a script was carried out.
-use Rattle.std.specs.Prelude.{◌≡◌, ℕ, ◌<◌, take, drop, Option, None, Some, Result, Ok, Err, IsOkAnd, IsErr}
+use Rattle.std.specs.Prelude.{◌≡◌, ℕ, take, drop, Option, None, Some, Result, Ok, Err, IsOkAnd, IsErr}
 use Rattle.stamp_base.specs.declared.memory.NoMemory.{NoMemory}
 use Rattle.stamp_base.specs.declared.stores.Store.{Store}
 use Rattle.port_io.specs.declared.weather.Fate.{Fate}
-use Rattle.history_book.specs.declared.item.Actor.{Actor}
-use Rattle.history_book.specs.declared.item.Actor.TheVariants.{Session}
 use Rattle.machine.specs.declared.event.Event.{Event}
 use Rattle.event_parts.specs.declared.stopped.Stopped.{Stopped}
 use Rattle.event_parts.specs.declared.stopped.Stopped.TheVariants as stopped
@@ -26,11 +24,6 @@ pub record IsPlayedTo (script : ScriptData) (count : ℕ) (whole : Whole) (clock
   pub stands : StandsAt script (played_to script count) whole clock ahead
   pub reached : IsReached script (played_to script count)
   pub playable : IsPlayable script (played_to script count).clock (drop count script.lines)
-
--- the actor is no session, or is one that there is
-abbrev pub SessionIsThere : Actor → Type 0
-SessionIsThere (Session session) = session < 16
-SessionIsThere _ = Unit {0}
 
 -- this is said of what a call answered: how its event stopped, or that memory was refused
 abbrev pub IsSaidOf : Result Unit Stopped → Result (Option Halt) NoMemory → Type 0

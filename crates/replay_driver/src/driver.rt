@@ -6,13 +6,13 @@ ghost use Rattle.session_script.specs.Script.{data_of};
 ghost use Rattle.line_runs.specs.Answers.{Answers};
 ghost use Rattle.line_runs.specs.Planned.{Planned};
 ghost use Rattle.line_runs.specs.Runs.{replayed};
-ghost use Rattle.replay_driver.specs.Playing.{IsPlayedTo, SessionIsThere};
+ghost use Rattle.planned_cluster.specs.Fitting.{SessionIsThere};
+ghost use Rattle.replay_driver.specs.Playing.{IsPlayedTo};
 
 use crate::play::{make, next};
 use cluster_core::Cluster;
-use history_book::Actor;
 use line_runs::{Point, events_lower_what_is_left, follows, lines_are_answered};
-use planned_cluster::PlannedCluster;
+use planned_cluster::{PlannedCluster, see_session};
 use planned_laws::scripts_are_planned;
 use port_io::{PlannedWeather, Weather};
 use session_script::Script;
@@ -36,15 +36,6 @@ pub fn replay(alloc: Global, script: &Script) -> Result<Cluster, NoMemory>
         play_line(&mut play, script, place)?;
     }
     Ok(play.cluster)
-}
-
-/// A session that a line names is one of those that there are, as its type says.
-fn see_session(actor: &Actor)
-    ensures { SessionIsThere actor.now }
-{
-    if let Actor::Session(session) = actor {
-        let _ = session.index();
-    }
 }
 
 /// Carries out the line at this place, event by event, to its end.

@@ -4,12 +4,12 @@ mod StillReading
 mod OwnSessions
 mod WalksOn
 mod OwnWalks
-mod OwnTimes
-mod OwnTurns
-mod SeatsOn
+pub mod OwnTimes
+pub mod OwnTurns
+pub mod SeatsOn
 mod PassLines
 mod MadeEvents
-mod Facts
+pub mod Facts
 mod SoFar
 mod AllSeats
 mod Answered

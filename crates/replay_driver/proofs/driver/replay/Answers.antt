@@ -4,8 +4,9 @@ use Rattle.line_runs.specs.Answers.{Answers}
 use Rattle.line_runs.specs.Planned.{Planned}
 use Rattle.machine.specs.State.{State}
 use Rattle.session_script.specs.Script.{data_of}
-use Rattle.replay_driver.proofs.Counting.{none_played, playable_at_first, all_played}
-use Rattle.replay_driver.proofs.Fitting.{one_more_there, lines_fit}
+use Rattle.planned_cluster.proofs.Playable.{playable_at_first}
+use Rattle.replay_driver.proofs.Counting.{none_played, all_played}
+use Rattle.planned_cluster.proofs.Fitting.{one_more_there, lines_fit}
 use Rattle.replay_driver.proofs.driver.replay.Goals as goal
 
 pub open-requires : goal.open-requires

@@ -1,7 +1,7 @@
 use Rattle.port_io.specs.contracts.planned.PlannedWeatherWeather.TheImpl.{ahead-value}
 use Rattle.session_script.specs.Script.{data_of}
 use Rattle.replay_driver.specs.Playing.{IsPlayedTo}
-use Rattle.replay_driver.proofs.Fitting.{SessionsAreThere}
+use Rattle.planned_cluster.proofs.Fitting.{SessionsAreThere}
 use Rattle.replay_driver.proofs.driver.replay.Given as goal
 
 abbrev pub invariant-loop-place : goal.invariant-loop-place

@@ -12,7 +12,7 @@ use Rattle.script_data.specs.declared.line.Verb.{Verb}
 use Rattle.script_data.specs.declared.line.Verb.TheVariants as verbs
 use Rattle.script_data.specs.Sound.{LineIsSound, actor_needs, verb_needs}
 use Rattle.line_runs.specs.Laws.{ActorFits, VerbFits, AreLinesOf}
-use Rattle.replay_driver.specs.Playing.{SessionIsThere}
+use Rattle.planned_cluster.specs.Fitting.{SessionIsThere}
 
 -- sessions of all lines are there
 abbrev pub SessionsAreThere : ℕ → List Line → Type 0
