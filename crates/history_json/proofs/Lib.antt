@@ -1,5 +1,6 @@
 mod FillLemmas
 mod LineLemmas
+mod MemberLemmas
 mod ObjectLemmas
 pub mod OneHistory
 mod Utf8Lemmas

@@ -1,3 +1,4 @@
+pub mod Expected
 pub mod History
 pub mod Json
 pub mod Laws

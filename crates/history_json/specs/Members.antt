@@ -5,7 +5,6 @@ use Rattle.history_text.specs.Words.{node_text, session_text, key_text, actor_te
 use Rattle.history_text.specs.CauseText.{cause_text}
 use Rattle.history_text.specs.StepText.{step_text}
 use Rattle.history_text.specs.Text.{ending_text}
-use Rattle.history_book.specs.declared.item.Actor.{Actor}
 use Rattle.history_book.specs.declared.item.Note.{Note}
 use Rattle.history_book.specs.declared.item.Note.TheVariants.{Post, Await, Hold, Free}
 use Rattle.history_book.specs.declared.item.Found.{Found}

@@ -4,6 +4,7 @@
 mod history;
 mod laws;
 mod line;
+mod members;
 mod objects;
 mod rows;
 mod texts;

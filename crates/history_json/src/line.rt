@@ -1,13 +1,11 @@
 // An item's line of JSON, written and read.
-ghost use Rattle.std.specs.Prelude.{◌≡◌, ◌≤◌, ◌↔◌, IfOk, IfSome, IsTrue, Some, string_bytes};
-ghost use Rattle.serde_json.specs.Data.{depth};
-ghost use Rattle.serde_json.specs.Read.{max_depth};
+ghost use Rattle.std.specs.Prelude.{◌≡◌, ◌↔◌, IfOk, IfSome, IsTrue, Some, string_bytes};
 ghost use Rattle.serde_json.specs.View.{view};
 ghost use Rattle.history_book.specs.declared.item.Item.{Item};
 ghost use Rattle.history_text.specs.Fits.{FitsItem};
 ghost use Rattle.history_json.specs.Json.{data_of, json_line, json_text, IsJsonLineOf};
 
-use crate::objects::object_of;
+use crate::objects::{are_members_of, object_of};
 use crate::words::words_of;
 use history_book::Item;
 use history_reading::read_item;
@@ -38,7 +36,6 @@ pub fn from_line(alloc: Global, line: &[u8]) -> Result<Option<Item>, NoMemory>
 
 /// The item that the value is.
 fn item_of(alloc: Global, value: &Value) -> Result<Option<Item>, AllocError>
-    requires { depth (view value.now) ≤ max_depth }
     ensures found { IfOk result (λ found. IfSome found (λ item. view value.now ≡ data_of item)) }
     ensures fits { IfOk result (λ found. IfSome found FitsItem) }
     ensures only { IfOk result (λ found. (item : Item) → FitsItem item → view value.now ≡ data_of item → found ≡ Some item) }
@@ -46,7 +43,7 @@ fn item_of(alloc: Global, value: &Value) -> Result<Option<Item>, AllocError>
     let Some(item) = candidate(alloc, value)? else {
         return Ok(None);
     };
-    let same = is_object_of(alloc, value, &item)?;
+    let same = is_object_of(value, &item);
     Ok(if same { Some(item) } else { None })
 }
 
@@ -61,14 +58,14 @@ fn candidate(alloc: Global, value: &Value) -> Result<Option<Item>, AllocError>
     }
 }
 
-/// Whether the value is the item's object: whether both are written alike.
-fn is_object_of(alloc: Global, value: &Value, item: &Item) -> Result<bool, AllocError>
-    requires { depth (view value.now) ≤ max_depth }
-    ensures { IfOk result (λ same. IsTrue same ↔ (view value.now ≡ data_of item.now)) }
+/// Whether the value is the item's object. It takes no memory.
+fn is_object_of(value: &Value, item: &Item) -> bool
+    ensures { IsTrue result ↔ (view value.now ≡ data_of item.now) }
 {
-    let written = value.to_vec(alloc)?;
-    let other = object_of(alloc, item)?.to_vec(alloc)?;
-    Ok(written.as_slice() == other.as_slice())
+    match value.as_object() {
+        Some(found) => are_members_of(found, item),
+        None => false,
+    }
 }
 
 /// The item's line as a history prints it, with its line feed.

@@ -1,8 +1,7 @@
-use Rattle.std.proofs.Common.{◌∙◌, [], filter, subst, arith}
-use Rattle.history_json.specs.declared.history.Format.{Format}
-use Rattle.history_reading.specs.History.{lines_of, says_something}
+use Rattle.std.proofs.Common.{◌∙◌, [], arith}
+use Rattle.history_reading.specs.History.{lines_of}
 use Rattle.history_reading.proofs.LineLemmas.{next_line, passed_on}
-use Rattle.history_json.specs.History.{AreLinesOf, IsFaultOf}
+use Rattle.history_json.specs.History.{IsFaultOf}
 use Rattle.history_json.proofs.LineLemmas.{bad_line, fit_more, none_bad_more, told_all, told_more}
 use Rattle.history_json.proofs.history.read_lines.Goals as goal
 
