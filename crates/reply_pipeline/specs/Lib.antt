@@ -1,0 +1,6 @@
+pub mod Reach
+pub mod Picks
+pub mod Requesting
+pub mod Persisting
+pub mod Replying
+pub mod Seats

@@ -1,0 +1,19 @@
+//! The stages of a node's pipeline: they serve the requests of sessions, make what was decided durable, and answer.
+//! `docs/PIPELINE.md` says what they promise.
+#![tactic(auto)]
+
+mod desk;
+mod ending;
+mod gate;
+mod persist;
+mod reply;
+mod request;
+mod tickets;
+
+pub use ending::StageEnd;
+pub use gate::{Gate, GatePlace, OpenGate};
+pub use persist::persist_worker;
+pub use reply::reply_stage;
+pub use request::request_stage;
+pub use stage_steps::{StageStep, Steps};
+pub use tickets::send_ticket;

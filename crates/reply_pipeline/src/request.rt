@@ -1,0 +1,286 @@
+// The request stage: serves tickets until each request is drawn or has ended, and sends what was drawn on in batches.
+ghost use Rattle.std.specs.Prelude.{◌≡◌, ◌≢◌, ◌+◌, ◌<◌, ◌∷◌, ◌++◌, [], length, IfOk, IfSome, MatchResult};
+ghost use Rattle.reply_pipeline.specs.Requesting.{IsRequestPass, IsUnused, EntersTickets, IsRequesting, HasRequested, Enters, MayEnter, ticket_of};
+
+use crate::desk::Desk;
+use crate::ending::StageEnd;
+use crate::gate::Gate;
+use batch_pool::{Batch, Entry};
+use history_book::Cause;
+use persist_batches::Numbered;
+use stage_queues::{Queues, StagePass, Ticket};
+use stage_steps::{StageStep, Steps};
+use stamp_base::{NodeNo, Stage};
+use std::sync::Wait;
+use std::thread;
+
+/// Serves as the node's request stage, until the queues are closed or memory is refused. Batches are numbered from 0 on.
+pub fn request_stage<R: Wait, B: Steps, G: Gate>(
+    rt: &R,
+    node: NodeNo,
+    board: &B,
+    queues: &Queues,
+    pass: &mut StagePass,
+    gate: &G,
+) -> StageEnd
+    requires pass { IsRequestPass queues.now node pass.old }
+    requires unused { IsUnused node pass.old }
+    requires held { pass.old.held ≡ 0 }
+    ensures pass { IsRequestPass queues.now node pass.new }
+    ensures enters { EntersTickets node pass.new }
+    ensures held { pass.new.held ≡ 0 }
+{
+    let desk = Desk {
+        node,
+        board,
+        queues,
+        gate,
+    };
+    let end = serve(rt, &desk, pass);
+    if end == StageEnd::NoMemory {
+        queues.close();
+    }
+    end
+}
+
+fn serve<R: Wait, B: Steps, G: Gate>(
+    rt: &R,
+    desk: &Desk<'_, B, G>,
+    pass: &mut StagePass,
+) -> StageEnd
+    requires { IsRequesting desk.now.queues.now desk.now.node 0 0 [] pass.old }
+    ensures { HasRequested desk.now.queues.now desk.now.node pass.new }
+{
+    for number in 0..u64::MAX {
+        if let Err(end) = make_batch(rt, desk, number, pass) {
+            return end;
+        }
+    }
+    // No number is left.
+    desk.queues.close();
+    StageEnd::Closed
+}
+
+// Gathers what is drawn next in a batch of this number, and sends it.
+fn make_batch<R: Wait, B: Steps, G: Gate>(
+    rt: &R,
+    desk: &Desk<'_, B, G>,
+    number: u64,
+    pass: &mut StagePass,
+) -> Result<(), StageEnd>
+    requires { IsRequesting desk.now.queues.now desk.now.node number 0 [] pass.old }
+    ensures { MatchResult result (λ _. IsRequesting desk.now.queues.now desk.now.node (number + 1) 0 [] pass.new) (λ _. HasRequested desk.now.queues.now desk.now.node pass.new) }
+{
+    let entry = first_entry(rt, desk, pass)?;
+    let batch = empty_batch(rt, desk, pass)?;
+    let mut batch = Numbered { number, batch };
+    enter(&mut batch.batch, entry);
+    match fill(rt, desk, pass, &mut batch) {
+        Ok(()) => send(rt, desk, pass, batch),
+        Err(end) => {
+            give_back(rt, desk, pass, batch);
+            Err(end)
+        }
+    }
+}
+
+// Serves tickets until a request is drawn, and waits where there is none.
+fn first_entry<R: Wait, B: Steps, G: Gate>(
+    rt: &R,
+    desk: &Desk<'_, B, G>,
+    pass: &mut StagePass,
+) -> Result<Entry, StageEnd>
+    requires { IsRequestPass desk.now.queues.now desk.now.node pass.old }
+    ensures { MatchResult result (λ entry. Enters desk.now.queues.now desk.now.node (Some entry) pass.old pass.new) (λ _. Enters desk.now.queues.now desk.now.node None pass.old pass.new) }
+{
+    for _ in rt.forever() {
+        match next_entry(rt, desk, pass)? {
+            Some(entry) => return Ok(entry),
+            None => desk.wait(rt, Stage::Request, 0)?,
+        }
+    }
+    unreachable!()
+}
+
+// Adds what is drawn until the batch is full or no ticket is there.
+fn fill<R: Wait, B: Steps, G: Gate>(
+    rt: &R,
+    desk: &Desk<'_, B, G>,
+    pass: &mut StagePass,
+    batch: &mut Numbered,
+) -> Result<(), StageEnd>
+    requires { IsRequesting desk.now.queues.now desk.now.node batch.old.number 1 batch.old.batch.entries pass.old }
+    ensures gathered { IsRequesting desk.now.queues.now desk.now.node batch.new.number 1 batch.new.batch.entries pass.new }
+    ensures number { batch.new.number ≡ batch.old.number }
+{
+    for _ in rt.forever() {
+        if batch.batch.is_full() {
+            return Ok(());
+        }
+        match next_entry(rt, desk, pass)? {
+            Some(entry) => enter(&mut batch.batch, entry),
+            None => return Ok(()),
+        }
+    }
+    unreachable!()
+}
+
+fn enter(batch: &mut Batch, entry: Entry)
+    requires { length batch.old.entries ≢ batch.old.room }
+    ensures { batch.new ≡ record batch.old { entries = batch.old.entries ++ entry ∷ [] } }
+{
+    match batch.push(entry) {
+        Ok(()) => {}
+        Err(_) => unreachable!(),
+    }
+}
+
+// Serves tickets until a request is drawn. None where no ticket is left.
+fn next_entry<R: Wait, B: Steps, G: Gate>(
+    rt: &R,
+    desk: &Desk<'_, B, G>,
+    pass: &mut StagePass,
+) -> Result<Option<Entry>, StageEnd>
+    requires { IsRequestPass desk.now.queues.now desk.now.node pass.old }
+    ensures pass { IsRequestPass desk.now.queues.now desk.now.node pass.new }
+    ensures enters { MatchResult result (λ found. Enters desk.now.queues.now desk.now.node found pass.old pass.new) (λ _. Enters desk.now.queues.now desk.now.node None pass.old pass.new) }
+{
+    for _ in rt.forever() {
+        match receive(rt, desk, pass) {
+            Some(ticket) => {
+                if let Some(entry) = serve_ticket(rt, desk, &ticket)? {
+                    return Ok(Some(entry));
+                }
+            }
+            None => return Ok(None),
+        }
+    }
+    unreachable!()
+}
+
+// Makes the steps of a ticket's request until it is drawn. None where it has ended or is not there any more.
+fn serve_ticket<R: Wait, B: Steps, G: Gate>(
+    rt: &R,
+    desk: &Desk<'_, B, G>,
+    ticket: &Ticket,
+) -> Result<Option<Entry>, StageEnd>
+    ensures { IfOk result (λ found. IfSome found (λ entry. ticket_of entry ≡ ticket.now)) }
+{
+    for _ in rt.forever() {
+        match desk.step(rt, Stage::Request, ticket.session, ticket.term) {
+            StageStep::Did { start, commit } => {
+                desk.wake_session(ticket.session);
+                return Ok(Some(Entry {
+                    session: ticket.session,
+                    term: ticket.term,
+                    start,
+                    commit,
+                }));
+            }
+            StageStep::Held => desk.wait(rt, Stage::Request, 0)?,
+            StageStep::NoMemory => return Err(StageEnd::NoMemory),
+            step => {
+                if !goes_on(&step) {
+                    desk.wake_session(ticket.session);
+                    return Ok(None);
+                }
+            }
+        }
+    }
+    unreachable!()
+}
+
+// Whether the request may be there after this step. A refused or faulted extension leaves it where it was. The causes of a refused
+// extension also end a request, which its next step then does not find.
+fn goes_on(step: &StageStep) -> bool {
+    match step {
+        StageStep::Went | StageStep::Fault => true,
+        StageStep::Refused(cause) => matches!(
+            cause,
+            Cause::NoStamp { .. } | Cause::Replaced { .. } | Cause::Spent { .. }
+        ),
+        _ => false,
+    }
+}
+
+// An empty batch, once one is at home.
+fn empty_batch<R: Wait, B: Steps, G: Gate>(
+    rt: &R,
+    desk: &Desk<'_, B, G>,
+    pass: &mut StagePass,
+) -> Result<Batch, StageEnd>
+    requires node { desk.now.node < length desk.now.queues.now.nodes }
+    requires held { pass.old.held ≡ 0 }
+    ensures held { MatchResult result (λ _. pass.new ≡ record pass.old { held = pass.old.held + 1 }) (λ _. pass.new ≡ pass.old) }
+    ensures empty { IfOk result (λ batch. (batch.entries ≡ []) × (0 < batch.room)) }
+{
+    for _ in rt.forever() {
+        if let Some(batch) = desk.queues.take_batch(rt, desk.node, pass) {
+            return Ok(batch);
+        }
+        desk.wait(rt, Stage::Request, 0)?;
+    }
+    unreachable!()
+}
+
+// Sends a batch, again and again while the queue is full, or gives it back where the queues are closed.
+fn send<R: Wait, B: Steps, G: Gate>(
+    rt: &R,
+    desk: &Desk<'_, B, G>,
+    pass: &mut StagePass,
+    batch: Numbered,
+) -> Result<(), StageEnd>
+    requires { IsRequesting desk.now.queues.now desk.now.node batch.number 1 batch.batch.entries pass.old }
+    ensures { MatchResult result (λ _. IsRequesting desk.now.queues.now desk.now.node (batch.number + 1) 0 [] pass.new) (λ _. HasRequested desk.now.queues.now desk.now.node pass.new) }
+{
+    let mut batch = batch;
+    for _ in rt.forever() {
+        match try_send(rt, desk, pass, batch) {
+            Ok(()) => return Ok(()),
+            Err(back) => batch = back,
+        }
+        if desk.queues.closed() {
+            give_back(rt, desk, pass, batch);
+            return Err(StageEnd::Closed);
+        }
+        thread::yield_now();
+    }
+    unreachable!()
+}
+
+fn receive<R: Wait, B: Steps, G: Gate>(
+    rt: &R,
+    desk: &Desk<'_, B, G>,
+    pass: &mut StagePass,
+) -> Option<Ticket>
+    requires { IsRequestPass desk.now.queues.now desk.now.node pass.old }
+    ensures pass { IsRequestPass desk.now.queues.now desk.now.node pass.new }
+    ensures passed { Enters desk.now.queues.now desk.now.node None pass.old pass.new }
+    ensures may_enter { IfSome result (λ ticket. MayEnter desk.now.queues.now desk.now.node ticket pass.old pass.new) }
+{
+    desk.queues.requests(desk.node).receive(rt, pass)
+}
+
+fn try_send<R: Wait, B: Steps, G: Gate>(
+    rt: &R,
+    desk: &Desk<'_, B, G>,
+    pass: &mut StagePass,
+    batch: Numbered,
+) -> Result<(), Numbered>
+    requires { IsRequesting desk.now.queues.now desk.now.node batch.number 1 batch.batch.entries pass.old }
+    ensures { MatchResult result (λ _. IsRequesting desk.now.queues.now desk.now.node (batch.number + 1) 0 [] pass.new) (λ back. (back ≡ batch) × (pass.new ≡ pass.old)) }
+{
+    desk.queues.batches(desk.node).send(rt, pass, batch)
+}
+
+fn give_back<R: Wait, B: Steps, G: Gate>(
+    rt: &R,
+    desk: &Desk<'_, B, G>,
+    pass: &mut StagePass,
+    batch: Numbered,
+)
+    requires { IsRequesting desk.now.queues.now desk.now.node batch.number 1 batch.batch.entries pass.old }
+    ensures { HasRequested desk.now.queues.now desk.now.node pass.new }
+{
+    desk.queues.give_batch(rt, desk.node, pass, batch.batch);
+}

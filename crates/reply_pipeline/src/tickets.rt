@@ -1,0 +1,50 @@
+// The sessions' side of the pipeline: what their threads send.
+ghost use Rattle.std.specs.Prelude.{◌≡◌, ◌<◌, length};
+ghost use Rattle.reply_pipeline.specs.Seats.{IsSenderPass};
+
+use stage_queues::{Queues, StagePass, Ticket};
+use stamp_base::NodeNo;
+use std::sync::Wait;
+use std::thread;
+
+/// Sends a ticket to the node's request stage, again and again while the queue is full. Err only where the queues are closed.
+pub fn send_ticket<R: Wait>(
+    rt: &R,
+    node: NodeNo,
+    queues: &Queues,
+    pass: &mut StagePass,
+    ticket: Ticket,
+) -> Result<(), Ticket>
+    requires node { node < length queues.now.nodes }
+    requires pass { IsSenderPass queues.now pass.old }
+    ensures pass { IsSenderPass queues.now pass.new }
+    ensures held { pass.new.held ≡ pass.old.held }
+{
+    let mut ticket = ticket;
+    for _ in rt.forever() {
+        match try_send(rt, node, queues, pass, ticket) {
+            Ok(()) => return Ok(()),
+            Err(back) => ticket = back,
+        }
+        if queues.closed() {
+            return Err(ticket);
+        }
+        thread::yield_now();
+    }
+    unreachable!()
+}
+
+fn try_send<R: Wait>(
+    rt: &R,
+    node: NodeNo,
+    queues: &Queues,
+    pass: &mut StagePass,
+    ticket: Ticket,
+) -> Result<(), Ticket>
+    requires node { node < length queues.now.nodes }
+    requires pass { IsSenderPass queues.now pass.old }
+    ensures pass { IsSenderPass queues.now pass.new }
+    ensures held { pass.new.held ≡ pass.old.held }
+{
+    queues.requests(node).send(rt, pass, ticket)
+}

@@ -1,0 +1,39 @@
+use history_book::Cause;
+use stamp_base::{NodeNo, SessionNo, Stage, Stamp, Term};
+use std::sync::Wait;
+
+/// What became of a request that a stage of its node was to serve.
+#[derive(Clone, Copy, Debug, PartialEq, Eq)]
+pub enum StageStep {
+    /// The stage is held.
+    Held,
+    /// The node's oracle is not of that term, or no request of the session stands in a place of the stage.
+    Stale { found: Option<Term> },
+    /// The request was accepted, or the range of stamps extended.
+    Went,
+    /// The stamp was drawn.
+    Did { start: Stamp, commit: Option<Stamp> },
+    /// The placing of the commit's record has ended.
+    Settled,
+    /// The request was answered.
+    Answered,
+    /// The event was refused.
+    Refused(Cause),
+    /// The event's store call failed.
+    Fault,
+    /// Memory was refused, and nothing was made.
+    NoMemory,
+}
+
+/// What stages make their steps at: the board, or what stands for it in a test.
+pub trait Steps {
+    /// The next step of a stage of the node for the session's request, which the instance of the term serves.
+    fn stage_step<R: Wait>(
+        &self,
+        rt: &R,
+        node: NodeNo,
+        term: Term,
+        stage: Stage,
+        session: SessionNo,
+    ) -> StageStep;
+}

@@ -1,0 +1,2 @@
+mod Verbs
+mod Reading
