@@ -5,5 +5,5 @@ use omid_top::program;
 use std::process::ExitCode;
 
 fn main(rt: HostRuntime) -> ExitCode {
-    ExitCode::from(program(&rt, rt.stdin(), rt.stdout()).code)
+    ExitCode::from(program(&rt, rt.stdin(), rt.stdout(), rt.stderr()).code)
 }

@@ -4,7 +4,7 @@ use Rattle.std.specs.Prelude.{IfSome}
 use Rattle.std.proofs.lemmas.Bool.{lt-ltb}
 use Rattle.stamp_base.specs.declared.limits.TheConstants.{BYTE_LIMIT}
 use Rattle.history_book.specs.declared.item.Item.{Item}
-use Rattle.history_reading.specs.History.{AreItems}
+use Rattle.history_json.specs.History.{AreItems}
 use Rattle.script_lines.specs.declared.cause.ScriptCause.TheVariants.{TooLong}
 use Rattle.script_lines.specs.declared.mode.Mode.TheVariants.{Replay}
 use Rattle.session_script.specs.Script.{script_of}

@@ -1,24 +1,50 @@
--- A history that goes out line by line.
-use Rattle.std.proofs.Common.{◌≡◌, ℕ, ◌+◌, ◌≤◌, ◌<◌, List, ◌∷◌, ◌++◌, append_assoc, Option, Some, None, take, drop, length, get_or, refl, sym, ap, ◌∙◌, subst, add-one}
+-- A history that goes out line by line, and lines that did not.
+use Rattle.std.proofs.Common.{◌≡◌, ℕ, ◌+◌, ◌≤◌, ◌<◌, List, [], ◌∷◌, ◌++◌, append_assoc, append-nil, Option, Some, None, take, drop, length, get_or, refl, sym, ap, ◌∙◌, subst, add-one}
+use Rattle.std.specs.Prelude.{IfSome}
+use Rattle.std.specs.List.{flat_map}
 use Rattle.std.proofs.Math.Seq.{drop-cons, take-append-add}
-use Rattle.std.proofs.lemmas.List.{take-append-drop, take-append-le}
+use Rattle.std.proofs.lemmas.List.{take-append-drop, take-append-le, take_more}
 use Rattle.std.proofs.lemmas.List.Concat.{flat_map-append}
 use Rattle.history_book.specs.declared.item.Item.{Item}
-use Rattle.history_text.specs.Text.{text_of, printed}
 use Rattle.port_io.specs.Ports.{Gains}
-use Rattle.omid_top.specs.Promise.{GainsFront}
+use Rattle.script_lines.specs.declared.mode.Mode.TheVariants.{Replay}
+use Rattle.session_script.specs.Script.{script_of}
+use Rattle.omid_top.specs.Promise.{GainsFront, GainsLines, history_of}
 
-printed_front : (items : List Item) (i : ℕ) (d : Item) → i < length items → printed items ≡ printed (take i items) ++ (text_of (get_or items i d) ++ printed (drop (i + 1) items))
-printed_front items i d within =
+line_between : (text : Item → List ℕ) (items : List Item) (i : ℕ) (d : Item) → i < length items → flat_map text items ≡ flat_map text (take i items) ++ (text (get_or items i d) ++ flat_map text (drop (i + 1) items))
+line_between text items i d within =
     let parts : drop i items ≡ get_or items i d ∷ drop (i + 1) items = rw add-one (drop-cons items i d within) in
-    ap printed (sym (take-append-drop i items) ∙ ap (λ xs. take i items ++ xs) parts) ∙ flat_map-append text_of (take i items) (get_or items i d ∷ drop (i + 1) items)
+    ap (flat_map text) (sym (take-append-drop i items) ∙ ap (λ xs. take i items ++ xs) parts) ∙ flat_map-append text (take i items) (get_or items i d ∷ drop (i + 1) items)
 
 -- the lines so far and a front of the next are a front of the whole
-pub front_more : (a b c : Option (List ℕ)) (items : List Item) (i : ℕ) (d : Item) (line : List ℕ) (n : ℕ) → i < length items → line ≡ text_of (get_or items i d) → n ≤ length line → Gains a b (printed (take i items)) → Gains b c (take n line) → GainsFront a c (printed items)
-front_more None b c items i d line n within is low gone more = (0, subst (λ (o : Option (List ℕ)). Gains o c (take n line)) gone more)
-front_more (Some held) b c items i d line n within is low gone more =
-    let sent : List ℕ = printed (take i items) in
-    let rest : List ℕ = printed (drop (i + 1) items) in
-    let whole : printed items ≡ sent ++ (line ++ rest) = printed_front items i d within ∙ ap (λ text. sent ++ (text ++ rest)) (sym is) in
-    let front : take (length sent + n) (printed items) ≡ sent ++ take n line = rw (whole, take-append-add sent (line ++ rest) n, take-append-le n line rest) refl in
-    (length sent + n, subst (λ (o : Option (List ℕ)). Gains o c (take n line)) gone more ∙ ap Some (append_assoc held sent (take n line) ∙ ap (λ text. held ++ text) (sym front)))
+pub front_more : (text : Item → List ℕ) (a b c : Option (List ℕ)) (items : List Item) (i : ℕ) (d : Item) (line : List ℕ) (n : ℕ) → i < length items → line ≡ text (get_or items i d) → n ≤ length line
+    → Gains a b (flat_map text (take i items)) → Gains b c (take n line) → GainsFront a c (flat_map text items)
+front_more text None b c items i d line n within is low gone more = (0, subst (λ (o : Option (List ℕ)). Gains o c (take n line)) gone more)
+front_more text (Some held) b c items i d line n within is low gone more =
+    let sent : List ℕ = flat_map text (take i items) in
+    let rest : List ℕ = flat_map text (drop (i + 1) items) in
+    let whole : flat_map text items ≡ sent ++ (line ++ rest) = line_between text items i d within ∙ ap (λ words. sent ++ (words ++ rest)) (sym is) in
+    let front : take (length sent + n) (flat_map text items) ≡ sent ++ take n line = rw (whole, take-append-add sent (line ++ rest) n, take-append-le n line rest) refl in
+    (length sent + n, subst (λ (o : Option (List ℕ)). Gains o c (take n line)) gone more ∙ ap Some (append_assoc held sent (take n line) ∙ ap (λ words. held ++ words) (sym front)))
+
+lines_to : (text : Item → List ℕ) (items : List Item) (i : ℕ) (d : Item) → i < length items → flat_map text (take (i + 1) items) ≡ flat_map text (take i items) ++ text (get_or items i d)
+lines_to text items i d within =
+    ap (flat_map text) (take_more items i d within) ∙ (flat_map-append text (take i items) (get_or items i d ∷ []) ∙ ap (λ words. flat_map text (take i items) ++ words) (append-nil (text (get_or items i d))))
+
+-- the lines so far and the next
+pub line_more : (text : Item → List ℕ) (a b c : Option (List ℕ)) (items : List Item) (i : ℕ) (d : Item) (line : List ℕ) → i < length items → line ≡ text (get_or items i d)
+    → Gains a b (flat_map text (take i items)) → Gains b c line → Gains a c (flat_map text (take (i + 1) items))
+line_more text None b c items i d line within is gone more = subst (λ (o : Option (List ℕ)). Gains o c line) gone more
+line_more text (Some held) b c items i d line within is gone more =
+    let sent : List ℕ = flat_map text (take i items) in
+    let lines : sent ++ line ≡ flat_map text (take (i + 1) items) = ap (λ words. sent ++ words) is ∙ sym (lines_to text items i d within) in
+    subst (λ (o : Option (List ℕ)). Gains o c line) gone more ∙ ap Some (append_assoc held sent line ∙ ap (λ words. held ++ words) lines)
+
+-- no line went out
+pub no_lines : (held : Option (List ℕ)) (history : List Item) → GainsLines held held history
+no_lines None history = (0, refl)
+no_lines (Some bytes) history = (0, ap Some (sym (append-nil bytes)))
+
+pub no_lines_of_left : (left held : Option (List ℕ)) → IfSome left (λ bytes. GainsLines held held (history_of (script_of bytes Replay)))
+no_lines_of_left None held = tt
+no_lines_of_left (Some bytes) held = no_lines held (history_of (script_of bytes Replay))

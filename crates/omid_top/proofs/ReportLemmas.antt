@@ -1,52 +1,16 @@
--- Bytes have one list of items at most, and with items no line is bad; so a right report is fair.
-use Rattle.std.proofs.Common.{◌≡◌, ℕ, zero, suc, ◌-◌, ◌<◌, List, [], ◌∷◌, ◌++◌, ◌⊎◌, inl, inr, Option, None, Some, length, map, filter, refl, sym, ap, ◌∙◌, subst, arith}
-use Rattle.std.specs.Prelude.{slice_get, IfSome, IsSomeAnd}
-use Rattle.std.specs.List.{All}
-use Rattle.std.proofs.lemmas.List.Elements.{All-head, All-tail}
+-- A right report is fair, since bytes have one list of items at most, and with items no line is bad.
+use Rattle.std.proofs.Common.{◌≡◌, ℕ, ◌<◌, List, ◌⊎◌, inl, inr, Option, None, Some, length, subst, arith}
+use Rattle.std.specs.Prelude.{IfSome}
 use Rattle.std.proofs.lemmas.List.{append-nil}
 use Rattle.stamp_base.specs.declared.limits.TheConstants.{BYTE_LIMIT}
 use Rattle.port_io.specs.Ports.{Gives, IsAtEnd}
 use Rattle.history_book.specs.declared.item.Item.{Item}
-use Rattle.history_text.specs.Fits.{FitsItem}
 use Rattle.history_book.specs.Isolation.{Isolated}
-use Rattle.history_text.specs.Text.{body_of}
-use Rattle.history_reading.proofs.RoundTrip.{one_text}
+use Rattle.history_json.proofs.OneHistory.{one_history, items_are_not_bad, too_long_is_bad}
 use Rattle.omid_top.specs.declared.report.Report.{Report}
 use Rattle.omid_top.specs.declared.report.Report.TheVariants as report
-use Rattle.history_reading.specs.History.{AreItems, IsNoItem, IsFirstBad, lines_of, says_something}
+use Rattle.history_json.specs.History.{AreItems}
 use Rattle.omid_top.specs.Audit.{IsReportOn, IsVerdict, report_status, IsFairTo}
-
-head_of : {X : Type 0} (x y : X) (xs ys : List X) → (x ∷ xs) ≡ (y ∷ ys) → x ≡ y
-head_of x y xs ys same = cc
-
-tail_of : {X : Type 0} (x y : X) (xs ys : List X) → (x ∷ xs) ≡ (y ∷ ys) → xs ≡ ys
-tail_of x y xs ys same = cc
-
--- items of the same lines are the same
-same_items : (xs ys : List Item) → All FitsItem xs → All FitsItem ys → map body_of xs ≡ map body_of ys → xs ≡ ys
-same_items [] [] fit other same = refl
-same_items [] (y ∷ ys) fit other same = cc
-same_items (x ∷ xs) [] fit other same = cc
-same_items (x ∷ xs) (y ∷ ys) fit other same =
-    let first : x ≡ y = one_text x y (All-head FitsItem x xs fit) (All-head FitsItem y ys other) (ap (λ text. text ++ 10 ∷ []) (head_of _ _ _ _ same)) in
-    let rest : xs ≡ ys = same_items xs ys (All-tail FitsItem x xs fit) (All-tail FitsItem y ys other) (tail_of (body_of x) (body_of y) _ _ same) in
-    rw (first, rest) refl
-
-pub one_history : (bytes : List ℕ) (xs ys : List Item) → AreItems bytes xs → AreItems bytes ys → xs ≡ ys
-one_history bytes xs ys one other = same_items xs ys one.fit other.fit (one.lines ∙ sym other.lines)
-
--- none of the lines is bad where they are those of items
-none_bad : (lines : List (List ℕ)) (items : List Item) (p : ℕ) → All FitsItem items → map body_of items ≡ filter says_something lines → IsSomeAnd (slice_get lines p) IsNoItem → ⊥
-none_bad [] items p fit same bad = bad
-none_bad ([] ∷ lines) items zero fit same bad = bad.said refl
-none_bad ([] ∷ lines) items (suc p) fit same bad = none_bad lines items p fit same bad
-none_bad ((b ∷ bs) ∷ lines) [] p fit same bad = cc
-none_bad ((b ∷ bs) ∷ lines) (x ∷ xs) zero fit same bad = bad.other x (All-head FitsItem x xs fit) (sym (head_of _ _ _ _ same))
-none_bad ((b ∷ bs) ∷ lines) (x ∷ xs) (suc p) fit same bad = none_bad lines xs p (All-tail FitsItem x xs fit) (tail_of (body_of x) (b ∷ bs) _ _ same) bad
-
-pub items_are_not_bad : (bytes : List ℕ) (items : List Item) (line : ℕ) → AreItems bytes items → IsFirstBad bytes line → ⊥
-items_are_not_bad bytes items zero read bad = absurd (omega (arith, read.short, bad.long refl))
-items_are_not_bad bytes items (suc n) read bad = none_bad (lines_of bytes) items (suc n - 1) read.fit read.lines (bad.bad (omega arith))
 
 pub right_is_fair : (bytes : List ℕ) (found : Report) (items : List Item) → IsReportOn bytes found → AreItems bytes items → IsFairTo items (report_status found)
 right_is_fair bytes (report.Isolated count) items right read = record {
@@ -67,15 +31,6 @@ silent_is_fair items code silent = record {
   read = λ is. silent (inr (inl is));
   cleared = λ is. absurd (silent (inl is));
   accused = λ is. absurd (silent (inr (inr is)));
-}
-
--- more bytes than a history may have
-pub too_long_is_bad : (bytes : List ℕ) → BYTE_LIMIT < length bytes → IsFirstBad bytes 0
-too_long_is_bad bytes long = record {
-  long = λ _. long;
-  short = λ counted. absurd (omega (arith, counted));
-  bad = λ counted. absurd (omega (arith, counted));
-  before = λ i h. absurd (omega (arith, h));
 }
 
 five_is_silent : (code : ℕ) → code ≡ 5 → IsVerdict code → ⊥

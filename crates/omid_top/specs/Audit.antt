@@ -8,7 +8,7 @@ use Rattle.isolation_rules.specs.declared.verdict.Rule.TheVariants as rule
 use Rattle.isolation_rules.specs.Judged.{IsFirstBroken}
 use Rattle.omid_top.specs.declared.report.Report.{Report}
 use Rattle.omid_top.specs.declared.report.Report.TheVariants as report
-use Rattle.history_reading.specs.History.{AreItems, IsFirstBad}
+use Rattle.history_json.specs.History.{AreItems, IsFirstBad}
 use Rattle.omid_top.specs.Promise.{GainsFront}
 
 -- the bytes are this many items, and these are isolated

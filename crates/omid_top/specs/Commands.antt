@@ -3,14 +3,15 @@
 use Rattle.std.specs.Prelude.{◌≡◌, ◌≢◌, ℕ, ◌≤◌, ◌⊎◌, List, Option, IfSome, IsErrAnd, IsOkAnd}
 use Rattle.port_io.specs.Ports.{Gains, IsAtEnd}
 use Rattle.history_book.specs.declared.item.Item.{Item}
-use Rattle.history_reading.specs.History.{AreItems}
+use Rattle.history_json.specs.History.{AreItems}
+use Rattle.history_json.specs.Json.{json_printed}
 use Rattle.history_text.specs.Summary.{summarized}
 use Rattle.session_script.specs.Script.{script_of}
 use Rattle.script_lines.specs.declared.mode.Mode.TheVariants.{Replay}
 use Rattle.line_runs.specs.Runs.{replayed}
 use Rattle.replay_driver.specs.Storm.{storm_data}
 use Rattle.omid_top.specs.Audit.{IsVerdict, Reported, ReportedFront, IsFairTo}
-use Rattle.omid_top.specs.Promise.{KeepsPromise, GainsFront}
+use Rattle.omid_top.specs.Promise.{KeepsPromise, GainsFront, GainsLines, history_of}
 use Rattle.omid_top.specs.Texts.{usage_text, bad_line_text, replay_text}
 
 -- A script was read and carried out in file order, and this text of its history was written; or the bytes are no script, and
@@ -21,6 +22,12 @@ pub record Replays (text : List Item → List ℕ) (code : ℕ) (left rest held 
   pub bad_line : code ≡ 3 → IfSome left (λ bytes. IsErrAnd (script_of bytes Replay) (λ bad. Gains held now (bad_line_text bad)))
   pub cut : code ≡ 5 → IfSome left (λ bytes. GainsFront held now (replay_text text (script_of bytes Replay)))
   pub codes : (code ≡ 0) ⊎ ((3 ≤ code) × (code ≤ 6))
+
+-- The same, and the text of the history is its lines of JSON. They take memory as they are made: where it was refused, those of a
+-- front of the history went out, each of them whole, and none where the bytes are no script.
+pub record ReplaysJson (code : ℕ) (left rest held now : Option (List ℕ)) : Type 0 where
+  pub replays : Replays json_printed code left rest held now
+  pub lines : code ≡ 6 → IfSome left (λ bytes. GainsLines held now (history_of (script_of bytes Replay)))
 
 -- A history was read and judged, and a report that is right about its bytes was written; or a front of one went out; or nothing
 -- did. Where the bytes are items, the status is fair to them.

@@ -4,6 +4,7 @@ use Rattle.stamp_base.specs.Ranges.{IsWithin}
 use Rattle.history_book.specs.declared.item.Item.{Item}
 use Rattle.history_text.specs.Summary.{summarized}
 use Rattle.history_text.specs.Text.{printed}
+use Rattle.history_json.specs.Json.{json_printed}
 use Rattle.script_lines.specs.Causes.{cause_text}
 use Rattle.script_data.specs.Data.{ScriptData}
 use Rattle.session_script.specs.Script.{BadLine}
@@ -20,6 +21,9 @@ IsReplay words = words ≡ codes "replay" ∷ []
 abbrev pub IsReplaySummary : List (List ℕ) → Type 0
 IsReplaySummary words = words ≡ codes "replay" ∷ codes "summary" ∷ []
 
+abbrev pub IsReplayJson : List (List ℕ) → Type 0
+IsReplayJson words = words ≡ codes "replay" ∷ codes "json" ∷ []
+
 abbrev pub IsAudit : List (List ℕ) → Type 0
 IsAudit words = words ≡ codes "audit" ∷ []
 
@@ -33,11 +37,12 @@ IsAnyStorm words = (transactions : ℕ) × IsStorm transactions words
 
 -- the words name a command that is built
 abbrev pub IsKnown : List (List ℕ) → Type 0
-IsKnown words = IsReplay words ⊎ IsReplaySummary words ⊎ IsAudit words ⊎ IsAnyStorm words
+IsKnown words = IsReplay words ⊎ IsReplaySummary words ⊎ IsReplayJson words ⊎ IsAudit words ⊎ IsAnyStorm words
 
 abbrev pub Names : Command → List (List ℕ) → Type 0
 Names command.Replay words = IsReplay words
 Names command.ReplaySummary words = IsReplaySummary words
+Names command.ReplayJson words = IsReplayJson words
 Names command.Audit words = IsAudit words
 Names (command.Storm transactions) words = IsStorm transactions words
 
@@ -56,4 +61,5 @@ replay_text text (Err bad) = bad_line_text bad
 -- the text of a history in a form
 abbrev pub text_in : Form → List Item → List ℕ
 text_in form.History = printed
+text_in form.Json = json_printed
 text_in form.Summary = summarized

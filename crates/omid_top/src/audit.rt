@@ -3,20 +3,21 @@ ghost use Rattle.std.specs.Prelude.{◌≡◌, ◌≢◌, ℕ, ◌⊎◌, IfOk, 
 ghost use Rattle.port_io.specs.Ports.{Risen, Gains};
 ghost use Rattle.history_book.specs.declared.item.Item.{Item};
 ghost use Rattle.omid_top.specs.Promise.{GainsFront};
-ghost use Rattle.history_reading.specs.History.{AreItems};
+ghost use Rattle.history_json.specs.History.{AreItems};
 ghost use Rattle.omid_top.specs.Commands.{Audits};
 ghost use Rattle.omid_top.specs.Audit.{IsReportOn, IsVerdict, Reported, ReportedFront, IsFairTo, report_status, report_text};
 
 use crate::report::Report;
 use crate::{Status, print};
 use history_book::Item;
-use history_reading::{HistoryFault, read_history};
+use history_json::read_history;
+use history_reading::HistoryFault;
 use port_io::{ReadStop, Sink, Source, read_up_to};
 use si_judge::{Verdict, judge};
 use stamp_base::{BYTE_LIMIT, NoMemory};
 use std::alloc::Global;
 
-/// Reads a history, judges it, and writes the report.
+/// Reads a history of either format, judges it, and writes the report.
 pub fn audit_source<S: Source, K: Sink>(alloc: Global, source: &mut S, sink: &mut K) -> Status
     ensures audit { Audits result.code (S.left source.old) (S.left source.new) (K.held sink.old) (K.held sink.new) }
     ensures source_failed { result.code ≡ 4 → Risen (S.faults source.old) (S.faults source.new) × (sink.new ≡ sink.old) }

@@ -3,6 +3,8 @@
 pub enum Form {
     /// All its items, one line each.
     History,
+    /// All its items as JSON, one line each.
+    Json,
     /// How many of its items tell what, in one line.
     Summary,
 }

@@ -5,8 +5,8 @@ ghost use Rattle.std.specs.Prelude.{◌≡◌, ◌≢◌, ℕ, ◌≤◌, ◌⊎
 ghost use Rattle.port_io.specs.Ports.{Risen};
 ghost use Rattle.history_text.specs.Summary.{summarized};
 ghost use Rattle.history_text.specs.Text.{printed};
-ghost use Rattle.omid_top.specs.Commands.{Replays, Audits, Storms, SaysUsage};
-ghost use Rattle.omid_top.specs.Texts.{IsReplay, IsReplaySummary, IsAudit, IsStorm, IsAnyStorm, IsKnown};
+ghost use Rattle.omid_top.specs.Commands.{Replays, ReplaysJson, Audits, Storms, SaysUsage};
+ghost use Rattle.omid_top.specs.Texts.{IsReplay, IsReplaySummary, IsReplayJson, IsAudit, IsStorm, IsAnyStorm, IsKnown};
 
 pub use session_script as script;
 
@@ -22,9 +22,10 @@ mod usage;
 mod words;
 
 use form::Form;
-pub use gate::{Gate, GatePlace, OpenGate};
+pub use gate::{Gate, GatePlace, OpenGate, ShownGate};
 use port_io::{Sink, Source};
 pub use process::{program, words_behind};
+pub use replay_driver::Progress;
 pub use status::Status;
 use std::alloc::Global;
 use std::sync::Wait;
@@ -34,16 +35,18 @@ use words::Command;
 /// Carries out what the words name.
 ///
 /// `replay` reads a script from the source, carries it out in file order, and writes the history to the sink, one
-/// line an item; `replay summary` writes the summary of the history in its place. `storm N` does the same for a script
-/// of its own, of N transactions, and reads nothing. `audit` reads a history from the source, and writes whether it is
-/// snapshot isolated.
+/// line an item; `replay json` writes each item as an object of JSON on a line of its own, and `replay summary` the
+/// summary of the history in its place. `storm N` writes the summary for a script of its own, of N transactions, and
+/// reads nothing. `audit` reads a history from the source, as text or as JSON, and writes whether it is snapshot
+/// isolated.
 ///
 /// The status is 0 where all was done, and for `audit` the history is isolated; 2 where the words are no command,
 /// and the usage line is written; 3 where the bytes are no script (no history, for `audit`), and the first bad line
 /// is written, with its cause; 4 where the source failed, 5 where the sink did, and 6 where memory was refused; 7
 /// where the history that was audited is not isolated, and the first broken rule and two items that break it are
-/// written. On 2 the source is not read, and on 3 nothing is carried out. No error of memory comes once the first
-/// byte is written, and none from judging.
+/// written. On 2 the source is not read, and on 3 nothing is carried out. No error of memory comes from judging, and
+/// none once the first byte is written, but for `replay json`: its lines take memory as they are made, and on 6 whole
+/// lines of a front of the history may have gone out.
 ///
 /// The words are text. A caller that has a word which is none hands in an empty one in its place, as `words_behind` does:
 /// no command has either.
@@ -61,6 +64,8 @@ pub fn omid<R: Threads + Wait + Sync, S: Source, K: Sink, G: Gate>(
         Replays printed result.code (S.left source.old) (S.left source.new) (K.held sink.old) (K.held sink.new) }
     ensures summary { IsReplaySummary (map string_bytes words.now) →
         Replays summarized result.code (S.left source.old) (S.left source.new) (K.held sink.old) (K.held sink.new) }
+    ensures json { IsReplayJson (map string_bytes words.now) →
+        ReplaysJson result.code (S.left source.old) (S.left source.new) (K.held sink.old) (K.held sink.new) }
     ensures audit { IsAudit (map string_bytes words.now) →
         Audits result.code (S.left source.old) (S.left source.new) (K.held sink.old) (K.held sink.new) }
     ensures storm { (transactions : ℕ) → IsStorm transactions (map string_bytes words.now) →
@@ -78,15 +83,21 @@ pub fn omid<R: Threads + Wait + Sync, S: Source, K: Sink, G: Gate>(
     ensures source_worked { result.code ≢ 4 → S.faults source.new ≡ S.faults source.old }
     ensures sink_failed { result.code ≡ 5 → Risen (K.faults sink.old) (K.faults sink.new) }
     ensures sink_worked { result.code ≢ 5 → K.faults sink.new ≡ K.faults sink.old }
-    ensures no_memory { result.code ≡ 6 → sink.new ≡ sink.old }
+    ensures no_memory { result.code ≡ 6 → (sink.new ≡ sink.old) ⊎ IsReplayJson (map string_bytes words.now) }
 {
     let _ = rt;
-    let _ = gate;
     match words::command_of(words) {
-        Some(Command::Replay) => replay::replay_source(alloc, Form::History, source, sink),
-        Some(Command::ReplaySummary) => replay::replay_source(alloc, Form::Summary, source, sink),
+        Some(Command::Replay) => replay::replay_source(alloc, Form::History, source, sink, gate),
+        Some(Command::ReplaySummary) => replay::replay_source(
+            alloc,
+            Form::Summary,
+            source,
+            sink,
+            gate,
+        ),
+        Some(Command::ReplayJson) => replay::replay_source(alloc, Form::Json, source, sink, gate),
         Some(Command::Audit) => audit::audit_source(alloc, source, sink),
-        Some(Command::Storm(transactions)) => replay::storm(alloc, transactions, sink),
+        Some(Command::Storm(transactions)) => replay::storm(alloc, transactions, sink, gate),
         None => usage::say_usage(sink),
     }
 }

@@ -1,10 +1,11 @@
-// Writing texts and histories. It takes no memory.
-ghost use Rattle.std.specs.Prelude.{◌≡◌, ◌+◌, ◌≤◌, ◌<◌, ◌^◌, OnOk, OnErr, length};
+// Writing texts and histories. But for the lines of JSON it takes no memory.
+ghost use Rattle.std.specs.Prelude.{◌≡◌, ◌+◌, ◌≤◌, ◌<◌, ◌^◌, OnOk, OnErr, IsErrOf, length};
 ghost use Rattle.port_io.specs.Ports.{Risen, Gains};
 ghost use Rattle.history_text.specs.Text.{text_of, printed};
 ghost use Rattle.history_text.specs.Summary.{summarized};
+ghost use Rattle.history_json.specs.Json.{json_printed};
 ghost use Rattle.omid_top.specs.Texts.{usage_text, bad_line_text, text_in};
-ghost use Rattle.omid_top.specs.Promise.{GainsFront};
+ghost use Rattle.omid_top.specs.Promise.{GainsFront, GainsLines};
 ghost use Rattle.omid_top.specs.Audit.{report_text};
 
 use crate::Status;
@@ -12,19 +13,58 @@ use crate::form::Form;
 use crate::report::Report;
 use crate::script::ScriptCause;
 use history_book::Item;
+use history_json::printed_line;
 use history_text::{LineBuf, Summary, print_item};
 use port_io::{Failed, Sink, write_all_of};
+use stamp_base::NoMemory;
+use std::alloc::Global;
 
-/// Writes this text of the history.
-pub fn print_in<K: Sink>(form: Form, sink: &mut K, items: &[Item]) -> Result<(), Failed>
+/// Why a text of a history was not written to its end.
+#[derive(Clone, Copy, Debug, PartialEq, Eq)]
+pub enum PrintStop {
+    /// The sink failed.
+    Failed,
+    NoMemory,
+}
+
+impl From<Failed> for PrintStop {
+    ghost use Rattle.omid_top.specs.declared.print.PrintStop.TheVariants.{Failed};
+
+    ghost from_gives = { λ _ stop. stop ≡ Failed };
+
+    fn from(_: Failed) -> PrintStop {
+        PrintStop::Failed
+    }
+}
+
+impl From<NoMemory> for PrintStop {
+    ghost use Rattle.omid_top.specs.declared.print.PrintStop.TheVariants.{NoMemory};
+
+    ghost from_gives = { λ _ stop. stop ≡ NoMemory };
+
+    fn from(_: NoMemory) -> PrintStop {
+        PrintStop::NoMemory
+    }
+}
+
+/// Writes this text of the history. Only JSON takes memory: where it is refused, the lines before went out.
+pub fn print_in<K: Sink>(
+    alloc: Global,
+    form: Form,
+    sink: &mut K,
+    items: &[Item],
+) -> Result<(), PrintStop>
     ensures all { OnOk result (Gains (K.held sink.old) (K.held sink.new) (text_in form items.now)) }
-    ensures front { OnErr result (GainsFront (K.held sink.old) (K.held sink.new) (text_in form items.now)) }
-    ensures failed { OnErr result (Risen (K.faults sink.old) (K.faults sink.new)) }
-    ensures worked { OnOk result (K.faults sink.new ≡ K.faults sink.old) }
+    ensures front { IsErrOf result PrintStop.Failed → GainsFront (K.held sink.old) (K.held sink.new) (text_in form items.now) }
+    ensures lines { IsErrOf result PrintStop.NoMemory → GainsLines (K.held sink.old) (K.held sink.new) items.now }
+    ensures json_alone { IsErrOf result PrintStop.NoMemory → form ≡ Form.Json }
+    ensures failed { IsErrOf result PrintStop.Failed → Risen (K.faults sink.old) (K.faults sink.new) }
+    ensures worked { (IsErrOf result PrintStop.Failed → ⊥) → K.faults sink.new ≡ K.faults sink.old }
 {
     match form {
-        Form::History => print_history(sink, items),
-        Form::Summary => print_summary(sink, items),
+        Form::History => Ok(print_history(sink, items)?),
+        Form::Json => print_json(alloc, sink, items),
+        Form::Summary => Ok(print_summary(sink, items)?),
     }
 }
 
@@ -41,6 +81,24 @@ fn print_history<K: Sink>(sink: &mut K, items: &[Item]) -> Result<(), Failed>
         match write_all_of(sink, line.as_slice()) {
             Ok(()) => {}
             Err(_) => return Err(Failed),
+        }
+    }
+    Ok(())
+}
+
+/// Writes the items as JSON, each by one write of its line. A line takes memory as it is made.
+fn print_json<K: Sink>(alloc: Global, sink: &mut K, items: &[Item]) -> Result<(), PrintStop>
+    ensures all { OnOk result (Gains (K.held sink.old) (K.held sink.new) (json_printed items.now)) }
+    ensures front { IsErrOf result PrintStop.Failed → GainsFront (K.held sink.old) (K.held sink.new) (json_printed items.now) }
+    ensures lines { IsErrOf result PrintStop.NoMemory → GainsLines (K.held sink.old) (K.held sink.new) items.now }
+    ensures failed { IsErrOf result PrintStop.Failed → Risen (K.faults sink.old) (K.faults sink.new) }
+    ensures worked { (IsErrOf result PrintStop.Failed → ⊥) → K.faults sink.new ≡ K.faults sink.old }
+{
+    for item in items {
+        let line = printed_line(alloc, item)?;
+        match write_all_of(sink, line.as_bytes()) {
+            Ok(()) => {}
+            Err(_) => return Err(PrintStop::Failed),
         }
     }
     Ok(())

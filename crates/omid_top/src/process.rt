@@ -4,27 +4,35 @@ ghost use Rattle.std.specs.Prelude.{◌≡◌, ◌≢◌, ◌≤◌, ◌⊎◌, 
 ghost use Rattle.std.specs.Str.{IsUtf8};
 ghost use Rattle.omid_top.specs.Texts.{IsAudit, IsKnown};
 
-use crate::{OpenGate, Status, omid};
+use crate::{ShownGate, Status, omid};
 use port_io::{Failed, StdSink, StdSource};
 use stamp_base::NoMemory;
 use std::alloc::Global;
 use std::env::{Env, FillError};
-use std::io::{Stdin, Stdout};
+use std::io::{Stderr, Stdin, Stdout};
 use std::sync::Wait;
 use std::thread::Threads;
 
 /// Carries out what the words behind the program's name ask for, from standard input to standard output, and gives
-/// the status that the process ends with. It is that of `omid`, or 5 where standard output did not take all to the
+/// the status that the process ends with. Where `errors` is a terminal, it shows there how far a long script is
+/// carried out. The status is that of `omid`, or 5 where standard output did not take all to the
 /// end, or 6 where there is no memory for the words.
 pub fn program<R: Env + Alloc<A = Global> + Threads + Wait + Sync>(
     rt: &R,
     input: Stdin,
     output: Stdout,
+    errors: Stderr,
 ) -> Status
     ensures { (result.code ≤ 7) × (result.code ≢ 1) }
 {
     match words_behind(rt, rt.alloc()) {
-        Ok(words) => carried_out(rt, &words, StdSource::new(input), StdSink::new(output)),
+        Ok(words) => carried_out(
+            rt,
+            &words,
+            StdSource::new(input),
+            StdSink::new(output),
+            &ShownGate::new(errors),
+        ),
         Err(NoMemory) => Status::NO_MEMORY,
     }
 }
@@ -64,13 +72,14 @@ fn carried_out<R: Alloc<A = Global> + Threads + Wait + Sync>(
     words: &[String],
     mut source: StdSource,
     mut sink: StdSink,
+    gate: &ShownGate,
 ) -> Status
     ensures usage { result.code ≡ 2 → IsKnown (map string_bytes words.now) → ⊥ }
     ensures no_command { (IsKnown (map string_bytes words.now) → ⊥) → (result.code ≡ 2) ⊎ (result.code ≡ 5) }
     ensures judged { result.code ≡ 7 → IsAudit (map string_bytes words.now) }
     ensures codes { (result.code ≤ 7) × (result.code ≢ 1) }
 {
-    let status = omid(rt, rt.alloc(), words, &mut source, &mut sink, &OpenGate);
+    let status = omid(rt, rt.alloc(), words, &mut source, &mut sink, gate);
     last_status(status, sink.finish())
 }
 

@@ -1,5 +1,5 @@
 // Carrying scripts out: reading one or making the storm's, carrying it out in file order, and writing of its history.
-ghost use Rattle.std.specs.Prelude.{◌≡◌, ◌≢◌, ◌≤◌, ◌⊎◌, vec_len, IsErrAnd, IsOkAnd};
+ghost use Rattle.std.specs.Prelude.{◌≡◌, ◌≢◌, ◌≤◌, ◌⊎◌, vec_len, IfSome, IsErrAnd, IsOkAnd};
 ghost use Rattle.stamp_base.specs.Ranges.{IsWithin};
 ghost use Rattle.stamp_base.specs.declared.limits.TheConstants.{LINE_LIMIT};
 ghost use Rattle.port_io.specs.Ports.{Risen, Gains};
@@ -7,33 +7,36 @@ ghost use Rattle.session_script.specs.Script.{script_of, data_of};
 ghost use Rattle.script_lines.specs.declared.mode.Mode.TheVariants.{Replay};
 ghost use Rattle.line_runs.specs.Runs.{replayed};
 ghost use Rattle.omid_top.specs.Commands.{Replays, Storms};
-ghost use Rattle.omid_top.specs.Promise.{KeepsPromise, GainsFront};
+ghost use Rattle.omid_top.specs.Promise.{KeepsPromise, GainsFront, GainsLines, history_of};
 ghost use Rattle.omid_top.specs.Texts.{bad_line_text, replay_text, text_in};
 
 use crate::form::Form;
+use crate::print::PrintStop;
 use crate::script::{Mode, Script, ScriptCause, ScriptFault, read_script};
 use crate::{Status, print};
 use port_io::{ReadStop, Sink, Source, read_up_to};
-use replay_driver::storm_script;
+use replay_driver::{Progress, storm_script};
 use stamp_base::{BYTE_LIMIT, NoMemory};
 use std::alloc::Global;
 
 /// Reads a script, carries it out in file order, and writes its history in this form.
-pub fn replay_source<S: Source, K: Sink>(
+pub fn replay_source<S: Source, K: Sink, P: Progress>(
     alloc: Global,
     form: Form,
     source: &mut S,
     sink: &mut K,
+    progress: &P,
 ) -> Status
     ensures replay { Replays (text_in form) result.code (S.left source.old) (S.left source.new) (K.held sink.old) (K.held sink.new) }
     ensures source_failed { result.code ≡ 4 → Risen (S.faults source.old) (S.faults source.new) × (sink.new ≡ sink.old) }
     ensures source_worked { result.code ≢ 4 → S.faults source.new ≡ S.faults source.old }
     ensures sink_failed { result.code ≡ 5 → Risen (K.faults sink.old) (K.faults sink.new) }
     ensures sink_worked { result.code ≢ 5 → K.faults sink.new ≡ K.faults sink.old }
-    ensures no_memory { result.code ≡ 6 → sink.new ≡ sink.old }
+    ensures no_memory { form ≢ Form.Json → result.code ≡ 6 → sink.new ≡ sink.old }
+    ensures lines { result.code ≡ 6 → IfSome (S.left source.old) (λ bytes. GainsLines (K.held sink.old) (K.held sink.new) (history_of (script_of bytes Replay))) }
 {
     match read_up_to(alloc, source, BYTE_LIMIT) {
-        Ok(bytes) => replay_bytes(alloc, form, &bytes, sink),
+        Ok(bytes) => replay_bytes(alloc, form, &bytes, sink, progress),
         Err(ReadStop::TooLong) => named(sink, 0, ScriptCause::TooLong),
         Err(ReadStop::Failed) => Status::SOURCE_FAILED,
         Err(ReadStop::NoMemory) => Status::NO_MEMORY,
@@ -41,7 +44,14 @@ pub fn replay_source<S: Source, K: Sink>(
 }
 
 /// Carries out the script that the bytes are.
-fn replay_bytes<K: Sink>(alloc: Global, form: Form, bytes: &[u8], sink: &mut K) -> Status
+#[tactic(auto, using(crate::proofs::PrintLemmas::no_lines))]
+fn replay_bytes<K: Sink, P: Progress>(
+    alloc: Global,
+    form: Form,
+    bytes: &[u8],
+    sink: &mut K,
+    progress: &P,
+) -> Status
     ensures replayed { result.code ≡ 0 → IsOkAnd (script_of bytes.now Replay) (λ script.
         KeepsPromise script × Gains (K.held sink.old) (K.held sink.new) (text_in form (replayed script))) }
     ensures bad_line { result.code ≡ 3 → IsErrAnd (script_of bytes.now Replay) (λ bad.
@@ -49,11 +59,12 @@ fn replay_bytes<K: Sink>(alloc: Global, form: Form, bytes: &[u8], sink: &mut K) 
     ensures sink_failed { result.code ≡ 5 → Risen (K.faults sink.old) (K.faults sink.new) }
     ensures sink_worked { result.code ≢ 5 → K.faults sink.new ≡ K.faults sink.old }
     ensures cut { result.code ≡ 5 → GainsFront (K.held sink.old) (K.held sink.new) (replay_text (text_in form) (script_of bytes.now Replay)) }
-    ensures no_memory { result.code ≡ 6 → sink.new ≡ sink.old }
+    ensures no_memory { form ≢ Form.Json → result.code ≡ 6 → sink.new ≡ sink.old }
+    ensures lines { result.code ≡ 6 → GainsLines (K.held sink.old) (K.held sink.new) (history_of (script_of bytes.now Replay)) }
     ensures codes { (result.code ≡ 0) ⊎ (result.code ≡ 3) ⊎ (result.code ≡ 5) ⊎ (result.code ≡ 6) }
 {
     match read_script(alloc, bytes, Mode::Replay) {
-        Ok(script) => replay_script(alloc, form, &script, sink),
+        Ok(script) => replay_script(alloc, form, &script, sink, progress),
         Err(ScriptFault::At { line, cause }) => named(sink, line, cause),
         Err(ScriptFault::NoMemory) => Status::NO_MEMORY,
     }
@@ -74,27 +85,40 @@ fn named<K: Sink>(sink: &mut K, number: u64, cause: ScriptCause) -> Status
 }
 
 /// Carries the script out and writes its history.
-#[tactic(auto, using(crate::proofs::PromiseLemmas::promise_kept))]
-fn replay_script<K: Sink>(alloc: Global, form: Form, script: &Script, sink: &mut K) -> Status
+#[tactic(auto, using(crate::proofs::PromiseLemmas::promise_kept, crate::proofs::PrintLemmas::no_lines))]
+fn replay_script<K: Sink, P: Progress>(
+    alloc: Global,
+    form: Form,
+    script: &Script,
+    sink: &mut K,
+    progress: &P,
+) -> Status
     requires { vec_len script.now.lines ≤ LINE_LIMIT }
     ensures replayed { result.code ≡ 0 → KeepsPromise (data_of script.now) × Gains (K.held sink.old) (K.held sink.new) (text_in form (replayed (data_of script.now))) }
     ensures sink_failed { result.code ≡ 5 → Risen (K.faults sink.old) (K.faults sink.new) }
     ensures sink_worked { result.code ≢ 5 → K.faults sink.new ≡ K.faults sink.old }
     ensures cut { result.code ≡ 5 → GainsFront (K.held sink.old) (K.held sink.new) (text_in form (replayed (data_of script.now))) }
-    ensures no_memory { result.code ≡ 6 → sink.new ≡ sink.old }
+    ensures no_memory { form ≢ Form.Json → result.code ≡ 6 → sink.new ≡ sink.old }
+    ensures lines { result.code ≡ 6 → GainsLines (K.held sink.old) (K.held sink.new) (replayed (data_of script.now)) }
     ensures codes { (result.code ≡ 0) ⊎ (result.code ≡ 5) ⊎ (result.code ≡ 6) }
 {
-    match replay_driver::replay(alloc, script) {
-        Ok(cluster) => match print::print_in(form, sink, cluster.history()) {
+    match replay_driver::replay(alloc, script, progress) {
+        Ok(cluster) => match print::print_in(alloc, form, sink, cluster.history()) {
             Ok(()) => Status::DONE,
-            Err(_) => Status::SINK_FAILED,
+            Err(PrintStop::Failed) => Status::SINK_FAILED,
+            Err(PrintStop::NoMemory) => Status::NO_MEMORY,
         },
         Err(NoMemory) => Status::NO_MEMORY,
     }
 }
 
 /// Carries out the storm of so many transactions, and writes the summary of its history.
-pub fn storm<K: Sink>(alloc: Global, transactions: u64, sink: &mut K) -> Status
+pub fn storm<K: Sink, P: Progress>(
+    alloc: Global,
+    transactions: u64,
+    sink: &mut K,
+    progress: &P,
+) -> Status
     requires { IsWithin 1 20000 transactions }
     ensures storm { Storms transactions result.code (K.held sink.old) (K.held sink.new) }
     ensures sink_failed { result.code ≡ 5 → Risen (K.faults sink.old) (K.faults sink.new) }
@@ -102,7 +126,7 @@ pub fn storm<K: Sink>(alloc: Global, transactions: u64, sink: &mut K) -> Status
     ensures no_memory { result.code ≡ 6 → sink.new ≡ sink.old }
 {
     match storm_script(alloc, transactions) {
-        Ok(script) => replay_script(alloc, Form::Summary, &script, sink),
+        Ok(script) => replay_script(alloc, Form::Summary, &script, sink, progress),
         Err(NoMemory) => Status::NO_MEMORY,
     }
 }

@@ -13,6 +13,8 @@ pub enum Command {
     Replay,
     /// Carry out a script in file order, and write the summary of its history.
     ReplaySummary,
+    /// Carry out a script in file order, and write its history as JSON.
+    ReplayJson,
     /// Judge a history.
     Audit,
     /// Carry out the storm of so many transactions, and write the summary of its history.
@@ -28,6 +30,9 @@ pub fn command_of(words: &[String]) -> Option<Command>
         [word] if is_word(word.as_str(), "audit") => Some(Command::Audit),
         [word, form] if is_word(word.as_str(), "replay") && is_word(form.as_str(), "summary") => {
             Some(Command::ReplaySummary)
+        }
+        [word, form] if is_word(word.as_str(), "replay") && is_word(form.as_str(), "json") => {
+            Some(Command::ReplayJson)
         }
         [word, number] if is_word(word.as_str(), "storm") => {
             let transactions = transactions_of(number.as_str())?;

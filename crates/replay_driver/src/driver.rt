@@ -10,6 +10,7 @@ ghost use Rattle.planned_cluster.specs.Fitting.{SessionIsThere};
 ghost use Rattle.replay_driver.specs.Playing.{IsPlayedTo};
 
 use crate::play::{make, next};
+use crate::progress::Progress;
 use cluster_core::Cluster;
 use line_runs::{Point, events_lower_what_is_left, follows, lines_are_answered};
 use planned_cluster::{PlannedCluster, see_session};
@@ -20,8 +21,12 @@ use stamp_base::{LINE_LIMIT, NoMemory};
 use std::alloc::Global;
 
 /// The cluster once all the script's lines were carried out, each to its end. A refused line ends nothing: its refusal stands
-/// in the history.
-pub fn replay(alloc: Global, script: &Script) -> Result<Cluster, NoMemory>
+/// in the history. Behind each line, `progress` is told how many were carried out.
+pub fn replay<P: Progress>(
+    alloc: Global,
+    script: &Script,
+    progress: &P,
+) -> Result<Cluster, NoMemory>
     requires { vec_len script.now.lines ≤ LINE_LIMIT }
     ensures history { IfOk result (λ cluster. cluster.history ≡ replayed (data_of script.now)) }
     ensures answered { IfOk result (λ cluster. Answers (data_of script.now) cluster.history) }
@@ -34,6 +39,7 @@ pub fn replay(alloc: Global, script: &Script) -> Result<Cluster, NoMemory>
     for place in 0..script.lines.len() {
         see_session(&script.lines[place].actor);
         play_line(&mut play, script, place)?;
+        progress.carried(place + 1, script.lines.len());
     }
     Ok(play.cluster)
 }

@@ -5,8 +5,10 @@
 mod draft;
 mod driver;
 mod play;
+mod progress;
 mod storm;
 
 pub use cluster_core::Cluster;
 pub use driver::replay;
+pub use progress::{Progress, Silent};
 pub use storm::{STORM_LIMIT, storm_script};

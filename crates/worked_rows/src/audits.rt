@@ -14,7 +14,7 @@ struct Audit {
 const EACH_KIND: &str =
     "tick 12\nnote s1 post p\ntake a reading=0 term=1 epoch=0 until=10 ceiling=100\nrenew a reading=5 term=1 until=15\nextend a term=1 ceiling=200\nask-begin s1 a\naccept s1 a term=1 reading=0\ndraw s1 a term=1 start=1\nbegin s1 start=1\nwrite s1 start=1 k0 v\nread s1 start=1 k0 from=1 v\nask-commit s1 a start=1\nplaced start=1 commit=2\ncommitted s1 start=1 commit=2\nmark janitor start=7\nstep s1 fetch k0 cells=2\nend s1 start=3 read-only\nrefused s1 busy\nfault a table\ncrash a term=1\nvanish s1\n";
 
-static AUDITS: [Audit; 19] = [
+static AUDITS: [Audit; 18] = [
     // nothing: no bytes, and lines that say nothing
     Audit {
         history: "",
@@ -98,7 +98,7 @@ static AUDITS: [Audit; 19] = [
         report: "not isolated: read 1 1\n",
         status: 7,
     },
-    // No carriage return is dropped, blanks are no empty line, and no other format is read.
+    // No carriage return is dropped, and blanks are no empty line.
     Audit {
         history: "tick 1\r\n",
         report: "history line 1: not an item\n",
@@ -107,11 +107,6 @@ static AUDITS: [Audit; 19] = [
     Audit {
         history: "tick 1\n \n",
         report: "history line 2: not an item\n",
-        status: 3,
-    },
-    Audit {
-        history: "{\"kind\":\"tick\",\"to\":1}\n",
-        report: "history line 1: not an item\n",
         status: 3,
     },
     // A script is no history.

@@ -7,13 +7,15 @@ use worked_texts::commits::{PLAIN_HISTORY, PLAIN_PATH};
 pub const USAGE: &str = "usage: omid replay [summary|json] | run | audit | storm N\n";
 
 /// Words that are no command, or none that is built yet.
-const NO_COMMANDS: [&[&str]; 6] = [
+const NO_COMMANDS: [&[&str]; 8] = [
     &[],
     &["replay", "now"],
     &["audit", "now"],
     &["Replay"],
     &["run"],
-    &["replay", "json"],
+    &["json"],
+    &["replay", "JSON"],
+    &["replay", "json", "summary"],
 ];
 
 /// A script, and what is said of it.

@@ -6,7 +6,7 @@ use std::sync::Wait;
 use std::thread::Threads;
 
 /// More bytes than any of the texts has.
-const ROOM: usize = 65_536;
+const ROOM: usize = 262_144;
 
 /// The pieces, one behind the other.
 pub fn joined(alloc: Global, pieces: &[&str]) -> Result<Vec<u8>, AllocError> {

@@ -7,9 +7,16 @@ use std::sync::Wait;
 use std::test::Fail;
 use std::thread::Threads;
 use worked_texts::commits::{PLAIN_HISTORY, PLAIN_PATH};
+use worked_texts::json::PLAIN_JSON;
 
 /// More bytes than any text here has.
-const ROOM: usize = 1024;
+const ROOM: usize = 4096;
+
+/// The plain history as text and as JSON, and the words that write it.
+const FORMS: [(&[&str], &str); 2] = [
+    (&["replay"], PLAIN_HISTORY),
+    (&["replay", "json"], PLAIN_JSON),
+];
 
 const HISTORY: &str = "placed start=2 commit=1\n";
 
@@ -18,26 +25,28 @@ const REPORT: &str = "not isolated: stamped 1 1\n";
 /// How many lines the plain history has.
 const LINES: usize = 20;
 
-/// The first lines of the plain history.
-fn first_lines(alloc: Global, count: usize) -> Result<Vec<u8>, AllocError> {
-    let mut text = Vec::new(alloc);
-    for line in PLAIN_HISTORY.lines().take(count) {
-        text.extend_from_slice(line.as_bytes())?;
-        text.push(b'\n')?;
+/// The first lines of the text.
+fn first_lines(alloc: Global, text: &str, count: usize) -> Result<Vec<u8>, AllocError> {
+    let mut front = Vec::new(alloc);
+    for line in text.lines().take(count) {
+        front.extend_from_slice(line.as_bytes())?;
+        front.push(b'\n')?;
     }
-    Ok(text)
+    Ok(front)
 }
 
-/// Calls the program with the word, from this source to this sink.
+/// Calls the program with the words, from this source to this sink.
 fn call<R: Threads + Wait + Sync, S: Source, K: Sink>(
     rt: &R,
     alloc: Global,
-    word: &str,
+    names: &[&str],
     source: &mut S,
     sink: &mut K,
 ) -> Result<u8, AllocError> {
     let mut words = Vec::new(alloc);
-    words.push(word.to_string(alloc)?)?;
+    for name in names {
+        words.push(name.to_string(alloc)?)?;
+    }
     Ok(omid(rt, alloc, &words, source, sink, &OpenGate).code)
 }
 
@@ -55,11 +64,16 @@ fn open_sink(alloc: Global, room: usize, failing: &[u64]) -> Result<MemSink, All
 
 #[test]
 fn a_source_that_fails_gives_nothing(rt: HostRuntime) -> Result<(), Fail> {
-    for (word, text) in [("replay", PLAIN_PATH), ("audit", HISTORY)] {
+    let calls: [(&[&str], &str); 3] = [
+        (&["replay"], PLAIN_PATH),
+        (&["replay", "json"], PLAIN_PATH),
+        (&["audit"], HISTORY),
+    ];
+    for (words, text) in calls {
         for number in 1..3 {
             let mut source = open_source(rt.alloc(), text, &[number])?;
             let mut sink = open_sink(rt.alloc(), ROOM, &[])?;
-            let status = call(&rt, rt.alloc(), word, &mut source, &mut sink)?;
+            let status = call(&rt, rt.alloc(), words, &mut source, &mut sink)?;
             assert_eq!(rt; status, 4);
             assert_eq!(rt; sink.bytes().len(), 0);
         }
@@ -69,11 +83,26 @@ fn a_source_that_fails_gives_nothing(rt: HostRuntime) -> Result<(), Fail> {
 
 #[test]
 fn a_sink_that_fails_keeps_whole_lines(rt: HostRuntime) -> Result<(), Fail> {
-    for sent in 0..LINES {
+    for (words, text) in FORMS {
+        for sent in 0..LINES {
+            let mut source = open_source(rt.alloc(), PLAIN_PATH, &[])?;
+            let mut sink = open_sink(rt.alloc(), ROOM, &[sent as u64 + 1])?;
+            let status = call(&rt, rt.alloc(), words, &mut source, &mut sink)?;
+            let lines = first_lines(rt.alloc(), text, sent)?;
+            assert_eq!(rt; status, 5);
+            assert_eq!(rt; sink.bytes(), lines.as_slice());
+        }
+    }
+    Ok(())
+}
+
+#[test]
+fn a_sink_that_takes_nothing_more_ends_the_program(rt: HostRuntime) -> Result<(), Fail> {
+    for (words, text) in FORMS {
+        let lines = first_lines(rt.alloc(), text, 2)?;
         let mut source = open_source(rt.alloc(), PLAIN_PATH, &[])?;
-        let mut sink = open_sink(rt.alloc(), ROOM, &[sent as u64 + 1])?;
-        let status = call(&rt, rt.alloc(), "replay", &mut source, &mut sink)?;
-        let lines = first_lines(rt.alloc(), sent)?;
+        let mut sink = open_sink(rt.alloc(), lines.len(), &[])?;
+        let status = call(&rt, rt.alloc(), words, &mut source, &mut sink)?;
         assert_eq!(rt; status, 5);
         assert_eq!(rt; sink.bytes(), lines.as_slice());
     }
@@ -81,29 +110,20 @@ fn a_sink_that_fails_keeps_whole_lines(rt: HostRuntime) -> Result<(), Fail> {
 }
 
 #[test]
-fn a_sink_that_takes_nothing_more_ends_the_program(rt: HostRuntime) -> Result<(), Fail> {
-    let lines = first_lines(rt.alloc(), 2)?;
-    let mut source = open_source(rt.alloc(), PLAIN_PATH, &[])?;
-    let mut sink = open_sink(rt.alloc(), lines.len(), &[])?;
-    let status = call(&rt, rt.alloc(), "replay", &mut source, &mut sink)?;
-    assert_eq!(rt; status, 5);
-    assert_eq!(rt; sink.bytes(), lines.as_slice());
-    Ok(())
-}
-
-#[test]
 fn a_byte_at_a_time_is_enough(rt: HostRuntime) -> Result<(), Fail> {
-    let mut source = DripSource {
-        bytes: PLAIN_PATH.as_bytes().to_vec(rt.alloc())?,
-        at: 0,
-    };
-    let mut sink = DripSink {
-        bytes: Vec::new(rt.alloc()),
-        faults: 0,
-    };
-    let status = call(&rt, rt.alloc(), "replay", &mut source, &mut sink)?;
-    assert_eq!(rt; status, 0);
-    assert_eq!(rt; sink.bytes.as_slice(), PLAIN_HISTORY.as_bytes());
+    for (words, text) in FORMS {
+        let mut source = DripSource {
+            bytes: PLAIN_PATH.as_bytes().to_vec(rt.alloc())?,
+            at: 0,
+        };
+        let mut sink = DripSink {
+            bytes: Vec::new(rt.alloc()),
+            faults: 0,
+        };
+        let status = call(&rt, rt.alloc(), words, &mut source, &mut sink)?;
+        assert_eq!(rt; status, 0);
+        assert_eq!(rt; sink.bytes.as_slice(), text.as_bytes());
+    }
     Ok(())
 }
 
@@ -114,12 +134,12 @@ fn a_report_goes_out_whole_or_is_cut(rt: HostRuntime) -> Result<(), Fail> {
         bytes: Vec::new(rt.alloc()),
         faults: 0,
     };
-    let status = call(&rt, rt.alloc(), "audit", &mut source, &mut sink)?;
+    let status = call(&rt, rt.alloc(), &["audit"], &mut source, &mut sink)?;
     assert_eq!(rt; status, 7);
     assert_eq!(rt; sink.bytes.as_slice(), REPORT.as_bytes());
     let mut source = open_source(rt.alloc(), HISTORY, &[])?;
     let mut sink = open_sink(rt.alloc(), ROOM, &[1])?;
-    let status = call(&rt, rt.alloc(), "audit", &mut source, &mut sink)?;
+    let status = call(&rt, rt.alloc(), &["audit"], &mut source, &mut sink)?;
     assert_eq!(rt; status, 5);
     assert_eq!(rt; sink.bytes().len(), 0);
     Ok(())

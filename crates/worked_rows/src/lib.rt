@@ -14,6 +14,10 @@ mod faults;
 #[cfg(test)]
 mod hostile;
 #[cfg(test)]
+mod json;
+#[cfg(test)]
+mod progress;
+#[cfg(test)]
 mod rows;
 #[cfg(test)]
 mod storms;

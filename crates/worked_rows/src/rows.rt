@@ -1,20 +1,28 @@
 // What a replay writes for a script, byte for byte, and that it is isolated.
 use crate::calls::{answer_of, joined};
 use std::test::Fail;
-use worked_texts::{commits, examples, many_keys, outcomes, refusals, takeovers};
+use worked_texts::{Replay, commits, examples, many_keys, outcomes, refusals, takeovers, threads};
+
+/// How many topics the worked examples have.
+pub const TOPICS: usize = 7;
+
+/// The worked examples of a topic.
+pub fn topic(number: usize) -> &'static [Replay] {
+    match number {
+        0 => commits::replays(),
+        1 => many_keys::replays(),
+        2 => takeovers::replays(),
+        3 => outcomes::replays(),
+        4 => refusals::replays(),
+        5 => examples::replays(),
+        _ => threads::replays(),
+    }
+}
 
 #[test]
 fn each_script_is_replayed(rt: HostRuntime) -> Result<(), Fail> {
-    let topics = [
-        commits::replays(),
-        many_keys::replays(),
-        takeovers::replays(),
-        outcomes::replays(),
-        refusals::replays(),
-        examples::replays(),
-    ];
-    for replays in topics {
-        for replay in replays {
+    for number in 0..TOPICS {
+        for replay in topic(number) {
             let name = replay.name;
             let script = joined(rt.alloc(), replay.script)?;
             let history = joined(rt.alloc(), replay.history)?;

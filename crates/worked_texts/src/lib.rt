@@ -4,10 +4,12 @@
 pub mod commits;
 pub mod examples;
 pub mod hostile;
+pub mod json;
 pub mod many_keys;
 pub mod outcomes;
 pub mod refusals;
 mod replay;
 pub mod takeovers;
+pub mod threads;
 
 pub use replay::Replay;

@@ -1,7 +1,7 @@
 use Rattle.std.proofs.Common.{List, Err, ap, sym, arith}
 use Rattle.history_book.specs.declared.item.Item.{Item}
 use Rattle.omid_top.specs.declared.report.Report.TheVariants.{NotAnItem}
-use Rattle.history_reading.specs.History.{AreItems}
+use Rattle.history_json.specs.History.{AreItems}
 use Rattle.omid_top.specs.Audit.{Reported, ReportedFront, IsFairTo}
 use Rattle.omid_top.proofs.CommandLemmas.{audit_codes, audits_silently, too_many_is_no_end, reported_codes}
 use Rattle.omid_top.proofs.ReportLemmas.{of_all_left, of_too_many, written_is_fair}

@@ -10,10 +10,10 @@ use Rattle.planned_cluster.proofs.Fitting.{one_more_there, lines_fit}
 use Rattle.replay_driver.proofs.driver.replay.Goals as goal
 
 pub open-requires : goal.open-requires
-open-requires c = rw c.deref.ensures.value c.args.script.now.sound.one_fault_each
+open-requires g c = rw c.deref.ensures.value c.args.script.now.sound.one_fault_each
 
 pub loop-place-init : goal.loop-place-init
-loop-place-init c =
+loop-place-init g c =
     let script = data_of c.args.script.now in
     record {
       played =
@@ -23,16 +23,16 @@ loop-place-init c =
     }
 
 pub play_line-requires : goal.play_line-requires
-play_line-requires c = record { place = omega (arith, c.loop-place-test.true, c.args.script.now.lines.ok); played = c.loop-place.invariant.played }
+play_line-requires g c = record { place = omega (arith, c.loop-place-test.true, c.args.script.now.lines.ok); played = c.loop-place.invariant.played }
 
 pub loop-place-preserved : goal.loop-place-preserved
-loop-place-preserved c = record {
+loop-place-preserved g c = record {
   played = c.in_ok-play_line.ensures;
   there = one_more_there c.loop-place.place c.args.script.now.lines.items c.index.result.now (omega (arith, c.loop-place-test.true, c.args.script.now.lines.ok)) c.index.ensures c.loop-place.invariant.there c.see_session.ensures;
 }
 
 pub returns : goal.returns
-returns c =
+returns g c =
     let script = data_of c.args.script.now in
     let at = c.loop-place.invariant.played in
     let history = all_played script c.loop-place.place _ _ _ (omega (arith, c.loop-place-test.false, c.args.script.now.lines.ok)) at in

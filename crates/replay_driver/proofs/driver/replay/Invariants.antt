@@ -5,7 +5,7 @@ use Rattle.planned_cluster.proofs.Fitting.{SessionsAreThere}
 use Rattle.replay_driver.proofs.driver.replay.Given as goal
 
 abbrev pub invariant-loop-place : goal.invariant-loop-place
-invariant-loop-place l = record {
+invariant-loop-place g l = record {
   played : IsPlayedTo (data_of l.script) l.place l.play.cluster l.play.clock (ahead-value.it l.play.weather);
   there : SessionsAreThere l.place l.script.lines.items;
 }

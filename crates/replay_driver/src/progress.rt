@@ -1,0 +1,12 @@
+// How far a script is carried out, for whoever wants to show it.
+
+/// Is told how far a script is carried out. What it does with that is no part of any promise: by default, nothing.
+pub trait Progress {
+    /// So many lines of the script were carried out, of all that it has.
+    fn carried(&self, _lines: usize, _of: usize) {}
+}
+
+/// Says nothing.
+pub struct Silent;
+
+impl Progress for Silent {}

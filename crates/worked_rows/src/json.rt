@@ -1,0 +1,158 @@
+// Histories as JSON: what a replay writes, and what an audit says of it.
+use crate::calls::{answer_of, joined};
+use crate::rows::{TOPICS, topic};
+use std::test::Fail;
+use worked_texts::commits::PLAIN_PATH;
+use worked_texts::json::{EACH_KIND, EACH_KIND_JSON, PLAIN_JSON};
+
+/// A history, what an audit of it must write, and its status.
+static AUDITS: [(&str, &str, u8); 15] = [
+    (PLAIN_JSON, "isolated items=20\n", 0),
+    (EACH_KIND_JSON, "isolated items=53\n", 0),
+    // late_put: a commit that is placed after a read counts.
+    (
+        r#"{"kind":"begin","session":"s0","start":1}
+{"key":"k0","kind":"write","session":"s0","start":1,"value":"v"}
+{"kind":"begin","session":"s1","start":101}
+{"key":"k0","kind":"read","session":"s1","start":101}
+{"commit":2,"kind":"placed","start":1}
+"#,
+        "not isolated: read 4 2\n",
+        7,
+    ),
+    // The same with blanks, empty lines and members in another order, and without the last line feed.
+    (
+        r#"
+
+{ "start" : 1, "kind" : "begin", "session" : "s0" }
+{"kind":"write","session":"s0","start":1,"key":"k0","value":"v"}
+
+{"kind":"begin","session":"s1","start":101}
+{"kind":"read","session":"s1","start":101,"key":"k0"}
+{"kind":"placed","start":1,"commit":2}"#,
+        "not isolated: read 4 2\n",
+        7,
+    ),
+    // One format alone: that of the first line that is not empty.
+    (
+        "{\"kind\":\"begin\",\"session\":\"s0\",\"start\":1}\nbegin s1 start=2\n",
+        "history line 2: not an item\n",
+        3,
+    ),
+    (
+        "\nbegin s1 start=2\n{\"kind\":\"begin\",\"session\":\"s0\",\"start\":1}\n",
+        "history line 3: not an item\n",
+        3,
+    ),
+    (
+        " {\"kind\":\"tick\",\"to\":1}\n",
+        "history line 1: not an item\n",
+        3,
+    ),
+    // A carriage return is a blank of JSON, escapes are read, and of a member that is repeated the last counts.
+    (
+        "{\"kind\":\"tick\",\"to\":1}\r\n{\"kind\":\"\\u0074ick\",\"to\":1,\"to\":2}\n",
+        "isolated items=2\n",
+        0,
+    ),
+    // Whole numbers alone, up to 64 bits.
+    (
+        "{\"kind\":\"begin\",\"session\":\"s0\",\"start\":1}\n{\"kind\":\"begin\",\"session\":\"s1\",\"start\":2.0}\n",
+        "history line 2: not an item\n",
+        3,
+    ),
+    (
+        "{\"kind\":\"tick\",\"to\":18446744073709551615}\n{\"kind\":\"tick\",\"to\":18446744073709551616}\n",
+        "history line 2: not an item\n",
+        3,
+    ),
+    (
+        "{\"kind\":\"tick\",\"to\":0}\n{\"kind\":\"tick\",\"to\":-0}\n",
+        "history line 2: not an item\n",
+        3,
+    ),
+    // A member too little, one too much, and one that is null.
+    ("{\"kind\":\"tick\"}\n", "history line 1: not an item\n", 3),
+    (
+        "{\"kind\":\"tick\",\"to\":1,\"by\":1}\n",
+        "history line 1: not an item\n",
+        3,
+    ),
+    (
+        "{\"commit\":null,\"kind\":\"draw\",\"node\":\"a\",\"session\":\"s0\",\"start\":1,\"term\":1}\n",
+        "history line 1: not an item\n",
+        3,
+    ),
+    // A line that ends too early.
+    (
+        "{\"kind\":\"tick\",\"to\":1}\n{\"kind\":\"tick\",\"to\"",
+        "history line 2: not an item\n",
+        3,
+    ),
+];
+
+/// Behind a function, a proof that goes over the rows does not look into their texts.
+fn audits() -> &'static [(&'static str, &'static str, u8)] {
+    &AUDITS
+}
+
+/// A script, and its history as JSON.
+static REPLAYS: [(&str, &str); 3] = [
+    (PLAIN_PATH, PLAIN_JSON),
+    (EACH_KIND, EACH_KIND_JSON),
+    ("", ""),
+];
+
+fn replays() -> &'static [(&'static str, &'static str)] {
+    &REPLAYS
+}
+
+#[test]
+fn histories_are_written_as_json(rt: HostRuntime) -> Result<(), Fail> {
+    for (script, history) in replays() {
+        let words = ["replay", "json"];
+        let (written, status) = answer_of(&rt, rt.alloc(), &words, script.as_bytes())?;
+        assert_eq!(rt; status, 0, "{script}");
+        assert!(rt; written.as_slice() == history.as_bytes(), "{script}");
+    }
+    Ok(())
+}
+
+#[test]
+fn histories_in_json_are_judged(rt: HostRuntime) -> Result<(), Fail> {
+    for (history, report, status) in audits() {
+        let (written, ended) = answer_of(&rt, rt.alloc(), &["audit"], history.as_bytes())?;
+        assert_eq!(rt; ended, *status, "{history}");
+        assert_eq!(rt; written.as_slice(), report.as_bytes(), "{history}");
+    }
+    Ok(())
+}
+
+#[test]
+fn both_formats_have_one_report(rt: HostRuntime) -> Result<(), Fail> {
+    for number in 0..TOPICS {
+        for replay in topic(number) {
+            let name = replay.name;
+            let script = joined(rt.alloc(), replay.script)?;
+            let history = joined(rt.alloc(), replay.history)?;
+            let (report, _) = answer_of(&rt, rt.alloc(), &["audit"], &history)?;
+            let (json, status) = answer_of(&rt, rt.alloc(), &["replay", "json"], &script)?;
+            assert_eq!(rt; status, 0, "{name}");
+            let (written, status) = answer_of(&rt, rt.alloc(), &["audit"], &json)?;
+            assert_eq!(rt; status, 0, "{name}");
+            assert!(rt; written == report, "{name}");
+        }
+    }
+    Ok(())
+}
+
+#[test]
+fn a_bad_script_has_no_json(rt: HostRuntime) -> Result<(), Fail> {
+    let (written, status) = answer_of(&rt, rt.alloc(), &["replay", "json"], b"a take\na fly\n")?;
+    assert_eq!(rt; status, 3);
+    assert_eq!(rt;
+        written.as_slice(),
+        "script line 2: unknown verb\n".as_bytes()
+    );
+    Ok(())
+}

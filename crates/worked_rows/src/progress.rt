@@ -1,0 +1,96 @@
+// Progress: whoever is told how far a script is carried out hears of each line once.
+use omid_top::{Gate, GatePlace, Progress, omid};
+use port_io::{MemSink, MemSource};
+use std::alloc::{AllocError, Global};
+use std::sync::Wait;
+use std::sync::atomic::{AtomicUsize, Ordering};
+use std::test::Fail;
+use std::thread::Threads;
+
+/// The commands, their input, and how many lines are carried out for them.
+static COUNTS: [(&[&str], &str, usize); 6] = [
+    (
+        &["replay"],
+        "# one write\na take\n\ns0 begin a\ns0 write k0 v\ns0 commit a\n",
+        4,
+    ),
+    (&["replay", "summary"], "clock tick 12\n", 1),
+    (&["replay"], "", 0),
+    (&["replay"], "a take\na fly\n", 0),
+    (&["audit"], "tick 12\n", 0),
+    (&["storm", "1"], "", 7),
+];
+
+/// Behind a function, a proof that goes over the rows does not look into their texts.
+fn counts() -> &'static [(&'static [&'static str], &'static str, usize)] {
+    &COUNTS
+}
+
+/// A gate that counts how often it was told something, and keeps what it was told last.
+#[derive(Drop)]
+struct CountingGate {
+    calls: AtomicUsize,
+    lines: AtomicUsize,
+    of: AtomicUsize,
+}
+
+impl Progress for CountingGate {
+    fn carried(&self, lines: usize, of: usize) {
+        self.calls.fetch_add(1, Ordering::SeqCst);
+        self.lines.store(lines, Ordering::SeqCst);
+        self.of.store(of, Ordering::SeqCst);
+    }
+}
+
+impl Gate for CountingGate {
+    fn pass<R: Threads + Wait + Sync>(&self, _rt: &R, _place: GatePlace) {}
+}
+
+impl CountingGate {
+    fn new() -> CountingGate {
+        CountingGate {
+            calls: AtomicUsize::new(0),
+            lines: AtomicUsize::new(0),
+            of: AtomicUsize::new(0),
+        }
+    }
+
+    /// How often it was told something, the number of lines that it was told last, and of how many.
+    fn told(&self) -> [usize; 3] {
+        [
+            self.calls.load(Ordering::SeqCst),
+            self.lines.load(Ordering::SeqCst),
+            self.of.load(Ordering::SeqCst),
+        ]
+    }
+}
+
+/// What a gate is told while the program carries out the words.
+fn told_for<R: Threads + Wait + Sync>(
+    rt: &R,
+    alloc: Global,
+    names: &[&str],
+    input: &str,
+) -> Result<[usize; 3], AllocError> {
+    let mut words = Vec::new(alloc);
+    for name in names {
+        words.push(name.to_string(alloc)?)?;
+    }
+    let mut source = MemSource::new(input.as_bytes().to_vec(alloc)?, Vec::new(alloc));
+    let mut sink = match MemSink::open(alloc, 65_536, Vec::new(alloc)) {
+        Ok(sink) => sink,
+        Err(_) => return Err(AllocError),
+    };
+    let gate = CountingGate::new();
+    omid(rt, alloc, &words, &mut source, &mut sink, &gate);
+    Ok(gate.told())
+}
+
+#[test]
+fn each_line_is_told_once(rt: HostRuntime) -> Result<(), Fail> {
+    for (words, input, lines) in counts() {
+        let told = told_for(&rt, rt.alloc(), words, input)?;
+        assert_eq!(rt; told, [*lines, *lines, *lines], "{input}");
+    }
+    Ok(())
+}
