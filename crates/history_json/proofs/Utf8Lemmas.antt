@@ -7,7 +7,8 @@ use Rattle.std.proofs.lemmas.List.Elements.{All-weaker}
 use Rattle.std.proofs.lemmas.List.Sums.{AllPass-from_list_all}
 use Rattle.std.proofs.lemmas.Str.{IsUtf8-from_ascii, IsUtf8-append}
 use Rattle.std.proofs.lemmas.Str.Ascii.{IsAscii-from_all}
-use Rattle.stamp_base.specs.Ranges.{IsStamp}
+use Rattle.stamp_base.specs.Ranges.{IsStamp, IsKey}
+use Rattle.history_text.specs.Words.{key_text}
 use Rattle.stamp_base.specs.Words.{IsVisible, IsValue, IsNameByte, IsName}
 use Rattle.stamp_base.specs.declared.stores.Mark.{Mark}
 use Rattle.stamp_base.specs.declared.stores.Mark.TheVariants as mark
@@ -110,3 +111,6 @@ cause_utf8 cause.TooManyKeys h = words (codes "too-many-keys") refl
 cause_utf8 cause.Gone h = words (codes "gone") refl
 cause_utf8 cause.Idle h = words (codes "idle") refl
 cause_utf8 (cause.Undecided start epoch) h = two_fields (codes "undecided start=") start (codes " epoch=") epoch refl (stamp_small start h.0) refl h.1
+
+pub key_utf8 : (key : ℕ) → IsKey key → IsUtf8 (key_text key)
+key_utf8 key h = field (codes "k") key refl (key_small key h)

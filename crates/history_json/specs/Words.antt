@@ -1,5 +1,5 @@
 -- The words of the line that an object's members tell, as reading finds them.
-use Rattle.std.specs.Prelude.{ℕ, if◌then◌else◌, is_some, List, [], ◌∷◌, ◌++◌, Option, None, Some, codes, decimal, option_and_then}
+use Rattle.std.specs.Prelude.{ℕ, Bool, if◌then◌else◌, is_some, List, [], ◌∷◌, ◌++◌, Option, None, Some, codes, decimal, option_and_then}
 use Rattle.std.specs.Option.{option_map, option_or}
 use Rattle.serde_json.specs.Data.{Data}
 use Rattle.serde_json.specs.Find.{get, as_str, as_number, as_u64}
@@ -16,14 +16,15 @@ filled text (words ∷ []) d = Some (text ++ words)
 filled text (words ∷ name ∷ more) d = option_and_then (λ said. filled (text ++ words ++ said) more d) (said_by name d)
 
 -- The rows: the words of each kind's line, and between them the names of the members that they stand beside.
-unfoldable pub draw_row : Data → Option (List (List ℕ))
-draw_row d =
-    if is_some (get (codes "commit") d) then Some (codes "draw " ∷ codes "session" ∷ codes " " ∷ codes "node" ∷ codes " term=" ∷ codes "term" ∷ codes " start=" ∷ codes "start" ∷ codes " commit=" ∷ codes "commit" ∷ [])
+-- A draw has its commit where one is told, and a read its answer where it tells from which transaction.
+unfoldable pub draw_row : Bool → Option (List (List ℕ))
+draw_row commit =
+    if commit then Some (codes "draw " ∷ codes "session" ∷ codes " " ∷ codes "node" ∷ codes " term=" ∷ codes "term" ∷ codes " start=" ∷ codes "start" ∷ codes " commit=" ∷ codes "commit" ∷ [])
     else Some (codes "draw " ∷ codes "session" ∷ codes " " ∷ codes "node" ∷ codes " term=" ∷ codes "term" ∷ codes " start=" ∷ codes "start" ∷ [])
 
-unfoldable pub read_row : Data → Option (List (List ℕ))
-read_row d =
-    if is_some (get (codes "from") d) then Some (codes "read " ∷ codes "session" ∷ codes " start=" ∷ codes "start" ∷ codes " " ∷ codes "key" ∷ codes " from=" ∷ codes "from" ∷ codes " " ∷ codes "value" ∷ [])
+unfoldable pub read_row : Bool → Option (List (List ℕ))
+read_row from =
+    if from then Some (codes "read " ∷ codes "session" ∷ codes " start=" ∷ codes "start" ∷ codes " " ∷ codes "key" ∷ codes " from=" ∷ codes "from" ∷ codes " " ∷ codes "value" ∷ [])
     else Some (codes "read " ∷ codes "session" ∷ codes " start=" ∷ codes "start" ∷ codes " " ∷ codes "key" ∷ codes " none" ∷ [])
 
 unfoldable pub node_row : List ℕ → Option (List (List ℕ))
@@ -35,20 +36,20 @@ node_row kind =
     else (if is_word (codes "crash") kind then Some (codes "crash " ∷ codes "node" ∷ codes " term=" ∷ codes "term" ∷ [])
     else None))))
 
-unfoldable pub request_row : List ℕ → Data → Option (List (List ℕ))
-request_row kind d =
+unfoldable pub request_row : List ℕ → Bool → Option (List (List ℕ))
+request_row kind commit =
     if is_word (codes "ask-begin") kind then Some (codes "ask-begin " ∷ codes "session" ∷ codes " " ∷ codes "node" ∷ [])
     else (if is_word (codes "ask-commit") kind then Some (codes "ask-commit " ∷ codes "session" ∷ codes " " ∷ codes "node" ∷ codes " start=" ∷ codes "start" ∷ [])
     else (if is_word (codes "accept") kind then Some (codes "accept " ∷ codes "session" ∷ codes " " ∷ codes "node" ∷ codes " term=" ∷ codes "term" ∷ codes " reading=" ∷ codes "reading" ∷ [])
-    else (if is_word (codes "draw") kind then draw_row d
+    else (if is_word (codes "draw") kind then draw_row commit
     else (if is_word (codes "placed") kind then Some (codes "placed start=" ∷ codes "start" ∷ codes " commit=" ∷ codes "commit" ∷ [])
     else None))))
 
-unfoldable pub session_row : List ℕ → Data → Option (List (List ℕ))
-session_row kind d =
+unfoldable pub session_row : List ℕ → Bool → Option (List (List ℕ))
+session_row kind from =
     if is_word (codes "begin") kind then Some (codes "begin " ∷ codes "session" ∷ codes " start=" ∷ codes "start" ∷ [])
     else (if is_word (codes "write") kind then Some (codes "write " ∷ codes "session" ∷ codes " start=" ∷ codes "start" ∷ codes " " ∷ codes "key" ∷ codes " " ∷ codes "value" ∷ [])
-    else (if is_word (codes "read") kind then read_row d
+    else (if is_word (codes "read") kind then read_row from
     else (if is_word (codes "committed") kind then Some (codes "committed " ∷ codes "session" ∷ codes " start=" ∷ codes "start" ∷ codes " commit=" ∷ codes "commit" ∷ [])
     else (if is_word (codes "end") kind then Some (codes "end " ∷ codes "session" ∷ codes " start=" ∷ codes "start" ∷ codes " " ∷ codes "how" ∷ [])
     else (if is_word (codes "vanish") kind then Some (codes "vanish " ∷ codes "session" ∷ [])
@@ -63,9 +64,11 @@ actor_row kind =
     else (if is_word (codes "fault") kind then Some (codes "fault " ∷ codes "actor" ∷ codes " " ∷ codes "store" ∷ [])
     else None))))
 
-unfoldable pub row_of : List ℕ → Data → Option (List (List ℕ))
-row_of kind d = option_or (node_row kind) (option_or (request_row kind d) (option_or (session_row kind d) (actor_row kind)))
+unfoldable pub row_of : List ℕ → Bool → Bool → Option (List (List ℕ))
+row_of kind commit from = option_or (node_row kind) (option_or (request_row kind commit) (option_or (session_row kind from) (actor_row kind)))
 
 -- the words of the object's kind
 unfoldable pub words_of : Data → Option (List ℕ)
-words_of d = option_and_then (λ kind. option_and_then (λ row. filled [] row d) (row_of kind d)) (option_and_then as_str (get (codes "kind") d))
+words_of d =
+    option_and_then (λ kind. option_and_then (λ row. filled [] row d) (row_of kind (is_some (get (codes "commit") d)) (is_some (get (codes "from") d))))
+    (option_and_then as_str (get (codes "kind") d))

@@ -1,33 +1,36 @@
-// The members of an object beside those that are expected of it, looked at where they lie.
-ghost use Rattle.std.specs.Prelude.{◌≡◌, ◌↔◌, ◌∷◌, codes, decimal, IsTrue};
+// The members that an item's object has: each with its name and what it says.
+ghost use Rattle.std.specs.Prelude.{◌≡◌, codes};
 ghost use Rattle.serde_json.specs.Data.{string, number as number_data, unsigned};
-ghost use Rattle.serde_json.specs.View.{view, members_view};
+ghost use Rattle.history_text.specs.CauseText.{cause_text};
+ghost use Rattle.history_text.specs.StepText.{step_text};
 ghost use Rattle.history_text.specs.Words.{node_text, session_text, key_text, actor_text};
-ghost use Rattle.history_json.specs.Expected.{said_data, expected_members};
+ghost use Rattle.history_json.specs.Expected.{said_data};
 
-use crate::texts::node_name;
-use history_book::Actor;
-use serde_json::{Map, Value};
+use crate::texts::{actor_name, node_name, session_name};
+use history_book::{Actor, Cause, StoreStep};
 use stamp_base::{KeyNo, NodeNo, SessionNo};
 
 /// What a member says.
-#[derive(Drop)]
+#[derive(Clone, Copy)]
 pub enum Said<'a> {
     Number(u64),
-    Text(&'a [u8]),
-    /// A letter, and a number behind it.
-    Numbered(u8, u64),
+    Text(&'a str),
+    Key(KeyNo),
+    /// The text of a step on a store.
+    Step(&'a StoreStep),
+    /// The text of a refusal's cause.
+    Cause(&'a Cause),
 }
 
-/// A member that is expected.
-#[derive(Drop)]
+/// A member by its name.
+#[derive(Clone, Copy)]
 pub struct Member<'a> {
-    pub name: &'a str,
+    pub name: &'static str,
     pub said: Said<'a>,
 }
 
 /// The member of this name that is a whole number.
-pub fn whole(name: &str, number: u64) -> Member<'_>
+pub fn whole(name: &'static str, number: u64) -> Member<'static>
     ensures name { result.name.now ≡ name.now }
     ensures said { said_data result.said ≡ number_data (unsigned number) }
 {
@@ -38,7 +41,7 @@ pub fn whole(name: &str, number: u64) -> Member<'_>
 }
 
 /// The member of this name that is a text.
-pub fn text<'a>(name: &'a str, words: &'a [u8]) -> Member<'a>
+pub fn text<'a>(name: &'static str, words: &'a str) -> Member<'a>
     ensures name { result.name.now ≡ name.now }
     ensures said { said_data result.said ≡ string words.now }
 {
@@ -49,7 +52,7 @@ pub fn text<'a>(name: &'a str, words: &'a [u8]) -> Member<'a>
 }
 
 /// The member that names the kind.
-pub fn kind(word: &[u8]) -> Member<'_>
+pub fn kind(word: &'static str) -> Member<'static>
     ensures name { result.name.now ≡ codes "kind" }
     ensures said { said_data result.said ≡ string word.now }
 {
@@ -61,10 +64,7 @@ pub fn session_member(session: SessionNo) -> Member<'static>
     ensures name { result.name.now ≡ codes "session" }
     ensures said { said_data result.said ≡ string (session_text session) }
 {
-    Member {
-        name: "session",
-        said: session_said(session),
-    }
+    text("session", session_name(session))
 }
 
 /// The member that names a key.
@@ -74,7 +74,7 @@ pub fn key_member(key: KeyNo) -> Member<'static>
 {
     Member {
         name: "key",
-        said: Said::Numbered(b'k', key.value()),
+        said: Said::Key(key),
     }
 }
 
@@ -83,7 +83,7 @@ pub fn node_member(node: NodeNo) -> Member<'static>
     ensures name { result.name.now ≡ codes "node" }
     ensures said { said_data result.said ≡ string (node_text node) }
 {
-    text("node", node_name(node).as_bytes())
+    text("node", node_name(node))
 }
 
 /// The member that names an actor.
@@ -91,96 +91,27 @@ pub fn actor_member(actor: Actor) -> Member<'static>
     ensures name { result.name.now ≡ codes "actor" }
     ensures said { said_data result.said ≡ string (actor_text actor) }
 {
+    text("actor", actor_name(actor))
+}
+
+/// The member that tells a step.
+pub fn step_member(what: &StoreStep) -> Member<'_>
+    ensures name { result.name.now ≡ codes "text" }
+    ensures said { said_data result.said ≡ string (step_text what.now) }
+{
     Member {
-        name: "actor",
-        said: actor_said(actor),
+        name: "text",
+        said: Said::Step(what),
     }
 }
 
-fn session_said(session: SessionNo) -> Said<'static>
-    ensures { said_data result ≡ string (session_text session) }
+/// The member that tells a cause.
+pub fn cause_member(cause: &Cause) -> Member<'_>
+    ensures name { result.name.now ≡ codes "text" }
+    ensures said { said_data result.said ≡ string (cause_text cause.now) }
 {
-    Said::Numbered(b's', session.value())
-}
-
-fn actor_said(actor: Actor) -> Said<'static>
-    ensures { said_data result ≡ string (actor_text actor) }
-{
-    match actor {
-        Actor::Clock => Said::Text(b"clock"),
-        Actor::Node(node) => Said::Text(node_name(node).as_bytes()),
-        Actor::Session(session) => session_said(session),
-        Actor::Janitor => Said::Text(b"janitor"),
-    }
-}
-
-/// Whether the members that were found are those that are expected, and no others. It takes no memory.
-pub fn are_members(found: &Map<String, Value>, expected: &[Member<'_>]) -> bool
-    ensures { IsTrue result ↔ (members_view found.now.entries ≡ expected_members expected.now) }
-{
-    let mut place = 0;
-    for (name, value) in found.iter() {
-        if place == expected.len() || !is_member(name.as_str(), value, &expected[place]) {
-            return false;
-        }
-        place += 1;
-    }
-    place == expected.len()
-}
-
-/// Whether a member of this name and value is the one that is expected.
-fn is_member(name: &str, value: &Value, expected: &Member<'_>) -> bool
-    ensures { IsTrue result ↔ ((name.now ≡ expected.now.name.now) × (view value.now ≡ said_data expected.now.said)) }
-{
-    name == expected.name && is_said(value, &expected.said)
-}
-
-/// Whether the value says so.
-fn is_said(value: &Value, said: &Said<'_>) -> bool
-    ensures { IsTrue result ↔ (view value.now ≡ said_data said.now) }
-{
-    match said {
-        Said::Number(number) => is_whole(value, *number),
-        Said::Text(words) => is_text(value, words),
-        Said::Numbered(letter, number) => is_numbered(value, *letter, *number),
-    }
-}
-
-fn is_whole(value: &Value, number: u64) -> bool
-    ensures { IsTrue result ↔ (view value.now ≡ number_data (unsigned number)) }
-{
-    match value.as_u64() {
-        Some(found) => found == number,
-        None => false,
-    }
-}
-
-fn is_text(value: &Value, words: &[u8]) -> bool
-    ensures { IsTrue result ↔ (view value.now ≡ string words.now) }
-{
-    match value.as_str() {
-        Some(text) => text.as_bytes() == words,
-        None => false,
-    }
-}
-
-fn is_numbered(value: &Value, letter: u8, number: u64) -> bool
-    ensures { IsTrue result ↔ (view value.now ≡ string (letter ∷ decimal number)) }
-{
-    match value.as_str() {
-        Some(text) => is_letter_and_number(text.as_bytes(), letter, number),
-        None => false,
-    }
-}
-
-/// Whether the bytes are the letter and the digits of the number.
-fn is_letter_and_number(bytes: &[u8], letter: u8, number: u64) -> bool
-    ensures { IsTrue result ↔ (bytes.now ≡ letter ∷ decimal number) }
-{
-    let mut buffer = itoa::Buffer::new();
-    let digits = buffer.format(number);
-    match bytes.split_first() {
-        Some((first, rest)) => *first == letter && rest == digits.as_bytes(),
-        None => false,
+    Member {
+        name: "text",
+        said: Said::Cause(cause),
     }
 }

@@ -1,7 +1,8 @@
-// The object that an item is in JSON.
-ghost use Rattle.std.specs.Prelude.{◌≡◌, ◌↔◌, IfOk, IsTrue};
-ghost use Rattle.serde_json.specs.View.{view, members_view};
-ghost use Rattle.history_json.specs.Json.{data_of};
+// The members of each kind of item, and what is done with them: they are compared or printed.
+ghost use Rattle.std.specs.Prelude.{◌≡◌, ◌↔◌, IfOk, IsTrue, IsUtf8, OnOk};
+ghost use Rattle.serde_json.specs.View.{members_view};
+ghost use Rattle.history_json.specs.Expected.{are_leaves};
+ghost use Rattle.history_json.specs.Json.{json_line};
 ghost use Rattle.history_json.specs.Members.{members_of};
 
 mod actors;
@@ -9,27 +10,26 @@ mod nodes;
 mod requests;
 mod sessions;
 
-use actors::{fault, is_fault, is_mark, is_note, is_refused, is_step, mark, note, refused, step};
+use crate::comparing::are_members;
+use crate::printing::printed;
+use actors::{fault, mark, note, refused, step};
 use history_book::Item;
-use nodes::{crash, extend, is_crash, is_extend, is_renew, is_take, is_tick, renew, take, tick};
-use requests::{
-    accept, ask_begin, ask_commit, draw, is_accept, is_ask_begin, is_ask_commit, is_draw,
-    is_placed, placed,
-};
+use nodes::{crash, extend, renew, take, tick};
+use requests::{accept, ask_begin, ask_commit, begin_draw, commit_draw, placed};
 use serde_json::{Map, Value};
-use sessions::{
-    begin, committed, end, is_begin, is_committed, is_end, is_read, is_vanish, is_write, read,
-    vanish, write,
-};
+use sessions::{begin, committed, end, read_none, read_some, vanish, write};
 use std::alloc::{AllocError, Global};
 
-/// The item's object.
-pub fn object_of(alloc: Global, item: &Item) -> Result<Value, AllocError>
-    ensures { IfOk result (λ made. view made ≡ data_of item.now) }
+/// The item's line, without a line feed.
+#[inline(never)]
+pub fn line_of(alloc: Global, item: &Item) -> Result<Vec<u8>, AllocError>
+    ensures text { IfOk result (λ line. line.items ≡ json_line item.now) }
+    ensures utf8 { IfOk result (λ line. IsUtf8 line.items) }
+    ensures leaves { OnOk result (IsTrue (are_leaves (members_of item.now))) }
 {
-    match *item {
-        Item::Tick { to } => tick(alloc, to),
-        Item::Note { actor, note: noted } => note(alloc, actor, noted),
+    match item {
+        Item::Tick { to } => printed(alloc, &tick(*to)),
+        Item::Note { actor, note: noted } => printed(alloc, &note(*actor, noted)),
         Item::Take {
             node,
             reading,
@@ -37,67 +37,83 @@ pub fn object_of(alloc: Global, item: &Item) -> Result<Value, AllocError>
             epoch,
             until,
             ceiling,
-        } => take(alloc, node, reading, term, epoch, until, ceiling),
+        } => printed(
+            alloc,
+            &take(*node, *reading, *term, *epoch, *until, *ceiling),
+        ),
         Item::Renew {
             node,
             reading,
             term,
             until,
-        } => renew(alloc, node, reading, term, until),
+        } => printed(alloc, &renew(*node, *reading, *term, *until)),
         Item::Extend {
             node,
             term,
             ceiling,
-        } => extend(alloc, node, term, ceiling),
-        Item::AskBegin { session, node } => ask_begin(alloc, session, node),
+        } => printed(alloc, &extend(*node, *term, *ceiling)),
+        Item::AskBegin { session, node } => printed(alloc, &ask_begin(*session, *node)),
         Item::AskCommit {
             session,
             node,
             start,
-        } => ask_commit(alloc, session, node, start),
+        } => printed(alloc, &ask_commit(*session, *node, *start)),
         Item::Accept {
             session,
             node,
             term,
             reading,
-        } => accept(alloc, session, node, term, reading),
+        } => printed(alloc, &accept(*session, *node, *term, *reading)),
         Item::Draw {
             session,
             node,
             term,
             start,
-            commit,
-        } => draw(alloc, session, node, term, start, commit),
-        Item::Begin { session, start } => begin(alloc, session, start),
+            commit: None,
+        } => printed(alloc, &begin_draw(*session, *node, *term, *start)),
+        Item::Draw {
+            session,
+            node,
+            term,
+            start,
+            commit: Some(commit),
+        } => printed(alloc, &commit_draw(*session, *node, *term, *start, *commit)),
+        Item::Begin { session, start } => printed(alloc, &begin(*session, *start)),
         Item::Write {
             session,
             start,
             key,
             value,
-        } => write(alloc, session, start, key, value),
+        } => printed(alloc, &write(*session, *start, *key, value)),
         Item::Read {
             session,
             start,
             key,
-            answer,
-        } => read(alloc, session, start, key, answer),
-        Item::Placed { start, commit } => placed(alloc, start, commit),
+            answer: None,
+        } => printed(alloc, &read_none(*session, *start, *key)),
+        Item::Read {
+            session,
+            start,
+            key,
+            answer: Some(answer),
+        } => printed(alloc, &read_some(*session, *start, *key, answer)),
+        Item::Placed { start, commit } => printed(alloc, &placed(*start, *commit)),
         Item::Committed {
             session,
             start,
             commit,
-        } => committed(alloc, session, start, commit),
-        Item::Mark { actor, start } => mark(alloc, actor, start),
-        Item::Step { actor, what } => step(alloc, actor, what),
+        } => printed(alloc, &committed(*session, *start, *commit)),
+        Item::Mark { actor, start } => printed(alloc, &mark(*actor, *start)),
+        Item::Step { actor, what } => printed(alloc, &step(*actor, what)),
         Item::End {
             session,
             start,
             how,
-        } => end(alloc, session, start, how),
-        Item::Refused { actor, cause } => refused(alloc, actor, cause),
-        Item::Fault { actor, store } => fault(alloc, actor, store),
-        Item::Crash { node, term } => crash(alloc, node, term),
-        Item::Vanish { session } => vanish(alloc, session),
+        } => printed(alloc, &end(*session, *start, *how)),
+        Item::Refused { actor, cause } => printed(alloc, &refused(*actor, cause)),
+        Item::Fault { actor, store } => printed(alloc, &fault(*actor, *store)),
+        Item::Crash { node, term } => printed(alloc, &crash(*node, *term)),
+        Item::Vanish { session } => printed(alloc, &vanish(*session)),
     }
 }
 
@@ -105,9 +121,9 @@ pub fn object_of(alloc: Global, item: &Item) -> Result<Value, AllocError>
 pub fn are_members_of(found: &Map<String, Value>, item: &Item) -> bool
     ensures { IsTrue result ↔ (members_view found.now.entries ≡ members_of item.now) }
 {
-    match *item {
-        Item::Tick { to } => is_tick(found, to),
-        Item::Note { actor, note: noted } => is_note(found, actor, noted),
+    match item {
+        Item::Tick { to } => are_members(found, &tick(*to)),
+        Item::Note { actor, note: noted } => are_members(found, &note(*actor, noted)),
         Item::Take {
             node,
             reading,
@@ -115,66 +131,82 @@ pub fn are_members_of(found: &Map<String, Value>, item: &Item) -> bool
             epoch,
             until,
             ceiling,
-        } => is_take(found, node, reading, term, epoch, until, ceiling),
+        } => are_members(
+            found,
+            &take(*node, *reading, *term, *epoch, *until, *ceiling),
+        ),
         Item::Renew {
             node,
             reading,
             term,
             until,
-        } => is_renew(found, node, reading, term, until),
+        } => are_members(found, &renew(*node, *reading, *term, *until)),
         Item::Extend {
             node,
             term,
             ceiling,
-        } => is_extend(found, node, term, ceiling),
-        Item::AskBegin { session, node } => is_ask_begin(found, session, node),
+        } => are_members(found, &extend(*node, *term, *ceiling)),
+        Item::AskBegin { session, node } => are_members(found, &ask_begin(*session, *node)),
         Item::AskCommit {
             session,
             node,
             start,
-        } => is_ask_commit(found, session, node, start),
+        } => are_members(found, &ask_commit(*session, *node, *start)),
         Item::Accept {
             session,
             node,
             term,
             reading,
-        } => is_accept(found, session, node, term, reading),
+        } => are_members(found, &accept(*session, *node, *term, *reading)),
         Item::Draw {
             session,
             node,
             term,
             start,
-            commit,
-        } => is_draw(found, session, node, term, start, commit),
-        Item::Begin { session, start } => is_begin(found, session, start),
+            commit: None,
+        } => are_members(found, &begin_draw(*session, *node, *term, *start)),
+        Item::Draw {
+            session,
+            node,
+            term,
+            start,
+            commit: Some(commit),
+        } => are_members(found, &commit_draw(*session, *node, *term, *start, *commit)),
+        Item::Begin { session, start } => are_members(found, &begin(*session, *start)),
         Item::Write {
             session,
             start,
             key,
             value,
-        } => is_write(found, session, start, key, value),
+        } => are_members(found, &write(*session, *start, *key, value)),
         Item::Read {
             session,
             start,
             key,
-            answer,
-        } => is_read(found, session, start, key, answer),
-        Item::Placed { start, commit } => is_placed(found, start, commit),
+            answer: None,
+        } => are_members(found, &read_none(*session, *start, *key)),
+        Item::Read {
+            session,
+            start,
+            key,
+            answer: Some(answer),
+        } => are_members(found, &read_some(*session, *start, *key, answer)),
+        Item::Placed { start, commit } => are_members(found, &placed(*start, *commit)),
         Item::Committed {
             session,
             start,
             commit,
-        } => is_committed(found, session, start, commit),
-        Item::Mark { actor, start } => is_mark(found, actor, start),
-        Item::Step { actor, what } => is_step(found, actor, what),
+        } => are_members(found, &committed(*session, *start, *commit)),
+        Item::Mark { actor, start } => are_members(found, &mark(*actor, *start)),
+        Item::Step { actor, what } => are_members(found, &step(*actor, what)),
         Item::End {
             session,
             start,
             how,
-        } => is_end(found, session, start, how),
-        Item::Refused { actor, cause } => is_refused(found, actor, cause),
-        Item::Fault { actor, store } => is_fault(found, actor, store),
-        Item::Crash { node, term } => is_crash(found, node, term),
-        Item::Vanish { session } => is_vanish(found, session),
+        } => are_members(found, &end(*session, *start, *how)),
+        Item::Refused { actor, cause } => are_members(found, &refused(*actor, cause)),
+        Item::Fault { actor, store } => are_members(found, &fault(*actor, *store)),
+        Item::Crash { node, term } => are_members(found, &crash(*node, *term)),
+        Item::Vanish { session } => are_members(found, &vanish(*session)),
     }
 }

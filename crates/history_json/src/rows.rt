@@ -1,28 +1,24 @@
 // The rows: for each kind, the words of its line, and between them the names of the members that they stand beside.
-ghost use Rattle.std.specs.Prelude.{◌≡◌, map, codes, is_some};
+ghost use Rattle.std.specs.Prelude.{◌≡◌, map};
 ghost use Rattle.std.specs.Option.{option_map};
-ghost use Rattle.serde_json.specs.Find.{get};
-ghost use Rattle.serde_json.specs.View.{view};
 ghost use Rattle.history_reading.specs.ReadWords.{is_word};
 ghost use Rattle.history_json.specs.Words.{node_row, draw_row, request_row, read_row, session_row, actor_row, row_of};
-
-use serde_json::Value;
 
 /// Words and names in turn.
 pub type Row = &'static [&'static str];
 
-/// The row of an object of this kind.
+/// The row of an object of this kind, which has a member `commit`, and one `from`, or not.
 #[tactic(auto, unfolding(crate::specs::Words::row_of))]
-pub fn row_of(kind: &[u8], object: &Value) -> Option<Row>
-    ensures { option_map (λ row. map (λ part. part.now) row.now) result ≡ row_of kind.now (view object.now) }
+pub fn row_of(kind: &[u8], commit: bool, from: bool) -> Option<Row>
+    ensures { option_map (λ row. map (λ part. part.now) row.now) result ≡ row_of kind.now commit from }
 {
     if let Some(row) = node_row(kind) {
         return Some(row);
     }
-    if let Some(row) = request_row(kind, object) {
+    if let Some(row) = request_row(kind, commit) {
         return Some(row);
     }
-    if let Some(row) = session_row(kind, object) {
+    if let Some(row) = session_row(kind, from) {
         return Some(row);
     }
     actor_row(kind)
@@ -79,8 +75,8 @@ fn node_row(kind: &[u8]) -> Option<Row>
 }
 
 #[tactic(auto, unfolding(crate::specs::Words::request_row))]
-fn request_row(kind: &[u8], object: &Value) -> Option<Row>
-    ensures { option_map (λ row. map (λ part. part.now) row.now) result ≡ request_row kind.now (view object.now) }
+fn request_row(kind: &[u8], commit: bool) -> Option<Row>
+    ensures { option_map (λ row. map (λ part. part.now) row.now) result ≡ request_row kind.now commit }
 {
     if is_kind(kind, b"ask-begin") {
         return Some(&["ask-begin ", "session", " ", "node"]);
@@ -101,7 +97,7 @@ fn request_row(kind: &[u8], object: &Value) -> Option<Row>
         ]);
     }
     if is_kind(kind, b"draw") {
-        return draw_row(object);
+        return draw_row(commit);
     }
     if is_kind(kind, b"placed") {
         return Some(&["placed start=", "start", " commit=", "commit"]);
@@ -110,8 +106,8 @@ fn request_row(kind: &[u8], object: &Value) -> Option<Row>
 }
 
 #[tactic(auto, unfolding(crate::specs::Words::session_row))]
-fn session_row(kind: &[u8], object: &Value) -> Option<Row>
-    ensures { option_map (λ row. map (λ part. part.now) row.now) result ≡ session_row kind.now (view object.now) }
+fn session_row(kind: &[u8], from: bool) -> Option<Row>
+    ensures { option_map (λ row. map (λ part. part.now) row.now) result ≡ session_row kind.now from }
 {
     if is_kind(kind, b"begin") {
         return Some(&["begin ", "session", " start=", "start"]);
@@ -122,7 +118,7 @@ fn session_row(kind: &[u8], object: &Value) -> Option<Row>
         ]);
     }
     if is_kind(kind, b"read") {
-        return read_row(object);
+        return read_row(from);
     }
     if is_kind(kind, b"committed") {
         return Some(&[
@@ -166,10 +162,10 @@ fn actor_row(kind: &[u8]) -> Option<Row>
 }
 
 #[tactic(auto, unfolding(crate::specs::Words::draw_row))]
-fn draw_row(object: &Value) -> Option<Row>
-    ensures { option_map (λ row. map (λ part. part.now) row.now) result ≡ draw_row (view object.now) }
+fn draw_row(commit: bool) -> Option<Row>
+    ensures { option_map (λ row. map (λ part. part.now) row.now) result ≡ draw_row commit }
 {
-    if object.get("commit").is_some() {
+    if commit {
         return Some(&[
             "draw ", "session", " ", "node", " term=", "term", " start=", "start", " commit=",
             "commit",
@@ -181,10 +177,10 @@ fn draw_row(object: &Value) -> Option<Row>
 }
 
 #[tactic(auto, unfolding(crate::specs::Words::read_row))]
-fn read_row(object: &Value) -> Option<Row>
-    ensures { option_map (λ row. map (λ part. part.now) row.now) result ≡ read_row (view object.now) }
+fn read_row(from: bool) -> Option<Row>
+    ensures { option_map (λ row. map (λ part. part.now) row.now) result ≡ read_row from }
 {
-    if object.get("from").is_some() {
+    if from {
         return Some(&[
             "read ", "session", " start=", "start", " ", "key", " from=", "from", " ", "value",
         ]);

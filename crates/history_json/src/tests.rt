@@ -203,8 +203,9 @@ fn each_line_is_written_and_read(rt: HostRuntime) -> Result<(), Fail> {
     Ok(())
 }
 
-/// Lines with blanks, escapes, another order or a repeated member, and the same items in text.
-static FREE: [(&str, &str); 4] = [
+/// Lines with blanks, escapes, another order or a repeated member, and the same items in text. Some differ from the
+/// line that is printed in one place alone.
+static FREE: [(&str, &str); 12] = [
     (
         " { \"start\" : 1 ,\t\"session\":\"s0\", \"kind\":\"begin\" } \r",
         "begin s0 start=1",
@@ -221,6 +222,38 @@ static FREE: [(&str, &str); 4] = [
         "{\"k\\u0065y\":\"k0\",\"kind\":\"write\",\"session\":\"s0\",\"start\":1,\"value\":\"a\\/b\"}",
         "write s0 start=1 k0 a/b",
     ),
+    (
+        "{\"kind\":\"begin\",\"session\":\"s0\",\"start\": 1}",
+        "begin s0 start=1",
+    ),
+    (
+        "{\"kind\":\"begin\",\"session\":\"s0\",\"start\":1} ",
+        "begin s0 start=1",
+    ),
+    (
+        "{\"kind\":\"begin\",\"start\":1,\"session\":\"s0\"}",
+        "begin s0 start=1",
+    ),
+    (
+        "{\"kind\":\"begin\",\"session\":\"s1\",\"session\":\"s0\",\"start\":1}",
+        "begin s0 start=1",
+    ),
+    (
+        "{\"kind\":\"tick\",\"kind\":\"begin\",\"session\":\"s0\",\"start\":1}",
+        "begin s0 start=1",
+    ),
+    (
+        "{\"key\":\"k0\",\"kind\":\"write\",\"session\":\"s0\",\"start\":1,\"value\":\"\\u0061\"}",
+        "write s0 start=1 k0 a",
+    ),
+    (
+        "{\"commit\":2,\"kind\":\"placed\",\"start\":1,\"commit\":3}",
+        "placed start=1 commit=3",
+    ),
+    (
+        "{\"from\":1,\"key\":\"k0\",\"kind\":\"read\",\"session\":\"s1\",\"value\":\"v\",\"start\":3}",
+        "read s1 start=3 k0 from=1 v",
+    ),
 ];
 
 fn free() -> &'static [(&'static str, &'static str)] {
@@ -235,7 +268,7 @@ fn blanks_escapes_and_order_are_free(rt: HostRuntime) -> Result<(), Fail> {
     Ok(())
 }
 
-static BROKEN: [&str; 48] = [
+static BROKEN: [&str; 59] = [
     "",
     "{",
     "{}",
@@ -284,6 +317,17 @@ static BROKEN: [&str; 48] = [
     "{\"how\":\"done\",\"kind\":\"end\",\"session\":\"s1\",\"start\":1}",
     "{\"actor\":\"a\",\"kind\":\"fault\",\"store\":\"disk\"}",
     "tick 12",
+    "{\"key\":\"k0\",\"kind\":\"write\",\"session\":\"s0\",\"start\":1,\"value\":\"aaaaaaaaaaaaaaaaaaaaaaaaaaaaaaaaaaaaaaaaaaaaaaaaaaaaaaaaaaaaaaaaaaaaaaaaaaaaaaaaaaaaaaaaaaaaaaaaaaaaaaaaaaaaaaaaaaaaaaaaaaaaaaaaaaaaaaaaaaaaaaaaaaaaaaaaaaaaaaaaaaaaaaaaaaaaaaaaaaaaaaaaaaaaaaaaaaaaaaaaaaaaaaaaaaaaaaaaaaaaaaaaaaaaaaaaaaaaaaaa\"}",
+    "{\"kind\":\"tick\",\"to\":012}",
+    "{\"kind\":\"tick\",\"to\":}",
+    "{\"kind\":\"tick\",\"to\":12",
+    "{\"kind\":\"tick\",\"to\":12]",
+    "{\"kind\":\"tick\",\"to\":12}}",
+    "{\"kind\":\"tick\",\"to\":12,\"to\":\"12\"}",
+    "{\"\":1,\"kind\":\"tick\",\"to\":12}",
+    "{\"commit\":2,\"kind\":\"begin\",\"session\":\"s0\",\"start\":1}",
+    "{\"kind\":\"begin\",\"session\":\"s01\",\"start\":1}",
+    "{\"key\":\"k0\",\"kind\":\"write\",\"session\":\"s0\",\"start\":1,\"value\":\"a\"b\"}",
 ];
 
 fn broken() -> &'static [&'static str] {

@@ -1,14 +1,13 @@
 // The texts that members are.
-ghost use Rattle.std.specs.Prelude.{◌≡◌, IfOk, IsUtf8, string_bytes, ◌++◌, codes, decimal};
-ghost use Rattle.history_text.specs.Words.{node_text, session_text, key_text, actor_text, stage_text, store_text};
+ghost use Rattle.std.specs.Prelude.{◌≡◌, ◌≤◌, IsUtf8, drop, length};
+ghost use Rattle.history_text.specs.Words.{node_text, session_text, actor_text, stage_text, store_text};
 ghost use Rattle.history_text.specs.CauseText.{cause_text};
 ghost use Rattle.history_text.specs.StepText.{step_text};
 ghost use Rattle.history_text.specs.Text.{ending_text};
 
 use history_book::{Actor, Cause, Ending, Item, StoreStep};
 use history_text::{LineBuf, print_body};
-use stamp_base::{KeyNo, Name, NodeNo, SessionNo, Stage, Store, Value};
-use std::alloc::{AllocError, Global};
+use stamp_base::{Name, NodeNo, SessionNo, Stage, Store, Value};
 use std::str;
 
 /// The text that the bytes are.
@@ -20,28 +19,6 @@ pub fn text_of(bytes: &[u8]) -> &str
         Ok(text) => text,
         Err(_) => unreachable!(),
     }
-}
-
-/// A letter and a number.
-fn numbered(alloc: Global, letter: &str, number: u64) -> Result<String, AllocError>
-    ensures { IfOk result (λ s. string_bytes s ≡ letter.now ++ decimal number) }
-{
-    let mut text = String::from_str(alloc, letter)?;
-    let mut buffer = itoa::Buffer::new();
-    text.push_str(buffer.format(number))?;
-    Ok(text)
-}
-
-pub fn session_name(alloc: Global, session: SessionNo) -> Result<String, AllocError>
-    ensures { IfOk result (λ s. string_bytes s ≡ session_text session) }
-{
-    numbered(alloc, "s", session.value())
-}
-
-pub fn key_name(alloc: Global, key: KeyNo) -> Result<String, AllocError>
-    ensures { IfOk result (λ s. string_bytes s ≡ key_text key) }
-{
-    numbered(alloc, "k", key.value())
 }
 
 pub fn node_name(node: NodeNo) -> &'static str
@@ -59,14 +36,37 @@ pub fn node_name(node: NodeNo) -> &'static str
     }
 }
 
-pub fn actor_name(alloc: Global, actor: Actor) -> Result<String, AllocError>
-    ensures { IfOk result (λ s. string_bytes s ≡ actor_text actor) }
+pub fn session_name(session: SessionNo) -> &'static str
+    ensures { result.now ≡ session_text session }
+{
+    match session.value() {
+        0 => "s0",
+        1 => "s1",
+        2 => "s2",
+        3 => "s3",
+        4 => "s4",
+        5 => "s5",
+        6 => "s6",
+        7 => "s7",
+        8 => "s8",
+        9 => "s9",
+        10 => "s10",
+        11 => "s11",
+        12 => "s12",
+        13 => "s13",
+        14 => "s14",
+        _ => "s15",
+    }
+}
+
+pub fn actor_name(actor: Actor) -> &'static str
+    ensures { result.now ≡ actor_text actor }
 {
     match actor {
-        Actor::Clock => String::from_str(alloc, "clock"),
-        Actor::Node(node) => String::from_str(alloc, node_name(node)),
-        Actor::Session(session) => session_name(alloc, session),
-        Actor::Janitor => String::from_str(alloc, "janitor"),
+        Actor::Clock => "clock",
+        Actor::Node(node) => node_name(node),
+        Actor::Session(session) => session_name(session),
+        Actor::Janitor => "janitor",
     }
 }
 
@@ -114,9 +114,14 @@ pub fn name_text(name: &Name) -> &str
     text_of(name.as_slice())
 }
 
-/// What follows the actor in the step's line.
-pub fn step_words(alloc: Global, what: StoreStep) -> Result<String, AllocError>
-    ensures { IfOk result (λ s. string_bytes s ≡ step_text what) }
+/// Where a step's words begin in its line.
+pub const STEP_AT: usize = 11;
+
+/// A line of the step, with its words at the end.
+pub fn step_line(what: StoreStep) -> LineBuf
+    ensures words { drop 11 result ≡ step_text what }
+    ensures utf8 { IsUtf8 (step_text what) }
+    ensures len { 11 ≤ length result }
 {
     let mut line = LineBuf::new();
     print_body(
@@ -126,12 +131,17 @@ pub fn step_words(alloc: Global, what: StoreStep) -> Result<String, AllocError>
         },
         &mut line,
     );
-    String::from_str(alloc, text_of(&line.as_slice()[b"step clock ".len()..]))
+    line
 }
 
-/// What follows the actor in the refusal's line.
-pub fn cause_words(alloc: Global, cause: Cause) -> Result<String, AllocError>
-    ensures { IfOk result (λ s. string_bytes s ≡ cause_text cause) }
+/// Where a cause's words begin in its line.
+pub const CAUSE_AT: usize = 14;
+
+/// A line of a refusal with this cause, with its words at the end.
+pub fn cause_line(cause: Cause) -> LineBuf
+    ensures words { drop 14 result ≡ cause_text cause }
+    ensures utf8 { IsUtf8 (cause_text cause) }
+    ensures len { 14 ≤ length result }
 {
     let mut line = LineBuf::new();
     print_body(
@@ -141,5 +151,5 @@ pub fn cause_words(alloc: Global, cause: Cause) -> Result<String, AllocError>
         },
         &mut line,
     );
-    String::from_str(alloc, text_of(&line.as_slice()[b"refused clock ".len()..]))
+    line
 }

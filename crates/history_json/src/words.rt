@@ -17,7 +17,9 @@ pub fn words_of(alloc: Global, object: &Value) -> Result<Option<Vec<u8>>, AllocE
     let Some(kind) = object.get("kind").and_then(Value::as_str) else {
         return Ok(None);
     };
-    match row_of(kind.as_bytes(), object) {
+    let commit = object.get("commit").is_some();
+    let from = object.get("from").is_some();
+    match row_of(kind.as_bytes(), commit, from) {
         Some(row) => fill(alloc, row, object),
         None => Ok(None),
     }

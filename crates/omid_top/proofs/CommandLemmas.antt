@@ -6,10 +6,10 @@ use Rattle.stamp_base.specs.declared.limits.TheConstants.{BYTE_LIMIT}
 use Rattle.history_book.specs.declared.item.Item.{Item}
 use Rattle.history_json.specs.History.{AreItems}
 use Rattle.script_lines.specs.declared.cause.ScriptCause.TheVariants.{TooLong}
-use Rattle.script_lines.specs.declared.mode.Mode.TheVariants.{Replay}
+use Rattle.script_lines.specs.declared.mode.Mode.{Mode}
 use Rattle.session_script.specs.Script.{script_of}
 use Rattle.omid_top.specs.Audit.{IsVerdict, IsFairTo}
-use Rattle.omid_top.specs.Commands.{Replays, Audits, Storms}
+use Rattle.omid_top.specs.Commands.{Replays, Runs, Audits, Storms}
 use Rattle.omid_top.proofs.ReportLemmas.{silent_is_fair}
 
 -- ---- statuses
@@ -62,6 +62,15 @@ replays_silently text code left rest held now low high whole = record {
   codes = inr (omega (arith, low), omega (arith, high));
 }
 
+pub runs_silently : (code : ℕ) (left rest held now : Option (List ℕ)) → 3 < code → code < 7 → (code ≡ 5 → ⊥) → Runs code left rest held now
+runs_silently code left rest held now low high whole = record {
+  read = λ e. absurd (omega (arith, e, low));
+  ran = λ e. absurd (omega (arith, e, low));
+  bad_line = λ e. absurd (omega (arith, e, low));
+  cut = λ five. absurd (whole five);
+  codes = inr (omega (arith, low), omega (arith, high));
+}
+
 pub audits_silently : (code : ℕ) (left rest held now : Option (List ℕ)) → 3 < code → code < 7 → (code ≡ 5 → ⊥) → Audits code left rest held now
 audits_silently code left rest held now low high whole = record {
   read = λ is. absurd (no_end code low high is);
@@ -79,12 +88,12 @@ storms_silently transactions held now = record {
 }
 
 -- ---- more bytes than a script may have
-too_long : (bytes : List ℕ) → BYTE_LIMIT < length bytes → script_of bytes Replay ≡ Err (record { line = 0; cause = TooLong })
-too_long bytes long = rw (lt-ltb BYTE_LIMIT (length bytes) long) refl
+too_long : (mode : Mode) (bytes : List ℕ) → BYTE_LIMIT < length bytes → script_of bytes mode ≡ Err (record { line = 0; cause = TooLong })
+too_long mode bytes long = rw (lt-ltb BYTE_LIMIT (length bytes) long) refl
 
-pub of_too_long : (left : Option (List ℕ)) (P : List ℕ → Type 0) → ((bytes : List ℕ) → script_of bytes Replay ≡ Err (record { line = 0; cause = TooLong }) → P bytes) → IfSome left (λ bytes. BYTE_LIMIT < length bytes) → IfSome left P
-of_too_long None P holds long = tt
-of_too_long (Some bytes) P holds long = holds bytes (too_long bytes long)
+pub of_too_long : (mode : Mode) (left : Option (List ℕ)) (P : List ℕ → Type 0) → ((bytes : List ℕ) → script_of bytes mode ≡ Err (record { line = 0; cause = TooLong }) → P bytes) → IfSome left (λ bytes. BYTE_LIMIT < length bytes) → IfSome left P
+of_too_long mode None P holds long = tt
+of_too_long mode (Some bytes) P holds long = holds bytes (too_long mode bytes long)
 
 pub reported_codes : (code : ℕ) → IsVerdict code ⊎ (code ≡ 5) → IsVerdict code ⊎ (code ≡ 5) ⊎ (code ≡ 6)
 reported_codes code (inl verdict) = inl verdict

@@ -1,9 +1,14 @@
 -- The promise of a script's history, from what the cluster keeps.
-use Rattle.std.proofs.Common.{◌≡◌, List, subst}
+use Rattle.std.proofs.Common.{◌≡◌, ℕ, List, Result, Ok, Err, subst, sym}
+use Rattle.std.specs.Prelude.{IsErrAnd}
 use Rattle.history_book.specs.declared.item.Item.{Item}
 use Rattle.history_book.specs.Isolation.{Isolated}
 use Rattle.cause_rules.specs.Explained.{Explained}
 use Rattle.script_data.specs.Data.{ScriptData}
+use Rattle.script_lines.specs.declared.cause.ScriptCause.{ScriptCause}
+use Rattle.session_script.specs.declared.fault.ScriptFault.{ScriptFault}
+use Rattle.session_script.specs.declared.fault.ScriptFault.TheVariants.{At}
+use Rattle.session_script.specs.Script.{BadLine, ReadsScript}
 use Rattle.line_runs.specs.Answers.{Answers}
 use Rattle.line_runs.specs.Planned.{Planned}
 use Rattle.line_runs.specs.Runs.{replayed}
@@ -16,3 +21,12 @@ promise_kept script h is isolated explained answers planned = record {
   answers = subst (λ (x : List Item). Answers script x) is answers;
   planned = subst (λ (x : List Item). Planned script x) is planned;
 }
+
+-- what is told of the line that a reader answered is told of the script's first bad line
+pub bad_line_told : (fault : ScriptFault) (line : ℕ) (cause : ScriptCause) (given : Result ScriptData BadLine) (P : BadLine → Type 0) → ReadsScript (Err fault) given → fault ≡ At line cause → P (record { line = line; cause = cause }) → IsErrAnd given P
+bad_line_told fault line cause given P reads is told =
+    let found : given ≡ Err (record { line = line; cause = cause }) = subst (λ (f : ScriptFault). ReadsScript (Err f) given) is reads in
+    subst (λ (r : Result ScriptData BadLine). IsErrAnd r P) (sym found) told
+
+pub told_of_same : (P : BadLine → Type 0) (l line : ℕ) (k cause : ScriptCause) → l ≡ line → k ≡ cause → P (record { line = l; cause = k }) → P (record { line = line; cause = cause })
+told_of_same P l line k cause same alike told = subst (λ (c : ScriptCause). P (record { line = line; cause = c })) alike (subst (λ (n : ℕ). P (record { line = n; cause = k })) same told)

@@ -32,26 +32,37 @@ pub one_command : (one other : Command) (words : List (List ℕ)) → Names one 
 one_command command.Replay command.Replay words one other = refl
 one_command command.Replay command.ReplaySummary words one other = cc
 one_command command.Replay command.ReplayJson words one other = cc
+one_command command.Replay command.Run words one other = cc
 one_command command.Replay command.Audit words one other = cc
 one_command command.Replay (command.Storm n) words one other = let named : words ≡ _ = other.named in cc
 one_command command.ReplaySummary command.Replay words one other = cc
 one_command command.ReplaySummary command.ReplaySummary words one other = refl
 one_command command.ReplaySummary command.ReplayJson words one other = cc
+one_command command.ReplaySummary command.Run words one other = cc
 one_command command.ReplaySummary command.Audit words one other = cc
 one_command command.ReplaySummary (command.Storm n) words one other = let named : words ≡ _ = other.named in cc
 one_command command.ReplayJson command.Replay words one other = cc
 one_command command.ReplayJson command.ReplaySummary words one other = cc
 one_command command.ReplayJson command.ReplayJson words one other = refl
+one_command command.ReplayJson command.Run words one other = cc
 one_command command.ReplayJson command.Audit words one other = cc
 one_command command.ReplayJson (command.Storm n) words one other = let named : words ≡ _ = other.named in cc
+one_command command.Run command.Replay words one other = cc
+one_command command.Run command.ReplaySummary words one other = cc
+one_command command.Run command.ReplayJson words one other = cc
+one_command command.Run command.Run words one other = refl
+one_command command.Run command.Audit words one other = cc
+one_command command.Run (command.Storm n) words one other = let named : words ≡ _ = other.named in cc
 one_command command.Audit command.Replay words one other = cc
 one_command command.Audit command.ReplaySummary words one other = cc
 one_command command.Audit command.ReplayJson words one other = cc
+one_command command.Audit command.Run words one other = cc
 one_command command.Audit command.Audit words one other = refl
 one_command command.Audit (command.Storm n) words one other = let named : words ≡ _ = other.named in cc
 one_command (command.Storm m) command.Replay words one other = let named : words ≡ _ = one.named in cc
 one_command (command.Storm m) command.ReplaySummary words one other = let named : words ≡ _ = one.named in cc
 one_command (command.Storm m) command.ReplayJson words one other = let named : words ≡ _ = one.named in cc
+one_command (command.Storm m) command.Run words one other = let named : words ≡ _ = one.named in cc
 one_command (command.Storm m) command.Audit words one other = let named : words ≡ _ = one.named in cc
 one_command (command.Storm m) (command.Storm n) words one other = ap command.Storm (one_storm m n words one other)
 

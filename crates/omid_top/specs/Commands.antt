@@ -7,11 +7,11 @@ use Rattle.history_json.specs.History.{AreItems}
 use Rattle.history_json.specs.Json.{json_printed}
 use Rattle.history_text.specs.Summary.{summarized}
 use Rattle.session_script.specs.Script.{script_of}
-use Rattle.script_lines.specs.declared.mode.Mode.TheVariants.{Replay}
+use Rattle.script_lines.specs.declared.mode.Mode.TheVariants.{Replay, Run}
 use Rattle.line_runs.specs.Runs.{replayed}
 use Rattle.replay_driver.specs.Storm.{storm_data}
 use Rattle.omid_top.specs.Audit.{IsVerdict, Reported, ReportedFront, IsFairTo}
-use Rattle.omid_top.specs.Promise.{KeepsPromise, GainsFront, GainsLines, history_of}
+use Rattle.omid_top.specs.Promise.{KeepsPromise, GainsFront, GainsLines, history_of, WritesRun, IsCutRun}
 use Rattle.omid_top.specs.Texts.{usage_text, bad_line_text, replay_text}
 
 -- A script was read and carried out in file order, and this text of its history was written; or the bytes are no script, and
@@ -28,6 +28,15 @@ pub record Replays (text : List Item → List ℕ) (code : ℕ) (left rest held 
 pub record ReplaysJson (code : ℕ) (left rest held now : Option (List ℕ)) : Type 0 where
   pub replays : Replays json_printed code left rest held now
   pub lines : code ≡ 6 → IfSome left (λ bytes. GainsLines held now (history_of (script_of bytes Replay)))
+
+-- A script was read and carried out on threads, and the history of such a run was written; or the bytes are no script, and the first
+-- bad line was named; or a front of either text went out; or nothing did.
+pub record Runs (code : ℕ) (left rest held now : Option (List ℕ)) : Type 0 where
+  pub read : code ≡ 0 → IsAtEnd rest
+  pub ran : code ≡ 0 → IfSome left (λ bytes. IsOkAnd (script_of bytes Run) (λ script. WritesRun script (Gains held now)))
+  pub bad_line : code ≡ 3 → IfSome left (λ bytes. IsErrAnd (script_of bytes Run) (λ bad. Gains held now (bad_line_text bad)))
+  pub cut : code ≡ 5 → IfSome left (λ bytes. IsCutRun (script_of bytes Run) held now)
+  pub codes : (code ≡ 0) ⊎ ((3 ≤ code) × (code ≤ 6))
 
 -- A history was read and judged, and a report that is right about its bytes was written; or a front of one went out; or nothing
 -- did. Where the bytes are items, the status is fair to them.

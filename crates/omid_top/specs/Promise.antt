@@ -10,6 +10,10 @@ use Rattle.session_script.specs.Script.{BadLine}
 use Rattle.line_runs.specs.Runs.{replayed}
 use Rattle.line_runs.specs.Answers.{Answers}
 use Rattle.line_runs.specs.Planned.{Planned}
+use Rattle.run_turns.specs.declared.turn.Turn.{Turn}
+use Rattle.run_driver.specs.Runs.{RunsTo}
+use Rattle.history_text.specs.Text.{printed}
+use Rattle.omid_top.specs.Texts.{bad_line_text}
 
 -- The history of the script, carried out in file order, is snapshot isolated, shows the cause of every refusal, answers every
 -- line, and has the faults, times and readings that the script plans.
@@ -31,3 +35,16 @@ GainsLines old new history = (n : ℕ) × Gains old new (json_printed (take n hi
 abbrev pub history_of : Result ScriptData BadLine → List Item
 history_of (Ok script) = replayed script
 history_of (Err bad) = []
+
+-- ---- on threads
+-- the text of a history was written that some turns of the script make, which are lawful and whole; with the same promise
+pub record WritesRun (script : ScriptData) (writes : List ℕ → Type 0) : Type 0 where
+  pub history : List Item
+  pub turns : List Turn
+  pub comes : RunsTo script history turns
+  pub written : writes (printed history)
+
+-- a front of such a text, or of the line that names what is bad
+abbrev pub IsCutRun : Result ScriptData BadLine → Option (List ℕ) → Option (List ℕ) → Type 0
+IsCutRun (Ok script) held now = WritesRun script (GainsFront held now)
+IsCutRun (Err bad) held now = GainsFront held now (bad_line_text bad)

@@ -24,6 +24,9 @@ IsReplaySummary words = words ≡ codes "replay" ∷ codes "summary" ∷ []
 abbrev pub IsReplayJson : List (List ℕ) → Type 0
 IsReplayJson words = words ≡ codes "replay" ∷ codes "json" ∷ []
 
+abbrev pub IsRun : List (List ℕ) → Type 0
+IsRun words = words ≡ codes "run" ∷ []
+
 abbrev pub IsAudit : List (List ℕ) → Type 0
 IsAudit words = words ≡ codes "audit" ∷ []
 
@@ -37,12 +40,13 @@ IsAnyStorm words = (transactions : ℕ) × IsStorm transactions words
 
 -- the words name a command that is built
 abbrev pub IsKnown : List (List ℕ) → Type 0
-IsKnown words = IsReplay words ⊎ IsReplaySummary words ⊎ IsReplayJson words ⊎ IsAudit words ⊎ IsAnyStorm words
+IsKnown words = IsReplay words ⊎ IsReplaySummary words ⊎ IsReplayJson words ⊎ IsRun words ⊎ IsAudit words ⊎ IsAnyStorm words
 
 abbrev pub Names : Command → List (List ℕ) → Type 0
 Names command.Replay words = IsReplay words
 Names command.ReplaySummary words = IsReplaySummary words
 Names command.ReplayJson words = IsReplayJson words
+Names command.Run words = IsRun words
 Names command.Audit words = IsAudit words
 Names (command.Storm transactions) words = IsStorm transactions words
 

@@ -5,27 +5,30 @@ ghost use Rattle.std.specs.Prelude.{◌≡◌, ◌≢◌, ℕ, ◌≤◌, ◌⊎
 ghost use Rattle.port_io.specs.Ports.{Risen};
 ghost use Rattle.history_text.specs.Summary.{summarized};
 ghost use Rattle.history_text.specs.Text.{printed};
-ghost use Rattle.omid_top.specs.Commands.{Replays, ReplaysJson, Audits, Storms, SaysUsage};
-ghost use Rattle.omid_top.specs.Texts.{IsReplay, IsReplaySummary, IsReplayJson, IsAudit, IsStorm, IsAnyStorm, IsKnown};
+ghost use Rattle.omid_top.specs.Commands.{Replays, ReplaysJson, Runs, Audits, Storms, SaysUsage};
+ghost use Rattle.omid_top.specs.Texts.{IsReplay, IsReplaySummary, IsReplayJson, IsRun, IsAudit, IsStorm, IsAnyStorm, IsKnown};
 
 pub use session_script as script;
 
 mod audit;
+mod bad_line;
 mod form;
-mod gate;
 mod print;
 mod process;
+mod progress;
 mod replay;
 mod report;
+mod run;
 mod status;
 mod usage;
 mod words;
 
 use form::Form;
-pub use gate::{Gate, GatePlace, OpenGate, ShownGate};
 use port_io::{Sink, Source};
 pub use process::{program, words_behind};
-pub use replay_driver::Progress;
+pub use progress::ShownProgress;
+pub use replay_driver::{Progress, Silent};
+pub use run_driver::{Gate, GatePlace, OpenGate};
 pub use status::Status;
 use std::alloc::Global;
 use std::sync::Wait;
@@ -36,7 +39,8 @@ use words::Command;
 ///
 /// `replay` reads a script from the source, carries it out in file order, and writes the history to the sink, one
 /// line an item; `replay json` writes each item as an object of JSON on a line of its own, and `replay summary` the
-/// summary of the history in its place. `storm N` writes the summary for a script of its own, of N transactions, and
+/// summary of the history in its place. `run` carries the script out on threads, which pass the gate before each step of a
+/// stage, and writes the history that came of it. `storm N` writes the summary for a script of its own, of N transactions, and
 /// reads nothing. `audit` reads a history from the source, as text or as JSON, and writes whether it is snapshot
 /// isolated.
 ///
@@ -51,13 +55,14 @@ use words::Command;
 /// The words are text. A caller that has a word which is none hands in an empty one in its place, as `words_behind` does:
 /// no command has either.
 #[tactic(auto, using(crate::proofs::WordLemmas::one_command, crate::proofs::WordLemmas::one_storm))]
-pub fn omid<R: Threads + Wait + Sync, S: Source, K: Sink, G: Gate>(
+pub fn omid<R: Threads + Wait + Sync, S: Source, K: Sink, G: Gate, P: Progress>(
     rt: &R,
     alloc: Global,
     words: &[String],
     source: &mut S,
     sink: &mut K,
     gate: &G,
+    progress: &P,
 ) -> Status
     // What is done for the words, status by status.
     ensures replay { IsReplay (map string_bytes words.now) →
@@ -66,6 +71,8 @@ pub fn omid<R: Threads + Wait + Sync, S: Source, K: Sink, G: Gate>(
         Replays summarized result.code (S.left source.old) (S.left source.new) (K.held sink.old) (K.held sink.new) }
     ensures json { IsReplayJson (map string_bytes words.now) →
         ReplaysJson result.code (S.left source.old) (S.left source.new) (K.held sink.old) (K.held sink.new) }
+    ensures run { IsRun (map string_bytes words.now) →
+        Runs result.code (S.left source.old) (S.left source.new) (K.held sink.old) (K.held sink.new) }
     ensures audit { IsAudit (map string_bytes words.now) →
         Audits result.code (S.left source.old) (S.left source.new) (K.held sink.old) (K.held sink.new) }
     ensures storm { (transactions : ℕ) → IsStorm transactions (map string_bytes words.now) →
@@ -85,19 +92,31 @@ pub fn omid<R: Threads + Wait + Sync, S: Source, K: Sink, G: Gate>(
     ensures sink_worked { result.code ≢ 5 → K.faults sink.new ≡ K.faults sink.old }
     ensures no_memory { result.code ≡ 6 → (sink.new ≡ sink.old) ⊎ IsReplayJson (map string_bytes words.now) }
 {
-    let _ = rt;
     match words::command_of(words) {
-        Some(Command::Replay) => replay::replay_source(alloc, Form::History, source, sink, gate),
+        Some(Command::Replay) => replay::replay_source(
+            alloc,
+            Form::History,
+            source,
+            sink,
+            progress,
+        ),
         Some(Command::ReplaySummary) => replay::replay_source(
             alloc,
             Form::Summary,
             source,
             sink,
-            gate,
+            progress,
         ),
-        Some(Command::ReplayJson) => replay::replay_source(alloc, Form::Json, source, sink, gate),
+        Some(Command::ReplayJson) => replay::replay_source(
+            alloc,
+            Form::Json,
+            source,
+            sink,
+            progress,
+        ),
+        Some(Command::Run) => run::run_source(rt, alloc, source, sink, gate),
         Some(Command::Audit) => audit::audit_source(alloc, source, sink),
-        Some(Command::Storm(transactions)) => replay::storm(alloc, transactions, sink, gate),
+        Some(Command::Storm(transactions)) => replay::storm(alloc, transactions, sink, progress),
         None => usage::say_usage(sink),
     }
 }

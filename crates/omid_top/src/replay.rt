@@ -10,6 +10,7 @@ ghost use Rattle.omid_top.specs.Commands.{Replays, Storms};
 ghost use Rattle.omid_top.specs.Promise.{KeepsPromise, GainsFront, GainsLines, history_of};
 ghost use Rattle.omid_top.specs.Texts.{bad_line_text, replay_text, text_in};
 
+use crate::bad_line::named;
 use crate::form::Form;
 use crate::print::PrintStop;
 use crate::script::{Mode, Script, ScriptCause, ScriptFault, read_script};
@@ -67,20 +68,6 @@ fn replay_bytes<K: Sink, P: Progress>(
         Ok(script) => replay_script(alloc, form, &script, sink, progress),
         Err(ScriptFault::At { line, cause }) => named(sink, line, cause),
         Err(ScriptFault::NoMemory) => Status::NO_MEMORY,
-    }
-}
-
-/// Names the first bad line of a script and its cause.
-fn named<K: Sink>(sink: &mut K, number: u64, cause: ScriptCause) -> Status
-    ensures told { result.code ≡ 3 → Gains (K.held sink.old) (K.held sink.new) (bad_line_text (record { line = number; cause = cause })) }
-    ensures cut { result.code ≡ 5 → GainsFront (K.held sink.old) (K.held sink.new) (bad_line_text (record { line = number; cause = cause })) }
-    ensures sink_failed { result.code ≡ 5 → Risen (K.faults sink.old) (K.faults sink.new) }
-    ensures sink_worked { result.code ≢ 5 → K.faults sink.new ≡ K.faults sink.old }
-    ensures codes { (result.code ≡ 3) ⊎ (result.code ≡ 5) }
-{
-    match print::print_bad_line(sink, number, cause) {
-        Ok(()) => Status::BAD_INPUT,
-        Err(_) => Status::SINK_FAILED,
     }
 }
 

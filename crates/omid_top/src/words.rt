@@ -15,6 +15,8 @@ pub enum Command {
     ReplaySummary,
     /// Carry out a script in file order, and write its history as JSON.
     ReplayJson,
+    /// Carry out a script on threads, and write its history.
+    Run,
     /// Judge a history.
     Audit,
     /// Carry out the storm of so many transactions, and write the summary of its history.
@@ -27,6 +29,7 @@ pub fn command_of(words: &[String]) -> Option<Command>
 {
     match words {
         [word] if is_word(word.as_str(), "replay") => Some(Command::Replay),
+        [word] if is_word(word.as_str(), "run") => Some(Command::Run),
         [word] if is_word(word.as_str(), "audit") => Some(Command::Audit),
         [word, form] if is_word(word.as_str(), "replay") && is_word(form.as_str(), "summary") => {
             Some(Command::ReplaySummary)

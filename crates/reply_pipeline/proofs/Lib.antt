@@ -6,3 +6,4 @@ mod ReplyLemmas
 pub mod OpeningLemmas
 pub mod TicketLemmas
 pub mod SeatLemmas
+mod ByHandLemmas

@@ -1,8 +1,7 @@
 -- For those who hand out passes: a pass of a stage as the opening gives it is one with which the stage may begin.
-use Rattle.std.proofs.Common.{◌≡◌, ℕ, ◌+◌, ◌<◌, ◌≤◌, ◌⊎◌, ⊎_elim, length, replicate, get_or, set, refl, ap, ◌∙◌, sym, subst, get_or-set_same, get_or-set_other, arith}
+use Rattle.std.proofs.Common.{◌≡◌, ℕ, ◌<◌, ◌≤◌, ⊎_elim, length, replicate, get_or, refl, ap, ◌∙◌, get_or-set_same, get_or-set_other, arith}
 use Rattle.std.proofs.lemmas.List.{length-replicate, get_or-replicate, get_or_past}
 use Rattle.std.proofs.lemmas.Option.{slice_get_cases}
-use Rattle.queue_passes.specs.Holds.{whole}
 use Rattle.stage_queues.specs.declared.node_pass.NodePass.{NodePass}
 use Rattle.stage_queues.specs.Plan.{Plan, NodeRings}
 use Rattle.stage_queues.specs.NodePasses.{nothing}

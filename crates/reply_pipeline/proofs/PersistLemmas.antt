@@ -1,17 +1,16 @@
 -- A persist worker's pass after each of its calls.
-use Rattle.std.proofs.Common.{◌≡◌, ℕ, ◌+◌, ◌-◌, ◌≤◌, List, [], ◌∷◌, ◌++◌, length, sym, ap, ◌∙◌, subst, arith}
+use Rattle.std.proofs.Common.{◌≡◌, ℕ, ◌+◌, List, [], ◌∷◌, ◌++◌, sym, ap, ◌∙◌, subst, arith}
 use Rattle.std.specs.Prelude.{Option, None, Some, Result, Ok, Err, IfSome, IsSomeAnd, MatchOption, MatchResult, sum_by, flat_map, slice_get}
 use Rattle.std.proofs.lemmas.List.Sums.{sum_by-append, sum_by_push}
 use Rattle.persist_batches.specs.declared.numbered.Numbered.{Numbered}
-use Rattle.queue_passes.specs.Holds.{Ring, Holds}
+use Rattle.queue_passes.specs.Holds.{Holds}
 use Rattle.batch_rule.specs.declared.account.BatchAccount.{BatchAccount}
 use Rattle.batch_rule.specs.Accounts as batch
 use Rattle.settled_rule.specs.declared.account.SettledAccount.{SettledAccount}
 use Rattle.settled_rule.specs.Accounts as settled
-use Rattle.stage_queues.specs.Plan.{Plan, NodeRing, NodeRings, node_ring}
-use Rattle.stage_queues.specs.NodePasses.{changed, batch_taken, settled_put, IsOfRing, IsNodePassOf}
+use Rattle.stage_queues.specs.Plan.{Plan, NodeRing, node_ring}
+use Rattle.stage_queues.specs.NodePasses.{changed, batch_taken, settled_put, IsOfRing}
 use Rattle.stage_queues.specs.Passes.{StageAccount, at_node, let_go, got, ReceivesBatches, UsesSettled}
-use Rattle.reply_pipeline.specs.Reach.{ReachesNode}
 use Rattle.reply_pipeline.specs.Persisting.{SaidOf, PutsWithout, IsPersisting}
 use Rattle.reply_pipeline.proofs.ReachLemmas.{rings_here, ring_node, changed_of, now_here, still_reaches}
 

@@ -1,13 +1,13 @@
 -- A reply stage's pass after each of its calls.
-use Rattle.std.proofs.Common.{◌≡◌, ℕ, suc, ◌+◌, ◌-◌, ◌≤◌, ◌<◌, ◌==◌, nat_lt, Bool, cond, true, false, List, [], ◌∷◌, length, refl, sym, ap, ◌∙◌, subst, arith}
-use Rattle.std.specs.Prelude.{Option, None, Some, Result, Ok, Err, IfSome, IsSomeAnd, IsOk, OnOk, MatchOption, ◌↔◌, slice_get}
+use Rattle.std.proofs.Common.{◌≡◌, ℕ, ◌+◌, nat_lt, cond, true, false, List, [], ◌∷◌, length, refl, sym, ap, ◌∙◌, subst, arith}
+use Rattle.std.specs.Prelude.{Option, None, Some, IfSome, IsSomeAnd, MatchOption, slice_get}
 use Rattle.persist_batches.specs.declared.numbered.Numbered.{Numbered}
 use Rattle.persist_batches.specs.Waiting.{placed}
 use Rattle.persist_batches.specs.Order.{Order, IsWelcome}
 use Rattle.queue_passes.specs.Holds.{Ring, Holds}
 use Rattle.settled_rule.specs.declared.account.SettledAccount.{SettledAccount}
 use Rattle.settled_rule.specs.Accounts as settled
-use Rattle.stage_queues.specs.Plan.{Plan, NodeRing, NodeRings, node_ring}
+use Rattle.stage_queues.specs.Plan.{Plan, NodeRing, node_ring}
 use Rattle.stage_queues.specs.NodePasses.{changed, settled_taken, IsOfRing}
 use Rattle.stage_queues.specs.Passes.{StageAccount, at_node, got, UsesSettled}
 use Rattle.reply_pipeline.specs.Replying.{IsReplyPass, IsReplying}

@@ -1,6 +1,6 @@
 -- A request stage's pass after each of its calls.
-use Rattle.std.proofs.Common.{◌≡◌, ℕ, ◌+◌, ◌-◌, ◌≤◌, Bool, true, false, List, [], ◌∷◌, ◌++◌, map, length, refl, sym, ap, ◌∙◌, subst, append-nil, append_assoc, arith}
-use Rattle.std.specs.Prelude.{Option, None, Some, Result, Ok, Err, IfSome, IsSomeAnd, IsErr, MatchOption, MatchResult, flat_map, slice_get}
+use Rattle.std.proofs.Common.{◌≡◌, ℕ, ◌+◌, ◌-◌, ◌≤◌, true, false, List, [], ◌∷◌, ◌++◌, refl, sym, ap, ◌∙◌, subst, append-nil, append_assoc, arith}
+use Rattle.std.specs.Prelude.{Option, None, Some, Result, Ok, Err, IfSome, IsSomeAnd, IsErr, MatchOption, MatchResult, slice_get}
 use Rattle.std.proofs.lemmas.List.{map-append}
 use Rattle.std.proofs.lemmas.List.Concat.{flat_map-append, flat_map-cons}
 use Rattle.batch_pool.specs.declared.batch.Entry.{Entry}
@@ -12,13 +12,11 @@ use Rattle.batch_rule.specs.declared.account.BatchAccount.{BatchAccount}
 use Rattle.batch_rule.specs.Accounts as batch
 use Rattle.batch_rule.specs.Numbers.{next_after}
 use Rattle.batch_rule.proofs.NumberLemmas.{next_after-push}
-use Rattle.stage_queues.specs.declared.node_pass.NodePass.{NodePass}
-use Rattle.stage_queues.specs.Plan.{Plan, NodeRing, NodeRings, node_ring}
-use Rattle.stage_queues.specs.NodePasses.{changed, batch_put, TakesOneOf, TakesTicket, IsOfRing, IsNodePassOf}
+use Rattle.stage_queues.specs.Plan.{Plan, NodeRing, node_ring}
+use Rattle.stage_queues.specs.NodePasses.{changed, batch_put, TakesOneOf, TakesTicket, IsOfRing}
 use Rattle.stage_queues.specs.Passes.{StageAccount, at_node, with_node, let_go, ReceivesTickets, SendsBatches}
-use Rattle.reply_pipeline.specs.Reach.{ReachesNode}
 use Rattle.reply_pipeline.specs.Picks.{IsPickOf}
-use Rattle.reply_pipeline.specs.Requesting.{taken_tickets, put_batches, tickets_at, batches_at, ticket_of, tickets_of, entered, IsRequestPass, IsRequesting, HasRequested, Enters, MayEnter, with_entry}
+use Rattle.reply_pipeline.specs.Requesting.{taken_tickets, put_batches, tickets_at, batches_at, ticket_of, tickets_of, entered, IsRequestPass, IsRequesting, HasRequested, Enters, MayEnter}
 use Rattle.reply_pipeline.proofs.ReachLemmas.{rings_here, ring_node, changed_of, both_said, now_here, still_reaches}
 use Rattle.reply_pipeline.proofs.PickLemmas.{pick_one, pick_not, pick_front}
 

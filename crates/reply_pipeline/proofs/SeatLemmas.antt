@@ -1,5 +1,5 @@
 -- For those who hand out passes: each pass as the opening gives it is one with which its stage may begin.
-use Rattle.std.proofs.Common.{◌≡◌, ℕ, zero, ◌+◌, ◌-◌, ◌*◌, ◌/◌, ◌%◌, ◌<◌, ◌≤◌, ◌==◌, ◌⊎◌, ⊎_elim, List, [], ◌∷◌, length, get_or, inl, inr, refl, sym, ap, ◌∙◌, subst, mod-lt, div-lt_iff_lt-mul, length-append, suc-mul, arith}
+use Rattle.std.proofs.Common.{◌≡◌, ℕ, ◌+◌, ◌-◌, ◌*◌, ◌/◌, ◌%◌, ◌<◌, ◌≤◌, ◌==◌, ⊎_elim, List, [], ◌∷◌, length, get_or, inl, inr, refl, sym, ap, ◌∙◌, subst, mod-lt, div-lt_iff_lt-mul, length-append, suc-mul, arith}
 use Rattle.std.specs.Prelude.{Some, All, slice_get, take, flat_map, if◌then◌else◌}
 use Rattle.std.proofs.lemmas.Bool.{cases_Bool, eqb-true, eqb-false}
 use Rattle.std.proofs.lemmas.Nat.{div-add-mod'}
@@ -12,7 +12,7 @@ use Rattle.stamp_base.specs.declared.stage.Stage.{Stage}
 use Rattle.stamp_base.specs.declared.stage.Stage.TheVariants.{Request, Persist, Reply}
 use Rattle.stage_queues.specs.Plan.{Plan, NodeRings, AreNumbered}
 use Rattle.stage_queues.specs.Passes.{StageAccount}
-use Rattle.stage_queues.specs.Opening.{request_stage_part, reply_stage_part, stage_pass, worker_pass, session_pass, session_passes, node_passes, opened_passes, IsNew}
+use Rattle.stage_queues.specs.Opening.{request_stage_part, stage_pass, session_pass, session_passes, node_passes, opened_passes, IsNew}
 use Rattle.stage_queues.proofs.PlaceLemmas.{length-node_passes, node_place, worker_place, reply_place, session_place}
 use Rattle.reply_pipeline.specs.Seats.{IsReadyFor, IsSenderPass, AreReady, stage_at}
 use Rattle.reply_pipeline.proofs.OpeningLemmas.{request_pass, persist_pass, reply_pass}

@@ -1,5 +1,5 @@
 -- A pass through which tickets are sent, before a call and after it.
-use Rattle.std.proofs.Common.{◌≡◌, ℕ, ◌+◌, ◌<◌, ◌≤◌, ◌==◌, ◌⊎◌, ⊎_elim, List, [], ◌∷◌, length, get_or, inl, inr, refl, sym, ap, ◌∙◌, subst, get_or-set_same, get_or-set_other, arith}
+use Rattle.std.proofs.Common.{◌≡◌, ℕ, ◌<◌, ◌≤◌, ◌==◌, ⊎_elim, List, [], ◌∷◌, length, get_or, inl, inr, refl, sym, ap, ◌∙◌, subst, get_or-set_same, get_or-set_other, arith}
 use Rattle.std.specs.Prelude.{Option, None, Some, Result, Ok, Err, IfSome, IsSomeAnd, MatchResult, slice_get}
 use Rattle.std.proofs.lemmas.Bool.{cases_Bool, eqb-true, eqb-false}
 use Rattle.std.proofs.lemmas.Option.{slice_get_cases, slice_get_within, same_Some, slice_get-get_or}
@@ -9,7 +9,6 @@ use Rattle.request_rule.specs.declared.account.Ticket.{Ticket}
 use Rattle.request_rule.specs.declared.account.SenderRow.{SenderRow}
 use Rattle.request_rule.specs.declared.account.RequestAccount.{RequestAccount}
 use Rattle.request_rule.specs.Accounts.{put_in, with_put}
-use Rattle.stage_queues.specs.declared.node_pass.NodePass.{NodePass}
 use Rattle.stage_queues.specs.Plan.{Plan, NodeRing, NodeRings, node_ring}
 use Rattle.stage_queues.specs.NodePasses.{nothing, changed, ticket_put, IsOfRing, MaySendTicket}
 use Rattle.stage_queues.specs.Passes.{StageAccount, pass_at, at_node, with_node, SendsTickets}

@@ -1,11 +1,10 @@
 -- What a persist worker did through its pass.
-use Rattle.std.specs.Prelude.{◌≡◌, ℕ, ◌+◌, ◌≤◌, List, [], length, Option, None, Some, sum_by}
+use Rattle.std.specs.Prelude.{◌≡◌, ℕ, ◌+◌, ◌≤◌, List, length, Option, None, Some, sum_by}
 use Rattle.persist_batches.specs.declared.numbered.Numbered.{Numbered}
 use Rattle.queue_passes.specs.Holds.{Holds}
 use Rattle.batch_rule.specs.declared.account.BatchAccount.{BatchAccount}
 use Rattle.batch_rule.specs.Accounts.{all_taken}
 use Rattle.settled_rule.specs.declared.account.SettledAccount.{SettledAccount}
-use Rattle.stage_queues.specs.declared.node_pass.NodePass.{NodePass}
 use Rattle.stage_queues.specs.Laws.{PutsWhatItTook}
 use Rattle.stage_queues.specs.Plan.{Plan}
 use Rattle.stage_queues.specs.Passes.{StageAccount, at_node}

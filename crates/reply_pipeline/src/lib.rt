@@ -17,3 +17,6 @@ pub use reply::reply_stage;
 pub use request::request_stage;
 pub use stage_steps::{StageStep, Steps};
 pub use tickets::send_ticket;
+
+#[cfg(test)]
+mod tests;

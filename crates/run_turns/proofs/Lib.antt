@@ -1,5 +1,5 @@
 mod OwnEvents
-mod SeatLists
+pub mod SeatLists
 mod StillReading
 mod OwnSessions
 mod WalksOn
@@ -11,7 +11,7 @@ mod PassLines
 mod MadeEvents
 pub mod Facts
 mod SoFar
-mod AllSeats
+pub mod AllSeats
 mod Answered
 mod PlanTicks
 mod OnPlan

@@ -6,13 +6,13 @@ use worked_texts::commits::{PLAIN_HISTORY, PLAIN_PATH};
 
 pub const USAGE: &str = "usage: omid replay [summary|json] | run | audit | storm N\n";
 
-/// Words that are no command, or none that is built yet.
+/// Words that are no command.
 const NO_COMMANDS: [&[&str]; 8] = [
     &[],
     &["replay", "now"],
     &["audit", "now"],
     &["Replay"],
-    &["run"],
+    &["run", "now"],
     &["json"],
     &["replay", "JSON"],
     &["replay", "json", "summary"],

@@ -1,5 +1,5 @@
 // One call of the program over bytes in memory.
-use omid_top::{OpenGate, omid};
+use omid_top::{OpenGate, Silent, omid};
 use port_io::{MemSink, MemSource};
 use std::alloc::{AllocError, Global};
 use std::sync::Wait;
@@ -44,7 +44,7 @@ pub fn written_for<R: Threads + Wait + Sync>(
         Ok(sink) => sink,
         Err(_) => return Err(AllocError),
     };
-    let status = omid(rt, alloc, words, &mut source, &mut sink, &OpenGate);
+    let status = omid(rt, alloc, words, &mut source, &mut sink, &OpenGate, &Silent);
     let written = sink.bytes().to_vec(alloc)?;
     Ok((written, status.code))
 }

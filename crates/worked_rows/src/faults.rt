@@ -1,6 +1,6 @@
 // Sources and sinks that fail, or move a byte at a time.
 use crate::drips::{DripSink, DripSource};
-use omid_top::{OpenGate, omid};
+use omid_top::{OpenGate, Silent, omid};
 use port_io::{MemSink, MemSource, Sink, Source};
 use std::alloc::{AllocError, Global};
 use std::sync::Wait;
@@ -26,7 +26,7 @@ const REPORT: &str = "not isolated: stamped 1 1\n";
 const LINES: usize = 20;
 
 /// The first lines of the text.
-fn first_lines(alloc: Global, text: &str, count: usize) -> Result<Vec<u8>, AllocError> {
+pub fn first_lines(alloc: Global, text: &str, count: usize) -> Result<Vec<u8>, AllocError> {
     let mut front = Vec::new(alloc);
     for line in text.lines().take(count) {
         front.extend_from_slice(line.as_bytes())?;
@@ -36,7 +36,7 @@ fn first_lines(alloc: Global, text: &str, count: usize) -> Result<Vec<u8>, Alloc
 }
 
 /// Calls the program with the words, from this source to this sink.
-fn call<R: Threads + Wait + Sync, S: Source, K: Sink>(
+pub fn call<R: Threads + Wait + Sync, S: Source, K: Sink>(
     rt: &R,
     alloc: Global,
     names: &[&str],
@@ -47,15 +47,15 @@ fn call<R: Threads + Wait + Sync, S: Source, K: Sink>(
     for name in names {
         words.push(name.to_string(alloc)?)?;
     }
-    Ok(omid(rt, alloc, &words, source, sink, &OpenGate).code)
+    Ok(omid(rt, alloc, &words, source, sink, &OpenGate, &Silent).code)
 }
 
-fn open_source(alloc: Global, text: &str, failing: &[u64]) -> Result<MemSource, AllocError> {
+pub fn open_source(alloc: Global, text: &str, failing: &[u64]) -> Result<MemSource, AllocError> {
     let bytes = text.as_bytes().to_vec(alloc)?;
     Ok(MemSource::new(bytes, failing.to_vec(alloc)?))
 }
 
-fn open_sink(alloc: Global, room: usize, failing: &[u64]) -> Result<MemSink, AllocError> {
+pub fn open_sink(alloc: Global, room: usize, failing: &[u64]) -> Result<MemSink, AllocError> {
     match MemSink::open(alloc, room, failing.to_vec(alloc)?) {
         Ok(sink) => Ok(sink),
         Err(_) => Err(AllocError),

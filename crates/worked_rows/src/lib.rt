@@ -22,4 +22,6 @@ mod rows;
 #[cfg(test)]
 mod storms;
 #[cfg(test)]
+mod threads;
+#[cfg(test)]
 mod words;

@@ -1,5 +1,5 @@
 // Progress: whoever is told how far a script is carried out hears of each line once.
-use omid_top::{Gate, GatePlace, Progress, omid};
+use omid_top::{OpenGate, Progress, omid};
 use port_io::{MemSink, MemSource};
 use std::alloc::{AllocError, Global};
 use std::sync::Wait;
@@ -26,15 +26,15 @@ fn counts() -> &'static [(&'static [&'static str], &'static str, usize)] {
     &COUNTS
 }
 
-/// A gate that counts how often it was told something, and keeps what it was told last.
+/// Counts how often it was told something, and keeps what it was told last.
 #[derive(Drop)]
-struct CountingGate {
+struct CountingProgress {
     calls: AtomicUsize,
     lines: AtomicUsize,
     of: AtomicUsize,
 }
 
-impl Progress for CountingGate {
+impl Progress for CountingProgress {
     fn carried(&self, lines: usize, of: usize) {
         self.calls.fetch_add(1, Ordering::SeqCst);
         self.lines.store(lines, Ordering::SeqCst);
@@ -42,13 +42,9 @@ impl Progress for CountingGate {
     }
 }
 
-impl Gate for CountingGate {
-    fn pass<R: Threads + Wait + Sync>(&self, _rt: &R, _place: GatePlace) {}
-}
-
-impl CountingGate {
-    fn new() -> CountingGate {
-        CountingGate {
+impl CountingProgress {
+    fn new() -> CountingProgress {
+        CountingProgress {
             calls: AtomicUsize::new(0),
             lines: AtomicUsize::new(0),
             of: AtomicUsize::new(0),
@@ -65,7 +61,7 @@ impl CountingGate {
     }
 }
 
-/// What a gate is told while the program carries out the words.
+/// What is told while the program carries out the words.
 fn told_for<R: Threads + Wait + Sync>(
     rt: &R,
     alloc: Global,
@@ -81,9 +77,17 @@ fn told_for<R: Threads + Wait + Sync>(
         Ok(sink) => sink,
         Err(_) => return Err(AllocError),
     };
-    let gate = CountingGate::new();
-    omid(rt, alloc, &words, &mut source, &mut sink, &gate);
-    Ok(gate.told())
+    let progress = CountingProgress::new();
+    omid(
+        rt,
+        alloc,
+        &words,
+        &mut source,
+        &mut sink,
+        &OpenGate,
+        &progress,
+    );
+    Ok(progress.told())
 }
 
 #[test]

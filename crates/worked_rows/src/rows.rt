@@ -1,20 +1,24 @@
 // What a replay writes for a script, byte for byte, and that it is isolated.
 use crate::calls::{answer_of, joined};
 use std::test::Fail;
-use worked_texts::{Replay, commits, examples, many_keys, outcomes, refusals, takeovers, threads};
+use worked_texts::{
+    Replay, commits, conflicts, examples, leases, many_keys, outcomes, refusals, takeovers, threads,
+};
 
 /// How many topics the worked examples have.
-pub const TOPICS: usize = 7;
+pub const TOPICS: usize = 9;
 
 /// The worked examples of a topic.
 pub fn topic(number: usize) -> &'static [Replay] {
     match number {
         0 => commits::replays(),
-        1 => many_keys::replays(),
-        2 => takeovers::replays(),
-        3 => outcomes::replays(),
-        4 => refusals::replays(),
-        5 => examples::replays(),
+        1 => conflicts::replays(),
+        2 => many_keys::replays(),
+        3 => takeovers::replays(),
+        4 => leases::replays(),
+        5 => outcomes::replays(),
+        6 => refusals::replays(),
+        7 => examples::replays(),
         _ => threads::replays(),
     }
 }

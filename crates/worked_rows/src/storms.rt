@@ -1,7 +1,7 @@
 // Storms, and the summaries of histories.
 use crate::bad_scripts::USAGE;
 use crate::calls::answer_of;
-use omid_top::{OpenGate, omid};
+use omid_top::{OpenGate, Silent, omid};
 use port_io::{MemSink, MemSource};
 use std::alloc::AllocError;
 use std::test::Fail;
@@ -135,7 +135,15 @@ fn a_storm_reads_nothing(rt: HostRuntime) -> Result<(), Fail> {
             Ok(sink) => sink,
             Err(_) => return Err(AllocError.into()),
         };
-        let ended = omid(&rt, rt.alloc(), &words, &mut source, &mut sink, &OpenGate);
+        let ended = omid(
+            &rt,
+            rt.alloc(),
+            &words,
+            &mut source,
+            &mut sink,
+            &OpenGate,
+            &Silent,
+        );
         assert_eq!(rt; ended.code, status);
     }
     Ok(())

@@ -1,5 +1,10 @@
 // A script that meets each store in each way, so that a fault can be planned for each of its calls: eleven on the cells, six
-// on the table, two on the master record.
+// on the table, two on the master record. What it writes is here without a fault and under three of them.
+use crate::Replay;
+use crate::answers::{
+    B_TAKES_OVER, BEGUN, S0_DRAWS_2, S0_IS_INVALID, S0_PLACES_2, S1_BEGINS_AT_B, S1_COMMITS_AT_B,
+    S1_FETCHES, S1_MARKS,
+};
 
 pub const HOSTILE: &str = "\
 a take
@@ -20,153 +25,129 @@ s2 read k1
 janitor sweep b 1
 ";
 
-/// All runs begin with these, but for those in which one of them faults.
-pub const HOSTILE_BEGINS: &str = "\
-take a reading=0 term=1 epoch=0 until=10 ceiling=100
-ask-begin s0 a
-accept s0 a term=1 reading=0
-draw s0 a term=1 start=1
-begin s0 start=1
+const WRITES_HISTORY: &str = "\
 write s0 start=1 k0 v
 write s0 start=1 k1 w
-ask-commit s0 a start=1
-accept s0 a term=1 reading=0
-draw s0 a term=1 start=1 commit=2
-tick 12
 ";
 
-pub const NO_FAULT_HISTORY: &str = "\
-take b reading=12 term=2 epoch=100 until=22 ceiling=200
-ask-begin s1 b
-accept s1 b term=2 reading=12
-draw s1 b term=2 start=101
-begin s1 start=101
-step s1 fetch k0 cells=1
-step s1 get 1 absent
-mark s1 start=1
-step s1 look k0 1 none
-read s1 start=101 k0 none
-write s1 start=101 k0 x
-ask-commit s1 b start=101
-accept s1 b term=2 reading=12
-draw s1 b term=2 start=101 commit=102
-placed start=101 commit=102
-committed s1 start=101 commit=102
-step s1 shadow k0 101 102
-step s1 remove 101
-step a put 1 invalid
-refused s0 invalid start=1
-step s0 erase k0 1
-step s0 erase k1 1
+/// `s2 begin b` and the fetch of its first read.
+const THIRD_BEGIN_HISTORY: &str = "\
 ask-begin s2 b
 accept s2 b term=2 reading=12
 draw s2 b term=2 start=103
 begin s2 start=103
 step s2 fetch k0 cells=1
+";
+
+/// What is read of the two keys, and what is left to sweep.
+const READS_HISTORY: &str = "\
 read s2 start=103 k0 from=101 x
 step s2 fetch k1 cells=0
 read s2 start=103 k1 none
 step janitor get 1 invalid
 step janitor keys 1 count=0
 ";
+
+const NO_FAULT_HISTORY: &[&str] = &[
+    BEGUN,
+    WRITES_HISTORY,
+    S0_DRAWS_2,
+    B_TAKES_OVER,
+    S1_BEGINS_AT_B,
+    S1_MARKS,
+    "write s1 start=101 k0 x\n",
+    S1_COMMITS_AT_B,
+    S0_IS_INVALID,
+    "step s0 erase k1 1\n",
+    THIRD_BEGIN_HISTORY,
+    READS_HISTORY,
+];
 
 /// The reader's mark was placed, and the read has no answer.
-pub const MARK_FAULTS: &str = "\
-fault table 2 applied
-";
-
-pub const MARK_FAULTS_HISTORY: &str = "\
-take b reading=12 term=2 epoch=100 until=22 ceiling=200
-ask-begin s1 b
-accept s1 b term=2 reading=12
-draw s1 b term=2 start=101
-begin s1 start=101
-step s1 fetch k0 cells=1
-step s1 get 1 absent
-mark s1 start=1
-fault s1 table
-write s1 start=101 k0 x
-ask-commit s1 b start=101
-accept s1 b term=2 reading=12
-draw s1 b term=2 start=101 commit=102
-placed start=101 commit=102
-committed s1 start=101 commit=102
-step s1 shadow k0 101 102
-step s1 remove 101
-step a put 1 invalid
-refused s0 invalid start=1
-step s0 erase k0 1
-step s0 erase k1 1
-ask-begin s2 b
-accept s2 b term=2 reading=12
-draw s2 b term=2 start=103
-begin s2 start=103
-step s2 fetch k0 cells=1
-read s2 start=103 k0 from=101 x
-step s2 fetch k1 cells=0
-read s2 start=103 k1 none
-step janitor get 1 invalid
-step janitor keys 1 count=0
-";
+const MARK_FAULTS_HISTORY: &[&str] = &[
+    BEGUN,
+    WRITES_HISTORY,
+    S0_DRAWS_2,
+    B_TAKES_OVER,
+    S1_BEGINS_AT_B,
+    S1_FETCHES,
+    "mark s1 start=1\n",
+    "fault s1 table\n",
+    "write s1 start=101 k0 x\n",
+    S1_COMMITS_AT_B,
+    S0_IS_INVALID,
+    "step s0 erase k1 1\n",
+    THIRD_BEGIN_HISTORY,
+    READS_HISTORY,
+];
 
 /// The second commit was placed, and its session does not know.
-pub const PUT_FAULTS: &str = "\
-fault table 3 applied
-";
-
-pub const PUT_FAULTS_HISTORY: &str = "\
-take b reading=12 term=2 epoch=100 until=22 ceiling=200
-ask-begin s1 b
-accept s1 b term=2 reading=12
-draw s1 b term=2 start=101
-begin s1 start=101
-step s1 fetch k0 cells=1
-step s1 get 1 absent
-mark s1 start=1
-step s1 look k0 1 none
-read s1 start=101 k0 none
-write s1 start=101 k0 x
-ask-commit s1 b start=101
-accept s1 b term=2 reading=12
-draw s1 b term=2 start=101 commit=102
-placed start=101 commit=102
-fault b table
-refused s1 open start=101
-step a put 1 invalid
-refused s0 invalid start=1
-step s0 erase k0 1
-step s0 erase k1 1
-ask-begin s2 b
-accept s2 b term=2 reading=12
-draw s2 b term=2 start=103
-begin s2 start=103
-step s2 fetch k0 cells=1
-step s2 get 101 committed=102
-read s2 start=103 k0 from=101 x
-step s2 fetch k1 cells=0
-read s2 start=103 k1 none
-step janitor get 1 invalid
-step janitor keys 1 count=0
-";
+const PUT_FAULTS_HISTORY: &[&str] = &[
+    BEGUN,
+    WRITES_HISTORY,
+    S0_DRAWS_2,
+    B_TAKES_OVER,
+    S1_BEGINS_AT_B,
+    S1_MARKS,
+    "write s1 start=101 k0 x\n",
+    "ask-commit s1 b start=101\n",
+    "accept s1 b term=2 reading=12\n",
+    "draw s1 b term=2 start=101 commit=102\n",
+    "placed start=101 commit=102\n",
+    "fault b table\n",
+    "refused s1 open start=101\n",
+    S0_IS_INVALID,
+    "step s0 erase k1 1\n",
+    THIRD_BEGIN_HISTORY,
+    "step s2 get 101 committed=102\n",
+    READS_HISTORY,
+];
 
 /// The takeover fails, and all that asks the second node is refused.
-pub const TAKE_FAULTS: &str = "\
-fault master 2 unchanged
-";
+const TAKE_FAULTS_HISTORY: &[&str] = &[
+    BEGUN,
+    WRITES_HISTORY,
+    S0_DRAWS_2,
+    "tick 12\n",
+    "fault b master\n",
+    "refused s1 no-oracle node=b\n",
+    "refused s1 no-transaction\n",
+    "refused s1 no-transaction\n",
+    "refused s1 no-transaction\n",
+    S0_PLACES_2,
+    "step s0 shadow k0 1 2\n",
+    "step s0 shadow k1 1 2\n",
+    "step s0 remove 1\n",
+    "refused s2 no-oracle node=b\n",
+    "refused s2 no-transaction\n",
+    "refused s2 no-transaction\n",
+    "refused janitor no-oracle node=b\n",
+];
 
-pub const TAKE_FAULTS_HISTORY: &str = "\
-fault b master
-refused s1 no-oracle node=b
-refused s1 no-transaction
-refused s1 no-transaction
-refused s1 no-transaction
-placed start=1 commit=2
-committed s0 start=1 commit=2
-step s0 shadow k0 1 2
-step s0 shadow k1 1 2
-step s0 remove 1
-refused s2 no-oracle node=b
-refused s2 no-transaction
-refused s2 no-transaction
-refused janitor no-oracle node=b
-";
+static REPLAYS: [Replay; 4] = [
+    Replay {
+        name: "hostile",
+        script: &[HOSTILE],
+        history: NO_FAULT_HISTORY,
+    },
+    Replay {
+        name: "hostile, a fault of the mark",
+        script: &["fault table 2 applied\n", HOSTILE],
+        history: MARK_FAULTS_HISTORY,
+    },
+    Replay {
+        name: "hostile, a fault of the put",
+        script: &["fault table 3 applied\n", HOSTILE],
+        history: PUT_FAULTS_HISTORY,
+    },
+    Replay {
+        name: "hostile, a fault of the takeover",
+        script: &["fault master 2 unchanged\n", HOSTILE],
+        history: TAKE_FAULTS_HISTORY,
+    },
+];
+
+/// Behind a function, a proof that goes over the rows does not look into their texts.
+pub fn replays() -> &'static [Replay] {
+    &REPLAYS
+}

@@ -1,5 +1,6 @@
 // A transaction that reads what it wrote, writes 64 keys and then one more, and commits.
 use crate::Replay;
+use crate::answers::{BEGUN, S0_DRAWS_2, S0_PLACES_2};
 
 const OWN_WRITES: &str = "\
 a take
@@ -76,12 +77,7 @@ s0 write k5 w
 s0 commit a
 ";
 
-const OWN_WRITES_HISTORY: &str = "\
-take a reading=0 term=1 epoch=0 until=10 ceiling=100
-ask-begin s0 a
-accept s0 a term=1 reading=0
-draw s0 a term=1 start=1
-begin s0 start=1
+const WRITES_HISTORY: &str = "\
 write s0 start=1 k0 p
 step s0 fetch k0 cells=1
 read s0 start=1 k0 from=1 p
@@ -153,11 +149,10 @@ write s0 start=1 k62 v
 write s0 start=1 k63 v
 refused s0 too-many-keys
 write s0 start=1 k5 w
-ask-commit s0 a start=1
-accept s0 a term=1 reading=0
-draw s0 a term=1 start=1 commit=2
-placed start=1 commit=2
-committed s0 start=1 commit=2
+";
+
+/// Once for each key.
+const COMPLETION_HISTORY: &str = "\
 step s0 shadow k0 1 2
 step s0 shadow k1 1 2
 step s0 shadow k2 1 2
@@ -225,10 +220,18 @@ step s0 shadow k63 1 2
 step s0 remove 1
 ";
 
+const OWN_WRITES_HISTORY: &[&str] = &[
+    BEGUN,
+    WRITES_HISTORY,
+    S0_DRAWS_2,
+    S0_PLACES_2,
+    COMPLETION_HISTORY,
+];
+
 static REPLAYS: [Replay; 1] = [Replay {
     name: "own_writes",
     script: &[OWN_WRITES],
-    history: &[OWN_WRITES_HISTORY],
+    history: OWN_WRITES_HISTORY,
 }];
 
 /// Behind a function, a proof that goes over the rows does not look into their texts.

@@ -1,5 +1,6 @@
 // Calls that come before what they need, and what they are told.
 use crate::Replay;
+use crate::answers::{BEGUN, DRAWN, S0_BEGINS, S0_COMPLETES_2, S1_BEGINS_2};
 
 /// One slot, which one session has.
 const ORDER: &str = "\
@@ -40,19 +41,58 @@ s0 begin a
 s0 begin a
 ";
 
-const NOTHING_OPEN_HISTORY: &str = "\
-refused s0 no-transaction
-refused s0 no-transaction
-refused s0 no-transaction
-refused s0 no-transaction
-refused s0 no-oracle node=a
+const NOTHING_OPEN_HISTORY: &[&str] = &[
+    "refused s0 no-transaction\n",
+    "refused s0 no-transaction\n",
+    "refused s0 no-transaction\n",
+    "refused s0 no-transaction\n",
+    "refused s0 no-oracle node=a\n",
+    "take a reading=0 term=1 epoch=0 until=10 ceiling=100\n",
+    "refused a holding term=1\n",
+    S0_BEGINS,
+    "refused s0 busy\n",
+];
+
+/// A session that collects, finishes, heals and steps where it has nothing of the kind, and one that is gone.
+const NOTHING_UNDER_WAY: &str = "\
+a take
+s0 collect
+s0 finish
+s0 ask-begin a
+s0 finish
+s0 step
+s0 collect
+s0 collect
+s0 heal
+s0 write k0 v
+s0 abort
+s0 vanish
+s0 collect
+s0 finish
+s0 heal
+s0 vanish
+";
+
+const NOTHING_UNDER_WAY_HISTORY: &str = "\
 take a reading=0 term=1 epoch=0 until=10 ceiling=100
-refused a holding term=1
+refused s0 idle
+refused s0 idle
 ask-begin s0 a
+refused s0 idle
+refused s0 idle
 accept s0 a term=1 reading=0
 draw s0 a term=1 start=1
 begin s0 start=1
-refused s0 busy
+refused s0 idle
+refused s0 idle
+write s0 start=1 k0 v
+end s0 start=1 aborted
+step s0 erase k0 1
+vanish s0
+refused s0 gone
+refused s0 gone
+refused s0 gone
+refused s0 gone
 ";
 
 /// The oracle crashes before it has answered a begin.
@@ -101,47 +141,59 @@ step janitor get 6 absent
 refused janitor undecided start=6 epoch=0
 ";
 
-/// A session that collects, finishes, heals and steps where it has nothing of the kind, and one that is gone.
-const NOTHING_UNDER_WAY: &str = "\
+/// A read that goes on by steps keeps its session busy.
+const READ_BY_STEPS: &str = "\
 a take
-s0 collect
-s0 finish
-s0 ask-begin a
-s0 finish
-s0 step
-s0 collect
-s0 collect
-s0 heal
+s0 begin a
 s0 write k0 v
-s0 abort
-s0 vanish
-s0 collect
-s0 finish
-s0 heal
-s0 vanish
+s1 begin a
+s1 fetch k0
+s1 read k0
+s1 commit a
+s1 collect
+s1 step
+s1 finish
+s1 finish
 ";
 
-const NOTHING_UNDER_WAY_HISTORY: &str = "\
-take a reading=0 term=1 epoch=0 until=10 ceiling=100
-refused s0 idle
-refused s0 idle
-ask-begin s0 a
-refused s0 idle
-refused s0 idle
-accept s0 a term=1 reading=0
-draw s0 a term=1 start=1
-begin s0 start=1
-refused s0 idle
-refused s0 idle
-write s0 start=1 k0 v
-end s0 start=1 aborted
-step s0 erase k0 1
-vanish s0
-refused s0 gone
-refused s0 gone
-refused s0 gone
-refused s0 gone
+const READ_BY_STEPS_HISTORY: &[&str] = &[
+    BEGUN,
+    "write s0 start=1 k0 v\n",
+    S1_BEGINS_2,
+    "step s1 fetch k0 cells=1\n",
+    "refused s1 busy\n",
+    "refused s1 busy\n",
+    "step s1 get 1 absent\n",
+    "step s1 look k0 1 none\n",
+    "read s1 start=2 k0 none\n",
+    "refused s1 idle\n",
+];
+
+/// A commit is placed once, and its completion keeps its session busy.
+const COMMIT_BY_STEPS: &str = "\
+a take
+s0 begin a
+s0 write k0 v
+s0 submit a
+s0 finish
+a put s0
+a put s0
+a answer s0
+s0 write k1 w
+s0 collect
+s0 finish
 ";
+
+const COMMIT_BY_STEPS_HISTORY: &[&str] = &[
+    BEGUN,
+    DRAWN,
+    "refused s0 idle\n",
+    "placed start=1 commit=2\n",
+    "refused a no-request session=s0\n",
+    "committed s0 start=1 commit=2\n",
+    "refused s0 busy\n",
+    S0_COMPLETES_2,
+];
 
 /// Names and stages are noted, and nothing waits for them.
 const NOTES: &str = "\
@@ -170,75 +222,6 @@ note b free persist
 note a free request
 ";
 
-/// A read that goes on by steps keeps its session busy.
-const READ_BY_STEPS: &str = "\
-a take
-s0 begin a
-s0 write k0 v
-s1 begin a
-s1 fetch k0
-s1 read k0
-s1 commit a
-s1 collect
-s1 step
-s1 finish
-s1 finish
-";
-
-const READ_BY_STEPS_HISTORY: &str = "\
-take a reading=0 term=1 epoch=0 until=10 ceiling=100
-ask-begin s0 a
-accept s0 a term=1 reading=0
-draw s0 a term=1 start=1
-begin s0 start=1
-write s0 start=1 k0 v
-ask-begin s1 a
-accept s1 a term=1 reading=0
-draw s1 a term=1 start=2
-begin s1 start=2
-step s1 fetch k0 cells=1
-refused s1 busy
-refused s1 busy
-step s1 get 1 absent
-step s1 look k0 1 none
-read s1 start=2 k0 none
-refused s1 idle
-";
-
-/// A commit is placed once, and its completion keeps its session busy.
-const COMMIT_BY_STEPS: &str = "\
-a take
-s0 begin a
-s0 write k0 v
-s0 submit a
-s0 finish
-a put s0
-a put s0
-a answer s0
-s0 write k1 w
-s0 collect
-s0 finish
-";
-
-const COMMIT_BY_STEPS_HISTORY: &str = "\
-take a reading=0 term=1 epoch=0 until=10 ceiling=100
-ask-begin s0 a
-accept s0 a term=1 reading=0
-draw s0 a term=1 start=1
-begin s0 start=1
-write s0 start=1 k0 v
-ask-commit s0 a start=1
-accept s0 a term=1 reading=0
-draw s0 a term=1 start=1 commit=2
-refused s0 idle
-placed start=1 commit=2
-refused a no-request session=s0
-committed s0 start=1 commit=2
-refused s0 busy
-step s0 shadow k0 1 2
-step s0 remove 1
-";
-
 static REPLAYS: [Replay; 8] = [
     Replay {
         name: "refusals_of_order",
@@ -248,7 +231,7 @@ static REPLAYS: [Replay; 8] = [
     Replay {
         name: "nothing open",
         script: &[NOTHING_OPEN],
-        history: &[NOTHING_OPEN_HISTORY],
+        history: NOTHING_OPEN_HISTORY,
     },
     Replay {
         name: "nothing under way",
@@ -268,12 +251,12 @@ static REPLAYS: [Replay; 8] = [
     Replay {
         name: "read by steps",
         script: &[READ_BY_STEPS],
-        history: &[READ_BY_STEPS_HISTORY],
+        history: READ_BY_STEPS_HISTORY,
     },
     Replay {
         name: "commit by steps",
         script: &[COMMIT_BY_STEPS],
-        history: &[COMMIT_BY_STEPS_HISTORY],
+        history: COMMIT_BY_STEPS_HISTORY,
     },
     Replay {
         name: "notes",

@@ -1,10 +1,8 @@
-use Rattle.std.proofs.Common.{Some, ap, ◌∙◌}
-use Rattle.std.proofs.lemmas.Str.{IsUtf8-string_bytes}
-use Rattle.history_json.proofs.ObjectLemmas.{flat}
+use Rattle.std.proofs.Common.{IsUtf8, subst, sym, ◌∙◌}
+use Rattle.history_json.proofs.ObjectLemmas.{printed_again}
 use Rattle.history_json.proofs.line.to_line.Goals as goal
 
 pub returns-clause-read_again : goal.returns-clause-read_again
-returns-clause-read_again c = record {
-  utf8 = IsUtf8-string_bytes c.in_ok-to_string.field-0;
-  value = c.in_ok-to_string.ensures.reads_back (rw c.in_ok-object_of.ensures (flat c.args.item.now)) ∙ ap Some c.in_ok-object_of.ensures;
-}
+returns-clause-read_again c =
+    let same = c.in_ok-from_str.ensures.ok ∙ c.text_of.ensures ∙ c.deref.ensures.value in
+    printed_again c.args.item.now _ (same ∙ c.in_ok-line.ensures.text) (subst IsUtf8 (sym same) c.in_ok-line.ensures.utf8) c.in_ok-line.ensures.leaves

@@ -36,11 +36,11 @@ returns-in-Err-TooLong-clause-replay g c = record {
   read = named_is_not_done _ c.named.ensures.codes;
   replayed = named_is_not_done _ c.named.ensures.codes;
   bad_line = λ three.
-      of_too_long _ (λ bytes. IsErrAnd (script_of bytes Replay) (λ bad. Gains (g.K.Sink.held c.args.sink.now) (g.K.Sink.held c.named.new.sink) (bad_line_text bad)))
+      of_too_long Replay _ (λ bytes. IsErrAnd (script_of bytes Replay) (λ bad. Gains (g.K.Sink.held c.args.sink.now) (g.K.Sink.held c.named.new.sink) (bad_line_text bad)))
       (λ bytes is. rw is (c.named.ensures.told three))
       (c.in-Err-TooLong.ensures.too_long (ap Err c.in-Err-TooLong.field-0-is));
   cut = λ five.
-      of_too_long _ (λ bytes. GainsFront (g.K.Sink.held c.args.sink.now) (g.K.Sink.held c.named.new.sink) (replay_text (text_in c.args.form) (script_of bytes Replay)))
+      of_too_long Replay _ (λ bytes. GainsFront (g.K.Sink.held c.args.sink.now) (g.K.Sink.held c.named.new.sink) (replay_text (text_in c.args.form) (script_of bytes Replay)))
       (λ bytes is. rw is (c.named.ensures.cut five))
       (c.in-Err-TooLong.ensures.too_long (ap Err c.in-Err-TooLong.field-0-is));
   codes = named_codes _ c.named.ensures.codes;

@@ -1,0 +1,8 @@
+-- What a step does to the share of its actor.
+use Rattle.std.specs.Prelude.{◌≡◌, ◌≤◌}
+use Rattle.line_shares.specs.Done.{Done}
+
+-- the share's count never falls, and its actor stays
+pub record GoesOn (mine now : Done) : Type 0 where
+  pub actor : now.actor ≡ mine.actor
+  pub amount : mine.amount ≤ now.amount

@@ -1,6 +1,0 @@
-use Rattle.std.proofs.lemmas.List.{take_rest}
-use Rattle.history_json.proofs.Utf8Lemmas.{step_utf8}
-use Rattle.history_json.proofs.texts.step_words.Goals as goal
-
-pub text_of-requires : goal.text_of-requires
-text_of-requires c = rw (take_rest c.as_slice.result.now 11, c.as_slice.ensures.value, c.print_body.ensures.text) (step_utf8 _ c.print_body.ensures.fits.1)

@@ -1,0 +1,7 @@
+use super::*;
+
+mod beside;
+mod crew;
+mod fake;
+mod one_thread;
+mod refused;

@@ -1,0 +1,111 @@
+// Stages by turn on one thread, over queues that are closed, so that each ends by itself.
+ghost use Rattle.std.specs.Prelude.{◌<◌, ◌^◌};
+ghost use Rattle.reply_pipeline.specs.Seats.{AreReady};
+
+use super::crew::*;
+use super::fake::{Fake, Made};
+use super::*;
+use stage_queues::{Queues, StagePass};
+use stamp_base::{NodeNo, SessionNo, Stage};
+use std::alloc::Global;
+use std::sync::Wait;
+use std::sync::atomic::{AtomicU64, Ordering};
+use std::test::Fail;
+
+// Every stage of every node, one after the other. Tells how many ended as closed and hold nothing.
+fn serve_by_turn<R: Wait>(
+    rt: &R,
+    alloc: Global,
+    board: &Fake,
+    queues: &Queues,
+    stages: &mut [StagePass],
+) -> u64
+    requires ready { AreReady queues.now 2 stages.old }
+    requires buffers { queues.now.buffers < 2 ^ 32 }
+{
+    let ended = AtomicU64::new(0);
+    for (place, pass) in stages.iter_mut().enumerate() {
+        let stage = stage_of(place % CREW);
+        if let Some(node) = NodeNo::new((place / CREW) as u64) {
+            serve(
+                rt, alloc, node, stage, board, queues, pass, &OpenGate, &ended,
+            );
+        }
+    }
+    ended.load(Ordering::SeqCst)
+}
+
+// The stages of a ticket's steps at the first node.
+fn are_steps(made: &[Made], stages: &[Stage]) -> bool {
+    made.len() == stages.len()
+        && made.iter().zip(stages).all(|(step, stage)| step.node == NodeNo::FIRST
+            && step.stage == *stage)
+}
+
+#[test]
+fn closed_stages_end(rt: HostRuntime) -> Result<(), Fail> {
+    let board = Fake::open(rt.alloc(), None)?;
+    let Crew {
+        queues,
+        mut stages,
+        mut session,
+    } = opened(rt.alloc())?;
+    queues.close();
+    let ended = serve_by_turn(&rt, rt.alloc(), &board, &queues, &mut stages);
+    assert_eq!(rt; (ended, board.count(&rt)), (8, 0));
+    assert_eq!(rt; at_home(&rt, NodeNo::FIRST, &queues, &mut session), BUFFERS);
+    Ok(())
+}
+
+#[test]
+fn a_stale_ticket_is_passed_over(rt: HostRuntime) -> Result<(), Fail> {
+    let board = Fake::open(rt.alloc(), None)?;
+    let Crew {
+        queues,
+        mut stages,
+        mut session,
+    } = opened(rt.alloc())?;
+    for _ in 0..2 {
+        let sent = send_ticket(
+            &rt,
+            NodeNo::FIRST,
+            &queues,
+            &mut session,
+            ticket_of(SessionNo::LAST),
+        );
+        assert!(rt; sent.is_ok());
+    }
+    queues.close();
+    let ended = serve_by_turn(&rt, rt.alloc(), &board, &queues, &mut stages);
+    assert_eq!(rt; ended, 8);
+    let steps = [Stage::Request, Stage::Request, Stage::Persist, Stage::Reply];
+    assert!(rt; are_steps(&board.into_made(), &steps));
+    assert_eq!(rt; at_home(&rt, NodeNo::FIRST, &queues, &mut session), BUFFERS);
+    Ok(())
+}
+
+// The worker that takes the batch is held, so the reply stage gets nothing.
+#[test]
+fn a_held_batch_is_given_back(rt: HostRuntime) -> Result<(), Fail> {
+    let board = Fake::open(rt.alloc(), Some((Stage::Persist, StageStep::Held)))?;
+    let Crew {
+        queues,
+        mut stages,
+        mut session,
+    } = opened(rt.alloc())?;
+    let sent = send_ticket(
+        &rt,
+        NodeNo::FIRST,
+        &queues,
+        &mut session,
+        ticket_of(SessionNo::FIRST),
+    );
+    assert!(rt; sent.is_ok());
+    queues.close();
+    let ended = serve_by_turn(&rt, rt.alloc(), &board, &queues, &mut stages);
+    assert_eq!(rt; ended, 8);
+    let steps = [Stage::Request, Stage::Request];
+    assert!(rt; are_steps(&board.into_made(), &steps));
+    assert_eq!(rt; at_home(&rt, NodeNo::FIRST, &queues, &mut session), BUFFERS);
+    Ok(())
+}

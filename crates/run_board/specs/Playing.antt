@@ -1,0 +1,59 @@
+-- A play as its contracts see it, and what the calls make of it.
+use Rattle.std.specs.Prelude.{◌≡◌, ℕ, ◌+◌, ◌≤◌, List, length}
+use Rattle.stamp_base.specs.declared.stage.Stage.{Stage}
+use Rattle.stamp_base.specs.declared.limits.TheConstants.{LINE_LIMIT}
+use Rattle.history_book.specs.declared.item.Item.{Item}
+use Rattle.script_data.specs.Data.{ScriptData, IsSound}
+use Rattle.line_runs.specs.Laws.{AreLinesOf}
+use Rattle.run_turns.specs.declared.turn.Turn.{Turn}
+use Rattle.run_turns.specs.Carried.{carried_items, AreWhole}
+use Rattle.run_turns.specs.Lawful.{AreLawful}
+use Rattle.script_run.specs.declared.answers.Advance.{Advance}
+use Rattle.script_run.specs.declared.answers.Advance.TheVariants as advance
+use Rattle.stage_steps.specs.declared.step.StageStep.{StageStep}
+use Rattle.script_run.specs.Run.{Ran}
+use Rattle.script_run.specs.Steps as steps
+use Rattle.line_shares.specs.declared.cursor.Cursor.{Cursor}
+use Rattle.line_shares.specs.Done.{Done, all_done, caught_up}
+use Rattle.script_actors.specs.Actors.{AreBehind, CoverLines, AreAtTheirEnds}
+
+-- what lies under the lock: the script with the turns that were made, and how many lines of each actor are done
+pub record Played : Type 0 where
+  pub ran : Ran
+  pub cursors : List Cursor
+
+-- the script is one that was read, no cursor is ahead of its actor's seat, and each line's actor has a cursor
+pub record IsKept (ran : Ran) (cursors : List Cursor) : Type 0 where
+  pub sound : IsSound ran.script
+  pub few : length ran.script.lines ≤ LINE_LIMIT
+  pub sessions : AreLinesOf ran.script.setup ran.script.lines
+  pub behind : AreBehind (steps.place_of ran) cursors
+  pub covered : CoverLines ran.script.lines cursors
+
+-- ---- an actor's step
+-- the cursor of the share's actor comes up to the actor's seat, and the share counts as much more
+pub record Counts (old new : Played) (mine now : Done) : Type 0 where
+  pub actor : now.actor ≡ mine.actor
+  pub cursors : new.cursors ≡ caught_up mine.actor (steps.place_of new.ran mine.actor) old.cursors
+  pub counted : now.amount + all_done old.cursors ≡ mine.amount + all_done new.cursors
+
+abbrev pub Advances : Played → Done → Advance → Played → Done → Type 0
+Advances old mine advance.NoMemory new now = (new ≡ old) × (now ≡ mine)
+Advances old mine answer new now = steps.Advances old.ran mine.actor answer new.ran × Counts old new mine now
+
+-- ---- a stage's step
+abbrev pub Serves : Played → ℕ → ℕ → Stage → ℕ → StageStep → Played → Type 0
+Serves old node term stage session answer new = steps.Serves old.ran node term stage session answer new.ran × (new.cursors ≡ old.cursors)
+
+-- ---- the end
+-- every share is there, every cursor is at its end, and the script is this one
+pub record IsOver (script : ScriptData) (p : Played) (shares : List Done) : Type 0 where
+  pub same_script : p.ran.script ≡ script
+  pub all_shares : length shares ≡ length p.cursors
+  pub ends : AreAtTheirEnds p.ran.script p.cursors
+
+-- the turns are lawful and whole, and this is the history that they make of the script
+pub record IsResult (script : ScriptData) (history : List Item) (turns : List Turn) : Type 0 where
+  pub history_is : history ≡ carried_items script turns
+  pub lawful : AreLawful script turns
+  pub whole : AreWhole script turns

@@ -1,0 +1,125 @@
+ghost use Rattle.std.specs.Prelude.{◌≡◌, ◌≤◌, IfOk, IfErr, map, vec_len};
+ghost use Rattle.stamp_base.specs.declared.limits.TheConstants.{LINE_LIMIT};
+ghost use Rattle.history_book.specs.Isolation.{Isolated};
+ghost use Rattle.cause_rules.specs.Explained.{Explained};
+ghost use Rattle.session_script.specs.Script.{data_of};
+ghost use Rattle.line_runs.specs.Answers.{Answers};
+ghost use Rattle.line_runs.specs.Planned.{Planned};
+ghost use Rattle.run_turns.specs.Told.{AreForThreads};
+ghost use Rattle.line_shares.specs.Done.{parts_for, fresh};
+ghost use Rattle.script_actors.specs.Actors.{actors_of};
+ghost use Rattle.actor_steps.specs.Going.{GoesOn};
+ghost use Rattle.run_board.specs.Playing.{IsResult};
+
+use crate::play::Play;
+use actor_steps::{ActorStep, ActorSteps};
+use cluster_core::Cluster;
+use line_shares::{ActorShare, Cursors};
+use script_actors::actors_with_lines;
+use script_copies::copied;
+use script_run::{Advance, StageStep, Turn};
+use session_script::Script;
+use stage_steps::Steps;
+use stamp_base::{NoMemory, NodeNo, SessionNo, Stage, Term};
+use std::alloc::Global;
+use std::sync::ledger::{Blank, Ledger};
+use std::sync::{Mutex, Wait};
+
+/// A play behind a lock, and its script once more.
+#[derive(Drop)]
+pub struct Board<L: Ledger> {
+    play: Mutex<Play<L>>,
+    script: Script,
+}
+
+impl<L: Ledger> Board<L> {
+    /// A board, and one share for each actor with lines, in the order clock, janitor, nodes, sessions. The blank has as many parts
+    /// as that, or one where no actor has a line.
+    pub fn open(
+        alloc: Global,
+        script: Script,
+        blank: Blank,
+    ) -> Result<(Board<L>, Vec<ActorShare<L>>), NoMemory>
+        requires name { blank.name ≡ L.name }
+        requires of_blank { blank.parts ≡ L.parts }
+        requires parts { L.parts ≡ parts_for (actors_of (data_of script)) }
+        requires few { vec_len script.lines ≤ LINE_LIMIT }
+        requires for_threads { AreForThreads script.lines.items }
+        ensures script { IfOk result (λ r. data_of r.0.script ≡ data_of script) }
+        ensures shares { IfOk result (λ r. r.1.items ≡ map fresh (actors_of (data_of script))) }
+    {
+        let actors = actors_with_lines(alloc, &script)?;
+        let copy = copied(alloc, &script)?;
+        let (cursors, shares) = Cursors::open(alloc, actors.as_slice(), blank)?;
+        let play = Play::open(alloc, copy, cursors)?;
+        let board = Board {
+            play: Mutex::new(play),
+            script,
+        };
+        Ok((board, shares))
+    }
+
+    /// The script that is carried out.
+    pub fn script(&self) -> &Script
+        ensures { data_of result.now ≡ data_of self.now.script }
+    {
+        &self.script
+    }
+
+    /// Makes the next event of the present line of the share's actor, as `Play::advance` does.
+    pub fn advance<R: Wait>(&self, rt: &R, mine: &mut ActorShare<L>) -> Advance
+        ensures { GoesOn mine.old mine.new }
+    {
+        self.play.lock(rt).advance(mine)
+    }
+
+    /// The cluster and the turns that led there, as `Play::finish` gives them. At Err all is handed back.
+    pub fn finish(
+        self,
+        shares: Vec<ActorShare<L>>,
+    ) -> Result<(Cluster, Vec<Turn>), (Board<L>, Vec<ActorShare<L>>)>
+        ensures result { IfOk result (λ r. IsResult (data_of self.script) r.0.history r.1.items) }
+        ensures isolated { IfOk result (λ r. Isolated r.0.history × Explained (data_of self.script).setup r.0.history) }
+        ensures answered { IfOk result (λ r. Answers (data_of self.script) r.0.history) }
+        ensures planned { IfOk result (λ r. Planned (data_of self.script) r.0.history) }
+        ensures back { IfErr result (λ r. (data_of r.0.script ≡ data_of self.script) × (r.1.items ≡ shares.items)) }
+    {
+        let Board { play, script } = self;
+        match play.into_inner().finish(&script, shares) {
+            Ok(made) => Ok(made),
+            Err((play, shares)) => {
+                let board = Board {
+                    play: Mutex::new(play),
+                    script,
+                };
+                Err((board, shares))
+            }
+        }
+    }
+}
+
+impl<L: Ledger> ActorSteps<L> for Board<L> {
+    /// Makes the next event of the present line of the share's actor, and leaves out why a line waits.
+    fn actor_step<R: Wait>(&self, rt: &R, mine: &mut ActorShare<L>) -> ActorStep {
+        match self.advance(rt, mine) {
+            Advance::Did { asked } => ActorStep::Did { asked },
+            Advance::Waits(_) => ActorStep::Waits,
+            Advance::Ended => ActorStep::Ended,
+            Advance::NoMemory => ActorStep::NoMemory,
+        }
+    }
+}
+
+impl<L: Ledger> Steps for Board<L> {
+    /// Makes one event of the node's stage for the session's request, as `Play::stage_step` does.
+    fn stage_step<R: Wait>(
+        &self,
+        rt: &R,
+        node: NodeNo,
+        term: Term,
+        stage: Stage,
+        session: SessionNo,
+    ) -> StageStep {
+        self.play.lock(rt).stage_step(node, term, stage, session)
+    }
+}

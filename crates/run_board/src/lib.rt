@@ -1,0 +1,14 @@
+//! The lock round a script run: threads carry the script out, one event at a time, and by the shares of the actors it is known in
+//! the end that every line was made.
+#![tactic(auto)]
+
+mod board;
+mod play;
+mod sessions;
+
+pub use board::Board;
+pub use cluster_core::Cluster;
+pub use line_shares::ActorShare;
+pub use play::Play;
+pub use script_actors::parts_of;
+pub use script_run::{Advance, StageStep, Turn, Why};

@@ -1,0 +1,157 @@
+ghost use Rattle.std.specs.Prelude.{◌≡◌, [], ◌≤◌, ◌↔◌, IsOk, IfOk, IfErr, IsTrue, sum_by, vec_len, length, map};
+ghost use Rattle.stamp_base.specs.declared.limits.TheConstants.{LINE_LIMIT};
+ghost use Rattle.history_book.specs.Isolation.{Isolated};
+ghost use Rattle.cause_rules.specs.Explained.{Explained};
+ghost use Rattle.session_script.specs.Script.{data_of};
+ghost use Rattle.line_runs.specs.Answers.{Answers};
+ghost use Rattle.line_runs.specs.Planned.{Planned};
+ghost use Rattle.run_turns.specs.Told.{AreForThreads};
+ghost use Rattle.run_turns.specs.Carried.{carried_items};
+ghost use Rattle.line_shares.specs.Done.{all_done, first_cursor};
+ghost use Rattle.script_actors.specs.Actors.{actors_of, AreAtTheirEnds};
+ghost use Rattle.actor_steps.specs.Going.{GoesOn};
+ghost use Rattle.run_board.specs.Playing.{Advances, Serves, IsOver, IsResult};
+
+use crate::sessions::see_sessions;
+use cluster_core::Cluster;
+use history_book::Item;
+use line_shares::{ActorShare, Cursors};
+use run_turns::{turns_answer, turns_are_planned};
+use script_actors::are_at_their_ends;
+use script_copies::is_same;
+use script_run::{
+    Advance, ScriptRun, StageStep, Turn, advances_go_further, ended_runs_are_whole,
+    stage_steps_go_further,
+};
+use session_script::Script;
+use stamp_base::{NoMemory, NodeNo, SessionNo, Stage, Term};
+use std::alloc::Global;
+use std::marker::Model;
+use std::sync::ledger::Ledger;
+
+/// What lies under the lock: the script, the turns that were made of it and what stands after them, and how many lines of each
+/// actor are done.
+#[derive(Drop)]
+pub struct Play<L: Ledger> {
+    run: ScriptRun,
+    cursors: Cursors<L>,
+}
+
+impl<L: Ledger> Model for Play<L> {
+    ghost use Rattle.run_board.specs.Playing.{Played, IsKept};
+
+    ghost Value = { Played };
+
+    ghost view = { λ p. record { ran = p.run; cursors = p.cursors } };
+
+    ghost invariant = { λ p. IsKept p.run p.cursors };
+}
+
+impl<L: Ledger> Play<L> {
+    /// No turn was made, and no line is done.
+    pub(crate) fn open(
+        alloc: Global,
+        script: Script,
+        cursors: Cursors<L>,
+    ) -> Result<Play<L>, NoMemory>
+        requires few { vec_len script.lines ≤ LINE_LIMIT }
+        requires for_threads { AreForThreads script.lines.items }
+        requires cursors { cursors ≡ map first_cursor (actors_of (data_of script)) }
+        ensures script { IfOk result (λ p. p.ran.script ≡ data_of script) }
+        ensures turns { IfOk result (λ p. p.ran.turns ≡ []) }
+        ensures cursors { IfOk result (λ p. p.cursors ≡ cursors) }
+    {
+        see_sessions(script.lines.as_slice());
+        let run = ScriptRun::open(alloc, script)?;
+        Ok(Play { run, cursors })
+    }
+
+    /// The history that the turns have made. It is isolated, and each of its refusals is shown by what stands before it.
+    pub fn history(&self) -> &[Item]
+        ensures value { result.now ≡ carried_items self.now.ran.script self.now.ran.turns }
+        ensures isolated { Isolated result.now }
+        ensures explained { Explained self.now.ran.script.setup result.now }
+    {
+        self.run.history()
+    }
+
+    /// Makes the next event of the present line of the share's actor, unless it waits or no line is left. The share counts the
+    /// lines that were passed since.
+    pub fn advance(&mut self, mine: &mut ActorShare<L>) -> Advance
+        ensures made { Advances self.old mine.old result self.new mine.new }
+        ensures goes_on { GoesOn mine.old mine.new }
+    {
+        advances_go_further();
+        let actor = mine.actor();
+        match self.run.advance(actor) {
+            Advance::NoMemory => Advance::NoMemory,
+            answer => {
+                let place = self.run.place(&actor) as u64;
+                self.cursors.catch_up(mine, place);
+                answer
+            }
+        }
+    }
+
+    /// Makes one event of the node's stage for the session's request, unless the stage is held, or the request is not there.
+    pub fn stage_step(
+        &mut self,
+        node: NodeNo,
+        term: Term,
+        stage: Stage,
+        session: SessionNo,
+    ) -> StageStep
+        ensures { Serves self.old node term stage session result self.new }
+    {
+        stage_steps_go_further();
+        self.run.stage_step(node, term, stage, session)
+    }
+
+    /// The cluster and the turns that led there. Err exactly where a share is missing, a cursor is not at its end, or the script
+    /// is another; all is handed back then.
+    pub fn finish(
+        self,
+        script: &Script,
+        shares: Vec<ActorShare<L>>,
+    ) -> Result<(Cluster, Vec<Turn>), (Play<L>, Vec<ActorShare<L>>)>
+        ensures over { IsOk result ↔ IsOver (data_of script.now) self shares.items }
+        ensures result { IfOk result (λ r. IsResult (data_of script.now) r.0.history r.1.items) }
+        ensures isolated { IfOk result (λ r. Isolated r.0.history × Explained (data_of script.now).setup r.0.history) }
+        ensures answered { IfOk result (λ r. Answers (data_of script.now) r.0.history) }
+        ensures planned { IfOk result (λ r. Planned (data_of script.now) r.0.history) }
+        ensures counted { IfOk result (λ r. sum_by (λ s. s.amount) shares.items ≡ all_done self.cursors) }
+        ensures back { IfErr result (λ r. (r.0 ≡ self) × (r.1.items ≡ shares.items)) }
+    {
+        if !self.is_over(script, shares.as_slice()) {
+            return Err((self, shares));
+        }
+        Ok(self.close(shares))
+    }
+
+    fn is_over(&self, script: &Script, shares: &[ActorShare<L>]) -> bool
+        ensures { IsTrue result ↔ IsOver (data_of script.now) self.now shares.now }
+    {
+        let cursors = self.cursors.as_slice();
+        shares.len() == cursors.len()
+            && is_same(self.run.script(), script)
+            && are_at_their_ends(script, cursors)
+    }
+
+    fn close(self, shares: Vec<ActorShare<L>>) -> (Cluster, Vec<Turn>)
+        requires shares { vec_len shares ≡ length self.cursors }
+        requires ends { AreAtTheirEnds self.ran.script self.cursors }
+        ensures result { IsResult self.ran.script result.0.history result.1.items }
+        ensures isolated { Isolated result.0.history × Explained self.ran.script.setup result.0.history }
+        ensures answered { Answers self.ran.script result.0.history }
+        ensures planned { Planned self.ran.script result.0.history }
+        ensures counted { sum_by (λ s. s.amount) shares.items ≡ all_done self.cursors }
+    {
+        ended_runs_are_whole();
+        turns_answer();
+        turns_are_planned();
+        let Play { run, cursors } = self;
+        cursors.audit(shares);
+        let _history = run.history();
+        run.into_parts()
+    }
+}

@@ -1,0 +1,10 @@
+//! A script carried out on threads: one for each actor with lines, and at each node one for each stage of its pipeline.
+#![tactic(auto)]
+
+mod driver;
+mod rest;
+
+pub use cluster_core::Cluster;
+pub use driver::run;
+pub use reply_pipeline::{Gate, GatePlace, OpenGate};
+pub use run_turns::Turn;

@@ -1,0 +1,19 @@
+//! The threads that carry a script out: one for each actor with lines, and at each node one for each stage of its pipeline. They
+//! make their steps at a board, which says what each step does. `docs/PIPELINE.md` says what they promise.
+#![tactic(auto)]
+
+mod actors;
+mod before;
+mod crew;
+mod lines;
+mod playing;
+mod sending;
+mod sent;
+mod shared;
+mod stages;
+mod waking;
+
+pub use playing::play;
+
+#[cfg(test)]
+mod tests;

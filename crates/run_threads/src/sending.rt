@@ -1,0 +1,108 @@
+// The threads of actors: each gets the share of its actor, and gives it back when it ends.
+ghost use Rattle.std.specs.Prelude.{◌≡◌, ◌≤◌, All, length, vec_len};
+ghost use Rattle.std.specs.List.{AllZip};
+ghost use Rattle.std.specs.Vec.{vec_capacity};
+ghost use Rattle.reply_pipeline.specs.Seats.{IsSenderPass};
+ghost use Rattle.actor_steps.specs.Going.{GoesOn};
+
+use crate::actors::act;
+use crate::before::Before;
+use crate::sent::Sent;
+use crate::shared::Shared;
+use actor_steps::ActorSteps;
+use line_shares::ActorShare;
+use reply_pipeline::Gate;
+use stage_queues::StagePass;
+use stage_steps::Steps;
+use std::sync::Wait;
+use std::sync::ledger::Ledger;
+use std::thread::{Scope, Threads};
+
+/// Starts the thread of each actor.
+pub fn send_all<
+    's,
+    E: 's,
+    L: Ledger + Send + Sync + 's,
+    R: Threads + Wait + Sync + 's,
+    B: Steps + ActorSteps<L> + Sync + 's,
+    G: Gate + 's,
+>(
+    scope: &Scope<'s, E>,
+    rt: &'s R,
+    shared: &'s Shared<'s, B, G>,
+    shares: Vec<ActorShare<L>>,
+    senders: Vec<StagePass>,
+    sent: Vec<Sent<L>>,
+) -> Vec<Sent<L>>
+    requires senders { All (IsSenderPass shared.now.queues.now) senders.items }
+    requires paired { vec_len senders ≡ vec_len shares }
+    requires nodes { length shared.now.queues.now.nodes ≡ shared.now.setup.nodes }
+    requires none { vec_len sent ≡ 0 }
+    requires room { vec_len shares ≤ vec_capacity sent }
+    ensures { result.items ≡ shares.items }
+{
+    let mut senders = senders;
+    let mut sent = sent;
+    for mine in shares {
+        // There is a pass for each share.
+        if let Some(pass) = senders.pop() {
+            sent.push_reserved(send(scope, rt, shared, mine, pass));
+        }
+    }
+    sent
+}
+
+// Where no thread can be made the queues are closed, so that nobody waits for this actor for ever, and it goes on here as far as it
+// can without waiting.
+fn send<
+    's,
+    E: 's,
+    L: Ledger + Send + Sync + 's,
+    R: Threads + Wait + Sync + 's,
+    B: Steps + ActorSteps<L> + Sync + 's,
+    G: Gate + 's,
+>(
+    scope: &Scope<'s, E>,
+    rt: &'s R,
+    shared: &'s Shared<'s, B, G>,
+    mine: ActorShare<L>,
+    pass: StagePass,
+) -> Sent<L>
+    requires pass { IsSenderPass shared.now.queues.now pass }
+    requires nodes { length shared.now.queues.now.nodes ≡ shared.now.setup.nodes }
+    ensures { result ≡ mine }
+{
+    let before = Before::of(&mine);
+    let started = scope.spawn_with(
+        Before::of(&mine),
+        move || -> ActorShare<L>
+            requires { IsSenderPass shared.now.queues.now pass × (length shared.now.queues.now.nodes ≡ shared.now.setup.nodes) }
+            ensures { GoesOn mine result }
+        { act(rt, shared, mine, pass) },
+    );
+    match started {
+        Ok(handle) => Sent::there(before, handle),
+        Err(refused) => {
+            shared.queues.close();
+            Sent::here(before, (refused.value)())
+        }
+    }
+}
+
+/// Waits for all of them, and puts the shares in their order.
+#[tactic(auto, using(std::proofs::lemmas::Slice::Zip::all_zipped_more))]
+pub fn join_all<L: Ledger, R: Threads>(
+    rt: &R,
+    sent: Vec<Sent<L>>,
+    back: Vec<ActorShare<L>>,
+) -> Vec<ActorShare<L>>
+    requires none { vec_len back ≡ 0 }
+    requires room { vec_len sent ≤ vec_capacity back }
+    ensures { AllZip GoesOn sent.items result.items }
+{
+    let mut back = back;
+    for one in sent {
+        back.push_reserved(one.join(rt));
+    }
+    back
+}

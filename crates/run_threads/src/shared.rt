@@ -1,0 +1,26 @@
+use reply_pipeline::Gate;
+use script_data::Line;
+use stage_queues::Queues;
+use stage_steps::Steps;
+use stamp_base::Setup;
+use std::sync::atomic::{AtomicBool, Ordering};
+
+/// What all threads share.
+#[derive(Drop)]
+pub struct Shared<'a, B: Steps + Sync, G: Gate> {
+    pub setup: Setup,
+    pub lines: &'a [Line],
+    pub board: &'a B,
+    pub queues: &'a Queues,
+    pub gate: &'a G,
+    /// Whether memory was refused.
+    pub short: AtomicBool,
+}
+
+impl<B: Steps + Sync, G: Gate> Shared<'_, B, G> {
+    /// Memory was refused, so every thread ends.
+    pub fn give_up(&self) {
+        self.short.store(true, Ordering::SeqCst);
+        self.queues.close();
+    }
+}

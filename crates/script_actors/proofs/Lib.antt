@@ -1,0 +1,6 @@
+pub mod Places
+pub mod Covered
+pub mod Behind
+pub mod AllEnded
+mod Adding
+mod ListEnd

@@ -1,0 +1,19 @@
+pub mod Turned
+pub mod Silent
+pub mod Steady
+pub mod Quiet
+pub mod TurnMade
+pub mod Places
+pub mod Sitting
+pub mod Stopping
+mod Found
+mod Ended
+mod Servable
+mod Since
+mod Telling
+mod Further
+mod Opening
+mod Called
+mod Here
+mod Lacking
+mod AllEnded

@@ -1,0 +1,5 @@
+pub mod Seating
+pub mod Run
+pub mod Making
+pub mod Steps
+pub mod Further

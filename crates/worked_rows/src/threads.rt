@@ -1,0 +1,219 @@
+// Scripts carried out on threads: those with one order are carried out in that of the file, and whatever comes of the others is
+// isolated.
+use crate::calls::{answer_of, joined};
+use crate::faults::{call, first_lines, open_sink, open_source};
+use omid_top::{Gate, GatePlace, Silent, omid};
+use port_io::{MemSink, MemSource};
+use stamp_base::{NodeNo, Stage};
+use std::sync::Wait;
+use std::sync::atomic::{AtomicBool, Ordering};
+use std::test::Fail;
+use std::thread;
+use worked_texts::commits::PLAIN_PATH;
+use worked_texts::threads;
+
+const RUN: &[&str] = &["run"];
+
+#[test]
+fn scripts_with_one_order_are_run_in_it(rt: HostRuntime) -> Result<(), Fail> {
+    for replay in threads::replays() {
+        let name = replay.name;
+        let script = joined(rt.alloc(), replay.script)?;
+        let history = joined(rt.alloc(), replay.history)?;
+        let (written, status) = answer_of(&rt, rt.alloc(), RUN, &script)?;
+        assert_eq!(rt; status, 0, "{name}");
+        assert!(rt; written == history, "{name}");
+    }
+    Ok(())
+}
+
+/// Scripts that threads carry out in many orders.
+static FREE: [&str; 4] = [
+    PLAIN_PATH,
+    "\
+a take
+s0 begin a
+s0 write k0 v0
+s0 commit a
+s1 begin a
+s1 read k0
+s1 write k0 v1
+s1 commit a
+s2 begin a
+s2 write k0 v2
+s2 read k0
+s2 commit a
+",
+    "\
+workers 2
+batch 1
+a take
+s0 begin a
+s0 write k0 v
+s0 commit a
+clock tick 12
+b take
+s1 begin b
+s1 read k0
+s1 commit b
+a crash
+",
+    "\
+fault table 1 applied
+fault cells 3 unchanged
+a take
+s0 begin a
+s0 write k0 v
+s0 write k1 w
+s0 commit a
+s0 finish
+s1 begin a
+s1 read k0
+s1 read k1
+",
+];
+
+/// Behind a function, a proof that goes over the scripts does not look into their texts.
+fn free() -> &'static [&'static str] {
+    &FREE
+}
+
+#[test]
+fn whatever_threads_make_is_isolated(rt: HostRuntime) -> Result<(), Fail> {
+    for script in free() {
+        let (history, status) = answer_of(&rt, rt.alloc(), RUN, script.as_bytes())?;
+        assert_eq!(rt; status, 0, "{script}");
+        let (_, status) = answer_of(&rt, rt.alloc(), &["audit"], &history)?;
+        assert_eq!(rt; status, 0, "{script}");
+    }
+    Ok(())
+}
+
+const REPLAY_ONLY: &str = "script line 2: replay only\n";
+
+#[test]
+fn what_only_a_replay_can_do_is_no_line(rt: HostRuntime) -> Result<(), Fail> {
+    let (written, status) = answer_of(&rt, rt.alloc(), RUN, b"a take\ns0 ask-begin a\n")?;
+    assert_eq!(rt; status, 3);
+    assert_eq!(rt; written.as_slice(), REPLAY_ONLY.as_bytes());
+    Ok(())
+}
+
+/// A clock that ticks, so that there is no order to choose.
+const TICKS: &str = "clock tick 12\nclock tick 13\n";
+
+const TICKED: &str = "tick 12\ntick 13\n";
+
+#[test]
+fn sources_and_sinks_that_fail_end_a_run(rt: HostRuntime) -> Result<(), Fail> {
+    let mut source = open_source(rt.alloc(), TICKS, &[1])?;
+    let mut sink = open_sink(rt.alloc(), 64, &[])?;
+    assert_eq!(rt; call(&rt, rt.alloc(), RUN, &mut source, &mut sink)?, 4);
+    assert_eq!(rt; sink.bytes().len(), 0);
+    for sent in 0..2 {
+        let mut source = open_source(rt.alloc(), TICKS, &[])?;
+        let mut sink = open_sink(rt.alloc(), 64, &[sent as u64 + 1])?;
+        assert_eq!(rt; call(&rt, rt.alloc(), RUN, &mut source, &mut sink)?, 5);
+        let lines = first_lines(rt.alloc(), TICKED, sent)?;
+        assert_eq!(rt; sink.bytes(), lines.as_slice());
+    }
+    Ok(())
+}
+
+/// The most turns that a stage waits at the gate for the other.
+const TURNS: usize = 10_000_000;
+
+/// A gate at which the persist stage of one node and the reply stage of another meet: each passes once the other has come.
+#[derive(Drop)]
+struct MeetingGate {
+    persist: AtomicBool,
+    reply: AtomicBool,
+    // Whether each has seen the other.
+    persist_met: AtomicBool,
+    reply_met: AtomicBool,
+}
+
+impl MeetingGate {
+    fn new() -> MeetingGate {
+        MeetingGate {
+            persist: AtomicBool::new(false),
+            reply: AtomicBool::new(false),
+            persist_met: AtomicBool::new(false),
+            reply_met: AtomicBool::new(false),
+        }
+    }
+
+    fn have_met(&self) -> bool {
+        self.persist_met.load(Ordering::SeqCst) && self.reply_met.load(Ordering::SeqCst)
+    }
+}
+
+/// Comes to the gate, and waits for the other.
+fn meet(mine: &AtomicBool, other: &AtomicBool, met: &AtomicBool) {
+    mine.store(true, Ordering::SeqCst);
+    for _ in 0..TURNS {
+        if other.load(Ordering::SeqCst) {
+            met.store(true, Ordering::SeqCst);
+            return;
+        }
+        thread::yield_now();
+    }
+}
+
+impl Gate for MeetingGate {
+    fn pass<R: Wait>(&self, _rt: &R, place: GatePlace) {
+        if place.node == NodeNo::FIRST && place.stage == Stage::Persist {
+            meet(&self.persist, &self.reply, &self.persist_met);
+        } else if place.node != NodeNo::FIRST && place.stage == Stage::Reply {
+            meet(&self.reply, &self.persist, &self.reply_met);
+        }
+    }
+}
+
+/// A commit at one node, and a begin at another that takes over beside it.
+const MEETING: &str = "\
+a take
+a post p1
+s0 await p1
+s0 begin a
+s0 write k0 v
+s0 post p2
+a await p2
+a post p3
+s0 await p3
+s0 submit a
+s0 post p4
+s0 collect
+clock await p4
+clock tick 12
+clock post p5
+b await p5
+b take
+b post p6
+s1 await p6
+s1 begin b
+s1 read k0
+";
+
+/// No single thread passes this gate: a stage of each node is at work at the same time.
+#[test]
+fn two_stages_meet(rt: HostRuntime) -> Result<(), Fail> {
+    let words = vec![in rt.alloc(); "run".to_string(rt.alloc())?]?;
+    let mut source = MemSource::new(MEETING.as_bytes().to_vec(rt.alloc())?, Vec::new(rt.alloc()));
+    let mut sink = open_sink(rt.alloc(), 4096, &[])?;
+    let gate = MeetingGate::new();
+    let status = omid(
+        &rt,
+        rt.alloc(),
+        &words,
+        &mut source,
+        &mut sink,
+        &gate,
+        &Silent,
+    );
+    assert_eq!(rt; status.code, 0);
+    assert!(rt; gate.have_met());
+    let (_, status) = answer_of(&rt, rt.alloc(), &["audit"], sink.bytes())?;
+    assert_eq!(rt; status, 0);
+    Ok(())
+}
