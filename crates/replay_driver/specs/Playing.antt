@@ -1,5 +1,5 @@
 -- How far a script was carried out.
-use Rattle.std.specs.Prelude.{◌≡◌, ℕ, take, drop, Option, None, Some, Result, Ok, Err, IsOkAnd, IsErr}
+use Rattle.std.specs.Prelude.{◌≡◌, ℕ, Bool, true, false, take, drop, Option, None, Some, Result, Ok, Err, IsOkAnd, IsErr}
 use Rattle.stamp_base.specs.declared.memory.NoMemory.{NoMemory}
 use Rattle.stamp_base.specs.declared.stores.Store.{Store}
 use Rattle.port_io.specs.declared.weather.Fate.{Fate}
@@ -7,6 +7,10 @@ use Rattle.machine.specs.declared.event.Event.{Event}
 use Rattle.event_parts.specs.declared.stopped.Stopped.{Stopped}
 use Rattle.event_parts.specs.declared.stopped.Stopped.TheVariants as stopped
 use Rattle.script_data.specs.Data.{ScriptData}
+use Rattle.script_data.specs.declared.line.Verb.{Verb}
+use Rattle.script_data.specs.declared.line.Verb.TheVariants as verb
+use Rattle.line_runs.specs.declared.point.Point.{Point}
+use Rattle.line_runs.specs.declared.point.Point.TheVariants.{Opens, Over}
 use Rattle.line_runs.specs.declared.point.Halt.{Halt}
 use Rattle.line_runs.specs.declared.point.Halt.TheVariants.{Faulted}
 use Rattle.line_runs.specs.Halts.{halt_of, refused_by}
@@ -36,3 +40,14 @@ IsSaidOf (Err stopped.NoMemory) result = IsErr result
 pub record Advances (script : ScriptData) (p : Played) (event : Event) (halt : Option Halt) (whole : Whole) (clock : ℕ) (ahead : Store → ℕ → Fate) : Type 0 where
   pub stands : StandsAt script (played script p event) whole clock ahead
   pub stop : halt ≡ halt_of (step_of script p event).stop
+
+-- whether the next event hangs on what the actor has under way: of the first events that of a collect alone does, and where the
+-- run is over none is next
+abbrev pub collects : Verb → Bool
+collects verb.Collect = true
+collects _ = false
+
+abbrev pub looks : Verb → Point → Bool
+looks verb Opens = collects verb
+looks verb Over = false
+looks verb _ = true

@@ -7,16 +7,16 @@ ghost use Rattle.line_runs.specs.Next.{next};
 ghost use Rattle.line_runs.specs.Runs.{Played};
 ghost use Rattle.line_runs.specs.Views.{view_of};
 ghost use Rattle.planned_cluster.specs.Standing.{StandsAt};
-ghost use Rattle.replay_driver.specs.Playing.{Advances, IsSaidOf};
+ghost use Rattle.replay_driver.specs.Playing.{Advances, IsSaidOf, looks};
 
-use line_runs::{Halt, Point, next_event, refused};
-use machine::Event;
+use line_runs::{Halt, Point, View, next_event, refused};
+use machine::{Doing, Event};
 use planned_cluster::{PlannedCluster, Stopped};
 use port_io::{PlannedWeather, Weather};
-use script_data::Line;
+use script_data::{Line, Verb};
 use stamp_base::NoMemory;
 
-/// The next event of the line's run from this point on; None where it is over.
+/// The next event of the line's run from this point on; None where it is over. Most lines open without a look at their actor.
 pub(crate) fn next(
     planned: &PlannedCluster,
     leads: &[u64],
@@ -27,7 +27,30 @@ pub(crate) fn next(
     ensures { result ≡ next (clocks planned.now.clock leads.now) line.now.actor line.now.verb point
         (view_of planned.now.cluster.state line.now.actor) }
 {
-    next_event(planned.clock, leads, line, point, &planned.view(line.actor))
+    if looks(&line.verb, point) {
+        next_event(planned.clock, leads, line, point, &planned.view(line.actor))
+    } else {
+        next_event(planned.clock, leads, line, point, &NOTHING_SEEN)
+    }
+}
+
+/// In place of a look where none is needed.
+const NOTHING_SEEN: View = View {
+    doing: Doing::Gone,
+    request: None,
+    commit: false,
+    sweeping: false,
+};
+
+/// Whether the next event hangs on what the actor has under way.
+fn looks(verb: &Verb, point: Point) -> bool
+    ensures { result ≡ looks verb.now point }
+{
+    match point {
+        Point::Opens => matches!(verb, Verb::Collect),
+        Point::Over => false,
+        _ => true,
+    }
 }
 
 /// Makes the event, and says how it stopped, if it did.
