@@ -1,2 +1,3 @@
 mod Kept
 mod Closing
+mod SoFar

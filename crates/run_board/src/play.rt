@@ -8,15 +8,19 @@ ghost use Rattle.line_runs.specs.Planned.{Planned};
 ghost use Rattle.run_turns.specs.Told.{AreForThreads};
 ghost use Rattle.run_turns.specs.Carried.{carried_items};
 ghost use Rattle.line_shares.specs.Done.{all_done, first_cursor};
-ghost use Rattle.script_actors.specs.Actors.{actors_of, AreAtTheirEnds};
+ghost use Rattle.script_actors.specs.Actors.{actors_of, AreBehind, AreAtTheirEnds};
+ghost use Rattle.run_turns.specs.Laws.{IsPlannedSoFar};
+ghost use Rattle.script_run.specs.Run.{reached_by};
+ghost use Rattle.script_run.specs.Steps.{place_of};
 ghost use Rattle.actor_steps.specs.Going.{GoesOn};
 ghost use Rattle.run_board.specs.Playing.{Advances, Serves, IsOver, IsResult};
+ghost use Rattle.run_board.specs.SoFar.{AreAnsweredSoFar};
 
 use crate::sessions::see_sessions;
 use cluster_core::Cluster;
 use history_book::Item;
 use line_shares::{ActorShare, Cursors};
-use run_turns::{turns_answer, turns_are_planned};
+use run_turns::{turns_answer, turns_answer_so_far, turns_are_planned, turns_are_planned_so_far};
 use script_actors::are_at_their_ends;
 use script_copies::is_same;
 use script_run::{
@@ -66,12 +70,19 @@ impl<L: Ledger> Play<L> {
         Ok(Play { run, cursors })
     }
 
-    /// The history that the turns have made. It is isolated, and each of its refusals is shown by what stands before it.
+    /// The history that the turns have made, at every moment. It is isolated, and each of its refusals is shown by what stands
+    /// before it. Every line that an actor has passed is answered, and so is each line before a cursor, since no cursor is ahead of
+    /// its actor. Faults, ticks and readings are those that the script plans.
     pub fn history(&self) -> &[Item]
         ensures value { result.now ≡ carried_items self.now.ran.script self.now.ran.turns }
         ensures isolated { Isolated result.now }
         ensures explained { Explained self.now.ran.script.setup result.now }
+        ensures answered { AreAnsweredSoFar self.now.ran }
+        ensures behind { AreBehind (place_of self.now.ran) self.now.cursors }
+        ensures planned { IsPlannedSoFar self.now.ran.script (reached_by self.now.ran) }
     {
+        turns_answer_so_far();
+        turns_are_planned_so_far();
         self.run.history()
     }
 

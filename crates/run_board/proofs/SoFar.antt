@@ -1,0 +1,14 @@
+-- Whatever turns were made so far, the lines that were passed are answered, and the plan is kept.
+use Rattle.std.proofs.Common.{List}
+use Rattle.line_shares.specs.declared.cursor.Cursor.{Cursor}
+use Rattle.planned_cluster.proofs.Playable.{playable_at_first}
+use Rattle.run_turns.specs.Laws.{TurnsAnswerSoFar, TurnsArePlannedSoFar, IsPlannedSoFar}
+use Rattle.script_run.specs.Run.{Ran, reached_by}
+use Rattle.run_board.specs.Playing.{IsKept}
+use Rattle.run_board.specs.SoFar.{AreAnsweredSoFar}
+
+pub answered_so_far : (r : Ran) (cursors : List Cursor) → TurnsAnswerSoFar → IsKept r cursors → AreAnsweredSoFar r
+answered_so_far r cursors law k = λ actor seat at. (law r.script r.turns actor seat k.sound.setup (playable_at_first r.script k.sound k.few) k.sessions at).1
+
+pub planned_so_far : (r : Ran) (cursors : List Cursor) → TurnsArePlannedSoFar → IsKept r cursors → IsPlannedSoFar r.script (reached_by r)
+planned_so_far r cursors law k = law r.script r.turns k.sound.setup (playable_at_first r.script k.sound k.few)

@@ -1,0 +1,11 @@
+-- What holds of a play at every moment.
+use Rattle.std.specs.Prelude.{◌≡◌, Some}
+use Rattle.history_book.specs.declared.item.Actor.{Actor}
+use Rattle.run_turns.specs.declared.seat.Seat.{Seat}
+use Rattle.run_turns.specs.Carried.{seat_of}
+use Rattle.run_turns.specs.Laws.{IsAnsweredSoFar}
+use Rattle.script_run.specs.Run.{Ran, reached_by}
+
+-- each actor's lines are answered as far as its seat has come, and a read that is under way is owed
+abbrev pub AreAnsweredSoFar : Ran → Type 0
+AreAnsweredSoFar r = (actor : Actor) (seat : Seat) → seat_of (reached_by r).seats actor ≡ Some seat → IsAnsweredSoFar r.script (reached_by r) seat
