@@ -1,6 +1,6 @@
 -- Public laws, which the audit cites. A line is that of one item at most; so bytes have one list of items at most, and
 -- with items no line is bad.
-use Rattle.std.proofs.Common.{◌≡◌, ℕ, zero, suc, ◌-◌, ◌<◌, List, [], ◌∷◌, ◌++◌, length, filter, refl, sym, ap, ◌∙◌, arith}
+use Rattle.std.proofs.Common.{◌≡◌, ℕ, zero, suc, ◌-◌, ◌<◌, List, [], ◌∷◌, length, filter, refl, sym, ◌∙◌, arith}
 use Rattle.std.specs.Prelude.{slice_get, IsSomeAnd}
 use Rattle.std.specs.List.{All}
 use Rattle.std.proofs.lemmas.List.Elements.{All-head, All-tail}
@@ -8,23 +8,11 @@ use Rattle.std.proofs.lemmas.Option.{same_Some}
 use Rattle.stamp_base.specs.declared.limits.TheConstants.{BYTE_LIMIT}
 use Rattle.history_book.specs.declared.item.Item.{Item}
 use Rattle.history_text.specs.Fits.{FitsItem}
-use Rattle.history_text.specs.Text.{body_of}
 use Rattle.history_reading.specs.History.{lines_of, says_something}
-use Rattle.history_reading.proofs.RoundTrip.{one_text}
+use Rattle.item_objects.proofs.OneObject.{same_words, same_object}
 use Rattle.history_json.specs.declared.history.Format.{Format}
 use Rattle.history_json.specs.declared.history.Format.TheVariants.{Text, Json}
-use Rattle.history_json.specs.Json.{data_of}
-use Rattle.history_json.specs.Words.{words_of}
 use Rattle.history_json.specs.History.{IsLineOf, AreLinesOf, AreItems, IsNoItem, IsFirstBad, format_of}
-use Rattle.history_json.proofs.WordsLemmas.{words_again}
-
-same_words : (one other : Item) → FitsItem one → FitsItem other → body_of one ≡ body_of other → one ≡ other
-same_words one other a b same = one_text one other a b (ap (λ text. text ++ 10 ∷ []) same)
-
--- two items of one object are one item
-pub same_object : (one other : Item) → FitsItem one → FitsItem other → data_of one ≡ data_of other → one ≡ other
-same_object one other a b same =
-    same_words one other a b (same_Some _ _ (sym (words_again one) ∙ ap words_of same ∙ words_again other))
 
 pub same_line : (format : Format) (line : List ℕ) (one other : Item) → FitsItem one → FitsItem other → IsLineOf format line one → IsLineOf format line other → one ≡ other
 same_line Text line one other a b is also = same_words one other a b (sym is ∙ also)

@@ -1,19 +1,9 @@
--- The JSON line of an item, which lines are one, and what is printed of a history.
+-- Which lines are the JSON of an item, and what is printed of a history.
 use Rattle.std.specs.Prelude.{◌≡◌, ℕ, List, [], ◌∷◌, ◌++◌, Some, IsUtf8}
 use Rattle.std.specs.List.{flat_map}
-use Rattle.serde_json.specs.Data.{Data, object}
 use Rattle.serde_json.specs.Read.{read}
-use Rattle.serde_json.specs.Written.{compact_text}
 use Rattle.history_book.specs.declared.item.Item.{Item}
-use Rattle.history_json.specs.Members.{members_of}
-
--- the item as a JSON value
-abbrev pub data_of : Item → Data
-data_of item = object (members_of item)
-
--- the item's line, without a line feed
-abbrev pub json_line : Item → List ℕ
-json_line item = compact_text (data_of item)
+pub use Rattle.item_objects.specs.Object.{data_of, json_line}
 
 -- The line is read as the item's object: its members are those of the item, each with its value.
 -- Blanks, escapes and the order of the members are free, and of a repeated member the last counts.

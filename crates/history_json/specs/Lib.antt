@@ -1,6 +1,4 @@
-pub mod Expected
 pub mod History
 pub mod Json
 pub mod Laws
-pub mod Members
-pub mod Words
+pub use Rattle.item_objects.specs.Members

@@ -1,17 +1,10 @@
 //! Histories as JSON: each item an object on a line of its own, and histories of both formats read back.
 #![tactic(auto)]
 
-mod comparing;
 mod glance;
 mod history;
 mod laws;
 mod line;
-mod members;
-mod objects;
-mod printing;
-mod rows;
-mod texts;
-mod words;
 
 pub use history::{Format, format_of, read_history};
 pub use laws::one_history;

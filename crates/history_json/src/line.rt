@@ -1,16 +1,12 @@
 // An item's line of JSON, written and read.
 ghost use Rattle.std.specs.Prelude.{◌≡◌, ◌↔◌, IfOk, IfSome, IsTrue, OnOk, Some, string_bytes};
-ghost use Rattle.serde_json.specs.View.{view};
 ghost use Rattle.history_book.specs.declared.item.Item.{Item};
 ghost use Rattle.history_text.specs.Fits.{FitsItem};
-ghost use Rattle.history_json.specs.Json.{data_of, json_line, json_text, IsJsonLineOf};
+ghost use Rattle.history_json.specs.Json.{json_line, json_text, IsJsonLineOf};
 
 use crate::glance::glance;
-use crate::objects::{are_members_of, line_of};
-use crate::texts::text_of;
-use crate::words::words_of;
 use history_book::Item;
-use history_reading::read_item;
+use item_objects::{item_of, line_of};
 use serde_json::Value;
 use stamp_base::NoMemory;
 use std::alloc::{AllocError, Global};
@@ -20,8 +16,10 @@ pub fn to_line(alloc: Global, item: &Item) -> Result<String, NoMemory>
     ensures text { IfOk result (λ line. string_bytes line ≡ json_line item.now) }
     ensures read_again { IfOk result (λ line. IsJsonLineOf (string_bytes line) item.now) }
 {
-    let line = line_of(alloc, item)?;
-    Ok(String::from_str(alloc, text_of(&line))?)
+    match String::from_utf8(line_of(alloc, item)?) {
+        Ok(line) => Ok(line),
+        Err(_) => unreachable!(),
+    }
 }
 
 /// The item whose line of JSON the bytes are. Blanks, escapes and the order of the members are free.
@@ -73,40 +71,6 @@ fn is_printed(alloc: Global, line: &[u8], item: &Item) -> Result<bool, AllocErro
 {
     let printed = line_of(alloc, item)?;
     Ok(line == printed.as_slice())
-}
-
-/// The item that the value is.
-fn item_of(alloc: Global, value: &Value) -> Result<Option<Item>, AllocError>
-    ensures found { IfOk result (λ found. IfSome found (λ item. view value.now ≡ data_of item)) }
-    ensures fits { IfOk result (λ found. IfSome found FitsItem) }
-    ensures only { IfOk result (λ found. (item : Item) → FitsItem item → view value.now ≡ data_of item → found ≡ Some item) }
-{
-    let Some(item) = candidate(alloc, value)? else {
-        return Ok(None);
-    };
-    let same = is_object_of(value, &item);
-    Ok(if same { Some(item) } else { None })
-}
-
-/// An item that the value may be: its object decides.
-fn candidate(alloc: Global, value: &Value) -> Result<Option<Item>, AllocError>
-    ensures fits { IfOk result (λ found. IfSome found FitsItem) }
-    ensures only { IfOk result (λ found. (item : Item) → FitsItem item → view value.now ≡ data_of item → found ≡ Some item) }
-{
-    match words_of(alloc, value)? {
-        Some(words) => Ok(read_item(&words)),
-        None => Ok(None),
-    }
-}
-
-/// Whether the value is the item's object. It takes no memory.
-fn is_object_of(value: &Value, item: &Item) -> bool
-    ensures { IsTrue result ↔ (view value.now ≡ data_of item.now) }
-{
-    match value.as_object() {
-        Some(found) => are_members_of(found, item),
-        None => false,
-    }
 }
 
 /// The item's line as a history prints it, with its line feed.

@@ -1,0 +1,4 @@
+pub mod Expected
+pub mod Members
+pub mod Object
+pub mod Words
