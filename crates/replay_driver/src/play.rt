@@ -27,7 +27,9 @@ pub(crate) fn next(
     ensures { result ≡ next (clocks planned.now.clock leads.now) line.now.actor line.now.verb point
         (view_of planned.now.cluster.state line.now.actor) }
 {
-    if looks(&line.verb, point) {
+    if point == Point::Over {
+        None
+    } else if looks(&line.verb, point) {
         next_event(planned.clock, leads, line, point, &planned.view(line.actor))
     } else {
         next_event(planned.clock, leads, line, point, &NOTHING_SEEN)
