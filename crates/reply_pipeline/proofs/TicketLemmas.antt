@@ -1,6 +1,6 @@
 -- A pass through which tickets are sent, before a call and after it.
 use Rattle.std.proofs.Common.{◌≡◌, ℕ, ◌<◌, ◌≤◌, ◌==◌, ⊎_elim, List, [], ◌∷◌, length, get_or, inl, inr, refl, sym, ap, ◌∙◌, subst, get_or-set_same, get_or-set_other, arith}
-use Rattle.std.specs.Prelude.{Option, None, Some, Result, Ok, Err, IfSome, IsSomeAnd, MatchResult, slice_get}
+use Rattle.std.specs.Prelude.{Option, None, Some, Result, Ok, Err, IfSome, IsSomeAnd, slice_get}
 use Rattle.std.proofs.lemmas.Bool.{cases_Bool, eqb-true, eqb-false}
 use Rattle.std.proofs.lemmas.Option.{slice_get_cases, slice_get_within, same_Some, slice_get-get_or}
 use Rattle.std.proofs.lemmas.List.{length-set, length-map, get_or-map}
@@ -13,7 +13,7 @@ use Rattle.stage_queues.specs.Plan.{Plan, NodeRing, NodeRings, node_ring}
 use Rattle.stage_queues.specs.NodePasses.{nothing, changed, ticket_put, IsOfRing, MaySendTicket}
 use Rattle.stage_queues.specs.Passes.{StageAccount, pass_at, at_node, with_node, SendsTickets}
 use Rattle.stage_queues.specs.Opening.{sender_part, session_pass}
-use Rattle.reply_pipeline.specs.Seats.{IsSenderPass}
+use Rattle.reply_pipeline.specs.Seats.{IsSenderPass, SendsOrGivesBack}
 
 row_still : (ticket : Ticket) (rows : List SenderRow) → 0 < length rows → 0 < length (put_in ticket rows)
 row_still ticket [] some = absurd (omega arith)
@@ -51,8 +51,10 @@ module _ (plan : Plan) (node : ℕ) (p : StageAccount) (h : IsSenderPass plan p)
     ];
   }
 
-  pub has_sent : (ticket : Ticket) (q : StageAccount) (result : Result (Unit {0}) Ticket) → MatchResult result (λ _. q ≡ with_node p ring.node (ticket_put ticket (at_node p ring.node))) (λ back. (back ≡ ticket) × (q ≡ p))
-      → IsSenderPass plan q × (q.held ≡ p.held)
+  pub sent_to : (ticket : Ticket) (q : StageAccount) (result : Result (Unit {0}) Ticket) → SendsOrGivesBack ring.node ticket p q result → SendsOrGivesBack node ticket p q result
+  sent_to ticket q result = subst (λ n. SendsOrGivesBack n ticket p q result) its_node
+
+  pub has_sent : (ticket : Ticket) (q : StageAccount) (result : Result (Unit {0}) Ticket) → SendsOrGivesBack ring.node ticket p q result → IsSenderPass plan q × (q.held ≡ p.held)
   has_sent ticket q (Ok x) e = (still_sends ticket q (subst (λ n. q ≡ with_node p n (ticket_put ticket (at_node p n))) its_node e), ap (λ y. y.held) e)
   has_sent ticket q (Err back) e = (subst (IsSenderPass plan) (sym e.1) h, ap (λ y. y.held) e.1)
 

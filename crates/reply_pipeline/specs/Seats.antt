@@ -1,10 +1,11 @@
 -- Which pass is a stage's, and with which it may begin.
-use Rattle.std.specs.Prelude.{◌≡◌, ℕ, ◌+◌, ◌/◌, ◌%◌, ◌==◌, if◌then◌else◌, List, Some, length, slice_get}
+use Rattle.std.specs.Prelude.{◌≡◌, ℕ, ◌+◌, ◌/◌, ◌%◌, ◌==◌, if◌then◌else◌, List, Some, Result, MatchResult, length, slice_get}
+use Rattle.request_rule.specs.declared.account.Ticket.{Ticket}
 use Rattle.stamp_base.specs.declared.stage.Stage.{Stage}
 use Rattle.stamp_base.specs.declared.stage.Stage.TheVariants.{Request, Persist, Reply}
 use Rattle.stage_queues.specs.Plan.{Plan, NodeRings}
-use Rattle.stage_queues.specs.NodePasses.{MaySendTicket}
-use Rattle.stage_queues.specs.Passes.{StageAccount, at_node}
+use Rattle.stage_queues.specs.NodePasses.{MaySendTicket, ticket_put}
+use Rattle.stage_queues.specs.Passes.{StageAccount, at_node, with_node}
 use Rattle.reply_pipeline.specs.Requesting.{IsRequestPass, IsUnused}
 use Rattle.reply_pipeline.specs.Persisting.{IsPersistPass}
 use Rattle.reply_pipeline.specs.Replying.{IsReplyPass}
@@ -27,3 +28,7 @@ AreReady plan workers passes = (place : ℕ) (p : StageAccount) → slice_get pa
 pub record IsSenderPass (plan : Plan) (p : StageAccount) : Type 0 where
   pub fit : length p.nodes ≡ length plan.nodes
   pub sends : (node : ℕ) (rings : NodeRings) → slice_get plan.nodes node ≡ Some rings → MaySendTicket rings.requests (at_node p node)
+
+-- the ticket is the last that was put for the node, and nothing else changed; or it comes back, and nothing changed
+abbrev pub SendsOrGivesBack : ℕ → Ticket → StageAccount → StageAccount → Result (Unit {0}) Ticket → Type 0
+SendsOrGivesBack node ticket old new result = MatchResult result (λ _. new ≡ with_node old node (ticket_put ticket (at_node old node))) (λ back. (back ≡ ticket) × (new ≡ old))

@@ -1,13 +1,14 @@
 // The sessions' side of the pipeline: what their threads send.
 ghost use Rattle.std.specs.Prelude.{◌≡◌, ◌<◌, length};
-ghost use Rattle.reply_pipeline.specs.Seats.{IsSenderPass};
+ghost use Rattle.reply_pipeline.specs.Seats.{IsSenderPass, SendsOrGivesBack};
 
 use stage_queues::{Queues, StagePass, Ticket};
 use stamp_base::NodeNo;
 use std::sync::Wait;
 use std::thread;
 
-/// Sends a ticket to the node's request stage, again and again while the queue is full. Err only where the queues are closed.
+/// Sends a ticket to the node's request stage, again and again while the queue is full. Err only where the queues are closed; the
+/// ticket is handed back then, and nothing was sent.
 pub fn send_ticket<R: Wait>(
     rt: &R,
     node: NodeNo,
@@ -17,6 +18,7 @@ pub fn send_ticket<R: Wait>(
 ) -> Result<(), Ticket>
     requires node { node < length queues.now.nodes }
     requires pass { IsSenderPass queues.now pass.old }
+    ensures sent { SendsOrGivesBack node ticket pass.old pass.new result }
     ensures pass { IsSenderPass queues.now pass.new }
     ensures held { pass.new.held ≡ pass.old.held }
 {
@@ -43,6 +45,7 @@ fn try_send<R: Wait>(
 ) -> Result<(), Ticket>
     requires node { node < length queues.now.nodes }
     requires pass { IsSenderPass queues.now pass.old }
+    ensures sent { SendsOrGivesBack node ticket pass.old pass.new result }
     ensures pass { IsSenderPass queues.now pass.new }
     ensures held { pass.new.held ≡ pass.old.held }
 {
