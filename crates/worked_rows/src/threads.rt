@@ -28,7 +28,7 @@ fn scripts_with_one_order_are_run_in_it(rt: HostRuntime) -> Result<(), Fail> {
 }
 
 /// Scripts that threads carry out in many orders.
-static FREE: [&str; 4] = [
+static FREE: [&str; 6] = [
     PLAIN_PATH,
     "\
 a take
@@ -70,6 +70,57 @@ s0 finish
 s1 begin a
 s1 read k0
 s1 read k1
+",
+    // A session vanishes with its commit in flight, and the janitor sweeps it up beside a reader.
+    "\
+a take
+s0 begin a
+s0 write k0 v
+s0 write k1 w
+s0 post written
+s0 submit a
+s0 vanish
+s0 post gone
+janitor await gone
+janitor sweep a 1
+janitor sweep a 2
+s1 await written
+s1 begin a
+s1 read k1
+s1 read k0
+s1 commit a
+",
+    // The same over a crash and a takeover, with faults on every store.
+    "\
+fault cells 4 applied
+fault table 2 unchanged
+fault master 2 unchanged
+a take
+a renew
+s0 begin a
+s0 write k0 v
+s0 write k1 w
+s0 submit a
+s0 vanish
+s0 post gone
+a await gone
+a crash
+a post crashed
+clock await crashed
+clock tick 12
+clock post late
+b await late
+b take
+b renew
+b post taken
+janitor await taken
+janitor sweep b 1
+s1 await taken
+s1 begin b
+s1 read k0
+s1 read k1
+s1 write k1 x
+s1 commit b
 ",
 ];
 
