@@ -4,7 +4,7 @@
 
 ghost use Rattle.std.specs.Prelude.{List};
 ghost use Rattle.history_book.specs.declared.item.Item.{Item};
-ghost use Rattle.stamp_base.specs.SetupNumbers.{SetupNumbers, AreInRange};
+ghost use Rattle.stamp_base.specs.SetupNumbers.{SetupNumbers};
 ghost use Rattle.port_io.specs.declared.weather.Fate.{Fate};
 ghost use Rattle.machine.specs.declared.event.Event.{Event};
 ghost use Rattle.machine.specs.State.{State, opening};

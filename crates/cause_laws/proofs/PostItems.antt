@@ -4,10 +4,10 @@ use Rattle.std.proofs.lemmas.List.Elements.{All-nil, All-cons, All-weaker}
 use Rattle.history_book.specs.declared.item.Item.{Item}
 use Rattle.history_book.specs.declared.item.Item.TheVariants as item
 use Rattle.isolation_laws.proofs.Pushed.{not_true}
-use Rattle.cause_rules.specs.Posts.{takes_for, crashes_for, TookLast, LeasedUntil, StandsSince, HasNone}
+use Rattle.cause_rules.specs.Posts.{takes_for, crashes_for, StandsSince}
 use Rattle.cause_laws.specs.Due.{IsRefusal}
 use Rattle.cause_laws.proofs.Deeds.{Silent, AllSilent}
-use Rattle.cause_laws.proofs.PostWords.{NoTakes, NoCrashes, took_on, leased_on, stands_on, none_on}
+use Rattle.cause_laws.proofs.PostWords.{NoTakes, NoCrashes, stands_on}
 
 -- neither a take nor a crash of any node
 abbrev pub is_calm : Item → Bool
@@ -60,20 +60,7 @@ pub crash_no_crashes : (n node term : ℕ) (told : List Item) → n ≢ node →
 crash_no_crashes n node term told other calm =
     All-cons (λ (x : Item). crashes_for n x ≡ false) (item.Crash node term) told (ne_eqb node n (λ same. other (sym same))) (calm_no_crashes n told calm)
 
--- what the history tells of a node stays where another one has crashed, with refusals behind
-pub took_past : (h earlier : List Item) (n node crashed term epoch : ℕ) → All IsRefusal earlier → TookLast h n term epoch → TookLast (h ++ item.Crash node crashed ∷ earlier) n term epoch
-took_past h earlier n node crashed term epoch refusals k =
-    took_on h (item.Crash node crashed ∷ earlier) n term epoch (crash_no_takes n node crashed earlier (refusals_calm earlier refusals)) k
-
-pub leased_past : (h earlier : List Item) (n node crashed until : ℕ) → All IsRefusal earlier → LeasedUntil h n until → LeasedUntil (h ++ item.Crash node crashed ∷ earlier) n until
-leased_past h earlier n node crashed until refusals k =
-    leased_on h (item.Crash node crashed ∷ earlier) n until (crash_no_takes n node crashed earlier (refusals_calm earlier refusals)) k
-
 pub stands_past : (h earlier : List Item) (n node crashed : ℕ) → n ≢ node → All IsRefusal earlier → StandsSince h n → StandsSince (h ++ item.Crash node crashed ∷ earlier) n
 stands_past h earlier n node crashed other refusals k =
     let calm = refusals_calm earlier refusals in
     stands_on h (item.Crash node crashed ∷ earlier) n (crash_no_takes n node crashed earlier calm) (crash_no_crashes n node crashed earlier other calm) k
-
-pub none_past : (h earlier : List Item) (n node crashed : ℕ) → All IsRefusal earlier → HasNone h n → HasNone (h ++ item.Crash node crashed ∷ earlier) n
-none_past h earlier n node crashed refusals k =
-    none_on h (item.Crash node crashed ∷ earlier) n (crash_no_takes n node crashed earlier (refusals_calm earlier refusals)) k

@@ -1,5 +1,5 @@
 -- What an index of versions and keys has of a version, and what a change of the rows and the index keeps.
-use Rattle.std.proofs.Common.{◌≡◌, ℕ, ◌<◌, ◌==◌, Bool, true, false, ◌&&◌, if◌then◌else◌, List, [], ◌∷◌, map, None, Some, is_some, IsSome, ◌⊎◌, inl, inr, refl, sym, subst, ap, ◌∙◌, arith}
+use Rattle.std.proofs.Common.{◌≡◌, ℕ, ◌<◌, ◌==◌, Bool, true, false, ◌&&◌, if◌then◌else◌, List, [], ◌∷◌, map, None, is_some, IsSome, inl, inr, refl, sym, subst, ap, ◌∙◌, arith}
 use Rattle.std.specs.Ordering.{nat_cmp}
 use Rattle.std.specs.declared.cmp.Ordering.TheVariants.{Less}
 use Rattle.std.specs.BTreeMap.{is_at}
@@ -12,8 +12,7 @@ use Rattle.std.specs.List.Sorted.{IsStrictlySortedBy}
 use Rattle.std.proofs.lemmas.Bool.Decides.{nat_tests}
 use Rattle.std.proofs.lemmas.Cmp.{nat_cmp_total}
 use Rattle.std.proofs.lemmas.Map.Lookups.{btree_set_from_contains, exact_unsigned}
-use Rattle.store_parts.specs.declared.rows.Cell.{Cell}
-use Rattle.store_parts.specs.Rows.{Row, bare_cell, put_row, looked, with_shadow, without_bare, keys_of_version, AreOrdered, IsBare}
+use Rattle.store_parts.specs.Rows.{Row, put_row, looked, with_shadow, without_bare, keys_of_version, AreOrdered, IsBare}
 use Rattle.store_parts.proofs.RowLaws.{looked-put_bare, looked-put_other, looked-without_other}
 use Rattle.store_parts.proofs.RowVersions.{keys_of_version-sorted, without_bare_gone}
 use Rattle.cell_store.specs.Index.{pair_cmp, second_of}

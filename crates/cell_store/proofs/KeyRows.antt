@@ -1,6 +1,6 @@
 -- The rows of one key's list of cells: where it splits, and what a change of the list does to them.
-use Rattle.std.proofs.Common.{◌≡◌, ℕ, zero, suc, ◌+◌, ◌<◌, ◌≤◌, ◌==◌, nat_le, leb, ltb, true, false, ◌&&◌, List, [], ◌∷◌, ◌++◌, map, reverse, take, drop, set, length, get_or, Option, Some, None, ◌⊎◌, inl, inr, refl, sym, subst, ap, ◌∙◌, arith}
-use Rattle.std.specs.List.{All, AllByRecursion, AllWithin, HoldsAt, insert, remove}
+use Rattle.std.proofs.Common.{◌≡◌, ℕ, suc, ◌+◌, ◌<◌, ◌≤◌, ◌==◌, nat_le, leb, ltb, true, false, ◌&&◌, List, [], ◌∷◌, ◌++◌, reverse, take, drop, set, length, get_or, Some, None, inl, inr, refl, sym, subst, ap, ◌∙◌, arith}
+use Rattle.std.specs.List.{All, AllByRecursion, AllWithin, insert, remove}
 use Rattle.std.specs.List.Sorted.{IsNonDecreasingBy, IsPartitionPoint}
 use Rattle.std.proofs.lemmas.Bool.{cases_lt}
 use Rattle.std.proofs.lemmas.Bool.Decides.{nat_tests}
@@ -9,11 +9,11 @@ use Rattle.std.proofs.lemmas.List.Elements.{All-nil, All-cons, All-head, All-tai
 use Rattle.std.proofs.lemmas.Option.{none-some}
 use Rattle.std.proofs.Math.Seq.{drop-cons}
 use Rattle.store_parts.specs.declared.rows.Cell.{Cell}
-use Rattle.store_parts.specs.Rows.{Row, bare_row, bare_cell, put_row, fetched, looked, with_shadow, without_bare, IsBelowAll, AreOrdered}
+use Rattle.store_parts.specs.Rows.{Row, bare_cell, put_row, fetched, looked, with_shadow, without_bare, IsBelowAll, AreOrdered}
 use Rattle.store_parts.proofs.RowLaws.{is_row-true, looked-here}
 use Rattle.store_parts.proofs.RowFetches.{fetched-append, all_pairs_cons}
 use Rattle.cell_store.specs.KeyLists.{row_at, rows_at, AreRising, AreLowerBefore, IsPlace}
-use Rattle.cell_store.proofs.RowSplits.{IsEarlier, IsLater, IsEditAt, put_is_edit, shadow_is_edit, without_is_edit, put-behind, shadow_absent, looked-earlier, looked-later}
+use Rattle.cell_store.proofs.RowSplits.{IsEarlier, IsLater, IsEditAt, put_is_edit, shadow_is_edit, without_is_edit, put-behind, looked-earlier, looked-later}
 
 -- ---- parts of a list
 pub take_within : (P : Cell → Type 0) (cells : List Cell) (n : ℕ) → AllWithin P cells 0 n → All P (take n cells)

@@ -1,12 +1,11 @@
 -- Rows one behind another: where a change lands, and where a question is answered.
-use Rattle.std.proofs.Common.{◌≡◌, ℕ, ◌<◌, ◌==◌, nat_le, true, false, ◌&&◌, List, [], ◌∷◌, ◌++◌, Option, Some, None, ◌⊎◌, inl, inr, refl, sym, ap, ◌∙◌, arith}
+use Rattle.std.proofs.Common.{◌≡◌, ℕ, ◌<◌, ◌==◌, nat_le, true, false, ◌&&◌, List, [], ◌∷◌, ◌++◌, Option, Some, None, ◌⊎◌, inl, inr, refl, ap, ◌∙◌, arith}
 use Rattle.std.specs.List.{AllByRecursion}
 use Rattle.std.proofs.lemmas.Bool.{cases_Bool}
 use Rattle.std.proofs.lemmas.Bool.Decides.{nat_tests}
 use Rattle.std.proofs.lemmas.List.{append-nil}
 use Rattle.store_parts.specs.declared.rows.Cell.{Cell}
 use Rattle.store_parts.specs.Rows.{Row, is_row, is_before, bare_row, put_row, fetched, looked, with_shadow, unless_bare, without_bare, IsBelowAll, AreOrdered}
-use Rattle.store_parts.proofs.RowLaws.{is_row-cases, is_row-false}
 use Rattle.store_parts.proofs.RowFetches.{fetched-append}
 
 -- the row stands before the place of the key and the version, or behind it

@@ -1,12 +1,11 @@
 -- Versions begin at 1, before and after each change.
-use Rattle.std.proofs.Common.{◌≡◌, ℕ, ◌<◌, ◌≤◌, List, [], ◌∷◌, length, Option, None, Some, is_some, IsSome, ◌⊎◌, inl, inr, refl, sym, subst, ap, ◌∙◌, arith}
+use Rattle.std.proofs.Common.{◌≡◌, ℕ, ◌≤◌, List, [], ◌∷◌, Option, None, Some, is_some, IsSome, ◌⊎◌, inl, inr, refl, sym, subst, ap, ◌∙◌, arith}
 use Rattle.std.proofs.lemmas.Bool.{cases_eq}
-use Rattle.std.proofs.lemmas.List.Elements.{All-head}
 use Rattle.std.specs.List.{Contains}
 use Rattle.store_parts.specs.declared.rows.Cell.{Cell}
 use Rattle.store_parts.specs.Rows.{Row, put_row, fetched, looked, shadowed, with_shadow, without_bare, AreOrdered}
 use Rattle.store_parts.proofs.RowLaws.{looked-put_other, looked-shadow_same, looked-shadow_other, looked-without}
-use Rattle.store_parts.proofs.RowFetches.{Contains-fetched, fetched-upto}
+use Rattle.store_parts.proofs.RowFetches.{Contains-fetched}
 use Rattle.cell_store.specs.KeyLists.{AreStamped}
 
 -- a place is the one of the key and the version, or another

@@ -1,8 +1,7 @@
 -- What the answer to the next step makes of a client, whatever it has under way, and what a failure makes of it.
-use Rattle.std.specs.Prelude.{◌≡◌, ℕ, Bool, true, false, List, [], ◌∷◌, Option, None, Some}
+use Rattle.std.specs.Prelude.{ℕ, Bool, true, false, List, [], ◌∷◌, Option, None, Some}
 use Rattle.history_book.specs.declared.item.Item.{Item}
 use Rattle.client_parts.specs.declared.asks.Told.{Told}
-use Rattle.client_parts.specs.SessionSteps.{SessionEntry}
 use Rattle.client_parts.specs.Resolve.{Settling, settle_turn}
 use Rattle.client_parts.specs.KeyRead.{ReadTurn, Asks, Answers, read_told}
 use Rattle.machine.specs.State.{UnderWay, Nothing, Reads, Settles, Completes, Client}

@@ -1,6 +1,6 @@
 // How a client goes on with what it has under way: what it asks next, and what the answer makes of it.
 ghost use Rattle.std.specs.Prelude.{◌≡◌, ◌≤◌, ◌++◌, Bool, None, Some, IfSome};
-ghost use Rattle.client_parts.specs.SessionSteps.{IsAnswer, step_refusal, CanFree, CanCommit};
+ghost use Rattle.client_parts.specs.SessionSteps.{IsAnswer, step_refusal, CanCommit};
 ghost use Rattle.client_parts.specs.Asks.{FitsNext};
 ghost use Rattle.client_parts.specs.Sweep.{IsKeys};
 ghost use Rattle.client_parts.specs.Resolve.{Settling, SettleTurn, Decides, settle_by, outcome_of};

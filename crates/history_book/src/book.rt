@@ -47,18 +47,6 @@ impl Book {
         Ok(())
     }
 
-    /// Appends all of the items, or none of them, in room of their own.
-    pub fn append_all(&mut self, items: &[Item]) -> Result<(), NoMemory>
-        ensures ok { OnOk result (self.new.items ≡ self.old.items ++ items.now) }
-        ensures kept { OnOk result (self.new.spare ≡ self.old.spare) }
-        ensures err { OnErr result (self.new ≡ self.old) }
-    {
-        let room = self.spare.checked_add(items.len()).ok_or(NoMemory)?;
-        self.items.reserve(room)?;
-        self.items.extend_from_slice(items)?;
-        Ok(())
-    }
-
     /// Reserves room for n items more.
     pub fn reserve(&mut self, n: usize) -> Result<(), NoMemory>
         ensures ok { OnOk result (self.new.spare ≡ self.old.spare + n) }

@@ -8,12 +8,11 @@ fn a_book_keeps_what_was_reserved(rt: HostRuntime) -> Result<(), Fail> {
     assert!(rt; book.items().is_empty());
     assert!(rt; book.reserve(1).is_ok());
     assert!(rt; book.append(Item::Tick { to: 1 }).is_ok());
-    let more = [Item::Tick { to: 2 }, Item::Tick { to: 3 }];
-    assert!(rt; book.append_all(&more).is_ok());
-    book.append_reserved(Item::Tick { to: 4 });
+    assert!(rt; book.append(Item::Tick { to: 2 }).is_ok());
+    book.append_reserved(Item::Tick { to: 3 });
     for (at, item) in book.items().iter().enumerate() {
         assert!(rt; *item == Item::Tick { to: at as u64 + 1 }, "item {at}");
     }
-    assert_eq!(rt; book.items().len(), 4);
+    assert_eq!(rt; book.items().len(), 3);
     Ok(())
 }

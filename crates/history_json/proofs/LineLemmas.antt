@@ -2,7 +2,7 @@
 use Rattle.std.proofs.Common.{◌≡◌, ℕ, ◌+◌, ◌-◌, ◌<◌, ◌≤◌, List, [], ◌∷◌, ◌++◌, append_assoc, append-nil, Some, ◌⊎◌, inl, inr, length, filter, refl, sym, subst, ap, arith}
 use Rattle.std.specs.Prelude.{slice_get, IfSome}
 use Rattle.std.specs.List.{All}
-use Rattle.std.proofs.lemmas.List.Elements.{filter-append, All-append, All-nil, All-push}
+use Rattle.std.proofs.lemmas.List.Elements.{filter-append, All-append, All-nil}
 use Rattle.stamp_base.specs.declared.limits.TheConstants.{BYTE_LIMIT}
 use Rattle.history_book.specs.declared.item.Item.{Item}
 use Rattle.history_text.specs.Fits.{FitsItem}
@@ -10,7 +10,7 @@ use Rattle.history_reading.specs.declared.history.HistoryFault.{HistoryFault}
 use Rattle.history_reading.specs.declared.history.HistoryFault.TheVariants.{At, NoMemory}
 use Rattle.history_reading.specs.History.{lines_of, says_something}
 use Rattle.history_json.specs.declared.history.Format.{Format}
-use Rattle.history_json.specs.History.{line_format, first_format, format_of, IsLineOf, AreLinesOf, IsNoItem, IsFaultAt, IsFaultOf, AddsLine}
+use Rattle.history_json.specs.History.{line_format, first_format, format_of, AreLinesOf, IsNoItem, IsFaultAt, IsFaultOf, AddsLine}
 
 appended : (format : Format) (xs ys : List (List ℕ)) (one other : List Item) → AreLinesOf format xs one → AreLinesOf format ys other → AreLinesOf format (xs ++ ys) (one ++ other)
 appended format [] ys [] other are also = also
@@ -80,25 +80,8 @@ adds_none format [] items e = record {
 }
 adds_none format (b ∷ bs) items e = absurd (omega (arith, e))
 
-pub adds_one : (format : Format) (line : List ℕ) (items new : List Item) (item : Item) → (length line ≡ 0 → ⊥) → new ≡ items ++ item ∷ [] → FitsItem item → IsLineOf format line item → AddsLine format line items new
-adds_one format [] items new item some is fits are = absurd (some refl)
-adds_one format (b ∷ bs) items new item some is fits are = record {
-  added = item ∷ [];
-  is = is;
-  fit = All-push FitsItem [] item (All-nil FitsItem) fits;
-  lines = (are, tt);
-}
-
 -- ---- the format, as the first line that says something shows it
 
 pub shown : (line : List ℕ) (rest all : List (List ℕ)) → (length line ≡ 0 → ⊥) → filter says_something (line ∷ rest) ≡ all → line_format line ≡ first_format all
 shown [] rest all some e = absurd (some refl)
 shown (b ∷ bs) rest all some e = ap first_format e
-
-pub not_shown : (line : List ℕ) (rest all : List (List ℕ)) → length line ≡ 0 → filter says_something (line ∷ rest) ≡ all → filter says_something rest ≡ all
-not_shown [] rest all none e = e
-not_shown (b ∷ bs) rest all none e = absurd (omega (arith, none))
-
-pub shown_last : (line : List ℕ) (all : List (List ℕ)) → filter says_something (line ∷ []) ≡ all → line_format line ≡ first_format all
-shown_last [] all e = ap first_format e
-shown_last (b ∷ bs) all e = ap first_format e

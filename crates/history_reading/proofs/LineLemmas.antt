@@ -1,18 +1,14 @@
--- How the lines of a history follow from their front, and what its items are.
-use Rattle.std.proofs.Common.{◌≡◌, ℕ, zero, suc, ◌+◌, ◌-◌, ◌<◌, ◌≤◌, Bool, true, false, cond, nat_lt, List, [], ◌∷◌, ◌++◌, append_assoc, Option, None, Some, ◌⊎◌, inl, inr, length, take, drop, filter, refl, sym, ◌∙◌, subst, arith, add-one}
-use Rattle.std.specs.Prelude.{slice_index, slice_get, IfSome, Result, Ok, Err, IfErr, IsErrAnd}
+-- How the lines of a history follow from their front: laws for whoever reads one line by line (history_json).
+use Rattle.std.proofs.Common.{◌≡◌, ℕ, zero, suc, ◌+◌, ◌-◌, ◌<◌, Bool, true, false, cond, nat_lt, List, [], ◌∷◌, Option, None, Some, length, take, drop, refl, sym, subst, arith, add-one}
+use Rattle.std.specs.Prelude.{slice_index, slice_get, Result, Ok, Err, IfErr, IsErrAnd}
 use Rattle.std.specs.List.{position, position_or_len}
 use Rattle.std.proofs.lemmas.List.Quantifiers.{position-Some}
 use Rattle.std.proofs.lemmas.List.Splits.{slice_split_first, slice_split_none}
 use Rattle.std.proofs.lemmas.List.Sums.{position_or_len_is, fails_before_first}
 use Rattle.std.proofs.lemmas.Bool.{le-ltb, lt-ltb}
 use Rattle.std.proofs.lemmas.Grind.{common_steps}
-use Rattle.std.proofs.lemmas.List.Elements.{filter-append}
 use Rattle.memchr.specs.Find.{IsFirstByte, Nowhere, Passes, is_byte}
-use Rattle.stamp_base.specs.declared.limits.TheConstants.{BYTE_LIMIT}
-use Rattle.history_reading.specs.declared.history.HistoryFault.{HistoryFault}
-use Rattle.history_reading.specs.declared.history.HistoryFault.TheVariants.{At, NoMemory}
-use Rattle.history_reading.specs.History.{is_line_feed, lines_of, says_something, IsNoItem, IsFaultAt, IsFaultOf}
+use Rattle.history_reading.specs.History.{is_line_feed, lines_of}
 
 -- a search for the first line feed
 unmarked : (b : Bool) → (b ≡ true → ⊥) → b ≡ false
@@ -48,10 +44,6 @@ lines-last bytes none =
     let all : nat_lt (position_or_len is_line_feed bytes) (length bytes) ≡ false = past _ (position_or_len is_line_feed bytes) none in
     slice_split_none is_line_feed bytes (λ k d h. fails_before_first is_line_feed bytes k d (grind (arith, common_steps, all, h)))
 
--- none of the first n lines is bad
-abbrev pub NoneBad : List (List ℕ) → ℕ → Type 0
-NoneBad lines n = (i : ℕ) → i + 1 < n + 1 → IfSome (slice_get lines i) (λ earlier. IsNoItem earlier → ⊥)
-
 next_suc : (n : ℕ) (xs : List (List ℕ)) (line : List ℕ) (rest : List (List ℕ)) → (drop (n + 1) xs ≡ rest) × (slice_get xs n ≡ Some line) → (drop (suc n) xs ≡ rest) × (slice_get xs n ≡ Some line)
 next_suc n xs line rest next = (rw add-one at next.0, next.1)
 
@@ -61,38 +53,6 @@ next_line zero [] line rest at = cc
 next_line zero (x ∷ xs) line rest at = (cc, cc)
 next_line (suc n) [] line rest at = cc
 next_line (suc n) (x ∷ xs) line rest at = rw add-one (next_suc n xs line rest (next_line n xs line rest at))
-
--- one more line was read
-pub told_more : (old new : List (List ℕ)) (line : List ℕ) (rest all : List (List ℕ)) → new ≡ old ++ filter says_something (line ∷ []) → old ++ filter says_something (line ∷ rest) ≡ all → new ++ filter says_something rest ≡ all
-told_more old new line rest all is told =
-    rw (is, append_assoc old (filter says_something (line ∷ [])) (filter says_something rest), sym (filter-append says_something (line ∷ []) rest)) told
-
--- all lines were read
-pub told_all : (old new : List (List ℕ)) (line : List ℕ) (all : List (List ℕ)) → new ≡ old ++ filter says_something (line ∷ []) → old ++ filter says_something (line ∷ []) ≡ all → new ≡ all
-told_all old new line all is told = is ∙ told
-
-below_or_same : (i n : ℕ) → i < n + 1 → (i < n) ⊎ (i ≡ n)
-below_or_same i n within = grind arith
-
-one_less : (n : ℕ) → n + 1 - 1 ≡ n
-one_less n = omega arith
-
-pub none_bad_more : (lines : List (List ℕ)) (n : ℕ) (line : List ℕ) → slice_get lines n ≡ Some line → (IsNoItem line → ⊥) → NoneBad lines n → NoneBad lines (n + 1)
-none_bad_more lines n line at right before i within =
-    elim (below_or_same i n (omega arith)) [
-      | inl less ↦ before i (omega arith)
-      | inr same ↦ rw (same, at) right
-    ]
-
--- the line after n lines, none of them bad, is the first bad one where it is bad
-pub bad_line : (bytes : List ℕ) (n : ℕ) (line : List ℕ) (fault : HistoryFault) → length bytes ≤ BYTE_LIMIT → slice_get (lines_of bytes) n ≡ Some line → NoneBad (lines_of bytes) n → IsFaultAt (n + 1) line fault → IsFaultOf bytes fault
-bad_line bytes n line NoMemory short at before bad = tt
-bad_line bytes n line (At number) short at before bad = rw bad.0 (record {
-  long = λ is. absurd (omega (arith, is));
-  short = λ _. short;
-  bad = λ _. rw (one_less n, at) bad.1;
-  before = before;
-})
 
 -- an error that was passed on keeps what is known of it
 pub passed_on : {A E : Type 0} (answer : Result A E) (fault : E) (P : E → Type 0) → IsErrAnd answer (λ e. e ≡ fault) → P fault → IfErr answer P

@@ -1,4 +1,4 @@
-ghost use Rattle.std.specs.Prelude.{◌≡◌, ◌+◌, ◌≤◌, ◌++◌, length};
+ghost use Rattle.std.specs.Prelude.{◌≡◌, ◌≤◌, length};
 ghost use Rattle.history_text.specs.Text.{body_of, text_of};
 ghost use Rattle.history_text.specs.Fits.{FitsItem};
 

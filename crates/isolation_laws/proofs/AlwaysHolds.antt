@@ -1,14 +1,13 @@
 -- What ties state and history holds after every list of moves with steady readings; so each history is snapshot isolated.
-use Rattle.std.proofs.Common.{◌≡◌, ℕ, List, [], ◌∷◌, ◌++◌, append_assoc, Option, Some, None, refl, sym, ◌∙◌, ap, subst}
+use Rattle.std.proofs.Common.{◌≡◌, ℕ, List, [], ◌∷◌, ◌++◌, append_assoc, refl, sym, ◌∙◌, ap, subst}
 use Rattle.std.proofs.lemmas.List.{append-nil}
 use Rattle.stamp_base.specs.SetupNumbers.{SetupNumbers, AreInRange}
 use Rattle.port_io.specs.declared.weather.Fate.{Fate}
 use Rattle.history_book.specs.Isolation.{Isolated}
 use Rattle.history_book.specs.declared.item.Item.{Item}
-use Rattle.oracle_parts.specs.Instance.{InstanceEntry}
 use Rattle.machine.specs.declared.event.Event.{Event}
-use Rattle.machine.specs.State.{Client, State, opening}
-use Rattle.machine.specs.Machine.{Step, at_post, at_client, at_both, stepped, Move, state_after, items_after, history_after, reading_of, seen_after, IsSteadyAt, AreSteady, Steady}
+use Rattle.machine.specs.State.{State, opening}
+use Rattle.machine.specs.Machine.{Step, stepped, Move, state_after, items_after, history_after, reading_of, seen_after, IsSteadyAt, AreSteady, Steady}
 use Rattle.isolation_laws.specs.Holds.{Holds}
 use Rattle.isolation_laws.specs.Sound.{Sound, Stands}
 use Rattle.isolation_laws.proofs.Outcomes.{Outcome, OfStill, left_by, told_by_outcome}
@@ -50,19 +49,6 @@ holds_kept w h o holds = record {
 }
 
 -- ---- the greatest reading after an event
-post_seen : (left : State) (seen : ℕ) (f : Option InstanceEntry → Step) → left.seen ≡ seen → ((post : Option InstanceEntry) → (f post).state.seen ≡ seen) → (found : Option (Option InstanceEntry)) → (at_post left found f).state.seen ≡ seen
-post_seen left seen f none each None = none
-post_seen left seen f none each (Some post) = each post
-
-client_seen : (left : State) (seen : ℕ) (f : Client → Step) → left.seen ≡ seen → ((c : Client) → (f c).state.seen ≡ seen) → (found : Option Client) → (at_client left found f).state.seen ≡ seen
-client_seen left seen f none each None = none
-client_seen left seen f none each (Some c) = each c
-
-both_seen : (left : State) (seen : ℕ) (f : Option InstanceEntry → Client → Step) → left.seen ≡ seen → ((post : Option InstanceEntry) (c : Client) → (f post c).state.seen ≡ seen) → (found : Option (Option InstanceEntry)) (client : Option Client) → (at_both left found client f).state.seen ≡ seen
-both_seen left seen f none each None client = none
-both_seen left seen f none each (Some post) None = none
-both_seen left seen f none each (Some post) (Some c) = each post c
-
 -- ---- one move
 -- what comes to an outcome keeps them
 come_soundly : (w : State) (h : List Item) (step : Step) → Stands w h → ComesBy w step → Stands step.state (h ++ step.items)

@@ -16,10 +16,9 @@ use Rattle.machine.specs.State.{Client}
 use Rattle.machine.specs.Clients.{client_freed, client_aborted, client_committed, client_opened}
 use Rattle.machine.specs.Events.Step.{client_settled, after_asks}
 use Rattle.isolation_laws.specs.Words.{ClientAt, Begun, keys_with, keys_from, written_keys}
-use Rattle.isolation_laws.specs.Quiet.{AllQuiet}
 use Rattle.isolation_laws.specs.Requests.{HaveBegun, HasAsked, AreKeys}
 use Rattle.isolation_laws.proofs.Lookups.{client_set}
-use Rattle.isolation_laws.proofs.Pushed.{written_keys-push, written_keys-quiet}
+use Rattle.isolation_laws.proofs.Pushed.{written_keys-push}
 
 -- ---- transactions of sessions
 abbrev pub BegunClient : List Item → ℕ → Client → Type 0
@@ -101,12 +100,6 @@ keys_set clients h s c new keys = record {
     | inl here ↦ (subst (λ (x : Client). KeysClient h x) (sym here.1) new).some asked
     | inr there ↦ keys.some r d there.1 asked
   ];
-}
-
-pub keys_quiet : (clients : List Client) (h items : List Item) → AllQuiet items → AreKeys clients h → AreKeys clients (h ++ items)
-keys_quiet clients h items quiet keys = record {
-  written = λ s t c at is start. keys.written s t c at is start ∙ sym (written_keys-quiet h items t quiet);
-  some = keys.some;
 }
 
 -- a state in which the list stands for nothing

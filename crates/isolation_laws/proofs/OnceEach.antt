@@ -59,28 +59,12 @@ one_commit h t c d stamped one other = elim (two_places NewStamps h (Placed t c)
   | inr (inr (before, m, new)) ↦ absurd ((new t d m).0 refl)
 ]
 
--- a commit is that of one transaction
-pub one_placed : (h : List Item) (t u c : ℕ) → Stamped h → Committed h t c → Committed h u c → t ≡ u
-one_placed h t u c stamped one other = elim (two_places NewStamps h (Placed t c) (Placed u c) stamped.distinct one other) [
-  | inl same ↦ (commit_of_placed t u c c same).0
-  | inr (inl (before, m, new)) ↦ absurd ((new t c m).1 refl)
-  | inr (inr (before, m, new)) ↦ absurd ((new u c m).1 refl)
-]
-
 -- a stamp is drawn once
 pub drawn_once : (h : List Item) (r s n m term other t u : ℕ) (a b : Option ℕ) → AreNewDraws h → Draw r n term t a ∈ h → Draw s m other u b ∈ h → drawn_stamp t a ≡ drawn_stamp u b → Draw r n term t a ≡ Draw s m other u b
 drawn_once h r s n m term other t u a b news one two same = elim (two_places IsNewDraw h (Draw r n term t a) (Draw s m other u b) news.each one two) [
   | inl is ↦ is
   | inr (inl (before, in_, new)) ↦ absurd (new.0 r n term t a in_ same)
   | inr (inr (before, in_, new)) ↦ absurd (new.0 s m other u b in_ (sym same))
-]
-
--- a transaction draws one commit
-pub commit_drawn_once : (h : List Item) (r s n m term other t c d : ℕ) → AreNewDraws h → DrewCommit h r n term t c → DrewCommit h s m other t d → Draw r n term t (Some c) ≡ Draw s m other t (Some d)
-commit_drawn_once h r s n m term other t c d news one two = elim (two_places IsNewDraw h (Draw r n term t (Some c)) (Draw s m other t (Some d)) news.each one two) [
-  | inl is ↦ is
-  | inr (inl (before, in_, new)) ↦ absurd ((new.2 d refl).1 (r, n, term, c, in_))
-  | inr (inr (before, in_, new)) ↦ absurd ((new.2 c refl).1 (s, m, other, d, in_))
 ]
 
 -- a transaction's commit is above its start

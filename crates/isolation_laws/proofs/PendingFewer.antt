@@ -15,7 +15,7 @@ use Rattle.isolation_laws.proofs.Lookups.{instance_changed}
 use Rattle.isolation_laws.proofs.OutcomesOfRecord.{Still, Granted, granted_nodes, granted_state, Renewed, renewed_nodes, renewed_state, Extended, extended_nodes, extended_state}
 use Rattle.isolation_laws.proofs.OutcomesOfRequests.{Crashed, crashed_state, AskedBegin, asked_begin_state, Ended, ended_state}
 use Rattle.isolation_laws.proofs.OutcomesOfStamps.{AnsweredBegin, answered_begin_state, AnsweredCommit, answered_commit_state, AtDrawn, settled_nodes}
-use Rattle.isolation_laws.proofs.PendingAfter.{PendingIn, pending_in, pending_at, FewerPending, fewer_changed, fewer_ended, none_more_alike, none_more_ended, other_than_ended, none_more_begun, settled_cases, new_holds_none, none_more_same}
+use Rattle.isolation_laws.proofs.PendingAfter.{PendingIn, pending_in, pending_at, FewerPending, fewer_changed, fewer_ended, none_more_alike, none_more_ended, none_more_begun, settled_cases, new_holds_none, none_more_same}
 
 -- ---- outcomes with fewer commits in flight
 pub same_pending : (nodes : List (Option InstanceEntry)) → FewerPending nodes nodes
@@ -93,9 +93,3 @@ gone_from nodes n s i j q at less p = elim (instance_changed nodes n q.node j p.
 
 pub pending_settled : (w : State) (it : AtDrawn w) (by : Settled) (q : InFlight) → Pending (settled_nodes w it by) q → StaysElsewhere w.nodes it.node it.session q
 pending_settled w it by q p = gone_from w.nodes it.node it.session it.i (moved it.i it.session it.held (progress.Settled it.commit by)) q it.at (λ q p. settled_cases it.i it.session it.commit by it.held q p) p
-
-over_cases : (i : InstanceEntry) (s : ℕ) (q : InFlight) → PendingIn (without_request i s) q → (q.session ≢ s) × PendingIn i q
-over_cases i s q p = (other_than_ended i s q p, none_more_ended i s q p)
-
-pub pending_over : (nodes : List (Option InstanceEntry)) (n s : ℕ) (i : InstanceEntry) (q : InFlight) → InstanceAt nodes n i → Pending (slice_set nodes n (Some (without_request i s))) q → StaysElsewhere nodes n s q
-pending_over nodes n s i q at p = gone_from nodes n s i (without_request i s) q at (λ q p. over_cases i s q p) p

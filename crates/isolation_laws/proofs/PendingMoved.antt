@@ -9,7 +9,7 @@ use Rattle.oracle_parts.specs.Instance.{InstanceEntry, held_of, with_request}
 use Rattle.oracle_parts.specs.InstanceSteps.{moved, just_asked}
 use Rattle.machine.specs.State.{State}
 use Rattle.isolation_laws.specs.Words.{HeldBy}
-use Rattle.isolation_laws.specs.Pending.{Stage, Waits, Taken, Has, InFlight, stage_of, Pending, IsStageBelow, ComesBelow, IsPending}
+use Rattle.isolation_laws.specs.Pending.{Stage, Waits, Taken, Has, InFlight, stage_of, Pending, IsStageBelow, ComesBelow}
 use Rattle.isolation_laws.proofs.Lookups.{instance_changed, heldby_changed}
 use Rattle.isolation_laws.proofs.OutcomesOfRequests.{AskedCommit, asked_commit_state, Accepted, accepted_state}
 use Rattle.isolation_laws.proofs.OutcomesOfStamps.{Drew, drew_instance, drew_state}
@@ -155,22 +155,10 @@ comes_asked_commit w k b t c = elim (pending_asked_commit w k c.coming c.pending
   | inr new ↦ absurd (subst (IsStageBelow b) new.waits c.below)
 ]
 
-pub pending_asked : (w : State) (k : AskedCommit w) (t : ℕ) → IsPending (asked_commit_state w k).nodes t → IsPending w.nodes t ⊎ (t ≡ k.start)
-pending_asked w k t c = elim (pending_asked_commit w k c.coming c.pending) [
-  | inl old ↦ inl (record { coming = c.coming; pending = old; start_is = c.start_is })
-  | inr new ↦ inr (sym c.start_is ∙ new.start_is)
-]
-
 pub comes_accepted : (w : State) (k : Accepted w) (b t : ℕ) → ComesBelow (accepted_state w k).nodes b t → ComesBelow w.nodes b t ⊎ ((q : InFlight) × IsTaken w k q × (q.start ≡ t) × (k.i.last < b))
 comes_accepted w k b t c = elim (pending_accepted w k c.coming c.pending) [
   | inl old ↦ inl (record { coming = c.coming; pending = old; start_is = c.start_is; below = c.below })
   | inr new ↦ inr (c.coming, new, c.start_is, subst (IsStageBelow b) new.taken c.below)
-]
-
-pub pending_took : (w : State) (k : Accepted w) (t : ℕ) → IsPending (accepted_state w k).nodes t → IsPending w.nodes t
-pending_took w k t c = elim (pending_accepted w k c.coming c.pending) [
-  | inl old ↦ record { coming = c.coming; pending = old; start_is = c.start_is }
-  | inr new ↦ record { coming = record c.coming { stage = Waits }; pending = new.waited; start_is = c.start_is }
 ]
 
 -- what has its commit now, and what sees a later last stamp, came below the start before
@@ -179,11 +167,4 @@ comes_drew w k b t c = elim (pending_drew w k c.coming c.pending) [
   | inl old ↦ record { coming = c.coming; pending = old.0; start_is = c.start_is; below = c.below }
   | inr (inl older) ↦ record { coming = record c.coming { stage = Taken k.i.last }; pending = older.was_taken; start_is = c.start_is; below = below_less k.i.last b (subst (IsStageBelow b) older.taken c.below) }
   | inr (inr drawn) ↦ record { coming = record c.coming { stage = Taken k.i.last }; pending = drawn.was_taken; start_is = c.start_is; below = below_less k.i.last b (subst (IsStageBelow b) drawn.has c.below) }
-]
-
-pub pending_drawn : (w : State) (k : Drew w) (t : ℕ) → IsPending (drew_state w k).nodes t → IsPending w.nodes t
-pending_drawn w k t c = elim (pending_drew w k c.coming c.pending) [
-  | inl old ↦ record { coming = c.coming; pending = old.0; start_is = c.start_is }
-  | inr (inl older) ↦ record { coming = record c.coming { stage = Taken k.i.last }; pending = older.was_taken; start_is = c.start_is }
-  | inr (inr drawn) ↦ record { coming = record c.coming { stage = Taken k.i.last }; pending = drawn.was_taken; start_is = c.start_is }
 ]

@@ -4,11 +4,10 @@ use Rattle.std.specs.Option.{option_or}
 use Rattle.std.proofs.lemmas.List.{append-nil}
 use Rattle.std.proofs.lemmas.List.Elements.{All-nil, All-cons, All-head, All-tail}
 use Rattle.history_book.specs.Members.{◌∈◌}
-use Rattle.history_book.specs.Isolation.{Committed, last_write, written_by, WasListed}
+use Rattle.history_book.specs.Isolation.{Committed, last_write, written_by}
 use Rattle.history_book.specs.declared.item.Found.{Found}
-use Rattle.history_book.specs.declared.item.StoreStep.TheVariants.{Keys}
 use Rattle.history_book.specs.declared.item.Item.{Item}
-use Rattle.history_book.specs.declared.item.Item.TheVariants.{AskBegin, Draw, Begin, Write, Read, Placed, Step}
+use Rattle.history_book.specs.declared.item.Item.TheVariants.{Draw, Begin, Write, Read, Placed}
 use Rattle.history_book.proofs.MemberLemmas.{in_front}
 use Rattle.history_book.proofs.HistoryLemmas.{last_write-push}
 use Rattle.oracle_parts.specs.Buckets.{pairs_of}
@@ -54,21 +53,9 @@ old_read h items s t k answer quiet m = loud_old (Read s t k answer) h items not
 pub old_placed : (h items : List Item) (t c : ℕ) → AllQuiet items → Committed (h ++ items) t c → Committed h t c
 old_placed h items t c quiet m = loud_old (Placed t c) h items not_true quiet m
 
-pub old_ask : (h items : List Item) (s n : ℕ) → AllQuiet items → AskBegin s n ∈ (h ++ items) → AskBegin s n ∈ h
-old_ask h items s n quiet m = loud_old (AskBegin s n) h items not_true quiet m
-
-pub old_listed : (h items : List Item) (t : ℕ) → AllQuiet items → WasListed (h ++ items) t → WasListed h t
-old_listed h items t quiet (actor, count, m) = (actor, count, loud_old (Step actor (Keys t count)) h items not_true quiet m)
-
-pub old_drawn : (h items : List Item) (t : ℕ) → AllQuiet items → HasDrawn (h ++ items) t → HasDrawn h t
-old_drawn h items t quiet (s, n, term, c, m) = (s, n, term, c, old_draw h items s n term t (Some c) quiet m)
-
 -- what stood before stands after
 pub drawn_on : (h items : List Item) (t : ℕ) → HasDrawn h t → HasDrawn (h ++ items) t
 drawn_on h items t (s, n, term, c, m) = (s, n, term, c, in_front (Draw s n term t (Some c)) h items m)
-
-pub listed_on : (h items : List Item) (t : ℕ) → WasListed h t → WasListed (h ++ items) t
-listed_on h items t (actor, count, m) = (actor, count, in_front (Step actor (Keys t count)) h items m)
 
 -- ---- writes
 writes_nothing : (x : Item) (t k : ℕ) → Quiet x → written_by t k x ≡ None

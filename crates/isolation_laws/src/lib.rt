@@ -9,7 +9,7 @@ ghost use Rattle.stamp_base.specs.SetupNumbers.{SetupNumbers, AreInRange};
 ghost use Rattle.port_io.specs.declared.weather.Fate.{Fate};
 ghost use Rattle.machine.specs.declared.event.Event.{Event};
 ghost use Rattle.machine.specs.State.{State, opening};
-ghost use Rattle.machine.specs.Machine.{Move, Steady, IsSteadyAt, reading_of, stepped, state_after, history_after};
+ghost use Rattle.machine.specs.Machine.{Move, Steady, IsSteadyAt, reading_of, stepped, history_after};
 ghost use Rattle.isolation_laws.specs.Sound.{Stands};
 
 mod consequences;

@@ -36,11 +36,6 @@ abbrev pub IfTimed : Clocks → ℕ → Option Event → Type 0
 IfTimed clocks tick None = Unit {0}
 IfTimed clocks tick (Some e) = Timed clocks tick e
 
-name_timed : (clocks : Clocks) (tick : ℕ) (actor : Actor) (line : Verb) → IfTimed clocks tick (name_opens actor line)
-name_timed clocks tick actor (verb.Post name) = tt
-name_timed clocks tick actor (verb.Await name) = tt
-name_timed clocks tick actor _ = tt
-
 clock_timed : (clocks : Clocks) (line : Verb) → IfTimed clocks (tick_of line) (clock_opens clocks.base line)
 clock_timed clocks (verb.Tick by) = refl
 clock_timed clocks (verb.Post name) = tt

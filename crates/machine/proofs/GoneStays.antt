@@ -23,9 +23,6 @@ use Rattle.machine.specs.Laws.{touches_clients, IsGoneAt, GoneStaysGone}
 use Rattle.machine.proofs.PartsKept.{leaves_parts}
 use Rattle.machine.proofs.GoneClients.{IsGone, StaysGone, GoneIn, gone_here, gone_set, crash_gone, begin_gone, commit_gone, write_gone, fetch_gone, step_gone, heal_gone, abort_gone, vanish_gone, accept_gone, decide_gone, answer_gone}
 
-same_gone : (c : Client) → StaysGone c c
-same_gone c gone = gone
-
 -- ---- the parts put back
 at_client_gone : (w : State) (at session : ℕ) (c : Client) (f : Client → Step) (new : Client → Client) (found : Option Client) → ((d : Client) → (f d).state.clients ≡ slice_set w.clients at (new d)) → ((d : Client) → StaysGone d (new d)) → slice_get w.clients at ≡ found → slice_get w.clients session ≡ Some c → IsGone c → IsGoneAt (at_client w found f).state session
 at_client_gone w at session c f new None sets stays was is gone = gone_here w.clients session c is gone

@@ -1,5 +1,5 @@
 // A node asks for a further range of stamps.
-ghost use Rattle.std.specs.Prelude.{◌≡◌, ℕ, ◌≤◌, Some, IfSome};
+ghost use Rattle.std.specs.Prelude.{◌≡◌, ◌≤◌, Some, IfSome};
 ghost use Rattle.stamp_base.specs.SetupNumbers.{SetupNumbers};
 ghost use Rattle.machine.specs.Events.Take.{rules_of};
 ghost use Rattle.machine.specs.Events.Extend.{extend_on, extend_at, extend_asks};

@@ -1,5 +1,5 @@
 // A node renews its lease.
-ghost use Rattle.std.specs.Prelude.{◌≡◌, ℕ, ◌≤◌, ◌^◌, ◌∷◌, ◌++◌, [], Err, Some};
+ghost use Rattle.std.specs.Prelude.{◌≡◌, ◌≤◌, ◌^◌, ◌∷◌, ◌++◌, [], Err, Some};
 ghost use Rattle.stamp_base.specs.SetupNumbers.{SetupNumbers};
 ghost use Rattle.oracle_parts.specs.InstanceSteps.{IsStop, instance_stopped};
 ghost use Rattle.machine.specs.Events.Take.{rules_of};

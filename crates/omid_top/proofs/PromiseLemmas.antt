@@ -1,5 +1,5 @@
 -- The promise of a script's history, from what the cluster keeps.
-use Rattle.std.proofs.Common.{◌≡◌, ℕ, List, Result, Ok, Err, subst, sym}
+use Rattle.std.proofs.Common.{◌≡◌, ℕ, List, Result, Err, subst, sym}
 use Rattle.std.specs.Prelude.{IsErrAnd}
 use Rattle.history_book.specs.declared.item.Item.{Item}
 use Rattle.history_book.specs.Isolation.{Isolated}

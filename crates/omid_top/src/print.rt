@@ -1,7 +1,7 @@
 // Writing texts and histories. But for the lines of JSON it takes no memory.
-ghost use Rattle.std.specs.Prelude.{◌≡◌, ◌+◌, ◌≤◌, ◌<◌, ◌^◌, OnOk, OnErr, IsErrOf, length};
+ghost use Rattle.std.specs.Prelude.{◌≡◌, ◌<◌, OnOk, OnErr, IsErrOf};
 ghost use Rattle.port_io.specs.Ports.{Risen, Gains};
-ghost use Rattle.history_text.specs.Text.{text_of, printed};
+ghost use Rattle.history_text.specs.Text.{printed};
 ghost use Rattle.history_text.specs.Summary.{summarized};
 ghost use Rattle.history_json.specs.Json.{json_printed};
 ghost use Rattle.omid_top.specs.Texts.{usage_text, bad_line_text, text_in};

@@ -1,4 +1,4 @@
-ghost use Rattle.std.specs.Prelude.{◌≡◌, ◌≤◌, ◌^◌, ◌↔◌, IfOk, IfSome, IsTrue, Ok, None, Some, length};
+ghost use Rattle.std.specs.Prelude.{◌≡◌, ◌≤◌, ◌^◌, IfOk, IfSome, Ok, None, Some, length};
 ghost use Rattle.stamp_base.specs.Ranges.{IsStampRange};
 ghost use Rattle.oracle_parts.specs.Instance as entry;
 ghost use Rattle.oracle_parts.specs.InstanceSteps as step;
@@ -101,13 +101,6 @@ impl Instance {
         ensures range { self.now.ceiling ≤ 2 ^ 62 }
     {
         self.range.ceiling()
-    }
-
-    /// Whether no stamp is left.
-    pub fn is_used_up(&self) -> bool
-        ensures { IsTrue result ↔ (self.now.last ≡ self.now.ceiling) }
-    {
-        self.range.last() == self.range.ceiling()
     }
 
     /// The refusal of the master record that is kept.

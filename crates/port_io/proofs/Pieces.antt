@@ -47,11 +47,6 @@ loses_front (Some left) (Some rest) xs given =
     let front : length (xs ++ rest) - length rest ≡ length xs = omega (arith, length-append xs rest) in
     rw (whole, front, drop-append_seam xs rest) refl
 
--- nothing went out
-pub gains_nothing : (a : Option (List ℕ)) → Gains a a []
-gains_nothing None = refl
-gains_nothing (Some held) = ap Some (sym (append-nil held))
-
 -- some bytes went out after others
 pub gains_more : (a b c : Option (List ℕ)) (xs ys : List ℕ) → Gains a b xs → Gains b c ys → Gains a c (xs ++ ys)
 gains_more None b c xs ys first then = subst (λ (o : Option (List ℕ)). Gains o c ys) first then

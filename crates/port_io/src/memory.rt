@@ -1,5 +1,5 @@
 // A source and a sink in memory, whose reads and writes fail by number.
-ghost use Rattle.std.specs.Prelude.{◌≡◌, ℕ, ◌+◌, ◌-◌, ◌<◌, ◌≤◌, ◌↔◌, List, [], Option, Some, IfOk, IsErr, IsTrue, OnErr, OnOk, Contains, length, take, min, ◌⊎◌};
+ghost use Rattle.std.specs.Prelude.{◌≡◌, ◌+◌, ◌-◌, ◌<◌, ◌≤◌, ◌↔◌, [], Some, IfOk, IsErr, IsTrue, OnErr, OnOk, Contains, length, take, min, ◌⊎◌};
 ghost use Rattle.port_io.specs.Ports.{Risen, Gives, IsAtEnd, Gains};
 ghost use Rattle.port_io.specs.Memory.{SourceState, after_read, after_failed_read, SinkState, after_write, after_failed_write};
 

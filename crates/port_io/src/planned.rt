@@ -1,6 +1,5 @@
 // The weather of a plan.
-ghost use Rattle.std.specs.Prelude.{◌≡◌, ◌≢◌, ℕ, ◌+◌, ◌-◌, ◌<◌, ◌≤◌, ◌^◌, All, Contains, map};
-ghost use Rattle.port_io.specs.Fates.{Counts};
+ghost use Rattle.std.specs.Prelude.{◌≡◌, ◌≢◌, ℕ, ◌+◌, ◌-◌, ◌<◌, All, Contains, map};
 ghost use Rattle.port_io.specs.Planned.{PlannedFault, OneEach, planned_fate, one_call_later};
 
 use crate::weather::counted;

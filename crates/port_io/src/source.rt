@@ -1,5 +1,5 @@
 // Where bytes come from.
-ghost use Rattle.std.specs.Prelude.{◌≡◌, ℕ, ◌+◌, ◌<◌, ◌≤◌, List, Option, IfSome, IfOk, IsErr, OnOk, OnErr, IsErrOf, length, take};
+ghost use Rattle.std.specs.Prelude.{◌≡◌, ℕ, ◌<◌, ◌≤◌, List, Option, IfSome, IfOk, IsErr, OnOk, OnErr, IsErrOf, length, take};
 ghost use Rattle.port_io.specs.Ports.{Risen, Gives, IsAtEnd, LosesFront};
 
 use crate::Failed;

@@ -1,5 +1,5 @@
 // What becomes of the calls on the stores.
-ghost use Rattle.std.specs.Prelude.{◌≡◌, ◌≢◌, ℕ, ◌+◌, ◌<◌, ◌≤◌, ◌^◌};
+ghost use Rattle.std.specs.Prelude.{◌≡◌, ◌≢◌, ℕ, ◌+◌, ◌<◌, ◌≤◌};
 ghost use Rattle.port_io.specs.Fates.{Counts};
 
 use stamp_base::Store;

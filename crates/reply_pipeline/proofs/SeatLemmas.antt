@@ -97,8 +97,3 @@ module _ (plan : Plan) (workers senders : ℕ) (passes : List StageAccount) (lis
   -- behind them stand those of the sessions' threads
   pub sender_at : (sender : ℕ) (p : StageAccount) → sender < senders → p ≡ get_or passes (length plan.nodes * (workers + 2) + sender) p → IsSenderPass plan p
   sender_at sender p lt is = new_sender plan sender p (is ∙ ap (λ l. get_or l (length plan.nodes * (workers + 2) + sender) p) listed ∙ session_place (length plan.nodes) workers senders plan.nodes sender p lt)
-
--- the pass that stands at a place
-pub ready_of : (plan : Plan) (workers : ℕ) (passes : List StageAccount) (place : ℕ) (p : StageAccount) → AreReady plan workers passes → place < length passes → p ≡ get_or passes place p
-    → IsReadyFor plan (place / (workers + 2)) (stage_at workers (place % (workers + 2))) p
-ready_of plan workers passes place p h within is = h place p (slice_get_read passes (length passes) place p refl within is)

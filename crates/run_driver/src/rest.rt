@@ -1,5 +1,5 @@
 // What the threads have left undone, made by this thread. Nothing is left but where a thread could not be made.
-ghost use Rattle.std.specs.Prelude.{◌≡◌, IfOk};
+ghost use Rattle.std.specs.Prelude.{IfOk};
 ghost use Rattle.session_script.specs.Script.{data_of};
 ghost use Rattle.run_driver.specs.Runs.{RunsTo};
 

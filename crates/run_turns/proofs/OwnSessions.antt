@@ -12,18 +12,13 @@ use Rattle.script_data.specs.declared.line.Verb.TheVariants as verb
 use Rattle.line_runs.specs.declared.point.Point.{Point}
 use Rattle.line_runs.specs.declared.point.Point.TheVariants.{Opens, Drives, Extends, Finishes, Reads, Steps, Over}
 use Rattle.line_runs.specs.declared.point.View.{View}
-use Rattle.line_runs.specs.Next.{Clocks, serves, is_served, finish_next, drive_next, extend_next, idle_next, collect_next, read_next, steps_next, sweep_next, name_opens, clock_opens, node_opens, session_opens, janitor_opens, session_next, janitor_next, opens_alone, next}
+use Rattle.line_runs.specs.Next.{Clocks, serves, is_served, finish_next, drive_next, extend_next, idle_next, collect_next, read_next, steps_next, sweep_next, clock_opens, node_opens, session_opens, janitor_opens, session_next, janitor_next, opens_alone, next}
 use Rattle.run_turns.proofs.OwnEvents.{IsNextOf}
 use Rattle.run_turns.proofs.StillReading.{IsNotOf}
 
 abbrev IfNotOf : ℕ → Option Event → Type 0
 IfNotOf s None = Unit {0}
 IfNotOf s (Some e) = IsNotOf s e
-
-names_not : (s : ℕ) (actor : Actor) (line : Verb) → IfNotOf s (name_opens actor line)
-names_not s actor (verb.Post name) = tt
-names_not s actor (verb.Await name) = tt
-names_not s actor _ = tt
 
 alone_not : (s : ℕ) (first : Option Event) (at : Point) → IfNotOf s first → IfNotOf s (opens_alone first at)
 alone_not s first Opens not = not

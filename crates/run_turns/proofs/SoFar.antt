@@ -24,7 +24,7 @@ use Rattle.line_runs.proofs.Walks.{AllNot, plain_not}
 use Rattle.run_turns.specs.declared.seat.Seat.{Seat}
 use Rattle.run_turns.specs.declared.turn.Turn.{Turn}
 use Rattle.run_turns.specs.declared.turn.Turn.TheVariants as turn
-use Rattle.run_turns.specs.Seats.{lines_of, lines_left, present_line, with_next_line, with_event_of, with_event_at}
+use Rattle.run_turns.specs.Seats.{lines_of, lines_left, with_event_of}
 use Rattle.run_turns.specs.Carried.{Carried, seat_of, event_of, moved, with_event, seat_passed, all_passed, turned_by, turned}
 use Rattle.run_turns.specs.Laws.{IsAnsweredTo}
 use Rattle.run_turns.proofs.Facts.{Facts, facts_turned}

@@ -57,11 +57,6 @@ by_both w s f each (Some post) None = refl
 by_both w s f each (Some post) (Some c) = each post c
 
 -- ---- a node that serves a request
--- the session's own client, where it has none
-served_same : (w : State) (s : ℕ) (c : Client) (f : Option InstanceEntry → Client → Step) → ClientAt w.clients s c → ((post : Option InstanceEntry) → slice_get (f post c).state.clients s ≡ Some c) → (post : Option (Option InstanceEntry)) → Same w s (at_both w post (Some c) f)
-served_same w s c f at each None = refl
-served_same w s c f at each (Some post) = each post ∙ sym at
-
 abbrev NoneAt : ℕ → Option InstanceEntry → Type 0
 NoneAt s post = held_at post s ≡ None
 

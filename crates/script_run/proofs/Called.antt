@@ -1,5 +1,5 @@
 -- A turn's call, from what a script run keeps before it to what it keeps after it.
-use Rattle.std.proofs.Common.{◌≡◌, ℕ, Bool, true, false, List, [], ◌∷◌, ◌++◌, Option, Some, None, Result, All, inl, inr, length, drop, refl, sym, ◌∙◌, ap, subst}
+use Rattle.std.proofs.Common.{◌≡◌, ℕ, Bool, true, false, List, [], ◌∷◌, ◌++◌, Option, Some, Result, All, inl, inr, length, drop, refl, sym, ◌∙◌, ap, subst}
 use Rattle.std.specs.Prelude.{map}
 use Rattle.stamp_base.specs.declared.stores.Store.{Store}
 use Rattle.port_io.specs.declared.weather.Fate.{Fate}
@@ -28,7 +28,7 @@ use Rattle.script_run.proofs.Opening.{all_can_pass}
 use Rattle.script_run.proofs.Quiet.{ToldLaws, untold, appended_none}
 use Rattle.script_run.proofs.Since.{HasGrown, by_append}
 use Rattle.script_run.proofs.Steady.{steady}
-use Rattle.script_run.proofs.Stopping.{Went, went, stood, makes, makes_none}
+use Rattle.script_run.proofs.Stopping.{Went, went, makes}
 use Rattle.script_run.proofs.TurnMade.{IsMade, lawful, played_on, turn_made, turn_silent}
 use Rattle.script_run.proofs.Turned.{event_seated}
 
@@ -70,9 +70,6 @@ has_gone r e answer stop before whole now clock after ahead later stands length_
       grown = by_append before (reached_by r).played.items (step_in r e).items now.history (length_is ∙ ap (λ (h : List Item). length h) stands.history) k.stands.history;
     }
 
-pub has_stood : (r : Ran) (e : Event) (answer : Result Unit Stopped) (whole now : Whole) (clock after : ℕ) (ahead later : Store → ℕ → Fate) → StandsAt r.script (reached_by r).played whole clock ahead → PlaysOn e answer whole clock ahead now after later → halted answer ≡ None → StandsAt r.script (reached_by r).played now after later
-has_stood r e answer whole now clock after ahead later stands plays is = stood (step_in r e).stop answer (StandsAt r.script (reached_by r).played now after later) (StandsAt r.script (played r.script (reached_by r).played e) now after later) (plays r.script (reached_by r).played stands) is
-
 -- lines can be passed then
 pub may_pass : (r : Ran) (t : Turn) (e : Event) (stop : Option Halt) (asked : Bool) (before : ℕ) (items : List Item) (leads : List ℕ) (whole now : Whole) (clock after : ℕ) (ahead later : Store → ℕ → Fate) (names : List (List ℕ)) (held : List Holds) (seated moved : List Seated) (lacking : List ℕ) → IsMade r.script r.turns whole clock ahead names held seated lacking → CanTurn r t e → HasGone r e stop before now after later → items ≡ drop before now.history → asked ≡ was_asked items → leads ≡ r.script.leads → moved ≡ map (after_turn t stop asked) seated → All (CanPass after leads) moved
 may_pass r t e stop asked before items leads whole now clock after ahead later names held seated moved lacking k can gone items_are was same is =
@@ -113,5 +110,3 @@ leaves_out r old new t e answer stop before items whole now clock after ahead la
     makes old t e answer stop (StandsAt r.script (reached_by r).played now after later) (StandsAt r.script (played r.script (reached_by r).played e) now after later) new (subst (λ (x : Ran). Reaches (step_in x e).stop answer (StandsAt r.script (reached_by r).played now after later) (StandsAt r.script (played r.script (reached_by r).played e) now after later)) same (plays r.script (reached_by r).played stands)) is (inr (left_out r old new e items same (items_are ∙ gone.grown.since) quiet stays))
 
 -- ---- memory was refused
-pub makes_nothing : (old new : Ran) (t : Turn) (e : Event) (answer : Result Unit Stopped) → halted answer ≡ None → new ≡ old → Makes old t e answer new
-makes_nothing old new t e answer none same = makes_none old t e answer new none same

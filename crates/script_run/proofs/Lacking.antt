@@ -13,10 +13,3 @@ noted nodes node session (Some halt.NotYet) is = absurd (true≢false (sym is))
 noted nodes node session (Some halt.Refused) is = absurd (true≢false (sym is))
 noted nodes node session (Some halt.Faulted) is = absurd (true≢false (sym is))
 noted nodes node session None is = absurd (true≢false (sym is))
-
-pub not_noted : (nodes : List ℕ) (node session : ℕ) (stop : Option Halt) → finds_no_stamp stop ≡ false → lacking_after nodes (turn.Decide node session) stop ≡ nodes
-not_noted nodes node session (Some halt.NoStamp) is = absurd (true≢false is)
-not_noted nodes node session (Some halt.NotYet) is = refl
-not_noted nodes node session (Some halt.Refused) is = refl
-not_noted nodes node session (Some halt.Faulted) is = refl
-not_noted nodes node session None is = refl

@@ -1,5 +1,5 @@
 // What a script run tells of actors and stages.
-ghost use Rattle.std.specs.Prelude.{◌≡◌, ◌<◌, ◌^◌, Some, None, is_some, true, MatchOption, IfSome};
+ghost use Rattle.std.specs.Prelude.{◌≡◌, ◌<◌, Some, None, true, MatchOption, IfSome};
 ghost use Rattle.machine.specs.Readers as read;
 ghost use Rattle.line_runs.specs.Clocks.{HaveRoom};
 ghost use Rattle.line_runs.specs.Next.{reading_at};

@@ -1,6 +1,5 @@
 // A session makes the next step of what it has under way.
-ghost use Rattle.std.specs.Prelude.{◌≡◌, ◌≤◌, ◌++◌, None, Some, IfSome};
-ghost use Rattle.client_parts.specs.Asks.{FitsNext};
+ghost use Rattle.std.specs.Prelude.{◌≡◌, ◌≤◌, None, Some};
 ghost use Rattle.client_parts.specs.Sweep.{IsKeys};
 ghost use Rattle.machine.specs.StoreSteps as steps;
 ghost use Rattle.machine.specs.Events.Step.{step_on, step_at, step_asks, next_of, work_of};

@@ -98,13 +98,6 @@ invalid_stays-without_committed pairs txn other e = elim (cases_eq other txn) [
 pub committed_goes : (pairs : Pairs) (txn commit : ℕ) → mark_of pairs txn ≡ Some (Committed commit) → mark_of (without_committed pairs txn) txn ≡ None
 committed_goes pairs txn commit e = mark_of-without_committed pairs txn ∙ ap unless_committed e
 
--- and a removal takes away no other entry than its own
-pub goes_by_its_own : (pairs : Pairs) (txn other : ℕ) (there : Mark) → mark_of pairs other ≡ Some there → mark_of (without_committed pairs txn) other ≡ None → other ≡ txn
-goes_by_its_own pairs txn other there e gone = elim (cases_eq other txn) [
-  | inl same ↦ same
-  | inr ne ↦ absurd (none-some there (sym gone ∙ mark_of-without_committed_other pairs txn other ne ∙ e))
-]
-
 -- nothing comes by a removal
 pub was_there-without_committed : (pairs : Pairs) (txn other : ℕ) (there : Mark) → mark_of (without_committed pairs txn) other ≡ Some there → mark_of pairs other ≡ Some there
 was_there-without_committed pairs txn other there e = elim (cases_eq other txn) [

@@ -85,10 +85,6 @@ looked-shadow_same (r ∷ rs) k t c = elim (is_row-cases k t r) [
 pub looked-put_bare : (rs : List Row) (k t : ℕ) (v : List ℕ) → IsBare rs k t → looked (put_row rs k t v) k t ≡ Some (bare_cell t v)
 looked-put_bare rs k t v bare = looked-put_same rs k t v (λ cell e. subst (λ (found : Option Cell). IfSome found (λ c. c.shadow ≡ None)) e bare)
 
--- the key and the version stand before all of these
-abbrev pub Precedes : ℕ → ℕ → Row → Type 0
-Precedes k t x = (k < x.key) ⊎ ((k ≡ x.key) × (t < x.version))
-
 pub none_looked : (k t : ℕ) (cell : Cell) → looked [] k t ≡ Some cell → ⊥
 unfolding looked
 none_looked k t cell e = none-some _ e

@@ -1,5 +1,5 @@
 -- The small histories, gone through place by place.
-use Rattle.std.proofs.Common.{◌≡◌, ℕ, ◌<◌, [], ◌∷◌, Some, inl, inr, refl, subst, arith}
+use Rattle.std.proofs.Common.{◌≡◌, ℕ, ◌<◌, [], ◌∷◌, inl, inr, refl, arith}
 use Rattle.history_book.specs.Members.{◌∈◌, AtEach}
 use Rattle.history_book.specs.Isolation.{last_write, NewStamps, Apart, Stamped, StartsAbove, Fresh, Isolated, before_ask, has_ask}
 use Rattle.history_book.specs.declared.item.Item.TheVariants.{AskBegin, Begin, Placed}

@@ -1,5 +1,5 @@
 // Two nodes with two workers each, and a session's thread that sends tickets to them.
-ghost use Rattle.std.specs.Prelude.{◌≡◌, ◌+◌, ◌<◌, ◌^◌, IfOk, length};
+ghost use Rattle.std.specs.Prelude.{◌≡◌, ◌<◌, ◌^◌, IfOk, length};
 ghost use Rattle.reply_pipeline.specs.Seats.{AreReady, IsReadyFor, IsSenderPass, stage_at};
 
 use super::fake::Fake;

@@ -1,4 +1,4 @@
-use Rattle.std.proofs.Common.{[], List, sym, subst}
+use Rattle.std.proofs.Common.{List, sym, subst}
 use Rattle.store_parts.specs.Rows.{Row}
 use Rattle.cell_store.proofs.IndexKeys.{IsIndexOf, index_of_none}
 use Rattle.cell_store.proofs.Cells.new.Goals as goal

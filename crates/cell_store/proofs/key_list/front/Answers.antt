@@ -1,6 +1,5 @@
-use Rattle.std.proofs.Common.{◌≡◌, ℕ, ◌+◌, ◌-◌, ◌<◌, length, reverse, sym, ap, subst, ◌∙◌, arith}
+use Rattle.std.proofs.Common.{◌≡◌, ◌+◌, ◌-◌, ◌<◌, length, reverse, sym, ap, subst, ◌∙◌, arith}
 use Rattle.std.proofs.lemmas.List.{take_rest}
-use Rattle.store_parts.specs.declared.rows.Cell.{Cell}
 use Rattle.cell_store.proofs.Fronts.{IsFrontBehind, front_ends, front_goes_on, front_is_whole}
 use Rattle.cell_store.proofs.key_list.front.Goals as goal
 

@@ -1,8 +1,7 @@
-use Rattle.std.proofs.Common.{[], sym, ap, ◌∙◌}
+use Rattle.std.proofs.Common.{sym, ap, ◌∙◌}
 use Rattle.std.specs.Option.{option_copied}
 use Rattle.store_parts.specs.Rows.{fetched, looked}
-use Rattle.cell_store.specs.KeyLists.{rows_at}
-use Rattle.cell_store.proofs.RowSplits.{look_is_asked, looked-none, fetch_is_asked, fetched-nothing}
+use Rattle.cell_store.proofs.RowSplits.{look_is_asked, fetch_is_asked}
 use Rattle.cell_store.proofs.MapRows.{asked_there, asked_none, rising_there}
 use Rattle.cell_store.proofs.Stamped.{nothing_below}
 use Rattle.cell_store.proofs.rows.Rows.cells_of.Goals as goal

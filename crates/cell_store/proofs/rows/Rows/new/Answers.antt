@@ -1,6 +1,3 @@
-use Rattle.std.proofs.Common.{List, sym, subst}
-use Rattle.store_parts.specs.Rows.{Row, AreOrdered}
-use Rattle.cell_store.specs.KeyLists.{rows_of, AreStamped}
 use Rattle.cell_store.proofs.RowSplits.{nothing_ordered}
 use Rattle.cell_store.proofs.Stamped.{nothing_stamped}
 use Rattle.cell_store.proofs.rows.Rows.new.Goals as goal

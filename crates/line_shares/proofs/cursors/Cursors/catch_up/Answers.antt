@@ -1,5 +1,5 @@
-use Rattle.std.proofs.Common.{◌≡◌, ◌<◌, ◌^◌, sym, subst, arith}
-use Rattle.line_shares.specs.Done.{AreFew, caught_up}
+use Rattle.std.proofs.Common.{sym, subst, arith}
+use Rattle.line_shares.specs.Done.{AreFew}
 use Rattle.line_shares.proofs.Few.{few_done, still_few, same_count}
 use Rattle.line_shares.proofs.cursors.Cursors.catch_up.Goals as goal
 
