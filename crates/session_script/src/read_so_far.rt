@@ -119,9 +119,9 @@ impl ReadSoFar {
     /// Adds an actor's line, which counts.
     pub fn tell(&mut self, line: &Line) -> Result<(), AllocError>
         requires room { self.old.counted < LINE_LIMIT }
-        requires sound { LineIsSound self.old.script.setup.nodes line }
-        requires fits { name_objection self.old.posted line.verb ≡ None }
-        ensures { OnOk result (so_far self.new ≡ after_telling (so_far self.old) line) }
+        requires sound { LineIsSound self.old.script.setup.nodes line.now }
+        requires fits { name_objection self.old.posted line.now.verb ≡ None }
+        ensures { OnOk result (so_far self.new ≡ after_telling (so_far self.old) line.now) }
     {
         self.posted.note(self.alloc, &line.verb)?;
         self.script.lines.extend_from_slice(slice::from_ref(line))?;

@@ -150,9 +150,9 @@ fn read_actor_line(
 
 fn add_line(reading: &mut ReadSoFar, number: u64, line: &Line) -> Result<(), ScriptFault>
     requires room { reading.old.counted < LINE_LIMIT }
-    requires sound { LineIsSound reading.old.script.setup.nodes line }
+    requires sound { LineIsSound reading.old.script.setup.nodes line.now }
     ensures { ReadsLine result number
-        (unless (name_objection reading.old.posted line.verb) (after_telling (so_far reading.old) line))
+        (unless (name_objection reading.old.posted line.now.verb) (after_telling (so_far reading.old) line.now))
         (so_far reading.new) }
 {
     match reading.name_objection(&line.verb) {
