@@ -62,10 +62,10 @@ position-plain : (text : List ℕ) → list_all is_plain text ≡ true → posit
 position-plain [] h = refl
 position-plain (b ∷ bs) h = elim (cases_Bool (is_plain b)) [
   | inl e ↦
-    first-cons ends_word b bs
-    ∙ ap (λ ends. cond ends 0 (suc (position_or_len ends_word bs))) (ends_word-plain b e)
-    ∙ ap (λ n. cond (is_blank b) 0 (suc n)) (position-plain bs (rw e at h))
-    ∙ sym (first-cons is_blank b bs)
+      first-cons ends_word b bs
+      ∙ ap (λ ends. cond ends 0 (suc (position_or_len ends_word bs))) (ends_word-plain b e)
+      ∙ ap (λ n. cond (is_blank b) 0 (suc n)) (position-plain bs (rw e at h))
+      ∙ sym (first-cons is_blank b bs)
   | inr e ↦ absurd (true≢false (sym (rw e at h)))
 ]
 
@@ -75,16 +75,16 @@ plain-drop [] = refl
 plain-drop (b ∷ bs) = elim (cases_Bool (ends_word b)) [
   | inl e ↦ ap (λ n. list_all is_plain (drop n (b ∷ bs))) (first-cons ends_word b bs ∙ ap (λ ends. cond ends 0 (suc (position_or_len ends_word bs))) e)
   | inr e ↦
-    ap (λ n. list_all is_plain (drop n (b ∷ bs))) (first-cons ends_word b bs ∙ ap (λ ends. cond ends 0 (suc (position_or_len ends_word bs))) e)
-    ∙ plain-drop bs ∙ ap (λ plain. plain && list_all is_plain bs) (sym (inside_is_plain b e))
+      ap (λ n. list_all is_plain (drop n (b ∷ bs))) (first-cons ends_word b bs ∙ ap (λ ends. cond ends 0 (suc (position_or_len ends_word bs))) e)
+      ∙ plain-drop bs ∙ ap (λ plain. plain && list_all is_plain bs) (sym (inside_is_plain b e))
 ]
 
 -- a plain text begins with a word, unless it begins with a blank
 begins_word : (b : ℕ) (bs : List ℕ) (n : ℕ) → is_blank b ≡ false → list_all is_plain (b ∷ bs) ≡ true → n ≡ position_or_len ends_word (b ∷ bs) → n ≡ 0 → ⊥
 begins_word b bs n seen h is none = elim (cases_Bool (is_plain b)) [
   | inl e ↦
-    let one : n ≡ suc (position_or_len ends_word bs) = is ∙ first-cons ends_word b bs ∙ ap (λ ends. cond ends 0 (suc (position_or_len ends_word bs))) (ends_word-plain b e ∙ seen) in
-    omega arith
+      let one : n ≡ suc (position_or_len ends_word bs) = is ∙ first-cons ends_word b bs ∙ ap (λ ends. cond ends 0 (suc (position_or_len ends_word bs))) (ends_word-plain b e ∙ seen) in
+      omega arith
   | inr e ↦ true≢false (sym (rw e at h))
 ]
 
@@ -94,11 +94,11 @@ unfolding after_blanks
 blanks_alone [] n h is none = refl
 blanks_alone (b ∷ bs) n h is none = elim (cases_Bool (is_blank b)) [
   | inl e ↦
-    let same : after_blanks (b ∷ bs) ≡ after_blanks bs = rw e refl in
-    same ∙ blanks_alone bs n (ap (list_all is_plain) (sym same) ∙ h) (is ∙ ap (position_or_len ends_word) same) none
+      let same : after_blanks (b ∷ bs) ≡ after_blanks bs = rw e refl in
+      same ∙ blanks_alone bs n (ap (list_all is_plain) (sym same) ∙ h) (is ∙ ap (position_or_len ends_word) same) none
   | inr e ↦
-    let same : after_blanks (b ∷ bs) ≡ b ∷ bs = rw e refl in
-    absurd (begins_word b bs n e (ap (list_all is_plain) (sym same) ∙ h) (is ∙ ap (position_or_len ends_word) same) none)
+      let same : after_blanks (b ∷ bs) ≡ b ∷ bs = rw e refl in
+      absurd (begins_word b bs n e (ap (list_all is_plain) (sym same) ∙ h) (is ∙ ap (position_or_len ends_word) same) none)
 ]
 
 -- where a blank stands, the words are those before it and those from it on

@@ -18,8 +18,7 @@ use crate::setting::{Setting, setting_of};
 use history_book::Actor;
 use script_data::Line;
 use script_lines::{
-    Mode, ScriptCause, SetupForm, Words, actor_of, cut_line, is_silent, line_of,
-    setup_form,
+    Mode, ScriptCause, SetupForm, Words, actor_of, cut_line, is_silent, line_of, setup_form,
 };
 use stamp_base::{BYTE_LIMIT, LINE_LIMIT};
 use std::alloc::Global;
