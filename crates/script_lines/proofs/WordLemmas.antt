@@ -1,13 +1,14 @@
 -- How the words of a text follow from its front.
-use Rattle.std.proofs.Common.{◌≡◌, ℕ, ◌+◌, ◌-◌, ◌<◌, ◌≤◌, inl, inr, true, false, List, [], ◌∷◌, length, take, drop, get_or, refl, sym, ap, ◌∙◌, subst, arith, filter, add-one, length-drop}
-use Rattle.std.specs.List.{position_or_len, All}
+use Rattle.std.proofs.Common.{◌≡◌, ◌==◌, ℕ, Bool, suc, cond, ◌&&◌, ◌+◌, ◌-◌, ◌<◌, ◌≤◌, inl, inr, true, false, true≢false, List, [], ◌∷◌, length, take, drop, get_or, refl, sym, ap, ◌∙◌, subst, arith, filter, add-one, length-drop}
+use Rattle.std.specs.List.{list_all, position_or_len, All}
+use Rattle.std.proofs.Math.Dec.{eqb-suc-zero}
 use Rattle.std.proofs.Math.Seq.{drop-cons, take-length, drop-length}
 use Rattle.std.proofs.lemmas.Bool.{cases_Bool}
 use Rattle.std.proofs.lemmas.Bool.{cases_lt}
 use Rattle.std.proofs.lemmas.List.{take_rest, length-take-le}
 use Rattle.std.proofs.lemmas.List.Sums.{fails_before_first, passes_at_first}
 use Rattle.std.proofs.lemmas.List.Splits.{slice_split-cons_yes, slice_split_first, slice_split_none}
-use Rattle.script_lines.specs.Words.{is_blank, is_word, words_of, with_word, after_blanks, TakesWord}
+use Rattle.script_lines.specs.Words.{is_blank, is_plain, ends_word, is_word, words_of, with_word, after_blanks, TakesWord}
 
 -- a blank in front changes no word
 pub words_of-blank : (b : ℕ) (bs : List ℕ) → is_blank b ≡ true → words_of (b ∷ bs) ≡ words_of bs
@@ -30,20 +31,75 @@ length-after_blanks (b ∷ bs) = elim (cases_Bool (is_blank b)) [
   | inr e ↦ rw e (omega arith)
 ]
 
--- no blank is left in front
-plain_after_blanks : (text : List ℕ) (n : ℕ) → n ≡ position_or_len is_blank (after_blanks text) → n ≡ 0 → after_blanks text ≡ []
+blank_is_plain : (b : ℕ) → is_blank b ≡ true → is_plain b ≡ true
+blank_is_plain b h = grind arith
+
+inside_is_plain : (b : ℕ) → ends_word b ≡ false → is_plain b ≡ true
+inside_is_plain b h = grind arith
+
+plain-after_blanks : (text : List ℕ) → list_all is_plain (after_blanks text) ≡ list_all is_plain text
 unfolding after_blanks
-plain_after_blanks [] n is none = refl
-plain_after_blanks (b ∷ bs) n is none = elim (cases_Bool (is_blank b)) [
-  | inl e ↦ rw e (plain_after_blanks bs n (rw e at is) none)
-  | inr e ↦ absurd (let one : n ≡ 1 + position_or_len is_blank bs = rw e at (rw e at is) in omega arith)
+plain-after_blanks [] = refl
+plain-after_blanks (b ∷ bs) = elim (cases_Bool (is_blank b)) [
+  | inl e ↦ rw (e, plain-after_blanks bs, blank_is_plain b e) refl
+  | inr e ↦ rw e refl
 ]
 
-nothing_left : (text plain : List ℕ) (n : ℕ) → plain ≡ after_blanks text → n ≡ position_or_len is_blank plain → n ≡ 0 → words_of (drop n plain) ≡ []
-unfolding words_of
-nothing_left text plain n e is none =
-    let empty : plain ≡ [] = e ∙ plain_after_blanks text n (subst (λ (ys : List ℕ). n ≡ position_or_len is_blank ys) e is) none in
-    rw (none, empty) refl
+-- of the bytes that a plain line may have, only blanks end a word
+ends_word-plain : (b : ℕ) → is_plain b ≡ true → ends_word b ≡ is_blank b
+ends_word-plain b h = elim (cases_Bool (is_blank b)) [
+  | inl e ↦ rw e refl
+  | inr e ↦ rw (e, h) refl
+]
+
+first-cons : (p : ℕ → Bool) (b : ℕ) (bs : List ℕ) → position_or_len p (b ∷ bs) ≡ cond (p b) 0 (suc (position_or_len p bs))
+first-cons p b bs = elim (cases_Bool (p b)) [
+  | inl e ↦ rw e refl
+  | inr e ↦ let next : 1 + position_or_len p bs ≡ suc (position_or_len p bs) = omega arith in rw (e, next) refl
+]
+
+position-plain : (text : List ℕ) → list_all is_plain text ≡ true → position_or_len ends_word text ≡ position_or_len is_blank text
+position-plain [] h = refl
+position-plain (b ∷ bs) h = elim (cases_Bool (is_plain b)) [
+  | inl e ↦
+      first-cons ends_word b bs
+      ∙ ap (λ ends. cond ends 0 (suc (position_or_len ends_word bs))) (ends_word-plain b e)
+      ∙ ap (λ n. cond (is_blank b) 0 (suc n)) (position-plain bs (rw e at h))
+      ∙ sym (first-cons is_blank b bs)
+  | inr e ↦ absurd (true≢false (sym (rw e at h)))
+]
+
+-- what stands in front of the end of a word is plain
+plain-drop : (text : List ℕ) → list_all is_plain (drop (position_or_len ends_word text) text) ≡ list_all is_plain text
+plain-drop [] = refl
+plain-drop (b ∷ bs) = elim (cases_Bool (ends_word b)) [
+  | inl e ↦ ap (λ n. list_all is_plain (drop n (b ∷ bs))) (first-cons ends_word b bs ∙ ap (λ ends. cond ends 0 (suc (position_or_len ends_word bs))) e)
+  | inr e ↦
+      ap (λ n. list_all is_plain (drop n (b ∷ bs))) (first-cons ends_word b bs ∙ ap (λ ends. cond ends 0 (suc (position_or_len ends_word bs))) e)
+      ∙ plain-drop bs ∙ ap (λ plain. plain && list_all is_plain bs) (sym (inside_is_plain b e))
+]
+
+-- a plain text begins with a word, unless it begins with a blank
+begins_word : (b : ℕ) (bs : List ℕ) (n : ℕ) → is_blank b ≡ false → list_all is_plain (b ∷ bs) ≡ true → n ≡ position_or_len ends_word (b ∷ bs) → n ≡ 0 → ⊥
+begins_word b bs n seen h is none = elim (cases_Bool (is_plain b)) [
+  | inl e ↦
+      let one : n ≡ suc (position_or_len ends_word bs) = is ∙ first-cons ends_word b bs ∙ ap (λ ends. cond ends 0 (suc (position_or_len ends_word bs))) (ends_word-plain b e ∙ seen) in
+      omega arith
+  | inr e ↦ true≢false (sym (rw e at h))
+]
+
+-- a plain text without a word has blanks alone
+blanks_alone : (text : List ℕ) (n : ℕ) → list_all is_plain (after_blanks text) ≡ true → n ≡ position_or_len ends_word (after_blanks text) → n ≡ 0 → after_blanks text ≡ []
+unfolding after_blanks
+blanks_alone [] n h is none = refl
+blanks_alone (b ∷ bs) n h is none = elim (cases_Bool (is_blank b)) [
+  | inl e ↦
+      let same : after_blanks (b ∷ bs) ≡ after_blanks bs = rw e refl in
+      same ∙ blanks_alone bs n (ap (list_all is_plain) (sym same) ∙ h) (is ∙ ap (position_or_len ends_word) same) none
+  | inr e ↦
+      let same : after_blanks (b ∷ bs) ≡ b ∷ bs = rw e refl in
+      absurd (begins_word b bs n e (ap (list_all is_plain) (sym same) ∙ h) (is ∙ ap (position_or_len ends_word) same) none)
+]
 
 -- where a blank stands, the words are those before it and those from it on
 words_of-front : (text : List ℕ) → position_or_len is_blank text < length text → words_of text ≡ with_word (take (position_or_len is_blank text) text) (words_of (drop (position_or_len is_blank text) text))
@@ -66,15 +122,29 @@ words_of-split text n is within = elim (cases_lt n (length text)) [
   | inr above ↦ words_of-whole text n (omega arith) (λ k d h. fails_before_first is_blank text k d (omega arith))
 ]
 
-pub takes_word : (text plain : List ℕ) (n : ℕ) → plain ≡ after_blanks text → n ≡ position_or_len is_blank plain → n ≤ length plain → TakesWord text (take n plain) (take (length plain - n) (drop n plain))
-takes_word text plain n e is within =
-    let rest : take (length plain - n) (drop n plain) ≡ drop n plain = take_rest plain n in
-    let size : length (take n plain) ≡ n = length-take-le n plain within in
-    let left : length (drop n plain) ≡ length plain - n = length-drop n plain in
-    let less : length plain ≤ length text = rw e (length-after_blanks text) in
+nothing_after : (text after : List ℕ) (n : ℕ) → after ≡ after_blanks text → list_all is_plain after ≡ true → n ≡ position_or_len ends_word after → n ≡ 0 → drop n after ≡ []
+nothing_after text after n e h is none =
+    let empty : after ≡ [] = e ∙ blanks_alone text n (subst (λ (ys : List ℕ). list_all is_plain ys ≡ true) e h) (subst (λ (ys : List ℕ). n ≡ position_or_len ends_word ys) e is) none in
+    rw (none, empty) refl
+
+pub takes_word : (text after : List ℕ) (n : ℕ) → after ≡ after_blanks text → n ≡ position_or_len ends_word after → n ≤ length after → TakesWord text (take n after) (take (length after - n) (drop n after))
+takes_word text after n e is within =
+    let rest : take (length after - n) (drop n after) ≡ drop n after = take_rest after n in
+    let size : length (take n after) ≡ n = length-take-le n after within in
+    let left : length (drop n after) ≡ length after - n = length-drop n after in
+    let less : length after ≤ length text = rw e (length-after_blanks text) in
+    let plain : list_all is_plain after ≡ list_all is_plain text = ap (list_all is_plain) e ∙ plain-after_blanks text in
     rw rest (record {
-      words = sym (ap words_of e ∙ words_of-after_blanks text) ∙ words_of-split plain n is within;
-      ended = λ none. nothing_left text plain n e is (omega (arith, size, ap length none));
+      plain = ap (λ m. list_all is_plain (drop m after)) is ∙ plain-drop after ∙ plain;
+      words = λ h. sym (ap words_of e ∙ words_of-after_blanks text) ∙ words_of-split after n (is ∙ position-plain after (plain ∙ h)) within;
+      ended = λ h none. nothing_after text after n e (plain ∙ h) is (omega (arith, size, ap length none));
       within = omega arith;
       shorter = λ some. omega arith;
     })
+
+-- where there is no word and nothing is left, the text has no words
+pub no_words : (text word rest : List ℕ) → TakesWord text word rest → (length word == 0) ≡ true → (length rest == 0) ≡ true → (list_all is_plain text ≡ true) × (length (words_of text) ≡ 0)
+unfolding words_of
+no_words text [] [] takes w r = let plain : list_all is_plain text ≡ true = sym takes.plain in (plain, ap length (takes.words plain))
+no_words text [] (b ∷ bs) takes w r = absurd (true≢false (sym (rw (eqb-suc-zero (length bs)) at r)))
+no_words text (b ∷ bs) rest takes w r = absurd (true≢false (sym (rw (eqb-suc-zero (length bs)) at w)))

@@ -1,6 +1,6 @@
 -- The words of a line.
-use Rattle.std.specs.Prelude.{◌≡◌, ℕ, ◌<◌, ◌≤◌, ◌==◌, nat_lt, nat_le, Bool, true, ◌&&◌, ◌||◌, if◌then◌else◌, List, [], ◌∷◌, length, filter}
-use Rattle.std.specs.List.{slice_split, slice_index_or}
+use Rattle.std.specs.Prelude.{◌≡◌, ℕ, ◌<◌, ◌≤◌, ◌==◌, nat_lt, nat_le, Bool, true, ◌&&◌, ◌||◌, not, if◌then◌else◌, List, [], ◌∷◌, length, filter}
+use Rattle.std.specs.List.{list_all, slice_split, slice_index_or}
 use Rattle.script_lines.specs.declared.words.Words.{Words}
 
 -- a space or a tab
@@ -10,6 +10,10 @@ is_blank b = b == 32 || b == 9
 -- a tab, a space or a byte that can be seen
 abbrev pub is_plain : ℕ → Bool
 is_plain b = b == 9 || (nat_le 32 b && nat_le b 126)
+
+-- what ends a word: a blank, or a byte that no plain line has
+abbrev pub ends_word : ℕ → Bool
+ends_word b = is_blank b || not (is_plain b)
 
 abbrev pub is_word : List ℕ → Bool
 is_word piece = nat_lt 0 (length piece)
@@ -39,10 +43,11 @@ is_silent line = is_silent_from (after_blanks line)
 abbrev pub with_word : List ℕ → List (List ℕ) → List (List ℕ)
 with_word word words = if is_word word then word ∷ words else words
 
--- the first word of a text, and the text after it
+-- the first word of a text, and the text after it: of a plain text the words are this one and those of the rest
 pub record TakesWord (text word rest : List ℕ) : Type 0 where
-  pub words : words_of text ≡ with_word word (words_of rest)
-  pub ended : word ≡ [] → words_of rest ≡ []
+  pub plain : list_all is_plain rest ≡ list_all is_plain text
+  pub words : list_all is_plain text ≡ true → words_of text ≡ with_word word (words_of rest)
+  pub ended : list_all is_plain text ≡ true → word ≡ [] → rest ≡ []
   pub within : length rest ≤ length text
   pub shorter : 0 < length word → length rest < length text
 

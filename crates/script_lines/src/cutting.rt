@@ -1,7 +1,7 @@
 // Cutting a line into words, which are pieces of the script's own bytes.
-ghost use Rattle.std.specs.Prelude.{◌≡◌, ◌+◌, ◌<◌, ◌≤◌, length, if◌then◌else◌};
+ghost use Rattle.std.specs.Prelude.{◌≡◌, ◌+◌, ◌<◌, ◌≤◌, length, if◌then◌else◌, is_some, IfSome};
 ghost use Rattle.std.specs.List.{list_all, position_or_len};
-ghost use Rattle.script_lines.specs.Words.{is_blank, is_plain, is_silent, is_word, words_of, after_blanks, TakesWord, seen, line_words};
+ghost use Rattle.script_lines.specs.Words.{is_blank, is_plain, ends_word, is_silent, is_word, words_of, after_blanks, TakesWord, seen, line_words};
 
 use crate::words::Words;
 
@@ -15,29 +15,24 @@ pub fn is_silent(line: &[u8]) -> bool
     }
 }
 
-/// Whether a line has only bytes that a line other than a comment may have.
-pub fn is_plain_line(line: &[u8]) -> bool
-    ensures { result ≡ list_all is_plain line.now }
-{
-    line.iter().all(|b| is_plain(*b))
-}
-
-/// The words of a line.
-pub fn cut_line(line: &[u8]) -> Words<'_>
-    ensures { seen result ≡ line_words (words_of line.now) }
+/// The words of a line, or None where the line has a byte that no line other than a comment may have.
+pub fn cut_line(line: &[u8]) -> Option<Words<'_>>
+    ensures plain { is_some result ≡ list_all is_plain line.now }
+    ensures words { IfSome result (λ words. seen words ≡ line_words (words_of line.now)) }
 {
     let (first, rest) = next_word(line);
     let (second, rest) = next_word(rest);
     let (third, rest) = next_word(rest);
     let (fourth, rest) = next_word(rest);
+    let further = count_words(rest)?;
     let front = count_word(first) + count_word(second) + count_word(third) + count_word(fourth);
-    Words {
+    Some(Words {
         first,
         second,
         third,
         fourth,
-        count: front + count_words(rest),
-    }
+        count: front + further,
+    })
 }
 
 /// Counts a word that may be empty.
@@ -47,23 +42,26 @@ fn count_word(word: &[u8]) -> usize
     usize::from(!word.is_empty())
 }
 
-fn count_words(text: &[u8]) -> usize
-    ensures count { result ≡ length (words_of text.now) }
-    ensures few { result ≤ length text.now }
+/// How many words a text has, or None as above.
+fn count_words(text: &[u8]) -> Option<usize>
+    ensures plain { is_some result ≡ list_all is_plain text.now }
+    ensures count { IfSome result (λ count. count ≡ length (words_of text.now)) }
+    ensures few { IfSome result (λ count. count ≤ length text.now) }
 {
     let mut count = 0;
     let mut rest = text;
     loop {
         let (word, more) = next_word(rest);
         if word.is_empty() {
-            return count;
+            return if more.is_empty() { Some(count) } else { None };
         }
         count += 1;
         rest = more;
     }
 }
 
-/// The first word of a text, empty where it has none, and the text after that word.
+/// The first word of a text, empty where it has none, and the text after that word. A byte that no plain line has
+/// ends a word too, and begins the text after it.
 fn next_word(text: &[u8]) -> (&[u8], &[u8])
     ensures { TakesWord text.now result.0.now result.1.now }
 {
@@ -86,14 +84,14 @@ fn skip_blanks(text: &[u8]) -> &[u8]
     rest
 }
 
-/// Where the first blank stands, or the text ends.
+/// Where the first byte stands that ends a word, or the text ends.
 #[tactic(auto, using(std::proofs::lemmas::List::Sums::position_or_len_is))]
 fn word_end(text: &[u8]) -> usize
-    ensures place { result ≡ position_or_len is_blank text.now }
+    ensures place { result ≡ position_or_len ends_word text.now }
     ensures within { result ≤ length text.now }
 {
     for (i, b) in text.iter().enumerate() {
-        if is_blank(*b) {
+        if ends_word(*b) {
             return i;
         }
     }
@@ -106,8 +104,8 @@ fn is_blank(b: u8) -> bool
     b == b' ' || b == b'\t'
 }
 
-fn is_plain(b: u8) -> bool
-    ensures { result ≡ is_plain b }
+fn ends_word(b: u8) -> bool
+    ensures { result ≡ ends_word b }
 {
-    b == b'\t' || (b' ' <= b && b <= b'~')
+    b <= b' ' || b'~' < b
 }

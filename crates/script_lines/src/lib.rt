@@ -14,7 +14,7 @@ mod words;
 pub use arguments::actor_of;
 pub use cause::ScriptCause;
 pub use checked::{kind_at, node_at, number_at, store_at};
-pub use cutting::{cut_line, is_plain_line, is_silent};
+pub use cutting::{cut_line, is_silent};
 pub use form::SetupForm;
 pub use line::line_of;
 pub use mode::Mode;

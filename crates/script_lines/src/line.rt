@@ -30,12 +30,14 @@ pub fn line_of(
     ensures sound { IfOk result (LineIsSound setup.now.nodes) }
 {
     let form = form_of(mode, &actor, words)?;
-    let verb = verb_of(setup, form, words)?;
-    Ok(Line {
-        number,
-        actor,
-        verb,
-    })
+    match verb_of(setup, form, words) {
+        Ok(verb) => Ok(Line {
+            number,
+            actor,
+            verb,
+        }),
+        Err(cause) => Err(cause),
+    }
 }
 
 /// The form of an actor's line. An actor's word alone names no verb.

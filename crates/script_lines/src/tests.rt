@@ -8,7 +8,9 @@ use std::test::Fail;
 /// What a line of an actor says where the nodes are `a` and `b`, or its first cause.
 fn said(mode: Mode, text: &str) -> Result<Line, ScriptCause> {
     let setup = Setup::default();
-    let words = cut_line(text.as_bytes());
+    let Some(words) = cut_line(text.as_bytes()) else {
+        return Err(ScriptCause::BadByte);
+    };
     match actor_of(&setup, words.first) {
         Some(actor) => line_of(mode, &setup, 1, actor, &words),
         None => Err(ScriptCause::UnknownActor),
@@ -238,26 +240,30 @@ fn reads_what_lines_have_between_their_words(rt: HostRuntime) -> Result<(), Fail
     for text in ["a take", "\ta  take \t", "\0"] {
         assert!(rt; !is_silent(text.as_bytes()), "{text}");
     }
-    let words = cut_line(b"\ta  take \t");
+    let words = cut_line(b"\ta  take \t").ok_or("plain")?;
     assert_eq!(rt; words.first, b"a".as_slice());
     assert_eq!(rt; words.second, b"take".as_slice());
     assert_eq!(rt; words.count, 2);
-    assert!(rt; is_plain_line(b"s0 write k0 #~!\t"));
+    let words = cut_line(b"s0 write k0 #~! 5 6\t ").ok_or("plain")?;
+    assert_eq!(rt; words.fourth, b"#~!".as_slice());
+    assert_eq!(rt; words.count, 6);
     for line in [
         b"a\0take".as_slice(),
         b"a take\r",
         b"q\x7f",
         b"\x1f",
         b"a \x80",
+        b"a b c d e \x0b",
+        b"a b c d e f\x1f ",
     ] {
-        assert!(rt; !is_plain_line(line));
+        assert!(rt; cut_line(line).is_none());
     }
     Ok(())
 }
 
 #[test]
 fn reads_the_words_of_a_setup_line(rt: HostRuntime) -> Result<(), Fail> {
-    let words = cut_line(b"fault table 3 applied");
+    let words = cut_line(b"fault table 3 applied").ok_or("plain")?;
     assert!(rt; setup_form(words.first) == Some(SetupForm::Fault));
     assert_eq!(rt; SetupForm::Fault.words(), words.count);
     assert!(rt; store_at(words.second) == Ok(Store::Table));

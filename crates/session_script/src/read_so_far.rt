@@ -12,6 +12,7 @@ use script_data::{FAULT_LIMIT, Line, Verb};
 use script_lines::ScriptCause;
 use stamp_base::{LINE_LIMIT, Setup};
 use std::alloc::{AllocError, Global};
+use std::slice;
 
 #[derive(Drop)]
 pub struct ReadSoFar {
@@ -116,14 +117,14 @@ impl ReadSoFar {
     }
 
     /// Adds an actor's line, which counts.
-    pub fn tell(&mut self, line: Line) -> Result<(), AllocError>
+    pub fn tell(&mut self, line: &Line) -> Result<(), AllocError>
         requires room { self.old.counted < LINE_LIMIT }
-        requires sound { LineIsSound self.old.script.setup.nodes line }
-        requires fits { name_objection self.old.posted line.verb ≡ None }
-        ensures { OnOk result (so_far self.new ≡ after_telling (so_far self.old) line) }
+        requires sound { LineIsSound self.old.script.setup.nodes line.now }
+        requires fits { name_objection self.old.posted line.now.verb ≡ None }
+        ensures { OnOk result (so_far self.new ≡ after_telling (so_far self.old) line.now) }
     {
         self.posted.note(self.alloc, &line.verb)?;
-        self.script.lines.extend_from_slice(&[line])?;
+        self.script.lines.extend_from_slice(slice::from_ref(line))?;
         self.counted += 1;
         Ok(())
     }

@@ -18,8 +18,7 @@ use crate::setting::{Setting, setting_of};
 use history_book::Actor;
 use script_data::Line;
 use script_lines::{
-    Mode, ScriptCause, SetupForm, Words, actor_of, cut_line, is_plain_line, is_silent, line_of,
-    setup_form,
+    Mode, ScriptCause, SetupForm, Words, actor_of, cut_line, is_silent, line_of, setup_form,
 };
 use stamp_base::{BYTE_LIMIT, LINE_LIMIT};
 use std::alloc::Global;
@@ -73,10 +72,10 @@ fn read_line(
     if reading.counted >= LINE_LIMIT {
         return bad_line(number, ScriptCause::TooManyLines);
     }
-    if !is_plain_line(line) {
-        return bad_line(number, ScriptCause::BadByte);
+    match cut_line(line) {
+        Some(words) => read_words(reading, mode, number, &words),
+        None => bad_line(number, ScriptCause::BadByte),
     }
-    read_words(reading, mode, number, &cut_line(line))
 }
 
 /// Reads the words of a line.
@@ -143,16 +142,16 @@ fn read_actor_line(
     ensures { ReadsLine result number (actor_line mode (so_far reading.old) number actor (seen words.now)) (so_far reading.new) }
 {
     match line_of(mode, &reading.script.setup, number, actor, words) {
-        Ok(line) => add_line(reading, number, line),
+        Ok(line) => add_line(reading, number, &line),
         Err(cause) => bad_line(number, cause),
     }
 }
 
-fn add_line(reading: &mut ReadSoFar, number: u64, line: Line) -> Result<(), ScriptFault>
+fn add_line(reading: &mut ReadSoFar, number: u64, line: &Line) -> Result<(), ScriptFault>
     requires room { reading.old.counted < LINE_LIMIT }
-    requires sound { LineIsSound reading.old.script.setup.nodes line }
+    requires sound { LineIsSound reading.old.script.setup.nodes line.now }
     ensures { ReadsLine result number
-        (unless (name_objection reading.old.posted line.verb) (after_telling (so_far reading.old) line))
+        (unless (name_objection reading.old.posted line.now.verb) (after_telling (so_far reading.old) line.now))
         (so_far reading.new) }
 {
     match reading.name_objection(&line.verb) {

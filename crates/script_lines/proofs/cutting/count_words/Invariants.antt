@@ -1,10 +1,12 @@
-use Rattle.std.proofs.Common.{◌≡◌, ◌+◌, ◌≤◌, length}
-use Rattle.script_lines.specs.Words.{words_of}
+use Rattle.std.proofs.Common.{◌≡◌, ◌+◌, ◌≤◌, true, length}
+use Rattle.std.specs.List.{list_all}
+use Rattle.script_lines.specs.Words.{is_plain, words_of}
 use Rattle.script_lines.proofs.cutting.count_words.Given as goal
 
 abbrev pub invariant-loop-more : goal.invariant-loop-more
 invariant-loop-more l = record {
-  counted : l.count + length (words_of l.rest) ≡ length (words_of l.text);
+  plain : list_all is_plain l.rest ≡ list_all is_plain l.text;
+  counted : list_all is_plain l.text ≡ true → l.count + length (words_of l.rest) ≡ length (words_of l.text);
   within : l.count + length l.rest ≤ length l.text;
 }
 
