@@ -1,5 +1,5 @@
 // The next event of a line.
-ghost use Rattle.std.specs.Prelude.{◌≡◌, ◌≤◌, ◌^◌};
+ghost use Rattle.std.specs.Prelude.{◌≡◌, ◌≢◌, ◌≤◌, ◌^◌};
 ghost use Rattle.line_runs.specs.Next as next;
 ghost use Rattle.line_runs.specs.Clocks.{clocks, TicksWithin, HaveRoom};
 
@@ -16,25 +16,18 @@ pub fn next_event(base: u64, leads: &[u64], line: &Line, point: Point, view: &Vi
     requires { HaveRoom base leads.now line.now.verb }
     ensures { result ≡ next.next (clocks base leads.now) line.now.actor line.now.verb point view.now }
 {
+    if point == Point::Opens {
+        return opens(base, leads, line, view);
+    }
     match line.actor {
-        Actor::Clock => opens_alone(clock_opens(base, &line.verb), point),
-        Actor::Node(node) => opens_alone(node_opens(base, leads, node, &line.verb), point),
-        Actor::Session(session) => session_next(base, leads, session, &line.verb, view, point),
-        Actor::Janitor => janitor_next(&line.verb, view, point),
+        Actor::Session(session) => session_goes_on(base, leads, session, &line.verb, view, point),
+        Actor::Janitor => janitor_goes_on(&line.verb, view, point),
+        Actor::Clock | Actor::Node(_) => None,
     }
 }
 
-/// A line of one event has none but its first.
-fn opens_alone(first: Option<Event>, point: Point) -> Option<Event>
-    ensures { result ≡ next.opens_alone first point }
-{
-    match point {
-        Point::Opens => first,
-        _ => None,
-    }
-}
-
-fn session_next(
+/// The next event of a session's line behind its first.
+fn session_goes_on(
     base: u64,
     leads: &[u64],
     session: SessionNo,
@@ -42,31 +35,44 @@ fn session_next(
     view: &View,
     point: Point,
 ) -> Option<Event>
-    requires { HaveRoom base leads.now verb.now }
+    requires room { HaveRoom base leads.now verb.now }
+    requires later { point ≢ Point.Opens }
     ensures { result ≡ next.session_next (clocks base leads.now) session verb.now view.now point }
 {
     match point {
-        Point::Opens => session_opens(base, leads, session, verb, view),
         Point::Drives => drive_next(base, leads, session, verb, view),
         Point::Extends => extend_next(view.request),
         Point::Finishes => finish_next(session, view.doing),
         Point::Reads => read_next(session, view.doing),
         Point::Steps => steps_next(session, view.doing),
-        Point::Over => None,
+        Point::Opens | Point::Over => None,
     }
 }
 
-fn janitor_next(verb: &Verb, view: &View, point: Point) -> Option<Event>
+/// The next event of a janitor's line behind its first.
+fn janitor_goes_on(verb: &Verb, view: &View, point: Point) -> Option<Event>
+    requires { point ≢ Point.Opens }
     ensures { result ≡ next.janitor_next verb.now view.now point }
 {
     match point {
-        Point::Opens => janitor_opens(verb),
         Point::Steps if view.sweeping => Some(Event::SweepStep),
         _ => None,
     }
 }
 
 // ---- the first event of a line
+
+fn opens(base: u64, leads: &[u64], line: &Line, view: &View) -> Option<Event>
+    requires { HaveRoom base leads.now line.now.verb }
+    ensures { result ≡ next.next (clocks base leads.now) line.now.actor line.now.verb Point.Opens view.now }
+{
+    match line.actor {
+        Actor::Clock => clock_opens(base, &line.verb),
+        Actor::Node(node) => node_opens(base, leads, node, &line.verb),
+        Actor::Session(session) => session_opens(base, leads, session, &line.verb, view),
+        Actor::Janitor => janitor_opens(&line.verb),
+    }
+}
 
 fn clock_opens(base: u64, verb: &Verb) -> Option<Event>
     requires base { base ≤ 2 ^ 62 }
@@ -84,37 +90,36 @@ fn node_opens(base: u64, leads: &[u64], node: NodeNo, verb: &Verb) -> Option<Eve
     ensures { result ≡ next.node_opens (clocks base leads.now) node verb.now }
 {
     let actor = Actor::Node(node);
-    match *verb {
-        Verb::Take => Some(Event::Take {
+    let event = match *verb {
+        Verb::Take => Event::Take {
             node,
             reading: reading_at(base, leads, node),
-        }),
-        Verb::Renew => Some(Event::Renew {
+        },
+        Verb::Renew => Event::Renew {
             node,
             reading: reading_at(base, leads, node),
-        }),
-        Verb::Crash => Some(Event::Crash { node }),
-        Verb::Extend => Some(Event::Extend { node }),
-        Verb::Hold { stage } => Some(Event::Note {
+        },
+        Verb::Crash => Event::Crash { node },
+        Verb::Extend => Event::Extend { node },
+        Verb::Hold { stage } => Event::Note {
             actor,
             note: Note::Hold(stage),
-        }),
-        Verb::Free { stage } => Some(Event::Note {
+        },
+        Verb::Free { stage } => Event::Note {
             actor,
             note: Note::Free(stage),
-        }),
-        Verb::Accept { session } => {
-            Some(Event::Accept {
-                node,
-                session,
-                reading: reading_at(base, leads, node),
-            })
-        }
-        Verb::Decide { session } => Some(Event::Decide { node, session }),
-        Verb::Put { session } => Some(Event::Put { node, session }),
-        Verb::Answer { session } => Some(Event::Answer { node, session }),
-        _ => name_opens(actor, verb),
-    }
+        },
+        Verb::Accept { session } => Event::Accept {
+            node,
+            session,
+            reading: reading_at(base, leads, node),
+        },
+        Verb::Decide { session } => Event::Decide { node, session },
+        Verb::Put { session } => Event::Put { node, session },
+        Verb::Answer { session } => Event::Answer { node, session },
+        _ => return name_opens(actor, verb),
+    };
+    Some(event)
 }
 
 fn session_opens(
@@ -127,44 +132,42 @@ fn session_opens(
     requires { HaveRoom base leads.now verb.now }
     ensures { result ≡ next.session_opens (clocks base leads.now) session verb.now view.now }
 {
-    match *verb {
-        Verb::Begin { target } => Some(Event::AskBegin {
+    let event = match *verb {
+        Verb::Begin { target } => Event::AskBegin {
             session,
             node: node_of(target),
-        }),
-        Verb::Commit { target } | Verb::Submit { target } => {
-            Some(Event::AskCommit {
-                session,
-                node: node_of(target),
-            })
-        }
-        Verb::AskBegin { node } => Some(Event::AskBegin { session, node }),
-        Verb::AskCommit { node } => Some(Event::AskCommit { session, node }),
-        Verb::Write { key, value } => Some(Event::Write {
+        },
+        Verb::Commit { target } | Verb::Submit { target } => Event::AskCommit {
+            session,
+            node: node_of(target),
+        },
+        Verb::AskBegin { node } => Event::AskBegin { session, node },
+        Verb::AskCommit { node } => Event::AskCommit { session, node },
+        Verb::Write { key, value } => Event::Write {
             session,
             key,
             value,
-        }),
-        Verb::Read { key } | Verb::Fetch { key } => Some(Event::Fetch { session, key }),
-        Verb::Collect => collect_next(base, leads, session, verb, view),
-        Verb::Abort => Some(Event::Abort { session }),
-        Verb::Heal => Some(Event::Heal { session }),
-        Verb::Vanish => Some(Event::Vanish { session }),
-        Verb::Step | Verb::Finish => Some(Event::Step { session }),
-        _ => name_opens(Actor::Session(session), verb),
-    }
+        },
+        Verb::Read { key } | Verb::Fetch { key } => Event::Fetch { session, key },
+        Verb::Collect => return collect_next(base, leads, session, verb, view),
+        Verb::Abort => Event::Abort { session },
+        Verb::Heal => Event::Heal { session },
+        Verb::Vanish => Event::Vanish { session },
+        Verb::Step | Verb::Finish => Event::Step { session },
+        _ => return name_opens(Actor::Session(session), verb),
+    };
+    Some(event)
 }
 
 fn janitor_opens(verb: &Verb) -> Option<Event>
     ensures { result ≡ next.janitor_opens verb.now }
 {
-    match *verb {
-        Verb::Sweep { node, txn } | Verb::OpenSweep { node, txn } => {
-            Some(Event::SweepOpen { node, txn })
-        }
-        Verb::Step | Verb::Finish => Some(Event::SweepStep),
-        _ => name_opens(Actor::Janitor, verb),
-    }
+    let event = match *verb {
+        Verb::Sweep { node, txn } | Verb::OpenSweep { node, txn } => Event::SweepOpen { node, txn },
+        Verb::Step | Verb::Finish => Event::SweepStep,
+        _ => return name_opens(Actor::Janitor, verb),
+    };
+    Some(event)
 }
 
 /// An actor of any kind may post a name or await one.
