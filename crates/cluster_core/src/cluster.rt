@@ -95,18 +95,12 @@ impl Cluster {
         self.engine.doing(session)
     }
 
-    /// The node that holds a request of the session, and where that request stands.
-    pub fn place(&self, session: SessionNo) -> Option<(NodeNo, Place)>
-        ensures { result ≡ read.place_of self.now.state session }
+    /// What the session has in flight: the node that holds its request, with the place where that stands, and whether it is a
+    /// commit. Without a request it is none.
+    pub fn in_flight(&self, session: SessionNo) -> (Option<(NodeNo, Place)>, bool)
+        ensures { result ≡ (read.place_of self.now.state session, read.asks_commit self.now.state session) }
     {
-        self.engine.place(session)
-    }
-
-    /// Whether a commit of the session is in flight.
-    pub fn asks_commit(&self, session: SessionNo) -> bool
-        ensures { result ≡ read.asks_commit self.now.state session }
-    {
-        self.engine.asks_commit(session)
+        self.engine.in_flight(session)
     }
 
     /// The term of the node's oracle. None where it has none.

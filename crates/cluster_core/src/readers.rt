@@ -1,9 +1,8 @@
 // What can be read of the state.
 ghost use Rattle.std.specs.Prelude.{◌≡◌, ◌≤◌, ◌↔◌, IsTrue, length, Some};
-ghost use Rattle.oracle_parts.specs.Instance.{request_of_held};
 ghost use Rattle.machine.specs.Machine.{IsSteadyAt};
 ghost use Rattle.machine.specs.Readers as read;
-ghost use Rattle.cluster_core.specs.Holders.{request_held};
+ghost use Rattle.cluster_core.specs.Holders.{holds_commit, standing_held, standing_of};
 
 use crate::Engine;
 use client_parts::State;
@@ -11,7 +10,7 @@ use event_parts::Client;
 use lease_keeper::is_steady;
 use machine::Doing;
 use oracle_core::Instance;
-use oracle_parts::{Place, Request};
+use oracle_parts::{Held, Place, Request};
 use stamp_base::{NodeNo, SessionNo, Term};
 
 /// Readings are far from the end of the numbers.
@@ -40,23 +39,14 @@ impl Engine {
         doing_of(&self.clients[session.index()])
     }
 
-    /// The node that holds a request of the session, and where that request stands.
-    pub fn place(&self, session: SessionNo) -> Option<(NodeNo, Place)>
-        ensures { result ≡ read.place_of self.now.state session }
+    /// What the session has in flight: the node that holds its request, with the place where that stands, and whether it is a
+    /// commit. Without a request it is none.
+    pub fn in_flight(&self, session: SessionNo) -> (Option<(NodeNo, Place)>, bool)
+        ensures { result ≡ (read.place_of self.now.state session, read.asks_commit self.now.state session) }
     {
-        match request_of(self.posts.as_slice(), session) {
-            Some((node, _, place)) => Some((node, place)),
-            None => None,
-        }
-    }
-
-    /// Whether a commit of the session is in flight.
-    pub fn asks_commit(&self, session: SessionNo) -> bool
-        ensures { result ≡ read.asks_commit self.now.state session }
-    {
-        match request_of(self.posts.as_slice(), session) {
-            Some((_, request, _)) => is_commit(&request),
-            None => false,
+        match holder_of(self.posts.as_slice(), session) {
+            Some((node, place, commit)) => (Some((node, place)), commit),
+            None => (None, false),
         }
     }
 
@@ -101,36 +91,39 @@ fn term_at(post: &Option<Instance>) -> Option<Term>
     }
 }
 
-/// The first node that holds a request of the session, that request, and where it stands.
-fn request_of(posts: &[Option<Instance>], session: SessionNo) -> Option<(NodeNo, Request, Place)>
+/// The first node that holds a request of the session, where that stands, and whether it is a commit.
+fn holder_of(posts: &[Option<Instance>], session: SessionNo) -> Option<(NodeNo, Place, bool)>
     requires { length posts.now ≤ 8 }
-    ensures { result ≡ request_held (read.holder_from 0 posts.now session) }
+    ensures { result ≡ standing_held (read.holder_from 0 posts.now session) }
 {
     for i in 0..posts.len() {
-        if let Some((request, place)) = request_at(&posts[i], session) {
+        if let Some((place, commit)) = standing_at(&posts[i], session) {
             let Some(node) = NodeNo::new(i as u64) else {
                 unreachable!();
             };
-            return Some((node, request, place));
+            return Some((node, place, commit));
         }
     }
     None
 }
 
-fn request_at(post: &Option<Instance>, session: SessionNo) -> Option<(Request, Place)>
-    ensures { result ≡ request_of_held (read.held_at post.now session) }
+fn standing_at(post: &Option<Instance>, session: SessionNo) -> Option<(Place, bool)>
+    ensures { result ≡ standing_of (read.held_at post.now session) }
 {
     match post {
-        Some(instance) => instance.request_of(session),
+        Some(instance) => {
+            let place = instance.place(session)?;
+            Some((place, is_commit(&instance.requests()[session.index()])))
+        }
         None => None,
     }
 }
 
-fn is_commit(request: &Request) -> bool
-    ensures { result ≡ read.is_commit request.now }
+fn is_commit(held: &Option<Held>) -> bool
+    ensures { result ≡ holds_commit held.now }
 {
-    match request {
-        Request::Begin { .. } => false,
-        Request::Commit { .. } => true,
+    match held {
+        Some(held) => matches!(held.request, Request::Commit { .. }),
+        None => false,
     }
 }

@@ -1,6 +1,6 @@
 use Rattle.std.proofs.Common.{◌≡◌, drop}
 use Rattle.machine.specs.Readers.{holder_from}
-use Rattle.cluster_core.proofs.readers.request_of.Given as goal
+use Rattle.cluster_core.proofs.readers.holder_of.Given as goal
 
 abbrev pub invariant-loop-i : goal.invariant-loop-i
 invariant-loop-i l = holder_from 0 l.posts l.session ≡ holder_from l.i (drop l.i l.posts) l.session
