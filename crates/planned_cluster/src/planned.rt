@@ -74,10 +74,11 @@ impl PlannedCluster {
     fn view_of_session(&self, session: SessionNo) -> View
         ensures { result ≡ view_of self.now.cluster.state (Session session) }
     {
+        let (request, commit) = self.cluster.in_flight(session);
         View {
             doing: self.cluster.doing(session),
-            request: self.cluster.place(session),
-            commit: self.cluster.asks_commit(session),
+            request,
+            commit,
             sweeping: self.cluster.sweeping(),
         }
     }
