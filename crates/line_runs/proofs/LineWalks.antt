@@ -21,7 +21,7 @@ use Rattle.line_runs.specs.declared.point.Point.TheVariants.{Opens, Drives, Exte
 use Rattle.line_runs.specs.Halts.{halt_of, follows}
 use Rattle.line_runs.specs.Views.{view_of}
 use Rattle.line_runs.specs.Next.{Clocks, read_next, next}
-use Rattle.line_runs.specs.Answers.{Opens as OpensOf, same_actor, has_opening, is_of}
+use Rattle.line_runs.specs.Answers.{has_opening}
 use Rattle.line_runs.specs.Runs.{fate_of, step_of, Run, clocks_of, next_in, run_after, going_on, run_for}
 use Rattle.line_runs.specs.Laws.{ActorFits, VerbFits}
 use Rattle.line_runs.proofs.AlwaysFit.{Fit}

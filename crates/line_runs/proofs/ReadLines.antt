@@ -10,7 +10,6 @@ use Rattle.client_parts.specs.Resolve.{SettleTurn, Goes, Decides, settle_turn}
 use Rattle.client_parts.specs.KeyRead.{Reading, ReadTurn, Asks, Answers, found_cell, found_by, settling_of, after_passed, turn_at, read_over, read_by, read_told}
 use Rattle.machine.specs.State.{Client, State}
 use Rattle.machine.specs.Machine.{Step}
-use Rattle.machine.specs.Events.Fetch.{client_read, read_items}
 use Rattle.isolation_laws.specs.Words.{ClientAt}
 use Rattle.line_runs.proofs.Plain.{AllPlain}
 use Rattle.line_runs.proofs.Working.{ReadWork}

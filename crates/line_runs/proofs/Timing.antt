@@ -15,7 +15,7 @@ use Rattle.script_data.specs.declared.line.Verb.TheVariants as verb
 use Rattle.line_runs.specs.declared.point.Point.{Point}
 use Rattle.line_runs.specs.declared.point.Point.TheVariants.{Opens, Drives, Extends, Finishes, Reads, Steps, Over}
 use Rattle.line_runs.specs.declared.point.View.{View}
-use Rattle.line_runs.specs.Next.{Clocks, reading_at, serves, is_served, finish_next, drive_next, extend_by, extend_next, idle_next, collect_next, read_next, steps_next, sweep_next, name_opens, clock_opens, node_opens, session_opens, janitor_opens, session_next, janitor_next, opens_alone, next}
+use Rattle.line_runs.specs.Next.{Clocks, reading_at, serves, is_served, finish_next, drive_next, extend_by, extend_next, idle_next, collect_next, read_next, steps_next, sweep_next, clock_opens, node_opens, session_opens, janitor_opens, session_next, janitor_next, opens_alone, next}
 use Rattle.line_runs.specs.Runs.{clock_after}
 use Rattle.script_data.specs.Ticks.{tick_of}
 

@@ -1,5 +1,5 @@
 -- A script that was read can be played: no clock is ahead by more than the skew, and its ticks are few.
-use Rattle.std.proofs.Common.{ℕ, zero, suc, ◌+◌, ◌*◌, ◌≤◌, ◌^◌, List, [], ◌∷◌, length, All, arith}
+use Rattle.std.proofs.Common.{ℕ, zero, suc, ◌*◌, ◌≤◌, List, [], ◌∷◌, length, All, arith}
 use Rattle.std.proofs.lemmas.List.Elements.{All-head, All-tail}
 use Rattle.std.specs.List.{slice_index_or}
 use Rattle.script_data.specs.declared.line.Line.{Line}

@@ -1,17 +1,13 @@
 -- The lines of a script, one more carried out.
-use Rattle.std.proofs.Common.{◌≡◌, ℕ, zero, suc, ◌+◌, ◌*◌, ◌<◌, ◌≤◌, List, [], ◌∷◌, ◌++◌, take, drop, length, get_or, All, refl, sym, ap, ◌∙◌, arith, subst}
+use Rattle.std.proofs.Common.{◌≡◌, ℕ, ◌+◌, ◌<◌, ◌≤◌, List, [], ◌∷◌, ◌++◌, take, drop, length, get_or, refl, sym, ap, ◌∙◌, arith, subst}
 use Rattle.std.proofs.lemmas.List.{take_more, drop_more, take_all}
-use Rattle.std.proofs.lemmas.List.Elements.{All-head, All-tail}
-use Rattle.std.specs.List.{slice_index_or}
 use Rattle.stamp_base.specs.declared.stores.Store.{Store}
 use Rattle.port_io.specs.declared.weather.Fate.{Fate}
 use Rattle.isolation_laws.proofs.AlwaysHolds.{stands_at_first}
 use Rattle.script_data.specs.declared.line.Line.{Line}
 use Rattle.script_data.specs.Data.{IsSound}
-use Rattle.script_data.specs.Sound.{LineIsSound}
 use Rattle.script_data.specs.Data.{ScriptData}
 use Rattle.script_data.specs.Ticks.{tick_of, ticks_of}
-use Rattle.line_runs.specs.Laws.{IsPlayable}
 use Rattle.line_runs.specs.Runs.{Played, line_run, lines_played, opening_played, replayed}
 use Rattle.cluster_core.specs.Whole.{Whole}
 use Rattle.planned_cluster.specs.Standing.{StandsAt}

@@ -1,5 +1,5 @@
 // The lines of a script that is being made.
-ghost use Rattle.std.specs.Prelude.{◌≡◌, ◌+◌, ◌≤◌, ◌<◌, [], ◌∷◌, All, IfOk, OnOk, length};
+ghost use Rattle.std.specs.Prelude.{◌≡◌, ◌+◌, ◌≤◌, ◌<◌, [], ◌∷◌, All, OnOk, length};
 ghost use Rattle.script_data.specs.Sound.{actor_needs, LineIsSound, VerbIsSound};
 ghost use Rattle.replay_driver.specs.Drafts.{Adds};
 

@@ -6,7 +6,6 @@ ghost use Rattle.session_script.specs.Script.{data_of};
 ghost use Rattle.line_runs.specs.Answers.{Answers};
 ghost use Rattle.line_runs.specs.Planned.{Planned};
 ghost use Rattle.line_runs.specs.Runs.{replayed};
-ghost use Rattle.planned_cluster.specs.Fitting.{SessionIsThere};
 ghost use Rattle.replay_driver.specs.Playing.{IsPlayedTo};
 
 use crate::play::{make, next};

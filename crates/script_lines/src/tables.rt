@@ -1,7 +1,7 @@
 // The words that name a form, a stage, a store or how a call fails.
 ghost use Rattle.std.specs.Prelude.{◌≡◌, map};
 ghost use Rattle.std.specs.Str.{bytes_eq};
-ghost use Rattle.script_lines.specs.Grammar.{named, stages, stores, kinds, setup_forms, clock_forms, janitor_forms, node_forms, session_forms, verb_forms};
+ghost use Rattle.script_lines.specs.Grammar.{named, stages, stores, kinds, setup_forms, verb_forms};
 
 use crate::form::{SetupForm, VerbForm};
 use history_book::Actor;

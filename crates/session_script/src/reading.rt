@@ -1,5 +1,5 @@
 // Reading a script, line by line.
-ghost use Rattle.std.specs.Prelude.{◌≡◌, ◌+◌, ◌<◌, ◌≤◌, length, IfOk, OnOk, vec_len};
+ghost use Rattle.std.specs.Prelude.{◌≡◌, ◌+◌, ◌<◌, ◌≤◌, length, IfOk, vec_len};
 ghost use Rattle.std.specs.Str.Lines.{lines};
 ghost use Rattle.stamp_base.specs.Setups.{numbers_of};
 ghost use Rattle.script_data.specs.Sound.{actor_needs, LineIsSound};
