@@ -6,18 +6,22 @@ use Rattle.port_io.specs.declared.weather.Fate.{Fate}
 use Rattle.machine.specs.declared.event.Event.{Event}
 use Rattle.machine.specs.State.{State}
 use Rattle.machine.specs.Machine.{IsSteadyAt, reading_of}
+use Rattle.history_book.specs.declared.item.Actor.{Actor}
+use Rattle.history_book.specs.declared.item.Actor.TheVariants as actor
 use Rattle.script_data.specs.declared.line.Line.{Line}
+use Rattle.script_data.specs.declared.line.Verb.{Verb}
 use Rattle.script_data.specs.Data.{ScriptData}
 use Rattle.line_runs.specs.declared.point.Halt.{Halt}
 use Rattle.line_runs.specs.declared.point.Point.{Point}
-use Rattle.line_runs.specs.declared.point.Point.TheVariants.{Opens}
+use Rattle.line_runs.specs.declared.point.Point.TheVariants.{Opens, Over}
 use Rattle.line_runs.specs.Clocks.{clocks}
 use Rattle.line_runs.specs.Halts.{halt_of, follows}
 use Rattle.script_data.specs.Ticks.{tick_of}
 use Rattle.line_runs.specs.Laws.{IsReached, EventsLowerWhatIsLeft}
 use Rattle.line_runs.specs.Left.{left}
-use Rattle.line_runs.specs.Next.{next}
+use Rattle.line_runs.specs.Next.{Clocks, next}
 use Rattle.line_runs.specs.Runs.{Played, Run, step_of, played, next_in, run_after, left_in, going_on, run_for, opened, line_run}
+use Rattle.line_runs.specs.declared.point.View.{View}
 use Rattle.line_runs.specs.Views.{view_of}
 use Rattle.line_runs.proofs.Ending.{Keeps, Going, Nothing, less_left, steady_next, goes_on as event_goes_on}
 use Rattle.cluster_core.specs.Whole.{Whole}
@@ -124,3 +128,17 @@ pub ends : (script : ScriptData) (line : Line) (p : Played) (whole : Whole) (clo
 ends script line p whole clock ahead point k is =
     let all : k.run ≡ line_run script line p = sym (over script line k.run k.most is) ∙ k.leads in
     subst (λ (r : Run). HasEnded script r.played (p.clock + tick_of line.verb) whole clock ahead) all (record { stands = k.stands; reached = k.going.reached; within = omega (arith, k.going.ahead) })
+
+-- where the run is over no event is next
+none_next : (clocks : Clocks) (who : Actor) (verb : Verb) (view : View) → next clocks who verb Over view ≡ None
+none_next clocks actor.Clock verb view = refl
+none_next clocks (actor.Node node) verb view = refl
+none_next clocks (actor.Session session) verb view = refl
+none_next clocks actor.Janitor verb view = refl
+
+none_over : (script : ScriptData) (line : Line) (r : Run) → r.point ≡ Over → next_in script line r ≡ None
+none_over script line r is = rw is (none_next _ line.actor line.verb _)
+
+pub ends_over : (script : ScriptData) (line : Line) (p : Played) (whole : Whole) (clock : ℕ) (ahead : Store → ℕ → Fate) (point : Point) (k : IsUnderWay script line p whole clock ahead point) → point ≡ Over → HasEnded script (line_run script line p).played (p.clock + tick_of line.verb) whole clock ahead
+ends_over script line p whole clock ahead point k is =
+    ends script line p whole clock ahead point k (none_over script line k.run (sym k.point_is ∙ is))

@@ -54,9 +54,12 @@ fn play_line(play: &mut PlannedCluster, script: &Script, place: usize) -> Result
     events_lower_what_is_left();
     let line = &script.lines[place];
     let mut point = Point::Opens;
-    while let Some(event) = next(play, &script.leads, line, point) {
-        let halt = make(play, &event)?;
+    while let Some(event) = &next(play, &script.leads, line, point) {
+        let halt = make(play, event)?;
         point = follows(&line.verb, point, halt);
+        if let Point::Over = point {
+            return Ok(());
+        }
     }
     Ok(())
 }

@@ -27,13 +27,12 @@ pub(crate) fn next(
     ensures { result ≡ next (clocks planned.now.clock leads.now) line.now.actor line.now.verb point
         (view_of planned.now.cluster.state line.now.actor) }
 {
-    if point == Point::Over {
-        None
-    } else if looks(&line.verb, point) {
-        next_event(planned.clock, leads, line, point, &planned.view(line.actor))
+    let view = if looks(&line.verb, point) {
+        planned.view(line.actor)
     } else {
-        next_event(planned.clock, leads, line, point, &NOTHING_SEEN)
-    }
+        NOTHING_SEEN
+    };
+    next_event(planned.clock, leads, line, point, &view)
 }
 
 /// In place of a look where none is needed.

@@ -1,7 +1,7 @@
 use Rattle.std.proofs.Common.{◌∙◌, arith}
 use Rattle.session_script.specs.Script.{data_of}
 use Rattle.replay_driver.specs.Playing.{played_to}
-use Rattle.replay_driver.proofs.Running.{begins, chosen, goes_on, falls, ends, steady_under_way}
+use Rattle.replay_driver.proofs.Running.{begins, chosen, goes_on, falls, ends, ends_over, steady_under_way}
 use Rattle.planned_cluster.proofs.Rooms.{have_room}
 use Rattle.replay_driver.proofs.Counting.{ticks_from, ended_more}
 use Rattle.replay_driver.proofs.driver.play_line.Goals as goal
@@ -44,3 +44,13 @@ returns c =
     let script = data_of c.args.script.now in
     ended_more script c.args.place c.index-line.result.now _ _ _ _ _ _ c.requires.place c.index-line.ensures c.requires.played
     (ends script c.index-line.result.now _ _ _ _ _ c.loop-event.invariant (chosen script c.index-line.result.now _ _ _ _ _ c.loop-event.invariant _ _ c.deref.ensures.value c.next.ensures ∙ c.in_default.is))
+
+pub returns-in-Over : goal.returns-in-Over
+returns-in-Over c =
+    let script = data_of c.args.script.now in
+    let line = c.index-line.result.now in
+    ended_more script c.args.place line _ _ _ _ _ _ c.requires.place c.index-line.ensures c.requires.played
+    (ends_over script line _ _ _ _ _
+    (goes_on c.events_lower_what_is_left.ensures script line _ _ _ _ _ _ _ _ _ c.in-Some.event c.in_ok-halt.halt c.loop-event.invariant
+    (chosen script line _ _ _ _ _ c.loop-event.invariant _ _ c.deref.ensures.value c.next.ensures ∙ c.in-Some.is)
+    (c.in_ok-halt.ensures script c.loop-event.invariant.run.played c.loop-event.invariant.stands) c.follows-point.ensures) c.in-Over.is)
