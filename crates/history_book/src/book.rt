@@ -1,4 +1,5 @@
-ghost use Rattle.std.specs.Prelude.{◌≡◌, ◌+◌, ◌-◌, ◌<◌, ◌≤◌, ◌^◌, ◌++◌, ◌∷◌, [], length, OnOk, OnErr};
+ghost use Rattle.std.specs.Prelude.{◌≡◌, ◌+◌, ◌-◌, ◌<◌, ◌≤◌, ◌^◌, ◌++◌, ◌∷◌, [], length, vec_len, OnOk, OnErr};
+ghost use Rattle.std.specs.Vec.{vec_capacity};
 
 use crate::item::Item;
 use stamp_base::NoMemory;
@@ -65,8 +66,8 @@ impl Book {
         ensures items { self.new.items ≡ self.old.items ++ item ∷ [] }
         ensures spare { self.new.spare ≡ self.old.spare - 1 }
     {
-        // The capacity has room for it, so this succeeds.
-        let _ = self.items.extend_from_slice(&[item]);
+        // What is reserved is within the capacity.
+        push_copy(&mut self.items, &item);
         self.spare -= 1;
     }
 
@@ -84,4 +85,13 @@ impl Book {
     {
         self.items.as_slice()
     }
+}
+
+/// Adds a copy of the element in room that the list has.
+fn push_copy<T: Copy>(list: &mut Vec<T>, element: &T)
+    requires { vec_len list.old < vec_capacity list.old }
+    ensures items { list.new.items ≡ list.old.items ++ element.now ∷ [] }
+    ensures capacity { vec_capacity list.new ≡ vec_capacity list.old }
+{
+    list.push_reserved(*element);
 }
