@@ -3,6 +3,8 @@ ghost use Rattle.std.specs.Prelude.{◌≡◌, ◌<◌, ◌≤◌, ◌==◌, ◌
 ghost use Rattle.std.specs.List.{position_or_len};
 ghost use Rattle.std.specs.Str.Lines.{lines, strip_carriage_return};
 
+use memchr::memchr;
+
 /// The first line of bytes that are not empty, without its end, and the bytes after it. A line ends with a line
 /// feed, or with a carriage return and a line feed; the last one may have no end.
 pub fn split_line(bytes: &[u8]) -> (&[u8], &[u8])
@@ -19,17 +21,11 @@ pub fn split_line(bytes: &[u8]) -> (&[u8], &[u8])
 }
 
 /// Where the first line feed stands, or the bytes end.
-#[tactic(auto, using(std::proofs::lemmas::List::Sums::position_or_len_is))]
 fn line_end(bytes: &[u8]) -> usize
     ensures place { result ≡ position_or_len (λ b. b == 10) bytes.now }
     ensures within { result ≤ length bytes.now }
 {
-    for (i, b) in bytes.iter().enumerate() {
-        if *b == b'\n' {
-            return i;
-        }
-    }
-    bytes.len()
+    memchr(b'\n', bytes).unwrap_or(bytes.len())
 }
 
 /// The line without the one carriage return at its end.

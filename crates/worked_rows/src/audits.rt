@@ -1,7 +1,7 @@
 // What the program says of histories that it audits, byte for byte.
 use crate::calls::answer_of;
 use std::test::Fail;
-use worked_texts::commits::PLAIN_HISTORY;
+use worked_commits::commits::PLAIN_HISTORY;
 
 /// A history, what an audit of it must write, and its status.
 struct Audit {

@@ -2,7 +2,7 @@
 use crate::calls::answer_of;
 use std::alloc::{AllocError, Global};
 use std::test::Fail;
-use worked_texts::commits::{PLAIN_HISTORY, PLAIN_PATH};
+use worked_commits::commits::{PLAIN_HISTORY, PLAIN_PATH};
 
 pub const USAGE: &str = "usage: omid replay [summary|json] | run | audit | storm N\n";
 

@@ -6,8 +6,8 @@ use std::alloc::{AllocError, Global};
 use std::sync::Wait;
 use std::test::Fail;
 use std::thread::Threads;
-use worked_texts::commits::{PLAIN_HISTORY, PLAIN_PATH};
-use worked_texts::json::PLAIN_JSON;
+use worked_commits::commits::{PLAIN_HISTORY, PLAIN_PATH};
+use worked_commits::json::PLAIN_JSON;
 
 /// More bytes than any text here has.
 const ROOM: usize = 4096;

@@ -4,7 +4,7 @@ use std::alloc::{AllocError, Global};
 use std::sync::Wait;
 use std::test::Fail;
 use std::thread::Threads;
-use worked_texts::hostile::{HOSTILE, replays};
+use worked_examples::hostile::{HOSTILE, replays};
 
 /// The calls that the script makes on each store, carried out in file order. On threads it may make fewer.
 const CALLS: [(&str, u64); 3] = [("cells", 11), ("table", 6), ("master", 2)];

@@ -2,8 +2,8 @@
 use crate::calls::{answer_of, joined};
 use crate::rows::{TOPICS, topic};
 use std::test::Fail;
-use worked_texts::commits::PLAIN_PATH;
-use worked_texts::json::{EACH_KIND, EACH_KIND_JSON, PLAIN_JSON};
+use worked_commits::commits::PLAIN_PATH;
+use worked_commits::json::{EACH_KIND, EACH_KIND_JSON, PLAIN_JSON};
 
 /// A history, what an audit of it must write, and its status.
 static AUDITS: [(&str, &str, u8); 15] = [

@@ -1,9 +1,10 @@
 // What a replay writes for a script, byte for byte, and that it is isolated.
 use crate::calls::{answer_of, joined};
 use std::test::Fail;
-use worked_texts::{
-    Replay, commits, conflicts, examples, leases, many_keys, outcomes, refusals, takeovers, threads,
-};
+use worked_commits::{commits, conflicts, many_keys};
+use worked_examples::{examples, threads};
+use worked_faults::{leases, outcomes, refusals, takeovers};
+use worked_pieces::Replay;
 
 /// How many topics the worked examples have.
 pub const TOPICS: usize = 9;

@@ -5,7 +5,7 @@ use omid_top::{OpenGate, Silent, omid};
 use port_io::{MemSink, MemSource};
 use std::alloc::AllocError;
 use std::test::Fail;
-use worked_texts::commits::PLAIN_PATH;
+use worked_commits::commits::PLAIN_PATH;
 
 /// How many transactions, and the summary of their history.
 const STORMS: [(&str, &str); 6] = [

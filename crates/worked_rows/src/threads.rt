@@ -9,8 +9,8 @@ use std::sync::Wait;
 use std::sync::atomic::{AtomicBool, Ordering};
 use std::test::Fail;
 use std::thread;
-use worked_texts::commits::PLAIN_PATH;
-use worked_texts::threads;
+use worked_commits::commits::PLAIN_PATH;
+use worked_examples::threads;
 
 const RUN: &[&str] = &["run"];
 

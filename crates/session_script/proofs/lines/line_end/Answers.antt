@@ -1,7 +1,6 @@
-use Rattle.std.proofs.Common.{arith, sym, length, ◌==◌}
-use Rattle.std.proofs.lemmas.List.Sums.{position_or_len_is}
+use Rattle.std.proofs.Common.{◌∙◌}
+use Rattle.session_script.proofs.LineLemmas.{first_feed}
 use Rattle.session_script.proofs.lines.line_end.Goals as goal
 
 pub returns-clause-place : goal.returns-clause-place
-returns-clause-place c =
-    sym (position_or_len_is (λ b. b == 10) c.args.bytes.now (length c.args.bytes.now) 0 (omega arith) (λ k h. c.loop-i.invariant k (omega arith)) (λ h. absurd (omega arith)))
+returns-clause-place c = c.unwrap_or.ensures ∙ first_feed c.args.bytes.now c.memchr.result c.memchr.ensures

@@ -1,6 +1,6 @@
 // Scripts whose lines wait for each other by names, so that threads have one order to carry them out in: that of the file.
-use crate::Replay;
-use crate::answers::{
+use worked_pieces::Replay;
+use worked_pieces::answers::{
     DRAWN, S0_BEGINS, S0_COMPLETES_2, S0_IS_DEAD, S0_IS_INVALID, S0_PLACES_2, S1_BEGINS_AT_B,
     S1_BEGINS_WITH_AN_EXTENSION, S1_MARKS,
 };

@@ -1,6 +1,6 @@
 // Store faults, crashes and sessions that vanish, and what becomes of their transactions.
-use crate::Replay;
-use crate::answers::{
+use worked_pieces::Replay;
+use worked_pieces::answers::{
     B_TAKES_OVER, BEGUN, DRAWN, JANITOR_COMPLETES, S0_COMPLETES_2, S0_FINDS_ITS_COMMIT, S0_IS_DEAD,
     S0_PLACES_2, S1_BEGINS_3, S1_BEGINS_AT_B,
 };
@@ -78,7 +78,7 @@ const CRASH_HISTORY: &[&str] = &[
 ];
 
 /// A session vanishes in the middle of its completion, and a reader comes upon what is left.
-pub(crate) const HALF_COMPLETED: &str = "\
+pub const HALF_COMPLETED: &str = "\
 a take
 s0 begin a
 s0 write k0 v
@@ -93,7 +93,7 @@ s1 read k1
 ";
 
 /// Behind the begin.
-pub(crate) const HALF_COMPLETED_HISTORY: &str = "\
+pub const HALF_COMPLETED_HISTORY: &str = "\
 write s0 start=1 k0 v
 write s0 start=1 k1 w
 ask-commit s0 a start=1

@@ -1,6 +1,6 @@
 // A transaction that reads what it wrote, writes 64 keys and then one more, and commits.
-use crate::Replay;
-use crate::answers::{BEGUN, S0_DRAWS_2, S0_PLACES_2};
+use worked_pieces::Replay;
+use worked_pieces::answers::{BEGUN, S0_DRAWS_2, S0_PLACES_2};
 
 const OWN_WRITES: &str = "\
 a take

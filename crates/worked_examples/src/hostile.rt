@@ -1,7 +1,7 @@
 // A script that meets each store in each way, so that a fault can be planned for each of its calls: eleven on the cells, six
 // on the table, two on the master record. What it writes is here without a fault and under three of them.
-use crate::Replay;
-use crate::answers::{
+use worked_pieces::Replay;
+use worked_pieces::answers::{
     B_TAKES_OVER, BEGUN, S0_DRAWS_2, S0_IS_INVALID, S0_PLACES_2, S1_BEGINS_AT_B, S1_COMMITS_AT_B,
     S1_FETCHES, S1_MARKS,
 };

@@ -1,6 +1,6 @@
 // Transactions that write by turns: which commits conflict, and the bounded memory of conflicts.
-use crate::Replay;
-use crate::answers::{
+use worked_pieces::Replay;
+use worked_pieces::answers::{
     BEGUN, S0_COMMITS_3, S1_BEGINS_2, S1_BEGINS_4, S1_FETCHES, S1_PLACES_5, S2_BEGINS_5,
 };
 

@@ -1,6 +1,6 @@
 // Transactions at one oracle: commits, reads, and begins that wait for commits.
-use crate::Replay;
-use crate::answers::{
+use worked_pieces::Replay;
+use worked_pieces::answers::{
     B_TAKES_OVER, BEGUN, DRAWN, S0_COMPLETES_2, S0_DRAWS_2, S0_PLACES_2, S1_BEGINS_2, S1_BEGINS_3,
     S2_BEGINS_4, S2_BEGINS_AT_B,
 };

@@ -1,6 +1,6 @@
 // Calls that come before what they need, and what they are told.
-use crate::Replay;
-use crate::answers::{BEGUN, DRAWN, S0_BEGINS, S0_COMPLETES_2, S1_BEGINS_2};
+use worked_pieces::Replay;
+use worked_pieces::answers::{BEGUN, DRAWN, S0_BEGINS, S0_COMPLETES_2, S1_BEGINS_2};
 
 /// One slot, which one session has.
 const ORDER: &str = "\

@@ -1,6 +1,6 @@
 // What an oracle holds: its lease and its range of stamps, and how both go on or end.
-use crate::Replay;
-use crate::answers::{
+use worked_pieces::Replay;
+use worked_pieces::answers::{
     DRAWN, S0_BEGINS, S0_COMPLETES_2, S0_PLACES_2, S1_BEGINS_WITH_AN_EXTENSION, S2_BEGINS_4,
 };
 

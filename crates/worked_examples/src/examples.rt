@@ -1,11 +1,11 @@
 // The scripts of `examples/` without their comments, and what each prints.
-use crate::Replay;
-use crate::answers::{
+use worked_faults::outcomes::{HALF_COMPLETED, HALF_COMPLETED_HISTORY};
+use worked_pieces::Replay;
+use worked_pieces::answers::{
     B_TAKES_OVER, BEGUN, DRAWN, JANITOR_COMPLETES, S0_COMPLETES_2, S0_DRAWS_2, S0_FINDS_ITS_COMMIT,
     S0_IS_INVALID, S1_BEGINS_2, S1_BEGINS_3, S1_BEGINS_4, S1_BEGINS_AT_B, S1_MARKS, S1_PLACES_5,
     S2_BEGINS_4, S2_BEGINS_5, S2_BEGINS_AT_B,
 };
-use crate::outcomes::{HALF_COMPLETED, HALF_COMPLETED_HISTORY};
 
 /// `takeover.omid`
 const TAKEOVER: &str = "\

@@ -1,6 +1,6 @@
 // Two oracles: commits and begins of the old one that come late, and readers that settle what it left.
-use crate::Replay;
-use crate::answers::{
+use worked_pieces::Replay;
+use worked_pieces::answers::{
     B_TAKES_OVER, BEGUN, DRAWN, S0_COMPLETES_2, S0_IS_INVALID, S0_PLACES_2, S1_BEGINS_AT_B,
     S1_COMMITS_AT_B, S1_FETCHES, S1_MARKS,
 };

@@ -1,0 +1,8 @@
+//! Worked scripts with takeovers, leases that end, faults and refusals, and the histories that replays of them must write, byte
+//! for byte, by topic.
+#![tactic(auto)]
+
+pub mod leases;
+pub mod outcomes;
+pub mod refusals;
+pub mod takeovers;
