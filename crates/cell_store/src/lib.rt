@@ -14,6 +14,7 @@ use port_io::{Fate, Store, Weather};
 use rows::Rows;
 use stamp_base::{KeyNo, NoMemory, Stamp, Value};
 use std::alloc::Global;
+use std::cmp::Reverse;
 use std::collections::BTreeSet;
 use std::marker::Model;
 pub use store_parts::{Cell, StoreError, StoreFault};
@@ -22,8 +23,8 @@ pub use store_parts::{Cell, StoreError, StoreFault};
 #[derive(Drop)]
 pub struct Cells {
     rows: Rows,
-    // The version and the key of each row.
-    index: BTreeSet<(Stamp, KeyNo)>,
+    // The version and the key of each row, the greatest version first: a new row mostly has the greatest, and so is found at once.
+    index: BTreeSet<(Reverse<Stamp>, KeyNo)>,
     alloc: Global,
 }
 
@@ -240,7 +241,7 @@ impl Cells {
         // The look-ups by range in the index rest on what keys can be, which `value` tells.
         let _ = key.value();
         self.rows.enter(key, version, value)?;
-        match self.index.insert((version, key)) {
+        match self.index.insert((Reverse(version), key)) {
             Ok(_) => Ok(()),
             Err(_) => {
                 self.rows.remove_bare(key, version);
@@ -296,7 +297,7 @@ impl Cells {
         };
         if cell.shadow.is_none() {
             self.rows.remove_bare(key, version);
-            self.index.remove(&(version, key));
+            self.index.remove(&(Reverse(version), key));
         }
     }
 }

@@ -2,22 +2,23 @@
 ghost use Rattle.std.specs.Prelude.{◌≡◌, map, false, IfOk};
 ghost use Rattle.std.specs.Ordering.{is_gt};
 ghost use Rattle.std.specs.BTreeSet.{keys_between};
-ghost use Rattle.cell_store.specs.Index.{pair_cmp, second_of};
+ghost use Rattle.cell_store.specs.Index.{entry_of, entry_cmp, key_of};
 
 use stamp_base::{KeyNo, Stamp};
 use std::alloc::{AllocError, Global};
+use std::cmp::Reverse;
 use std::collections::BTreeSet;
 use std::ops::Bound;
 
-/// The keys from the first place to the last, in order.
+/// The keys from the first place to the last, in order. The index has the greatest version first.
 pub fn keys_from_to(
     alloc: Global,
-    index: &BTreeSet<(Stamp, KeyNo)>,
-    first: (Stamp, KeyNo),
-    last: (Stamp, KeyNo),
+    index: &BTreeSet<(Reverse<Stamp>, KeyNo)>,
+    first: (Reverse<Stamp>, KeyNo),
+    last: (Reverse<Stamp>, KeyNo),
 ) -> Result<Vec<KeyNo>, AllocError>
-    requires { is_gt (pair_cmp first last) ≡ false }
-    ensures { IfOk result (λ keys. keys.items ≡ map second_of (keys_between pair_cmp (Bound.Included first) (Bound.Included last) index.now)) }
+    requires { is_gt (entry_cmp first last) ≡ false }
+    ensures { IfOk result (λ keys. keys.items ≡ map key_of (keys_between entry_cmp (Bound.Included first) (Bound.Included last) index.now)) }
 {
     let mut keys = Vec::new(alloc);
     for turned in index.range(first..=last) {
@@ -27,9 +28,12 @@ pub fn keys_from_to(
 }
 
 /// The first and the last place that a key of the version can have.
-pub fn places_of(version: Stamp) -> ((Stamp, KeyNo), (Stamp, KeyNo))
-    ensures places { result ≡ ((version, 0), (version, 4095)) }
-    ensures forward { is_gt (pair_cmp result.0 result.1) ≡ false }
+pub fn places_of(version: Stamp) -> ((Reverse<Stamp>, KeyNo), (Reverse<Stamp>, KeyNo))
+    ensures places { result ≡ (entry_of version 0, entry_of version 4095) }
+    ensures forward { is_gt (entry_cmp result.0 result.1) ≡ false }
 {
-    ((version, KeyNo::FIRST), (version, KeyNo::LAST))
+    (
+        (Reverse(version), KeyNo::FIRST),
+        (Reverse(version), KeyNo::LAST),
+    )
 }

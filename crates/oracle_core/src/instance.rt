@@ -180,9 +180,12 @@ impl Instance {
         ensures left { self.new ≡ (step.instance_ask self.old request).left }
         ensures answer { result ≡ (step.instance_ask self.old request).answer }
     {
-        let in_flight = self.in_flight();
-        if in_flight == self.slots {
-            return Err(Cause::Full { in_flight });
+        // No more requests are held than there are sessions.
+        let may_be_full = self.slots <= SessionNo::COUNT as u64;
+        if may_be_full && self.in_flight() == self.slots {
+            return Err(Cause::Full {
+                in_flight: self.slots,
+            });
         }
         self.put(
             requests::session_of(&request),
