@@ -8,10 +8,10 @@ ghost use Rattle.line_runs.specs.Planned.{Planned};
 ghost use Rattle.line_runs.specs.Runs.{replayed};
 ghost use Rattle.replay_driver.specs.Playing.{IsPlayedTo};
 
-use crate::play::{make, next};
+use crate::play::{make, seen};
 use crate::progress::Progress;
 use cluster_core::Cluster;
-use line_runs::{Point, events_lower_what_is_left, follows, lines_are_answered};
+use line_runs::{Point, events_lower_what_is_left, follows, lines_are_answered, next_event};
 use planned_cluster::{PlannedCluster, see_session};
 use planned_laws::scripts_are_planned;
 use port_io::{PlannedWeather, Weather};
@@ -54,7 +54,13 @@ fn play_line(play: &mut PlannedCluster, script: &Script, place: usize) -> Result
     events_lower_what_is_left();
     let line = &script.lines[place];
     let mut point = Point::Opens;
-    while let Some(event) = &next(play, &script.leads, line, point) {
+    while let Some(event) = &next_event(
+        play.clock,
+        &script.leads,
+        line,
+        point,
+        &seen(play, line, point),
+    ) {
         let halt = make(play, event)?;
         point = follows(&line.verb, point, halt);
         if let Point::Over = point {

@@ -2,37 +2,29 @@
 ghost use Rattle.std.specs.Prelude.{◌≡◌, IfOk};
 ghost use Rattle.machine.specs.Machine.{IsSteadyAt, reading_of};
 ghost use Rattle.script_data.specs.Data.{ScriptData};
-ghost use Rattle.line_runs.specs.Clocks.{clocks, HaveRoom};
-ghost use Rattle.line_runs.specs.Next.{next};
+ghost use Rattle.line_runs.specs.Next.{Clocks, next};
 ghost use Rattle.line_runs.specs.Runs.{Played};
 ghost use Rattle.line_runs.specs.Views.{view_of};
 ghost use Rattle.planned_cluster.specs.Standing.{StandsAt};
 ghost use Rattle.replay_driver.specs.Playing.{Advances, IsSaidOf, looks};
 
-use line_runs::{Halt, Point, View, next_event, refused};
+use line_runs::{Halt, Point, View, refused};
 use machine::{Doing, Event};
 use planned_cluster::{PlannedCluster, Stopped};
 use port_io::{PlannedWeather, Weather};
 use script_data::{Line, Verb};
 use stamp_base::NoMemory;
 
-/// The next event of the line's run from this point on; None where it is over. Most lines open without a look at their actor.
-pub(crate) fn next(
-    planned: &PlannedCluster,
-    leads: &[u64],
-    line: &Line,
-    point: Point,
-) -> Option<Event>
-    requires { HaveRoom planned.now.clock leads.now line.now.verb }
-    ensures { result ≡ next (clocks planned.now.clock leads.now) line.now.actor line.now.verb point
+/// What the choice of the line's next event hangs on, from this point on. Most lines open without a look at their actor.
+pub(crate) fn seen(planned: &PlannedCluster, line: &Line, point: Point) -> View
+    ensures { (clocks : Clocks) → next clocks line.now.actor line.now.verb point result ≡ next clocks line.now.actor line.now.verb point
         (view_of planned.now.cluster.state line.now.actor) }
 {
-    let view = if looks(&line.verb, point) {
+    if looks(&line.verb, point) {
         planned.view(line.actor)
     } else {
         NOTHING_SEEN
-    };
-    next_event(planned.clock, leads, line, point, &view)
+    }
 }
 
 /// In place of a look where none is needed.
