@@ -9,6 +9,9 @@ use worked_pieces::Replay;
 /// How many topics the worked examples have.
 pub const TOPICS: usize = 9;
 
+/// How many each topic has.
+const COUNTS: [usize; TOPICS] = [10, 5, 1, 8, 6, 9, 8, 5, 4];
+
 /// The worked examples of a topic.
 pub fn topic(number: usize) -> &'static [Replay] {
     match number {
@@ -27,6 +30,7 @@ pub fn topic(number: usize) -> &'static [Replay] {
 #[test]
 fn each_script_is_replayed(rt: HostRuntime) -> Result<(), Fail> {
     for number in 0..TOPICS {
+        assert_eq!(rt; topic(number).len(), COUNTS[number]);
         for replay in topic(number) {
             let name = replay.name;
             let script = joined(rt.alloc(), replay.script)?;
