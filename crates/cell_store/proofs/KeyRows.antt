@@ -1,5 +1,5 @@
 -- The rows of one key's list of cells: where it splits, and what a change of the list does to them.
-use Rattle.std.proofs.Common.{◌≡◌, ℕ, suc, ◌+◌, ◌<◌, ◌≤◌, ◌==◌, nat_le, leb, ltb, true, false, ◌&&◌, List, [], ◌∷◌, ◌++◌, reverse, take, drop, set, length, get_or, Some, None, inl, inr, refl, sym, subst, ap, ◌∙◌, arith}
+use Rattle.std.proofs.Common.{◌≡◌, ℕ, suc, ◌+◌, ◌-◌, ◌<◌, ◌≤◌, ◌==◌, nat_le, leb, ltb, true, false, ◌&&◌, List, [], ◌∷◌, ◌++◌, reverse, take, drop, set, length, get_or, Some, None, inl, inr, refl, sym, subst, ap, ◌∙◌, arith}
 use Rattle.std.specs.List.{All, AllByRecursion, AllWithin, insert, remove}
 use Rattle.std.specs.List.Sorted.{IsNonDecreasingBy, IsPartitionPoint}
 use Rattle.std.proofs.lemmas.Bool.{cases_lt}
@@ -34,6 +34,22 @@ non_decreasing cells rising = λ i j d le there. elim (cases_lt i j) [
   | inr not ↦ let same : j ≡ i = omega arith in rw same (omega arith)
 ]
 
+-- the cells before the last are of lower versions
+pub lower_than_last : (cells : List Cell) (t : ℕ) (last : Cell) → AreRising cells → 0 < length cells → last ≡ get_or cells (length cells - 1) last → last.version ≡ t → AreLowerBefore cells t (length cells - 1)
+lower_than_last cells t last rising some is same = λ k d within.
+    let below : k < length cells - 1 = omega (arith, length-take (length cells - 1) cells, within) in
+    let up : (get_or cells k last).version < t = subst (λ (n : ℕ). (get_or cells k last).version < n) (sym (ap (λ (c : Cell). c.version) is) ∙ same) (rising k (length cells - 1) last below (omega (arith, some))) in
+    rw (get_or-take (length cells - 1) cells k d below, get_or_default cells k d last (omega (arith, below))) up
+
+-- where the last cell is of a version up to this one, all are
+pub all_upto : (cells : List Cell) (upto : ℕ) (last : Cell) → AreRising cells → 0 < length cells → last ≡ get_or cells (length cells - 1) last → last.version ≤ upto → All (λ (c : Cell). c.version ≤ upto) cells
+all_upto cells upto last rising some is low = λ k d within.
+    let top : (get_or cells (length cells - 1) last).version ≤ upto = subst (λ (c : Cell). c.version ≤ upto) is low in
+    rw (get_or_default cells k d last within) (elim (cases_lt k (length cells - 1)) [
+      | inl below ↦ let up : (get_or cells k last).version < (get_or cells (length cells - 1) last).version = rising k (length cells - 1) last below (omega (arith, some)) in omega arith
+      | inr not ↦ let same : k ≡ length cells - 1 = omega arith in rw same top
+    ])
+
 -- what a search by halves tells of the parts of a list
 pub upto_parts : (cells : List Cell) (n upto : ℕ) → IsPartitionPoint (λ (c : Cell). leb c.version upto ≡ true) (λ (c : Cell). leb c.version upto ≡ false) cells n → All (λ (c : Cell). c.version ≤ upto) (take n cells) × All (λ (c : Cell). upto < c.version) (drop n cells)
 upto_parts cells n upto point = (
@@ -59,7 +75,7 @@ rows_split : (k n : ℕ) (cells : List Cell) → rows_at k cells ≡ rows_at k (
 rows_split k n cells = ap (rows_at k) (sym (take-append-drop n cells)) ∙ map-append (row_at k) (take n cells) (drop n cells)
 
 -- ---- a fetch
-fetched_lower : (k upto : ℕ) (cells : List Cell) → All (λ (c : Cell). c.version ≤ upto) cells → fetched (rows_at k cells) k upto ≡ reverse cells
+pub fetched_lower : (k upto : ℕ) (cells : List Cell) → All (λ (c : Cell). c.version ≤ upto) cells → fetched (rows_at k cells) k upto ≡ reverse cells
 unfolding fetched
 fetched_lower k upto [] h = refl
 fetched_lower k upto (c ∷ cs) h =

@@ -9,8 +9,18 @@ use crate::Cell;
 use stamp_base::{NoMemory, Stamp, Value};
 use std::alloc::{AllocError, Global};
 
-/// The cells of version at most `upto`.
+/// The cells of version at most `upto`. Most often these are all, and no search is needed.
 pub fn upto(cells: &[Cell], upto: Stamp) -> &[Cell]
+    requires { AreRising cells.now }
+    ensures { (k : ℕ) → fetched (rows_at k cells.now) k upto ≡ reverse result.now }
+{
+    match cells {
+        [.., last] if last.version <= upto => cells,
+        _ => search_upto(cells, upto),
+    }
+}
+
+fn search_upto(cells: &[Cell], upto: Stamp) -> &[Cell]
     requires { AreRising cells.now }
     ensures { (k : ℕ) → fetched (rows_at k cells.now) k upto ≡ reverse result.now }
 {
@@ -48,8 +58,21 @@ fn is_below(shadow: Option<Stamp>, start: Stamp) -> bool
     }
 }
 
-/// How many cells are of lower versions.
+/// How many cells are of lower versions. Most often the version is the greatest or above it, and needs no search.
 fn count_lower(cells: &[Cell], version: Stamp) -> usize
+    requires { AreRising cells.now }
+    ensures within { result ≤ length cells.now }
+    ensures lower { AreLowerBefore cells.now version result }
+    ensures higher { All (λ c. version ≤ c.version) (drop result cells.now) }
+{
+    match cells {
+        [.., last] if last.version < version => cells.len(),
+        [.., last] if last.version == version => cells.len() - 1,
+        _ => search_lower(cells, version),
+    }
+}
+
+fn search_lower(cells: &[Cell], version: Stamp) -> usize
     requires { AreRising cells.now }
     ensures within { result ≤ length cells.now }
     ensures lower { AreLowerBefore cells.now version result }

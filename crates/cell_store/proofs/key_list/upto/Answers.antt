@@ -1,12 +1,8 @@
-use Rattle.std.proofs.Common.{leb, rules}
-use Rattle.std.proofs.lemmas.List.Sorted.{IsPartitionPoint-from_clause, IsPartitionedBy-leb}
-use Rattle.store_parts.specs.declared.rows.Cell.{Cell}
-use Rattle.cell_store.proofs.KeyRows.{fetched-upto_part, non_decreasing, upto_parts}
+use Rattle.std.proofs.Common.{arith, rules}
+use Rattle.cell_store.proofs.KeyRows.{all_upto, fetched_lower}
 use Rattle.cell_store.proofs.key_list.upto.Goals as goal
 
-pub returns : goal.returns
-returns c =
-    let split = IsPartitionedBy-leb (λ (x : Cell). x.version) c.args.cells.now c.args.upto (non_decreasing c.args.cells.now c.requires) in
-    let point = IsPartitionPoint-from_clause (λ (x : Cell). leb x.version c.args.upto) _ _ c.partition_point-count.ensures.partitioned split (λ a r q k. search rules) in
-    let parts = upto_parts c.args.cells.now c.partition_point-count.result c.args.upto point in
-    λ k. fetched-upto_part k c.args.upto c.partition_point-count.result c.args.cells.now parts.0 parts.1
+pub returns-in-len1-up : goal.returns-in-len1-up
+returns-in-len1-up c =
+    let all = all_upto c.args.cells.now c.args.upto c.last-item.result c.requires (omega (arith, c.in-len1-up.len_at_least)) c.last-item.is (search rules) in
+    λ k. fetched_lower k c.args.upto c.args.cells.now all
