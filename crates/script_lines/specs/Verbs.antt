@@ -8,7 +8,6 @@ use Rattle.script_lines.specs.declared.mode.Mode.TheVariants.{Replay, Run}
 use Rattle.script_data.specs.declared.line.Target.TheVariants as targets
 use Rattle.script_data.specs.declared.line.Verb.{Verb}
 use Rattle.script_data.specs.declared.line.Verb.TheVariants as verbs
-use Rattle.script_data.specs.declared.line.Line.{Line}
 use Rattle.script_lines.specs.declared.cause.ScriptCause.{ScriptCause}
 use Rattle.script_lines.specs.declared.cause.ScriptCause.TheVariants.{UnknownVerb, WrongNumberOfWords, ReplayOnly}
 use Rattle.script_lines.specs.Checked.{number_at, start_at, node_at, session_at, key_at, value_at, stage_at, name_at}
@@ -68,9 +67,8 @@ verb_of nodes SweepFinish words = Ok verbs.Finish
 verb_of nodes Post words = name_at words.third >>= (λ name. Ok (verbs.Post name))
 verb_of nodes Await words = name_at words.third >>= (λ name. Ok (verbs.Await name))
 
--- what an actor's line says
-unfoldable pub line_of : Mode → ℕ → ℕ → Actor → LineWords → Result Line ScriptCause
-line_of mode nodes number actor words = do
+-- what an actor's line asks for
+unfoldable pub verb_at : Mode → ℕ → Actor → LineWords → Result Verb ScriptCause
+verb_at mode nodes actor words = do
   form ← form_of mode actor words
-  verb ← verb_of nodes form words
-  Ok (record { number = number; actor = actor; verb = verb })
+  verb_of nodes form words

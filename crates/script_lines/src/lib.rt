@@ -16,7 +16,7 @@ pub use cause::ScriptCause;
 pub use checked::{kind_at, node_at, number_at, store_at};
 pub use cutting::{cut_line, is_silent};
 pub use form::SetupForm;
-pub use line::line_of;
+pub use line::verb_at;
 pub use mode::Mode;
 pub use tables::setup_form;
 pub use words::Words;

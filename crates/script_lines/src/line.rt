@@ -1,7 +1,7 @@
 // A line of an actor: the tests before its arguments, and then its arguments from left to right.
-ghost use Rattle.std.specs.Prelude.{◌≡◌, ◌≤◌, IfOk};
-ghost use Rattle.script_data.specs.Sound.{actor_needs, VerbIsSound, LineIsSound};
-ghost use Rattle.script_lines.specs.Verbs.{form_of, form_at, verb_of, line_of, is_run};
+ghost use Rattle.std.specs.Prelude.{◌≡◌, IfOk};
+ghost use Rattle.script_data.specs.Sound.{VerbIsSound};
+ghost use Rattle.script_lines.specs.Verbs.{form_of, form_at, verb_of, verb_at, is_run};
 ghost use Rattle.script_lines.specs.Words.{seen};
 
 use crate::cause::ScriptCause;
@@ -13,31 +13,17 @@ use crate::mode::Mode;
 use crate::tables::verb_form;
 use crate::words::Words;
 use history_book::Actor;
-use script_data::{Line, Target, Verb};
+use script_data::{Target, Verb};
 use stamp_base::Setup;
 
-/// What a line of the actor says.
-#[tactic(auto, unfolding(crate::specs::Verbs::line_of))]
-pub fn line_of(
-    mode: Mode,
-    setup: &Setup,
-    number: u64,
-    actor: Actor,
-    words: &Words,
-) -> Result<Line, ScriptCause>
-    requires { actor_needs actor ≤ setup.now.nodes }
-    ensures line { result ≡ line_of mode setup.now.nodes number actor (seen words.now) }
-    ensures sound { IfOk result (LineIsSound setup.now.nodes) }
+/// What a line of the actor asks for.
+#[tactic(auto, unfolding(crate::specs::Verbs::verb_at))]
+pub fn verb_at(mode: Mode, setup: &Setup, actor: &Actor, words: &Words) -> Result<Verb, ScriptCause>
+    ensures verb { result ≡ verb_at mode setup.now.nodes actor.now (seen words.now) }
+    ensures sound { IfOk result (VerbIsSound setup.now.nodes) }
 {
-    let form = form_of(mode, &actor, words)?;
-    match verb_of(setup, form, words) {
-        Ok(verb) => Ok(Line {
-            number,
-            actor,
-            verb,
-        }),
-        Err(cause) => Err(cause),
-    }
+    let form = form_of(mode, actor, words)?;
+    verb_of(setup, form, words)
 }
 
 /// The form of an actor's line. An actor's word alone names no verb.

@@ -1,18 +1,18 @@
 use super::*;
 use history_book::Actor;
 use port_io::Fate;
-use script_data::{Line, Target, Verb};
+use script_data::{Target, Verb};
 use stamp_base::{KeyNo, Name, NodeNo, SessionNo, Setup, Stage, Store, TxnId, Value};
 use std::test::Fail;
 
 /// What a line of an actor says where the nodes are `a` and `b`, or its first cause.
-fn said(mode: Mode, text: &str) -> Result<Line, ScriptCause> {
+fn said(mode: Mode, text: &str) -> Result<(Actor, Verb), ScriptCause> {
     let setup = Setup::default();
     let Some(words) = cut_line(text.as_bytes()) else {
         return Err(ScriptCause::BadByte);
     };
     match actor_of(&setup, words.first) {
-        Some(actor) => line_of(mode, &setup, 1, actor, &words),
+        Some(actor) => Ok((actor, verb_at(mode, &setup, &actor, &words)?)),
         None => Err(ScriptCause::UnknownActor),
     }
 }
@@ -123,7 +123,7 @@ fn names_what_is_wrong_with_an_argument() -> Result<(), Fail> {
 /// The line is of the actor and asks for the verb.
 fn says(text: &str, actor: &Actor, verb: &Verb) -> Result<(), Fail> {
     match said(Mode::Replay, text) {
-        Ok(line) if line.actor == *actor && line.verb == *verb => Ok(()),
+        Ok((given, asked)) if given == *actor && asked == *verb => Ok(()),
         _ => Err(Fail::from(text)),
     }
 }

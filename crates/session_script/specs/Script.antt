@@ -20,7 +20,7 @@ use Rattle.script_lines.specs.Grammar.{named, setup_forms}
 use Rattle.session_script.specs.Names.{posted_after, name_objection}
 use Rattle.script_lines.specs.Results.{◌>>=◌, unless}
 use Rattle.session_script.specs.Settings.{setting_of, with_setting, objection}
-use Rattle.script_lines.specs.Verbs.{line_of}
+use Rattle.script_lines.specs.Verbs.{verb_at}
 use Rattle.script_lines.specs.Words.{is_plain, is_silent, words_of, LineWords, line_words}
 pub use Rattle.script_data.specs.Data.{ScriptData, IsSound}
 
@@ -68,8 +68,8 @@ setup_line so_far form words = do
 -- what was read once a line of the actor has been read
 unfoldable pub actor_line : Mode → SoFar → ℕ → Actor → LineWords → Result SoFar ScriptCause
 actor_line mode so_far number actor words = do
-  line ← line_of mode so_far.script.setup.nodes number actor words
-  unless (name_objection so_far.posted line.verb) (after_telling so_far line)
+  verb ← verb_at mode so_far.script.setup.nodes actor words
+  unless (name_objection so_far.posted verb) (after_telling so_far (record { number = number; actor = actor; verb = verb }))
 
 -- a line begins with a setup word or an actor
 abbrev pub opened_line : Mode → SoFar → ℕ → LineWords → Option SetupForm → Option Actor → Result SoFar ScriptCause

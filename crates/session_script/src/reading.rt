@@ -18,7 +18,7 @@ use crate::setting::{Setting, setting_of};
 use history_book::Actor;
 use script_data::Line;
 use script_lines::{
-    Mode, ScriptCause, SetupForm, Words, actor_of, cut_line, is_silent, line_of, setup_form,
+    Mode, ScriptCause, SetupForm, Words, actor_of, cut_line, is_silent, setup_form, verb_at,
 };
 use stamp_base::{BYTE_LIMIT, LINE_LIMIT};
 use std::alloc::Global;
@@ -141,21 +141,28 @@ fn read_actor_line(
     requires there { actor_needs actor ≤ reading.old.script.setup.nodes }
     ensures { ReadsLine result number (actor_line mode (so_far reading.old) number actor (seen words.now)) (so_far reading.new) }
 {
-    match line_of(mode, &reading.script.setup, number, actor, words) {
-        Ok(line) => add_line(reading, number, &line),
+    match verb_at(mode, &reading.script.setup, &actor, words) {
+        Ok(verb) => add_line(
+            reading,
+            &Line {
+                number,
+                actor,
+                verb,
+            },
+        ),
         Err(cause) => bad_line(number, cause),
     }
 }
 
-fn add_line(reading: &mut ReadSoFar, number: u64, line: &Line) -> Result<(), ScriptFault>
+fn add_line(reading: &mut ReadSoFar, line: &Line) -> Result<(), ScriptFault>
     requires room { reading.old.counted < LINE_LIMIT }
     requires sound { LineIsSound reading.old.script.setup.nodes line.now }
-    ensures { ReadsLine result number
+    ensures { ReadsLine result line.now.number
         (unless (name_objection reading.old.posted line.now.verb) (after_telling (so_far reading.old) line.now))
         (so_far reading.new) }
 {
     match reading.name_objection(&line.verb) {
-        Some(cause) => bad_line(number, cause),
+        Some(cause) => bad_line(line.number, cause),
         None => Ok(reading.tell(line)?),
     }
 }

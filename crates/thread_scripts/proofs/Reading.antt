@@ -13,7 +13,7 @@ use Rattle.script_lines.specs.declared.mode.Mode.TheVariants.{Run}
 use Rattle.script_lines.specs.Arguments.{actor_of}
 use Rattle.script_lines.specs.Grammar.{named, setup_forms}
 use Rattle.script_lines.specs.Results.{unless}
-use Rattle.script_lines.specs.Verbs.{line_of}
+use Rattle.script_lines.specs.Verbs.{verb_at}
 use Rattle.script_lines.specs.Words.{is_plain, is_silent, words_of, LineWords, line_words}
 use Rattle.session_script.specs.Names.{name_objection}
 use Rattle.session_script.specs.Script.{SoFar, BadLine, script_from, after_line, after_words, opened_line, setup_line, actor_line, after_setting, after_telling, or_bad_line, nothing_read}
@@ -42,8 +42,9 @@ setup_fits so_far form words fits =
 actor_fits : (so_far : SoFar) (number : ℕ) (actor : Actor) (words : LineWords) → Fits so_far → IfOk (actor_line Run so_far number actor words) Fits
 unfolding actor_line
 actor_fits so_far number actor words fits =
-    bound (line_of Run so_far.script.setup.nodes number actor words) _ (λ (line : Line). IsForThreads line.verb) Fits (line_fits so_far.script.setup.nodes number actor words) (λ line for_threads.
-    unless_fits (name_objection so_far.posted line.verb) (after_telling so_far line) (one_more so_far.script.lines line fits for_threads))
+    bound (verb_at Run so_far.script.setup.nodes actor words) _ IsForThreads Fits (line_fits so_far.script.setup.nodes actor words) (λ verb for_threads.
+    let line : Line = record { number = number; actor = actor; verb = verb } in
+    unless_fits (name_objection so_far.posted verb) (after_telling so_far line) (one_more so_far.script.lines line fits for_threads))
 
 opened_fits : (so_far : SoFar) (number : ℕ) (words : LineWords) (form : Option SetupForm) (actor : Option Actor) → Fits so_far → IfOk (opened_line Run so_far number words form actor) Fits
 opened_fits so_far number words (Some form) actor fits = setup_fits so_far form words fits

@@ -10,7 +10,7 @@ use Rattle.script_lines.specs.declared.mode.Mode.TheVariants.{Run}
 use Rattle.script_lines.specs.Checked.{number_at, start_at, node_at, key_at, value_at, stage_at, name_at}
 use Rattle.script_lines.specs.Grammar.{named, verb_forms, verb_words, is_replay_only}
 use Rattle.script_lines.specs.Results.{◌>>=◌}
-use Rattle.script_lines.specs.Verbs.{form_at, form_of, verb_of, line_of}
+use Rattle.script_lines.specs.Verbs.{form_at, form_of, verb_of, verb_at}
 use Rattle.script_lines.specs.Words.{LineWords}
 use Rattle.run_turns.specs.Told.{IsForThreads}
 
@@ -73,8 +73,8 @@ unfolding form_of
 form_fits actor words = unless_so (nat_lt words.count 2) WrongNumberOfWords _ _ (λ enough. form_at_fits words (named (verb_forms actor) words.second))
 
 -- ---- the line
-pub line_fits : (nodes number : ℕ) (actor : Actor) (words : LineWords) → IfOk (line_of Run nodes number actor words) (λ (line : Line). IsForThreads line.verb)
-unfolding line_of
-line_fits nodes number actor words =
+pub line_fits : (nodes : ℕ) (actor : Actor) (words : LineWords) → IfOk (verb_at Run nodes actor words) IsForThreads
+unfolding verb_at
+line_fits nodes actor words =
     bound (form_of Run actor words) _ (λ f. is_replay_only f ≡ false) _ (form_fits actor words) (λ form only.
-    bound (verb_of nodes form words) _ IsForThreads _ (verb_fits nodes form words only) (λ verb fits. fits))
+    verb_fits nodes form words only)
