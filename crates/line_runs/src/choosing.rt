@@ -90,36 +90,35 @@ fn node_opens(base: u64, leads: &[u64], node: NodeNo, verb: &Verb) -> Option<Eve
     ensures { result ≡ next.node_opens (clocks base leads.now) node verb.now }
 {
     let actor = Actor::Node(node);
-    let event = match *verb {
-        Verb::Take => Event::Take {
+    match *verb {
+        Verb::Take => Some(Event::Take {
             node,
             reading: reading_at(base, leads, node),
-        },
-        Verb::Renew => Event::Renew {
+        }),
+        Verb::Renew => Some(Event::Renew {
             node,
             reading: reading_at(base, leads, node),
-        },
-        Verb::Crash => Event::Crash { node },
-        Verb::Extend => Event::Extend { node },
-        Verb::Hold { stage } => Event::Note {
+        }),
+        Verb::Crash => Some(Event::Crash { node }),
+        Verb::Extend => Some(Event::Extend { node }),
+        Verb::Hold { stage } => Some(Event::Note {
             actor,
             note: Note::Hold(stage),
-        },
-        Verb::Free { stage } => Event::Note {
+        }),
+        Verb::Free { stage } => Some(Event::Note {
             actor,
             note: Note::Free(stage),
-        },
-        Verb::Accept { session } => Event::Accept {
+        }),
+        Verb::Accept { session } => Some(Event::Accept {
             node,
             session,
             reading: reading_at(base, leads, node),
-        },
-        Verb::Decide { session } => Event::Decide { node, session },
-        Verb::Put { session } => Event::Put { node, session },
-        Verb::Answer { session } => Event::Answer { node, session },
-        _ => return name_opens(actor, verb),
-    };
-    Some(event)
+        }),
+        Verb::Decide { session } => Some(Event::Decide { node, session }),
+        Verb::Put { session } => Some(Event::Put { node, session }),
+        Verb::Answer { session } => Some(Event::Answer { node, session }),
+        _ => name_opens(actor, verb),
+    }
 }
 
 fn session_opens(
@@ -132,42 +131,42 @@ fn session_opens(
     requires { HaveRoom base leads.now verb.now }
     ensures { result ≡ next.session_opens (clocks base leads.now) session verb.now view.now }
 {
-    let event = match *verb {
-        Verb::Begin { target } => Event::AskBegin {
+    match *verb {
+        Verb::Begin { target } => Some(Event::AskBegin {
             session,
             node: node_of(target),
-        },
-        Verb::Commit { target } | Verb::Submit { target } => Event::AskCommit {
+        }),
+        Verb::Commit { target } | Verb::Submit { target } => Some(Event::AskCommit {
             session,
             node: node_of(target),
-        },
-        Verb::AskBegin { node } => Event::AskBegin { session, node },
-        Verb::AskCommit { node } => Event::AskCommit { session, node },
-        Verb::Write { key, value } => Event::Write {
+        }),
+        Verb::AskBegin { node } => Some(Event::AskBegin { session, node }),
+        Verb::AskCommit { node } => Some(Event::AskCommit { session, node }),
+        Verb::Write { key, value } => Some(Event::Write {
             session,
             key,
             value,
-        },
-        Verb::Read { key } | Verb::Fetch { key } => Event::Fetch { session, key },
-        Verb::Collect => return collect_next(base, leads, session, verb, view),
-        Verb::Abort => Event::Abort { session },
-        Verb::Heal => Event::Heal { session },
-        Verb::Vanish => Event::Vanish { session },
-        Verb::Step | Verb::Finish => Event::Step { session },
-        _ => return name_opens(Actor::Session(session), verb),
-    };
-    Some(event)
+        }),
+        Verb::Read { key } | Verb::Fetch { key } => Some(Event::Fetch { session, key }),
+        Verb::Collect => collect_next(base, leads, session, verb, view),
+        Verb::Abort => Some(Event::Abort { session }),
+        Verb::Heal => Some(Event::Heal { session }),
+        Verb::Vanish => Some(Event::Vanish { session }),
+        Verb::Step | Verb::Finish => Some(Event::Step { session }),
+        _ => name_opens(Actor::Session(session), verb),
+    }
 }
 
 fn janitor_opens(verb: &Verb) -> Option<Event>
     ensures { result ≡ next.janitor_opens verb.now }
 {
-    let event = match *verb {
-        Verb::Sweep { node, txn } | Verb::OpenSweep { node, txn } => Event::SweepOpen { node, txn },
-        Verb::Step | Verb::Finish => Event::SweepStep,
-        _ => return name_opens(Actor::Janitor, verb),
-    };
-    Some(event)
+    match *verb {
+        Verb::Sweep { node, txn } | Verb::OpenSweep { node, txn } => {
+            Some(Event::SweepOpen { node, txn })
+        }
+        Verb::Step | Verb::Finish => Some(Event::SweepStep),
+        _ => name_opens(Actor::Janitor, verb),
+    }
 }
 
 /// An actor of any kind may post a name or await one.
