@@ -1,5 +1,6 @@
-ghost use Rattle.std.specs.Prelude.{◌≡◌, ◌+◌, ◌≤◌, ◌++◌, [], length, decimal};
+ghost use Rattle.std.specs.Prelude.{◌≡◌, ◌+◌, ◌<◌, ◌≤◌, ◌++◌, [], length, decimal};
 
+use itoa::write_digits;
 use std::marker::Model;
 
 /// A line of text of at most 256 bytes. It takes no memory.
@@ -66,18 +67,14 @@ impl LineBuf {
     }
 
     /// Adds a number, of 20 digits at most.
-    #[tactic(auto, using(std::proofs::lemmas::Fmt::decimal_digit))]
     pub fn push_number(&mut self, number: u64)
         requires { length self.old + 20 ≤ 256 }
         ensures text { self.new ≡ self.old ++ decimal number }
         ensures len { length self.new ≤ length self.old + 20 }
     {
-        if number < 10 {
-            self.push_text(&[b'0' + number as u8]);
-        } else {
-            let mut buffer = itoa::Buffer::new();
-            self.push_text(buffer.format(number).as_bytes());
-        }
+        let end = self.len + digit_count(number);
+        write_digits(number, &mut self.bytes, end);
+        self.len = end;
     }
 
     /// Adds a name and the number that it has.
@@ -88,5 +85,32 @@ impl LineBuf {
     {
         self.push_text(name);
         self.push_number(number);
+    }
+}
+
+/// How many digits a number has.
+fn digit_count(number: u64) -> usize
+    ensures digits { result ≡ length (decimal number) }
+    ensures most { result ≤ 20 }
+{
+    let mut count = 0;
+    let mut rest = number;
+    while rest >= 10_000 {
+        rest /= 10_000;
+        count += 4;
+    }
+    count + last_digits(rest)
+}
+
+/// As `digit_count`, for a number of at most four digits.
+fn last_digits(number: u64) -> usize
+    requires { number < 10000 }
+    ensures { result ≡ length (decimal number) }
+{
+    match number {
+        0..=9 => 1,
+        10..=99 => 2,
+        100..=999 => 3,
+        _ => 4,
     }
 }
