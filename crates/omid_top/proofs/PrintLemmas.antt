@@ -1,9 +1,10 @@
 -- A history that goes out line by line, and lines that did not.
-use Rattle.std.proofs.Common.{◌≡◌, ℕ, ◌+◌, ◌≤◌, ◌<◌, List, [], ◌∷◌, ◌++◌, append_assoc, append-nil, Option, Some, None, take, drop, length, get_or, refl, sym, ap, ◌∙◌, subst, add-one}
+use Rattle.std.proofs.Common.{◌≡◌, ℕ, ◌+◌, ◌≤◌, ◌<◌, List, [], ◌∷◌, ◌++◌, append_assoc, append-nil, Option, Some, None, take, drop, length, get_or, inl, inr, refl, sym, ap, ◌∙◌, subst, add-one, arith}
 use Rattle.std.specs.Prelude.{IfSome}
 use Rattle.std.specs.List.{flat_map}
+use Rattle.std.proofs.lemmas.Bool.{cases_lt}
 use Rattle.std.proofs.Math.Seq.{drop-cons, take-append-add}
-use Rattle.std.proofs.lemmas.List.{take-append-drop, take-append-le, take_more}
+use Rattle.std.proofs.lemmas.List.{take-append-drop, take-append-le, take_more, take_all}
 use Rattle.std.proofs.lemmas.List.Concat.{flat_map-append}
 use Rattle.history_book.specs.declared.item.Item.{Item}
 use Rattle.port_io.specs.Ports.{Gains}
@@ -15,6 +16,13 @@ line_between : (text : Item → List ℕ) (items : List Item) (i : ℕ) (d : Ite
 line_between text items i d within =
     let parts : drop i items ≡ get_or items i d ∷ drop (i + 1) items = rw add-one (drop-cons items i d within) in
     ap (flat_map text) (sym (take-append-drop i items) ∙ ap (λ xs. take i items ++ xs) parts) ∙ flat_map-append text (take i items) (get_or items i d ∷ drop (i + 1) items)
+
+-- a front of a text is no longer than the text
+pub short_front : (a b : Option (List ℕ)) (text : List ℕ) → GainsFront a b text → (n : ℕ) × ((n ≤ length text) × Gains a b (take n text))
+short_front a b text (n, some) = elim (cases_lt (length text) n) [
+  | inl past ↦ (length text, (omega arith, subst (λ (bytes : List ℕ). Gains a b bytes) (take_all n text (omega arith) ∙ sym (take_all (length text) text (omega arith))) some))
+  | inr not ↦ (n, (omega arith, some))
+]
 
 -- the lines so far and a front of the next are a front of the whole
 pub front_more : (text : Item → List ℕ) (a b c : Option (List ℕ)) (items : List Item) (i : ℕ) (d : Item) (line : List ℕ) (n : ℕ) → i < length items → line ≡ text (get_or items i d) → n ≤ length line

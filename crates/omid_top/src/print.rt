@@ -78,10 +78,7 @@ fn print_history<K: Sink>(sink: &mut K, items: &[Item]) -> Result<(), Failed>
     let mut line = LineBuf::new();
     for item in items {
         print_item(item, &mut line);
-        match write_all_of(sink, line.as_slice()) {
-            Ok(()) => {}
-            Err(_) => return Err(Failed),
-        }
+        print_text(sink, line.as_slice())?;
     }
     Ok(())
 }
@@ -164,13 +161,21 @@ fn set_bad_line(line: &mut LineBuf, number: u64, cause: ScriptCause)
     line.push_text(b"\n");
 }
 
+/// Writes the text. Most often the sink takes all of it at once.
 fn print_text<K: Sink>(sink: &mut K, text: &[u8]) -> Result<(), Failed>
     ensures all { OnOk result (Gains (K.held sink.old) (K.held sink.new) text.now) }
     ensures front { OnErr result (GainsFront (K.held sink.old) (K.held sink.new) text.now) }
     ensures failed { OnErr result (Risen (K.faults sink.old) (K.faults sink.new)) }
     ensures worked { OnOk result (K.faults sink.new ≡ K.faults sink.old) }
 {
-    match write_all_of(sink, text) {
+    let taken = sink.write(text)?;
+    if taken == text.len() {
+        return Ok(());
+    }
+    if taken == 0 {
+        return Err(Failed);
+    }
+    match write_all_of(sink, &text[taken..]) {
         Ok(()) => Ok(()),
         Err(_) => Err(Failed),
     }
