@@ -1,0 +1,173 @@
+#!/usr/bin/env python3
+"""Measures the program `omid` beside `sort`, and its threads beside its replay, and prints one table of each.
+
+usage: bench/bench.py [--program PATH] [--runs N] [--only WORD] [--quick]
+
+The program is crates/omid/out/omid, which stands there behind a green gate. Every figure is a median of N runs that
+take turns with the runs they are compared with, so that a loaded machine slows both. User and system time are the kernel's
+own count of the child; `switches` are its voluntary context switches. Compare ratios of one run of this script, never times of two.
+"""
+import argparse, os, random, statistics, subprocess, sys, tempfile, time
+from dataclasses import dataclass
+
+ROOT = os.path.dirname(os.path.dirname(os.path.abspath(__file__)))
+LINES = 131_072
+WIDE = ["range 1000000000", "lease 1000000"]
+
+
+@dataclass
+class Cost:
+    wall: float
+    user: float
+    system: float
+    switches: int
+
+    @property
+    def processor(self):
+        return self.user + self.system
+
+
+def ran(words, given, taken):
+    """Runs the words with standard input from a file (None: nothing) and standard output to one, and gives what it cost."""
+    with open(given or os.devnull, "rb") as source, open(taken, "wb") as sink:
+        began = time.perf_counter()
+        child = subprocess.Popen(words, stdin=source, stdout=sink, env={**os.environ, "LC_ALL": "C"})
+        _, status, used = os.wait4(child.pid, 0)
+        wall = time.perf_counter() - began
+        child.returncode = os.waitstatus_to_exitcode(status)
+    if child.returncode not in (0, 7):
+        sys.exit(f"bench: {words} ended with {child.returncode}")
+    return Cost(wall, used.ru_utime, used.ru_stime, used.ru_nvcsw)
+
+
+def median(costs, field="user"):
+    return statistics.median(getattr(it, field) for it in costs)
+
+
+# ---- the loads: each gives the lines of a script
+
+def whole_lines(lines):
+    """One session begins, writes one of 50 keys and commits, over and over."""
+    turns = (lines - 1) // 3
+    return [*WIDE, "a take"] + [line for turn in range(turns)
+                                for line in ("s0 begin a", f"s0 write k{turn % 50} v{turn}", "s0 commit a")]
+
+
+def hot_key(lines):
+    """One session begins, reads, writes, reads again and commits, all on one key."""
+    turns = (lines - 1) // 5
+    return [*WIDE, "a take"] + [line for turn in range(turns)
+                                for line in ("s0 begin a", "s0 read k0", f"s0 write k0 v{turn}", "s0 read k0", "s0 commit a")]
+
+
+def single_steps(lines):
+    """Each event of a begin, a fetch, a write and a commit by a line of its own."""
+    turn = ("s0 ask-begin a", "a accept s0", "a decide s0", "a answer s0", "s0 fetch k1", "s0 write k1 v", "s0 ask-commit a",
+            "a accept s0", "a decide s0", "a put s0", "a answer s0", "s0 step", "s0 step")
+    return [*WIDE, "a take"] + [line for _ in range((lines - 1) // len(turn)) for line in turn]
+
+
+def at_random(lines, sessions=16, keys=50, seed=7):
+    """Sixteen sessions and 50 keys, lines drawn at random."""
+    draw = random.Random(seed)
+    verbs = (lambda: "begin a", lambda: f"read k{draw.randrange(keys)}", lambda: f"write k{draw.randrange(keys)} v{draw.randrange(999)}",
+             lambda: "commit a")
+    return [*WIDE, "a take"] + [f"s{draw.randrange(sessions)} {draw.choice(verbs)()}" for _ in range(lines - 1)]
+
+
+def transactions(lines, sessions, nodes=1, takeovers=0):
+    """Sessions side by side, each over and over: begin, read, write of a key of its own, commit; with takeovers by clock."""
+    script = [f"nodes {max(nodes, 1)}", *WIDE]
+    script += ["a take"]
+    homes = "abcdefgh"
+    each = lines // sessions // 4
+    chunks = takeovers + 1
+    for chunk in range(chunks):
+        node = homes[chunk % max(nodes, 1)]
+        if chunk:
+            script += [f"clock await d{chunk}-{session}" for session in range(sessions)]
+            script += ["clock tick 1000000", "clock tick 10", f"clock post c{chunk}", f"{node} await c{chunk}", f"{node} take", f"{node} post t{chunk}"]
+        for session in range(sessions):
+            if chunk:
+                script.append(f"s{session} await t{chunk}")
+            for turn in range(each // chunks):
+                script += [f"s{session} begin {node}", f"s{session} read k{session}", f"s{session} write k{session} v{turn}",
+                           f"s{session} commit {node}"]
+            if chunk + 1 < chunks:
+                script.append(f"s{session} post d{chunk + 1}-{session}")
+    return script
+
+
+def posts(lines):
+    """Every second line posts a name, every other awaits it."""
+    return [line for number in range(lines // 2) for line in (f"a post p{number}", f"s0 await p{number}")]
+
+
+def beside_sort(program, work, runs, loads):
+    print(f"{'load':28} {'items':>9} {'replay':>8} {'of sort':>8} {'audit':>8} {'of sort':>8} {'json':>8} {'of text':>8} {'json audit':>10} {'of text':>8}")
+    for name, script in loads:
+        given, text, json, other = (os.path.join(work, it) for it in ("script", "text", "json", "other"))
+        with open(given, "w") as it:
+            it.write("\n".join(script) + "\n")
+        took = {key: [] for key in ("replay", "sort", "audit", "json", "json audit")}
+        for _ in range(runs):
+            took["replay"].append(ran([program, "replay"], given, text))
+            took["sort"].append(ran(["sort", "--parallel=1"], text, other))
+            took["audit"].append(ran([program, "audit"], text, other))
+            took["json"].append(ran([program, "replay", "json"], given, json))
+            took["json audit"].append(ran([program, "audit"], json, other))
+        with open(text, "rb") as it:
+            items = sum(1 for _ in it)
+        at = {key: median(costs) or 1e-6 for key, costs in took.items()}
+        print(f"{name:28} {items:9} {at['replay']:8.3f} {at['replay'] / at['sort']:8.2f} {at['audit']:8.3f} {at['audit'] / at['sort']:8.2f} "
+              f"{at['json']:8.3f} {at['json'] / at['replay']:8.2f} {at['json audit']:10.3f} {at['json audit'] / at['audit']:8.2f}", flush=True)
+
+
+def storms(program, work, runs):
+    for count in (10_000, 20_000):
+        costs = [ran([program, "storm", str(count)], None, os.path.join(work, "other")) for _ in range(runs)]
+        print(f"storm {count}: {median(costs):.3f} s of user time", flush=True)
+
+
+def threads(program, work, runs, loads):
+    print(f"{'load of run':28} {'lines':>7} {'wall':>7} {'user':>7} {'system':>7} {'switches':>9} {'a line':>7} {'lines/s':>9} {'of replay':>9}")
+    for name, script in loads:
+        given, other = os.path.join(work, "script"), os.path.join(work, "other")
+        with open(given, "w") as it:
+            it.write("\n".join(script) + "\n")
+        run, replay = [], []
+        for _ in range(runs):
+            run.append(ran([program, "run"], given, other))
+            replay.append(ran([program, "replay"], given, other))
+        wall, switches = median(run, "wall"), median(run, "switches")
+        print(f"{name:28} {len(script):7} {wall:7.3f} {median(run):7.3f} {median(run, 'system'):7.3f} {switches:9.0f} {switches / len(script):7.2f} "
+              f"{len(script) / wall:9.0f} {wall / median(replay, 'wall'):9.1f}", flush=True)
+
+
+def main():
+    words = argparse.ArgumentParser(description=__doc__, formatter_class=argparse.RawDescriptionHelpFormatter)
+    words.add_argument("--program", default=os.path.join(ROOT, "crates/omid/out/omid"))
+    words.add_argument("--runs", type=int, default=9)
+    words.add_argument("--only", default="", help="loads whose name has this word")
+    words.add_argument("--quick", action="store_true", help="an eighth of the lines, for a look")
+    said = words.parse_args()
+    if not os.access(said.program, os.X_OK):
+        sys.exit(f"bench: {said.program} is not there: run `rt ci` first, or name one by --program")
+    lines = LINES // 8 if said.quick else LINES
+    files = [("whole lines", whole_lines(lines)), ("hot key", hot_key(lines)), ("single steps", single_steps(lines)),
+             ("16 sessions at random", at_random(lines))]
+    runs = [("1 session", transactions(lines, 1)), ("4 sessions", transactions(lines, 4)), ("16 sessions", transactions(lines, 16)),
+            ("16 sessions, workers 4", ["workers 4", "batch 16"] + transactions(lines, 16)),
+            ("3 nodes, 9 takeovers", transactions(lines, 16, 3, 9)), ("posts and awaits", posts(lines))]
+    picked = [[load for load in loads if said.only in load[0]] for loads in (files, runs)]
+    with tempfile.TemporaryDirectory(prefix="omid-bench-") as work:
+        if picked[0]:
+            beside_sort(said.program, work, said.runs, picked[0])
+        if not said.only:
+            storms(said.program, work, said.runs)
+        if picked[1]:
+            threads(said.program, work, max(3, said.runs // 3), picked[1])
+
+
+if __name__ == "__main__":
+    main()
