@@ -1,3 +1,4 @@
+pub mod PlainItems
 pub mod OutcomesOfRecord
 pub mod OutcomesOfRequests
 pub mod OutcomesOfStamps
