@@ -82,6 +82,8 @@ pub mod ReadTurns
 pub mod ReadsLonger
 pub mod ReadsOfReads
 pub mod ReadsKept
+pub mod Frames
+pub mod Framed
 pub mod InversionParts
 pub mod InversionOfSessions
 pub mod InversionOfFetches
