@@ -19,6 +19,7 @@ use Rattle.machine.specs.Calls.{MayStep, CanWork}
 use Rattle.machine.specs.Events.Step.{own_resolve, work_by, work_of, next_of}
 use Rattle.isolation_laws.specs.Words.{ClientAt}
 use Rattle.isolation_laws.specs.Holds.{Holds}
+use Rattle.isolation_laws.proofs.PlainItems.{none_silent}
 use Rattle.isolation_laws.proofs.InversionParts.{none_quiet}
 use Rattle.isolation_laws.proofs.InversionOfWork.{IsWork, work_fits}
 use Rattle.isolation_laws.proofs.StoresStay.{completed_fills}
@@ -113,6 +114,7 @@ work_shadow w h session c holds at (Completes (asked ∷ asks)) fits k t commit 
   left_is = inr refl;
   items = [];
   quiet = none_quiet;
+  silent = none_silent;
 }) holds k t commit (same_Some asked (Shadow k t commit) is)
 
 -- ---- how it fits the state

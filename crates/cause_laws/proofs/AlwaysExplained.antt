@@ -37,10 +37,10 @@ use Rattle.cause_laws.proofs.LongerHistories.{each_longer}
 after_deed : (w : State) (h : List Item) (P : List (Option InstanceEntry) → List Item → Type 0) (nodes : List (Option InstanceEntry)) (items : List Item) → (by : DeedOf w nodes items) → P (nodes_by w by.deed) (h ++ items_by w by.deed) → P nodes (h ++ items)
 after_deed w h P nodes items by holds = subst (λ xs. P xs (h ++ items)) (sym by.leaves) (subst (λ xs. P (nodes_by w by.deed) (h ++ xs)) (sym by.tells) holds)
 
-shows_stay : (w : State) (h : List Item) (e : Event) (fate : Fate) → Stands w h → Shows w h → Shows (stepped w e fate).state (h ++ (stepped w e fate).items)
-shows_stay w h e fate stands shows =
+shows_stay : (w : State) (h : List Item) (e : Event) (fate : Fate) → Stands w h → IsSteadyAt w.setup.skew w.seen (reading_of e) → Shows w h → Shows (stepped w e fate).state (h ++ (stepped w e fate).items)
+shows_stay w h e fate stands steady shows =
     let step : Step = stepped w e fate in
-    let by : DeedOf w step.state.nodes step.items = deed_of w h e fate stands in
+    let by : DeedOf w step.state.nodes step.items = deed_of w h e fate stands steady in
     let setup : step.state.setup ≡ w.setup = (leaves_parts w e fate).setup in
     record {
       sixteen = clients_stay w e fate ∙ shows.sixteen;
@@ -66,7 +66,7 @@ explained_stays w h e fate stands shows explained =
 pub tells_stay : (w : State) (h : List Item) (e : Event) (fate : Fate) → Tells w h → IsSteadyAt w.setup.skew w.seen (reading_of e) → Tells (stepped w e fate).state (h ++ (stepped w e fate).items)
 tells_stay w h e fate tells steady = record {
   stands = facts_stay w h e fate tells.stands steady;
-  shows = shows_stay w h e fate tells.stands tells.shows;
+  shows = shows_stay w h e fate tells.stands steady tells.shows;
   explained = subst (λ s. Explained s (h ++ (stepped w e fate).items)) (sym (leaves_parts w e fate).setup) (explained_stays w h e fate tells.stands tells.shows tells.explained);
 }
 

@@ -21,7 +21,7 @@ use Rattle.isolation_laws.proofs.Lookups.{instance_changed, held_by, heldby_ende
 use Rattle.isolation_laws.proofs.PendingAfter.{new_holds_none, same_requests}
 use Rattle.cause_laws.specs.Requests.{AreAsked, AreFaulted}
 use Rattle.cause_laws.specs.Shows.{Shows}
-use Rattle.cause_laws.proofs.Deeds.{Took, Told as ToldToWait, Asked, Serving, Accepted, Drew, SettledOne, Deed, OfRested, OfTook, OfRenewed, OfWidened, OfStopped, OfCrashed, OfAsked, OfAccepted, OfDrew, OfSettled, OfTold, OfEnded, OfLearned, took_nodes, took_items, renewed_to, widened_to, ask_item, fault_of, nodes_by, items_by, now_at}
+use Rattle.cause_laws.proofs.Deeds.{Granted, Told as ToldToWait, Asked, Serving, Accepted, Drew, SettledOne, Deed, OfRested, OfTook, OfRenewed, OfWidened, OfStopped, OfCrashed, OfAsked, OfAccepted, OfDrew, OfSettled, OfTold, OfEnded, OfLearned, granted_nodes, took_items, renewed_to, widened_to, ask_item, fault_of, nodes_by, items_by, now_at}
 use Rattle.cause_laws.proofs.AskWords.{AllMute, silent_mute, other_ask, other_accept, other_draw}
 use Rattle.cause_laws.proofs.DeedsMute.{one_mute, always_mute, took_mute, crashed_mute, settled_mute, ended_mute, learned_mute}
 use Rattle.cause_laws.proofs.RequestsTold.{Told, AllTold, all_told, asked_by_told, faulted_by_told, told_mute, told_ask, told_accept, told_draw, told_settled}
@@ -32,7 +32,7 @@ kept : (nodes new : List (Option InstanceEntry)) (h items : List Item) → AllTo
 kept nodes new h items all were mute n s i request p at holds =
     told_mute h items n s i.term request p (mute s) (was_told nodes h n s i.term request p all (were n s i request p at holds))
 
-were_took : (w : State) (k : Took w) (failed : Bool) → AllWere w.nodes (took_nodes w k failed)
+were_took : (w : State) (k : Granted w) (failed : Bool) → AllWere w.nodes (granted_nodes w k failed)
 were_took w k true m s j request p there holds = were_same w.nodes m s j request p there holds
 were_took w k false m s j request p there holds = elim (instance_changed w.nodes k.node m (instance_of w.setup k.node (granted (rules_of w.setup) w.master k.reading)) j there) [
   | inl here ↦ absurd (new_holds_none (granted (rules_of w.setup) w.master k.reading) k.node w.setup.buckets w.setup.width w.setup.slots s request p (subst (λ (i : InstanceEntry). HeldBy i s request p) here.1 holds))
@@ -112,7 +112,7 @@ by_settle w h k stands shows all =
 -- ---- every deed
 told_by : (w : State) (h : List Item) (d : Deed w) → Stands w h → Shows w h → AllTold w.nodes h → AllTold (nodes_by w d) (h ++ items_by w d)
 told_by w h (OfRested k) stands shows all = kept w.nodes w.nodes h k.items all (were_same w.nodes) (λ s. silent_mute s k.items k.silent)
-told_by w h (OfTook k) stands shows all = kept w.nodes (took_nodes w k k.failed) h (took_items w k) all (were_took w k k.failed) (took_mute w k)
+told_by w h (OfTook k) stands shows all = kept w.nodes (granted_nodes w k k.failed) h (took_items w k) all (were_took w k k.failed) (took_mute w k)
 told_by w h (OfRenewed k) stands shows all =
     kept w.nodes (now_at w k.node (instance_renewed k.i (renewed_to w k))) h (item.Renew k.node k.reading k.i.term (renewed_to w k) ∷ []) all
     (were_put w.nodes k.node k.i (instance_renewed k.i (renewed_to w k)) k.at refl (same_requests k.i (instance_renewed k.i (renewed_to w k)) refl)) (λ s. always_mute s (item.Renew k.node k.reading k.i.term (renewed_to w k)) refl)

@@ -1,20 +1,142 @@
--- All deeds, with the nodes that they leave and the items that tell them.
-use Rattle.std.proofs.Common.{[], ◌≡◌, ℕ, ◌+◌, List, ◌∷◌, ◌++◌, Option, None, Some}
-use Rattle.std.specs.Prelude.{slice_set}
-use Rattle.history_book.specs.declared.item.Actor.TheVariants.{Node}
+-- What an event does to the nodes and their instances, a short view of its outcome: each deed is a record of what was the
+-- case, with the nodes that it leaves and the items that tell it.
+use Rattle.std.proofs.Common.{[], ◌≡◌, ◌≢◌, ℕ, ◌+◌, false, List, ◌∷◌, Option, None, Some, ◌⊎◌, ◌++◌}
+use Rattle.std.specs.Prelude.{IsTrue, slice_set, All}
+use Rattle.history_book.specs.declared.item.Actor.TheVariants.{Node, Session}
 use Rattle.history_book.specs.declared.item.Item.{Item}
 use Rattle.history_book.specs.declared.item.Item.TheVariants as item
+use Rattle.store_parts.specs.Record.{granted, is_spent, renewed_until}
+use Rattle.client_parts.specs.declared.session.State.TheVariants as phase
+use Rattle.oracle_parts.specs.declared.instance.Held.{Held}
 use Rattle.oracle_parts.specs.declared.instance.Progress.TheVariants as progress
-use Rattle.oracle_parts.specs.Instance.{InstanceEntry, with_request, session_of}
+use Rattle.oracle_parts.specs.declared.instance.Request.{Request}
+use Rattle.oracle_parts.specs.declared.instance.Request.TheVariants.{Begin, Commit}
+use Rattle.oracle_parts.specs.declared.instance.Settled.{Settled}
+use Rattle.oracle_parts.specs.declared.instance.Settled.TheVariants as how
+use Rattle.oracle_parts.specs.Instance.{InstanceEntry, held_of, session_of, with_request}
+use Rattle.machine.specs.State.{Client, State}
+use Rattle.machine.specs.Events.Take.{rules_of, take_item}
+use Rattle.cause_rules.specs.OpenAsks.{ends_request}
+use Rattle.isolation_laws.specs.Words.{InstanceAt, ClientAt, Marked}
+pub use Rattle.isolation_laws.proofs.PlainItems.{is_silent, Silent, AllSilent}
+pub use Rattle.isolation_laws.proofs.OutcomesOfRecord.{Stopped, Serving, Told, Granted, granted_nodes, fault_if}
+pub use Rattle.isolation_laws.proofs.OutcomesOfStamps.{fault_of}
 use Rattle.oracle_parts.specs.InstanceSteps.{without_request, moved, just_asked, decide_drawn, instance_widened, instance_renewed, instance_stopped}
-use Rattle.machine.specs.State.{State}
 use Rattle.machine.specs.Events.Decide.{draw_item}
-pub use Rattle.cause_laws.proofs.DeedRecords.{is_silent, Silent, AllSilent, Rested, Took, took_nodes, fault_if, took_items, Renewed, renewed_to, Widened, widened_to, Stopped, IsLossOf, Crashed, Asked, ask_item, Serving, Accepted, Drew, SettledOne, fault_of, Told, EndsFor, Ended, Learned}
 
 -- ---- the deeds
+-- the nodes stay as they were
+pub record Rested (w : State) : Type 0 where
+  pub items : List Item
+  pub silent : AllSilent items
+
+-- a take was granted; where the call failed all the same, the fault stands behind
+abbrev pub took_items : (w : State) → Granted w → List Item
+took_items w k = take_item k.node k.reading (granted (rules_of w.setup) w.master k.reading) ∷ fault_if k.failed k.node
+
+-- the lease of an instance was renewed
+pub record Renewed (w : State) : Type 0 where
+  pub node : ℕ
+  pub reading : ℕ
+  pub i : InstanceEntry
+  pub at : InstanceAt w.nodes node i
+  pub own : w.master.term ≡ i.term
+
+abbrev pub renewed_to : (w : State) → Renewed w → ℕ
+renewed_to w k = renewed_until (rules_of w.setup) w.master k.reading
+
+-- an instance got a further range
+pub record Widened (w : State) : Type 0 where
+  pub node : ℕ
+  pub i : InstanceEntry
+  pub at : InstanceAt w.nodes node i
+  pub own : w.master.term ≡ i.term
+  pub room : is_spent (rules_of w.setup) w.master ≡ false
+
+abbrev pub widened_to : State → ℕ
+widened_to w = w.master.ceiling + w.setup.range
+
+-- what a session is told whose request the instance held
+abbrev pub IsLossOf : InstanceEntry → Item → Type 0
+IsLossOf i (item.Refused (Session session) why) = (held : Held) × (held_of i session ≡ Some held)
+IsLossOf i _ = ⊥
+
+-- an instance ended with its requests; the sessions that waited for it are told so
+pub record Crashed (w : State) : Type 0 where
+  pub node : ℕ
+  pub i : InstanceEntry
+  pub at : InstanceAt w.nodes node i
+  pub told : List Item
+  pub losses : All (IsLossOf i) told
+
+-- a session asked, which waited for nothing
+pub record Asked (w : State) : Type 0 where
+  pub node : ℕ
+  pub i : InstanceEntry
+  pub at : InstanceAt w.nodes node i
+  pub request : Request
+  pub none : held_of i (session_of request) ≡ None
+  pub c : Client
+  pub client_at : ClientAt w.clients (session_of request) c
+  pub idle : (c.entry.state ≡ phase.Free) ⊎ (c.entry.state ≡ phase.Open)
+
+abbrev pub ask_item : ℕ → Request → Item
+ask_item node (Begin session) = item.AskBegin session node
+ask_item node (Commit session start keys) = item.AskCommit session node start
+
+-- a request was accepted, a stamp was drawn
+pub record Accepted (w : State) : Type 0 where
+  pub it : Serving w
+  pub reading : ℕ
+  pub asked : it.held.progress ≡ progress.Asked
+
+pub record Drew (w : State) : Type 0 where
+  pub it : Serving w
+  pub accepted : it.held.progress ≡ progress.Accepted
+  pub room : it.i.last ≢ it.i.ceiling
+
+-- the put of a commit has ended
+pub record SettledOne (w : State) : Type 0 where
+  pub it : Serving w
+  pub asker : ℕ
+  pub start : ℕ
+  pub commit : ℕ
+  pub keys : List ℕ
+  pub request_is : it.held.request ≡ Commit asker start keys
+  pub drawn : it.held.progress ≡ progress.Drawn commit
+  pub by : Settled
+  pub effects : List Item
+  pub silent : AllSilent effects
+  pub found : by ≡ how.Invalid → Marked w.pairs start
+
+-- the last that a request is told
+abbrev pub EndsFor : ℕ → Item → Type 0
+EndsFor s (item.Begin session start) = session ≡ s
+EndsFor s (item.Committed session start commit) = session ≡ s
+EndsFor s (item.Refused (Session session) why) = (session ≡ s) × IsTrue (ends_request why)
+EndsFor s _ = ⊥
+
+-- a request is over: answered, or refused for good
+pub record Ended (w : State) : Type 0 where
+  pub it : Serving w
+  pub last : Item
+  pub ends : EndsFor it.session last
+
+-- a session learned by itself that its commit was placed; it holds no request
+pub record Learned (w : State) : Type 0 where
+  pub session : ℕ
+  pub c : Client
+  pub at : ClientAt w.clients session c
+  pub outcome : c.entry.state ≡ phase.OpenOutcome
+  pub steps : List Item
+  pub silent : AllSilent steps
+  pub start : ℕ
+  pub commit : ℕ
+
+-- ---- all deeds
 pub data Deed (w : State) : Type 0 where
   OfRested : Rested w → Deed w
-  OfTook : Took w → Deed w
+  OfTook : Granted w → Deed w
   OfRenewed : Renewed w → Deed w
   OfWidened : Widened w → Deed w
   OfStopped : Stopped w → Deed w
@@ -34,7 +156,7 @@ now_at w node i = slice_set w.nodes node (Some i)
 
 abbrev pub nodes_by : (w : State) → Deed w → List (Option InstanceEntry)
 nodes_by w (OfRested k) = w.nodes
-nodes_by w (OfTook k) = took_nodes w k k.failed
+nodes_by w (OfTook k) = granted_nodes w k k.failed
 nodes_by w (OfRenewed k) = now_at w k.node (instance_renewed k.i (renewed_to w k))
 nodes_by w (OfWidened k) = now_at w k.node (instance_widened k.i (widened_to w))
 nodes_by w (OfStopped k) = now_at w k.node (instance_stopped k.i k.why)

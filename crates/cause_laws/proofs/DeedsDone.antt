@@ -1,85 +1,238 @@
--- Each event of the machine does to the nodes what one deed does.
-use Rattle.std.proofs.Common.{◌≡◌, ℕ, List, [], Option, Some, None, refl}
-use Rattle.std.specs.Prelude.{slice_get}
-use Rattle.port_io.specs.declared.weather.Fate.{Fate}
+-- Each outcome of an event, as a deed to the nodes.
+use Rattle.std.proofs.Common.{[], ◌≡◌, ℕ, ◌+◌, Bool, true, false, List, ◌∷◌, ◌++◌, Option, None, Some, inl, inr, refl, sym, ◌∙◌, ap}
+use Rattle.std.specs.Prelude.{slice_set}
+use Rattle.std.proofs.lemmas.List.Elements.{All-cons}
+use Rattle.stamp_base.specs.declared.stores.Mark.{Mark}
+use Rattle.stamp_base.specs.declared.stores.Mark.TheVariants.{Committed as CommittedMark, Invalid as InvalidMark}
+use Rattle.stamp_base.specs.declared.stores.Store.TheVariants.{Master}
+use Rattle.history_book.specs.declared.item.Actor.TheVariants.{Node, Session, Janitor}
+use Rattle.history_book.specs.declared.item.StoreStep.TheVariants.{PutFound, Keys}
+use Rattle.history_book.specs.declared.item.Ending.TheVariants.{Dead as DeadEnd}
 use Rattle.history_book.specs.declared.item.Item.{Item}
 use Rattle.history_book.specs.declared.item.Item.TheVariants as item
-use Rattle.oracle_parts.specs.Instance.{InstanceEntry}
+use Rattle.store_parts.specs.Pairs.{mark_of}
+use Rattle.store_parts.specs.Record.{renewed_until}
+use Rattle.client_parts.specs.declared.resolve.Outcome.TheVariants as outcome
+use Rattle.client_parts.specs.Resolve.{SettleTurn, Goes, Decides, settle_ask, settle_turn}
+use Rattle.client_parts.specs.KeyRead.{ReadTurn, Asks, Answers}
+use Rattle.oracle_parts.specs.declared.instance.Held.{Held}
+use Rattle.oracle_parts.specs.declared.instance.Request.TheVariants.{Begin, Commit}
+use Rattle.oracle_parts.specs.declared.instance.Settled.{Settled}
+use Rattle.oracle_parts.specs.declared.instance.Settled.TheVariants as how
+use Rattle.oracle_parts.specs.Instance.{InstanceEntry, held_of}
+use Rattle.oracle_parts.specs.InstanceSteps.{without_request}
 use Rattle.machine.specs.declared.event.Event.{Event}
-use Rattle.machine.specs.declared.event.Event.TheVariants as event
-use Rattle.machine.specs.State.{Client, State}
-use Rattle.machine.specs.Machine.{Step, with_reading, at_post, at_client, at_both, stepped}
-use Rattle.machine.specs.Events.Take.{take_on}
-use Rattle.machine.specs.Events.Renew.{renew_on}
-use Rattle.machine.specs.Events.Extend.{extend_on}
-use Rattle.machine.specs.Events.Crash.{crash_on}
-use Rattle.machine.specs.Events.AskBegin.{ask_begin_on}
-use Rattle.machine.specs.Events.AskCommit.{ask_commit_on}
-use Rattle.machine.specs.Events.Accept.{accept_on}
-use Rattle.machine.specs.Events.Decide.{decide_on}
-use Rattle.machine.specs.Events.Put.{put_on}
-use Rattle.machine.specs.Events.Answer.{answer_on}
-use Rattle.machine.specs.Events.Write.{write_on}
-use Rattle.machine.specs.Events.Fetch.{fetch_on}
-use Rattle.machine.specs.Events.Step.{step_on}
-use Rattle.machine.specs.Events.Heal.{heal_on}
-use Rattle.machine.specs.Events.Abort.{abort_on}
-use Rattle.machine.specs.Events.Vanish.{vanish_on}
-use Rattle.machine.specs.Events.SweepOpen.{sweep_open_on}
-use Rattle.isolation_laws.specs.Words.{ClientAt}
+use Rattle.port_io.specs.declared.weather.Fate.{Fate}
+use Rattle.machine.specs.State.{State}
+use Rattle.machine.specs.StoreSteps.{told_by}
+use Rattle.machine.specs.Machine.{Step, stepped, reading_of, IsSteadyAt}
+use Rattle.machine.specs.Events.Fetch.{found_of, read_items}
+use Rattle.machine.specs.Events.Crash.{all_crashed_items}
+use Rattle.machine.specs.Events.Step.{settle_items}
+use Rattle.machine.specs.Events.Take.{rules_of}
+use Rattle.isolation_laws.specs.Words.{InstanceAt, Marked}
+use Rattle.isolation_laws.specs.Holds.{Holds}
 use Rattle.isolation_laws.specs.Sound.{Stands}
-use Rattle.isolation_laws.proofs.InversionOfRecord.{for_record}
-use Rattle.isolation_laws.proofs.InversionOfAsks.{for_clients, for_ask}
-use Rattle.isolation_laws.proofs.InversionOfRequests.{for_request}
-use Rattle.isolation_laws.proofs.InversionOfAnswers.{for_table}
-use Rattle.isolation_laws.proofs.InversionOfSessions.{for_client, for_cells}
-use Rattle.isolation_laws.proofs.InversionOfSteps.{for_stores}
-use Rattle.isolation_laws.proofs.InversionOfSweeps.{for_sweep}
-use Rattle.cause_laws.proofs.Deeds.{DeedOf}
-use Rattle.cause_laws.proofs.DeedParts.{DeedBy, none_silent, one_silent, rests_all}
-use Rattle.cause_laws.proofs.DeedsOfRecord.{take_deed, renew_deed, extend_deed}
-use Rattle.cause_laws.proofs.DeedsOfAsks.{crash_deed, ask_begin_deed, ask_commit_deed}
-use Rattle.cause_laws.proofs.DeedsOfRequests.{accept_deed, decide_deed}
-use Rattle.cause_laws.proofs.DeedsOfAnswers.{put_deed, answer_deed}
-use Rattle.cause_laws.proofs.DeedsOfSessions.{abort_silent, vanish_silent, write_silent, fetch_silent, heal_silent}
-use Rattle.cause_laws.proofs.DeedsOfSteps.{step_deed, sweep_open_silent, sweep_step_silent}
+use Rattle.isolation_laws.proofs.PlainItems.{Silent, AllSilent, none_silent, one_silent, two_silent, all_silent}
+use Rattle.isolation_laws.proofs.OutcomesOfRecord.{StillBy, Rests, Stops, Tells, Renewed as RenewedLease, renewed_nodes, Extended, extended_nodes, fault_if}
+use Rattle.isolation_laws.proofs.OutcomesOfStamps.{AtDrawn, PlacedOne, settled_nodes, fault_of, found_items, answered_item}
+use Rattle.isolation_laws.proofs.OutcomesOfWork.{OutcomeStepped, fetched_turn, read_turn}
+use Rattle.isolation_laws.proofs.Outcomes.{Outcome, OfStill, OfGranted, OfRenewed, OfExtended, OfCrashed, OfAskedBegin, OfAskedCommit, OfAccepted, OfEnded, OfDrew, OfPlaced, OfNotPlaced, OfAnsweredBegin, OfAnsweredCommit, OfEndedReadOnly, OfWrote, OfWriteFailed, OfAborted, OfVanished, OfHealed, OfFetched, OfReadDropped, OfReadStepped, OfOutcome, OfOutcomeFailed, OfCompleted, OfSweepOpened, OfSwept, OfSweepListed, OfSweepFailed, left_by, told_by_outcome}
+use Rattle.isolation_laws.proofs.NumbersKept.{in_flight_of, drawn_pending}
+use Rattle.isolation_laws.proofs.Owners.{has_drew}
+use Rattle.isolation_laws.proofs.InversionParts.{ComesBy}
+use Rattle.isolation_laws.proofs.InversionOfAnswers.{not_invalid}
+use Rattle.isolation_laws.proofs.AlwaysHolds.{comes_by}
+use Rattle.cause_laws.proofs.Deeds.{Serving, EndsFor, OfRested, OfTook, OfRenewed, OfWidened, OfStopped, OfCrashed, OfAsked, OfAccepted, OfDrew, OfSettled, OfTold, OfEnded, OfLearned, DeedOf}
+use Rattle.cause_laws.proofs.HeldAsks.{own_requests, all_losses, holds_none}
 
--- ---- the parts that an event looks up; what names no node or session does nothing
-nothing : (w : State) → DeedOf w w.nodes []
-nothing w = rests_all w [] none_silent
+-- ---- the nodes stay as they were
+rests : (w : State) (items : List Item) → AllSilent items → DeedOf w w.nodes items
+rests w items silent = record { deed = OfRested (record { items = items; silent = silent }); leaves = refl; tells = refl }
 
-at_node : (w left : State) (node : ℕ) (f : Option InstanceEntry → Step) → DeedOf w left.nodes [] → ((post : Option InstanceEntry) → slice_get w.nodes node ≡ Some post → DeedBy w (f post)) → (found : Option (Option InstanceEntry)) → slice_get w.nodes node ≡ found → DeedBy w (at_post left found f)
-at_node w left node f none each None is = none
-at_node w left node f none each (Some post) is = each post is
+still_deed : (w : State) (nodes : List (Option InstanceEntry)) (items : List Item) → StillBy w nodes items → DeedOf w nodes items
+still_deed w nodes items (Rests same plain) = record { deed = OfRested (record { items = items; silent = all_silent items plain }); leaves = same; tells = refl }
+still_deed w nodes items (Stops k leaves tells) = record { deed = OfStopped k; leaves = leaves; tells = tells }
+still_deed w nodes items (Tells k leaves tells) = record { deed = OfTold k; leaves = leaves; tells = tells }
 
-at_session : (w : State) (session : ℕ) (f : Client → Step) → ((c : Client) → ClientAt w.clients session c → DeedBy w (f c)) → (found : Option Client) → slice_get w.clients session ≡ found → DeedBy w (at_client w found f)
-at_session w session f each None is = nothing w
-at_session w session f each (Some c) is = each c is
+-- ---- the master record: where the call failed all the same, the instance stays as it was
+renewed_deed : (w : State) (k : RenewedLease w) (failed : Bool) → DeedOf w (renewed_nodes w k failed) (item.Renew k.node k.reading k.i.term (renewed_until (rules_of w.setup) w.master k.reading) ∷ fault_if failed k.node)
+renewed_deed w k true = rests w _ (two_silent (item.Renew k.node k.reading k.i.term (renewed_until (rules_of w.setup) w.master k.reading)) (item.Fault (Node k.node) Master) refl refl)
+renewed_deed w k false = record {
+  deed = OfRenewed (record { node = k.node; reading = k.reading; i = k.i; at = k.at; own = k.own });
+  leaves = refl;
+  tells = refl;
+}
 
-at_pair : (w left : State) (node session : ℕ) (f : Option InstanceEntry → Client → Step) → DeedOf w left.nodes [] → ((post : Option InstanceEntry) (c : Client) → slice_get w.nodes node ≡ Some post → ClientAt w.clients session c → DeedBy w (f post c)) → (found : Option (Option InstanceEntry)) (client : Option Client) → slice_get w.nodes node ≡ found → slice_get w.clients session ≡ client → DeedBy w (at_both left found client f)
-at_pair w left node session f none each None client at client_at = none
-at_pair w left node session f none each (Some post) None at client_at = none
-at_pair w left node session f none each (Some post) (Some c) at client_at = each post c at client_at
+extended_deed : (w : State) (k : Extended w) (failed : Bool) → DeedOf w (extended_nodes w k failed) (item.Extend k.node k.i.term (w.master.ceiling + w.setup.range) ∷ fault_if failed k.node)
+extended_deed w k true = rests w _ (two_silent (item.Extend k.node k.i.term (w.master.ceiling + w.setup.range)) (item.Fault (Node k.node) Master) refl refl)
+extended_deed w k false = record {
+  deed = OfWidened (record { node = k.node; i = k.i; at = k.at; own = k.own; room = k.room });
+  leaves = refl;
+  tells = refl;
+}
+
+-- ---- requests
+-- the request at a node that an outcome is of
+abbrev serving : (w : State) (node session : ℕ) (i : InstanceEntry) (held : Held) → InstanceAt w.nodes node i → held_of i session ≡ Some held → Serving w
+serving w node session i held at has = record { node = node; session = session; i = i; held = held; at = at; has = has }
+
+-- what is there in the place of a commit in flight is a mark
+is_marked : (w : State) (h : List Item) (it : AtDrawn w) (mark : Mark) → Holds w h → mark_of w.pairs it.start ≡ Some mark → Marked w.pairs it.start
+is_marked w h it InvalidMark holds is = is
+is_marked w h it (CommittedMark commit) holds is = absurd ((has_drew w.nodes h (in_flight_of w it) it.commit holds.requests.pending (drawn_pending w it holds.requests.requests) refl).1 commit (holds.cells.pairs_are.placed it.start commit is))
+
+settles : (w : State) (it : AtDrawn w) (by : Settled) (effects items : List Item) → AllSilent effects → (by ≡ how.Invalid → Marked w.pairs it.start) → items ≡ effects ++ fault_of by it.node → DeedOf w (settled_nodes w it by) items
+settles w it by effects items silent found same = record {
+  deed = OfSettled (record {
+    it = serving w it.node it.session it.i it.held it.at it.has;
+    asker = it.asker;
+    start = it.start;
+    commit = it.commit;
+    keys = it.keys;
+    request_is = it.request_is;
+    drawn = it.drawn;
+    by = by;
+    effects = effects;
+    silent = silent;
+    found = found;
+  });
+  leaves = refl;
+  tells = same;
+}
+
+placed_found : (w : State) (k : PlacedOne w) → k.by ≡ how.Invalid → Marked w.pairs k.it.start
+placed_found w k is = elim k.by_is [
+  | inl placed ↦ let clash : how.Placed ≡ how.Invalid = sym placed ∙ is in absurd (cc)
+  | inr faulted ↦ absurd (not_invalid (sym faulted ∙ is))
+]
+
+found_silent : (by : Settled) (node start : ℕ) → AllSilent (found_items by node start)
+found_silent how.Placed node start = none_silent
+found_silent how.Invalid node start = one_silent (item.Step (Node node) (PutFound start)) refl
+found_silent how.Faulted node start = none_silent
+
+answered_ends : (by : Settled) (session start commit : ℕ) → EndsFor session (answered_item by session start commit)
+answered_ends how.Placed session start commit = refl
+answered_ends how.Invalid session start commit = (refl, refl)
+answered_ends how.Faulted session start commit = (refl, refl)
+
+ended : (w : State) (it : Serving w) (last : Item) (items : List Item) → EndsFor it.session last → items ≡ last ∷ [] → DeedOf w (slice_set w.nodes it.node (Some (without_request it.i it.session))) items
+ended w it last items ends same = record { deed = OfEnded (record { it = it; last = last; ends = ends }); leaves = refl; tells = same }
+
+-- ---- reads, and the resolve of an own commit
+read_silent : (session start key : ℕ) (turn : ReadTurn) → AllSilent (read_items session start key turn)
+read_silent session start key (Asks r) = none_silent
+read_silent session start key (Answers a) = one_silent (item.Read session start key (found_of a.found)) refl
+
+turned : (w : State) (first : Item) (session start key : ℕ) (turn : ReadTurn) → Silent first → DeedOf w w.nodes (first ∷ read_items session start key turn)
+turned w first session start key turn silent = rests w _ (All-cons Silent first (read_items session start key turn) silent (read_silent session start key turn))
+
+settle_decides : (w : State) (k : OutcomeStepped w) (start : Option ℕ) (turn : SettleTurn) → DeedOf w w.nodes (k.first ∷ settle_items k.it.session start turn)
+settle_decides w k (Some start) (Decides (outcome.Committed commit by_table)) = record {
+  deed = OfLearned (record {
+    session = k.it.session;
+    c = k.it.c;
+    at = k.it.client_at;
+    outcome = k.it.is_open;
+    steps = k.first ∷ [];
+    silent = one_silent k.first k.silent;
+    start = start;
+    commit = commit;
+  });
+  leaves = refl;
+  tells = refl;
+}
+settle_decides w k (Some start) (Decides outcome.Dead) = rests w _ (two_silent k.first (item.End k.it.session start DeadEnd) k.silent refl)
+settle_decides w k (Some start) (Goes point) = rests w _ (one_silent k.first k.silent)
+settle_decides w k None turn = rests w _ (one_silent k.first k.silent)
+
+-- the items are these
+telling : (w : State) (nodes : List (Option InstanceEntry)) (items these : List Item) → items ≡ these → DeedOf w nodes these → DeedOf w nodes items
+telling w nodes items these same by = record { deed = by.deed; leaves = by.leaves; tells = same ∙ by.tells }
+
+-- ---- every outcome
+outcome_deed : (w : State) (h : List Item) (o : Outcome w) → Holds w h → DeedOf w (left_by w o).nodes (told_by_outcome w o)
+outcome_deed w h (OfStill k) holds = still_deed w k.nodes k.items k.how
+outcome_deed w h (OfGranted k) holds = record { deed = OfTook k; leaves = refl; tells = k.tells }
+outcome_deed w h (OfRenewed k) holds = telling w _ k.items _ k.tells (renewed_deed w k k.failed)
+outcome_deed w h (OfExtended k) holds = telling w _ k.items _ k.tells (extended_deed w k k.failed)
+outcome_deed w h (OfCrashed k) holds = record {
+  deed = OfCrashed (record {
+    node = k.node;
+    i = k.i;
+    at = k.at;
+    told = all_crashed_items k.node k.i.term k.i.requests w.clients;
+    losses = all_losses k.i k.node k.i.requests w.clients (own_requests w k.node k.i k.at holds.requests.requests);
+  });
+  leaves = refl;
+  tells = k.tells;
+}
+outcome_deed w h (OfAskedBegin k) holds = record {
+  deed = OfAsked (record {
+    node = k.node;
+    i = k.i;
+    at = k.at;
+    request = Begin k.session;
+    none = holds_none w k.session k.node k.c k.i k.at k.client_at (inl k.free) holds.requests.requests (held_of k.i k.session) refl;
+    c = k.c;
+    client_at = k.client_at;
+    idle = inl k.free;
+  });
+  leaves = refl;
+  tells = refl;
+}
+outcome_deed w h (OfAskedCommit k) holds = record {
+  deed = OfAsked (record {
+    node = k.node;
+    i = k.i;
+    at = k.at;
+    request = Commit k.session k.start k.c.entry.keys;
+    none = holds_none w k.session k.node k.c k.i k.at k.client_at (inr k.is_open) holds.requests.requests (held_of k.i k.session) refl;
+    c = k.c;
+    client_at = k.client_at;
+    idle = inr k.is_open;
+  });
+  leaves = refl;
+  tells = k.tells;
+}
+outcome_deed w h (OfAccepted k) holds = record {
+  deed = OfAccepted (record { it = serving w k.node k.session k.i k.held k.at k.has; reading = k.reading; asked = k.asked });
+  leaves = refl;
+  tells = k.tells;
+}
+outcome_deed w h (OfEnded k) holds = ended w (serving w k.node k.session k.i k.held k.at k.has) (item.Refused (Session k.session) k.why) k.items (refl, k.ends) k.tells
+outcome_deed w h (OfDrew k) holds = record {
+  deed = OfDrew (record { it = serving w k.node k.session k.i k.held k.at k.has; accepted = k.accepted; room = k.room });
+  leaves = refl;
+  tells = refl;
+}
+outcome_deed w h (OfPlaced k) holds = settles w k.it k.by (item.Placed k.it.start k.it.commit ∷ []) _ (one_silent (item.Placed k.it.start k.it.commit) refl) (placed_found w k) (ap (λ items. item.Placed k.it.start k.it.commit ∷ items) k.tells)
+outcome_deed w h (OfNotPlaced k) holds = settles w k.it k.by (found_items k.by k.it.node k.it.start) k.items (found_silent k.by k.it.node k.it.start) (λ is. let there = k.found is in is_marked w h k.it there.0 holds there.1) k.tells
+outcome_deed w h (OfAnsweredBegin k) holds = ended w (serving w k.node k.session k.i k.held k.at k.has) (item.Begin k.session k.start) _ refl refl
+outcome_deed w h (OfAnsweredCommit k) holds = ended w (serving w k.node k.session k.i k.held k.at k.has) (answered_item k.by k.session k.start k.commit) k.items (answered_ends k.by k.session k.start k.commit) k.tells
+outcome_deed w h (OfEndedReadOnly k) holds = rests w k.items k.silent
+outcome_deed w h (OfWrote k) holds = rests w _ (one_silent (item.Write k.it.session k.start k.key k.value) refl)
+outcome_deed w h (OfWriteFailed k) holds = rests w k.items k.silent
+outcome_deed w h (OfAborted k) holds = rests w k.items k.silent
+outcome_deed w h (OfVanished k) holds = rests w k.items k.silent
+outcome_deed w h (OfHealed k) holds = rests w k.items k.silent
+outcome_deed w h (OfFetched k) holds = turned w k.first k.it.session k.start k.key (fetched_turn w k.key k.start k.epoch) k.silent
+outcome_deed w h (OfReadDropped k) holds = rests w k.items k.silent
+outcome_deed w h (OfReadStepped k) holds = turned w k.first k.session k.r.start k.r.key (read_turn w k.r) k.silent
+outcome_deed w h (OfOutcome k) holds = telling w w.nodes k.items _ k.tells (settle_decides w k k.it.c.entry.start (settle_turn k.x (told_by (settle_ask k.x) w.rows w.pairs)))
+outcome_deed w h (OfOutcomeFailed k) holds = rests w k.items k.silent
+outcome_deed w h (OfCompleted k) holds = rests w k.items k.silent
+outcome_deed w h (OfSweepOpened k) holds = rests w [] none_silent
+outcome_deed w h (OfSwept k) holds = rests w k.items k.silent
+outcome_deed w h (OfSweepListed k) holds = rests w _ (one_silent (item.Step Janitor (Keys k.txn k.count)) refl)
+outcome_deed w h (OfSweepFailed k) holds = rests w k.items k.silent
 
 -- ---- one event
-pub deed_of : (w : State) (h : List Item) (e : Event) (fate : Fate) → Stands w h → DeedOf w (stepped w e fate).state.nodes (stepped w e fate).items
-deed_of w h (event.Tick to) fate both = rests_all w _ (one_silent (item.Tick to) refl)
-deed_of w h (event.Note actor note) fate both = rests_all w _ (one_silent (item.Note actor note) refl)
-deed_of w h (event.Take node reading) fate both = at_node w (with_reading w reading) node (λ post. for_record (with_reading w reading) node (take_on w.setup node reading fate post w.master)) (nothing w) (take_deed w node reading fate) (slice_get w.nodes node) refl
-deed_of w h (event.Renew node reading) fate both = at_node w (with_reading w reading) node (λ post. for_record (with_reading w reading) node (renew_on w.setup node reading fate post w.master)) (nothing w) (renew_deed w node reading fate) (slice_get w.nodes node) refl
-deed_of w h (event.Extend node) fate both = at_node w w node (λ post. for_record w node (extend_on w.setup node fate post w.master)) (nothing w) (extend_deed w node fate) (slice_get w.nodes node) refl
-deed_of w h (event.Crash node) fate both = at_node w w node (λ post. for_clients w node (crash_on node post w.clients)) (nothing w) (λ post at. crash_deed w node post at both.holds.requests.requests) (slice_get w.nodes node) refl
-deed_of w h (event.AskBegin session node) fate both = at_pair w w node session (λ post c. for_ask w session node (ask_begin_on session node c post)) (nothing w) (λ post c at client_at. ask_begin_deed w session node post c at client_at both.holds.requests.requests) (slice_get w.nodes node) (slice_get w.clients session) refl refl
-deed_of w h (event.AskCommit session node) fate both = at_pair w w node session (λ post c. for_ask w session node (ask_commit_on session node c post)) (nothing w) (λ post c at client_at. ask_commit_deed w session node post c at client_at both.holds.requests.requests) (slice_get w.nodes node) (slice_get w.clients session) refl refl
-deed_of w h (event.Accept node session reading) fate both = at_pair w (with_reading w reading) node session (λ post c. for_request (with_reading w reading) node session (accept_on node session reading post c)) (nothing w) (λ post c at client_at. accept_deed w node session reading post c at) (slice_get w.nodes node) (slice_get w.clients session) refl refl
-deed_of w h (event.Decide node session) fate both = at_pair w w node session (λ post c. for_request w node session (decide_on node session post c)) (nothing w) (λ post c at client_at. decide_deed w node session post c both.sound.stops at) (slice_get w.nodes node) (slice_get w.clients session) refl refl
-deed_of w h (event.Put node session) fate both = at_node w w node (λ post. for_table w node (put_on node session fate post w.pairs)) (nothing w) (λ post at. put_deed w h node session fate post both.holds at) (slice_get w.nodes node) refl
-deed_of w h (event.Answer node session) fate both = at_pair w w node session (λ post c. for_request w node session (answer_on node session post c)) (nothing w) (λ post c at client_at. answer_deed w node session post c at) (slice_get w.nodes node) (slice_get w.clients session) refl refl
-deed_of w h (event.Write session key value) fate both = at_session w session (λ c. for_cells w session (write_on session key value fate c w.rows)) (λ c at. rests_all w _ (write_silent session key value fate c w.rows)) (slice_get w.clients session) refl
-deed_of w h (event.Fetch session key) fate both = at_session w session (λ c. for_client w session (fetch_on session key fate c w.rows)) (λ c at. rests_all w _ (fetch_silent session key fate c w.rows)) (slice_get w.clients session) refl
-deed_of w h (event.Step session) fate both = at_session w session (λ c. for_stores w session (step_on session fate c w.rows w.pairs)) (λ c at. step_deed w h session fate c both.holds.under_way.settling at) (slice_get w.clients session) refl
-deed_of w h (event.Heal session) fate both = at_session w session (λ c. for_cells w session (heal_on session fate c w.rows w.pairs)) (λ c at. rests_all w _ (heal_silent session fate c w.rows w.pairs)) (slice_get w.clients session) refl
-deed_of w h (event.Abort session) fate both = at_session w session (λ c. for_client w session (abort_on session c)) (λ c at. rests_all w _ (abort_silent session c)) (slice_get w.clients session) refl
-deed_of w h (event.Vanish session) fate both = at_session w session (λ c. for_client w session (vanish_on session c)) (λ c at. rests_all w _ (vanish_silent session c)) (slice_get w.clients session) refl
-deed_of w h (event.SweepOpen node txn) fate both = at_node w w node (λ post. for_sweep w (sweep_open_on node txn post w.sweep)) (nothing w) (λ post at. rests_all w _ (sweep_open_silent node txn post w.sweep)) (slice_get w.nodes node) refl
-deed_of w h event.SweepStep fate both = rests_all w _ (sweep_step_silent fate w.sweep w.rows w.pairs)
+by_outcome : (w : State) (h : List Item) (step : Step) → Holds w h → ComesBy w step → DeedOf w step.state.nodes step.items
+by_outcome w h step holds (o, state, items) =
+    let by : DeedOf w (left_by w o).nodes (told_by_outcome w o) = outcome_deed w h o holds in
+    record { deed = by.deed; leaves = ap (λ (v : State). v.nodes) state ∙ by.leaves; tells = items ∙ by.tells }
+
+pub deed_of : (w : State) (h : List Item) (e : Event) (fate : Fate) → Stands w h → IsSteadyAt w.setup.skew w.seen (reading_of e) → DeedOf w (stepped w e fate).state.nodes (stepped w e fate).items
+deed_of w h e fate both steady = by_outcome w h (stepped w e fate) both.holds (comes_by w h e fate both steady)

@@ -12,7 +12,7 @@ use Rattle.store_parts.specs.Record.{granted}
 use Rattle.machine.specs.State.{State}
 use Rattle.machine.specs.Events.Take.{rules_of, take_item}
 use Rattle.cause_laws.specs.Due.{IsRefusal}
-use Rattle.cause_laws.proofs.Deeds.{Took, Crashed, SettledOne, Ended, Learned, IsLossOf, EndsFor, took_items, fault_if, fault_of}
+use Rattle.cause_laws.proofs.Deeds.{Granted, Crashed, SettledOne, Ended, Learned, IsLossOf, EndsFor, took_items, fault_if, fault_of}
 use Rattle.cause_laws.proofs.AskWords.{Mute, AllMute, mute_always, tells_no_request, silent_mute, crash_mute}
 
 -- one item
@@ -27,7 +27,7 @@ fault_if_mute : (s node : ℕ) (failed : Bool) → AllMute s (fault_if failed no
 fault_if_mute s node true = always_mute s (item.Fault (Node node) Master) refl
 fault_if_mute s node false = All-nil (Mute s)
 
-pub took_mute : (w : State) (k : Took w) (s : ℕ) → AllMute s (took_items w k)
+pub took_mute : (w : State) (k : Granted w) (s : ℕ) → AllMute s (took_items w k)
 took_mute w k s = All-cons (Mute s) (take_item k.node k.reading (granted (rules_of w.setup) w.master k.reading)) (fault_if k.failed k.node) (mute_always s (take_item k.node k.reading (granted (rules_of w.setup) w.master k.reading)) refl) (fault_if_mute s k.node k.failed)
 
 -- a crash

@@ -16,7 +16,7 @@ use Rattle.cause_rules.specs.Posts.{CeilingGiven}
 use Rattle.cause_rules.specs.Commits.{CommitDrawn, StampDrawn}
 use Rattle.cause_laws.specs.Nodes.{AreLasts}
 use Rattle.cause_laws.specs.Shows.{Shows}
-use Rattle.cause_laws.proofs.Deeds.{Deed, Took, took_items, fault_if, widened_to, nodes_by, items_by}
+use Rattle.cause_laws.proofs.Deeds.{Deed, Granted, took_items, fault_if, widened_to, nodes_by, items_by}
 use Rattle.cause_laws.proofs.PostWords.{ceiling_given_on}
 use Rattle.cause_laws.proofs.PostMoves.{KeptBy, each_by}
 use Rattle.cause_laws.proofs.LongerHistories.{in_second}
@@ -52,7 +52,7 @@ last_told w h items m i lasts at = record {
 }
 
 -- the instance of a take: a range is not empty
-last_anew : (w : State) (h : List Item) (k : Took w) → 1 ≤ w.setup.range → HasLast (h ++ took_items w k) (instance_of w.setup k.node (granted (rules_of w.setup) w.master k.reading))
+last_anew : (w : State) (h : List Item) (k : Granted w) → 1 ≤ w.setup.range → HasLast (h ++ took_items w k) (instance_of w.setup k.node (granted (rules_of w.setup) w.master k.reading))
 last_anew w h k some = record {
   wide = omega (arith, some);
   given = inl (k.node, k.reading, w.master.ceiling, k.reading + w.setup.lease, in_second (take_item k.node k.reading (granted (rules_of w.setup) w.master k.reading)) h (fault_if k.failed k.node));

@@ -1,4 +1,3 @@
-pub mod DeedRecords
 pub mod Deeds
 pub mod RecordedDraws
 pub mod HiddenWaters
@@ -23,13 +22,7 @@ pub mod StopsShown
 pub mod LastsKept
 pub mod ShownAtFirst
 pub mod LongerHistories
-pub mod DeedParts
-pub mod DeedsOfRecord
-pub mod DeedsOfAsks
-pub mod DeedsOfRequests
-pub mod DeedsOfAnswers
-pub mod DeedsOfSessions
-pub mod DeedsOfSteps
+pub mod HeldAsks
 pub mod DeedsDone
 pub mod DueItems
 pub mod DueOfRecord

@@ -28,7 +28,7 @@ use Rattle.isolation_laws.specs.Sound.{Stands}
 use Rattle.isolation_laws.proofs.Lookups.{held_by}
 use Rattle.cause_laws.specs.Requests.{held_count, AreOpenAsks}
 use Rattle.cause_laws.specs.Shows.{Shows}
-use Rattle.cause_laws.proofs.Deeds.{Took, Crashed, Asked, Serving, Ended, Learned, Deed, OfRested, OfTook, OfRenewed, OfWidened, OfStopped, OfCrashed, OfAsked, OfAccepted, OfDrew, OfSettled, OfTold, OfEnded, OfLearned, IsLossOf, took_nodes, took_items, fault_if, fault_of, renewed_to, widened_to, ask_item, nodes_by, items_by}
+use Rattle.cause_laws.proofs.Deeds.{Granted, Crashed, Asked, Serving, Ended, Learned, Deed, OfRested, OfTook, OfRenewed, OfWidened, OfStopped, OfCrashed, OfAsked, OfAccepted, OfDrew, OfSettled, OfTold, OfEnded, OfLearned, IsLossOf, granted_nodes, took_items, fault_if, fault_of, renewed_to, widened_to, ask_item, nodes_by, items_by}
 use Rattle.cause_laws.proofs.OpenWords.{Keeps, open_kept, Calm, calm_keeps, all_calm_keep, none_keeps, closed, all_silent_calm, draw_calm, ask_of_other, ask_elsewhere, ask_opens, crash_elsewhere, crash_closes, ends_no_ask, ends_closes, ends_of_other}
 use Rattle.cause_laws.proofs.HeldCounts.{same_or_other, count_of, held_within, count_other, count_now, count_same, no_count, AllCame, came_all, calm_stays, came_at, came_calm, AllShaped, shaped_put, shaped_ended, shape_request, shaped_of, open_asks_by}
 use Rattle.cause_laws.proofs.RequestsWere.{serving_alone, learned_unheld}
@@ -50,10 +50,10 @@ fault_if_calm : (m s node : ℕ) (failed : Bool) → All (Calm m s) (fault_if fa
 fault_if_calm m s node true = one_calm m s _ (record { asks = refl; closes_none = refl })
 fault_if_calm m s node false = All-nil (Calm m s)
 
-took_calm : (w : State) (k : Took w) (m s : ℕ) → All (Calm m s) (took_items w k)
+took_calm : (w : State) (k : Granted w) (m s : ℕ) → All (Calm m s) (took_items w k)
 took_calm w k m s = All-cons (Calm m s) (take_item k.node k.reading (granted (rules_of w.setup) w.master k.reading)) (fault_if k.failed k.node) (record { asks = refl; closes_none = refl }) (fault_if_calm m s k.node k.failed)
 
-came_took : (w : State) (k : Took w) (failed : Bool) → AllCame w.nodes (took_items w k) (took_nodes w k failed)
+came_took : (w : State) (k : Granted w) (failed : Bool) → AllCame w.nodes (took_items w k) (granted_nodes w k failed)
 came_took w k true m s now at = came_all w.nodes (took_items w k) (λ m. calm_stays w.nodes (took_items w k) m (took_calm w k m)) m s now at
 came_took w k false m s now at =
     came_calm w.nodes (took_items w k) k.node None (Some (instance_of w.setup k.node (granted (rules_of w.setup) w.master k.reading))) k.vacant (took_calm w k)
@@ -62,7 +62,7 @@ came_took w k false m s now at =
 no_requests : Option Held
 no_requests = None
 
-shaped_took : (w : State) (k : Took w) (failed : Bool) → AllShaped w.setup w.nodes → AllShaped w.setup (took_nodes w k failed)
+shaped_took : (w : State) (k : Granted w) (failed : Bool) → AllShaped w.setup w.nodes → AllShaped w.setup (granted_nodes w k failed)
 shaped_took w k true all m j at = all m j at
 shaped_took w k false all m j at = shaped_put w.setup w.nodes k.node (instance_of w.setup k.node (granted (rules_of w.setup) w.master k.reading)) all (refl, length-replicate 16 no_requests) m j at
 

@@ -19,7 +19,7 @@ use Rattle.machine.specs.Events.Decide.{draw_item}
 use Rattle.isolation_laws.specs.Words.{InstanceAt}
 use Rattle.isolation_laws.proofs.Lookups.{instance_changed, instance_ended}
 use Rattle.cause_rules.specs.Posts.{takes_for, crashes_for}
-use Rattle.cause_laws.proofs.Deeds.{Deed, OfRested, OfTook, OfRenewed, OfWidened, OfStopped, OfCrashed, OfAsked, OfAccepted, OfDrew, OfSettled, OfTold, OfEnded, OfLearned, Took, Renewed, Widened, Stopped, Crashed, Drew, SettledOne, Learned, took_nodes, took_items, fault_if, fault_of, renewed_to, widened_to, IsLossOf, EndsFor, ask_item, now_at, nodes_by, items_by}
+use Rattle.cause_laws.proofs.Deeds.{Deed, OfRested, OfTook, OfRenewed, OfWidened, OfStopped, OfCrashed, OfAsked, OfAccepted, OfDrew, OfSettled, OfTold, OfEnded, OfLearned, Granted, Renewed, Widened, Stopped, Crashed, Drew, SettledOne, Learned, granted_nodes, took_items, fault_if, fault_of, renewed_to, widened_to, IsLossOf, EndsFor, ask_item, now_at, nodes_by, items_by}
 use Rattle.cause_laws.proofs.PostWords.{NoTakes, NoCrashes}
 use Rattle.cause_laws.proofs.PostItems.{is_calm, AllCalm, calm_no_takes, calm_no_crashes, calm_one, silent_calm, crash_no_takes, crash_no_crashes}
 
@@ -82,10 +82,10 @@ faults_calm : (failed : Bool) (node : ℕ) → AllCalm (fault_if failed node)
 faults_calm true node = calm_one _ refl
 faults_calm false node = All-nil (λ (x : Item). is_calm x ≡ true)
 
-pub take_no_takes : (w : State) (k : Took w) (m : ℕ) → m ≢ k.node → NoTakes m (took_items w k)
+pub take_no_takes : (w : State) (k : Granted w) (m : ℕ) → m ≢ k.node → NoTakes m (took_items w k)
 take_no_takes w k m other = All-cons (λ (x : Item). takes_for m x ≡ false) _ (fault_if k.failed k.node) (ne_eqb k.node m (λ same. other (sym same))) (calm_no_takes m (fault_if k.failed k.node) (faults_calm k.failed k.node))
 
-pub take_no_crashes : (w : State) (k : Took w) (m : ℕ) → NoCrashes m (took_items w k)
+pub take_no_crashes : (w : State) (k : Granted w) (m : ℕ) → NoCrashes m (took_items w k)
 take_no_crashes w k m = All-cons (λ (x : Item). crashes_for m x ≡ false) _ (fault_if k.failed k.node) refl (calm_no_crashes m (fault_if k.failed k.node) (faults_calm k.failed k.node))
 
 -- ---- the instances that stand after a deed
@@ -94,7 +94,7 @@ take_no_crashes w k m = All-cons (λ (x : Item). crashes_for m x ≡ false) _ (f
 pub record KeptBy (w : State) (P : List Item → ℕ → InstanceEntry → Type 0) : Type 0 where
   pub told : (items : List Item) (m : ℕ) (i : InstanceEntry) → InstanceAt w.nodes m i → NoTakes m items → NoCrashes m items → P items m i
   pub requests : (items : List Item) (m : ℕ) (i : InstanceEntry) (now : List (Option Held)) → P items m i → P items m (record i { requests = now })
-  pub took : (k : Took w) → k.failed ≡ false → P (took_items w k) k.node (instance_of w.setup k.node (granted (rules_of w.setup) w.master k.reading))
+  pub took : (k : Granted w) → k.failed ≡ false → P (took_items w k) k.node (instance_of w.setup k.node (granted (rules_of w.setup) w.master k.reading))
   pub renewed : (k : Renewed w) → P (items_by w (OfRenewed k)) k.node k.i → P (items_by w (OfRenewed k)) k.node (instance_renewed k.i (renewed_to w k))
   pub widened : (k : Widened w) → P (items_by w (OfWidened k)) k.node k.i → P (items_by w (OfWidened k)) k.node (instance_widened k.i (widened_to w))
   pub stopped : (k : Stopped w) → P (items_by w (OfStopped k)) k.node k.i → P (items_by w (OfStopped k)) k.node (instance_stopped k.i k.why)
@@ -111,13 +111,13 @@ module _ (w : State) (P : List Item → ℕ → InstanceEntry → Type 0) (kept 
     | inr old ↦ calmly items m j calm old.1
   ]
 
-  other_node : (k : Took w) (m : ℕ) (j : InstanceEntry) → InstanceAt w.nodes m j → m ≢ k.node
+  other_node : (k : Granted w) (m : ℕ) (j : InstanceEntry) → InstanceAt w.nodes m j → m ≢ k.node
   other_node k m j at same = none-some j (same_Some None (Some j) (sym k.vacant ∙ (ap (slice_get w.nodes) (sym same) ∙ at)))
 
-  past_take : (k : Took w) (m : ℕ) (j : InstanceEntry) → m ≢ k.node → InstanceAt w.nodes m j → P (took_items w k) m j
+  past_take : (k : Granted w) (m : ℕ) (j : InstanceEntry) → m ≢ k.node → InstanceAt w.nodes m j → P (took_items w k) m j
   past_take k m j other at = kept.told (took_items w k) m j at (take_no_takes w k m other) (take_no_crashes w k m)
 
-  taking : (k : Took w) (failed : Bool) → k.failed ≡ failed → (m : ℕ) (j : InstanceEntry) → InstanceAt (took_nodes w k failed) m j → P (took_items w k) m j
+  taking : (k : Granted w) (failed : Bool) → k.failed ≡ failed → (m : ℕ) (j : InstanceEntry) → InstanceAt (granted_nodes w k failed) m j → P (took_items w k) m j
   taking k true is m j at = past_take k m j (other_node k m j at) at
   taking k false is m j at = elim (instance_changed w.nodes k.node m _ j at) [
     | inl here ↦ subst (λ n. P (took_items w k) n j) (sym here.0) (subst (λ x. P (took_items w k) k.node x) (sym here.1) (kept.took k is))

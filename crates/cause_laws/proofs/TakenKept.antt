@@ -15,7 +15,7 @@ use Rattle.isolation_laws.specs.Sound.{Stands}
 use Rattle.cause_rules.specs.Posts.{takes_for, since_take, TookLast, LeasedUntil, StandsSince}
 use Rattle.cause_laws.specs.Nodes.{AreTaken}
 use Rattle.cause_laws.specs.Shows.{Shows}
-use Rattle.cause_laws.proofs.Deeds.{Deed, OfRenewed, Took, Renewed, fault_if, renewed_to, nodes_by, items_by}
+use Rattle.cause_laws.proofs.Deeds.{Deed, OfRenewed, Granted, Renewed, fault_if, renewed_to, nodes_by, items_by}
 use Rattle.cause_laws.proofs.PostWords.{NoTakes, NoCrashes, since_take_on, took_on, leased_on, stands_on, last_take_new, since_take_new}
 use Rattle.cause_laws.proofs.PostItems.{calm_no_takes}
 use Rattle.cause_laws.proofs.PostMoves.{calm_by, KeptBy, each_by}
@@ -34,7 +34,7 @@ taken_told w h items m i taken at takes crashes = record {
 }
 
 -- ---- the instance of a take: nothing stands behind the take
-taken_anew : (w : State) (h : List Item) (k : Took w) (failed : Bool) → failed ≡ false → IsTaken (h ++ (take_item k.node k.reading (granted (rules_of w.setup) w.master k.reading) ∷ fault_if failed k.node)) k.node (instance_of w.setup k.node (granted (rules_of w.setup) w.master k.reading))
+taken_anew : (w : State) (h : List Item) (k : Granted w) (failed : Bool) → failed ≡ false → IsTaken (h ++ (take_item k.node k.reading (granted (rules_of w.setup) w.master k.reading) ∷ fault_if failed k.node)) k.node (instance_of w.setup k.node (granted (rules_of w.setup) w.master k.reading))
 unfolding ◌∈◌
 taken_anew w h k true whole = absurd (cc)
 taken_anew w h k false whole =

@@ -16,7 +16,7 @@ use Rattle.isolation_laws.proofs.Lookups.{set_cases}
 use Rattle.cause_rules.specs.Posts.{HasNone}
 use Rattle.cause_laws.specs.Nodes.{AreVacant}
 use Rattle.cause_laws.specs.Shows.{Shows}
-use Rattle.cause_laws.proofs.Deeds.{Deed, OfRested, OfTook, OfRenewed, OfWidened, OfStopped, OfCrashed, OfAsked, OfAccepted, OfDrew, OfSettled, OfTold, OfEnded, OfLearned, Took, Crashed, took_nodes, took_items, fault_if, now_at, nodes_by, items_by}
+use Rattle.cause_laws.proofs.Deeds.{Deed, OfRested, OfTook, OfRenewed, OfWidened, OfStopped, OfCrashed, OfAsked, OfAccepted, OfDrew, OfSettled, OfTold, OfEnded, OfLearned, Granted, Crashed, granted_nodes, took_items, fault_if, now_at, nodes_by, items_by}
 use Rattle.cause_laws.proofs.PostWords.{since_take_new, none_on, none_crashed}
 use Rattle.cause_laws.proofs.PostItems.{AllCalm, calm_one, calm_no_takes, crash_no_takes}
 use Rattle.cause_laws.proofs.PostMoves.{losses_calm, calm_by, take_no_takes}
@@ -36,17 +36,17 @@ module _ (w : State) (h : List Item) (vacant : AreVacant w.nodes h) where
   set items node i n calm empty = calmly items n calm (elsewhere node n i empty).1
 
   -- ---- a take: where the call failed, the fault stands behind it
-  past_take : (k : Took w) (n : ℕ) → n ≢ k.node → slice_get w.nodes n ≡ Some None → HasNone (h ++ took_items w k) n
+  past_take : (k : Granted w) (n : ℕ) → n ≢ k.node → slice_get w.nodes n ≡ Some None → HasNone (h ++ took_items w k) n
   past_take k n other empty = none_on h (took_items w k) n (take_no_takes w k n other) (vacant.none n empty)
 
-  fault_behind : (k : Took w) (failed : Bool) → failed ≡ true → HasNone (h ++ (take_item k.node k.reading (granted (rules_of w.setup) w.master k.reading) ∷ fault_if failed k.node)) k.node
+  fault_behind : (k : Granted w) (failed : Bool) → failed ≡ true → HasNone (h ++ (take_item k.node k.reading (granted (rules_of w.setup) w.master k.reading) ∷ fault_if failed k.node)) k.node
   fault_behind k true is =
       let grant = granted (rules_of w.setup) w.master k.reading in
       let fault : Item = item.Fault (Node k.node) Master in
       inr (Master, [], since_take_new h (fault ∷ []) k.node k.reading grant.term grant.epoch grant.until grant.ceiling (calm_no_takes k.node (fault ∷ []) (calm_one fault refl)))
   fault_behind k false is = absurd (cc)
 
-  taking : (k : Took w) (failed : Bool) → k.failed ≡ failed → (n : ℕ) → slice_get (took_nodes w k failed) n ≡ Some None → HasNone (h ++ took_items w k) n
+  taking : (k : Granted w) (failed : Bool) → k.failed ≡ failed → (n : ℕ) → slice_get (granted_nodes w k failed) n ≡ Some None → HasNone (h ++ took_items w k) n
   taking k true is n empty = elim (cases_eq n k.node) [
     | inl here ↦ subst (λ m. HasNone (h ++ took_items w k) m) (sym here) (fault_behind k k.failed is)
     | inr other ↦ past_take k n other empty

@@ -1,7 +1,6 @@
 -- Every outcome keeps the facts on begins in flight and open transactions.
-use Rattle.std.proofs.Common.{◌≡◌, ℕ, Bool, true, false, List, ◌++◌, Option, Some, inl, inr, refl, sym, subst, ap, arith}
+use Rattle.std.proofs.Common.{◌≡◌, ℕ, Bool, true, false, List, ◌++◌, Some, inl, inr, refl, sym, subst, ap, arith}
 use Rattle.std.specs.Prelude.{slice_set}
-use Rattle.std.proofs.lemmas.List.{append-nil}
 use Rattle.history_book.specs.declared.item.Item.{Item}
 use Rattle.store_parts.specs.Record.{renewed_until}
 use Rattle.oracle_parts.specs.Instance.{InstanceEntry}
@@ -9,49 +8,27 @@ use Rattle.oracle_parts.specs.InstanceSteps.{without_request, instance_renewed}
 use Rattle.machine.specs.State.{Client, State}
 use Rattle.machine.specs.Events.Take.{rules_of}
 use Rattle.isolation_laws.specs.Words.{InstanceAt}
-use Rattle.isolation_laws.specs.Quiet.{AllQuiet}
 use Rattle.isolation_laws.specs.Begins.{BeginFacts}
 use Rattle.isolation_laws.specs.Holds.{Holds}
+use Rattle.isolation_laws.proofs.Framed.{framed}
+use Rattle.isolation_laws.proofs.Frames.{nodes_stay, nodes_settled, begins_on, begins_framed}
 use Rattle.isolation_laws.proofs.OutcomesOfRecord.{Renewed, renewed_nodes}
 use Rattle.isolation_laws.proofs.OutcomesOfWork.{fetched_turn, read_turn}
-use Rattle.isolation_laws.proofs.Outcomes.{Outcome, OfStill, OfGranted, OfRenewed, OfExtended, OfCrashed, OfAskedBegin, OfAskedCommit, OfAccepted, OfEnded, OfDrew, OfPlaced, OfNotPlaced, OfAnsweredBegin, OfAnsweredCommit, OfEndedReadOnly, OfWrote, OfWriteFailed, OfAborted, OfVanished, OfHealed, OfFetched, OfReadDropped, OfReadStepped, OfOutcome, OfOutcomeFailed, OfCompleted, OfSweepOpened, OfSwept, OfSweepListed, OfSweepFailed, left_by, told_by_outcome}
+use Rattle.isolation_laws.proofs.Outcomes.{Outcome, OfGranted, OfRenewed, OfExtended, OfAskedBegin, OfAskedCommit, OfAccepted, OfDrew, OfPlaced, OfAnsweredBegin, OfWrote, OfFetched, OfReadStepped, OfSweepListed, left_by, told_by_outcome}
 use Rattle.isolation_laws.proofs.Lookups.{instance_changed}
-use Rattle.isolation_laws.proofs.NumbersStay.{SameNumbers, numbered_same, numbered_set, numbered_ended, numbered_alike, numbered}
+use Rattle.isolation_laws.proofs.NumbersStay.{SameNumbers, numbered_same, numbered_set, numbered}
 use Rattle.isolation_laws.proofs.ClientsOpen.{FewerOpen, same_open}
-use Rattle.isolation_laws.proofs.OpenAfter.{fewer_open_crashed, fewer_open_asked_begin, fewer_open_asked_commit, fewer_open_ended, fewer_open_answered_commit, fewer_open_read_only, fewer_open_wrote, fewer_open_write_failed, fewer_open_aborted, fewer_open_vanished, fewer_open_healed, fewer_open_fetched, fewer_open_dropped, fewer_open_read, fewer_open_outcome, fewer_open_outcome_failed, fewer_open_completed}
-use Rattle.isolation_laws.proofs.CommitsInFlight.{FewerStanding, IsAcceptedNow, IsDrawnNow}
-use Rattle.isolation_laws.proofs.RequestsAfter.{FewerHeld, held_ended_at, held_changed, held_over}
-use Rattle.isolation_laws.proofs.Standing.{standing_same, standing_alike, standing_ended, standing_granted, standing_renewed, standing_extended, standing_asked_begin, standing_asked_commit, standing_accepted, standing_over, standing_settled, held_alike, held_granted, held_renewed, held_extended, held_settled}
+use Rattle.isolation_laws.proofs.OpenAfter.{fewer_open_asked_begin, fewer_open_asked_commit, fewer_open_wrote, fewer_open_fetched, fewer_open_read}
+use Rattle.isolation_laws.proofs.CommitsInFlight.{IsAcceptedNow, IsDrawnNow}
+use Rattle.isolation_laws.proofs.RequestsAfter.{held_changed, held_over}
+use Rattle.isolation_laws.proofs.Standing.{standing_granted, standing_renewed, standing_extended, standing_asked_begin, standing_asked_commit, standing_accepted, standing_over, held_granted, held_renewed, held_extended}
 use Rattle.isolation_laws.proofs.AsksBefore.{AsksNothing, quiet_no_ask, placed_no_ask, one_no_ask, turn_no_ask}
 use Rattle.isolation_laws.proofs.FreshBegins.{begins_of, fresh_fewer, fresh_asked_begin, fresh_asked_commit, fresh_accepted, fresh_drew}
 use Rattle.isolation_laws.proofs.SettledBelow.{KeepsRanges, numbers_keep, below_fewer, below_granted, below_extended, below_drew, below_answered_begin}
 
--- what an outcome leaves of instances and requests, where none is new
-pub record Fewer (old new : List (Option InstanceEntry)) : Type 0 where
-  pub held : FewerHeld old new
-  pub accepted : FewerStanding IsAcceptedNow old new
-  pub drawn : FewerStanding IsDrawnNow old new
-
--- none new, no ask
-begins_on : (w : State) (h items : List Item) (nodes : List (Option InstanceEntry)) (clients : List Client) → Fewer w.nodes nodes → SameNumbers w.nodes nodes → FewerOpen w.clients clients → ((s : ℕ) → AsksNothing s items) → Holds w h → BeginFacts clients nodes (h ++ items)
-begins_on w h items nodes clients fewer same opens none holds = record {
-  fresh = fresh_fewer w.nodes nodes h items (begins_of w.nodes nodes fewer.held) fewer.accepted fewer.drawn none holds.begins.fresh;
-  below = below_fewer w.clients clients w.nodes nodes opens (numbers_keep w.nodes nodes same) fewer.drawn holds.begins.below;
-}
-
-all_same : (nodes : List (Option InstanceEntry)) → Fewer nodes nodes
-all_same nodes = record { held = record { each = λ n s j request p at held. (j, p, at, held) }; accepted = standing_same IsAcceptedNow nodes; drawn = standing_same IsDrawnNow nodes }
-
 -- the clients alone change
 begins_stay : (w : State) (h items : List Item) (clients : List Client) → FewerOpen w.clients clients → ((s : ℕ) → AsksNothing s items) → Holds w h → BeginFacts clients w.nodes (h ++ items)
-begins_stay w h items clients opens none holds = begins_on w h items w.nodes clients (all_same w.nodes) (numbered_same w.nodes) opens none holds
-
-begins_alone : (w : State) (h items : List Item) (clients : List Client) → FewerOpen w.clients clients → AllQuiet items → Holds w h → BeginFacts clients w.nodes (h ++ items)
-begins_alone w h items clients opens quiet holds = begins_stay w h items clients opens (λ s. quiet_no_ask s items quiet) holds
-
--- a request is over
-over : (nodes : List (Option InstanceEntry)) (n s : ℕ) (i : InstanceEntry) → InstanceAt nodes n i → Fewer nodes (slice_set nodes n (Some (without_request i s)))
-over nodes n s i at = record { held = held_changed nodes n i (without_request i s) at (held_over i s); accepted = standing_over IsAcceptedNow nodes n s i at; drawn = standing_over IsDrawnNow nodes n s i at }
+begins_stay w h items clients opens none holds = begins_on w h items w.nodes clients (nodes_stay w.nodes) opens none holds
 
 at_node : (w : State) (n : ℕ) (i j : InstanceEntry) → InstanceAt w.nodes n i → j.term ≡ i.term → j.epoch ≡ i.epoch → j.last ≡ i.last → j.ceiling ≡ i.ceiling → j.until ≡ i.until → SameNumbers w.nodes (slice_set w.nodes n (Some j))
 at_node w n i j at term epoch last ceiling until = numbered_set w.nodes n i j at (numbered i j term epoch last ceiling until)
@@ -66,7 +43,6 @@ renewed_ranges w k false = record {
 }
 
 pub begins_kept : (w : State) (h : List Item) (o : Outcome w) → Holds w h → BeginFacts (left_by w o).clients (left_by w o).nodes (h ++ told_by_outcome w o)
-begins_kept w h (OfStill k) holds = begins_on w h k.items k.nodes w.clients (record { held = held_alike w.nodes k.nodes k.alike; accepted = standing_alike IsAcceptedNow w.nodes k.nodes k.alike; drawn = standing_alike IsDrawnNow w.nodes k.nodes k.alike }) (numbered_alike w.nodes k.nodes k.alike) (same_open w.clients) (λ s. quiet_no_ask s k.items k.quiet) holds
 begins_kept w h (OfGranted k) holds = record {
   fresh = fresh_fewer w.nodes _ h k.items (begins_of w.nodes _ (held_granted w k)) (standing_granted IsAcceptedNow w k) (standing_granted IsDrawnNow w k) (λ s. quiet_no_ask s k.items k.quiet) holds.begins.fresh;
   below = below_granted w h k holds;
@@ -79,7 +55,6 @@ begins_kept w h (OfExtended k) holds = record {
   fresh = fresh_fewer w.nodes _ h k.items (begins_of w.nodes _ (held_extended w k)) (standing_extended IsAcceptedNow w k) (standing_extended IsDrawnNow w k) (λ s. quiet_no_ask s k.items k.quiet) holds.begins.fresh;
   below = below_extended w h k holds;
 }
-begins_kept w h (OfCrashed k) holds = begins_on w h k.items _ _ (record { held = held_ended_at w.nodes k.node; accepted = standing_ended IsAcceptedNow w.nodes k.node; drawn = standing_ended IsDrawnNow w.nodes k.node }) (numbered_ended w.nodes k.node) (fewer_open_crashed w k) (λ s. quiet_no_ask s k.items k.quiet) holds
 begins_kept w h (OfAskedBegin k) holds = record {
   fresh = fresh_asked_begin w h k holds;
   below = below_fewer w.clients _ w.nodes _ (fewer_open_asked_begin w k) (numbers_keep w.nodes _ (at_node w k.node k.i _ k.at refl refl refl refl refl)) (standing_asked_begin IsDrawnNow w k (λ is. is)) holds.begins.below;
@@ -92,28 +67,14 @@ begins_kept w h (OfAccepted k) holds = record {
   fresh = fresh_accepted w h k holds;
   below = below_fewer w.clients w.clients w.nodes _ (same_open w.clients) (numbers_keep w.nodes _ (at_node w k.node k.i _ k.at refl refl refl refl refl)) (standing_accepted IsDrawnNow w k (λ is. is)) holds.begins.below;
 }
-begins_kept w h (OfEnded k) holds = begins_on w h k.items _ _ (over w.nodes k.node k.session k.i k.at) (at_node w k.node k.i _ k.at refl refl refl refl refl) (fewer_open_ended w k) (λ s. quiet_no_ask s k.items k.quiet) holds
 begins_kept w h (OfDrew k) holds = record { fresh = fresh_drew w h k holds; below = below_drew w h k holds }
-begins_kept w h (OfPlaced k) holds = begins_on w h _ _ w.clients (record { held = held_settled w k.it k.by; accepted = standing_settled IsAcceptedNow w k.it k.by (λ is. is); drawn = standing_settled IsDrawnNow w k.it k.by (λ is. is) }) (at_node w k.it.node k.it.i _ k.it.at refl refl refl refl refl) (same_open w.clients) (λ s. placed_no_ask s k.it.start k.it.commit k.items k.quiet) holds
-begins_kept w h (OfNotPlaced k) holds = begins_on w h k.items _ w.clients (record { held = held_settled w k.it k.by; accepted = standing_settled IsAcceptedNow w k.it k.by (λ is. is); drawn = standing_settled IsDrawnNow w k.it k.by (λ is. is) }) (at_node w k.it.node k.it.i _ k.it.at refl refl refl refl refl) (same_open w.clients) (λ s. quiet_no_ask s k.items k.quiet) holds
+begins_kept w h (OfPlaced k) holds = begins_on w h _ _ w.clients (nodes_settled w k.it k.by) (same_open w.clients) (λ s. placed_no_ask s k.it.start k.it.commit k.items k.quiet) holds
 begins_kept w h (OfAnsweredBegin k) holds = record {
-  fresh = fresh_fewer w.nodes _ h _ (begins_of w.nodes _ (over w.nodes k.node k.session k.i k.at).held) (standing_over IsAcceptedNow w.nodes k.node k.session k.i k.at) (standing_over IsDrawnNow w.nodes k.node k.session k.i k.at) (λ s. one_no_ask s _ refl) holds.begins.fresh;
+  fresh = fresh_fewer w.nodes _ h _ (begins_of w.nodes _ (held_changed w.nodes k.node k.i (without_request k.i k.session) k.at (held_over k.i k.session))) (standing_over IsAcceptedNow w.nodes k.node k.session k.i k.at) (standing_over IsDrawnNow w.nodes k.node k.session k.i k.at) (λ s. one_no_ask s _ refl) holds.begins.fresh;
   below = below_answered_begin w h k holds;
 }
-begins_kept w h (OfAnsweredCommit k) holds = begins_on w h k.items _ _ (over w.nodes k.node k.session k.i k.at) (at_node w k.node k.i _ k.at refl refl refl refl refl) (fewer_open_answered_commit w k) (λ s. quiet_no_ask s k.items k.quiet) holds
-begins_kept w h (OfEndedReadOnly k) holds = begins_alone w h k.items _ (fewer_open_read_only w k) k.quiet holds
 begins_kept w h (OfWrote k) holds = begins_stay w h _ _ (fewer_open_wrote w k) (λ s. one_no_ask s _ refl) holds
-begins_kept w h (OfWriteFailed k) holds = begins_alone w h k.items _ (fewer_open_write_failed w k) k.quiet holds
-begins_kept w h (OfAborted k) holds = begins_alone w h k.items _ (fewer_open_aborted w k) k.quiet holds
-begins_kept w h (OfVanished k) holds = begins_alone w h k.items _ (fewer_open_vanished w k) k.quiet holds
-begins_kept w h (OfHealed k) holds = begins_alone w h k.items _ (fewer_open_healed w k) k.quiet holds
 begins_kept w h (OfFetched k) holds = begins_stay w h _ _ (fewer_open_fetched w k) (λ s. turn_no_ask s k.first k.it.session k.start k.key (fetched_turn w k.key k.start k.epoch) k.quiet) holds
-begins_kept w h (OfReadDropped k) holds = begins_alone w h k.items _ (fewer_open_dropped w k) k.quiet holds
 begins_kept w h (OfReadStepped k) holds = begins_stay w h _ _ (fewer_open_read w k) (λ s. turn_no_ask s k.first k.session k.r.start k.r.key (read_turn w k.r) k.quiet) holds
-begins_kept w h (OfOutcome k) holds = begins_alone w h k.items _ (fewer_open_outcome w k) k.quiet holds
-begins_kept w h (OfOutcomeFailed k) holds = begins_alone w h k.items _ (fewer_open_outcome_failed w k) k.quiet holds
-begins_kept w h (OfCompleted k) holds = begins_alone w h k.items _ (fewer_open_completed w k) k.quiet holds
-begins_kept w h (OfSweepOpened k) holds = subst (λ g. BeginFacts w.clients w.nodes g) (sym (append-nil h)) holds.begins
-begins_kept w h (OfSwept k) holds = begins_alone w h k.items w.clients (same_open w.clients) k.quiet holds
 begins_kept w h (OfSweepListed k) holds = begins_stay w h _ w.clients (same_open w.clients) (λ s. one_no_ask s _ refl) holds
-begins_kept w h (OfSweepFailed k) holds = begins_alone w h k.items w.clients (same_open w.clients) k.quiet holds
+begins_kept w h o holds = begins_framed w h (left_by w o) (told_by_outcome w o) (framed w h o holds refl) holds

@@ -29,7 +29,8 @@ use Rattle.machine.specs.Events.SweepOpen.{sweep_open_on}
 use Rattle.isolation_laws.specs.Words.{ClientAt}
 use Rattle.isolation_laws.specs.Holds.{Holds}
 use Rattle.isolation_laws.specs.Sound.{Sound}
-use Rattle.isolation_laws.proofs.InversionParts.{ComesTo, ComesBy, none_quiet, still, still_all, nodes_same}
+use Rattle.isolation_laws.proofs.PlainItems.{none_plain, one_plain}
+use Rattle.isolation_laws.proofs.InversionParts.{ComesTo, ComesBy, rests, still_all}
 use Rattle.isolation_laws.proofs.InversionOfSessions.{for_client, for_cells, abort_at, vanish_at, write_at, heal_at_client}
 use Rattle.isolation_laws.proofs.InversionOfFetches.{fetch_at}
 use Rattle.isolation_laws.proofs.InversionOfRecord.{for_record, take_at, renew_at_post}
@@ -41,14 +42,13 @@ use Rattle.isolation_laws.proofs.InversionOfSteps.{for_stores}
 use Rattle.isolation_laws.proofs.InversionOfWork.{step_at_client}
 use Rattle.isolation_laws.proofs.InversionOfSweeps.{for_sweep, sweep_open_at_post, sweep_step_at}
 use Rattle.isolation_laws.proofs.Orders.{max_left}
-use Rattle.isolation_laws.proofs.Pushed.{one_quiet}
 
 -- ---- what names no node or session does nothing
 nothing_done : (w : State) (seen : ℕ) → w.seen ≤ seen → ComesTo w (record w { seen = seen }) []
-nothing_done w seen up = still w seen w.nodes (record w { seen = seen }) [] up (nodes_same w.nodes) none_quiet refl
+nothing_done w seen up = rests w seen w.nodes (record w { seen = seen }) [] up refl none_plain refl
 
 nothing_at_all : (w : State) → ComesTo w w []
-nothing_at_all w = still_all w w [] none_quiet refl
+nothing_at_all w = still_all w w [] none_plain refl
 
 -- ---- the parts that an event looks up
 post_comes : (w left : State) (node : ℕ) (f : Option InstanceEntry → Step) → ComesTo w left [] → ((post : Option InstanceEntry) → slice_get w.nodes node ≡ Some post → ComesBy w (f post)) → (found : Option (Option InstanceEntry)) → slice_get w.nodes node ≡ found → ComesBy w (at_post left found f)
@@ -75,8 +75,8 @@ at_pair w left node session f none each = both_come w left node session f none e
 
 -- ---- one event
 pub comes_to : (w : State) (h : List Item) (e : Event) (fate : Fate) → Holds w h → Sound w → IsSteadyAt w.setup.skew w.seen (reading_of e) → ComesBy w (stepped w e fate)
-comes_to w h (event.Tick to) fate holds sound steady = still_all w w _ (one_quiet (item.Tick to) refl) refl
-comes_to w h (event.Note actor note) fate holds sound steady = still_all w w _ (one_quiet (item.Note actor note) refl) refl
+comes_to w h (event.Tick to) fate holds sound steady = still_all w w _ (one_plain (item.Tick to) refl refl) refl
+comes_to w h (event.Note actor note) fate holds sound steady = still_all w w _ (one_plain (item.Note actor note) refl refl) refl
 comes_to w h (event.Take node reading) fate holds sound steady = at_node w (with_reading w reading) node (λ post. for_record (with_reading w reading) node (take_on w.setup node reading fate post w.master)) (nothing_done w (max w.seen reading) (max_left w.seen reading)) (take_at w node reading fate)
 comes_to w h (event.Renew node reading) fate holds sound steady = at_node w (with_reading w reading) node (λ post. for_record (with_reading w reading) node (renew_on w.setup node reading fate post w.master)) (nothing_done w (max w.seen reading) (max_left w.seen reading)) (renew_at_post w node reading fate)
 comes_to w h (event.Extend node) fate holds sound steady = at_node w w node (λ post. for_record w node (extend_on w.setup node fate post w.master)) (nothing_at_all w) (extend_at_post w node fate)

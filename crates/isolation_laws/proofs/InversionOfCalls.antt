@@ -17,40 +17,38 @@ use Rattle.client_parts.specs.declared.resolve.SettlePoint.{SettlePoint}
 use Rattle.client_parts.specs.declared.resolve.SettlePoint.TheVariants as point
 use Rattle.client_parts.specs.Resolve.{ask_at}
 use Rattle.machine.specs.StoreSteps.{rows_after, pairs_after, entry_of, mark_item, step_item, mark_kept, effect_items}
-use Rattle.isolation_laws.specs.Quiet.{Quiet, AllQuiet}
+use Rattle.isolation_laws.proofs.PlainItems.{Plain, AllPlain, none_plain, one_plain}
 use Rattle.isolation_laws.proofs.OutcomesOfWork.{MayHaveMarked}
-use Rattle.isolation_laws.proofs.InversionParts.{none_quiet}
-use Rattle.isolation_laws.proofs.Pushed.{one_quiet}
 
 -- the step lists no keys
 abbrev pub NoList : Ask → Type 0
 NoList asked = (txn : ℕ) → asked ≡ ask.Keys txn → ⊥
 
-mark_quiet : (actor : Actor) (txn : ℕ) (found : Option Mark) → Quiet (mark_item actor txn found)
-mark_quiet actor txn None = refl
-mark_quiet actor txn (Some mark) = refl
+mark_plain : (actor : Actor) (txn : ℕ) (found : Option Mark) → Plain (mark_item actor txn found)
+mark_plain actor txn None = (refl, refl)
+mark_plain actor txn (Some mark) = (refl, refl)
 
-pub step_quiet : (actor : Actor) (asked : Ask) (answer : Told) → NoList asked → Quiet (step_item actor asked answer)
-step_quiet actor (ask.Get txn) answer no_list = refl
-step_quiet actor (ask.Mark txn) answer no_list = mark_quiet actor txn (entry_of answer)
-step_quiet actor (ask.Look key txn) answer no_list = refl
-step_quiet actor (ask.Shadow key txn commit) answer no_list = refl
-step_quiet actor (ask.Remove txn) answer no_list = refl
-step_quiet actor (ask.Erase key txn) answer no_list = refl
-step_quiet actor (ask.Keys txn) answer no_list = absurd (no_list txn refl)
+pub step_plain : (actor : Actor) (asked : Ask) (answer : Told) → NoList asked → Plain (step_item actor asked answer)
+step_plain actor (ask.Get txn) answer no_list = (refl, refl)
+step_plain actor (ask.Mark txn) answer no_list = mark_plain actor txn (entry_of answer)
+step_plain actor (ask.Look key txn) answer no_list = (refl, refl)
+step_plain actor (ask.Shadow key txn commit) answer no_list = (refl, refl)
+step_plain actor (ask.Remove txn) answer no_list = (refl, refl)
+step_plain actor (ask.Erase key txn) answer no_list = (refl, refl)
+step_plain actor (ask.Keys txn) answer no_list = absurd (no_list txn refl)
 
-mark_kept_quiet : (actor : Actor) (asked : Ask) (answer : Told) → AllQuiet (mark_kept actor asked answer)
-mark_kept_quiet actor (ask.Mark txn) told.Marked = one_quiet (item.Mark actor txn) refl
-mark_kept_quiet actor _ _ = none_quiet
+mark_kept_plain : (actor : Actor) (asked : Ask) (answer : Told) → AllPlain (mark_kept actor asked answer)
+mark_kept_plain actor (ask.Mark txn) told.Marked = one_plain (item.Mark actor txn) refl refl
+mark_kept_plain actor _ _ = none_plain
 
-effect_quiet : (actor : Actor) (asked : Ask) (answer : Told) (fate : Fate) → AllQuiet (effect_items actor asked answer fate)
-effect_quiet actor asked answer Works = none_quiet
-effect_quiet actor asked answer FailsUnchanged = none_quiet
-effect_quiet actor asked answer FailsApplied = mark_kept_quiet actor asked answer
+effect_plain : (actor : Actor) (asked : Ask) (answer : Told) (fate : Fate) → AllPlain (effect_items actor asked answer fate)
+effect_plain actor asked answer Works = none_plain
+effect_plain actor asked answer FailsUnchanged = none_plain
+effect_plain actor asked answer FailsApplied = mark_kept_plain actor asked answer
 
 -- what a failed step shows
-pub failed_quiet : (actor : Actor) (asked : Ask) (answer : Told) (fate : Fate) (store : Store) → AllQuiet (effect_items actor asked answer fate ++ item.Fault actor store ∷ [])
-failed_quiet actor asked answer fate store = All-append Quiet (effect_items actor asked answer fate) (item.Fault actor store ∷ []) (effect_quiet actor asked answer fate) (one_quiet (item.Fault actor store) refl)
+pub failed_plain : (actor : Actor) (asked : Ask) (answer : Told) (fate : Fate) (store : Store) → AllPlain (effect_items actor asked answer fate ++ item.Fault actor store ∷ [])
+failed_plain actor asked answer fate store = All-append Plain (effect_items actor asked answer fate) (item.Fault actor store ∷ []) (effect_plain actor asked answer fate) (one_plain (item.Fault actor store) refl refl)
 
 -- ---- a resolve lists no keys, changes no cell, and the table only by a mark
 pub resolve_no_list : (key txn : ℕ) (at : SettlePoint) → NoList (ask_at key txn at)

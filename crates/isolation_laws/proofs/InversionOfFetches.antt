@@ -16,8 +16,9 @@ use Rattle.machine.specs.Machine.{with_client}
 use Rattle.machine.specs.Events.Fetch.{fetch_by, fetch_open, fetch_on}
 use Rattle.isolation_laws.specs.Words.{ClientAt}
 use Rattle.isolation_laws.proofs.Outcomes.{OfFetched, OfReadDropped}
-use Rattle.isolation_laws.proofs.InversionParts.{ComesTo, ComesBy, none_quiet, refusal_quiet, still_client}
-use Rattle.isolation_laws.proofs.InversionOfSessions.{for_client, work_open, open_by_work}
+use Rattle.isolation_laws.proofs.PlainItems.{none_plain, one_silent, session_plain, mild_is}
+use Rattle.isolation_laws.proofs.InversionParts.{ComesTo, ComesBy, still_client}
+use Rattle.isolation_laws.proofs.InversionOfSessions.{for_client, work_open, work_mild, open_by_work}
 use Rattle.isolation_laws.proofs.Pushed.{one_quiet}
 
 -- ---- fetch
@@ -35,6 +36,7 @@ fetch_failed w session c at go = (
     pairs_are = inl refl;
     items = item.Fault (Session session) Cells ∷ [];
     quiet = one_quiet (item.Fault (Session session) Cells) refl;
+    silent = one_silent (item.Fault (Session session) Cells) refl;
   }),
   refl,
   refl,
@@ -51,6 +53,7 @@ fetch_fated w session start epoch key Works c at go begun known = (
     epoch_is = known;
     first = item.Step (Session session) (step.Fetch key (length (fetched w.rows key start)));
     quiet = refl;
+    silent = refl;
   }),
   refl,
   refl,
@@ -59,9 +62,9 @@ fetch_fated w session start epoch key FailsUnchanged c at go begun known = fetch
 fetch_fated w session start epoch key FailsApplied c at go begun known = fetch_failed w session c at go
 
 fetch_comes : (w : State) (session key : ℕ) (fate : Fate) (c : Client) → ClientAt w.clients session c → (why : Option Cause) → work_refusal c.entry.state (is_reading c) ≡ why → (start : Option ℕ) → c.entry.start ≡ start → (epoch : Option ℕ) → c.entry.epoch ≡ epoch → ComesBy w (for_client w session (fetch_open session key fate c w.rows why start epoch))
-fetch_comes w session key fate c at (Some why) go start begun epoch known = still_client w session c _ at (refusal_quiet (Session session) why)
-fetch_comes w session key fate c at None go None begun epoch known = still_client w session c [] at none_quiet
-fetch_comes w session key fate c at None go (Some start) begun None known = still_client w session c [] at none_quiet
+fetch_comes w session key fate c at (Some why) go start begun epoch known = still_client w session c _ at (session_plain session why (mild_is (work_refusal c.entry.state (is_reading c)) why go (work_mild c.entry.state (is_reading c))))
+fetch_comes w session key fate c at None go None begun epoch known = still_client w session c [] at none_plain
+fetch_comes w session key fate c at None go (Some start) begun None known = still_client w session c [] at none_plain
 fetch_comes w session key fate c at None go (Some start) begun (Some epoch) known = fetch_fated w session start epoch key fate c at go begun known
 
 pub fetch_at : (w : State) (session key : ℕ) (fate : Fate) (c : Client) → ClientAt w.clients session c → ComesBy w (for_client w session (fetch_on session key fate c w.rows))

@@ -1,6 +1,6 @@
 -- What a node's acceptance and decision of a request come to.
 use Rattle.std.proofs.Common.{◌≡◌, ℕ, ◌+◌, ◌≤◌, ◌==◌, max, Bool, true, false, if◌then◌else◌, [], ◌∷◌, Option, Some, None, ◌⊎◌, inl, inr, refl, sym, subst, arith}
-use Rattle.std.specs.Prelude.{slice_get, slice_set, nat_lt, nat_le}
+use Rattle.std.specs.Prelude.{IsTrue, slice_get, slice_set, nat_lt, nat_le}
 use Rattle.std.proofs.lemmas.Bool.{ltb-true, eqb-false}
 use Rattle.history_book.specs.declared.cause.Cause.{Cause}
 use Rattle.history_book.specs.declared.cause.Cause.TheVariants as cause
@@ -25,10 +25,12 @@ use Rattle.machine.specs.Machine.{Step, step_by, with_post, with_client, with_re
 use Rattle.machine.specs.Events.Accept.{accept_by, accept_request, accept_on}
 use Rattle.machine.specs.Events.Decide.{draw_item, decide_by, decide_request, decide_on}
 use Rattle.isolation_laws.specs.Words.{InstanceAt, ClientAt}
-use Rattle.isolation_laws.specs.Quiet.{Quiet, AllQuiet}
 use Rattle.isolation_laws.specs.Sound.{StopOf, AreStops}
 use Rattle.isolation_laws.proofs.Outcomes.{OfAccepted, OfEnded, OfDrew}
-use Rattle.isolation_laws.proofs.InversionParts.{ComesTo, ComesBy, none_quiet, refusal_quiet, still, still_both, client_back, nodes_alike, alike_told}
+use Rattle.cause_rules.specs.OpenAsks.{ends_request}
+use Rattle.isolation_laws.proofs.PlainItems.{node_plain, once_silent}
+use Rattle.isolation_laws.proofs.OutcomesOfRecord.{Told}
+use Rattle.isolation_laws.proofs.InversionParts.{ComesTo, ComesBy, refusal_quiet, told_quiet, tells, still_both, client_back}
 use Rattle.isolation_laws.proofs.Orders.{max_left}
 use Rattle.isolation_laws.proofs.Pushed.{one_quiet}
 
@@ -42,8 +44,8 @@ pub record Served (w : State) (node session : ℕ) (i : InstanceEntry) (held : H
   pub has : held_of i session ≡ Some held
 
 -- the request is over by a refusal
-ended : (w : State) (node session seen : ℕ) (i : InstanceEntry) (held : Held) (c : Client) (why : Cause) → Served w node session i held c → (held.progress ≡ progress.Asked) ⊎ (held.progress ≡ progress.Accepted) → w.seen ≤ seen → ComesTo w (record (with_client (with_post w node (Some (without_request i session))) session (after_refusal held.request c)) { seen = seen }) (item.Refused (Session session) why ∷ [])
-ended w node session seen i held c why served undrawn up = (
+ended : (w : State) (node session seen : ℕ) (i : InstanceEntry) (held : Held) (c : Client) (why : Cause) → IsTrue (ends_request why) → Served w node session i held c → (held.progress ≡ progress.Asked) ⊎ (held.progress ≡ progress.Accepted) → w.seen ≤ seen → ComesTo w (record (with_client (with_post w node (Some (without_request i session))) session (after_refusal held.request c)) { seen = seen }) (item.Refused (Session session) why ∷ [])
+ended w node session seen i held c why ends served undrawn up = (
   OfEnded (record {
     node = node;
     session = session;
@@ -56,7 +58,10 @@ ended w node session seen i held c why served undrawn up = (
     client_at = served.client_at;
     seen = seen;
     up = up;
+    why = why;
+    ends = ends;
     items = item.Refused (Session session) why ∷ [];
+    tells = refl;
     quiet = refusal_quiet (Session session) why;
   }),
   refl,
@@ -80,7 +85,7 @@ epoch_cases i (Commit session start keys) = elim (old_if (nat_le start i.epoch) 
 ]
 
 accept_timely : (w : State) (node session reading : ℕ) (i : InstanceEntry) (held : Held) (c : Client) → Served w node session i held c → held.progress ≡ progress.Asked → w.seen ≤ reading + w.setup.skew → (in_time : Bool) → nat_lt reading i.until ≡ in_time → ComesBy w (accept_step w node session reading held c (accept_unless i session held (if in_time then epoch_refusal i held.request else Some (cause.Expired reading i.until))))
-accept_timely w node session reading i held c served asked steady false late = ended w node session (max w.seen reading) i held c (cause.Expired reading i.until) served (inl asked) (max_left w.seen reading)
+accept_timely w node session reading i held c served asked steady false late = ended w node session (max w.seen reading) i held c (cause.Expired reading i.until) refl served (inl asked) (max_left w.seen reading)
 accept_timely w node session reading i held c served asked steady true before = elim (epoch_cases i held.request) [
   | inl new ↦ subst (λ (f : Option Cause). ComesBy w (accept_step w node session reading held c (accept_unless i session held f))) (sym new) (
     OfAccepted (record {
@@ -96,16 +101,17 @@ accept_timely w node session reading i held c served asked steady true before = 
       in_epoch = new;
       steady = steady;
       items = item.Accept session node i.term reading ∷ [];
+      tells = refl;
       quiet = one_quiet (item.Accept session node i.term reading) refl;
     }),
     client_back w session (max w.seen reading) c (slice_set w.nodes node (Some (moved i session held progress.Accepted))) served.client_at,
     refl,
   )
-  | inr old ↦ subst (λ (f : Option Cause). ComesBy w (accept_step w node session reading held c (accept_unless i session held f))) (sym old.1) (ended w node session (max w.seen reading) i held c (cause.OldEpoch old.0 i.epoch) served (inl asked) (max_left w.seen reading))
+  | inr old ↦ subst (λ (f : Option Cause). ComesBy w (accept_step w node session reading held c (accept_unless i session held f))) (sym old.1) (ended w node session (max w.seen reading) i held c (cause.OldEpoch old.0 i.epoch) refl served (inl asked) (max_left w.seen reading))
 ]
 
 accept_still : (w : State) (node session reading : ℕ) (post : Option InstanceEntry) (c : Client) (why : Cause) → slice_get w.nodes node ≡ Some post → ClientAt w.clients session c → ComesTo w (with_client (with_post (with_reading w reading) node post) session c) (item.Refused (Node node) why ∷ [])
-accept_still w node session reading post c why at client_at = still_both w node session (max w.seen reading) post c _ at client_at (max_left w.seen reading) (refusal_quiet (Node node) why)
+accept_still w node session reading post c why at client_at = still_both w node session (max w.seen reading) post c _ at client_at (max_left w.seen reading) (node_plain node why)
 
 accept_progress : (w : State) (node session reading : ℕ) (i : InstanceEntry) (held : Held) (c : Client) → Served w node session i held c → w.seen ≤ reading + w.setup.skew → (p : Progress) → held.progress ≡ p → ComesBy w (accept_step w node session reading held c (accept_if_asked i session reading held p))
 accept_progress w node session reading i held c served steady progress.Asked is = accept_timely w node session reading i held c served is steady (nat_lt reading i.until) refl
@@ -132,20 +138,25 @@ stop_cases (cause.Replaced found) is = inl (found, refl)
 stop_cases (cause.Spent ceiling) is = inr (ceiling, refl)
 stop_cases _ is = absurd is
 
-decide_ended : (w : State) (node session : ℕ) (i : InstanceEntry) (held : Held) (c : Client) (why : Cause) → Served w node session i held c → held.progress ≡ progress.Accepted → ComesTo w (with_client (with_post w node (Some (without_request i session))) session (after_refusal held.request c)) (item.Refused (Session session) why ∷ [])
-decide_ended w node session i held c why served accepted = ended w node session w.seen i held c why served (inr accepted) (omega arith)
-
-pub told_quiet : (told : Bool) (x : Item) → Quiet x → AllQuiet (if told then [] else x ∷ [])
-told_quiet true x quiet = none_quiet
-told_quiet false x quiet = one_quiet x quiet
+decide_ended : (w : State) (node session : ℕ) (i : InstanceEntry) (held : Held) (c : Client) (why : Cause) → IsTrue (ends_request why) → Served w node session i held c → held.progress ≡ progress.Accepted → ComesTo w (with_client (with_post w node (Some (without_request i session))) session (after_refusal held.request c)) (item.Refused (Session session) why ∷ [])
+decide_ended w node session i held c why ends served accepted = ended w node session w.seen i held c why ends served (inr accepted) (omega arith)
 
 -- no stamp is left
 decide_out : (w : State) (node session : ℕ) (i : InstanceEntry) (held : Held) (c : Client) → Served w node session i held c → held.progress ≡ progress.Accepted → (stop : Option Cause) → StopOf stop → ComesBy w (decide_step w node session held c (out_of_stamps i session held stop))
 decide_out w node session i held c served accepted None is =
-    still w w.seen (slice_set w.nodes node (Some (no_stamp_told i session held))) _ _ (omega arith) (nodes_alike w.nodes node i (no_stamp_told i session held) served.at (alike_told i session held (record held { told_no_stamp = true }) served.has refl refl)) (told_quiet held.told_no_stamp (item.Refused (Session session) (cause.NoStamp i.last)) refl) (client_back w session w.seen c (slice_set w.nodes node (Some (no_stamp_told i session held))) served.client_at)
+    let x : Item = item.Refused (Session session) (cause.NoStamp i.last) in
+    let k : Told w = record {
+      it = record { node = node; session = session; i = i; held = held; at = served.at; has = served.has };
+      told = record held { told_no_stamp = true };
+      same_request = refl;
+      same_progress = refl;
+      items = if held.told_no_stamp then [] else x ∷ [];
+      silent = once_silent held.told_no_stamp x refl;
+    } in
+    tells w _ k (told_quiet held.told_no_stamp x refl) (client_back w session w.seen c (slice_set w.nodes node (Some (no_stamp_told i session held))) served.client_at)
 decide_out w node session i held c served accepted (Some why) is = elim (stop_cases why is) [
-  | inl replaced ↦ subst (λ (f : Cause). ComesBy w (decide_step w node session held c (out_of_stamps i session held (Some f)))) (sym replaced.1) (decide_ended w node session i held c (cause.Replaced replaced.0) served accepted)
-  | inr spent ↦ subst (λ (f : Cause). ComesBy w (decide_step w node session held c (out_of_stamps i session held (Some f)))) (sym spent.1) (decide_ended w node session i held c (cause.Spent spent.0) served accepted)
+  | inl replaced ↦ subst (λ (f : Cause). ComesBy w (decide_step w node session held c (out_of_stamps i session held (Some f)))) (sym replaced.1) (decide_ended w node session i held c (cause.Replaced replaced.0) refl served accepted)
+  | inr spent ↦ subst (λ (f : Cause). ComesBy w (decide_step w node session held c (out_of_stamps i session held (Some f)))) (sym spent.1) (decide_ended w node session i held c (cause.Spent spent.0) refl served accepted)
 ]
 
 drawn_same : (node term stamp : ℕ) (request : Request) → draw_item node term request (stamp_of (decided_by request stamp)) ∷ [] ≡ draw_item node term request stamp ∷ []
@@ -172,11 +183,11 @@ decide_room w node session i held c served stop accepted free false room = (
 
 decide_verdict : (w : State) (node session : ℕ) (i : InstanceEntry) (held : Held) (c : Client) → Served w node session i held c → StopOf i.stop → held.progress ≡ progress.Accepted → (v : Verdict) → request_verdict i.buckets held.request ≡ v → ComesBy w (decide_step w node session held c (verdict_by i session held v))
 decide_verdict w node session i held c served stop accepted Free is = decide_room w node session i held c served stop accepted is (i.last == i.ceiling) refl
-decide_verdict w node session i held c served stop accepted (Conflict key by) is = decide_ended w node session i held c (cause.Conflict key by) served accepted
-decide_verdict w node session i held c served stop accepted (Hidden key water) is = decide_ended w node session i held c (cause.Hidden key water) served accepted
+decide_verdict w node session i held c served stop accepted (Conflict key by) is = decide_ended w node session i held c (cause.Conflict key by) refl served accepted
+decide_verdict w node session i held c served stop accepted (Hidden key water) is = decide_ended w node session i held c (cause.Hidden key water) refl served accepted
 
 pub decide_still : (w : State) (node session : ℕ) (post : Option InstanceEntry) (c : Client) (why : Cause) → slice_get w.nodes node ≡ Some post → ClientAt w.clients session c → ComesTo w (with_client (with_post w node post) session c) (item.Refused (Node node) why ∷ [])
-decide_still w node session post c why at client_at = still_both w node session w.seen post c _ at client_at (omega arith) (refusal_quiet (Node node) why)
+decide_still w node session post c why at client_at = still_both w node session w.seen post c _ at client_at (omega arith) (node_plain node why)
 
 decide_progress : (w : State) (node session : ℕ) (i : InstanceEntry) (held : Held) (c : Client) → Served w node session i held c → StopOf i.stop → (p : Progress) → held.progress ≡ p → ComesBy w (decide_step w node session held c (decide_if_accepted i session held p))
 decide_progress w node session i held c served stop progress.Accepted is = decide_verdict w node session i held c served stop is (request_verdict i.buckets held.request) refl

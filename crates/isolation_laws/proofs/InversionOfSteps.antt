@@ -24,10 +24,11 @@ use Rattle.machine.specs.Events.Fetch.{client_read}
 use Rattle.machine.specs.Events.Step.{StepParts, read_step, settle_items, client_settled, settle_step, complete_step, own_resolve, after_asks}
 use Rattle.isolation_laws.specs.Words.{ClientAt}
 use Rattle.isolation_laws.specs.Quiet.{Quiet, AllQuiet}
+use Rattle.isolation_laws.proofs.PlainItems.{Plain, AllPlain, all_quiet, all_silent, none_plain}
 use Rattle.isolation_laws.proofs.OutcomesOfWork.{CompletedOne, MayHaveMarked, read_turn}
 use Rattle.isolation_laws.proofs.Outcomes.{OfReadStepped, OfReadDropped, OfOutcome, OfOutcomeFailed, OfCompleted}
 use Rattle.isolation_laws.proofs.InversionParts.{ComesTo, ComesBy, none_quiet}
-use Rattle.isolation_laws.proofs.InversionOfCalls.{NoList, step_quiet, failed_quiet, resolve_no_list, resolve_rows, resolve_marks}
+use Rattle.isolation_laws.proofs.InversionOfCalls.{NoList, step_plain, failed_plain, resolve_no_list, resolve_rows, resolve_marks}
 use Rattle.isolation_laws.proofs.Pushed.{one_quiet}
 
 -- the effect on a client and the stores
@@ -52,7 +53,8 @@ read_failed w session c r fate rows pairs at under_way same marked = (
     pairs = pairs;
     pairs_are = marked;
     items = _;
-    quiet = failed_quiet (Session session) (read_ask r) (told_by (read_ask r) w.rows w.pairs) fate (store_of (read_ask r));
+    quiet = all_quiet _ (failed_plain (Session session) (read_ask r) (told_by (read_ask r) w.rows w.pairs) fate (store_of (read_ask r)));
+    silent = all_silent _ (failed_plain (Session session) (read_ask r) (told_by (read_ask r) w.rows w.pairs) fate (store_of (read_ask r)));
   }),
   same_rows w session (record c { under_way = Nothing }) rows pairs same,
   refl,
@@ -67,7 +69,8 @@ read_comes w session Works c r at under_way = (
     client_at = at;
     under_way = under_way;
     first = step_item (Session session) (read_ask r) (told_by (read_ask r) w.rows w.pairs);
-    quiet = step_quiet (Session session) (read_ask r) (told_by (read_ask r) w.rows w.pairs) (resolve_no_list r.key r.cell.version r.point);
+    quiet = (step_plain (Session session) (read_ask r) (told_by (read_ask r) w.rows w.pairs) (resolve_no_list r.key r.cell.version r.point)).0;
+    silent = (step_plain (Session session) (read_ask r) (told_by (read_ask r) w.rows w.pairs) (resolve_no_list r.key r.cell.version r.point)).1;
   }),
   same_rows w session (client_read c (read_turn w r)) (rows_after (read_ask r) w.rows) (pairs_after (read_ask r) w.pairs) (resolve_rows r.key r.cell.version r.point w.rows),
   refl,
@@ -93,7 +96,8 @@ settle_failed w session c x fate rows pairs at is_open same marked = (
     pairs = pairs;
     pairs_are = marked;
     items = _;
-    quiet = failed_quiet (Session session) (settle_ask x) (told_by (settle_ask x) w.rows w.pairs) fate (store_of (settle_ask x));
+    quiet = all_quiet _ (failed_plain (Session session) (settle_ask x) (told_by (settle_ask x) w.rows w.pairs) fate (store_of (settle_ask x)));
+    silent = all_silent _ (failed_plain (Session session) (settle_ask x) (told_by (settle_ask x) w.rows w.pairs) fate (store_of (settle_ask x)));
   }),
   same_rows w session (record c { under_way = Nothing }) rows pairs same,
   refl,
@@ -103,13 +107,17 @@ pub settle_comes : (w : State) (session : ℕ) (fate : Fate) (c : Client) (x : S
 settle_comes w session Works c x at is_open work =
     let answer : Told = told_by (settle_ask x) w.rows w.pairs in
     let first : Item = step_item (Session session) (settle_ask x) answer in
-    let rest : List Item = settle_items session c.entry.start (settle_turn x answer) in (
+    let rest : List Item = settle_items session c.entry.start (settle_turn x answer) in
+    let plain : Plain first = step_plain (Session session) (settle_ask x) answer (resolve_no_list x.key x.txn x.point) in (
       OfOutcome (record {
         it = record { session = session; c = c; client_at = at; is_open = is_open };
         x = x;
         work = work;
+        first = first;
+        silent = plain.1;
         items = first ∷ rest;
-        quiet = All-cons Quiet first rest (step_quiet (Session session) (settle_ask x) answer (resolve_no_list x.key x.txn x.point)) (settle_quiet session c.entry.start (settle_turn x answer));
+        tells = refl;
+        quiet = All-cons Quiet first rest plain.0 (settle_quiet session c.entry.start (settle_turn x answer));
       }),
       same_rows w session (client_settled c x (settle_turn x answer)) (rows_after (settle_ask x) w.rows) (pairs_after (settle_ask x) w.pairs) (resolve_rows x.key x.txn x.point w.rows),
       refl,
@@ -126,8 +134,8 @@ pub record IsCompletion (c : Client) (asked : Ask) (asks : List Ask) : Type 0 wh
   pub no_list : NoList asked
 
 -- the outcome of a step of a completion
-abbrev completed : (w : State) (session : ℕ) (c : Client) (asked : Ask) (asks : List Ask) (applied : Bool) (left : Client) (items : List Item) → ClientAt w.clients session c → IsCompletion c asked asks → ((left ≡ after_asks c asks) × (applied ≡ true)) ⊎ (left ≡ client_freed c) → AllQuiet items → CompletedOne w
-completed w session c asked asks applied left items at is left_is quiet = record {
+abbrev completed : (w : State) (session : ℕ) (c : Client) (asked : Ask) (asks : List Ask) (applied : Bool) (left : Client) (items : List Item) → ClientAt w.clients session c → IsCompletion c asked asks → ((left ≡ after_asks c asks) × (applied ≡ true)) ⊎ (left ≡ client_freed c) → AllPlain items → CompletedOne w
+completed w session c asked asks applied left items at is left_is plain = record {
   session = session;
   undo = is.undo;
   c = c;
@@ -140,21 +148,22 @@ completed w session c asked asks applied left items at is left_is quiet = record
   left = left;
   left_is = left_is;
   items = items;
-  quiet = quiet;
+  quiet = all_quiet items plain;
+  silent = all_silent items plain;
 }
 
-complete_failed : (w : State) (session : ℕ) (c : Client) (asked : Ask) (asks : List Ask) (applied : Bool) (items : List Item) → ClientAt w.clients session c → IsCompletion c asked asks → AllQuiet items → ComesTo w (record (with_client w session (client_freed c)) { rows = if applied then rows_after asked w.rows else w.rows; pairs = if applied then pairs_after asked w.pairs else w.pairs }) items
-complete_failed w session c asked asks applied items at is quiet = (
-  OfCompleted (completed w session c asked asks applied (client_freed c) items at is (inr refl) quiet),
+complete_failed : (w : State) (session : ℕ) (c : Client) (asked : Ask) (asks : List Ask) (applied : Bool) (items : List Item) → ClientAt w.clients session c → IsCompletion c asked asks → AllPlain items → ComesTo w (record (with_client w session (client_freed c)) { rows = if applied then rows_after asked w.rows else w.rows; pairs = if applied then pairs_after asked w.pairs else w.pairs }) items
+complete_failed w session c asked asks applied items at is plain = (
+  OfCompleted (completed w session c asked asks applied (client_freed c) items at is (inr refl) plain),
   refl,
   refl,
 )
 
 pub complete_comes : (w : State) (session : ℕ) (fate : Fate) (c : Client) (asked : Ask) (asks : List Ask) → ClientAt w.clients session c → IsCompletion c asked asks → ComesBy w (for_stores w session (complete_step c asked asks (met (Session session) asked fate w.rows w.pairs)))
 complete_comes w session Works c asked asks at is = (
-  OfCompleted (completed w session c asked asks true (after_asks c asks) (step_item (Session session) asked (told_by asked w.rows w.pairs) ∷ []) at is (inl (refl, refl)) (one_quiet (step_item (Session session) asked (told_by asked w.rows w.pairs)) (step_quiet (Session session) asked (told_by asked w.rows w.pairs) is.no_list))),
+  OfCompleted (completed w session c asked asks true (after_asks c asks) (step_item (Session session) asked (told_by asked w.rows w.pairs) ∷ []) at is (inl (refl, refl)) (All-cons Plain (step_item (Session session) asked (told_by asked w.rows w.pairs)) [] (step_plain (Session session) asked (told_by asked w.rows w.pairs) is.no_list) none_plain)),
   refl,
   refl,
 )
-complete_comes w session FailsUnchanged c asked asks at is = complete_failed w session c asked asks false _ at is (failed_quiet (Session session) asked (told_by asked w.rows w.pairs) FailsUnchanged (store_of asked))
-complete_comes w session FailsApplied c asked asks at is = complete_failed w session c asked asks true _ at is (failed_quiet (Session session) asked (told_by asked w.rows w.pairs) FailsApplied (store_of asked))
+complete_comes w session FailsUnchanged c asked asks at is = complete_failed w session c asked asks false _ at is (failed_plain (Session session) asked (told_by asked w.rows w.pairs) FailsUnchanged (store_of asked))
+complete_comes w session FailsApplied c asked asks at is = complete_failed w session c asked asks true _ at is (failed_plain (Session session) asked (told_by asked w.rows w.pairs) FailsApplied (store_of asked))

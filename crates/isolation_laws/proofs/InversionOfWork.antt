@@ -4,7 +4,6 @@ use Rattle.std.proofs.lemmas.Option.{same_Some}
 use Rattle.port_io.specs.declared.weather.Fate.{Fate}
 use Rattle.history_book.specs.declared.cause.Cause.{Cause}
 use Rattle.history_book.specs.declared.cause.Cause.TheVariants.{Idle}
-use Rattle.history_book.specs.declared.item.Actor.TheVariants.{Session}
 use Rattle.history_book.specs.declared.item.Item.{Item}
 use Rattle.client_parts.specs.declared.asks.Ask.{Ask}
 use Rattle.client_parts.specs.declared.asks.Ask.TheVariants as ask
@@ -18,7 +17,8 @@ use Rattle.machine.specs.Clients.{is_reading, is_reading_by}
 use Rattle.machine.specs.Events.Step.{own_resolve, work_by, work_of, step_at, step_on, step_by as step_unless}
 use Rattle.isolation_laws.specs.Words.{ClientAt}
 use Rattle.isolation_laws.specs.Holds.{Holds}
-use Rattle.isolation_laws.proofs.InversionParts.{ComesBy, none_quiet, refusal_quiet, still_client}
+use Rattle.isolation_laws.proofs.PlainItems.{none_plain, Mild, session_plain, mild_is}
+use Rattle.isolation_laws.proofs.InversionParts.{ComesBy, still_client}
 use Rattle.isolation_laws.proofs.InversionOfCalls.{NoList}
 use Rattle.isolation_laws.proofs.InversionOfSteps.{for_stores, read_comes, IsResolve, settle_comes, IsCompletion, complete_comes}
 
@@ -32,10 +32,10 @@ IsWork c (Completes (asked ∷ asks)) = IsCompletion c asked asks
 
 -- ---- the next step of what is under way
 work_comes : (w : State) (session : ℕ) (fate : Fate) (c : Client) → ClientAt w.clients session c → (work : UnderWay) → IsWork c work → ComesBy w (for_stores w session (step_at session fate c w.rows w.pairs work))
-work_comes w session fate c at Nothing is = still_client w session c [] at none_quiet
+work_comes w session fate c at Nothing is = still_client w session c [] at none_plain
 work_comes w session fate c at (Reads r) is = read_comes w session fate c r at is
 work_comes w session fate c at (Settles x) is = settle_comes w session fate c x at is.0 is.1
-work_comes w session fate c at (Completes []) is = still_client w session c [] at none_quiet
+work_comes w session fate c at (Completes []) is = still_client w session c [] at none_plain
 work_comes w session fate c at (Completes (asked ∷ asks)) is = complete_comes w session fate c asked asks at is
 
 -- ---- no completion lists keys
@@ -128,8 +128,18 @@ work_fits w h session c holds at go = elim (work_cases c.entry.state c.entry c.u
   | inr same ↦ subst (λ (work : UnderWay). IsWork c work) (sym same) (under_way_fits w h session c holds at go c.under_way refl)
 ]
 
+idle_mild : (reading : Bool) → Mild (if reading then None else Some Idle)
+idle_mild true = tt
+idle_mild false = refl
+
+step_mild : (state : SessionState) (reading : Bool) → Mild (step_refusal state reading)
+step_mild phase.Gone reading = refl
+step_mild phase.OpenOutcome reading = tt
+step_mild (phase.Completing undo) reading = tt
+step_mild _ reading = idle_mild reading
+
 step_comes : (w : State) (h : List Item) (session : ℕ) (fate : Fate) (c : Client) → Holds w h → ClientAt w.clients session c → (why : Option Cause) → step_refusal c.entry.state (is_reading c) ≡ why → ComesBy w (for_stores w session (step_unless session fate c w.rows w.pairs why))
-step_comes w h session fate c holds at (Some why) go = still_client w session c _ at (refusal_quiet (Session session) why)
+step_comes w h session fate c holds at (Some why) go = still_client w session c _ at (session_plain session why (mild_is (step_refusal c.entry.state (is_reading c)) why go (step_mild c.entry.state (is_reading c))))
 step_comes w h session fate c holds at None go = work_comes w session fate c at (work_of c) (work_fits w h session c holds at go)
 
 pub step_at_client : (w : State) (h : List Item) (session : ℕ) (fate : Fate) (c : Client) → Holds w h → ClientAt w.clients session c → ComesBy w (for_stores w session (step_on session fate c w.rows w.pairs))

@@ -1,22 +1,25 @@
 -- What it is for an event to come to an outcome, and what comes to nothing.
-use Rattle.std.proofs.Common.{◌≡◌, ℕ, ◌≤◌, false, List, [], ◌∷◌, Option, Some, inl, inr, refl, sym, ◌∙◌, ap, subst, arith}
+use Rattle.std.proofs.Common.{◌≡◌, ℕ, ◌≤◌, Bool, true, false, if◌then◌else◌, List, [], ◌∷◌, Option, Some, inl, inr, refl, sym, ◌∙◌, ap, subst, arith}
 use Rattle.std.specs.Prelude.{slice_get, slice_set}
 use Rattle.std.proofs.lemmas.Option.{same_Some}
 use Rattle.std.proofs.lemmas.List.Elements.{All-nil, All-cons}
 use Rattle.history_book.specs.declared.cause.Cause.{Cause}
 use Rattle.history_book.specs.declared.item.Actor.{Actor}
+use Rattle.history_book.specs.declared.item.Actor.TheVariants.{Node}
 use Rattle.history_book.specs.declared.item.Item.{Item}
 use Rattle.history_book.specs.declared.item.Item.TheVariants as item
 use Rattle.client_parts.specs.declared.session.State.TheVariants as phase
 use Rattle.oracle_parts.specs.declared.instance.Held.{Held}
 use Rattle.oracle_parts.specs.Instance.{InstanceEntry, held_of, with_request}
+use Rattle.oracle_parts.specs.InstanceSteps.{instance_stopped}
 use Rattle.machine.specs.State.{Client, State}
 use Rattle.machine.specs.Clients.{is_reading}
 use Rattle.machine.specs.Machine.{Step, with_post, with_client}
 use Rattle.isolation_laws.specs.Words.{InstanceAt, ClientAt}
 use Rattle.isolation_laws.specs.Quiet.{Quiet, AllQuiet}
 use Rattle.isolation_laws.proofs.Lookups.{set_same, instance_changed, held_set}
-use Rattle.isolation_laws.proofs.OutcomesOfRecord.{Alike, AlikeNodes}
+use Rattle.isolation_laws.proofs.PlainItems.{AllPlain, all_quiet}
+use Rattle.isolation_laws.proofs.OutcomesOfRecord.{Alike, AlikeNodes, Stopped, Told, StillBy, Rests, Stops, Tells}
 use Rattle.isolation_laws.proofs.OutcomesOfSessions.{AtOpen}
 use Rattle.isolation_laws.proofs.Outcomes.{Outcome, OfStill, left_by, told_by_outcome}
 use Rattle.isolation_laws.proofs.Pushed.{one_quiet}
@@ -38,6 +41,10 @@ two_quiet x y one two = All-cons Quiet x (y ∷ []) one (one_quiet y two)
 pub refusal_quiet : (actor : Actor) (why : Cause) → AllQuiet (item.Refused actor why ∷ [])
 refusal_quiet actor why = one_quiet (item.Refused actor why) refl
 
+pub told_quiet : (told : Bool) (x : Item) → Quiet x → AllQuiet (if told then [] else x ∷ [])
+told_quiet true x quiet = none_quiet
+told_quiet false x quiet = one_quiet x quiet
+
 -- ---- instances that are alike
 pub alike_same : (i : InstanceEntry) → Alike i i
 alike_same i = record {
@@ -53,10 +60,6 @@ alike_same i = record {
 
 pub nodes_same : (nodes : List (Option InstanceEntry)) → AlikeNodes nodes nodes
 nodes_same nodes = record { each = λ n j at. (j, at, alike_same j) }
-
--- what stands there was put there
-pub nodes_put : (nodes : List (Option InstanceEntry)) (n : ℕ) (post : Option InstanceEntry) → slice_get nodes n ≡ Some post → AlikeNodes nodes (slice_set nodes n post)
-nodes_put nodes n post there = subst (λ new. AlikeNodes nodes new) (sym (set_same nodes n post there)) (nodes_same nodes)
 
 pub nodes_alike : (nodes : List (Option InstanceEntry)) (n : ℕ) (i j : InstanceEntry) → InstanceAt nodes n i → Alike i j → AlikeNodes nodes (slice_set nodes n (Some j))
 nodes_alike nodes n i j at alike = record {
@@ -84,28 +87,41 @@ alike_told i session held told has request progress = record {
 }
 
 -- ---- what changes nothing
-pub still : (w : State) (seen : ℕ) (nodes : List (Option InstanceEntry)) (left : State) (items : List Item) → w.seen ≤ seen → AlikeNodes w.nodes nodes → AllQuiet items → left ≡ record w { seen = seen; nodes = nodes } → ComesTo w left items
-still w seen nodes left items up alike quiet same = (OfStill (record { seen = seen; up = up; nodes = nodes; alike = alike; items = items; quiet = quiet }), same, refl)
+pub still : (w : State) (seen : ℕ) (nodes : List (Option InstanceEntry)) (left : State) (items : List Item) → w.seen ≤ seen → AlikeNodes w.nodes nodes → AllQuiet items → StillBy w nodes items → left ≡ record w { seen = seen; nodes = nodes } → ComesTo w left items
+still w seen nodes left items up alike quiet how same = (OfStill (record { seen = seen; up = up; nodes = nodes; alike = alike; items = items; quiet = quiet; how = how }), same, refl)
 
-pub still_all : (w left : State) (items : List Item) → AllQuiet items → left ≡ w → ComesTo w left items
-still_all w left items quiet same = still w w.seen w.nodes left items (omega arith) (nodes_same w.nodes) quiet same
+-- the nodes stay as they were
+pub rests : (w : State) (seen : ℕ) (nodes : List (Option InstanceEntry)) (left : State) (items : List Item) → w.seen ≤ seen → nodes ≡ w.nodes → AllPlain items → left ≡ record w { seen = seen; nodes = nodes } → ComesTo w left items
+rests w seen nodes left items up same plain is = still w seen nodes left items up (subst (λ new. AlikeNodes w.nodes new) (sym same) (nodes_same w.nodes)) (all_quiet items plain) (Rests same plain) is
+
+pub still_all : (w left : State) (items : List Item) → AllPlain items → left ≡ w → ComesTo w left items
+still_all w left items plain same = rests w w.seen w.nodes left items (omega arith) refl plain same
+
+-- an instance keeps a refusal of the master record
+pub stops : (w : State) (seen : ℕ) (left : State) (k : Stopped w) → w.seen ≤ seen → Alike k.i (instance_stopped k.i k.why) → left ≡ record w { seen = seen; nodes = slice_set w.nodes k.node (Some (instance_stopped k.i k.why)) } → ComesTo w left (item.Refused (Node k.node) k.why ∷ [])
+stops w seen left k up alike same = still w seen (slice_set w.nodes k.node (Some (instance_stopped k.i k.why))) left _ up (nodes_alike w.nodes k.node k.i (instance_stopped k.i k.why) k.at alike) (refusal_quiet (Node k.node) k.why) (Stops k refl refl) same
+
+-- a request was told that it has to wait
+pub tells : (w left : State) (k : Told w) → AllQuiet k.items → left ≡ record w { nodes = slice_set w.nodes k.it.node (Some (with_request k.it.i k.it.session (Some k.told))) } → ComesTo w left k.items
+tells w left k quiet same = still w w.seen (slice_set w.nodes k.it.node (Some (with_request k.it.i k.it.session (Some k.told)))) left k.items (omega arith)
+    (nodes_alike w.nodes k.it.node k.it.i (with_request k.it.i k.it.session (Some k.told)) k.it.at (alike_told k.it.i k.it.session k.it.held k.told k.it.has k.same_request k.same_progress)) quiet (Tells k refl refl) same
 
 -- a client was put back
-pub still_client : (w : State) (session : ℕ) (c : Client) (items : List Item) → ClientAt w.clients session c → AllQuiet items → ComesTo w (with_client w session c) items
-still_client w session c items at quiet = still_all w (with_client w session c) items quiet (ap (λ (clients : List Client). record w { clients = clients }) (set_same w.clients session c at))
+pub still_client : (w : State) (session : ℕ) (c : Client) (items : List Item) → ClientAt w.clients session c → AllPlain items → ComesTo w (with_client w session c) items
+still_client w session c items at plain = still_all w (with_client w session c) items plain (ap (λ (clients : List Client). record w { clients = clients }) (set_same w.clients session c at))
 
 -- a node was put back
-pub still_post : (w : State) (node seen : ℕ) (post : Option InstanceEntry) (items : List Item) → slice_get w.nodes node ≡ Some post → w.seen ≤ seen → AllQuiet items → ComesTo w (record (with_post w node post) { seen = seen }) items
-still_post w node seen post items at up quiet = still w seen (slice_set w.nodes node post) (record (with_post w node post) { seen = seen }) items up (nodes_put w.nodes node post at) quiet refl
+pub still_post : (w : State) (node seen : ℕ) (post : Option InstanceEntry) (items : List Item) → slice_get w.nodes node ≡ Some post → w.seen ≤ seen → AllPlain items → ComesTo w (record (with_post w node post) { seen = seen }) items
+still_post w node seen post items at up plain = rests w seen (slice_set w.nodes node post) (record (with_post w node post) { seen = seen }) items up (set_same w.nodes node post at) plain refl
 
 -- a client was put back, beside other nodes
 pub client_back : (w : State) (session seen : ℕ) (c : Client) (nodes : List (Option InstanceEntry)) → ClientAt w.clients session c → record w { seen = seen; nodes = nodes; clients = slice_set w.clients session c } ≡ record w { seen = seen; nodes = nodes }
 client_back w session seen c nodes at = ap (λ (clients : List Client). record w { seen = seen; nodes = nodes; clients = clients }) (set_same w.clients session c at)
 
 -- both were put back
-pub still_both : (w : State) (node session seen : ℕ) (post : Option InstanceEntry) (c : Client) (items : List Item) → slice_get w.nodes node ≡ Some post → ClientAt w.clients session c → w.seen ≤ seen → AllQuiet items → ComesTo w (record (with_client (with_post w node post) session c) { seen = seen }) items
-still_both w node session seen post c items at client_at up quiet =
-    still w seen (slice_set w.nodes node post) (record (with_client (with_post w node post) session c) { seen = seen }) items up (nodes_put w.nodes node post at) quiet (client_back w session seen c (slice_set w.nodes node post) client_at)
+pub still_both : (w : State) (node session seen : ℕ) (post : Option InstanceEntry) (c : Client) (items : List Item) → slice_get w.nodes node ≡ Some post → ClientAt w.clients session c → w.seen ≤ seen → AllPlain items → ComesTo w (record (with_client (with_post w node post) session c) { seen = seen }) items
+still_both w node session seen post c items at client_at up plain =
+    rests w seen (slice_set w.nodes node post) (record (with_client (with_post w node post) session c) { seen = seen }) items up (set_same w.nodes node post at) plain (client_back w session seen c (slice_set w.nodes node post) client_at)
 
 -- an open transaction without a read under way
 abbrev pub at_open : (w : State) (session : ℕ) (c : Client) → ClientAt w.clients session c → c.entry.state ≡ phase.Open → is_reading c ≡ false → AtOpen w

@@ -13,7 +13,7 @@ use Rattle.isolation_laws.specs.Words.{InstanceAt}
 use Rattle.isolation_laws.specs.Sound.{StopOf, AreStops, SweepAsks, Sound}
 use Rattle.isolation_laws.proofs.Lookups.{instance_changed, instance_ended}
 use Rattle.isolation_laws.proofs.OutcomesOfRecord.{AlikeNodes, Granted, granted_nodes, Renewed, renewed_nodes, Extended, extended_nodes}
-use Rattle.isolation_laws.proofs.Outcomes.{Outcome, OfStill, OfGranted, OfRenewed, OfExtended, OfCrashed, OfAskedBegin, OfAskedCommit, OfAccepted, OfEnded, OfDrew, OfPlaced, OfNotPlaced, OfAnsweredBegin, OfAnsweredCommit, OfEndedReadOnly, OfWrote, OfWriteFailed, OfAborted, OfVanished, OfHealed, OfFetched, OfReadDropped, OfReadStepped, OfOutcome, OfOutcomeFailed, OfCompleted, OfSweepOpened, OfSwept, OfSweepListed, OfSweepFailed, left_by}
+use Rattle.isolation_laws.proofs.Outcomes.{Outcome, OfStill, OfGranted, OfRenewed, OfExtended, OfCrashed, OfAskedBegin, OfAskedCommit, OfAccepted, OfEnded, OfDrew, OfPlaced, OfNotPlaced, OfAnsweredBegin, OfAnsweredCommit, OfSweepOpened, OfSwept, OfSweepListed, OfSweepFailed, left_by}
 
 -- ---- kept refusals
 stops_put : (nodes : List (Option InstanceEntry)) (n : ℕ) (j : InstanceEntry) → AreStops nodes → StopOf j.stop → AreStops (slice_set nodes n (Some j))
@@ -59,22 +59,7 @@ stops_kept w (OfPlaced k) stops = stops_put w.nodes k.it.node _ stops (stops.sto
 stops_kept w (OfNotPlaced k) stops = stops_put w.nodes k.it.node _ stops (stops.stop k.it.node k.it.i k.it.at)
 stops_kept w (OfAnsweredBegin k) stops = stops_put w.nodes k.node _ stops (stops.stop k.node k.i k.at)
 stops_kept w (OfAnsweredCommit k) stops = stops_put w.nodes k.node _ stops (stops.stop k.node k.i k.at)
-stops_kept w (OfEndedReadOnly k) stops = stops
-stops_kept w (OfWrote k) stops = stops
-stops_kept w (OfWriteFailed k) stops = stops
-stops_kept w (OfAborted k) stops = stops
-stops_kept w (OfVanished k) stops = stops
-stops_kept w (OfHealed k) stops = stops
-stops_kept w (OfFetched k) stops = stops
-stops_kept w (OfReadDropped k) stops = stops
-stops_kept w (OfReadStepped k) stops = stops
-stops_kept w (OfOutcome k) stops = stops
-stops_kept w (OfOutcomeFailed k) stops = stops
-stops_kept w (OfCompleted k) stops = stops
-stops_kept w (OfSweepOpened k) stops = stops
-stops_kept w (OfSwept k) stops = stops
-stops_kept w (OfSweepListed k) stops = stops
-stops_kept w (OfSweepFailed k) stops = stops
+stops_kept w _ stops = stops
 
 -- ---- sweeps
 left_asks : (s : Sweeping) (asked : Option Ask) → sweep_ask s ≡ asked → (left : Sweeping) → still_open s asked ≡ Some left → sweep_ask left ≡ None → ⊥

@@ -17,10 +17,12 @@ use Rattle.machine.specs.Events.Decide.{draw_item}
 use Rattle.machine.specs.Events.Fetch.{read_items, found_of}
 use Rattle.isolation_laws.specs.Words.{Begun}
 use Rattle.isolation_laws.specs.Quiet.{Quiet, AllQuiet}
+use Rattle.isolation_laws.specs.Holds.{Holds}
+use Rattle.isolation_laws.proofs.Framed.{framed}
 use Rattle.isolation_laws.proofs.Pushed.{in_append}
 use Rattle.isolation_laws.proofs.OutcomesOfStamps.{PlacedOne, placed_items, AnsweredBegin, answered_begin_items}
 use Rattle.isolation_laws.proofs.OutcomesOfWork.{fetched_turn, read_turn}
-use Rattle.isolation_laws.proofs.Outcomes.{Outcome, OfStill, OfGranted, OfRenewed, OfExtended, OfCrashed, OfAskedBegin, OfAskedCommit, OfAccepted, OfEnded, OfDrew, OfPlaced, OfNotPlaced, OfAnsweredBegin, OfAnsweredCommit, OfEndedReadOnly, OfWrote, OfWriteFailed, OfAborted, OfVanished, OfHealed, OfFetched, OfReadDropped, OfReadStepped, OfOutcome, OfOutcomeFailed, OfCompleted, OfSweepOpened, OfSwept, OfSweepListed, OfSweepFailed, told_by_outcome}
+use Rattle.isolation_laws.proofs.Outcomes.{Outcome, OfGranted, OfRenewed, OfExtended, OfAskedBegin, OfAskedCommit, OfAccepted, OfDrew, OfPlaced, OfAnsweredBegin, OfWrote, OfFetched, OfReadStepped, OfSweepListed, told_by_outcome}
 
 -- the item is a begin or a placed commit
 abbrev pub is_stamp : Item → Bool
@@ -67,37 +69,21 @@ pub data Stamping (w : State) (items : List Item) : Type 0 where
 quietly : (w : State) (items : List Item) → AllQuiet items → Stamping w items
 quietly w items quiet = StampsNone (quiet_no_stamps items quiet)
 
-pub stamping : (w : State) (o : Outcome w) → Stamping w (told_by_outcome w o)
-stamping w (OfStill k) = quietly w k.items k.quiet
-stamping w (OfGranted k) = quietly w k.items k.quiet
-stamping w (OfRenewed k) = quietly w k.items k.quiet
-stamping w (OfExtended k) = quietly w k.items k.quiet
-stamping w (OfCrashed k) = quietly w k.items k.quiet
-stamping w (OfAskedBegin k) = StampsNone (one_no_stamp (item.AskBegin k.session k.node) refl)
-stamping w (OfAskedCommit k) = quietly w k.items k.quiet
-stamping w (OfAccepted k) = quietly w k.items k.quiet
-stamping w (OfEnded k) = quietly w k.items k.quiet
-stamping w (OfDrew k) = StampsNone (one_no_stamp (draw_item k.node k.i.term k.held.request (k.i.last + 1)) (draw_no_stamp k.node k.i.term (k.i.last + 1) k.held.request))
-stamping w (OfPlaced k) = StampsPlaced k refl
-stamping w (OfNotPlaced k) = quietly w k.items k.quiet
-stamping w (OfAnsweredBegin k) = StampsBegin k refl
-stamping w (OfAnsweredCommit k) = quietly w k.items k.quiet
-stamping w (OfEndedReadOnly k) = quietly w k.items k.quiet
-stamping w (OfWrote k) = StampsNone (one_no_stamp (item.Write k.it.session k.start k.key k.value) refl)
-stamping w (OfWriteFailed k) = quietly w k.items k.quiet
-stamping w (OfAborted k) = quietly w k.items k.quiet
-stamping w (OfVanished k) = quietly w k.items k.quiet
-stamping w (OfHealed k) = quietly w k.items k.quiet
-stamping w (OfFetched k) = StampsNone (first_no_stamps k.first (read_items k.it.session k.start k.key (fetched_turn w k.key k.start k.epoch)) k.quiet (turn_no_stamps k.it.session k.start k.key (fetched_turn w k.key k.start k.epoch)))
-stamping w (OfReadDropped k) = quietly w k.items k.quiet
-stamping w (OfReadStepped k) = StampsNone (first_no_stamps k.first (read_items k.session k.r.start k.r.key (read_turn w k.r)) k.quiet (turn_no_stamps k.session k.r.start k.r.key (read_turn w k.r)))
-stamping w (OfOutcome k) = quietly w k.items k.quiet
-stamping w (OfOutcomeFailed k) = quietly w k.items k.quiet
-stamping w (OfCompleted k) = quietly w k.items k.quiet
-stamping w (OfSweepOpened k) = StampsNone (All-nil NoStamp)
-stamping w (OfSwept k) = quietly w k.items k.quiet
-stamping w (OfSweepListed k) = StampsNone (one_no_stamp (item.Step Janitor (Keys k.txn k.count)) refl)
-stamping w (OfSweepFailed k) = quietly w k.items k.quiet
+pub stamping : (w : State) (h : List Item) (o : Outcome w) → Holds w h → Stamping w (told_by_outcome w o)
+stamping w h (OfGranted k) holds = quietly w k.items k.quiet
+stamping w h (OfRenewed k) holds = quietly w k.items k.quiet
+stamping w h (OfExtended k) holds = quietly w k.items k.quiet
+stamping w h (OfAskedBegin k) holds = StampsNone (one_no_stamp (item.AskBegin k.session k.node) refl)
+stamping w h (OfAskedCommit k) holds = quietly w k.items k.quiet
+stamping w h (OfAccepted k) holds = quietly w k.items k.quiet
+stamping w h (OfDrew k) holds = StampsNone (one_no_stamp (draw_item k.node k.i.term k.held.request (k.i.last + 1)) (draw_no_stamp k.node k.i.term (k.i.last + 1) k.held.request))
+stamping w h (OfPlaced k) holds = StampsPlaced k refl
+stamping w h (OfAnsweredBegin k) holds = StampsBegin k refl
+stamping w h (OfWrote k) holds = StampsNone (one_no_stamp (item.Write k.it.session k.start k.key k.value) refl)
+stamping w h (OfFetched k) holds = StampsNone (first_no_stamps k.first (read_items k.it.session k.start k.key (fetched_turn w k.key k.start k.epoch)) k.quiet (turn_no_stamps k.it.session k.start k.key (fetched_turn w k.key k.start k.epoch)))
+stamping w h (OfReadStepped k) holds = StampsNone (first_no_stamps k.first (read_items k.session k.r.start k.r.key (read_turn w k.r)) k.quiet (turn_no_stamps k.session k.r.start k.r.key (read_turn w k.r)))
+stamping w h (OfSweepListed k) holds = StampsNone (one_no_stamp (item.Step Janitor (Keys k.txn k.count)) refl)
+stamping w h o holds = quietly w (told_by_outcome w o) (framed w h o holds refl).quiet
 
 -- ---- what stands at each place stays, where each item that has no stamp fits
 pub each_on : (P : List Item → Item → Type 0) (h items : List Item) → ((before : List Item) (x : Item) → NoStamp x → P before x) → NoStamps items → AtEach P h → AtEach P (h ++ items)

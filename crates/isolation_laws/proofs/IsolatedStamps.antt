@@ -116,7 +116,7 @@ stamped_by w h items holds (StampsPlaced k is) = subst (λ xs. Stamped (h ++ xs)
 stamped_by w h items holds (StampsBegin k is) = subst (λ xs. Stamped (h ++ xs)) (sym is) (stamped_begin w h k holds)
 
 pub stamped_kept : (w : State) (h : List Item) (o : Outcome w) → Holds w h → Stamped (h ++ told_by_outcome w o)
-stamped_kept w h o holds = stamped_by w h (told_by_outcome w o) holds (stamping w o)
+stamped_kept w h o holds = stamped_by w h (told_by_outcome w o) holds (stamping w h o holds)
 
 fresh_on : (h items : List Item) → NoStamps items → Fresh h → Fresh (h ++ items)
 fresh_on h items none fresh = each_on StartsAbove h items no_start none fresh
@@ -127,7 +127,7 @@ fresh_by w h items holds (StampsPlaced k is) = subst (λ xs. Fresh (h ++ xs)) (s
 fresh_by w h items holds (StampsBegin k is) = subst (λ xs. Fresh (h ++ xs)) (sym is) (fresh_begin w h k holds)
 
 pub fresh_kept : (w : State) (h : List Item) (o : Outcome w) → Holds w h → Fresh (h ++ told_by_outcome w o)
-fresh_kept w h o holds = fresh_by w h (told_by_outcome w o) holds (stamping w o)
+fresh_kept w h o holds = fresh_by w h (told_by_outcome w o) holds (stamping w h o holds)
 
 -- ---- apart
 -- what is placed was drawn, and what is drawn is apart

@@ -1,3 +1,4 @@
+pub mod PlainItems
 pub mod OutcomesOfRecord
 pub mod OutcomesOfRequests
 pub mod OutcomesOfStamps
@@ -81,6 +82,8 @@ pub mod ReadTurns
 pub mod ReadsLonger
 pub mod ReadsOfReads
 pub mod ReadsKept
+pub mod Frames
+pub mod Framed
 pub mod InversionParts
 pub mod InversionOfSessions
 pub mod InversionOfFetches

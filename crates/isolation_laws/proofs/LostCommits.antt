@@ -35,7 +35,7 @@ use Rattle.isolation_laws.proofs.NumbersKept.{open_begun}
 use Rattle.isolation_laws.proofs.PendingFewer.{fewer_crashed, pending_settled}
 use Rattle.isolation_laws.proofs.OpenAfter.{fewer_open_crashed, fewer_is_open}
 use Rattle.isolation_laws.proofs.InversionOfAsks.{for_clients, all_crashed_quiet}
-use Rattle.isolation_laws.proofs.InversionOfAnswers.{for_table, put_settled}
+use Rattle.isolation_laws.proofs.InversionOfAnswers.{for_table, put_settled, not_invalid}
 
 -- ---- one transaction has one commit in flight, and is not open
 same_place : (w : State) (h : List Item) (q r : InFlight) → Holds w h → Pending w.nodes q → Pending w.nodes r → q.start ≡ r.start → (q.node ≡ r.node) × (q.session ≡ r.session)
@@ -72,6 +72,7 @@ the_crash w q p = record {
   i = p.instance_of;
   at = p.at;
   items = item.Crash q.node p.instance_of.term ∷ all_crashed_items q.node p.instance_of.term p.instance_of.requests w.clients;
+  tells = refl;
   quiet = All-cons Quiet (item.Crash q.node p.instance_of.term) (all_crashed_items q.node p.instance_of.term p.instance_of.requests w.clients) refl (all_crashed_quiet q.node p.instance_of.term p.instance_of.requests w.clients);
 }
 
@@ -114,7 +115,7 @@ drawn_one w q p c held = record {
 }
 
 faulted : (w : State) (it : AtDrawn w) → NotPlaced w
-faulted w it = record { it = it; by = how.Faulted; by_is = inr refl; items = item.Fault (Node it.node) Table ∷ []; quiet = one_quiet (item.Fault (Node it.node) Table) refl }
+faulted w it = record { it = it; by = how.Faulted; by_is = inr refl; found = λ by. absurd (not_invalid by); tells = refl; items = item.Fault (Node it.node) Table ∷ []; quiet = one_quiet (item.Fault (Node it.node) Table) refl }
 
 placing : (w : State) (q : InFlight) (c : ℕ) (i : InstanceEntry) → HeldBy i q.session (Commit q.session q.start q.keys) (progress.Drawn c) → to_place (held_of i q.session) ≡ Some (q.start, c)
 placing w q c i held = ap to_place held.has ∙ (ap (λ (r : Request). to_place_by r held.held.progress) held.asks ∙ ap (λ (x : Progress). to_place_by (Commit q.session q.start q.keys) x) held.stands)

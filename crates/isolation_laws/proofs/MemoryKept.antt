@@ -15,9 +15,11 @@ use Rattle.isolation_laws.specs.Words.{InstanceAt, HasDrawn, recorded}
 use Rattle.isolation_laws.specs.Quiet.{Quiet, AllQuiet}
 use Rattle.isolation_laws.specs.Memory.{AreRecorded, MemoryFacts}
 use Rattle.isolation_laws.specs.Holds.{Holds}
+use Rattle.isolation_laws.proofs.Framed.{framed}
+use Rattle.isolation_laws.proofs.Frames.{memory_framed}
 use Rattle.isolation_laws.proofs.Lookups.{instance_changed}
 use Rattle.isolation_laws.proofs.RecordedCommits.{recorded_none}
-use Rattle.isolation_laws.proofs.MemoryStays.{SameMemory, remembered_same, remembered_set, remembered_ended, remembered_alike, RecordsNothing, nothing_quiet, nothing_push, nothing_more, nothing_twice, memory_same}
+use Rattle.isolation_laws.proofs.MemoryStays.{SameMemory, remembered_same, remembered_set, RecordsNothing, nothing_quiet, nothing_push, nothing_more, nothing_twice, memory_same}
 use Rattle.isolation_laws.proofs.MemoryOfDraws.{memory_drew}
 use Rattle.isolation_laws.proofs.NumbersOfItems.{begin_is_no_draw, write_is_no_draw, read_is_no_draw, placed_is_no_draw}
 use Rattle.isolation_laws.proofs.RequestsOfWrites.{wrote_open}
@@ -25,7 +27,7 @@ use Rattle.isolation_laws.specs.Words.{epoch_or_none}
 use Rattle.isolation_laws.proofs.OutcomesOfRecord.{Granted, granted_nodes, granted_state, Renewed, renewed_nodes, renewed_state, Extended, extended_nodes, extended_state}
 use Rattle.isolation_laws.proofs.OutcomesOfSessions.{WroteOne, wrote_items}
 use Rattle.isolation_laws.proofs.OutcomesOfWork.{fetched_turn, read_turn}
-use Rattle.isolation_laws.proofs.Outcomes.{Outcome, OfStill, OfGranted, OfRenewed, OfExtended, OfCrashed, OfAskedBegin, OfAskedCommit, OfAccepted, OfEnded, OfDrew, OfPlaced, OfNotPlaced, OfAnsweredBegin, OfAnsweredCommit, OfEndedReadOnly, OfWrote, OfWriteFailed, OfAborted, OfVanished, OfHealed, OfFetched, OfReadDropped, OfReadStepped, OfOutcome, OfOutcomeFailed, OfCompleted, OfSweepOpened, OfSwept, OfSweepListed, OfSweepFailed, left_by, told_by_outcome}
+use Rattle.isolation_laws.proofs.Outcomes.{Outcome, OfGranted, OfRenewed, OfExtended, OfAskedBegin, OfAskedCommit, OfAccepted, OfDrew, OfPlaced, OfAnsweredBegin, OfWrote, OfFetched, OfReadStepped, OfSweepListed, left_by, told_by_outcome}
 use Rattle.isolation_laws.proofs.Pushed.{one_quiet}
 
 -- ---- the record
@@ -94,33 +96,17 @@ loud w h nodes x items same other unwritten quiet holds = memory_same w.setup w.
 
 -- ---- every outcome
 pub memory_kept : (w : State) (h : List Item) (o : Outcome w) → Holds w h → MemoryFacts (left_by w o).setup (left_by w o).nodes (h ++ told_by_outcome w o)
-memory_kept w h (OfStill k) holds = on_quiet w h k.nodes k.items (remembered_alike w.nodes k.nodes k.alike) k.quiet holds
 memory_kept w h (OfGranted k) holds = memory_granted w h k holds
 memory_kept w h (OfRenewed k) holds = on_quiet w h (renewed_state w k).nodes k.items (renewed_same w k k.failed) k.quiet holds
 memory_kept w h (OfExtended k) holds = on_quiet w h (extended_state w k).nodes k.items (extended_same w k k.failed) k.quiet holds
-memory_kept w h (OfCrashed k) holds = on_quiet w h _ k.items (remembered_ended w.nodes k.node) k.quiet holds
 memory_kept w h (OfAskedBegin k) holds = loud w h _ (AskBegin k.session k.node) [] (at_node w k.node k.i _ k.at refl refl) (λ s m term u d same. cc) (λ s t key value same. cc) (All-nil Quiet) holds
 memory_kept w h (OfAskedCommit k) holds = on_quiet w h _ k.items (at_node w k.node k.i _ k.at refl refl) k.quiet holds
 memory_kept w h (OfAccepted k) holds = on_quiet w h _ k.items (at_node w k.node k.i _ k.at refl refl) k.quiet holds
-memory_kept w h (OfEnded k) holds = on_quiet w h _ k.items (at_node w k.node k.i _ k.at refl refl) k.quiet holds
 memory_kept w h (OfDrew k) holds = memory_drew w h k holds
 memory_kept w h (OfPlaced k) holds = loud w h _ (Placed k.it.start k.it.commit) k.items (at_node w k.it.node k.it.i _ k.it.at refl refl) (placed_is_no_draw k.it.start k.it.commit) (λ s t key value same. cc) k.quiet holds
-memory_kept w h (OfNotPlaced k) holds = on_quiet w h _ k.items (at_node w k.it.node k.it.i _ k.it.at refl refl) k.quiet holds
 memory_kept w h (OfAnsweredBegin k) holds = loud w h _ (Begin k.session k.start) [] (at_node w k.node k.i _ k.at refl refl) (begin_is_no_draw k.session k.start) (λ s t key value same. cc) (All-nil Quiet) holds
-memory_kept w h (OfAnsweredCommit k) holds = on_quiet w h _ k.items (at_node w k.node k.i _ k.at refl refl) k.quiet holds
-memory_kept w h (OfEndedReadOnly k) holds = here w h k.items k.quiet holds
 memory_kept w h (OfWrote k) holds = memory_wrote w h k holds
-memory_kept w h (OfWriteFailed k) holds = here w h k.items k.quiet holds
-memory_kept w h (OfAborted k) holds = here w h k.items k.quiet holds
-memory_kept w h (OfVanished k) holds = here w h k.items k.quiet holds
-memory_kept w h (OfHealed k) holds = here w h k.items k.quiet holds
 memory_kept w h (OfFetched k) holds = on_read w h k.first k.it.session k.start k.key (fetched_turn w k.key k.start k.epoch) k.quiet holds
-memory_kept w h (OfReadDropped k) holds = here w h k.items k.quiet holds
 memory_kept w h (OfReadStepped k) holds = on_read w h k.first k.session k.r.start k.r.key (read_turn w k.r) k.quiet holds
-memory_kept w h (OfOutcome k) holds = here w h k.items k.quiet holds
-memory_kept w h (OfOutcomeFailed k) holds = here w h k.items k.quiet holds
-memory_kept w h (OfCompleted k) holds = here w h k.items k.quiet holds
-memory_kept w h (OfSweepOpened k) holds = here w h [] (All-nil Quiet) holds
-memory_kept w h (OfSwept k) holds = here w h k.items k.quiet holds
 memory_kept w h (OfSweepListed k) holds = loud w h w.nodes (Step Janitor (Keys k.txn k.count)) [] (remembered_same w.nodes) (λ s m term u d same. cc) (λ s t key value same. cc) (All-nil Quiet) holds
-memory_kept w h (OfSweepFailed k) holds = here w h k.items k.quiet holds
+memory_kept w h o holds = memory_framed w h (left_by w o) (told_by_outcome w o) (framed w h o holds refl) holds

@@ -1,5 +1,5 @@
 -- What is marked before it is placed, and what is neither open nor in flight, is never placed.
-use Rattle.std.proofs.Common.{◌≡◌, ℕ, List, [], ◌∷◌, ◌++◌, append_assoc, ◌⊎◌, inl, inr, sym, ◌∙◌, ap, subst}
+use Rattle.std.proofs.Common.{◌≡◌, ℕ, List, [], ◌∷◌, ◌++◌, append_assoc, ◌⊎◌, inl, inr, refl, sym, ◌∙◌, ap, subst}
 use Rattle.std.proofs.lemmas.List.{append-nil}
 use Rattle.std.proofs.lemmas.Option.{none-some}
 use Rattle.stamp_base.specs.declared.stores.Mark.TheVariants.{Invalid as InvalidMark}
@@ -16,16 +16,18 @@ use Rattle.machine.specs.Machine.{Step, stepped, Move, state_after, items_after,
 use Rattle.isolation_laws.specs.Words.{Marked, Begun}
 use Rattle.isolation_laws.specs.Pending.{Live}
 use Rattle.isolation_laws.specs.Holds.{Holds}
+use Rattle.isolation_laws.proofs.Frames.{live_framed}
+use Rattle.isolation_laws.proofs.Framed.{framed}
 use Rattle.isolation_laws.specs.Sound.{Stands}
 use Rattle.isolation_laws.specs.Laws.{IsMarkedFirst, IsLost}
 use Rattle.isolation_laws.proofs.Pushed.{old_placed}
 use Rattle.isolation_laws.proofs.OutcomesOfStamps.{PlacedOne, placed_items}
-use Rattle.isolation_laws.proofs.Outcomes.{Outcome, OfStill, OfGranted, OfRenewed, OfExtended, OfCrashed, OfAskedBegin, OfAskedCommit, OfAccepted, OfEnded, OfDrew, OfPlaced, OfNotPlaced, OfAnsweredBegin, OfAnsweredCommit, OfEndedReadOnly, OfWrote, OfWriteFailed, OfAborted, OfVanished, OfHealed, OfFetched, OfReadDropped, OfReadStepped, OfOutcome, OfOutcomeFailed, OfCompleted, OfSweepOpened, OfSwept, OfSweepListed, OfSweepFailed, left_by, told_by_outcome}
+use Rattle.isolation_laws.proofs.Outcomes.{Outcome, OfGranted, OfRenewed, OfExtended, OfAskedBegin, OfAskedCommit, OfAccepted, OfDrew, OfPlaced, OfAnsweredBegin, OfWrote, OfFetched, OfReadDropped, OfReadStepped, OfOutcome, OfOutcomeFailed, OfCompleted, OfSwept, OfSweepListed, OfSweepFailed, left_by, told_by_outcome}
 use Rattle.isolation_laws.proofs.InversionParts.{ComesBy}
 use Rattle.isolation_laws.proofs.IsolatedItems.{Stamping, StampsNone, StampsPlaced, StampsBegin, stamping, placed_old}
 use Rattle.isolation_laws.proofs.StoresStay.{MarksStay, marks_put, marks_after, marks_may, marks_if}
-use Rattle.isolation_laws.proofs.PendingFewer.{fewer_still, fewer_granted, fewer_renewed, fewer_extended, fewer_crashed, fewer_asked_begin, fewer_ended_one, fewer_settled, fewer_answered_commit}
-use Rattle.isolation_laws.proofs.OpenAfter.{fewer_open_crashed, fewer_open_asked_begin, fewer_open_ended, fewer_open_answered_commit, fewer_open_read_only, fewer_open_wrote, fewer_open_write_failed, fewer_open_aborted, fewer_open_vanished, fewer_open_healed, fewer_open_fetched, fewer_open_dropped, fewer_open_read, fewer_open_outcome, fewer_open_outcome_failed, fewer_open_completed}
+use Rattle.isolation_laws.proofs.PendingFewer.{fewer_granted, fewer_renewed, fewer_extended, fewer_asked_begin, fewer_settled}
+use Rattle.isolation_laws.proofs.OpenAfter.{fewer_open_asked_begin, fewer_open_wrote, fewer_open_fetched, fewer_open_read}
 use Rattle.isolation_laws.proofs.LiveAfter.{fewer_live, live_by_clients, live_by_nodes, live_asked_commit, live_accepted, live_drew, live_answered_begin}
 use Rattle.isolation_laws.proofs.NumbersKept.{in_flight_of, drawn_pending}
 use Rattle.isolation_laws.proofs.AlwaysHolds.{comes_by, facts_stay, steady_now, steady_stays}
@@ -71,48 +73,32 @@ marks_kept w _ = λ u marked. marked
 
 -- ---- nothing becomes live again
 live_kept : (w : State) (h : List Item) (o : Outcome w) (s t : ℕ) → Holds w h → Begun h s t → Live (left_by w o).clients (left_by w o).nodes t → Live w.clients w.nodes t
-live_kept w h (OfStill k) s t holds begun live = live_by_nodes w.clients w.nodes _ (fewer_still w k) t live
 live_kept w h (OfGranted k) s t holds begun live = live_by_nodes w.clients w.nodes _ (fewer_granted w k) t live
 live_kept w h (OfRenewed k) s t holds begun live = live_by_nodes w.clients w.nodes _ (fewer_renewed w k) t live
 live_kept w h (OfExtended k) s t holds begun live = live_by_nodes w.clients w.nodes _ (fewer_extended w k) t live
-live_kept w h (OfCrashed k) s t holds begun live = fewer_live w.clients _ w.nodes _ (fewer_open_crashed w k) (fewer_crashed w k) t live
 live_kept w h (OfAskedBegin k) s t holds begun live = fewer_live w.clients _ w.nodes _ (fewer_open_asked_begin w k) (fewer_asked_begin w k) t live
 live_kept w h (OfAskedCommit k) s t holds begun live = live_asked_commit w k t live
 live_kept w h (OfAccepted k) s t holds begun live = live_accepted w k t live
-live_kept w h (OfEnded k) s t holds begun live = fewer_live w.clients _ w.nodes _ (fewer_open_ended w k) (fewer_ended_one w k) t live
 live_kept w h (OfDrew k) s t holds begun live = live_drew w k t live
 live_kept w h (OfPlaced k) s t holds begun live = live_by_nodes w.clients w.nodes _ (fewer_settled w k.it k.by) t live
-live_kept w h (OfNotPlaced k) s t holds begun live = live_by_nodes w.clients w.nodes _ (fewer_settled w k.it k.by) t live
 live_kept w h (OfAnsweredBegin k) s t holds begun live = elim (live_answered_begin w k t live) [
   | inl old ↦ old
   | inr now ↦ absurd (start_unbegun w h k s holds (subst (Begun h s) now begun))
 ]
-live_kept w h (OfAnsweredCommit k) s t holds begun live = fewer_live w.clients _ w.nodes _ (fewer_open_answered_commit w k) (fewer_answered_commit w k) t live
-live_kept w h (OfEndedReadOnly k) s t holds begun live = live_by_clients w.clients _ w.nodes (fewer_open_read_only w k) t live
 live_kept w h (OfWrote k) s t holds begun live = live_by_clients w.clients _ w.nodes (fewer_open_wrote w k) t live
-live_kept w h (OfWriteFailed k) s t holds begun live = live_by_clients w.clients _ w.nodes (fewer_open_write_failed w k) t live
-live_kept w h (OfAborted k) s t holds begun live = live_by_clients w.clients _ w.nodes (fewer_open_aborted w k) t live
-live_kept w h (OfVanished k) s t holds begun live = live_by_clients w.clients _ w.nodes (fewer_open_vanished w k) t live
-live_kept w h (OfHealed k) s t holds begun live = live_by_clients w.clients _ w.nodes (fewer_open_healed w k) t live
 live_kept w h (OfFetched k) s t holds begun live = live_by_clients w.clients _ w.nodes (fewer_open_fetched w k) t live
-live_kept w h (OfReadDropped k) s t holds begun live = live_by_clients w.clients _ w.nodes (fewer_open_dropped w k) t live
 live_kept w h (OfReadStepped k) s t holds begun live = live_by_clients w.clients _ w.nodes (fewer_open_read w k) t live
-live_kept w h (OfOutcome k) s t holds begun live = live_by_clients w.clients _ w.nodes (fewer_open_outcome w k) t live
-live_kept w h (OfOutcomeFailed k) s t holds begun live = live_by_clients w.clients _ w.nodes (fewer_open_outcome_failed w k) t live
-live_kept w h (OfCompleted k) s t holds begun live = live_by_clients w.clients _ w.nodes (fewer_open_completed w k) t live
-live_kept w h (OfSweepOpened k) s t holds begun live = live
-live_kept w h (OfSwept k) s t holds begun live = live
 live_kept w h (OfSweepListed k) s t holds begun live = live
-live_kept w h (OfSweepFailed k) s t holds begun live = live
+live_kept w h o s t holds begun live = live_framed w h (left_by w o) (told_by_outcome w o) (framed w h o holds refl) t live
 
 -- ---- one outcome
 no_mark : (w : State) (k : PlacedOne w) (t : ℕ) → Marked w.pairs t → t ≡ k.it.start → ⊥
 no_mark w k t marked same = none-some InvalidMark (sym k.free ∙ (ap (mark_of w.pairs) (sym same) ∙ marked))
 
-marked_outcome : (w : State) (h : List Item) (o : Outcome w) (t : ℕ) → IsMarkedFirst w h t → IsMarkedFirst (left_by w o) (h ++ told_by_outcome w o) t
-marked_outcome w h o t first = record {
+marked_outcome : (w : State) (h : List Item) (o : Outcome w) (t : ℕ) → Holds w h → IsMarkedFirst w h t → IsMarkedFirst (left_by w o) (h ++ told_by_outcome w o) t
+marked_outcome w h o t holds first = record {
   marked = marks_kept w o t first.marked;
-  unplaced = λ c m. elim (placed_by w h (told_by_outcome w o) t c (stamping w o) m) [
+  unplaced = λ c m. elim (placed_by w h (told_by_outcome w o) t c (stamping w h o holds) m) [
     | inl old ↦ first.unplaced c old
     | inr now ↦ no_mark w now.0 t first.marked now.1
   ];
@@ -126,16 +112,16 @@ lost_outcome w h o t holds lost = record {
   session = lost.session;
   begun = in_front (Begin lost.session t) h (told_by_outcome w o) lost.begun;
   dead = λ live. lost.dead (live_kept w h o lost.session t holds lost.begun live);
-  unplaced = λ c m. elim (placed_by w h (told_by_outcome w o) t c (stamping w o) m) [
+  unplaced = λ c m. elim (placed_by w h (told_by_outcome w o) t c (stamping w h o holds) m) [
     | inl old ↦ lost.unplaced c old
     | inr now ↦ lost.dead (in_flight_live w h now.0 t holds now.1)
   ];
 }
 
 -- ---- one move
-marked_step : (w : State) (h : List Item) (step : Step) (t : ℕ) → ComesBy w step → IsMarkedFirst w h t → IsMarkedFirst step.state (h ++ step.items) t
-marked_step w h step t (o, state, items) first =
-    subst (λ (v : State). IsMarkedFirst v (h ++ step.items) t) (sym state) (subst (λ (xs : List Item). IsMarkedFirst (left_by w o) (h ++ xs) t) (sym items) (marked_outcome w h o t first))
+marked_step : (w : State) (h : List Item) (step : Step) (t : ℕ) → ComesBy w step → Holds w h → IsMarkedFirst w h t → IsMarkedFirst step.state (h ++ step.items) t
+marked_step w h step t (o, state, items) holds first =
+    subst (λ (v : State). IsMarkedFirst v (h ++ step.items) t) (sym state) (subst (λ (xs : List Item). IsMarkedFirst (left_by w o) (h ++ xs) t) (sym items) (marked_outcome w h o t holds first))
 
 lost_step : (w : State) (h : List Item) (step : Step) (t : ℕ) → ComesBy w step → Holds w h → IsLost w h t → IsLost step.state (h ++ step.items) t
 lost_step w h step t (o, state, items) holds lost =
@@ -149,7 +135,7 @@ marked_first_after w h (move ∷ moves) t both steady first =
     let step : Step = stepped w move.event move.fate in
     let after : Stands step.state (h ++ step.items) = facts_stay w h move.event move.fate both (steady_now w move moves steady) in
     subst (λ (xs : List Item). IsMarkedFirst (state_after step.state moves) xs t) (append_assoc h step.items (items_after step.state moves))
-    (marked_first_after step.state (h ++ step.items) moves t after (steady_stays w h move moves both steady) (marked_step w h step t (comes_by w h move.event move.fate both (steady_now w move moves steady)) first))
+    (marked_first_after step.state (h ++ step.items) moves t after (steady_stays w h move moves both steady) (marked_step w h step t (comes_by w h move.event move.fate both (steady_now w move moves steady)) both.holds first))
 
 pub lost_after : (w : State) (h : List Item) (moves : List Move) (t : ℕ) → Stands w h → AreSteady w.setup.skew w.seen moves → IsLost w h t → IsLost (state_after w moves) (h ++ items_after w moves) t
 unfolding state_after items_after

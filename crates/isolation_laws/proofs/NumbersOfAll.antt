@@ -10,19 +10,21 @@ use Rattle.isolation_laws.specs.Words.{Begun}
 use Rattle.isolation_laws.specs.Quiet.{Quiet}
 use Rattle.isolation_laws.specs.Numbers.{NumberFacts}
 use Rattle.isolation_laws.specs.Holds.{Holds}
+use Rattle.isolation_laws.proofs.Framed.{framed}
+use Rattle.isolation_laws.proofs.Frames.{numbers_framed}
 use Rattle.isolation_laws.proofs.OutcomesOfRequests.{AskedBegin, asked_begin_items, asked_begin_state}
 use Rattle.isolation_laws.proofs.OutcomesOfStamps.{PlacedOne, AnsweredBegin, placed_items, answered_begin_items, placed_state, answered_begin_state}
 use Rattle.isolation_laws.proofs.OutcomesOfSessions.{WroteOne, wrote_items}
 use Rattle.isolation_laws.proofs.OutcomesOfWork.{Fetched, ReadStepped, fetched_turn, read_turn, fetched_items, read_stepped_items}
 use Rattle.isolation_laws.proofs.OutcomesOfSweeps.{SweepListed, sweep_listed_items}
-use Rattle.isolation_laws.proofs.Outcomes.{Outcome, OfStill, OfGranted, OfRenewed, OfExtended, OfCrashed, OfAskedBegin, OfAskedCommit, OfAccepted, OfEnded, OfDrew, OfPlaced, OfNotPlaced, OfAnsweredBegin, OfAnsweredCommit, OfEndedReadOnly, OfWrote, OfWriteFailed, OfAborted, OfVanished, OfHealed, OfFetched, OfReadDropped, OfReadStepped, OfOutcome, OfOutcomeFailed, OfCompleted, OfSweepOpened, OfSwept, OfSweepListed, OfSweepFailed, left_by, told_by_outcome}
-use Rattle.isolation_laws.proofs.NumbersStay.{numbered_same, numbered_ended, numbered_alike, numbered}
+use Rattle.isolation_laws.proofs.Outcomes.{Outcome, OfGranted, OfRenewed, OfExtended, OfAskedBegin, OfAskedCommit, OfAccepted, OfDrew, OfPlaced, OfAnsweredBegin, OfWrote, OfFetched, OfReadStepped, OfSweepListed, left_by, told_by_outcome}
+use Rattle.isolation_laws.proofs.NumbersStay.{numbered_same, numbered}
 use Rattle.isolation_laws.proofs.NumbersOfTakes.{numbers_granted}
 use Rattle.isolation_laws.proofs.NumbersOfRenewals.{numbers_renewed}
 use Rattle.isolation_laws.proofs.NumbersOfRanges.{numbers_extended}
 use Rattle.isolation_laws.proofs.NewDraws.{numbers_drew}
 use Rattle.isolation_laws.proofs.NumbersOfItems.{begin_is_no_draw, write_is_no_draw, placed_is_no_draw, fits_begin, fits_write, fits_placed, placed_fits}
-use Rattle.isolation_laws.proofs.NumbersKept.{loud_numbers, open_begun, drew_start, drew_commit, first_then, quiet_one, here, at_node}
+use Rattle.isolation_laws.proofs.NumbersKept.{loud_numbers, open_begun, drew_start, drew_commit, first_then, quiet_one, at_node}
 use Rattle.isolation_laws.proofs.Orders.{max_left}
 
 -- ---- every outcome
@@ -71,33 +73,17 @@ numbers_listed w h k holds =
     }) (λ t c is. absurd (cc)) (All-nil Quiet) holds.numbers
 
 pub numbers_kept : (w : State) (h : List Item) (o : Outcome w) → Holds w h → NumberFacts (left_by w o).setup (left_by w o).seen (left_by w o).nodes (left_by w o).master (h ++ told_by_outcome w o)
-numbers_kept w h (OfStill k) holds = quiet_one w h k.nodes k.seen k.items (numbered_alike w.nodes k.nodes k.alike) k.up k.quiet holds
 numbers_kept w h (OfGranted k) holds = numbers_granted w h k holds
 numbers_kept w h (OfRenewed k) holds = numbers_renewed w h k holds
 numbers_kept w h (OfExtended k) holds = numbers_extended w h k holds
-numbers_kept w h (OfCrashed k) holds = quiet_one w h _ w.seen k.items (numbered_ended w.nodes k.node) (omega arith) k.quiet holds
 numbers_kept w h (OfAskedBegin k) holds = numbers_asked_begin w h k holds
 numbers_kept w h (OfAskedCommit k) holds = quiet_one w h _ w.seen k.items (at_node w k.node k.i _ k.at (numbered k.i _ refl refl refl refl refl)) (omega arith) k.quiet holds
 numbers_kept w h (OfAccepted k) holds = quiet_one w h _ (max w.seen k.reading) k.items (at_node w k.node k.i _ k.at (numbered k.i _ refl refl refl refl refl)) (max_left w.seen k.reading) k.quiet holds
-numbers_kept w h (OfEnded k) holds = quiet_one w h _ k.seen k.items (at_node w k.node k.i _ k.at (numbered k.i _ refl refl refl refl refl)) k.up k.quiet holds
 numbers_kept w h (OfDrew k) holds = numbers_drew w h k holds
 numbers_kept w h (OfPlaced k) holds = numbers_placed w h k holds
-numbers_kept w h (OfNotPlaced k) holds = quiet_one w h _ w.seen k.items (at_node w k.it.node k.it.i _ k.it.at (numbered k.it.i _ refl refl refl refl refl)) (omega arith) k.quiet holds
 numbers_kept w h (OfAnsweredBegin k) holds = numbers_answered_begin w h k holds
-numbers_kept w h (OfAnsweredCommit k) holds = quiet_one w h _ w.seen k.items (at_node w k.node k.i _ k.at (numbered k.i _ refl refl refl refl refl)) (omega arith) k.quiet holds
-numbers_kept w h (OfEndedReadOnly k) holds = here w h k.items k.quiet holds
 numbers_kept w h (OfWrote k) holds = numbers_wrote w h k holds
-numbers_kept w h (OfWriteFailed k) holds = here w h k.items k.quiet holds
-numbers_kept w h (OfAborted k) holds = here w h k.items k.quiet holds
-numbers_kept w h (OfVanished k) holds = here w h k.items k.quiet holds
-numbers_kept w h (OfHealed k) holds = here w h k.items k.quiet holds
 numbers_kept w h (OfFetched k) holds = numbers_fetched w h k holds
-numbers_kept w h (OfReadDropped k) holds = here w h k.items k.quiet holds
 numbers_kept w h (OfReadStepped k) holds = numbers_read w h k holds
-numbers_kept w h (OfOutcome k) holds = here w h k.items k.quiet holds
-numbers_kept w h (OfOutcomeFailed k) holds = here w h k.items k.quiet holds
-numbers_kept w h (OfCompleted k) holds = here w h k.items k.quiet holds
-numbers_kept w h (OfSweepOpened k) holds = here w h [] (All-nil Quiet) holds
-numbers_kept w h (OfSwept k) holds = here w h k.items k.quiet holds
 numbers_kept w h (OfSweepListed k) holds = numbers_listed w h k holds
-numbers_kept w h (OfSweepFailed k) holds = here w h k.items k.quiet holds
+numbers_kept w h o holds = numbers_framed w h (left_by w o) (told_by_outcome w o) (framed w h o holds refl) holds

@@ -1,6 +1,8 @@
 -- What an event comes to for requests without a stamp: a crash, an ask, a request that is accepted or refused.
 use Rattle.std.proofs.Common.{[], ◌≡◌, ◌≢◌, ℕ, ◌+◌, ◌<◌, ◌≤◌, max, false, List, ◌∷◌, None, Some, ◌⊎◌}
-use Rattle.std.specs.Prelude.{slice_set}
+use Rattle.std.specs.Prelude.{slice_set, IsTrue}
+use Rattle.history_book.specs.declared.cause.Cause.{Cause}
+use Rattle.history_book.specs.declared.item.Actor.TheVariants.{Session}
 use Rattle.history_book.specs.declared.item.Item.{Item}
 use Rattle.history_book.specs.declared.item.Item.TheVariants as item
 use Rattle.client_parts.specs.declared.session.State.TheVariants as phase
@@ -11,7 +13,8 @@ use Rattle.oracle_parts.specs.Instance.{InstanceEntry, held_of, with_request}
 use Rattle.oracle_parts.specs.InstanceSteps.{without_request, moved, just_asked, epoch_refusal}
 use Rattle.machine.specs.State.{Client, State}
 use Rattle.machine.specs.Clients.{is_reading, client_asked, after_refusal}
-use Rattle.machine.specs.Events.Crash.{crashed_clients}
+use Rattle.machine.specs.Events.Crash.{crashed_clients, all_crashed_items}
+use Rattle.cause_rules.specs.OpenAsks.{ends_request}
 use Rattle.isolation_laws.specs.Words.{InstanceAt, ClientAt}
 use Rattle.isolation_laws.specs.Quiet.{AllQuiet}
 
@@ -21,6 +24,7 @@ pub record Crashed (w : State) : Type 0 where
   pub i : InstanceEntry
   pub at : InstanceAt w.nodes node i
   pub items : List Item
+  pub tells : items ≡ item.Crash node i.term ∷ all_crashed_items node i.term i.requests w.clients
   pub quiet : AllQuiet items
 
 abbrev pub crashed_state : (w : State) → Crashed w → State
@@ -54,6 +58,7 @@ pub record AskedCommit (w : State) : Type 0 where
   pub start_is : c.entry.start ≡ Some start
   pub written : c.entry.keys ≢ []
   pub items : List Item
+  pub tells : items ≡ item.AskCommit session node start ∷ []
   pub quiet : AllQuiet items
 
 abbrev pub asked_commit_state : (w : State) → AskedCommit w → State
@@ -73,6 +78,7 @@ pub record Accepted (w : State) : Type 0 where
   pub in_epoch : epoch_refusal i held.request ≡ None
   pub steady : w.seen ≤ reading + w.setup.skew
   pub items : List Item
+  pub tells : items ≡ item.Accept session node i.term reading ∷ []
   pub quiet : AllQuiet items
 
 abbrev pub accepted_state : (w : State) → Accepted w → State
@@ -91,7 +97,10 @@ pub record Ended (w : State) : Type 0 where
   pub client_at : ClientAt w.clients session c
   pub seen : ℕ
   pub up : w.seen ≤ seen
+  pub why : Cause
+  pub ends : IsTrue (ends_request why)
   pub items : List Item
+  pub tells : items ≡ item.Refused (Session session) why ∷ []
   pub quiet : AllQuiet items
 
 abbrev pub ended_state : (w : State) → Ended w → State

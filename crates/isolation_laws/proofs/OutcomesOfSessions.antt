@@ -10,6 +10,7 @@ use Rattle.machine.specs.Clients.{is_reading, client_freed, client_aborted, clie
 use Rattle.machine.specs.Events.Write.{client_wrote}
 use Rattle.isolation_laws.specs.Words.{ClientAt}
 use Rattle.isolation_laws.specs.Quiet.{AllQuiet}
+use Rattle.isolation_laws.proofs.PlainItems.{AllSilent}
 
 -- ---- sessions
 -- a client of an open transaction without a read under way
@@ -26,6 +27,7 @@ pub record EndedReadOnly (w : State) : Type 0 where
   pub none : it.c.entry.keys ≡ []
   pub items : List Item
   pub quiet : AllQuiet items
+  pub silent : AllSilent items
 
 abbrev pub read_only_state : (w : State) → EndedReadOnly w → State
 read_only_state w k = record w { clients = slice_set w.clients k.it.session (client_freed k.it.c) }
@@ -54,6 +56,7 @@ pub record WriteFailed (w : State) : Type 0 where
   pub rows_are : (rows ≡ w.rows) ⊎ (rows ≡ put_row w.rows key start value)
   pub items : List Item
   pub quiet : AllQuiet items
+  pub silent : AllSilent items
 
 abbrev pub write_failed_state : (w : State) → WriteFailed w → State
 write_failed_state w k = record w { clients = slice_set w.clients k.it.session (client_aborted (client_wrote k.it.c k.key)); rows = k.rows }
@@ -62,6 +65,7 @@ pub record Aborted (w : State) : Type 0 where
   pub it : AtOpen w
   pub items : List Item
   pub quiet : AllQuiet items
+  pub silent : AllSilent items
 
 abbrev pub aborted_state : (w : State) → Aborted w → State
 aborted_state w k = record w { clients = slice_set w.clients k.it.session (client_aborted k.it.c) }
@@ -72,6 +76,7 @@ pub record Vanished (w : State) : Type 0 where
   pub client_at : ClientAt w.clients session c
   pub items : List Item
   pub quiet : AllQuiet items
+  pub silent : AllSilent items
 
 abbrev pub vanished_state : (w : State) → Vanished w → State
 vanished_state w k = record w { clients = slice_set w.clients k.session (client_vanished k.c) }
@@ -86,6 +91,7 @@ pub record Healed (w : State) : Type 0 where
   pub applied : Bool
   pub items : List Item
   pub quiet : AllQuiet items
+  pub silent : AllSilent items
 
 abbrev pub healed_state : (w : State) → Healed w → State
 healed_state w k = record w { clients = slice_set w.clients k.it.session (record k.it.c { heal = None }); rows = if k.applied then with_shadow w.rows k.key k.version k.commit else w.rows }

@@ -1,7 +1,12 @@
 -- What an event comes to for requests with a stamp: the draw, the put of a commit, the answer.
-use Rattle.std.proofs.Common.{Option, [], ◌≡◌, ◌≢◌, ℕ, ◌+◌, List, ◌∷◌, None, Some, ◌⊎◌}
+use Rattle.std.proofs.Common.{Option, [], ◌≡◌, ◌≢◌, ℕ, ◌+◌, List, ◌∷◌, ◌++◌, None, Some, ◌⊎◌}
 use Rattle.std.specs.Prelude.{slice_set}
 use Rattle.stamp_base.specs.declared.stores.Mark.TheVariants.{Committed as CommittedMark}
+use Rattle.stamp_base.specs.declared.stores.Mark.{Mark}
+use Rattle.stamp_base.specs.declared.stores.Store.TheVariants.{Table}
+use Rattle.history_book.specs.declared.cause.Cause.TheVariants as cause
+use Rattle.history_book.specs.declared.item.Actor.TheVariants.{Node, Session}
+use Rattle.history_book.specs.declared.item.StoreStep.TheVariants.{PutFound}
 use Rattle.history_book.specs.declared.item.Item.{Item}
 use Rattle.history_book.specs.declared.item.Item.TheVariants as item
 use Rattle.store_parts.specs.Pairs.{mark_of, put_pair}
@@ -61,6 +66,11 @@ pub record AtDrawn (w : State) : Type 0 where
 abbrev pub settled_nodes : (w : State) → AtDrawn w → Settled → List (Option InstanceEntry)
 settled_nodes w it by = slice_set w.nodes it.node (Some (moved it.i it.session it.held (progress.Settled it.commit by)))
 
+-- a put that failed shows its fault behind
+abbrev pub fault_of : Settled → ℕ → List Item
+fault_of how.Faulted node = item.Fault (Node node) Table ∷ []
+fault_of _ node = []
+
 -- it was placed; where the call failed all the same, the instance does not know
 pub record PlacedOne (w : State) : Type 0 where
   pub it : AtDrawn w
@@ -68,6 +78,7 @@ pub record PlacedOne (w : State) : Type 0 where
   pub by : Settled
   pub by_is : (by ≡ how.Placed) ⊎ (by ≡ how.Faulted)
   pub items : List Item
+  pub tells : items ≡ fault_of by it.node
   pub quiet : AllQuiet items
 
 abbrev pub placed_state : (w : State) → PlacedOne w → State
@@ -76,12 +87,19 @@ placed_state w k = record w { nodes = settled_nodes w k.it k.by; pairs = put_pai
 abbrev pub placed_items : (w : State) → PlacedOne w → List Item
 placed_items w k = item.Placed k.it.start k.it.commit ∷ k.items
 
+-- what stood in its place is shown
+abbrev pub found_items : Settled → ℕ → ℕ → List Item
+found_items how.Invalid node start = item.Step (Node node) (PutFound start) ∷ []
+found_items _ node start = []
+
 -- it was not placed, and never will be
 pub record NotPlaced (w : State) : Type 0 where
   pub it : AtDrawn w
   pub by : Settled
   pub by_is : (by ≡ how.Invalid) ⊎ (by ≡ how.Faulted)
+  pub found : by ≡ how.Invalid → (mark : Mark) × (mark_of w.pairs it.start ≡ Some mark)
   pub items : List Item
+  pub tells : items ≡ found_items by it.node it.start ++ fault_of by it.node
   pub quiet : AllQuiet items
 
 abbrev pub not_placed_state : (w : State) → NotPlaced w → State
@@ -114,6 +132,12 @@ answered_client how.Placed c commit = client_committed c commit
 answered_client how.Invalid c commit = client_aborted c
 answered_client how.Faulted c commit = client_opened c
 
+-- what it tells
+abbrev pub answered_item : Settled → ℕ → ℕ → ℕ → Item
+answered_item how.Placed session start commit = item.Committed session start commit
+answered_item how.Invalid session start commit = item.Refused (Session session) (cause.Invalid start)
+answered_item how.Faulted session start commit = item.Refused (Session session) (cause.Open start)
+
 pub record AnsweredCommit (w : State) : Type 0 where
   pub node : ℕ
   pub session : ℕ
@@ -131,6 +155,7 @@ pub record AnsweredCommit (w : State) : Type 0 where
   pub settled : held.progress ≡ progress.Settled commit by
   pub client_at : ClientAt w.clients session c
   pub items : List Item
+  pub tells : items ≡ answered_item by session start commit ∷ []
   pub quiet : AllQuiet items
 
 abbrev pub answered_commit_state : (w : State) → AnsweredCommit w → State

@@ -12,6 +12,7 @@ use Rattle.machine.specs.State.{State}
 use Rattle.machine.specs.StoreSteps.{rows_after, pairs_after, told_by}
 use Rattle.machine.specs.Events.SweepStep.{sweep_left}
 use Rattle.isolation_laws.specs.Quiet.{AllQuiet}
+use Rattle.isolation_laws.proofs.PlainItems.{AllSilent}
 
 -- ---- sweeps
 pub record SweepOpened (w : State) : Type 0 where
@@ -30,6 +31,7 @@ pub record SweptOne (w : State) : Type 0 where
   pub no_list : (txn : ℕ) → asked ≡ KeysAsk txn → ⊥
   pub items : List Item
   pub quiet : AllQuiet items
+  pub silent : AllSilent items
 
 abbrev pub swept_state : (w : State) → SweptOne w → State
 swept_state w k = record w {
@@ -60,6 +62,7 @@ pub record SweepFailed (w : State) : Type 0 where
   pub applied : Bool
   pub items : List Item
   pub quiet : AllQuiet items
+  pub silent : AllSilent items
 
 abbrev pub sweep_failed_state : (w : State) → SweepFailed w → State
 sweep_failed_state w k = record w {

@@ -13,9 +13,10 @@ use Rattle.machine.specs.State.{UnderWay, Nothing, Reads, Settles, Completes, Cl
 use Rattle.machine.specs.Clients.{is_reading, client_freed}
 use Rattle.machine.specs.StoreSteps.{rows_after, pairs_after, told_by}
 use Rattle.machine.specs.Events.Fetch.{client_read, read_items}
-use Rattle.machine.specs.Events.Step.{client_settled, own_resolve, after_asks}
+use Rattle.machine.specs.Events.Step.{client_settled, settle_items, own_resolve, after_asks}
 use Rattle.isolation_laws.specs.Words.{ClientAt}
 use Rattle.isolation_laws.specs.Quiet.{Quiet, AllQuiet}
+use Rattle.isolation_laws.proofs.PlainItems.{Silent, AllSilent}
 use Rattle.isolation_laws.proofs.OutcomesOfSessions.{AtOpen}
 
 -- ---- reads
@@ -32,6 +33,7 @@ pub record Fetched (w : State) : Type 0 where
   pub epoch_is : it.c.entry.epoch ≡ Some epoch
   pub first : Item
   pub quiet : Quiet first
+  pub silent : Silent first
 
 abbrev pub fetched_state : (w : State) → Fetched w → State
 fetched_state w k = record w { clients = slice_set w.clients k.it.session (client_read k.it.c (fetched_turn w k.key k.start k.epoch)) }
@@ -56,6 +58,7 @@ pub record ReadDropped (w : State) : Type 0 where
   pub pairs_are : MayHaveMarked w.pairs pairs
   pub items : List Item
   pub quiet : AllQuiet items
+  pub silent : AllSilent items
 
 abbrev pub read_dropped_state : (w : State) → ReadDropped w → State
 read_dropped_state w k = record w { clients = slice_set w.clients k.session (record k.c { under_way = k.under_way; heal = k.heal }); pairs = k.pairs }
@@ -72,6 +75,7 @@ pub record ReadStepped (w : State) : Type 0 where
   pub under_way : c.under_way ≡ Reads r
   pub first : Item
   pub quiet : Quiet first
+  pub silent : Silent first
 
 abbrev pub read_stepped_state : (w : State) → ReadStepped w → State
 read_stepped_state w k = record w { clients = slice_set w.clients k.session (client_read k.c (read_turn w k.r)); pairs = pairs_after (read_ask k.r) w.pairs }
@@ -90,7 +94,10 @@ pub record OutcomeStepped (w : State) : Type 0 where
   pub it : AtOpenOutcome w
   pub x : Settling
   pub work : (it.c.under_way ≡ Settles x) ⊎ ((it.c.under_way ≡ Nothing) × (own_resolve it.c.entry.start it.c.entry.keys ≡ Settles x))
+  pub first : Item
+  pub silent : Silent first
   pub items : List Item
+  pub tells : items ≡ first ∷ settle_items it.session it.c.entry.start (settle_turn x (told_by (settle_ask x) w.rows w.pairs))
   pub quiet : AllQuiet items
 
 abbrev pub outcome_state : (w : State) → OutcomeStepped w → State
@@ -102,6 +109,7 @@ pub record OutcomeFailed (w : State) : Type 0 where
   pub pairs_are : MayHaveMarked w.pairs pairs
   pub items : List Item
   pub quiet : AllQuiet items
+  pub silent : AllSilent items
 
 abbrev pub outcome_failed_state : (w : State) → OutcomeFailed w → State
 outcome_failed_state w k = record w { clients = slice_set w.clients k.it.session (record k.it.c { under_way = Nothing }); pairs = k.pairs }
@@ -121,6 +129,7 @@ pub record CompletedOne (w : State) : Type 0 where
   pub left_is : ((left ≡ after_asks c asks) × (applied ≡ true)) ⊎ (left ≡ client_freed c)
   pub items : List Item
   pub quiet : AllQuiet items
+  pub silent : AllSilent items
 
 abbrev pub completed_state : (w : State) → CompletedOne w → State
 completed_state w k = record w {
