@@ -9,6 +9,7 @@ use Rattle.cause_laws.specs.Shows.{Tells}
 use Rattle.cause_laws.proofs.AlwaysExplained.{tells_stay, tells_at_first}
 use Rattle.line_runs.specs.Runs.{Played, line_run, lines_played, opening_played, script_played}
 use Rattle.line_runs.specs.Laws.{EventsLowerWhatIsLeft, IsPlayable, IsReached}
+use Rattle.line_runs.proofs.AlwaysFit.{Fit, fit_stays, fit_at_first}
 use Rattle.line_runs.proofs.Ending.{lines_keep, opening_reached}
 use Rattle.grant_laws.specs.Granted.{IsBefore, Appends, Grants}
 use Rattle.grant_laws.proofs.LongerRuns.{appended_still, in_last, lines_longer}
@@ -49,6 +50,7 @@ granted script line p x k appends =
 pub record Known (script : ScriptData) (p : Played) : Type 0 where
   pub reached : IsReached script p
   pub tells : Tells p.state p.items
+  pub fit : Fit p.state
 
 before_playable : (script : ScriptData) (line : Line) (p : Played) (k : IsBefore script line p) → IsPlayable script 0 k.earlier
 before_playable script line p k =
@@ -57,5 +59,10 @@ before_playable script line p k =
 
 pub known_before : EventsLowerWhatIsLeft → (script : ScriptData) (line : Line) (p : Played) → IsBefore script line p → Known script p
 known_before lowers script line p k =
-    let kept : IsReached script (lines_played script k.earlier (opening_played script)) × Tells (lines_played script k.earlier (opening_played script)).state (lines_played script k.earlier (opening_played script)).items = lines_keep lowers Tells script k.earlier (opening_played script) (λ w h e fate tells steady. tells_stay w h e fate tells steady) (opening_reached script k.in_range) (tells_at_first script.setup k.in_range) (before_playable script line p k) in
-    subst (λ (q : Played). Known script q) (sym k.played) (record { reached = kept.0; tells = kept.1 })
+    let first : Played = opening_played script in
+    let then : Played = lines_played script k.earlier first in
+    let playable : IsPlayable script 0 k.earlier = before_playable script line p k in
+    let reached : IsReached script first = opening_reached script k.in_range in
+    let shown : IsReached script then × Tells then.state then.items = lines_keep lowers Tells script k.earlier first (λ w h e fate tells steady. tells_stay w h e fate tells steady) reached (tells_at_first script.setup k.in_range) playable in
+    let fit : IsReached script then × Fit then.state = lines_keep lowers (λ w h. Fit w) script k.earlier first (λ w h e fate fits steady. fit_stays w e fate fits) reached (fit_at_first script.setup) playable in
+    subst (λ (q : Played). Known script q) (sym k.played) (record { reached = shown.0; tells = shown.1; fit = fit.1 })

@@ -10,3 +10,6 @@ pub mod Commits
 pub mod Facts
 pub mod CommitLines
 pub mod BeginLines
+pub mod ReadTurns
+pub mod ReadLines
+pub mod FetchLines

@@ -1,7 +1,8 @@
 -- What is asked for is granted, where its premises hold.
-use Rattle.std.specs.Prelude.{ℕ, ◌+◌, List, MatchOption}
+use Rattle.std.specs.Prelude.{ℕ, ◌+◌, List, Option, MatchOption}
 use Rattle.history_book.specs.declared.cause.Cause.TheVariants as cause
 use Rattle.history_book.specs.declared.item.Actor.TheVariants.{Node, Session}
+use Rattle.history_book.specs.declared.item.Found.{Found}
 use Rattle.history_book.specs.declared.item.Item.TheVariants as item
 use Rattle.oracle_parts.specs.Instance.{least_unsettled}
 use Rattle.script_data.specs.declared.line.Target.TheVariants as target
@@ -9,7 +10,7 @@ use Rattle.script_data.specs.declared.line.Verb.TheVariants as verb
 use Rattle.script_data.specs.Data.{ScriptData}
 use Rattle.line_runs.specs.Runs.{Played}
 use Rattle.grant_laws.specs.Granted.{line_of, IsBefore, reading_of, Grants}
-use Rattle.grant_laws.specs.Premises.{CanWrite, CanTake, CanBegin, CanCommit}
+use Rattle.grant_laws.specs.Premises.{CanWrite, CanTake, CanBegin, CanCommit, CanRead}
 
 -- a write line appends the write
 abbrev pub WritesAreGranted : Type 0
@@ -36,3 +37,9 @@ abbrev pub CommitsAreGranted : Type 0
 CommitsAreGranted =
     (script : ScriptData) (p : Played) (number session node : ℕ) → let line = line_of number (Session session) (verb.Commit (target.Node node)) in IsBefore script line p → (can : CanCommit script p session node) →
     Grants script line p (item.Committed session can.start (can.oracle.last + 1))
+
+-- a read line appends its answer; which one, the isolation of the history tells
+abbrev pub ReadsAreGranted : Type 0
+ReadsAreGranted =
+    (script : ScriptData) (p : Played) (number session key : ℕ) → let line = line_of number (Session session) (verb.Read key) in IsBefore script line p → (can : CanRead script p session key) →
+    (answer : Option Found) × Grants script line p (item.Read session can.start key answer)

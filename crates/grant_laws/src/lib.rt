@@ -1,8 +1,9 @@
 //! Why what is asked for is granted: where no cause of a refusal stands, the line appends what it asks for.
 #![tactic(auto)]
 
-ghost use Rattle.grant_laws.specs.Laws.{WritesAreGranted, TakesAreGranted, BeginsAreGranted, CommitsAreGranted};
+ghost use Rattle.grant_laws.specs.Laws.{WritesAreGranted, TakesAreGranted, BeginsAreGranted, CommitsAreGranted, ReadsAreGranted};
 
+use client_parts::reads_end;
 use line_runs::events_lower_what_is_left;
 
 /// A write line of an open transaction appends its write, in whatever state the lines before it have come to: all that is asked
@@ -38,4 +39,13 @@ pub fn commits_are_granted()
     ensures { CommitsAreGranted }
 {
     events_lower_what_is_left();
+}
+
+/// A read line of an open transaction appends its answer, where no other read is under way and no store call of it fails: the
+/// fetch, and at most three steps for each cell down to the first that decides by itself.
+pub fn reads_are_granted()
+    ensures { ReadsAreGranted }
+{
+    events_lower_what_is_left();
+    reads_end();
 }
