@@ -13,3 +13,4 @@ pub mod BeginLines
 pub mod ReadTurns
 pub mod ReadLines
 pub mod FetchLines
+mod WorkedScripts
