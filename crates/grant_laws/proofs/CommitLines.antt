@@ -1,0 +1,84 @@
+-- A commit line whose premises hold has its commit.
+use Rattle.std.proofs.Common.{◌≡◌, ℕ, ◌+◌, ◌<◌, Bool, cond, List, [], ◌∷◌, length, Option, Some, None, inl, refl, ◌∙◌, ap, arith}
+use Rattle.std.proofs.lemmas.Bool.{lt-ltb, lt-leb}
+use Rattle.std.proofs.lemmas.List.{length-set}
+use Rattle.stamp_base.specs.declared.stores.Store.TheVariants.{Table}
+use Rattle.port_io.specs.declared.weather.Fate.TheVariants.{Works}
+use Rattle.port_io.specs.Planned.{planned_fate}
+use Rattle.history_book.specs.declared.cause.Cause.TheVariants as cause
+use Rattle.history_book.specs.declared.item.Actor.TheVariants.{Session}
+use Rattle.history_book.specs.declared.item.Item.{Item}
+use Rattle.history_book.specs.declared.item.Item.TheVariants as item
+use Rattle.store_parts.specs.Pairs.{Pairs, mark_of}
+use Rattle.oracle_parts.specs.declared.instance.Request.{Request}
+use Rattle.oracle_parts.specs.declared.instance.Request.TheVariants.{Commit}
+use Rattle.oracle_parts.specs.Instance.{InstanceEntry, held_of}
+use Rattle.oracle_parts.specs.InstanceSteps.{just_asked, accept_refusal, epoch_refusal}
+use Rattle.oracle_parts.proofs.InstanceRequests.{held_of-with_request_same}
+use Rattle.machine.specs.State.{Client}
+use Rattle.machine.specs.Clients.{client_asked}
+use Rattle.machine.specs.Effect.{Stop}
+use Rattle.machine.specs.Machine.{Step}
+use Rattle.machine.specs.declared.event.Event.{Event}
+use Rattle.machine.specs.declared.event.Event.TheVariants as event
+use Rattle.machine.specs.Events.AskCommit.{ask_commit_on}
+use Rattle.script_data.specs.declared.line.Line.{Line}
+use Rattle.script_data.specs.declared.line.Target.TheVariants as target
+use Rattle.script_data.specs.declared.line.Verb.{Verb}
+use Rattle.script_data.specs.declared.line.Verb.TheVariants as verb
+use Rattle.line_runs.specs.declared.point.Point.TheVariants.{Opens, Drives}
+use Rattle.line_runs.specs.Halts.{halt_of, follows}
+use Rattle.line_runs.specs.Laws.{EventsLowerWhatIsLeft}
+use Rattle.line_runs.specs.Runs.{Played, fate_by, step_of, played, opened}
+use Rattle.grant_laws.specs.Granted.{line_of, reading_of}
+use Rattle.grant_laws.specs.Laws.{CommitsAreGranted}
+use Rattle.grant_laws.proofs.LongerRuns.{Longer, longer_still, appended_before, Leads, leads_on, leads_to, line_appends, run_at}
+use Rattle.grant_laws.proofs.Before.{Known, known_before, granted}
+use Rattle.grant_laws.proofs.Facts.{first_spot, is_first, has_place, can_draw, absent}
+use Rattle.grant_laws.proofs.Spots.{Spot, IsAt, Makes, leads_there}
+use Rattle.grant_laws.proofs.Effects.{asked_of, commit_taken}
+use Rattle.grant_laws.proofs.Serving.{with_both, on_ask_made, Drew}
+use Rattle.grant_laws.proofs.Extending.{CanDraw}
+use Rattle.grant_laws.proofs.Asked.{asked_is_drawn, holds_stamp, drawn_within}
+use Rattle.grant_laws.proofs.Commits.{Told, draw_is_told}
+
+-- an instance whose lease stands accepts a commit that began above its epoch
+pub commit_accepted : (i : InstanceEntry) (reading s start : ℕ) (keys : List ℕ) → reading < i.until → i.epoch < start → accept_refusal i reading (Commit s start keys) ≡ None
+commit_accepted i reading s start keys leased in_epoch =
+    ap (λ (stands : Bool). cond stands (epoch_refusal i (Commit s start keys)) (Some (cause.Expired reading i.until))) (lt-ltb reading i.until leased)
+    ∙ ap (λ (old : Bool). cond old (Some (cause.OldEpoch start i.epoch)) None) (lt-leb start i.epoch in_epoch)
+
+pub commits_are_granted : EventsLowerWhatIsLeft → CommitsAreGranted
+commits_are_granted lowers script p number s node before can =
+    let v : Verb = verb.Commit (target.Node node) in
+    let line : Line = line_of number (Session s) v in
+    let i : InstanceEntry = can.oracle in
+    let c : Client = can.client in
+    let start : ℕ = can.start in
+    let keys : List ℕ = c.entry.keys in
+    let request : Request = Commit s start keys in
+    let known : Known script p = known_before lowers script line p before in
+    let x : Spot = first_spot p i c in
+    let k : IsAt script node s p x = is_first script node s p i c known can.node_has can.session_is (inl can.in_work) in
+    let within : s < length i.requests = has_place script node s p i c known can.node_has can.session_is in
+    let e : Event = event.AskCommit s node in
+    let items : List Item = item.AskCommit s node start ∷ [] in
+    let y : Spot = with_both x (asked_of i request) (client_asked c) items in
+    let made : Makes script node s p e y None = on_ask_made script node s p x e (ask_commit_on s node) (asked_of i request) (client_asked c) items k refl (commit_taken s node start c i can.in_work can.at_rest can.begun can.wrote can.slot) refl refl in
+    let q : Played = played script p e in
+    let there : IsAt script node s q y = leads_there script node s p x e y None k made in
+    let stops : (step_of script p e).stop ≡ None = ap (λ (step : Step). step.stop) made.is ∙ made.stops in
+    let first : Leads script line 1 (opened p) (run_at Drives q) = leads_to script line Opens Drives p e refl (ap (λ (how : Option Stop). follows v Opens (halt_of how)) stops) in
+    let draw : CanDraw script s x = can_draw script node s p i c known can.node_has can.session_is can.in_term can.goes_on can.stamp in
+    let within_now : s < length y.oracle.requests = omega (arith, within, length-set i.requests s (Some (just_asked request))) in
+    let can_now : CanDraw script s y = record { within = within_now; in_term = draw.in_term; goes_on = draw.goes_on; last = draw.last; covered = draw.covered; range = draw.range; more = draw.more } in
+    let has : held_of y.oracle s ≡ Some (just_asked request) = held_of-with_request_same i s (Some (just_asked request)) within in
+    let drew : Drew script line node s 4 q y request = asked_is_drawn script number node s v q y request (λ at. refl) there has (commit_accepted i (reading_of script p node) s start keys can.leased can.in_epoch) can.no_conflict can_now in
+    let none : mark_of drew.spot.pairs start ≡ None = ap (λ (pairs : Pairs). mark_of pairs start) drew.pairs ∙ absent script p s start c known can.session_is can.in_work can.begun can.unmarked in
+    let works : fate_by script drew.spot.calls (Some Table) ≡ Works = ap (λ (n : ℕ). planned_fate script.faults Table (n + 1)) drew.table ∙ can.placing in
+    let told : Told script line drew.next (item.Committed s start (i.last + 1)) = draw_is_told script number node s start (i.last + 1) keys drew.told drew.next drew.spot drew.at (drawn_within script line node s 4 q y request drew within_now) (holds_stamp script line node s 4 q y request drew within_now) none works in
+    let to_draw : Leads script line (1 + drew.steps) (opened p) (run_at Drives drew.next) = leads_on script line 1 drew.steps (1 + drew.steps) (opened p) (run_at Drives q) (run_at Drives drew.next) refl first drew.leads in
+    let all : Leads script line (3 + drew.steps) (opened p) told.next = leads_on script line (1 + drew.steps) 2 (3 + drew.steps) (opened p) (run_at Drives drew.next) told.next (omega arith) to_draw told.leads in
+    let so_far : Longer p.items drew.spot.items = longer_still p.items y.items drew.spot.items (record { added = items; is = refl }) drew.longer in
+    let x_item : Item = item.Committed s start (i.last + 1) in
+    granted script line p x_item before (line_appends script line p (3 + drew.steps) told.next x_item (omega (arith, drew.few)) all (appended_before p.items drew.next.items told.next.played.items x_item (record { added = so_far.added; is = drew.at.items ∙ so_far.is }) told.appends))

@@ -1,0 +1,100 @@
+-- A commit line: ask, acceptance, decision, put and answer, with an extension where the range is used up.
+use Rattle.std.proofs.Common.{◌≡◌, ℕ, ◌<◌, Bool, List, [], ◌∷◌, ◌++◌, length, Option, Some, None, refl, ◌∙◌, ap}
+use Rattle.stamp_base.specs.declared.stores.Store.{Store}
+use Rattle.stamp_base.specs.declared.stores.Store.TheVariants.{Table}
+use Rattle.stamp_base.specs.declared.stores.Mark.TheVariants.{Committed as CommittedMark}
+use Rattle.port_io.specs.declared.weather.Fate.TheVariants.{Works}
+use Rattle.history_book.specs.declared.item.Actor.TheVariants.{Session}
+use Rattle.history_book.specs.declared.item.Item.{Item}
+use Rattle.history_book.specs.declared.item.Item.TheVariants as item
+use Rattle.store_parts.specs.Pairs.{Pairs, mark_of, put_pair}
+use Rattle.oracle_parts.specs.declared.instance.Held.{Held}
+use Rattle.oracle_parts.specs.declared.instance.Request.TheVariants.{Commit}
+use Rattle.oracle_parts.specs.Instance.{InstanceEntry, held_of, with_request}
+use Rattle.oracle_parts.proofs.InstanceRequests.{held_of-with_request_same}
+use Rattle.machine.specs.State.{State}
+use Rattle.machine.specs.Effect.{Effect}
+use Rattle.machine.specs.declared.event.Event.{Event}
+use Rattle.machine.specs.declared.event.Event.TheVariants as event
+use Rattle.machine.specs.Machine.{Step, step_by, with_post, at_post, asks, asks_at_post}
+use Rattle.machine.specs.Events.Put.{to_place, put_on, put_asks, commit_asks}
+use Rattle.machine.specs.Events.Answer.{answer_on}
+use Rattle.script_data.specs.declared.line.Line.{Line}
+use Rattle.script_data.specs.declared.line.Target.TheVariants as target
+use Rattle.script_data.specs.declared.line.Verb.{Verb}
+use Rattle.script_data.specs.declared.line.Verb.TheVariants as verb
+use Rattle.script_data.specs.Data.{ScriptData}
+use Rattle.line_runs.specs.declared.point.Point.TheVariants.{Drives}
+use Rattle.line_runs.specs.Runs.{Calls, Played, fate_by, fate_of, step_of, calls_after, one_more, played, Run, run_after}
+use Rattle.line_runs.proofs.Serving.{on_both}
+use Rattle.grant_laws.specs.Granted.{line_of, Appends}
+use Rattle.grant_laws.proofs.LongerRuns.{in_one, appended_before, Leads, leads_on, leads_one, run_at}
+use Rattle.grant_laws.proofs.Spots.{Spot, IsAt, Makes, leads_there, serves_next, serves_on}
+use Rattle.grant_laws.proofs.Effects.{with_stamp, with_record, places, commit_answered}
+
+-- ---- the put
+abbrev placed_at : Spot → ℕ → ℕ → ℕ → List ℕ → Bool → Spot
+placed_at x s start commit keys told = record x {
+  oracle = with_request x.oracle s (Some (with_record (Commit s start keys) told commit));
+  pairs = put_pair x.pairs start (CommittedMark commit);
+  calls = one_more x.calls Table;
+  items = x.items ++ item.Placed start commit ∷ [];
+}
+
+put_made : (script : ScriptData) (node s start commit : ℕ) (keys : List ℕ) (told : Bool) (p : Played) (x : Spot) → IsAt script node s p x → held_of x.oracle s ≡ Some (with_stamp (Commit s start keys) told commit) → mark_of x.pairs start ≡ None → fate_by script x.calls (Some Table) ≡ Works → Makes script node s p (event.Put node s) (placed_at x s start commit keys told) None
+put_made script node s start commit keys told p x k has absent works =
+    let w : State = p.state in
+    let e : Event = event.Put node s in
+    let now : InstanceEntry = with_request x.oracle s (Some (with_record (Commit s start keys) told commit)) in
+    let items : List Item = item.Placed start commit ∷ [] in
+    let asked : asks w e ≡ Some Table = ap (λ (found : Option (Option InstanceEntry)). asks_at_post found (put_asks s)) k.node_has ∙ ap (λ (found : Option Held). commit_asks (to_place found)) has in
+    let fate : fate_of script p e ≡ Works = ap (λ (store : Option Store). fate_by script p.calls store) asked ∙ ap (λ (calls : Calls). fate_by script calls (Some Table)) k.calls ∙ works in
+    let puts : Effect (Option InstanceEntry × Pairs) → Step = λ (it : Effect (Option InstanceEntry × Pairs)). step_by it (λ (q : Option InstanceEntry × Pairs). record (with_post w node q.0) { pairs = q.1 }) in
+    let f : Pairs → Option InstanceEntry → Step = λ pairs post. puts (put_on node s (fate_of script p e) post pairs) in
+    record {
+      step = puts (record { parts = (Some now, put_pair x.pairs start (CommittedMark commit)); items = items; stop = None });
+      is =
+          ap (λ (found : Option (Option InstanceEntry)). at_post w found (f w.pairs)) k.node_has
+          ∙ ap (λ (pairs : Pairs). f pairs (Some x.oracle)) k.pairs
+          ∙ ap puts (places node s start commit keys told (fate_of script p e) x.oracle x.pairs has absent fate);
+      nodes = refl;
+      client = k.session_is;
+      pairs = refl;
+      master = k.master;
+      setup = refl;
+      clock = k.clock;
+      calls = ap (λ (store : Option Store). calls_after p.calls store) asked ∙ ap (λ (calls : Calls). one_more calls Table) k.calls;
+      items = ap (λ (h : List Item). h ++ items) k.items;
+      stops = refl;
+    }
+
+-- ---- the answer
+answer_tells : (script : ScriptData) (node s start commit : ℕ) (keys : List ℕ) (told : Bool) (p : Played) (x : Spot) → IsAt script node s p x → held_of x.oracle s ≡ Some (with_record (Commit s start keys) told commit) → (step_of script p (event.Answer node s)).items ≡ item.Committed s start commit ∷ []
+answer_tells script node s start commit keys told p x k has =
+    ap (λ (step : Step). step.items) (on_both p.state node s x.oracle x.client (answer_on node s) k.node_has k.session_is)
+    ∙ commit_answered node s start commit keys told x.oracle x.client has
+
+-- from the draw on
+pub record Told (script : ScriptData) (line : Line) (p : Played) (x : Item) : Type 0 where
+  pub next : Run
+  pub leads : Leads script line 2 (run_at Drives p) next
+  pub appends : Appends p.items next.played.items x
+
+pub draw_is_told : (script : ScriptData) (number node s start commit : ℕ) (keys : List ℕ) (told : Bool) (p : Played) (x : Spot) → IsAt script node s p x → s < length x.oracle.requests → held_of x.oracle s ≡ Some (with_stamp (Commit s start keys) told commit) → mark_of x.pairs start ≡ None → fate_by script x.calls (Some Table) ≡ Works → Told script (line_of number (Session s) (verb.Commit (target.Node node))) p (item.Committed s start commit)
+draw_is_told script number node s start commit keys told p x k within has absent works =
+    let v : Verb = verb.Commit (target.Node node) in
+    let line : Line = line_of number (Session s) v in
+    let y : Spot = placed_at x s start commit keys told in
+    let made : Makes script node s p (event.Put node s) y None = put_made script node s start commit keys told p x k has absent works in
+    let q : Played = played script p (event.Put node s) in
+    let first : Leads script line 1 (run_at Drives p) (run_at Drives q) = serves_on script number node s v p x y (with_stamp (Commit s start keys) told commit) None Drives (λ at. refl) k has made refl in
+    let there : IsAt script node s q y = leads_there script node s p x (event.Put node s) y None k made in
+    let has_now : held_of y.oracle s ≡ Some (with_record (Commit s start keys) told commit) = held_of-with_request_same x.oracle s (Some (with_record (Commit s start keys) told commit)) within in
+    let tells : (step_of script q (event.Answer node s)).items ≡ item.Committed s start commit ∷ [] = answer_tells script node s start commit keys told q y there has_now in
+    let last : Run = run_after script line (run_at Drives q) (event.Answer node s) in
+    let second : Leads script line 1 (run_at Drives q) last = leads_one script line (run_at Drives q) (event.Answer node s) (serves_next script number node s v q y (with_record (Commit s start keys) told commit) (λ at. refl) there has_now) in
+    record {
+      next = last;
+      leads = leads_on script line 1 1 2 (run_at Drives p) (run_at Drives q) last refl first second;
+      appends = appended_before p.items q.items last.played.items (item.Committed s start commit) (record { added = (step_of script p (event.Put node s)).items; is = refl }) (record { added = item.Committed s start commit ∷ []; is = ap (λ (xs : List Item). q.items ++ xs) tells; has = in_one (item.Committed s start commit) });
+    }

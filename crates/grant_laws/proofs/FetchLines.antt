@@ -1,0 +1,175 @@
+-- A read line whose premises hold has its answer: the fetch, and then the steps of the read.
+use Rattle.std.proofs.Common.{◌≡◌, ℕ, ◌+◌, ◌*◌, ◌≤◌, Bool, false, List, [], ◌∷◌, ◌++◌, length, Option, Some, None, refl, sym, ◌∙◌, ap, subst, arith}
+use Rattle.stamp_base.specs.declared.stores.Store.{Store}
+use Rattle.stamp_base.specs.declared.stores.Store.TheVariants.{Cells}
+use Rattle.port_io.specs.declared.weather.Fate.{Fate}
+use Rattle.port_io.specs.declared.weather.Fate.TheVariants.{Works}
+use Rattle.history_book.specs.declared.cause.Cause.{Cause}
+use Rattle.history_book.specs.declared.item.Actor.TheVariants.{Session}
+use Rattle.history_book.specs.declared.item.StoreStep.TheVariants as store_step
+use Rattle.history_book.specs.declared.item.Item.{Item}
+use Rattle.history_book.specs.declared.item.Item.TheVariants as item
+use Rattle.store_parts.specs.declared.rows.Cell.{Cell}
+use Rattle.store_parts.specs.Rows.{Row, fetched, front_of}
+use Rattle.client_parts.specs.declared.key_read.Answer.{Answer}
+use Rattle.client_parts.specs.declared.session.State.{State as SessionState}
+use Rattle.client_parts.specs.declared.session.State.TheVariants as phase
+use Rattle.client_parts.specs.SessionSteps.{work_refusal}
+use Rattle.client_parts.specs.KeyRead.{Reading, ReadTurn, Asks, Answers, read_over, read_left, ReadsEnd}
+use Rattle.machine.specs.State.{Reads as UnderRead, Client, State}
+use Rattle.machine.specs.Clients.{is_reading}
+use Rattle.machine.specs.Effect.{Effect}
+use Rattle.machine.specs.declared.event.Event.{Event}
+use Rattle.machine.specs.declared.event.Event.TheVariants as event
+use Rattle.machine.specs.Machine.{Step, step_by as step_of_effect, with_client, at_client, asks, asks_at_client}
+use Rattle.machine.specs.Events.Fetch.{found_of, fetch_worked, fetch_by, fetch_open, fetch_on, epoch_asks, fetch_asks}
+use Rattle.machine.specs.Events.Write.{open_asks}
+use Rattle.script_data.specs.declared.line.Line.{Line}
+use Rattle.script_data.specs.declared.line.Verb.{Verb}
+use Rattle.script_data.specs.declared.line.Verb.TheVariants as verb
+use Rattle.script_data.specs.Data.{ScriptData}
+use Rattle.isolation_laws.specs.Words.{ClientAt}
+use Rattle.isolation_laws.proofs.Lookups.{set_found}
+use Rattle.line_runs.specs.declared.point.Point.TheVariants.{Opens, Reads}
+use Rattle.line_runs.specs.Halts.{halt_of, follows}
+use Rattle.line_runs.specs.Laws.{EventsLowerWhatIsLeft}
+use Rattle.line_runs.specs.Runs.{Calls, Played, one_more, calls_after, fate_by, fate_of, step_of, played, run_after, left_in, opened}
+use Rattle.line_runs.proofs.ReadLines.{OfKey, over_key}
+use Rattle.grant_laws.specs.Granted.{line_of}
+use Rattle.grant_laws.proofs.LongerRuns.{in_one, in_last, appended_before, Leads, leads_on, leads_one, leads_to, line_appends, run_at}
+use Rattle.grant_laws.proofs.ReadLines.{IsReading, HasAnswer, read_answers}
+use Rattle.grant_laws.proofs.Before.{Known, known_before, granted}
+use Rattle.grant_laws.specs.Laws.{ReadsAreGranted}
+use Rattle.line_runs.specs.Left.{of_client, cells_by, client_reads, client_fetches}
+use Rattle.line_runs.proofs.Fitting.{EpochFits, fit_at}
+use Rattle.grant_laws.proofs.ReadTurns.{OfStart, over_start, CallsWork, works_on, works_now}
+
+-- ---- the fetch
+-- an open transaction has an epoch
+epoch_by : (epoch : Option ℕ) → EpochFits phase.Open epoch → (e : ℕ) × (epoch ≡ Some e)
+epoch_by None fits = absurd fits
+epoch_by (Some e) fits = (e, refl)
+
+has_epoch : (script : ScriptData) (p : Played) (s : ℕ) (c : Client) → Known script p → ClientAt p.state.clients s c → c.entry.state ≡ phase.Open → (e : ℕ) × (c.entry.epoch ≡ Some e)
+has_epoch script p s c known at in_work = epoch_by c.entry.epoch (subst (λ (state : SessionState). EpochFits state c.entry.epoch) in_work (fit_at p.state.clients s c known.fit.epochs at))
+
+-- what the session may do, and by which start and epoch
+record MayFetch (c : Client) (start epoch : ℕ) : Type 0 where
+  is_free : work_refusal c.entry.state (is_reading c) ≡ None
+  start_is : c.entry.start ≡ Some start
+  epoch_is : c.entry.epoch ≡ Some epoch
+
+may_fetch : (c : Client) (start epoch : ℕ) → c.entry.state ≡ phase.Open → is_reading c ≡ false → c.entry.start ≡ Some start → c.entry.epoch ≡ Some epoch → MayFetch c start epoch
+may_fetch c start epoch in_work at_rest start_is epoch_is = record {
+  is_free = ap (λ (state : SessionState). work_refusal state (is_reading c)) in_work ∙ ap (λ (reading : Bool). work_refusal phase.Open reading) at_rest;
+  start_is = start_is;
+  epoch_is = epoch_is;
+}
+
+fetch_asked : (c : Client) (start epoch : ℕ) → MayFetch c start epoch → fetch_asks c ≡ Some Cells
+fetch_asked c start epoch may =
+    ap (λ (at : Option ℕ). epoch_asks at (open_asks (work_refusal c.entry.state (is_reading c)) c.entry.start)) may.epoch_is
+    ∙ ap (λ (why : Option Cause). open_asks why c.entry.start) may.is_free
+    ∙ ap (λ (at : Option ℕ). open_asks None at) may.start_is
+
+-- the turn that the read begins with
+abbrev first_turn : Played → ℕ → ℕ → ℕ → ReadTurn
+first_turn p key start epoch = read_over key start epoch (front_of start (fetched p.state.rows key start))
+
+abbrev fetch_turn : ℕ → Played → Client → ℕ → ℕ → ReadTurn → Step
+fetch_turn s p c key start turn = step_of_effect (fetch_worked s start key c (fetched p.state.rows key start) turn) (λ (q : Client). with_client p.state s q)
+
+fetch_effect : (s key start epoch : ℕ) (fate : Fate) (c : Client) (rows : List Row) → MayFetch c start epoch → fate ≡ Works → fetch_on s key fate c rows ≡ fetch_worked s start key c (fetched rows key start) (read_over key start epoch (front_of start (fetched rows key start)))
+fetch_effect s key start epoch fate c rows may works =
+    ap (λ (why : Option Cause). fetch_open s key fate c rows why c.entry.start c.entry.epoch) may.is_free
+    ∙ ap (λ (at : Option ℕ). fetch_open s key fate c rows None at c.entry.epoch) may.start_is
+    ∙ ap (λ (at : Option ℕ). fetch_open s key fate c rows None (Some start) at) may.epoch_is
+    ∙ ap (λ (f : Fate). fetch_by s start epoch key f c (fetched rows key start)) works
+
+record FetchesSo (script : ScriptData) (s key start : ℕ) (p : Played) (c : Client) (turn : ReadTurn) : Type 0 where
+  session_is : ClientAt p.state.clients s c
+  in_work : c.entry.state ≡ phase.Open
+  is : step_of script p (event.Fetch s key) ≡ fetch_turn s p c key start turn
+  calls : (played script p (event.Fetch s key)).calls ≡ one_more p.calls Cells
+
+fetches_so : (script : ScriptData) (s key start epoch many : ℕ) (p : Played) (c : Client) → ClientAt p.state.clients s c → c.entry.state ≡ phase.Open → MayFetch c start epoch → CallsWork script (many + 1) p.calls → FetchesSo script s key start p c (first_turn p key start epoch)
+fetches_so script s key start epoch many p c at in_work may works =
+    let w : State = p.state in
+    let e : Event = event.Fetch s key in
+    let asked : asks w e ≡ Some Cells = ap (λ (found : Option Client). asks_at_client found fetch_asks) at ∙ fetch_asked c start epoch may in
+    let fate : fate_of script p e ≡ Works = ap (λ (store : Option Store). fate_by script p.calls store) asked ∙ works_now script many p.calls Cells works in
+    record {
+      session_is = at;
+      in_work = in_work;
+      is = ap (λ (found : Option Client). at_client w found (λ d. step_of_effect (fetch_on s key (fate_of script p e) d w.rows) (λ (q : Client). with_client w s q))) at ∙ ap (λ (effect : Effect Client). step_of_effect effect (λ (q : Client). with_client w s q)) (fetch_effect s key start epoch (fate_of script p e) c w.rows may fate);
+      calls = ap (λ (store : Option Store). calls_after p.calls store) asked;
+    }
+
+answers_at_once : (script : ScriptData) (number s key start many : ℕ) (p : Played) (c : Client) (a : Answer) → FetchesSo script s key start p c (Answers a) → HasAnswer script (line_of number (Session s) (verb.Read key)) s key start (many + 1) (opened p)
+answers_at_once script number s key start many p c a so =
+    let line : Line = line_of number (Session s) (verb.Read key) in
+    let fetch : Item = item.Step (Session s) (store_step.Fetch key (length (fetched p.state.rows key start))) in
+    let x : Item = item.Read s start key (found_of a.found) in
+    record {
+      steps = 1;
+      few = omega arith;
+      next = run_after script line (opened p) (event.Fetch s key);
+      answer = found_of a.found;
+      leads = leads_one script line (opened p) (event.Fetch s key) refl;
+      appends = record { added = fetch ∷ x ∷ []; is = ap (λ (step : Step). p.items ++ step.items) so.is; has = in_last x (fetch ∷ []) (x ∷ []) (in_one x) };
+    }
+
+answers_later : ReadsEnd → (script : ScriptData) (number s key start many : ℕ) (p : Played) (c : Client) (r : Reading) → r.key ≡ key → r.start ≡ start → read_left r ≤ many → CallsWork script (many + 1) p.calls → FetchesSo script s key start p c (Asks r) → HasAnswer script (line_of number (Session s) (verb.Read key)) s key start (many + 1) (opened p)
+answers_later ends script number s key start many p c r key_is start_is few works so =
+    let v : Verb = verb.Read key in
+    let line : Line = line_of number (Session s) v in
+    let e : Event = event.Fetch s key in
+    let q : Played = played script p e in
+    let now : Client = record c { under_way = UnderRead r; heal = None } in
+    let there : IsReading s key start q r = record {
+      client = now;
+      session_is = subst (λ (step : Step). ClientAt step.state.clients s now) (sym so.is) (set_found p.state.clients s now c so.session_is);
+      in_work = so.in_work;
+      under_way = refl;
+      key_is = key_is;
+      start_is = start_is;
+    } in
+    let calls : CallsWork script many q.calls = subst (λ (made : Calls). CallsWork script many made) (sym so.calls) (works_on script many p.calls Cells works) in
+    let on : HasAnswer script line s key start many (run_at Reads q) = read_answers ends many script number s key start q r there few calls in
+    let first : Leads script line 1 (opened p) (run_at Reads q) = leads_to script line Opens Reads p e refl (ap (λ (step : Step). follows v Opens (halt_of step.stop)) so.is) in
+    record {
+      steps = 1 + on.steps;
+      few = omega (arith, on.few);
+      next = on.next;
+      answer = on.answer;
+      leads = leads_on script line 1 on.steps (1 + on.steps) (opened p) (run_at Reads q) on.next refl first on.leads;
+      appends = appended_before p.items q.items on.next.played.items (item.Read s start key on.answer) (record { added = (step_of script p e).items; is = refl }) on.appends;
+    }
+
+by_first : ReadsEnd → (script : ScriptData) (number s key start epoch many : ℕ) (p : Played) (c : Client) (turn : ReadTurn) → first_turn p key start epoch ≡ turn → many ≡ 3 * length (front_of start (fetched p.state.rows key start)) → CallsWork script (many + 1) p.calls → FetchesSo script s key start p c turn → HasAnswer script (line_of number (Session s) (verb.Read key)) s key start (many + 1) (opened p)
+by_first ends script number s key start epoch many p c (Answers a) is all works so = answers_at_once script number s key start many p c a so
+by_first ends script number s key start epoch many p c (Asks r) is all works so =
+    let cells : List Cell = front_of start (fetched p.state.rows key start) in
+    answers_later ends script number s key start many p c r (subst (λ (turn : ReadTurn). OfKey key turn) is (over_key key start epoch cells)) (subst (λ (turn : ReadTurn). OfStart start turn) is (over_start key start epoch cells)) (omega (arith, all, ends.0 key start epoch cells r is)) works so
+
+-- ---- the line
+-- the run of the line has room for all steps
+room_left : (number s key start : ℕ) (p : Played) (c : Client) → ClientAt p.state.clients s c → c.entry.start ≡ Some start → 3 * length (front_of start (fetched p.state.rows key start)) + 1 ≤ left_in (line_of number (Session s) (verb.Read key)) (opened p)
+room_left number s key start p c at begun =
+    let is : left_in (line_of number (Session s) (verb.Read key)) (opened p) ≡ 1 + (3 * cells_by p.state.rows key c.entry.start + client_reads c) = ap (λ (found : Option Client). 1 + of_client found (client_fetches p.state.rows key)) at in
+    let cells : cells_by p.state.rows key c.entry.start ≡ length (front_of start (fetched p.state.rows key start)) = ap (λ (from : Option ℕ). cells_by p.state.rows key from) begun in
+    omega (arith, is, cells)
+
+pub reads_are_granted : EventsLowerWhatIsLeft → ReadsEnd → ReadsAreGranted
+reads_are_granted lowers ends script p number s key before can =
+    let line : Line = line_of number (Session s) (verb.Read key) in
+    let c : Client = can.client in
+    let start : ℕ = can.start in
+    let many : ℕ = 3 * length (front_of start (fetched p.state.rows key start)) in
+    let known : Known script p = known_before lowers script line p before in
+    let epoch : (e : ℕ) × (c.entry.epoch ≡ Some e) = has_epoch script p s c known can.session_is can.in_work in
+    let works : CallsWork script (many + 1) p.calls = λ store n less. can.reading store n (omega (arith, less)) in
+    let so : FetchesSo script s key start p c (first_turn p key start epoch.0) = fetches_so script s key start epoch.0 many p c can.session_is can.in_work (may_fetch c start epoch.0 can.in_work can.at_rest can.begun epoch.1) works in
+    let all : HasAnswer script line s key start (many + 1) (opened p) = by_first ends script number s key start epoch.0 many p c (first_turn p key start epoch.0) refl refl works so in
+    let x : Item = item.Read s start key all.answer in
+    (all.answer, granted script line p x before (line_appends script line p all.steps all.next x (omega (arith, all.few, room_left number s key start p c can.session_is can.begun)) all.leads all.appends))

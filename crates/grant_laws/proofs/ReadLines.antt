@@ -1,0 +1,176 @@
+-- A read line: the fetch, and steps on the stores down to a cell that decides.
+use Rattle.std.proofs.Common.{◌≡◌, ℕ, zero, suc, ◌+◌, ◌≤◌, List, [], ◌∷◌, ◌++◌, Option, Some, None, refl, sym, ◌∙◌, ap, subst, arith}
+use Rattle.stamp_base.specs.declared.stores.Store.{Store}
+use Rattle.port_io.specs.declared.weather.Fate.{Fate}
+use Rattle.port_io.specs.declared.weather.Fate.TheVariants.{Works}
+use Rattle.history_book.specs.declared.item.Actor.TheVariants.{Session}
+use Rattle.history_book.specs.declared.item.Found.{Found}
+use Rattle.history_book.specs.declared.item.Item.{Item}
+use Rattle.history_book.specs.declared.item.Item.TheVariants as item
+use Rattle.store_parts.specs.Rows.{Row}
+use Rattle.store_parts.specs.Pairs.{Pairs}
+use Rattle.client_parts.specs.declared.asks.Told.{Told}
+use Rattle.client_parts.specs.declared.key_read.Answer.{Answer}
+use Rattle.client_parts.specs.declared.session.State.{State as SessionState}
+use Rattle.client_parts.specs.declared.session.State.TheVariants as phase
+use Rattle.client_parts.specs.SessionSteps.{step_refusal}
+use Rattle.client_parts.specs.declared.resolve.SettlePoint.{SettlePoint}
+use Rattle.client_parts.specs.declared.resolve.SettlePoint.TheVariants.{FirstLook, Table, Marking, LastLook}
+use Rattle.client_parts.specs.Resolve.{settle_left}
+use Rattle.client_parts.specs.KeyRead.{Reading, ReadTurn, Asks, Answers, read_told, read_ask, read_left, ReadsEnd}
+use Rattle.machine.specs.State.{UnderWay, Reads as UnderRead, Client, State}
+use Rattle.machine.specs.Clients.{is_reading, is_reading_by}
+use Rattle.machine.specs.Readers.{doing_at, doing_by}
+use Rattle.machine.specs.Effect.{Effect}
+use Rattle.machine.specs.StoreSteps.{met, store_of, told_by}
+use Rattle.machine.specs.declared.event.Event.{Event}
+use Rattle.machine.specs.declared.event.Event.TheVariants as event
+use Rattle.machine.specs.Machine.{Step, step_by as step_of_effect, with_client, at_client, asks, asks_at_client}
+use Rattle.machine.specs.Events.Fetch.{client_read, read_items, found_of}
+use Rattle.machine.specs.Events.Step.{StepParts, stepped_on, work_by, next_of, read_by, step_at, step_by, step_on, store_asked, step_asks_by, step_asks}
+use Rattle.script_data.specs.declared.line.Line.{Line}
+use Rattle.script_data.specs.declared.line.Verb.{Verb}
+use Rattle.script_data.specs.declared.line.Verb.TheVariants as verb
+use Rattle.script_data.specs.Data.{ScriptData}
+use Rattle.isolation_laws.specs.Words.{ClientAt}
+use Rattle.isolation_laws.proofs.Lookups.{set_found}
+use Rattle.line_runs.specs.declared.point.Point.TheVariants.{Reads}
+use Rattle.line_runs.specs.Halts.{halt_of, follows}
+use Rattle.line_runs.specs.Next.{read_next}
+use Rattle.line_runs.specs.Runs.{Calls, Played, one_more, calls_after, fate_by, fate_of, step_of, played, Run, run_after, next_in}
+use Rattle.line_runs.proofs.ReadLines.{OfKey, told_key}
+use Rattle.grant_laws.specs.Granted.{line_of, Appends}
+use Rattle.grant_laws.proofs.LongerRuns.{in_one, in_last, appended_before, Leads, leads_on, leads_one, leads_to, run_at}
+use Rattle.grant_laws.proofs.ReadTurns.{OfStart, told_start, CallsWork, works_on, works_now}
+
+-- ---- a read under way
+pub record IsReading (s key start : ℕ) (p : Played) (r : Reading) : Type 0 where
+  pub client : Client
+  pub session_is : ClientAt p.state.clients s client
+  pub in_work : client.entry.state ≡ phase.Open
+  pub under_way : client.under_way ≡ UnderRead r
+  pub key_is : r.key ≡ key
+  pub start_is : r.start ≡ start
+
+-- what a step makes of it
+step_effect : (s : ℕ) (fate : Fate) (c : Client) (r : Reading) (rows : List Row) (pairs : Pairs) → c.entry.state ≡ phase.Open → c.under_way ≡ UnderRead r → fate ≡ Works →
+    step_on s fate c rows pairs ≡ read_by s c r (met (Session s) (read_ask r) Works rows pairs) (Some (told_by (read_ask r) rows pairs))
+step_effect s fate c r rows pairs in_work under_way works =
+    ap (λ (state : SessionState). step_by s fate c rows pairs (step_refusal state (is_reading c))) in_work
+    ∙ ap (λ (work : UnderWay). step_by s fate c rows pairs (step_refusal phase.Open (is_reading_by work))) under_way
+    ∙ ap (λ (state : SessionState). step_at s fate c rows pairs (work_by state c.entry c.under_way)) in_work
+    ∙ ap (λ (work : UnderWay). step_at s fate c rows pairs work) under_way
+    ∙ ap (λ (f : Fate). step_at s f c rows pairs (UnderRead r)) works
+
+step_asked : (c : Client) (r : Reading) → c.entry.state ≡ phase.Open → c.under_way ≡ UnderRead r → step_asks c ≡ Some (store_of (read_ask r))
+step_asked c r in_work under_way =
+    ap (λ (state : SessionState). step_asks_by c (step_refusal state (is_reading c))) in_work
+    ∙ ap (λ (work : UnderWay). step_asks_by c (step_refusal phase.Open (is_reading_by work))) under_way
+    ∙ ap (λ (state : SessionState). store_asked (next_of (work_by state c.entry c.under_way))) in_work
+    ∙ ap (λ (work : UnderWay). store_asked (next_of work)) under_way
+
+reading_next : (script : ScriptData) (number s key start : ℕ) (p : Played) (r : Reading) → IsReading s key start p r → next_in script (line_of number (Session s) (verb.Read key)) (run_at Reads p) ≡ Some (event.Step s)
+reading_next script number s key start p r k =
+    ap (λ (found : Option Client). read_next s (doing_at found)) k.session_is
+    ∙ ap (λ (state : SessionState). read_next s (doing_by state (is_reading k.client))) k.in_work
+    ∙ ap (λ (work : UnderWay). read_next s (doing_by phase.Open (is_reading_by work))) k.under_way
+
+-- ---- the steps of a read
+-- the line has its answer, some events on
+pub record HasAnswer (script : ScriptData) (line : Line) (s key start most : ℕ) (from : Run) : Type 0 where
+  pub steps : ℕ
+  pub few : steps ≤ most
+  pub next : Run
+  pub answer : Option Found
+  pub leads : Leads script line steps from next
+  pub appends : Appends from.played.items next.played.items (item.Read s start key answer)
+
+-- the step of the machine
+abbrev the_step : State → ℕ → Effect StepParts → Step
+the_step w s effect = step_of_effect effect (λ (q : StepParts). record (with_client w s q.0) { rows = q.1; pairs = q.2 })
+
+-- what the read's next call is told, and what the step comes to by the read's turn
+abbrev told_now : Played → Reading → Told
+told_now p r = told_by (read_ask r) p.state.rows p.state.pairs
+
+abbrev by_turn : ℕ → Played → Client → Reading → ReadTurn → Step
+by_turn s p c r turn = the_step p.state s (stepped_on (client_read c turn) (met (Session s) (read_ask r) Works p.state.rows p.state.pairs) (read_items s r.start r.key turn))
+
+record StepsSo (script : ScriptData) (s : ℕ) (p : Played) (c : Client) (r : Reading) (turn : ReadTurn) : Type 0 where
+  is : step_of script p (event.Step s) ≡ by_turn s p c r turn
+  calls : (played script p (event.Step s)).calls ≡ one_more p.calls (store_of (read_ask r))
+
+steps_so : (script : ScriptData) (s key start many : ℕ) (p : Played) (r : Reading) (k : IsReading s key start p r) → CallsWork script (many + 1) p.calls → StepsSo script s p k.client r (read_told r (told_now p r))
+steps_so script s key start many p r k works =
+    let w : State = p.state in
+    let e : Event = event.Step s in
+    let asked : asks w e ≡ Some (store_of (read_ask r)) = ap (λ (found : Option Client). asks_at_client found step_asks) k.session_is ∙ step_asked k.client r k.in_work k.under_way in
+    let fate : fate_of script p e ≡ Works = ap (λ (store : Option Store). fate_by script p.calls store) asked ∙ works_now script many p.calls (store_of (read_ask r)) works in
+    record {
+      is = ap (λ (found : Option Client). at_client w found (λ c. the_step w s (step_on s (fate_of script p e) c w.rows w.pairs))) k.session_is ∙ ap (λ (effect : Effect StepParts). the_step w s effect) (step_effect s (fate_of script p e) k.client r w.rows w.pairs k.in_work k.under_way fate);
+      calls = ap (λ (store : Option Store). calls_after p.calls store) asked;
+    }
+
+answers_now : (script : ScriptData) (number s key start most : ℕ) (p : Played) (r : Reading) (k : IsReading s key start p r) (a : Answer) → 1 ≤ most → StepsSo script s p k.client r (Answers a) → HasAnswer script (line_of number (Session s) (verb.Read key)) s key start most (run_at Reads p)
+answers_now script number s key start most p r k a enough so =
+    let line : Line = line_of number (Session s) (verb.Read key) in
+    let before : List Item = (met (Session s) (read_ask r) Works p.state.rows p.state.pairs).items in
+    let x : Item = item.Read s start key (found_of a.found) in
+    let same : item.Read s r.start r.key (found_of a.found) ≡ x = ap (λ (n : ℕ). item.Read s n r.key (found_of a.found)) k.start_is ∙ ap (λ (n : ℕ). item.Read s start n (found_of a.found)) k.key_is in
+    let tells : (step_of script p (event.Step s)).items ≡ before ++ x ∷ [] = ap (λ (step : Step). step.items) so.is ∙ ap (λ (y : Item). before ++ y ∷ []) same in
+    record {
+      steps = 1;
+      few = enough;
+      next = run_after script line (run_at Reads p) (event.Step s);
+      answer = found_of a.found;
+      leads = leads_one script line (run_at Reads p) (event.Step s) (reading_next script number s key start p r k);
+      appends = record { added = before ++ x ∷ []; is = ap (λ (xs : List Item). p.items ++ xs) tells; has = in_last x before (x ∷ []) (in_one x) };
+    }
+
+goes_on : (script : ScriptData) (number s key start many : ℕ) (p : Played) (r later : Reading) (k : IsReading s key start p r) → later.key ≡ r.key → later.start ≡ r.start → StepsSo script s p k.client r (Asks later) → (IsReading s key start (played script p (event.Step s)) later → HasAnswer script (line_of number (Session s) (verb.Read key)) s key start many (run_at Reads (played script p (event.Step s)))) → HasAnswer script (line_of number (Session s) (verb.Read key)) s key start (many + 1) (run_at Reads p)
+goes_on script number s key start many p r later k key_is start_is so rest =
+    let v : Verb = verb.Read key in
+    let line : Line = line_of number (Session s) v in
+    let e : Event = event.Step s in
+    let q : Played = played script p e in
+    let c : Client = record k.client { under_way = UnderRead later; heal = None } in
+    let there : IsReading s key start q later = record {
+      client = c;
+      session_is = subst (λ (step : Step). ClientAt step.state.clients s c) (sym so.is) (set_found p.state.clients s c k.client k.session_is);
+      in_work = k.in_work;
+      under_way = refl;
+      key_is = key_is ∙ k.key_is;
+      start_is = start_is ∙ k.start_is;
+    } in
+    let on : HasAnswer script line s key start many (run_at Reads q) = rest there in
+    let first : Leads script line 1 (run_at Reads p) (run_at Reads q) = leads_to script line Reads Reads p e (reading_next script number s key start p r k) (ap (λ (step : Step). follows v Reads (halt_of step.stop)) so.is) in
+    record {
+      steps = 1 + on.steps;
+      few = omega (arith, on.few);
+      next = on.next;
+      answer = on.answer;
+      leads = leads_on script line 1 on.steps (1 + on.steps) (run_at Reads p) (run_at Reads q) on.next refl first on.leads;
+      appends = appended_before p.items q.items on.next.played.items (item.Read s start key on.answer) (record { added = (step_of script p e).items; is = refl }) on.appends;
+    }
+
+by_told : (script : ScriptData) (number s key start many : ℕ) (p : Played) (r : Reading) (told : Told) (k : IsReading s key start p r) (turn : ReadTurn) → read_told r told ≡ turn → StepsSo script s p k.client r turn → ((later : Reading) → read_told r told ≡ Asks later → IsReading s key start (played script p (event.Step s)) later → HasAnswer script (line_of number (Session s) (verb.Read key)) s key start many (run_at Reads (played script p (event.Step s)))) → HasAnswer script (line_of number (Session s) (verb.Read key)) s key start (many + 1) (run_at Reads p)
+by_told script number s key start many p r told k (Answers a) is so rest = answers_now script number s key start (many + 1) p r k a (omega arith) so
+by_told script number s key start many p r told k (Asks later) is so rest =
+    goes_on script number s key start many p r later k (subst (λ (turn : ReadTurn). OfKey r.key turn) is (told_key r told)) (subst (λ (turn : ReadTurn). OfStart r.start turn) is (told_start r told)) so (rest later is)
+
+some_left : (point : SettlePoint) → 1 ≤ settle_left point
+some_left FirstLook = omega arith
+some_left Table = omega arith
+some_left Marking = omega arith
+some_left LastLook = omega arith
+
+pub read_answers : ReadsEnd → (most : ℕ) (script : ScriptData) (number s key start : ℕ) (p : Played) (r : Reading) → IsReading s key start p r → read_left r ≤ most → CallsWork script most p.calls → HasAnswer script (line_of number (Session s) (verb.Read key)) s key start most (run_at Reads p)
+read_answers ends zero script number s key start p r k few works = absurd (omega (arith, few, some_left r.point))
+read_answers ends (suc many) script number s key start p r k few works =
+    let told : Told = told_now p r in
+    let more : CallsWork script (many + 1) p.calls = λ store n less. works store n (omega (arith, less)) in
+    let so : StepsSo script s p k.client r (read_told r told) = steps_so script s key start many p r k more in
+    let all : HasAnswer script (line_of number (Session s) (verb.Read key)) s key start (many + 1) (run_at Reads p) =
+    by_told script number s key start many p r told k (read_told r told) refl so (λ later is there.
+    read_answers ends many script number s key start (played script p (event.Step s)) later there (omega (arith, few, ends.1 r later told is)) (subst (λ (calls : Calls). CallsWork script many calls) (sym so.calls) (works_on script many p.calls (store_of (read_ask r)) more))) in
+    record { steps = all.steps; few = omega (arith, all.few); next = all.next; answer = all.answer; leads = all.leads; appends = all.appends }

@@ -1,0 +1,45 @@
+-- What is asked for is granted, where its premises hold.
+use Rattle.std.specs.Prelude.{ℕ, ◌+◌, List, Option, MatchOption}
+use Rattle.history_book.specs.declared.cause.Cause.TheVariants as cause
+use Rattle.history_book.specs.declared.item.Actor.TheVariants.{Node, Session}
+use Rattle.history_book.specs.declared.item.Found.{Found}
+use Rattle.history_book.specs.declared.item.Item.TheVariants as item
+use Rattle.oracle_parts.specs.Instance.{least_unsettled}
+use Rattle.script_data.specs.declared.line.Target.TheVariants as target
+use Rattle.script_data.specs.declared.line.Verb.TheVariants as verb
+use Rattle.script_data.specs.Data.{ScriptData}
+use Rattle.line_runs.specs.Runs.{Played}
+use Rattle.grant_laws.specs.Granted.{line_of, IsBefore, reading_of, Grants}
+use Rattle.grant_laws.specs.Premises.{CanWrite, CanTake, CanBegin, CanCommit, CanRead}
+
+-- a write line appends the write
+abbrev pub WritesAreGranted : Type 0
+WritesAreGranted =
+    (script : ScriptData) (p : Played) (number session key : ℕ) (value : List ℕ) → let line = line_of number (Session session) (verb.Write key value) in IsBefore script line p → (can : CanWrite script p session key) →
+    Grants script line p (item.Write session can.start key value)
+
+-- a take line appends the take of the next term: its epoch is the record's ceiling, its lease begins at the reading, and its
+-- range is a whole one
+abbrev pub TakesAreGranted : Type 0
+TakesAreGranted =
+    (script : ScriptData) (p : Played) (number node : ℕ) → let line = line_of number (Node node) verb.Take in IsBefore script line p → CanTake script p node →
+    Grants script line p (item.Take node (reading_of script p node) (p.state.master.term + 1) p.state.master.ceiling (reading_of script p node + script.setup.lease) (p.state.master.ceiling + script.setup.range))
+
+-- a begin line appends the begin, by the next stamp; where the instance has drawn a commit that is not settled, it is told to
+-- wait, by the least of these
+abbrev pub BeginsAreGranted : Type 0
+BeginsAreGranted =
+    (script : ScriptData) (p : Played) (number session node : ℕ) → let line = line_of number (Session session) (verb.Begin (target.Node node)) in IsBefore script line p → (can : CanBegin script p session node) →
+    MatchOption (least_unsettled can.oracle.requests (can.oracle.last + 1)) (Grants script line p (item.Begin session (can.oracle.last + 1))) (λ commit. Grants script line p (item.Refused (Session session) (cause.NotYet commit)))
+
+-- a commit line appends the commit, by the next stamp
+abbrev pub CommitsAreGranted : Type 0
+CommitsAreGranted =
+    (script : ScriptData) (p : Played) (number session node : ℕ) → let line = line_of number (Session session) (verb.Commit (target.Node node)) in IsBefore script line p → (can : CanCommit script p session node) →
+    Grants script line p (item.Committed session can.start (can.oracle.last + 1))
+
+-- a read line appends its answer; which one, the isolation of the history tells
+abbrev pub ReadsAreGranted : Type 0
+ReadsAreGranted =
+    (script : ScriptData) (p : Played) (number session key : ℕ) → let line = line_of number (Session session) (verb.Read key) in IsBefore script line p → (can : CanRead script p session key) →
+    (answer : Option Found) × Grants script line p (item.Read session can.start key answer)

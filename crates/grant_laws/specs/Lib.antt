@@ -1,0 +1,4 @@
+pub mod Granted
+pub mod Premises
+pub mod Laws
+pub mod Worked

@@ -1,0 +1,112 @@
+-- What has to hold before a line so that what it asks for is granted: one field each, over the state that stands before the line,
+-- the reading of the node's clock and the fates that are planned for the calls that come next.
+use Rattle.std.specs.Prelude.{◌≡◌, ◌≢◌, ℕ, ◌+◌, ◌*◌, ◌<◌, ◌≤◌, ◌⊎◌, ◌^◌, false, [], length, slice_get, None, Some}
+use Rattle.stamp_base.specs.declared.stores.Store.{Store}
+use Rattle.stamp_base.specs.declared.stores.Store.TheVariants.{Cells, Table, Master}
+use Rattle.port_io.specs.declared.weather.Fate.TheVariants.{Works}
+use Rattle.port_io.specs.Planned.{planned_fate}
+use Rattle.store_parts.specs.Rows.{fetched, front_of}
+use Rattle.client_parts.specs.declared.session.State.TheVariants as phase
+use Rattle.client_parts.specs.SessionSteps.{key_refusal}
+use Rattle.oracle_parts.specs.declared.buckets.Verdict.TheVariants.{Free}
+use Rattle.oracle_parts.specs.Buckets.{verdict}
+use Rattle.oracle_parts.specs.Instance.{InstanceEntry, in_flight}
+use Rattle.machine.specs.State.{Client}
+use Rattle.machine.specs.Clients.{is_reading}
+use Rattle.script_data.specs.Data.{ScriptData}
+use Rattle.line_runs.specs.Runs.{Played, calls_on}
+use Rattle.isolation_laws.specs.Words.{InstanceAt, ClientAt, Marked}
+use Rattle.grant_laws.specs.Granted.{reading_of, next_fate, HasStamp}
+
+-- ---- a write
+pub record CanWrite (script : ScriptData) (p : Played) (session key : ℕ) : Type 0 where
+  pub client : Client
+  pub start : ℕ
+  -- the session's transaction has this start, and is open
+  pub session_is : ClientAt p.state.clients session client
+  pub begun : client.entry.start ≡ Some start
+  pub in_work : client.entry.state ≡ phase.Open
+  -- no read is under way
+  pub at_rest : is_reading client ≡ false
+  -- the key is among those that it wrote, or there is room for it
+  pub room : key_refusal client.entry.keys key ≡ None
+  -- the next call on the cells works
+  pub writing : next_fate script p Cells ≡ Works
+
+-- ---- a take
+pub record CanTake (script : ScriptData) (p : Played) (node : ℕ) : Type 0 where
+  -- the node is there, and has no instance
+  pub vacant : slice_get p.state.nodes node ≡ Some None
+  -- the record has no holder, or its lease has ended by every clock
+  pub lapsed : (p.state.master.holder ≡ None) ⊎ (p.state.master.until + script.setup.skew ≤ reading_of script p node)
+  -- there are stamps for one range more
+  pub stamps : p.state.master.ceiling + script.setup.range ≤ 2 ^ 62
+  -- the next call on the record works
+  pub taking : next_fate script p Master ≡ Works
+
+-- ---- a begin
+pub record CanBegin (script : ScriptData) (p : Played) (session node : ℕ) : Type 0 where
+  pub client : Client
+  pub oracle : InstanceEntry
+  -- the session is free
+  pub session_is : ClientAt p.state.clients session client
+  pub is_free : client.entry.state ≡ phase.Free
+  -- the node has the instance of the record's term
+  pub node_has : InstanceAt p.state.nodes node oracle
+  pub in_term : oracle.term ≡ p.state.master.term
+  -- a slot is free
+  pub slot : in_flight oracle < oracle.slots
+  -- the lease stands
+  pub leased : reading_of script p node < oracle.until
+  -- a stamp is left, or the range can be extended, and the instance keeps no refusal of the record
+  pub stamp : HasStamp script p oracle
+  pub goes_on : oracle.stop ≡ None
+
+-- ---- a commit
+pub record CanCommit (script : ScriptData) (p : Played) (session node : ℕ) : Type 0 where
+  pub client : Client
+  pub oracle : InstanceEntry
+  pub start : ℕ
+  -- the session's transaction has this start, and is open
+  pub session_is : ClientAt p.state.clients session client
+  pub begun : client.entry.start ≡ Some start
+  pub in_work : client.entry.state ≡ phase.Open
+  -- no read is under way
+  pub at_rest : is_reading client ≡ false
+  -- it has written
+  pub wrote : client.entry.keys ≢ []
+  -- the node has the instance of the record's term
+  pub node_has : InstanceAt p.state.nodes node oracle
+  pub in_term : oracle.term ≡ p.state.master.term
+  -- a slot is free
+  pub slot : in_flight oracle < oracle.slots
+  -- the lease stands
+  pub leased : reading_of script p node < oracle.until
+  -- the transaction began above the instance's epoch
+  pub in_epoch : oracle.epoch < start
+  -- the conflict memory has nothing against its keys
+  pub no_conflict : verdict oracle.buckets start client.entry.keys ≡ Free
+  -- a stamp is left, or the range can be extended, and the instance keeps no refusal of the record
+  pub stamp : HasStamp script p oracle
+  pub goes_on : oracle.stop ≡ None
+  -- nobody has marked the transaction
+  pub unmarked : Marked p.state.pairs start → ⊥
+  -- the next call on the commit table works
+  pub placing : next_fate script p Table ≡ Works
+
+-- ---- a read
+-- the cells that a fetch of the key gives, down to the first that decides by itself
+abbrev pub cells_to_read : Played → ℕ → ℕ → ℕ
+cells_to_read p start key = length (front_of start (fetched p.state.rows key start))
+
+pub record CanRead (script : ScriptData) (p : Played) (session key : ℕ) : Type 0 where
+  pub client : Client
+  pub start : ℕ
+  -- the session's transaction has this start, and is open
+  pub session_is : ClientAt p.state.clients session client
+  pub begun : client.entry.start ≡ Some start
+  pub in_work : client.entry.state ≡ phase.Open
+  -- no read is under way
+  pub at_rest : is_reading client ≡ false
+  -- on either store the next calls work, as many as the read can make: the fetch, and three for each cell
+  pub reading : (store : Store) (n : ℕ) → n ≤ 3 * cells_to_read p start key → planned_fate script.faults store (calls_on p.calls store + n + 1) ≡ Works

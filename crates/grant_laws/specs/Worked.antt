@@ -1,0 +1,134 @@
+-- Short scripts: each asks for one thing in its last line, once with all premises and once without one of them.
+use Rattle.std.specs.Prelude.{ℕ, List, [], ◌∷◌, ◌++◌, None, Some}
+use Rattle.stamp_base.specs.SetupNumbers.{default_numbers}
+use Rattle.stamp_base.specs.declared.stores.Store.{Store}
+use Rattle.stamp_base.specs.declared.stores.Store.TheVariants.{Cells, Table}
+use Rattle.port_io.specs.declared.weather.Fate.TheVariants.{FailsUnchanged}
+use Rattle.history_book.specs.declared.cause.Cause.TheVariants as cause
+use Rattle.history_book.specs.declared.item.Actor.TheVariants.{Clock, Node, Session}
+use Rattle.history_book.specs.declared.item.Ending.TheVariants.{Aborted}
+use Rattle.history_book.specs.declared.item.StoreStep.TheVariants as step
+use Rattle.history_book.specs.declared.item.Item.{Item}
+use Rattle.history_book.specs.declared.item.Item.TheVariants as item
+use Rattle.script_data.specs.declared.line.Line.{Line}
+use Rattle.script_data.specs.declared.line.Target.TheVariants as target
+use Rattle.script_data.specs.declared.line.Verb.TheVariants as verb
+use Rattle.script_data.specs.Data.{ScriptData}
+use Rattle.line_runs.specs.Runs.{Played, lines_played, opening_played}
+use Rattle.grant_laws.specs.Granted.{line_of}
+
+abbrev v : List ℕ
+v = 118 ∷ []
+
+-- ---- lines
+abbrev pub take : ℕ → Line
+take node = line_of 0 (Node node) verb.Take
+
+abbrev tick : ℕ → Line
+tick by = line_of 0 Clock (verb.Tick by)
+
+abbrev pub begin : Line
+begin = line_of 0 (Session 0) (verb.Begin (target.Node 0))
+
+abbrev pub write : Line
+write = line_of 0 (Session 0) (verb.Write 0 v)
+
+abbrev read : Line
+read = line_of 0 (Session 0) (verb.Read 0)
+
+abbrev pub commit : Line
+commit = line_of 0 (Session 0) (verb.Commit (target.Node 0))
+
+-- ---- scripts
+-- a script of these lines, no call of which fails
+abbrev pub of_lines : List Line → ScriptData
+of_lines lines = record { setup = default_numbers; leads = 0 ∷ 0 ∷ []; faults = []; lines = lines }
+
+-- the first call on the store fails without effect
+abbrev pub failing : Store → ScriptData → ScriptData
+failing store script = record script { faults = (store, 1, FailsUnchanged) ∷ [] }
+
+-- what these lines come to
+abbrev pub after : ScriptData → List Line → Played
+after script lines = lines_played script lines (opening_played script)
+
+-- by another time of the base clock
+abbrev pub at_time : ℕ → Played → Played
+at_time clock p = record p { clock = clock }
+
+-- ---- a take
+abbrev pub taking : ScriptData
+taking = of_lines (take 0 ∷ [])
+
+abbrev pub taking_items : List Item
+taking_items = item.Take 0 0 1 0 10 100 ∷ []
+
+abbrev pub taking_again : ScriptData
+taking_again = of_lines (take 0 ∷ take 1 ∷ [])
+
+abbrev pub before_taking_again : Played
+before_taking_again = after taking_again (take 0 ∷ [])
+
+abbrev pub taking_again_items : List Item
+taking_again_items = taking_items ++ item.Refused (Node 1) (cause.Early 0 10) ∷ []
+
+-- ---- a begin
+abbrev pub beginning : ScriptData
+beginning = of_lines (take 0 ∷ begin ∷ [])
+
+abbrev pub before_beginning : Played
+before_beginning = after beginning (take 0 ∷ [])
+
+abbrev pub beginning_items : List Item
+beginning_items = taking_items ++ item.AskBegin 0 0 ∷ item.Accept 0 0 1 0 ∷ item.Draw 0 0 1 1 None ∷ item.Begin 0 1 ∷ []
+
+abbrev pub beginning_late : ScriptData
+beginning_late = of_lines (take 0 ∷ tick 10 ∷ begin ∷ [])
+
+abbrev pub before_beginning_late : Played
+before_beginning_late = after beginning_late (take 0 ∷ tick 10 ∷ [])
+
+abbrev pub beginning_late_items : List Item
+beginning_late_items = taking_items ++ item.Tick 10 ∷ item.AskBegin 0 0 ∷ item.Refused (Session 0) (cause.Expired 10 10) ∷ []
+
+-- ---- a write
+abbrev pub writing : ScriptData
+writing = of_lines (take 0 ∷ begin ∷ write ∷ [])
+
+abbrev pub before_writing : Played
+before_writing = after writing (take 0 ∷ begin ∷ [])
+
+abbrev pub writing_items : List Item
+writing_items = beginning_items ++ item.Write 0 1 0 v ∷ []
+
+abbrev pub failed_write_items : List Item
+failed_write_items = beginning_items ++ item.Fault (Session 0) Cells ∷ item.End 0 1 Aborted ∷ item.Step (Session 0) (step.Erase 0 1) ∷ []
+
+-- ---- a read
+abbrev pub reading : ScriptData
+reading = of_lines (take 0 ∷ begin ∷ read ∷ [])
+
+abbrev pub before_reading : Played
+before_reading = after reading (take 0 ∷ begin ∷ [])
+
+abbrev pub reading_items : List Item
+reading_items = beginning_items ++ item.Step (Session 0) (step.Fetch 0 0) ∷ item.Read 0 1 0 None ∷ []
+
+abbrev pub failed_read_items : List Item
+failed_read_items = beginning_items ++ item.Fault (Session 0) Cells ∷ []
+
+-- ---- a commit
+abbrev pub committing : ScriptData
+committing = of_lines (take 0 ∷ begin ∷ write ∷ commit ∷ [])
+
+abbrev pub before_committing : Played
+before_committing = after committing (take 0 ∷ begin ∷ write ∷ [])
+
+abbrev asking_items : List Item
+asking_items = writing_items ++ item.AskCommit 0 0 1 ∷ item.Accept 0 0 1 0 ∷ item.Draw 0 0 1 1 (Some 2) ∷ []
+
+abbrev pub committing_items : List Item
+committing_items = asking_items ++ item.Placed 1 2 ∷ item.Committed 0 1 2 ∷ item.Step (Session 0) (step.Shadow 0 1 2) ∷ item.Step (Session 0) (step.Remove 1) ∷ []
+
+abbrev pub failed_commit_items : List Item
+failed_commit_items = asking_items ++ item.Fault (Node 0) Table ∷ item.Refused (Session 0) (cause.Open 1) ∷ []

@@ -1,0 +1,49 @@
+// What is asked for by a line of a script that is carried out in file order is granted.
+ghost use Rattle.grant_laws.specs.Laws.{WritesAreGranted, TakesAreGranted, BeginsAreGranted, CommitsAreGranted, ReadsAreGranted};
+
+use client_parts::reads_end;
+use line_runs::events_lower_what_is_left;
+
+/// A write line of an open transaction appends its write, in whatever state the lines before it have come to: all that is asked
+/// for is that no read is under way, that the key is written already or there is room for it, and that the cells' next call
+/// works.
+pub fn writes_are_granted()
+    ensures { WritesAreGranted }
+{}
+
+/// A take line of a node without an instance appends its take, where the record is free or its lease has ended by every clock,
+/// there are stamps for one range more, and the record's next call works.
+pub fn takes_are_granted()
+    ensures { TakesAreGranted }
+{
+    events_lower_what_is_left();
+}
+
+/// A begin line of a free session appends its begin, by the next stamp of the node's instance, where that is the one of the
+/// record's term with a slot free and its lease standing, a stamp is left or the range can be extended, and it keeps no refusal
+/// of the record. Where the instance has drawn a commit that is not settled the session is told to wait, by the least of these.
+pub fn begins_are_granted()
+    ensures { BeginsAreGranted }
+{
+    events_lower_what_is_left();
+}
+
+/// A commit line of an open transaction that has written appends its commit, by the next stamp of the node's instance, whatever
+/// came before, faults and takeovers included: where no read is under way, the instance is the one of the record's term with a
+/// slot free and its lease standing, the transaction began above its epoch, the conflict memory is free of its keys, a stamp is
+/// left or the range can be extended, the instance keeps no refusal, nobody has marked the transaction, and the commit table's
+/// next call works. What the completion meets then takes nothing back.
+pub fn commits_are_granted()
+    ensures { CommitsAreGranted }
+{
+    events_lower_what_is_left();
+}
+
+/// A read line of an open transaction appends its answer, where no other read is under way and no store call of it fails: the
+/// fetch, and at most three steps for each cell down to the first that decides by itself.
+pub fn reads_are_granted()
+    ensures { ReadsAreGranted }
+{
+    events_lower_what_is_left();
+    reads_end();
+}

@@ -1,0 +1,11 @@
+//! Why what is asked for is granted: where no cause of a refusal stands, the line appends what it asks for.
+#![tactic(auto)]
+
+mod granted;
+mod worked;
+
+pub use granted::{
+    begins_are_granted, commits_are_granted, reads_are_granted, takes_are_granted,
+    writes_are_granted,
+};
+pub use worked::{a_begin, a_commit, a_read, a_take, a_write};

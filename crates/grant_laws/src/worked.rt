@@ -1,0 +1,50 @@
+// Short scripts whose last line asks for one thing: once all premises hold and it is granted, and once one of them is lacking
+// and it is refused.
+ghost use Rattle.std.specs.Prelude.{◌≡◌, []};
+ghost use Rattle.stamp_base.specs.declared.stores.Store.TheVariants.{Cells, Table};
+ghost use Rattle.history_book.specs.declared.item.Item.TheVariants.{Committed};
+ghost use Rattle.line_runs.specs.Runs.{replayed};
+ghost use Rattle.grant_laws.specs.Granted.{Grants};
+ghost use Rattle.grant_laws.specs.Premises.{CanTake, CanBegin, CanWrite, CanRead, CanCommit};
+ghost use Rattle.grant_laws.specs.Worked as worked;
+
+use crate::granted::commits_are_granted;
+
+/// A free record is taken. By another node at the same time it is not: two ticks after the end of the lease it could be.
+pub fn a_take()
+    ensures can { CanTake worked.taking (worked.after worked.taking []) 0 }
+    ensures granted { replayed worked.taking ≡ worked.taking_items }
+    ensures lacks_time { CanTake worked.taking_again (worked.at_time 12 worked.before_taking_again) 1 }
+    ensures refused { replayed worked.taking_again ≡ worked.taking_again_items }
+{}
+
+/// A begin has its start. At the end of the lease it is refused: at an earlier time it could be granted.
+pub fn a_begin()
+    ensures can { CanBegin worked.beginning worked.before_beginning 0 0 }
+    ensures granted { replayed worked.beginning ≡ worked.beginning_items }
+    ensures lacks_lease { CanBegin worked.beginning_late (worked.at_time 0 worked.before_beginning_late) 0 0 }
+    ensures refused { replayed worked.beginning_late ≡ worked.beginning_late_items }
+{}
+
+/// A write is made. Where the cells fail, all else being the same, its transaction ends.
+pub fn a_write()
+    ensures can { CanWrite worked.writing worked.before_writing 0 0 }
+    ensures granted { replayed worked.writing ≡ worked.writing_items }
+    ensures refused { replayed (worked.failing Cells worked.writing) ≡ worked.failed_write_items }
+{}
+
+/// A read has its answer. Where the cells fail, all else being the same, it has none.
+pub fn a_read()
+    ensures can { CanRead worked.reading worked.before_reading 0 0 }
+    ensures granted { replayed worked.reading ≡ worked.reading_items }
+    ensures refused { replayed (worked.failing Cells worked.reading) ≡ worked.failed_read_items }
+{}
+
+/// A commit is granted, by the law. Where its put fails, all else being the same, its outcome is open.
+pub fn a_commit()
+    ensures can { CanCommit worked.committing worked.before_committing 0 0 }
+    ensures granted { Grants worked.committing worked.commit worked.before_committing (Committed 0 1 2) }
+    ensures refused { replayed (worked.failing Table worked.committing) ≡ worked.failed_commit_items }
+{
+    commits_are_granted();
+}
