@@ -1,7 +1,142 @@
 use super::*;
 use port_io::Fate;
 use stamp_base::{Setup, Stage, Store};
+use std::alloc::Global;
 use std::test::Fail;
+
+/// A script, its first bad line and the cause, in either mode.
+static BAD: [(&str, u64, &str); 78] = [
+    // The first bad line.
+    ("a\0take", 1, "bad byte"),
+    ("\0", 1, "bad byte"),
+    ("a take\r", 1, "bad byte"),
+    ("a take\r\r\n", 1, "bad byte"),
+    ("q\x7f", 1, "bad byte"),
+    ("nodes 3\nd take", 2, "unknown actor"),
+    ("nodes 1\nb take", 2, "unknown actor"),
+    ("lease", 1, "wrong number of words"),
+    ("lease 5 5", 1, "wrong number of words"),
+    ("buckets 1", 1, "wrong number of words"),
+    ("fault cells 1", 1, "wrong number of words"),
+    ("cache", 1, "wrong number of words"),
+    ("# a take\n\n \t\na take\nq\n\0", 5, "unknown actor"),
+    ("a take\r\nq\r\n", 2, "unknown actor"),
+    ("a take\ns1 begin z", 2, "unknown node"),
+    ("nodes 1\ns1 begin b", 2, "unknown node"),
+    // What is wrong with a setup line.
+    ("nodes 0", 1, "out of range"),
+    ("nodes 9", 1, "out of range"),
+    ("nodes two", 1, "bad number"),
+    ("lease 0", 1, "out of range"),
+    ("lease 1000001", 1, "out of range"),
+    ("skew 1000001", 1, "out of range"),
+    ("skew -1", 1, "bad number"),
+    ("range 0", 1, "out of range"),
+    ("range 4611686018427387905", 1, "out of range"),
+    ("range 12345678901234567890", 1, "bad number"),
+    ("buckets 0 4", 1, "out of range"),
+    ("buckets 4097 x", 1, "out of range"),
+    ("buckets 64 x", 1, "bad number"),
+    ("buckets 64 0", 1, "out of range"),
+    ("buckets 64 65", 1, "out of range"),
+    ("slots 0", 1, "out of range"),
+    ("slots 1025", 1, "out of range"),
+    ("batch 257", 1, "out of range"),
+    ("workers 0", 1, "out of range"),
+    ("workers 9", 1, "out of range"),
+    ("lead a 3", 1, "out of range"),
+    ("skew 1\nlead a 2", 2, "out of range"),
+    ("lead c 1", 1, "unknown node"),
+    ("lead c x", 1, "unknown node"),
+    ("lead master 1", 1, "unknown node"),
+    ("lead a x", 1, "bad number"),
+    ("fault cell 0 none", 1, "unknown store"),
+    ("fault cells x none", 1, "bad number"),
+    ("fault table 0 none", 1, "out of range"),
+    ("fault table 1000001 none", 1, "out of range"),
+    ("fault master 1 none", 1, "unknown kind"),
+    ("fault master 1 works", 1, "unknown kind"),
+    // Setup lines stand in front, and each once.
+    ("a take\nlease 5", 2, "setup order"),
+    ("a take\nlease 0", 2, "out of range"),
+    ("a post p\nfault cells 1 applied", 2, "setup order"),
+    ("lead a 1\nnodes 3", 2, "setup order"),
+    ("lead a 1\nskew 3", 2, "setup order"),
+    ("nodes 2\nlead a 0\nnodes 2", 3, "setup order"),
+    ("skew 2\nlead b 0\nskew 2", 3, "setup order"),
+    ("lease 5\na take\nlease 5", 3, "setup order"),
+    ("nodes 2\nnodes 2", 2, "setup twice"),
+    ("nodes 2\nnodes 3", 2, "setup twice"),
+    ("lease 5\n# again\nlease 6", 3, "setup twice"),
+    ("skew 0\nskew 0", 2, "setup twice"),
+    ("range 5\nrange 6", 2, "setup twice"),
+    ("buckets 1 1\nbuckets 2 2", 2, "setup twice"),
+    ("slots 1\nslots 2", 2, "setup twice"),
+    ("batch 1\nbatch 2", 2, "setup twice"),
+    ("workers 1\nworkers 2", 2, "setup twice"),
+    ("lead a 1\nlead b 1\nlead a 1", 3, "setup twice"),
+    (
+        "fault cells 1 applied\nfault table 1 applied\nfault cells 1 unchanged",
+        3,
+        "setup twice",
+    ),
+    // Names are posted in front of where they are awaited, and once.
+    ("s0 await p", 1, "name not posted"),
+    ("a post p\ns0 await p\ns1 await q", 3, "name not posted"),
+    ("a post p\ns0 await P", 2, "name not posted"),
+    ("s0 await p\na post p", 1, "name not posted"),
+    ("a post p\ns0 post p", 2, "posted twice"),
+    ("a post p\na post q\njanitor post q", 3, "posted twice"),
+    // Forms that wait.
+    ("cache 4", 1, "not yet"),
+    ("cache x", 1, "not yet"),
+    ("commits direct", 1, "not yet"),
+    ("reads strict", 1, "not yet"),
+    ("a take\nreads strict", 2, "not yet"),
+];
+
+/// The same, of a script for threads.
+static BAD_IN_A_RUN: [(&str, u64, &str); 3] = [
+    ("a accept s0", 1, "replay only"),
+    ("# run\n\na accept s0", 3, "replay only"),
+    ("a hold persist\na accept s0", 2, "replay only"),
+];
+
+/// A script, and how many lines it has that are not empty.
+static COUNTED: [(&str, usize); 12] = [
+    ("", 0),
+    ("\n\n \n", 0),
+    ("# one\n  # two \x01\n\t\n#", 0),
+    ("# any byte \0\r\na take", 1),
+    ("a take", 1),
+    ("\ta  take \t", 1),
+    ("a take\r\n\r\ns0 begin a\r\n", 2),
+    ("s15 read k4095\ns0 read k0\n", 2),
+    ("lease 5\nb take\ns0 begin b", 2),
+    (
+        "s0 write k0 aaaaaaaaaaaaaaaaaaaaaaaaaaaaaaaaaaaaaaaaaaaaaaaaaaaaaaaaaaaaaaaa",
+        1,
+    ),
+    ("s0 write k0 #", 1),
+    (
+        "clock post p\na await p\nb await p\ns0 post abcdefghijklmn-Z\njanitor await abcdefghijklmn-Z",
+        5,
+    ),
+];
+
+// Behind functions, a proof that goes over the rows does not look into their texts.
+
+fn bad() -> &'static [(&'static str, u64, &'static str)] {
+    &BAD
+}
+
+fn bad_in_a_run() -> &'static [(&'static str, u64, &'static str)] {
+    &BAD_IN_A_RUN
+}
+
+fn counted() -> &'static [(&'static str, usize)] {
+    &COUNTED
+}
 
 /// How many lines a script has, or its bad line and the text of the cause.
 fn outcome(
@@ -33,48 +168,23 @@ fn refuses(rt: &HostRuntime, mode: Mode, rows: &[(&str, u64, &str)]) -> Result<(
 
 #[test]
 fn names_the_first_bad_line(rt: HostRuntime) -> Result<(), Fail> {
-    let rows = [
-        ("a\0take", 1, "bad byte"),
-        ("\0", 1, "bad byte"),
-        ("a take\r", 1, "bad byte"),
-        ("a take\r\r\n", 1, "bad byte"),
-        ("q\x7f", 1, "bad byte"),
-        ("nodes 3\nd take", 2, "unknown actor"),
-        ("nodes 1\nb take", 2, "unknown actor"),
-        ("lease", 1, "wrong number of words"),
-        ("lease 5 5", 1, "wrong number of words"),
-        ("buckets 1", 1, "wrong number of words"),
-        ("fault cells 1", 1, "wrong number of words"),
-        ("cache", 1, "wrong number of words"),
-        ("# a take\n\n \t\na take\nq\n\0", 5, "unknown actor"),
-        ("a take\r\nq\r\n", 2, "unknown actor"),
-        ("a take\ns1 begin z", 2, "unknown node"),
-        ("nodes 1\ns1 begin b", 2, "unknown node"),
-    ];
-    refuses(&rt, Mode::Replay, &rows)
+    refuses(&rt, Mode::Replay, bad())?;
+    refuses(&rt, Mode::Run, bad())?;
+    refuses(&rt, Mode::Run, bad_in_a_run())
 }
 
 #[test]
-fn names_the_forms_that_wait(rt: HostRuntime) -> Result<(), Fail> {
-    let rows = [
-        ("cache 4", 1, "not yet"),
-        ("cache x", 1, "not yet"),
-        ("commits direct", 1, "not yet"),
-        ("reads strict", 1, "not yet"),
-        ("a take\nreads strict", 2, "not yet"),
-    ];
-    refuses(&rt, Mode::Replay, &rows)?;
-    refuses(&rt, Mode::Run, &rows)
+fn counts_the_lines_of_a_script(rt: HostRuntime) -> Result<(), Fail> {
+    for (script, count) in counted() {
+        if outcome(&rt, script.as_bytes(), Mode::Replay)? != Ok(*count) {
+            return Err(Fail::from(*script));
+        }
+    }
+    Ok(())
 }
 
 #[test]
 fn takes_in_a_run_what_runs_take(rt: HostRuntime) -> Result<(), Fail> {
-    let rows = [
-        ("a accept s0", 1, "replay only"),
-        ("# run\n\na accept s0", 3, "replay only"),
-        ("a hold persist\na accept s0", 2, "replay only"),
-    ];
-    refuses(&rt, Mode::Run, &rows)?;
     let Ok(script) = read_script(rt.alloc(), b"# run\na hold persist\n", Mode::Run) else {
         return Err(Fail::from("no script"));
     };
@@ -84,161 +194,6 @@ fn takes_in_a_run_what_runs_take(rt: HostRuntime) -> Result<(), Fail> {
     let stage = Stage::Persist;
     assert_eq!(rt; hold.number, 2);
     assert!(rt; hold.verb == Verb::Hold { stage });
-    Ok(())
-}
-
-#[test]
-fn names_what_is_wrong_with_a_setup_line(rt: HostRuntime) -> Result<(), Fail> {
-    let rows = [
-        ("nodes 0", 1, "out of range"),
-        ("nodes 9", 1, "out of range"),
-        ("nodes two", 1, "bad number"),
-        ("lease 0", 1, "out of range"),
-        ("lease 1000001", 1, "out of range"),
-        ("skew 1000001", 1, "out of range"),
-        ("skew -1", 1, "bad number"),
-        ("range 0", 1, "out of range"),
-        ("range 4611686018427387905", 1, "out of range"),
-        ("range 12345678901234567890", 1, "bad number"),
-        ("buckets 0 4", 1, "out of range"),
-        ("buckets 4097 x", 1, "out of range"),
-        ("buckets 64 x", 1, "bad number"),
-        ("buckets 64 0", 1, "out of range"),
-        ("buckets 64 65", 1, "out of range"),
-        ("slots 0", 1, "out of range"),
-        ("slots 1025", 1, "out of range"),
-        ("batch 257", 1, "out of range"),
-        ("workers 0", 1, "out of range"),
-        ("workers 9", 1, "out of range"),
-        ("lead a 3", 1, "out of range"),
-        ("skew 1\nlead a 2", 2, "out of range"),
-        ("lead c 1", 1, "unknown node"),
-        ("lead c x", 1, "unknown node"),
-        ("lead master 1", 1, "unknown node"),
-        ("lead a x", 1, "bad number"),
-        ("fault cell 0 none", 1, "unknown store"),
-        ("fault cells x none", 1, "bad number"),
-        ("fault table 0 none", 1, "out of range"),
-        ("fault table 1000001 none", 1, "out of range"),
-        ("fault master 1 none", 1, "unknown kind"),
-        ("fault master 1 works", 1, "unknown kind"),
-    ];
-    refuses(&rt, Mode::Replay, &rows)
-}
-
-#[test]
-fn keeps_setup_lines_in_front_and_each_once(rt: HostRuntime) -> Result<(), Fail> {
-    let rows = [
-        ("a take\nlease 5", 2, "setup order"),
-        ("a take\nlease 0", 2, "out of range"),
-        ("a post p\nfault cells 1 applied", 2, "setup order"),
-        ("lead a 1\nnodes 3", 2, "setup order"),
-        ("lead a 1\nskew 3", 2, "setup order"),
-        ("nodes 2\nlead a 0\nnodes 2", 3, "setup order"),
-        ("skew 2\nlead b 0\nskew 2", 3, "setup order"),
-        ("lease 5\na take\nlease 5", 3, "setup order"),
-        ("nodes 2\nnodes 2", 2, "setup twice"),
-        ("nodes 2\nnodes 3", 2, "setup twice"),
-        ("lease 5\n# again\nlease 6", 3, "setup twice"),
-        ("skew 0\nskew 0", 2, "setup twice"),
-        ("range 5\nrange 6", 2, "setup twice"),
-        ("buckets 1 1\nbuckets 2 2", 2, "setup twice"),
-        ("slots 1\nslots 2", 2, "setup twice"),
-        ("batch 1\nbatch 2", 2, "setup twice"),
-        ("workers 1\nworkers 2", 2, "setup twice"),
-        ("lead a 1\nlead b 1\nlead a 1", 3, "setup twice"),
-        (
-            "fault cells 1 applied\nfault table 1 applied\nfault cells 1 unchanged",
-            3,
-            "setup twice",
-        ),
-    ];
-    refuses(&rt, Mode::Replay, &rows)
-}
-
-#[test]
-fn keeps_the_rules_on_names(rt: HostRuntime) -> Result<(), Fail> {
-    let rows = [
-        ("s0 await p", 1, "name not posted"),
-        ("a post p\ns0 await p\ns1 await q", 3, "name not posted"),
-        ("a post p\ns0 await P", 2, "name not posted"),
-        ("s0 await p\na post p", 1, "name not posted"),
-        ("a post p\ns0 post p", 2, "posted twice"),
-        ("a post p\na post q\njanitor post q", 3, "posted twice"),
-    ];
-    refuses(&rt, Mode::Replay, &rows)?;
-    refuses(&rt, Mode::Run, &rows)?;
-    let script =
-        b"clock post p\na await p\nb await p\ns0 post abcdefghijklmn-Z\njanitor await abcdefghijklmn-Z";
-    assert_eq!(rt; outcome(&rt, script, Mode::Run)?, Ok(5));
-    Ok(())
-}
-
-#[test]
-fn reads_very_many_names(rt: HostRuntime) -> Result<(), Fail> {
-    let mut bytes = Vec::new(rt.alloc());
-    for number in 0..65_536 {
-        let lines = format!(in rt.alloc(); "a post n{number}\nb await n{number}\n")?;
-        bytes.extend_from_slice(lines.as_bytes())?;
-    }
-    assert_eq!(rt; outcome(&rt, &bytes, Mode::Run)?, Ok(131_072));
-    Ok(())
-}
-
-#[test]
-fn plans_at_most_32_faults(rt: HostRuntime) -> Result<(), Fail> {
-    let mut bytes = Vec::new(rt.alloc());
-    for number in 1..33 {
-        let line = format!(in rt.alloc(); "fault cells {number} unchanged\n")?;
-        bytes.extend_from_slice(line.as_bytes())?;
-    }
-    let Ok(script) = read_script(rt.alloc(), &bytes, Mode::Replay) else {
-        return Err(Fail::from("no script"));
-    };
-    assert_eq!(rt; script.faults.len(), 32);
-    let limit = bytes.len();
-    bytes.extend_from_slice(b"fault cells 33 unchanged")?;
-    assert_eq!(rt;
-        outcome(&rt, &bytes, Mode::Replay)?,
-        Err((33, b"too many faults".as_slice()))
-    );
-    bytes.truncate(limit);
-    bytes.extend_from_slice(b"fault cells 32 applied")?;
-    assert_eq!(rt;
-        outcome(&rt, &bytes, Mode::Replay)?,
-        Err((33, b"setup twice".as_slice()))
-    );
-    bytes.truncate(limit);
-    bytes.extend_from_slice(b"lease 1\na take")?;
-    assert_eq!(rt; outcome(&rt, &bytes, Mode::Replay)?, Ok(1));
-    Ok(())
-}
-
-#[test]
-fn counts_the_lines_of_a_script(rt: HostRuntime) -> Result<(), Fail> {
-    let rows = [
-        ("", 0),
-        ("\n\n \n", 0),
-        ("# one\n  # two \x01\n\t\n#", 0),
-        ("a take", 1),
-        ("\ta  take \t", 1),
-        ("a take\r\n\r\ns0 begin a\r\n", 2),
-        ("s15 read k4095\ns0 read k0\n", 2),
-        ("lease 5\nb take\ns0 begin b", 2),
-        (
-            "s0 write k0 aaaaaaaaaaaaaaaaaaaaaaaaaaaaaaaaaaaaaaaaaaaaaaaaaaaaaaaaaaaaaaaa",
-            1,
-        ),
-        ("s0 write k0 #", 1),
-    ];
-    for (script, count) in rows {
-        match outcome(&rt, script.as_bytes(), Mode::Replay)? {
-            Ok(lines) => assert_eq!(rt; lines, count, "{script}"),
-            Err(_) => return Err(Fail::from(script)),
-        }
-    }
-    // A comment may hold any bytes.
-    assert_eq!(rt; outcome(&rt, b"#\xff\0\r\na take", Mode::Replay)?, Ok(1));
     Ok(())
 }
 
@@ -281,25 +236,81 @@ fn sets_nothing_without_setup_lines(rt: HostRuntime) -> Result<(), Fail> {
     Ok(())
 }
 
-#[test]
-fn keeps_the_limits(rt: HostRuntime) -> Result<(), Fail> {
-    let alloc = rt.alloc();
-    let mut bytes = b"# the limit\n\n".to_vec(alloc)?;
-    for _ in 0..131_072 {
-        bytes.extend_from_slice(b"clock tick 1\n")?;
+/// The text over and over.
+fn repeated(alloc: Global, text: &str, times: usize) -> Result<Vec<u8>, Fail> {
+    let mut bytes = Vec::new(alloc);
+    for _ in 0..times {
+        bytes.extend_from_slice(text.as_bytes())?;
     }
-    assert_eq!(rt; outcome(&rt, &bytes, Mode::Replay)?, Ok(131_072));
-    bytes.extend_from_slice(b" \n# still\n\0\n")?;
-    assert_eq!(rt;
-        outcome(&rt, &bytes, Mode::Replay)?,
-        Err((131_077, b"too many lines".as_slice()))
-    );
-    let mut feeds = vec![in alloc; b'\n'; 16_777_216]?;
-    assert_eq!(rt; outcome(&rt, &feeds, Mode::Replay)?, Ok(0));
-    feeds.push(b'\n')?;
-    assert_eq!(rt;
-        outcome(&rt, &feeds, Mode::Replay)?,
-        Err((0, b"too long".as_slice()))
-    );
+    Ok(bytes)
+}
+
+/// As many planned faults as there may be, and this text behind them.
+fn behind_all_faults(alloc: Global, last: &str) -> Result<Vec<u8>, Fail> {
+    let mut bytes = Vec::new(alloc);
+    for number in 1..33 {
+        let line = format!(in alloc; "fault cells {number} unchanged\n")?;
+        bytes.extend_from_slice(line.as_bytes())?;
+    }
+    bytes.extend_from_slice(last.as_bytes())?;
+    Ok(bytes)
+}
+
+#[test]
+fn takes_as_much_as_it_may(rt: HostRuntime) -> Result<(), Fail> {
+    let rows = [
+        (behind_all_faults(rt.alloc(), "lease 1\na take")?, 1),
+        (repeated(rt.alloc(), "clock tick 1\n", 131_072)?, 131_072),
+        (repeated(rt.alloc(), "\n", 16_777_216)?, 0),
+    ];
+    for (script, count) in &rows {
+        assert!(rt; outcome(&rt, script, Mode::Run)? == Ok(*count), "{count}");
+    }
+    Ok(())
+}
+
+#[test]
+fn takes_no_more(rt: HostRuntime) -> Result<(), Fail> {
+    let rows: [(Vec<u8>, u64, &str); 4] = [
+        (
+            behind_all_faults(rt.alloc(), "fault cells 33 unchanged")?,
+            33,
+            "too many faults",
+        ),
+        (
+            behind_all_faults(rt.alloc(), "fault cells 32 applied")?,
+            33,
+            "setup twice",
+        ),
+        (
+            repeated(rt.alloc(), "clock tick 1\n", 131_073)?,
+            131_073,
+            "too many lines",
+        ),
+        (repeated(rt.alloc(), "\n", 16_777_217)?, 0, "too long"),
+    ];
+    for (script, line, cause) in &rows {
+        assert!(rt;
+            outcome(&rt, script, Mode::Replay)? == Err((*line, cause.as_bytes())),
+            "{cause}"
+        );
+    }
+    Ok(())
+}
+
+/// As many names as there are lines for, each posted and awaited.
+fn very_many_names(alloc: Global) -> Result<Vec<u8>, Fail> {
+    let mut bytes = Vec::new(alloc);
+    for number in 0..65_536 {
+        let lines = format!(in alloc; "a post n{number}\nb await n{number}\n")?;
+        bytes.extend_from_slice(lines.as_bytes())?;
+    }
+    Ok(bytes)
+}
+
+#[test]
+fn reads_very_many_names(rt: HostRuntime) -> Result<(), Fail> {
+    let script = very_many_names(rt.alloc())?;
+    assert!(rt; outcome(&rt, &script, Mode::Run)? == Ok(131_072));
     Ok(())
 }
