@@ -1,4 +1,3 @@
 pub mod Numbers
 pub mod Accounts
 pub mod Rule
-pub mod Ends

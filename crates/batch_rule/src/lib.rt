@@ -8,6 +8,3 @@ mod rule;
 
 pub use account::BatchAccount;
 pub use ring::{BatchPass, BatchRing};
-
-#[cfg(test)]
-mod tests;

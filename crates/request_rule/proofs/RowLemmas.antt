@@ -1,10 +1,11 @@
 -- Rows of senders, and a ticket more.
-use Rattle.std.proofs.Common.{◌≡◌, ℕ, ◌+◌, ◌<◌, ◌≤◌, ◌==◌, false, if◌then◌else◌, List, [], ◌∷◌, ◌++◌, All, filter, length, take, inl, inr, refl, sym, ap, ◌∙◌, take_at, append-nil, ne_eqb, eq-eqb, lt-ltb, le-ltb, arith}
-use Rattle.std.specs.Prelude.{nat_lt}
-use Rattle.std.proofs.lemmas.Bool.{cases_Bool, ltb-true, eqb-true}
+use Rattle.std.proofs.Common.{◌≡◌, ℕ, suc, ◌+◌, ◌<◌, ◌≤◌, ◌==◌, false, if◌then◌else◌, List, [], ◌∷◌, ◌++◌, All, filter, length, take, inl, inr, refl, sym, ap, ◌∙◌, take_at, append-nil, ne_eqb, eq-eqb, lt-ltb, le-ltb, arith}
+use Rattle.std.specs.Prelude.{nat_lt, sum_by}
+use Rattle.std.proofs.lemmas.Bool.{cases_Bool, ltb-true, eqb-true, eqb-false}
 use Rattle.std.proofs.lemmas.List.{map-append}
 use Rattle.std.proofs.lemmas.List.Sums.{sum_by-cons}
 use Rattle.std.proofs.lemmas.List.Elements.{All-nil, All-cons, All-head, All-tail, All-weaker, filter-append}
+use mathlib.Core.List.{cons-ne-nil}
 use Rattle.request_rule.specs.declared.account.Ticket.{Ticket}
 use Rattle.request_rule.specs.declared.account.TakenTicket.{TakenTicket}
 use Rattle.request_rule.specs.declared.account.SenderRow.{SenderRow}
@@ -78,3 +79,53 @@ one_more p n = elim (cases_Bool (n == p)) [
         | inr r ↦ omega (arith, none_of p n r, is)
       ]
 ]
+
+-- a ticket in front is one more of its sender's
+of_sender-length : (t : TakenTicket) (log : List TakenTicket) (row : SenderRow) → length (of_sender row.sender (t ∷ log)) ≡ is_of t.sender row + length (of_sender row.sender log)
+of_sender-length t log row = elim (cases_Bool (t.sender == row.sender)) [
+  | inl q ↦ let is : is_of t.sender row ≡ 1 = rw (eq-eqb row.sender t.sender (sym (eqb-true t.sender row.sender q))) refl in
+      let longer : length (of_sender row.sender (t ∷ log)) ≡ suc (length (of_sender row.sender log)) = rw q refl in
+      omega arith
+  | inr q ↦ let is : is_of t.sender row ≡ 0 = rw (ne_eqb row.sender t.sender (λ e. eqb-false t.sender row.sender q (sym e))) refl in
+      let same : length (of_sender row.sender (t ∷ log)) ≡ length (of_sender row.sender log) = rw q refl in
+      omega arith
+]
+
+-- how many tickets of the log are of the rows' senders
+abbrev logged : List TakenTicket → SenderRow → ℕ
+logged log row = length (of_sender row.sender log)
+
+none_logged : (rows : List SenderRow) → sum_by (logged []) rows ≡ 0
+none_logged [] = refl
+none_logged (row ∷ rows) = omega (arith, sum_by-cons (logged []) row rows, none_logged rows)
+
+one_more_logged : (t : TakenTicket) (log : List TakenTicket) (rows : List SenderRow) → sum_by (logged (t ∷ log)) rows ≡ rows_of t.sender rows + sum_by (logged log) rows
+one_more_logged t log [] = refl
+one_more_logged t log (row ∷ rows) = omega (
+  arith,
+  sum_by-cons (logged (t ∷ log)) row rows,
+  sum_by-cons (is_of t.sender) row rows,
+  sum_by-cons (logged log) row rows,
+  of_sender-length t log row,
+  one_more_logged t log rows,
+)
+
+-- where each sender of the log has one row, the rows' senders have the whole log
+all_logged : (log : List TakenTicket) (rows : List SenderRow) → ((sender : ℕ) → (of_sender sender log ≡ [] → ⊥) → rows_of sender rows ≡ 1) → sum_by (logged log) rows ≡ length log
+all_logged [] rows once = none_logged rows
+all_logged (t ∷ log) rows once =
+    let first : rows_of t.sender rows ≡ 1 = once t.sender (rw (eq-eqb t.sender t.sender refl) (λ e. cons-ne-nil _ _ e)) in
+    let rest = all_logged log rows (λ sender some. once sender (λ e. elim (cases_Bool (t.sender == sender)) [
+      | inl q ↦ cons-ne-nil t.ticket (of_sender sender log) (sym (rw q refl) ∙ e)
+      | inr q ↦ some (sym (rw q refl) ∙ e)
+    ])) in
+    omega (arith, one_more_logged t log rows, first, rest)
+
+put_are_logged : (log : List TakenTicket) (rows : List SenderRow) → HaveAll log rows → sum_by (λ row. length row.put) rows ≡ sum_by (logged log) rows
+put_are_logged log [] h = refl
+put_are_logged log (row ∷ rows) h =
+    let first : length row.put ≡ logged log row = ap length (All-head (Has log) row rows h) in
+    omega (arith, sum_by-cons (λ row. length row.put) row rows, sum_by-cons (logged log) row rows, first, put_are_logged log rows (All-tail (Has log) row rows h))
+
+pub all_rows : (log : List TakenTicket) (rows : List SenderRow) → ((sender : ℕ) → (of_sender sender log ≡ [] → ⊥) → rows_of sender rows ≡ 1) → HaveAll log rows → sum_by (λ row. length row.put) rows ≡ length log
+all_rows log rows once h = put_are_logged log rows h ∙ all_logged log rows once

@@ -1,7 +1,8 @@
 -- A step that puts or takes keeps the rule of a request ring, and what the rule tells.
-use Rattle.std.proofs.Common.{◌≡◌, ℕ, ◌<◌, ◌≤◌, true, List, [], ◌∷◌, ◌++◌, length, refl, sym, ap, ◌∙◌, subst, append_assoc, take_at, length-append, eq-eqb, arith, append-nil}
-use Rattle.std.specs.Prelude.{slice_set, All}
-use Rattle.std.proofs.lemmas.List.{map-append, nil_from_length}
+use Rattle.std.proofs.Common.{◌≡◌, ℕ, ◌<◌, ◌≤◌, true, List, [], ◌∷◌, ◌++◌, length, inl, inr, refl, sym, ap, ◌∙◌, subst, append_assoc, take_at, length-append, eq-eqb, arith, append-nil}
+use Rattle.std.specs.Prelude.{slice_set, All, nat_lt}
+use Rattle.std.proofs.lemmas.Bool.{cases_Bool, ltb-true, ltb-false}
+use Rattle.std.proofs.lemmas.List.{map-append, nil_from_length, length-map}
 use Rattle.std.proofs.lemmas.List.Sums.{sum_by-cons}
 use mathlib.Core.List.{cons-ne-nil, head-eq_of_cons-eq, tail-eq_of_cons-eq}
 use mathlib.Core.Option.{some}
@@ -14,8 +15,8 @@ use Rattle.request_rule.specs.declared.account.SenderRow.{SenderRow}
 use Rattle.request_rule.specs.declared.account.RequestAccount.{RequestAccount}
 use Rattle.request_rule.specs.Tickets.{taken_ticket, tickets, of_sender}
 use Rattle.request_rule.specs.Accounts.{request_account, first_account, put_in, with_put, TakesOne}
-use Rattle.request_rule.specs.Rule.{rows_of, FitsReceiver, HaveAll, IsFrontOf, AreInTurn, Tells, TookAll}
-use Rattle.request_rule.proofs.RowLemmas.{of_sender-append, of_sender-other, is_of, others_keep, first_puts, fronts_are, some_below, at_most_one}
+use Rattle.request_rule.specs.Rule.{rows_of, FitsReceiver, HaveAll, IsFrontOf, AreInTurn, Tells, TookAll, HasLeft}
+use Rattle.request_rule.proofs.RowLemmas.{of_sender-append, of_sender-other, is_of, others_keep, first_puts, fronts_are, some_below, at_most_one, all_rows}
 
 abbrev pub Fits : ℕ → ℕ → List TakenTicket → List TakenTicket → ℕ → RequestAccount → Type 0
 Fits receiver senders gone waiting pass a = FitsReceiver receiver senders gone pass a × HaveAll (gone ++ waiting) a.rows
@@ -139,3 +140,17 @@ tells_empty pass a items accounts h at = λ empty p.
     let waits = none_waits h.waiting (sym (nil_from_length items empty) ∙ h.queued) in
     let log : h.gone ++ h.waiting ≡ a.taken = ap (λ l. h.gone ++ l) waits ∙ append-nil h.gone ∙ sym (mine.0 p).1 in
     subst (λ l. HaveAll l a.rows) log mine.1
+
+pub tells_left : (pass : ℕ) (a : RequestAccount) → Learns AreInTurn pass a (λ items. HasLeft (length items) a)
+tells_left pass a items accounts h at = λ p every.
+    let mine = h.each pass a at in
+    let reads = mine.0 p in
+    let log = h.gone ++ h.waiting in
+    let here : (sender : ℕ) → (of_sender sender log ≡ [] → ⊥) → rows_of sender a.rows ≡ 1 = λ sender some. elim (cases_Bool (nat_lt sender a.senders)) [
+      | inl q ↦ every sender (ltb-true sender a.senders q)
+      | inr q ↦ absurd (some (h.made sender (let le = ltb-false sender a.senders q in let e = reads.2 in omega arith)))
+    ] in
+    let all = all_rows log a.rows here mine.1 in
+    let queued : length items ≡ length h.waiting = ap length h.queued ∙ length-map h.waiting (λ t. t.ticket) in
+    let gone : length a.taken ≡ length h.gone = ap length reads.1 in
+    omega (arith, all, queued, gone, length-append h.gone h.waiting)

@@ -1,4 +1,3 @@
 pub mod Tickets
 pub mod Accounts
 pub mod Rule
-pub mod Ends

@@ -1,5 +1,5 @@
 -- The rule of a request ring: any number of senders, and one receiver.
-use Rattle.std.specs.Prelude.{◌≡◌, ℕ, ◌≤◌, ◌==◌, nat_lt, true, List, [], ◌++◌, All, length, take, sum_by, if◌then◌else◌}
+use Rattle.std.specs.Prelude.{◌≡◌, ℕ, ◌+◌, ◌<◌, ◌≤◌, ◌==◌, nat_lt, true, List, [], ◌++◌, All, length, take, sum_by, if◌then◌else◌}
 use mathlib.Core.Option.{some}
 use lib.ListN.{get_elem?}
 use Rattle.request_rule.specs.declared.account.Ticket.{Ticket}
@@ -49,3 +49,11 @@ pub record Tells (a : RequestAccount) : Type 0 where
 -- With the receiver's account: all that was put through the senders that were joined to it was taken
 abbrev pub TookAll : RequestAccount → Type 0
 TookAll a = a.receives ≡ true → HaveAll a.taken a.rows
+
+-- every sender that was made is here, as far as the account tells
+abbrev pub HasEverySender : RequestAccount → Type 0
+HasEverySender a = (sender : ℕ) → sender < a.senders → rows_of sender a.rows ≡ 1
+
+-- With the receiver's account and every sender's: just so many of the tickets that were put were not taken
+abbrev pub HasLeft : ℕ → RequestAccount → Type 0
+HasLeft count a = a.receives ≡ true → HasEverySender a → sum_by (λ row. length row.put) a.rows ≡ length a.taken + count

@@ -7,6 +7,3 @@ mod rule;
 
 pub use account::{RequestAccount, SenderRow, TakenTicket, Ticket};
 pub use ring::{RequestPass, RequestRing};
-
-#[cfg(test)]
-mod tests;

@@ -1,7 +1,7 @@
-ghost use Rattle.std.specs.Prelude.{◌≡◌, ◌<◌, true, length, IfOk, IfNone, MatchResult, MatchOption};
+ghost use Rattle.std.specs.Prelude.{◌≡◌, ◌<◌, true, length, IfOk, IfErr, IfNone, MatchResult, MatchOption};
 ghost use Rattle.queue_passes.specs.Holds.{holds};
 ghost use Rattle.request_rule.specs.Accounts.{first_account, sender_account, with_sender, with_put, joined, TakesOne};
-ghost use Rattle.request_rule.specs.Rule.{Tells, TookAll};
+ghost use Rattle.request_rule.specs.Rule.{Tells, TookAll, HasLeft};
 
 use crate::account::Ticket;
 use crate::rule::{Put, Ruled, RuledPass, Sender, Taken, Together, Told};
@@ -75,7 +75,8 @@ impl RequestRing {
     ) -> Result<(), Ticket>
         requires ring { pass.old.ring ≡ self.now.id }
         requires sender { 0 < length pass.old.account.rows }
-        ensures { MatchResult result (λ _. pass.new ≡ holds self.now.id (with_put pass.old.account ticket)) (λ back. (back ≡ ticket) × (pass.new ≡ pass.old)) }
+        ensures put { MatchResult result (λ _. pass.new ≡ holds self.now.id (with_put pass.old.account ticket)) (λ back. (back ≡ ticket) × (pass.new ≡ pass.old)) }
+        ensures full { IfErr result (λ _. HasLeft self.now.room pass.old.account) }
     {
         self.ruled.push_as::<Put, R>(rt, &mut pass.pass, ticket)
     }

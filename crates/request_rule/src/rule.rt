@@ -52,9 +52,10 @@ impl Outcome<Ticket, RequestAccount> for Put {
 }
 
 impl Lesson<Ticket, RequestAccount> for Put {
-    ghost use Rattle.std.specs.Prelude.{⊤};
+    ghost use Rattle.std.specs.Prelude.{length};
+    ghost use Rattle.request_rule.specs.Rule.{HasLeft};
 
-    ghost fact = { λ account items. ⊤ };
+    ghost fact = { λ account items. HasLeft (length items) account };
 }
 
 /// A ticket is taken.

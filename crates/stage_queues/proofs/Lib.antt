@@ -2,4 +2,3 @@ mod JoinLemmas
 mod OpeningLemmas
 pub mod PlaceLemmas
 mod NewLemmas
-mod ByHandLemmas

@@ -4,7 +4,6 @@ pub mod Passes
 pub mod Opening
 pub mod Laws
 pub mod Halfway
-pub mod ByHand
 pub use Rattle.queue_passes.specs.Holds
 pub use Rattle.request_rule.specs.Rule as RequestRule
 pub use Rattle.batch_rule.specs.Rule as BatchRule

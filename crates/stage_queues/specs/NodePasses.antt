@@ -64,6 +64,10 @@ TakesTicket ticket old new = TakesOneOf ticket old.requests new.requests × (new
 abbrev pub TookAllTickets : NodePass → Type 0
 TookAllTickets n = IfSome n.requests (λ p. request_rule.TookAll p.account)
 
+-- so many tickets that were put through the senders that are joined here were not taken
+abbrev pub HasLeftTickets : ℕ → NodePass → Type 0
+HasLeftTickets count n = IfSome n.requests (λ p. request_rule.HasLeft count p.account)
+
 -- so many batches that were put through the passes that are joined here were not taken through them
 abbrev pub HasLeftBatches : ℕ → NodePass → Type 0
 HasLeftBatches count n = IfSome n.batches (λ p. batch_rule.HasLeft count p.account)

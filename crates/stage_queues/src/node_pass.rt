@@ -1,5 +1,5 @@
 ghost use Rattle.std.specs.Prelude.{◌≡◌, IsSomeAnd, IfNone, IfErr, MatchOption, MatchResult};
-ghost use Rattle.stage_queues.specs.NodePasses.{nothing, ticket_put, batch_put, batch_taken, settled_put, settled_taken, TakesTicket, MaySendTicket, MayTakeTicket, MaySendBatch, IsOfRing, TookAllTickets, HasLeftBatches, HasLeftSettled};
+ghost use Rattle.stage_queues.specs.NodePasses.{nothing, ticket_put, batch_put, batch_taken, settled_put, settled_taken, TakesTicket, MaySendTicket, MayTakeTicket, MaySendBatch, IsOfRing, TookAllTickets, HasLeftTickets, HasLeftBatches, HasLeftSettled};
 
 use batch_rule::{BatchPass, BatchRing};
 use persist_batches::Numbered;
@@ -40,7 +40,8 @@ impl NodePass {
         ticket: Ticket,
     ) -> Result<(), Ticket>
         requires { MaySendTicket ring.now self.old }
-        ensures { MatchResult result (λ _. self.new ≡ ticket_put ticket self.old) (λ back. (back ≡ ticket) × (self.new ≡ self.old)) }
+        ensures put { MatchResult result (λ _. self.new ≡ ticket_put ticket self.old) (λ back. (back ≡ ticket) × (self.new ≡ self.old)) }
+        ensures full { IfErr result (λ _. HasLeftTickets ring.now.room self.old) }
     {
         match &mut self.requests {
             Some(pass) => ring.send(rt, pass, ticket),

@@ -1,5 +1,5 @@
-ghost use Rattle.std.specs.Prelude.{◌≡◌, IfNone, MatchOption, MatchResult};
-ghost use Rattle.stage_queues.specs.NodePasses.{ticket_put, TakesTicket, TookAllTickets};
+ghost use Rattle.std.specs.Prelude.{◌≡◌, IfErr, IfNone, MatchOption, MatchResult};
+ghost use Rattle.stage_queues.specs.NodePasses.{ticket_put, TakesTicket, TookAllTickets, HasLeftTickets};
 ghost use Rattle.stage_queues.specs.Passes.{at_node, with_node, SendsTickets, ReceivesTickets};
 ghost use Rattle.stage_queues.specs.Plan.{node_ring};
 
@@ -39,7 +39,8 @@ impl RequestQueue {
     /// Sends a ticket and wakes the request stage. Err only where the queue was full at that step.
     pub fn send<R: Wait>(&self, rt: &R, pass: &mut StagePass, ticket: Ticket) -> Result<(), Ticket>
         requires { SendsTickets self.now pass.old }
-        ensures { MatchResult result (λ _. pass.new ≡ with_node pass.old self.now.node (ticket_put ticket (at_node pass.old self.now.node))) (λ back. (back ≡ ticket) × (pass.new ≡ pass.old)) }
+        ensures put { MatchResult result (λ _. pass.new ≡ with_node pass.old self.now.node (ticket_put ticket (at_node pass.old self.now.node))) (λ back. (back ≡ ticket) × (pass.new ≡ pass.old)) }
+        ensures full { IfErr result (λ _. HasLeftTickets self.now.ring.room (at_node pass.old self.now.node)) }
     {
         pass.nodes[self.node].send_ticket(rt, &self.ring, ticket)?;
         self.reader.unpark();

@@ -1,11 +1,9 @@
-ghost use Rattle.std.specs.Prelude.{◌≡◌, All, IfSome};
-ghost use Rattle.stage_queues.specs.Opening.{IsNew};
+ghost use Rattle.std.specs.Prelude.{◌≡◌, IfSome};
 
 use super::*;
 use stamp_base::{NodeNo, Setup};
 use std::test::Fail;
 
-mod by_hand;
 mod closing;
 
 fn one_worker() -> Setup
@@ -48,26 +46,5 @@ fn a_pool_that_is_out(rt: HostRuntime) -> Result<(), Fail> {
         .ok_or("a batch again")?;
     assert_eq!(rt; again.slot(), 1);
     assert!(rt; queues.take_batch(&rt, node, &mut pass).is_none());
-    Ok(())
-}
-
-fn join_all(queues: &Queues, passes: Vec<StagePass>) -> Option<StagePass>
-    requires { All (IsNew queues.now) passes.items }
-    ensures { IfSome result (λ p. p.held ≡ 0) }
-{
-    let mut passes = passes;
-    let mut all = passes.pop()?;
-    while let Some(other) = passes.pop() {
-        all = all.join(queues, other);
-    }
-    Some(all)
-}
-
-#[test]
-fn new_passes_join(rt: HostRuntime) -> Result<(), Fail> {
-    let (queues, passes) = Queues::open(rt.alloc(), &Setup::default(), 3)?;
-    assert_eq!(rt; passes.len(), 11);
-    let all = join_all(&queues, passes).ok_or("a pass")?;
-    assert_eq!(rt; (all.held(), all.worker()), (0, 0));
     Ok(())
 }

@@ -1,5 +1,0 @@
-use Rattle.std.specs.Prelude.{◌≡◌}
-use Rattle.batch_rule.proofs.tests.send_one.Given as goal
-
-abbrev pub invariant-loop : goal.invariant-loop
-invariant-loop g l = (l.pass ≡ l.fn.pass) × (l.batch ≡ l.fn.batch)
