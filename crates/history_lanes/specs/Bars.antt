@@ -1,0 +1,77 @@
+-- The bars of a picture: a transaction's from its begin to its end, and a lease's from its grant to its end by the base clock.
+use Rattle.std.specs.Prelude.{ℕ, ◌+◌, ◌==◌, Bool, true, false, ◌&&◌, if◌then◌else◌, leb, List, [], ◌∷◌, Option, None, Some, drop}
+use Rattle.history_book.specs.declared.cause.Cause.{Cause}
+use Rattle.history_book.specs.declared.cause.Cause.TheVariants as cause
+use Rattle.history_book.specs.declared.item.Actor.{Actor}
+use Rattle.history_book.specs.declared.item.Actor.TheVariants.{Session}
+use Rattle.history_book.specs.declared.item.Ending.{Ending}
+use Rattle.history_book.specs.declared.item.Ending.TheVariants as ending
+use Rattle.history_book.specs.declared.item.Item.{Item}
+use Rattle.history_book.specs.declared.item.Item.TheVariants as item
+use Rattle.history_lanes.specs.declared.bar.Bar.{Bar}
+use Rattle.history_lanes.specs.declared.bar.BarKind.{BarKind}
+use Rattle.history_lanes.specs.declared.bar.BarKind.TheVariants as kind
+
+-- a commit that is refused by this cause will not be placed, or is of no use to the session any more; after an open outcome
+-- the transaction goes on
+abbrev pub ends_transaction : Cause → Bool
+ends_transaction (cause.Conflict key by) = true
+ends_transaction (cause.Hidden key water) = true
+ends_transaction (cause.OldEpoch start epoch) = true
+ends_transaction (cause.Expired reading until) = true
+ends_transaction (cause.Replaced found) = true
+ends_transaction (cause.Spent ceiling) = true
+ends_transaction (cause.Invalid start) = true
+ends_transaction _ = false
+
+abbrev pub is_of_session : ℕ → Actor → Bool
+is_of_session s (Session session) = session == s
+is_of_session s _ = false
+
+abbrev pub kind_of : Ending → BarKind
+kind_of ending.ReadOnly = kind.Committed
+kind_of ending.Aborted = kind.Aborted
+kind_of ending.Dead = kind.Dead
+
+abbrev pub if_so : Bool → BarKind → Option BarKind
+if_so holds found = if holds then Some found else None
+
+-- how the item ends the transaction that the session has: told, refused, or left behind
+abbrev pub ends_for : ℕ → Item → Option BarKind
+ends_for s (item.Committed session start commit) = if_so (session == s) kind.Committed
+ends_for s (item.End session start how) = if_so (session == s) (kind_of how)
+ends_for s (item.Refused actor why) = if_so (is_of_session s actor && ends_transaction why) kind.Refused
+ends_for s (item.Vanish session) = if_so (session == s) kind.Open
+ends_for s (item.Begin session start) = if_so (session == s) kind.Open
+ends_for s _ = None
+
+-- the item ends the lease that the node has until then: another grant, a crash, or the base clock
+abbrev pub ends_lease : ℕ → ℕ → Item → Option BarKind
+ends_lease n until (item.Take node reading term epoch end ceiling) = if_so (node == n) kind.Lease
+ends_lease n until (item.Renew node reading term end) = if_so (node == n) kind.Lease
+ends_lease n until (item.Crash node term) = if_so (node == n) kind.Lease
+ends_lease n until (item.Tick to) = if_so (leb until to) kind.Lease
+ends_lease n until _ = None
+
+-- how the item ends the bar that the first one opens
+abbrev pub closing : Item → Item → Option BarKind
+closing (item.Begin session start) x = ends_for session x
+closing (item.Take node reading term epoch until ceiling) x = ends_lease node until x
+closing (item.Renew node reading term until) x = ends_lease node until x
+closing _ x = None
+
+abbrev pub bar_or : Option BarKind → ℕ → Bar → Bar
+bar_or None place rest = rest
+bar_or (Some found) place rest = record { to = place; kind = found }
+
+-- the bar to the first of the items that ends it, the first of which stands at the place; past the last where none does
+unfoldable pub bar_to : Item → BarKind → ℕ → List Item → Bar
+bar_to opener left place [] = record { to = place; kind = left }
+bar_to opener left place (x ∷ xs) = bar_or (closing opener x) place (bar_to opener left (place + 1) xs)
+
+-- the bar that the item at the place opens, where it opens one
+abbrev pub bar_of : List Item → ℕ → Item → Option Bar
+bar_of items place (item.Begin session start) = Some (bar_to (item.Begin session start) kind.Open (place + 1) (drop (place + 1) items))
+bar_of items place (item.Take node reading term epoch until ceiling) = Some (bar_to (item.Take node reading term epoch until ceiling) kind.Lease (place + 1) (drop (place + 1) items))
+bar_of items place (item.Renew node reading term until) = Some (bar_to (item.Renew node reading term until) kind.Lease (place + 1) (drop (place + 1) items))
+bar_of items place _ = None

@@ -1,0 +1,4 @@
+pub mod Lanes
+pub mod Bars
+pub mod Shown
+pub mod Signs
