@@ -1,0 +1,4 @@
+pub mod LatestRows
+pub mod MemberRows
+pub mod Snapshots
+pub mod KeptRows
