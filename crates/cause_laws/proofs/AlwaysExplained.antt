@@ -51,7 +51,7 @@ shows_stay w h e fate stands steady shows =
       vacant = after_deed w h AreVacant step.state.nodes step.items by (vacant_kept w h by.deed stands shows);
       stops = subst (λ s. AreShownStops s step.state.nodes (h ++ step.items)) (sym setup) (after_deed w h (AreShownStops w.setup) step.state.nodes step.items by (stops_kept w h by.deed stands shows));
       lasts = after_deed w h AreLasts step.state.nodes step.items by (lasts_kept w h by.deed stands shows);
-      master = record_kept w h e fate stands shows.master;
+      master = record_kept w h e fate stands steady shows.master;
       marked = marked_kept w h e fate stands shows.marked;
       gone = gone_kept w h e fate stands shows.gone;
     }
