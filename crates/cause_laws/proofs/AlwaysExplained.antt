@@ -43,7 +43,7 @@ shows_stay w h e fate stands steady shows =
     let by : DeedOf w step.state.nodes step.items = deed_of w h e fate stands steady in
     let setup : step.state.setup ≡ w.setup = (leaves_parts w e fate).setup in
     record {
-      sixteen = clients_stay w e fate ∙ shows.sixteen;
+      sixteen = clients_stay w h e fate stands steady ∙ shows.sixteen;
       asked = after_deed w h AreAsked step.state.nodes step.items by (asked_kept w h by.deed stands shows);
       faulted = after_deed w h AreFaulted step.state.nodes step.items by (faulted_kept w h by.deed stands shows);
       open_asks = subst (λ s. AreOpenAsks s step.state.nodes (h ++ step.items)) (sym setup) (after_deed w h (AreOpenAsks w.setup) step.state.nodes step.items by (open_asks_kept w h by.deed stands shows shows.sixteen));
@@ -51,9 +51,9 @@ shows_stay w h e fate stands steady shows =
       vacant = after_deed w h AreVacant step.state.nodes step.items by (vacant_kept w h by.deed stands shows);
       stops = subst (λ s. AreShownStops s step.state.nodes (h ++ step.items)) (sym setup) (after_deed w h (AreShownStops w.setup) step.state.nodes step.items by (stops_kept w h by.deed stands shows));
       lasts = after_deed w h AreLasts step.state.nodes step.items by (lasts_kept w h by.deed stands shows);
-      master = record_kept w h e fate stands shows.master;
+      master = record_kept w h e fate stands steady shows.master;
       marked = marked_kept w h e fate stands shows.marked;
-      gone = gone_kept w h e fate stands shows.gone;
+      gone = gone_kept w h e fate stands steady shows.gone;
     }
 
 -- each refusal that it appends is shown

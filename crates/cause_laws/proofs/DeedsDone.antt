@@ -25,7 +25,7 @@ use Rattle.machine.specs.declared.event.Event.{Event}
 use Rattle.port_io.specs.declared.weather.Fate.{Fate}
 use Rattle.machine.specs.State.{State}
 use Rattle.machine.specs.StoreSteps.{told_by}
-use Rattle.machine.specs.Machine.{Step, stepped, reading_of, IsSteadyAt}
+use Rattle.machine.specs.Machine.{stepped, reading_of, IsSteadyAt}
 use Rattle.machine.specs.Events.Fetch.{found_of, read_items}
 use Rattle.machine.specs.Events.Crash.{all_crashed_items}
 use Rattle.machine.specs.Events.Step.{settle_items}
@@ -40,9 +40,8 @@ use Rattle.isolation_laws.proofs.OutcomesOfWork.{OutcomeStepped, fetched_turn, r
 use Rattle.isolation_laws.proofs.Outcomes.{Outcome, OfStill, OfGranted, OfRenewed, OfExtended, OfCrashed, OfAskedBegin, OfAskedCommit, OfAccepted, OfEnded, OfDrew, OfPlaced, OfNotPlaced, OfAnsweredBegin, OfAnsweredCommit, OfEndedReadOnly, OfWrote, OfWriteFailed, OfAborted, OfVanished, OfHealed, OfFetched, OfReadDropped, OfReadStepped, OfOutcome, OfOutcomeFailed, OfCompleted, OfSweepOpened, OfSwept, OfSweepListed, OfSweepFailed, left_by, told_by_outcome}
 use Rattle.isolation_laws.proofs.NumbersKept.{in_flight_of, drawn_pending}
 use Rattle.isolation_laws.proofs.Owners.{has_drew}
-use Rattle.isolation_laws.proofs.InversionParts.{ComesBy}
 use Rattle.isolation_laws.proofs.InversionOfAnswers.{not_invalid}
-use Rattle.isolation_laws.proofs.AlwaysHolds.{comes_by}
+use Rattle.isolation_laws.proofs.AlwaysHolds.{each_outcome}
 use Rattle.cause_laws.proofs.Deeds.{Serving, EndsFor, OfRested, OfTook, OfRenewed, OfWidened, OfStopped, OfCrashed, OfAsked, OfAccepted, OfDrew, OfSettled, OfTold, OfEnded, OfLearned, DeedOf}
 use Rattle.cause_laws.proofs.HeldAsks.{own_requests, all_losses, holds_none}
 
@@ -229,10 +228,5 @@ outcome_deed w h (OfSweepListed k) holds = rests w _ (one_silent (item.Step Jani
 outcome_deed w h (OfSweepFailed k) holds = rests w k.items k.silent
 
 -- ---- one event
-by_outcome : (w : State) (h : List Item) (step : Step) → Holds w h → ComesBy w step → DeedOf w step.state.nodes step.items
-by_outcome w h step holds (o, state, items) =
-    let by : DeedOf w (left_by w o).nodes (told_by_outcome w o) = outcome_deed w h o holds in
-    record { deed = by.deed; leaves = ap (λ (v : State). v.nodes) state ∙ by.leaves; tells = items ∙ by.tells }
-
 pub deed_of : (w : State) (h : List Item) (e : Event) (fate : Fate) → Stands w h → IsSteadyAt w.setup.skew w.seen (reading_of e) → DeedOf w (stepped w e fate).state.nodes (stepped w e fate).items
-deed_of w h e fate both steady = by_outcome w h (stepped w e fate) both.holds (comes_by w h e fate both steady)
+deed_of w h e fate both steady = each_outcome (λ v items. DeedOf w v.nodes items) w h e fate both steady (λ o. outcome_deed w h o both.holds)

@@ -37,9 +37,9 @@ pub mod RecordShown
 pub mod HeldCounts
 pub mod OpenAsksKept
 pub mod MarksShown
-pub mod ClientsStay
 pub mod MarksTold
 pub mod GoneOnly
-pub mod GoneOfSessions
+pub mod ClientsMoved
+pub mod ClientsStay
 pub mod GoneShown
 pub mod AlwaysExplained

@@ -64,6 +64,12 @@ setup_stays w step (o, state, items) = ap (λ (v : State). v.setup) state ∙ se
 pub comes_by : (w : State) (h : List Item) (e : Event) (fate : Fate) → Stands w h → IsSteadyAt w.setup.skew w.seen (reading_of e) → ComesBy w (stepped w e fate)
 comes_by w h e fate both steady = comes_to w h e fate both.holds both.sound steady
 
+-- what each outcome of an event makes so, the event makes so
+pub each_outcome : (P : State → List Item → Type 0) (w : State) (h : List Item) (e : Event) (fate : Fate) → Stands w h → IsSteadyAt w.setup.skew w.seen (reading_of e) → ((o : Outcome w) → P (left_by w o) (told_by_outcome w o)) → P (stepped w e fate).state (stepped w e fate).items
+each_outcome P w h e fate both steady each =
+    let come : ComesBy w (stepped w e fate) = comes_by w h e fate both steady in
+    subst (λ (v : State). P v (stepped w e fate).items) (sym come.1) (subst (λ (items : List Item). P (left_by w come.0) items) (sym come.2) (each come.0))
+
 pub facts_stay : (w : State) (h : List Item) (e : Event) (fate : Fate) → Stands w h → IsSteadyAt w.setup.skew w.seen (reading_of e) → Stands (stepped w e fate).state (h ++ (stepped w e fate).items)
 facts_stay w h e fate both steady = come_soundly w h (stepped w e fate) both (comes_by w h e fate both steady)
 

@@ -88,6 +88,7 @@ vanish_comes w session c at None mild = (
     c = c;
     client_at = at;
     items = item.Vanish session ∷ [];
+    tells = refl;
     quiet = one_quiet (item.Vanish session) refl;
     silent = one_silent (item.Vanish session) refl;
   }),

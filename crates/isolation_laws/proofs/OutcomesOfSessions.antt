@@ -75,6 +75,7 @@ pub record Vanished (w : State) : Type 0 where
   pub c : Client
   pub client_at : ClientAt w.clients session c
   pub items : List Item
+  pub tells : items ≡ item.Vanish session ∷ []
   pub quiet : AllQuiet items
   pub silent : AllSilent items
 
