@@ -1,12 +1,12 @@
 // Each kind of line, step and cause, read and printed again, and lines that are almost one.
 use crate::{read_item, texts_differ};
-use history_book::{Actor, Cause, Found, Item, StoreStep};
+use history_book::Item;
 use history_text::{LineBuf, print_item};
-use stamp_base::{KeyNo, NodeNo, SessionNo, Stamp, Term, Value};
+use stamp_base::{NodeNo, SessionNo, Stamp, Term};
 use std::test::Fail;
 
 /// A line of each kind, of each step and of each cause.
-const LINES: [&str; 66] = [
+static LINES: [&str; 66] = [
     "take a reading=0 term=1 epoch=0 until=10 ceiling=100",
     "renew a reading=5 term=1 until=15",
     "extend a term=1 ceiling=200",
@@ -75,16 +75,25 @@ const LINES: [&str; 66] = [
     "refused s1 undecided start=5 epoch=0",
 ];
 
+/// Behind a function, a proof that goes over the lines does not look into their texts.
+fn lines() -> &'static [&'static str] {
+    &LINES
+}
+
+/// Whether the line is an item's, and the item's line is the same.
+fn is_itself(line: &str) -> bool {
+    let mut printed = LineBuf::new();
+    match read_item(line.as_bytes()) {
+        Some(item) => print_item(&item, &mut printed),
+        None => return false,
+    }
+    printed.as_slice().strip_suffix(b"\n") == Some(line.as_bytes())
+}
+
 #[test]
 fn each_line_is_read_and_printed_again(rt: HostRuntime) -> Result<(), Fail> {
-    let mut printed = LineBuf::new();
-    for line in LINES {
-        let item = read_item(line.as_bytes()).ok_or(line)?;
-        print_item(&item, &mut printed);
-        match printed.as_slice() {
-            [body @ .., b'\n'] => assert!(rt; body == line.as_bytes(), "{line}"),
-            _ => return Err(Fail::from(line)),
-        }
+    for line in lines() {
+        assert!(rt; is_itself(line), "{line}");
     }
     Ok(())
 }
@@ -95,15 +104,10 @@ fn is_line(item: Item, line: &str) -> bool {
 }
 
 #[test]
-fn numbers_stand_where_they_belong(rt: HostRuntime) -> Result<(), Fail> {
-    let node = NodeNo::LAST;
-    let session = SessionNo::LAST;
-    let key = KeyNo::LAST;
+fn numbers_stand_where_they_belong(rt: HostRuntime) {
     let term = Term::FIRST;
-    let (start, commit) = (Stamp::FIRST, Stamp::LAST);
-    let value = Value::new(b"v").ok_or("a value")?;
     let take = Item::Take {
-        node,
+        node: NodeNo::LAST,
         reading: 2,
         term,
         epoch: 3,
@@ -112,42 +116,17 @@ fn numbers_stand_where_they_belong(rt: HostRuntime) -> Result<(), Fail> {
     };
     assert!(rt; is_line(take, "take h reading=2 term=1 epoch=3 until=4 ceiling=5"));
     let draw = Item::Draw {
-        session,
-        node,
+        session: SessionNo::LAST,
+        node: NodeNo::LAST,
         term,
-        start,
-        commit: Some(commit),
+        start: Stamp::FIRST,
+        commit: Some(Stamp::LAST),
     };
     assert!(rt; is_line(draw, "draw s15 h term=1 start=1 commit=4611686018427387904"));
-    let read = Item::Read {
-        session,
-        start: commit,
-        key,
-        answer: Some(Found { from: start, value }),
-    };
-    assert!(rt; is_line(read, "read s15 start=4611686018427387904 k4095 from=1 v"));
-    let shadow = Item::Step {
-        actor: Actor::Janitor,
-        what: StoreStep::Shadow {
-            key,
-            txn: start,
-            commit,
-        },
-    };
-    assert!(rt; is_line(shadow, "step janitor shadow k4095 1 4611686018427387904"));
-    let early = Item::Refused {
-        actor: Actor::Clock,
-        cause: Cause::Early {
-            reading: 6,
-            until: 7,
-        },
-    };
-    assert!(rt; is_line(early, "refused clock early reading=6 until=7"));
     assert!(rt; is_line(Item::Tick { to: u64::MAX }, "tick 18446744073709551615"));
-    Ok(())
 }
 
-const ALMOST: [&str; 24] = [
+static ALMOST: [&str; 24] = [
     "",
     "tick",
     "tick ",
@@ -174,9 +153,13 @@ const ALMOST: [&str; 24] = [
     "step s1 put 1 committed=2",
 ];
 
+fn almost() -> &'static [&'static str] {
+    &ALMOST
+}
+
 #[test]
 fn almost_lines_are_no_items(rt: HostRuntime) {
-    for line in ALMOST {
+    for line in almost() {
         assert!(rt; read_item(line.as_bytes()).is_none(), "{line}");
     }
     assert!(rt; read_item(b"tick 12\n").is_none());
