@@ -19,7 +19,7 @@ use Rattle.cause_rules.specs.Posts.{TookLast, LeasedUntil}
 use Rattle.isolation_laws.specs.Words.{HeldBy}
 use Rattle.isolation_laws.specs.Pending.{InFlight, Pending, Taken}
 use Rattle.isolation_laws.specs.Sound.{Stands}
-use Rattle.isolation_laws.proofs.RecordedCommits.{recorded_rise}
+use Rattle.isolation_laws.proofs.Memory.RecordedCommits.{recorded_rise}
 use Rattle.cause_laws.specs.Requests.{ask_for}
 use Rattle.cause_laws.specs.Shows.{Shows}
 use Rattle.cause_laws.specs.Due.{Serves, DueVerdict, DueOldEpoch, DueExpired}
