@@ -1,3 +1,4 @@
+-- For cluster_core too.
 -- The numbers of the state are in bounds at first, and each event keeps them so.
 use Rattle.std.proofs.Common.{◌≡◌, ℕ, ◌≤◌, max, List, Option, Some, None, refl, sym, ◌∙◌, ap, subst, arith}
 use Rattle.std.specs.Prelude.{◌^◌}

@@ -1,3 +1,4 @@
+-- For cluster_core too.
 -- What asks, the calls of a node on its requests, and its crash need follows from whom requests wait for.
 use Rattle.std.proofs.Common.{◌≡◌, ℕ, List, Option, Some, None, ◌⊎◌, inl, inr, refl, sym, ap, subst}
 use Rattle.std.proofs.lemmas.Option.{same_Some, none-some}

@@ -1,3 +1,4 @@
+-- For cluster_core too.
 -- What the calls of sessions and of the janitor on the stores need follows from the facts of cells and of what is under way.
 use Rattle.std.proofs.Common.{◌≡◌, ℕ, ◌<◌, ◌≤◌, Bool, true, false, List, [], ◌∷◌, Option, Some, None, inl, inr, refl, sym, subst, arith}
 use Rattle.std.specs.Prelude.{All, IfSome}

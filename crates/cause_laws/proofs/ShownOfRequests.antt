@@ -1,3 +1,4 @@
+-- For planned_laws too.
 -- What is due of a request is shown: by its ask, its term and its draw, and by the facts of isolation.
 use Rattle.std.proofs.Common.{◌≡◌, ◌≢◌, ℕ, List, Option, None, Some, refl, sym, ◌∙◌, ap, subst, Contains}
 use Rattle.std.specs.Option.{option_or}

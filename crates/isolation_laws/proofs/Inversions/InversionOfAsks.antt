@@ -1,3 +1,4 @@
+-- For cause_laws too.
 -- What a crash and the asks of a session come to.
 use Rattle.std.proofs.Common.{◌≡◌, ◌≢◌, ℕ, ◌==◌, Bool, true, false, if◌then◌else◌, List, [], ◌∷◌, Option, Some, None, refl, ap, arith}
 use Rattle.std.specs.Prelude.{slice_get, slice_set, Ok}

@@ -1,3 +1,4 @@
+-- For call_laws too.
 -- What an extension comes to.
 use Rattle.std.proofs.Common.{[], ◌≡◌, ℕ, ◌+◌, ◌==◌, Bool, true, false, if◌then◌else◌, List, ◌∷◌, Option, Some, None, inr, refl, arith}
 use Rattle.std.specs.Prelude.{slice_get}

@@ -1,3 +1,4 @@
+-- For call_laws too.
 -- What the events of a session alone come to, but for a fetch: an abort, a vanish, a write, a heal.
 use Rattle.std.proofs.Common.{[], ◌≡◌, ℕ, Bool, true, false, if◌then◌else◌, List, ◌∷◌, Option, Some, None, ◌⊎◌, inl, inr, refl}
 use Rattle.std.specs.Option.{option_or}

@@ -1,3 +1,4 @@
+-- For cause_laws too.
 -- The pairs that the commits drawn in a term record: each key that was written is among them, and commits rise.
 use Rattle.std.proofs.Common.{◌≡◌, ◌≢◌, ℕ, zero, suc, ◌≤◌, ◌==◌, true, List, [], ◌∷◌, ◌++◌, take, Option, Some, None, inl, inr, refl, sym, ◌∙◌, ap, subst, arith, All, Contains}
 use Rattle.std.specs.Option.{option_or}

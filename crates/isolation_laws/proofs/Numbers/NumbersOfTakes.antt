@@ -1,3 +1,4 @@
+-- For call_laws too.
 -- Stamps, terms and leases where the master record is taken.
 use Rattle.std.proofs.Common.{◌≡◌, ◌≢◌, ℕ, ◌+◌, ◌≤◌, max, nat_lt, Bool, true, false, ◌&&◌, if◌then◌else◌, List, ◌++◌, Option, Some, None, is_some, ◌⊎◌, inl, inr, refl, sym, ◌∙◌, ap, subst, arith}
 use Rattle.std.specs.Prelude.{slice_set, IsSome}

@@ -1,3 +1,4 @@
+-- For cause_laws too.
 -- The commits in flight of a list of nodes, by the instance that holds them, and where one instance takes the place of another.
 use Rattle.std.proofs.Common.{◌≡◌, ◌≢◌, ℕ, zero, suc, List, Option, Some, None, inl, inr, refl, sym, ◌∙◌, ap, subst}
 use Rattle.std.specs.Prelude.{slice_set, slice_index_or, replicate}
