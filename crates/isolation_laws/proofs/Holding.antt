@@ -6,5 +6,6 @@ pub mod IsolatedStamps
 pub mod OpeningSessions
 pub mod Opening
 pub mod NeverPlaced
+pub mod NeverAgain
 pub mod LostCommits
 pub mod ReadsAndTerms

@@ -1,6 +1,5 @@
--- What is marked before it is placed, and what is neither open nor in flight, is never placed.
+-- An outcome places nothing that is marked before it is placed, and nothing that is neither open nor in flight.
 use Rattle.std.proofs.Common.{◌≡◌, ℕ, List, [], ◌∷◌, ◌++◌, append_assoc, ◌⊎◌, inl, inr, refl, sym, ◌∙◌, ap, subst}
-use Rattle.std.proofs.lemmas.List.{append-nil}
 use Rattle.std.proofs.lemmas.Option.{none-some}
 use Rattle.stamp_base.specs.declared.stores.Mark.TheVariants.{Invalid as InvalidMark}
 use Rattle.history_book.specs.Isolation.{Committed}
@@ -12,25 +11,21 @@ use Rattle.client_parts.specs.Resolve.{settle_ask}
 use Rattle.store_parts.specs.Pairs.{mark_of}
 use Rattle.machine.specs.State.{State}
 use Rattle.machine.specs.StoreSteps.{pairs_after}
-use Rattle.machine.specs.Machine.{Step, stepped, Move, state_after, items_after, AreSteady}
 use Rattle.isolation_laws.specs.Words.{Marked, Begun}
 use Rattle.isolation_laws.specs.Pending.{Live}
 use Rattle.isolation_laws.specs.Holds.{Holds}
 use Rattle.isolation_laws.proofs.Holding.Frames.{live_framed}
 use Rattle.isolation_laws.proofs.Holding.Framed.{framed}
-use Rattle.isolation_laws.specs.Sound.{Stands}
 use Rattle.isolation_laws.specs.Laws.{IsMarkedFirst, IsLost}
 use Rattle.isolation_laws.proofs.Pushed.{old_placed}
 use Rattle.isolation_laws.proofs.Outcome.OutcomesOfStamps.{PlacedOne, placed_items}
 use Rattle.isolation_laws.proofs.Outcome.Outcomes.{Outcome, OfGranted, OfRenewed, OfExtended, OfAskedBegin, OfAskedCommit, OfAccepted, OfDrew, OfPlaced, OfAnsweredBegin, OfWrote, OfFetched, OfReadDropped, OfReadStepped, OfOutcome, OfOutcomeFailed, OfCompleted, OfSwept, OfSweepListed, OfSweepFailed, left_by, told_by_outcome}
-use Rattle.isolation_laws.proofs.Inversions.InversionParts.{ComesBy}
 use Rattle.isolation_laws.proofs.Holding.IsolatedItems.{Stamping, StampsNone, StampsPlaced, StampsBegin, stamping, placed_old}
 use Rattle.isolation_laws.proofs.Stores.StoresStay.{MarksStay, marks_put, marks_after, marks_may, marks_if}
 use Rattle.isolation_laws.proofs.Requests.PendingFewer.{fewer_granted, fewer_renewed, fewer_extended, fewer_asked_begin, fewer_settled}
 use Rattle.isolation_laws.proofs.Requests.OpenAfter.{fewer_open_asked_begin, fewer_open_wrote, fewer_open_fetched, fewer_open_read}
 use Rattle.isolation_laws.proofs.Stores.LiveAfter.{fewer_live, live_by_clients, live_by_nodes, live_asked_commit, live_accepted, live_drew, live_answered_begin}
 use Rattle.isolation_laws.proofs.Numbers.NumbersKept.{in_flight_of, drawn_pending}
-use Rattle.isolation_laws.proofs.AlwaysHolds.{comes_by, facts_stay, steady_now, steady_stays}
 use Rattle.isolation_laws.proofs.Requests.RequestsOfBegins.{start_unbegun}
 
 -- ---- what an outcome places
@@ -95,7 +90,7 @@ live_kept w h o s t holds begun live = live_framed w h (left_by w o) (told_by_ou
 no_mark : (w : State) (k : PlacedOne w) (t : ℕ) → Marked w.pairs t → t ≡ k.it.start → ⊥
 no_mark w k t marked same = none-some InvalidMark (sym k.free ∙ (ap (mark_of w.pairs) (sym same) ∙ marked))
 
-marked_outcome : (w : State) (h : List Item) (o : Outcome w) (t : ℕ) → Holds w h → IsMarkedFirst w h t → IsMarkedFirst (left_by w o) (h ++ told_by_outcome w o) t
+pub marked_outcome : (w : State) (h : List Item) (o : Outcome w) (t : ℕ) → Holds w h → IsMarkedFirst w h t → IsMarkedFirst (left_by w o) (h ++ told_by_outcome w o) t
 marked_outcome w h o t holds first = record {
   marked = marks_kept w o t first.marked;
   unplaced = λ c m. elim (placed_by w h (told_by_outcome w o) t c (stamping w h o holds) m) [
@@ -107,7 +102,7 @@ marked_outcome w h o t holds first = record {
 in_flight_live : (w : State) (h : List Item) (k : PlacedOne w) (t : ℕ) → Holds w h → t ≡ k.it.start → Live w.clients w.nodes t
 in_flight_live w h k t holds same = inr (record { coming = in_flight_of w k.it; pending = drawn_pending w k.it holds.requests.requests; start_is = sym same })
 
-lost_outcome : (w : State) (h : List Item) (o : Outcome w) (t : ℕ) → Holds w h → IsLost w h t → IsLost (left_by w o) (h ++ told_by_outcome w o) t
+pub lost_outcome : (w : State) (h : List Item) (o : Outcome w) (t : ℕ) → Holds w h → IsLost w h t → IsLost (left_by w o) (h ++ told_by_outcome w o) t
 lost_outcome w h o t holds lost = record {
   session = lost.session;
   begun = in_front (Begin lost.session t) h (told_by_outcome w o) lost.begun;
@@ -117,31 +112,3 @@ lost_outcome w h o t holds lost = record {
     | inr now ↦ lost.dead (in_flight_live w h now.0 t holds now.1)
   ];
 }
-
--- ---- one move
-marked_step : (w : State) (h : List Item) (step : Step) (t : ℕ) → ComesBy w step → Holds w h → IsMarkedFirst w h t → IsMarkedFirst step.state (h ++ step.items) t
-marked_step w h step t (o, state, items) holds first =
-    subst (λ (v : State). IsMarkedFirst v (h ++ step.items) t) (sym state) (subst (λ (xs : List Item). IsMarkedFirst (left_by w o) (h ++ xs) t) (sym items) (marked_outcome w h o t holds first))
-
-lost_step : (w : State) (h : List Item) (step : Step) (t : ℕ) → ComesBy w step → Holds w h → IsLost w h t → IsLost step.state (h ++ step.items) t
-lost_step w h step t (o, state, items) holds lost =
-    subst (λ (v : State). IsLost v (h ++ step.items) t) (sym state) (subst (λ (xs : List Item). IsLost (left_by w o) (h ++ xs) t) (sym items) (lost_outcome w h o t holds lost))
-
--- ---- all moves
-pub marked_first_after : (w : State) (h : List Item) (moves : List Move) (t : ℕ) → Stands w h → AreSteady w.setup.skew w.seen moves → IsMarkedFirst w h t → IsMarkedFirst (state_after w moves) (h ++ items_after w moves) t
-unfolding state_after items_after
-marked_first_after w h [] t both steady first = subst (λ (xs : List Item). IsMarkedFirst w xs t) (sym (append-nil h)) first
-marked_first_after w h (move ∷ moves) t both steady first =
-    let step : Step = stepped w move.event move.fate in
-    let after : Stands step.state (h ++ step.items) = facts_stay w h move.event move.fate both (steady_now w move moves steady) in
-    subst (λ (xs : List Item). IsMarkedFirst (state_after step.state moves) xs t) (append_assoc h step.items (items_after step.state moves))
-    (marked_first_after step.state (h ++ step.items) moves t after (steady_stays w h move moves both steady) (marked_step w h step t (comes_by w h move.event move.fate both (steady_now w move moves steady)) both.holds first))
-
-pub lost_after : (w : State) (h : List Item) (moves : List Move) (t : ℕ) → Stands w h → AreSteady w.setup.skew w.seen moves → IsLost w h t → IsLost (state_after w moves) (h ++ items_after w moves) t
-unfolding state_after items_after
-lost_after w h [] t both steady lost = subst (λ (xs : List Item). IsLost w xs t) (sym (append-nil h)) lost
-lost_after w h (move ∷ moves) t both steady lost =
-    let step : Step = stepped w move.event move.fate in
-    let after : Stands step.state (h ++ step.items) = facts_stay w h move.event move.fate both (steady_now w move moves steady) in
-    subst (λ (xs : List Item). IsLost (state_after step.state moves) xs t) (append_assoc h step.items (items_after step.state moves))
-    (lost_after step.state (h ++ step.items) moves t after (steady_stays w h move moves both steady) (lost_step w h step t (comes_by w h move.event move.fate both (steady_now w move moves steady)) both.holds lost))

@@ -13,7 +13,7 @@ use Rattle.isolation_laws.specs.Laws.{Unplaced, IsMarkedFirst, IsLost, ReadsWhat
 use Rattle.isolation_laws.proofs.OnceEach.{place_of}
 use Rattle.isolation_laws.proofs.Owners.{accepts_now}
 use Rattle.isolation_laws.proofs.AlwaysHolds.{histories_are_isolated}
-use Rattle.isolation_laws.proofs.Holding.NeverPlaced.{marked_first_after, lost_after}
+use Rattle.isolation_laws.proofs.Holding.NeverAgain.{marked_first_after, lost_after}
 
 -- ---- reads
 visible_commits : (h : List Item) (s key : ℕ) (found : Found) → Visible h s key (Some found) → (found.from ≡ s) ⊎ ((c : ℕ) × Committed h found.from c × (c < s))
