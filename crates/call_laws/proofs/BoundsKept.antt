@@ -1,3 +1,4 @@
+-- For cluster_core too.
 -- The numbers of the state are in bounds at first, and each event keeps them so.
 use Rattle.std.proofs.Common.{◌≡◌, ℕ, ◌≤◌, max, List, Option, Some, None, refl, sym, ◌∙◌, ap, subst, arith}
 use Rattle.std.specs.Prelude.{◌^◌}
@@ -13,7 +14,7 @@ use Rattle.machine.specs.Events.Take.{rules_of}
 use Rattle.machine.proofs.PartsKept.{seen_up, leaves_parts}
 use Rattle.isolation_laws.specs.Holds.{Holds}
 use Rattle.isolation_laws.specs.Sound.{Stands}
-use Rattle.isolation_laws.proofs.Outcomes.{Outcome, OfGranted, OfRenewed, OfExtended, left_by}
+use Rattle.isolation_laws.proofs.Outcome.Outcomes.{Outcome, OfGranted, OfRenewed, OfExtended, left_by}
 use Rattle.isolation_laws.proofs.AlwaysHolds.{each_outcome}
 use Rattle.cause_laws.specs.Shows.{Tells}
 use Rattle.call_laws.specs.Bounds.{IsBounded, Bounded}

@@ -1,5 +1,5 @@
-pub mod RecordBounds
-pub mod PostsStay
+mod RecordBounds
+mod PostsStay
 pub mod BoundsKept
 pub mod RecordCalls
 pub mod RequestCalls

@@ -1,3 +1,4 @@
+-- For cluster_core too.
 -- What takes, renewals, extensions and draws need follows from the bounds and the ranges of instances.
 use Rattle.std.proofs.Common.{◌≢◌, ℕ, ◌+◌, ◌<◌, ◌≤◌, max, List, Option, Some, None, arith}
 use Rattle.std.specs.Prelude.{◌^◌}

@@ -1,3 +1,4 @@
+-- For cluster_core too.
 -- What asks, the calls of a node on its requests, and its crash need follows from whom requests wait for.
 use Rattle.std.proofs.Common.{◌≡◌, ℕ, List, Option, Some, None, ◌⊎◌, inl, inr, refl, sym, ap, subst}
 use Rattle.std.proofs.lemmas.Option.{same_Some, none-some}
@@ -19,10 +20,10 @@ use Rattle.isolation_laws.specs.Words.{InstanceAt, ClientAt, HasRecord}
 use Rattle.isolation_laws.specs.Requests.{WaitsFor}
 use Rattle.isolation_laws.specs.Holds.{Holds}
 use Rattle.isolation_laws.proofs.Lookups.{held_by, one_client}
-use Rattle.isolation_laws.proofs.Outcomes.{AtDrawn}
-use Rattle.isolation_laws.proofs.NumbersKept.{in_flight_of, drawn_pending}
+use Rattle.isolation_laws.proofs.Outcome.Outcomes.{AtDrawn}
+use Rattle.isolation_laws.proofs.Numbers.NumbersKept.{in_flight_of, drawn_pending}
 use Rattle.isolation_laws.proofs.Owners.{pending_unplaced}
-use Rattle.isolation_laws.proofs.InversionOfSessions.{work_open}
+use Rattle.isolation_laws.proofs.Inversions.InversionOfSessions.{work_open}
 use Rattle.cause_laws.specs.Shows.{Tells}
 use Rattle.call_laws.specs.Requests.{PostAt, BeginMayBeAsked, CommitMayBeAsked, RequestsAreWaitedFor, PutMayBeMade}
 

@@ -1,3 +1,4 @@
+-- For cluster_core too.
 -- What a session's step needs: something is asked next, and it fits the session's state.
 use Rattle.std.proofs.Common.{◌≡◌, ◌≢◌, ℕ, Bool, true, false, IsTrue, if◌then◌else◌, List, [], ◌∷◌, Option, Some, None, inl, inr, refl, sym, ◌∙◌, ap, subst}
 use Rattle.std.proofs.lemmas.Option.{same_Some}
@@ -19,10 +20,10 @@ use Rattle.machine.specs.Calls.{MayStep, CanWork}
 use Rattle.machine.specs.Events.Step.{own_resolve, work_by, work_of, next_of}
 use Rattle.isolation_laws.specs.Words.{ClientAt}
 use Rattle.isolation_laws.specs.Holds.{Holds}
-use Rattle.isolation_laws.proofs.PlainItems.{none_silent}
-use Rattle.isolation_laws.proofs.InversionParts.{none_quiet}
-use Rattle.isolation_laws.proofs.InversionOfWork.{IsWork, work_fits}
-use Rattle.isolation_laws.proofs.StoresStay.{completed_fills}
+use Rattle.isolation_laws.proofs.Outcome.PlainItems.{none_silent}
+use Rattle.isolation_laws.proofs.Inversions.InversionParts.{none_quiet}
+use Rattle.isolation_laws.proofs.Inversions.InversionOfWork.{IsWork, work_fits}
+use Rattle.isolation_laws.proofs.Stores.StoresStay.{completed_fills}
 use Rattle.cause_laws.specs.Shows.{Tells}
 use Rattle.call_laws.specs.Stores.{StepMayBeMade}
 use Rattle.call_laws.proofs.StoreCalls.{only_shadow, keeps_next}

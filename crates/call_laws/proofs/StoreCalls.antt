@@ -1,3 +1,4 @@
+-- For cluster_core too.
 -- What the calls of sessions and of the janitor on the stores need follows from the facts of cells and of what is under way.
 use Rattle.std.proofs.Common.{◌≡◌, ℕ, ◌<◌, ◌≤◌, Bool, true, false, List, [], ◌∷◌, Option, Some, None, inl, inr, refl, sym, subst, arith}
 use Rattle.std.specs.Prelude.{All, IfSome}
@@ -27,8 +28,8 @@ use Rattle.isolation_laws.specs.Reads.{IsReading, IsResolvedTo}
 use Rattle.isolation_laws.specs.Holds.{Holds}
 use Rattle.isolation_laws.specs.Sound.{Sound}
 use Rattle.isolation_laws.proofs.OnceEach.{one_commit}
-use Rattle.isolation_laws.proofs.StoresStay.{swept_fills}
-use Rattle.isolation_laws.proofs.InversionOfSessions.{work_open, write_may}
+use Rattle.isolation_laws.proofs.Stores.StoresStay.{swept_fills}
+use Rattle.isolation_laws.proofs.Inversions.InversionOfSessions.{work_open, write_may}
 use Rattle.cause_laws.specs.Shows.{Tells}
 use Rattle.call_laws.specs.Stores.{WriteMayBeMade, HealMayBeMade, ReadsFetched, ReadMayGoOn, SweepMayStep}
 

@@ -18,7 +18,7 @@ use Rattle.machine.specs.Events.Decide.{draw_item}
 use Rattle.isolation_laws.specs.Words.{InstanceAt, HeldBy}
 use Rattle.isolation_laws.specs.Sound.{Stands}
 use Rattle.isolation_laws.proofs.Lookups.{instance_changed, held_by, heldby_ended, heldby_changed}
-use Rattle.isolation_laws.proofs.PendingAfter.{new_holds_none, same_requests}
+use Rattle.isolation_laws.proofs.Requests.PendingAfter.{new_holds_none, same_requests}
 use Rattle.cause_laws.specs.Requests.{AreAsked, AreFaulted}
 use Rattle.cause_laws.specs.Shows.{Shows}
 use Rattle.cause_laws.proofs.Deeds.{Granted, Told as ToldToWait, Asked, Serving, Accepted, Drew, SettledOne, Deed, OfRested, OfTook, OfRenewed, OfWidened, OfStopped, OfCrashed, OfAsked, OfAccepted, OfDrew, OfSettled, OfTold, OfEnded, OfLearned, granted_nodes, took_items, renewed_to, widened_to, ask_item, fault_of, nodes_by, items_by, now_at}

@@ -13,8 +13,8 @@ use Rattle.machine.specs.StoreSteps.{told_by}
 use Rattle.machine.specs.Events.Crash.{crashed_clients}
 use Rattle.machine.specs.Events.Write.{client_wrote}
 use Rattle.isolation_laws.specs.Words.{ClientAt}
-use Rattle.isolation_laws.proofs.OutcomesOfWork.{CompletedOne, fetched_turn, read_turn}
-use Rattle.isolation_laws.proofs.Outcomes.{Outcome, OfCrashed, OfAskedBegin, OfAskedCommit, OfEnded, OfAnsweredBegin, OfAnsweredCommit, OfEndedReadOnly, OfWrote, OfWriteFailed, OfAborted, OfVanished, OfHealed, OfFetched, OfReadDropped, OfReadStepped, OfOutcome, OfOutcomeFailed, OfCompleted, left_by, told_by_outcome}
+use Rattle.isolation_laws.proofs.Outcome.OutcomesOfWork.{CompletedOne, fetched_turn, read_turn}
+use Rattle.isolation_laws.proofs.Outcome.Outcomes.{Outcome, OfCrashed, OfAskedBegin, OfAskedCommit, OfEnded, OfAnsweredBegin, OfAnsweredCommit, OfEndedReadOnly, OfWrote, OfWriteFailed, OfAborted, OfVanished, OfHealed, OfFetched, OfReadDropped, OfReadStepped, OfOutcome, OfOutcomeFailed, OfCompleted, left_by, told_by_outcome}
 use Rattle.cause_laws.proofs.GoneOnly.{OnlyGone, freed_only, aborted_only, asked_only, begun_only, heard, refusal_only, answered_only, settled_only, read_only, asks_only}
 
 -- a client that is put back is gone only where it was before, or its vanishing is told

@@ -33,14 +33,14 @@ use Rattle.machine.specs.Events.Take.{rules_of}
 use Rattle.isolation_laws.specs.Words.{InstanceAt, Marked}
 use Rattle.isolation_laws.specs.Holds.{Holds}
 use Rattle.isolation_laws.specs.Sound.{Stands}
-use Rattle.isolation_laws.proofs.PlainItems.{Silent, AllSilent, none_silent, one_silent, two_silent, all_silent}
-use Rattle.isolation_laws.proofs.OutcomesOfRecord.{StillBy, Rests, Stops, Tells, Renewed as RenewedLease, renewed_nodes, Extended, extended_nodes, fault_if}
-use Rattle.isolation_laws.proofs.OutcomesOfStamps.{AtDrawn, PlacedOne, settled_nodes, fault_of, found_items, answered_item}
-use Rattle.isolation_laws.proofs.OutcomesOfWork.{OutcomeStepped, fetched_turn, read_turn}
-use Rattle.isolation_laws.proofs.Outcomes.{Outcome, OfStill, OfGranted, OfRenewed, OfExtended, OfCrashed, OfAskedBegin, OfAskedCommit, OfAccepted, OfEnded, OfDrew, OfPlaced, OfNotPlaced, OfAnsweredBegin, OfAnsweredCommit, OfEndedReadOnly, OfWrote, OfWriteFailed, OfAborted, OfVanished, OfHealed, OfFetched, OfReadDropped, OfReadStepped, OfOutcome, OfOutcomeFailed, OfCompleted, OfSweepOpened, OfSwept, OfSweepListed, OfSweepFailed, left_by, told_by_outcome}
-use Rattle.isolation_laws.proofs.NumbersKept.{in_flight_of, drawn_pending}
+use Rattle.isolation_laws.proofs.Outcome.PlainItems.{Silent, AllSilent, none_silent, one_silent, two_silent, all_silent}
+use Rattle.isolation_laws.proofs.Outcome.OutcomesOfRecord.{StillBy, Rests, Stops, Tells, Renewed as RenewedLease, renewed_nodes, Extended, extended_nodes, fault_if}
+use Rattle.isolation_laws.proofs.Outcome.OutcomesOfStamps.{AtDrawn, PlacedOne, settled_nodes, fault_of, found_items, answered_item}
+use Rattle.isolation_laws.proofs.Outcome.OutcomesOfWork.{OutcomeStepped, fetched_turn, read_turn}
+use Rattle.isolation_laws.proofs.Outcome.Outcomes.{Outcome, OfStill, OfGranted, OfRenewed, OfExtended, OfCrashed, OfAskedBegin, OfAskedCommit, OfAccepted, OfEnded, OfDrew, OfPlaced, OfNotPlaced, OfAnsweredBegin, OfAnsweredCommit, OfEndedReadOnly, OfWrote, OfWriteFailed, OfAborted, OfVanished, OfHealed, OfFetched, OfReadDropped, OfReadStepped, OfOutcome, OfOutcomeFailed, OfCompleted, OfSweepOpened, OfSwept, OfSweepListed, OfSweepFailed, left_by, told_by_outcome}
+use Rattle.isolation_laws.proofs.Numbers.NumbersKept.{in_flight_of, drawn_pending}
 use Rattle.isolation_laws.proofs.Owners.{has_drew}
-use Rattle.isolation_laws.proofs.InversionOfAnswers.{not_invalid}
+use Rattle.isolation_laws.proofs.Inversions.InversionOfAnswers.{not_invalid}
 use Rattle.isolation_laws.proofs.AlwaysHolds.{each_outcome}
 use Rattle.cause_laws.proofs.Deeds.{Serving, EndsFor, OfRested, OfTook, OfRenewed, OfWidened, OfStopped, OfCrashed, OfAsked, OfAccepted, OfDrew, OfSettled, OfTold, OfEnded, OfLearned, DeedOf}
 use Rattle.cause_laws.proofs.HeldAsks.{own_requests, all_losses, holds_none}

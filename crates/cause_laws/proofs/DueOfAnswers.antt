@@ -21,7 +21,7 @@ use Rattle.machine.specs.State.{Client, State}
 use Rattle.machine.specs.Events.Put.{to_place, put_by, put_commit, put_on}
 use Rattle.machine.specs.Events.Answer.{answer_on}
 use Rattle.isolation_laws.specs.Words.{InstanceAt}
-use Rattle.isolation_laws.proofs.InversionOfAnswers.{answered_on}
+use Rattle.isolation_laws.proofs.Inversions.InversionOfAnswers.{answered_on}
 use Rattle.cause_laws.specs.Due.{DueSettled, AreDue}
 use Rattle.cause_laws.proofs.DueItems.{two_free, all_due, plain_due, refusal_due, once_due}
 use Rattle.cause_laws.proofs.DueOfRequests.{no_request_due, Serving, serves_held}

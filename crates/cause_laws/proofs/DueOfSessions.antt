@@ -30,7 +30,7 @@ use Rattle.machine.specs.Events.Vanish.{vanish_by, vanish_on}
 use Rattle.machine.specs.Events.Write.{write_refused, write_by, write_open, write_on}
 use Rattle.machine.specs.Events.Fetch.{read_items, fetch_by, fetch_open, fetch_on}
 use Rattle.isolation_laws.specs.Words.{InstanceAt, ClientAt}
-use Rattle.isolation_laws.proofs.InversionOfAsks.{asked_if}
+use Rattle.isolation_laws.proofs.Inversions.InversionOfAsks.{asked_if}
 use Rattle.cause_laws.specs.Due.{NeedsNoRow, AreDue}
 use Rattle.cause_laws.proofs.DueItems.{DueAnyway, AllDue, none_free, one_free, two_free, all_due, none_due, plain_due, refusal_due, no_row_due}
 

@@ -17,7 +17,7 @@ use Rattle.machine.specs.Clients.{client_begun, client_asked, client_freed, clie
 use Rattle.machine.specs.Events.Crash.{after_loss, crashed_client}
 use Rattle.machine.specs.Events.Fetch.{client_read}
 use Rattle.machine.specs.Events.Step.{client_settled, after_asks}
-use Rattle.isolation_laws.proofs.OutcomesOfStamps.{answered_client}
+use Rattle.isolation_laws.proofs.Outcome.OutcomesOfStamps.{answered_client}
 
 abbrev pub IsGone : Client → Type 0
 IsGone c = c.entry.state ≡ phase.Gone

@@ -15,7 +15,7 @@ use Rattle.machine.specs.Events.Crash.{crashed_clients}
 use Rattle.isolation_laws.specs.Words.{ClientAt}
 use Rattle.isolation_laws.specs.Sound.{Stands}
 use Rattle.isolation_laws.proofs.Lookups.{client_set}
-use Rattle.isolation_laws.proofs.Outcomes.{left_by, told_by_outcome}
+use Rattle.isolation_laws.proofs.Outcome.Outcomes.{left_by, told_by_outcome}
 use Rattle.isolation_laws.proofs.AlwaysHolds.{each_outcome}
 use Rattle.cause_laws.specs.Stores.{AreGone}
 use Rattle.cause_laws.proofs.GoneOnly.{IsGone, crashed_only}

@@ -1,45 +1,45 @@
-pub mod Deeds
-pub mod RecordedDraws
-pub mod HiddenWaters
+mod Deeds
+mod RecordedDraws
+mod HiddenWaters
 pub mod ShownOfRequests
-pub mod ShownOfDecisions
-pub mod HeldRecord
-pub mod ShownOfNodes
-pub mod ShownOfLosses
-pub mod DueIsShown
+mod ShownOfDecisions
+mod HeldRecord
+mod ShownOfNodes
+mod ShownOfLosses
+mod DueIsShown
 pub mod SinceWords
-pub mod AskWords
-pub mod RequestsTold
-pub mod RequestsWere
-pub mod DeedsMute
-pub mod AsksKept
-pub mod PostWords
-pub mod PostItems
-pub mod PostMoves
-pub mod TakenKept
-pub mod VacantKept
-pub mod StopsShown
-pub mod LastsKept
-pub mod ShownAtFirst
+mod AskWords
+mod RequestsTold
+mod RequestsWere
+mod DeedsMute
+mod AsksKept
+mod PostWords
+mod PostItems
+mod PostMoves
+mod TakenKept
+mod VacantKept
+mod StopsShown
+mod LastsKept
+mod ShownAtFirst
 pub mod LongerHistories
-pub mod HeldAsks
-pub mod DeedsDone
-pub mod DueItems
-pub mod DueOfRecord
-pub mod DueOfRequests
-pub mod DueOfAnswers
-pub mod DueOfCrashes
-pub mod DueOfSessions
-pub mod DueOfSteps
-pub mod DuesDone
-pub mod OpenWords
-pub mod RecordShown
-pub mod HeldCounts
-pub mod OpenAsksKept
-pub mod MarksShown
-pub mod MarksTold
-pub mod GoneOnly
-pub mod ClientsMoved
-pub mod ClientsStay
-pub mod GoneShown
+mod HeldAsks
+mod DeedsDone
+mod DueItems
+mod DueOfRecord
+mod DueOfRequests
+mod DueOfAnswers
+mod DueOfCrashes
+mod DueOfSessions
+mod DueOfSteps
+mod DuesDone
+mod OpenWords
+mod RecordShown
+mod HeldCounts
+mod OpenAsksKept
+mod MarksShown
+mod MarksTold
+mod GoneOnly
+mod ClientsMoved
+mod ClientsStay
+mod GoneShown
 pub mod AlwaysExplained

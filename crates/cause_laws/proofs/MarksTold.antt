@@ -19,7 +19,7 @@ use Rattle.client_parts.specs.declared.asks.Ask.TheVariants as ask
 use Rattle.client_parts.specs.declared.asks.Told.{Told}
 use Rattle.machine.specs.StoreSteps.{Met, met, told_mark, pairs_after, told_by, items_met}
 use Rattle.isolation_laws.specs.Words.{Marked}
-use Rattle.isolation_laws.proofs.StoresStay.{committed_not_invalid}
+use Rattle.isolation_laws.proofs.Stores.StoresStay.{committed_not_invalid}
 use Rattle.cause_laws.specs.Stores.{AreMarked}
 
 -- each mark of the table was there, or is told

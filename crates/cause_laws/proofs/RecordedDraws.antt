@@ -10,7 +10,7 @@ use Rattle.oracle_parts.specs.Buckets.{pair_of, pairs_of, place_of, last_commit,
 use Rattle.oracle_parts.proofs.LastCommits.{contains_later, last_commit_recorded}
 use Rattle.cause_rules.specs.Commits.{CommitDrawn}
 use Rattle.cause_rules.specs.Written.{written_keys, recorded_by, recorded_in, recorded}
-use Rattle.isolation_laws.proofs.RecordedCommits.{recorded_by_own, recorded_by_other}
+use Rattle.isolation_laws.proofs.Memory.RecordedCommits.{recorded_by_own, recorded_by_other}
 
 -- a pair of a commit has the commit, and one of its keys
 unpaired : (keys : List ℕ) (commit : ℕ) (pair : Recorded) → Contains (pairs_of keys commit) pair → (pair.commit ≡ commit) × Contains keys pair.key

@@ -13,7 +13,7 @@ use Rattle.oracle_parts.specs.Instance.{InstanceEntry}
 use Rattle.machine.specs.State.{Client, client_new, opening}
 use Rattle.cause_rules.specs.OpenAsks.{open_asks_of}
 use Rattle.isolation_laws.specs.Words.{ClientAt, Marked}
-use Rattle.isolation_laws.proofs.InversionSound.{found_copy, none_at}
+use Rattle.isolation_laws.proofs.Inversions.InversionSound.{found_copy, none_at}
 use Rattle.cause_laws.specs.Requests.{held_count}
 use Rattle.cause_laws.specs.Shows.{Shows}
 use Rattle.cause_laws.proofs.ClientsStay.{clients_at_first}

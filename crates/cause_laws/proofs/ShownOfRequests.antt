@@ -1,3 +1,4 @@
+-- For planned_laws too.
 -- What is due of a request is shown: by its ask, its term and its draw, and by the facts of isolation.
 use Rattle.std.proofs.Common.{◌≡◌, ◌≢◌, ℕ, List, Option, None, Some, refl, sym, ◌∙◌, ap, subst, Contains}
 use Rattle.std.specs.Option.{option_or}
@@ -19,7 +20,7 @@ use Rattle.cause_rules.specs.Posts.{TookLast, LeasedUntil}
 use Rattle.isolation_laws.specs.Words.{HeldBy}
 use Rattle.isolation_laws.specs.Pending.{InFlight, Pending, Taken}
 use Rattle.isolation_laws.specs.Sound.{Stands}
-use Rattle.isolation_laws.proofs.RecordedCommits.{recorded_rise}
+use Rattle.isolation_laws.proofs.Memory.RecordedCommits.{recorded_rise}
 use Rattle.cause_laws.specs.Requests.{ask_for}
 use Rattle.cause_laws.specs.Shows.{Shows}
 use Rattle.cause_laws.specs.Due.{Serves, DueVerdict, DueOldEpoch, DueExpired}

@@ -1,3 +1,4 @@
+-- For line_runs, cause_laws, call_laws, planned_laws, replay_driver and run_turns too.
 -- What ties state and history holds after every list of moves with steady readings; so each history is snapshot isolated.
 use Rattle.std.proofs.Common.{◌≡◌, ℕ, List, [], ◌∷◌, ◌++◌, append_assoc, refl, sym, ◌∙◌, ap, subst}
 use Rattle.std.proofs.lemmas.List.{append-nil}
@@ -10,19 +11,19 @@ use Rattle.machine.specs.State.{State, opening}
 use Rattle.machine.specs.Machine.{Step, stepped, Move, state_after, items_after, history_after, reading_of, seen_after, IsSteadyAt, AreSteady, Steady}
 use Rattle.isolation_laws.specs.Holds.{Holds}
 use Rattle.isolation_laws.specs.Sound.{Sound, Stands}
-use Rattle.isolation_laws.proofs.Outcomes.{Outcome, OfStill, left_by, told_by_outcome}
-use Rattle.isolation_laws.proofs.NumbersOfAll.{numbers_kept}
-use Rattle.isolation_laws.proofs.RequestsOfAll.{requests_kept}
-use Rattle.isolation_laws.proofs.MemoryKept.{memory_kept}
-use Rattle.isolation_laws.proofs.CellsKept.{cells_kept}
-use Rattle.isolation_laws.proofs.UnderWayKept.{under_way_kept}
-use Rattle.isolation_laws.proofs.BeginsKept.{begins_kept}
-use Rattle.isolation_laws.proofs.ReadsKept.{reads_kept, right_reads_kept}
-use Rattle.isolation_laws.proofs.InversionParts.{ComesBy}
-use Rattle.isolation_laws.proofs.Inversion.{comes_to}
-use Rattle.isolation_laws.proofs.InversionSound.{sound_kept, opening_sound}
-use Rattle.isolation_laws.proofs.IsolatedStamps.{stamped_kept, fresh_kept, apart_kept}
-use Rattle.isolation_laws.proofs.Opening.{opening_holds}
+use Rattle.isolation_laws.proofs.Outcome.Outcomes.{Outcome, OfStill, left_by, told_by_outcome}
+use Rattle.isolation_laws.proofs.Numbers.NumbersOfAll.{numbers_kept}
+use Rattle.isolation_laws.proofs.Requests.RequestsOfAll.{requests_kept}
+use Rattle.isolation_laws.proofs.Memory.MemoryKept.{memory_kept}
+use Rattle.isolation_laws.proofs.Stores.CellsKept.{cells_kept}
+use Rattle.isolation_laws.proofs.UnderWay.UnderWayKept.{under_way_kept}
+use Rattle.isolation_laws.proofs.Requests.BeginsKept.{begins_kept}
+use Rattle.isolation_laws.proofs.Reading.ReadsKept.{reads_kept, right_reads_kept}
+use Rattle.isolation_laws.proofs.Inversions.InversionParts.{ComesBy}
+use Rattle.isolation_laws.proofs.Inversions.Inversion.{comes_to}
+use Rattle.isolation_laws.proofs.Inversions.InversionSound.{sound_kept, opening_sound}
+use Rattle.isolation_laws.proofs.Holding.IsolatedStamps.{stamped_kept, fresh_kept, apart_kept}
+use Rattle.isolation_laws.proofs.Holding.Opening.{opening_holds}
 use Rattle.machine.proofs.PartsKept.{seen_up}
 
 -- ---- one outcome

@@ -1,3 +1,4 @@
+-- For cause_laws and call_laws too.
 -- What follows from several facts at once: whose a transaction is, what still may be placed, and what an instance with the
 -- record's term has seen.
 use Rattle.std.proofs.Common.{◌≡◌, ℕ, ◌+◌, ◌<◌, ◌≤◌, List, Option, Some, None, inl, inr, refl, sym, ◌∙◌, ap, subst, arith}

@@ -1,4 +1,4 @@
-use Rattle.isolation_laws.proofs.LostCommits.{faulted_puts_lose}
+use Rattle.isolation_laws.proofs.Holding.LostCommits.{faulted_puts_lose}
 use Rattle.isolation_laws.proofs.consequences.faulted_puts_lose_commits.Goals as goal
 
 pub returns : goal.returns

@@ -1,4 +1,4 @@
-use Rattle.isolation_laws.proofs.ReadsAndTerms.{reads_give_what_commits}
+use Rattle.isolation_laws.proofs.Holding.ReadsAndTerms.{reads_give_what_commits}
 use Rattle.isolation_laws.proofs.consequences.reads_give_what_commits.Goals as goal
 
 pub returns : goal.returns

@@ -1,0 +1,11 @@
+-- What outcomes leave alone, what histories have, and what follows.
+pub mod Frames
+pub mod Framed
+pub mod IsolatedItems
+pub mod IsolatedStamps
+pub mod OpeningSessions
+pub mod Opening
+pub mod NeverPlaced
+pub mod NeverAgain
+pub mod LostCommits
+pub mod ReadsAndTerms

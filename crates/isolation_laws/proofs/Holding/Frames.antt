@@ -1,0 +1,173 @@
+-- What an outcome leaves alone: one record says it, and each group of facts is kept by it. For the tables over all outcomes,
+-- which name only those that have no frame.
+use Rattle.std.proofs.Common.{ℕ, ◌≤◌, List, ◌++◌, Option, Some, None, inl, refl}
+use Rattle.std.specs.Prelude.{slice_set}
+use Rattle.history_book.specs.declared.item.Item.{Item}
+use Rattle.store_parts.specs.Rows.{Row}
+use Rattle.store_parts.specs.Pairs.{Pairs}
+use Rattle.oracle_parts.specs.declared.instance.Settled.{Settled}
+use Rattle.oracle_parts.specs.Instance.{InstanceEntry}
+use Rattle.oracle_parts.specs.InstanceSteps.{without_request}
+use Rattle.machine.specs.State.{Client, State}
+use Rattle.isolation_laws.specs.Words.{InstanceAt}
+use Rattle.isolation_laws.specs.Quiet.{AllQuiet}
+use Rattle.isolation_laws.specs.Numbers.{NumberFacts}
+use Rattle.isolation_laws.specs.Requests.{RequestFacts}
+use Rattle.isolation_laws.specs.Memory.{MemoryFacts}
+use Rattle.isolation_laws.specs.Cells.{CellFacts}
+use Rattle.isolation_laws.specs.UnderWay.{UnderWayFacts}
+use Rattle.isolation_laws.specs.Begins.{BeginFacts}
+use Rattle.isolation_laws.specs.Holds.{Holds}
+use Rattle.isolation_laws.proofs.Outcome.OutcomesOfRecord.{AlikeNodes}
+use Rattle.isolation_laws.proofs.Outcome.OutcomesOfStamps.{AtDrawn, settled_nodes}
+use Rattle.isolation_laws.proofs.Numbers.NumbersStay.{SameNumbers, numbered_same, numbered_alike, numbered_ended, numbered_set, numbered}
+use Rattle.isolation_laws.proofs.Numbers.NumbersKept.{quiet_one}
+use Rattle.isolation_laws.proofs.Memory.MemoryStays.{SameMemory, remembered_same, remembered_alike, remembered_ended, remembered_set, nothing_quiet, memory_same}
+use Rattle.isolation_laws.proofs.Requests.PendingAfter.{FewerPending}
+use Rattle.isolation_laws.proofs.Requests.PendingFewer.{same_pending, fewer_settled}
+use Rattle.isolation_laws.proofs.Requests.RequestsAfter.{FewerHeld, held_ended_at, held_changed, held_over}
+use Rattle.isolation_laws.proofs.Requests.CommitsInFlight.{FewerStanding, IsAcceptedNow, IsDrawnNow}
+use Rattle.isolation_laws.proofs.Requests.Standing.{standing_same, standing_alike, standing_ended, standing_over, standing_settled, held_same, held_alike, held_settled}
+use Rattle.isolation_laws.proofs.Requests.ClientsOpen.{FewerOpen, same_open}
+use Rattle.isolation_laws.proofs.Reading.ClientsReading.{FewerReading, same_reading}
+use Rattle.isolation_laws.proofs.Stores.LiveAfter.{FewerLive, fewer_live}
+use Rattle.isolation_laws.proofs.Stores.Calm.{calm_quiet}
+use Rattle.isolation_laws.proofs.Stores.CellsStay.{cells_calm}
+use Rattle.isolation_laws.proofs.Requests.AsksBefore.{AsksNothing, quiet_no_ask}
+use Rattle.isolation_laws.proofs.Requests.FreshBegins.{begins_of, fresh_fewer}
+use Rattle.isolation_laws.proofs.Requests.SettledBelow.{numbers_keep, below_fewer}
+use Rattle.isolation_laws.proofs.Stores.StoresStay.{ShadowsStay, shadows_same, MarksStay, marks_same}
+use Rattle.isolation_laws.proofs.Reading.ReadsLonger.{rely_calm}
+use Rattle.isolation_laws.proofs.Reading.ReadsStay.{quiet_no_reads, ReadsRight, reads_stay, none_comes}
+
+-- ---- nodes: no instance is new or has other numbers, and no request is new or has gone on to a stamp
+pub record NodesFrame (old new : List (Option InstanceEntry)) : Type 0 where
+  pub numbers : SameNumbers old new
+  pub memory : SameMemory old new
+  pub pending : FewerPending old new
+  pub held : FewerHeld old new
+  pub accepted : FewerStanding IsAcceptedNow old new
+  pub drawn : FewerStanding IsDrawnNow old new
+
+pub nodes_stay : (nodes : List (Option InstanceEntry)) → NodesFrame nodes nodes
+nodes_stay nodes = record {
+  numbers = numbered_same nodes;
+  memory = remembered_same nodes;
+  pending = same_pending nodes;
+  held = held_same nodes;
+  accepted = standing_same IsAcceptedNow nodes;
+  drawn = standing_same IsDrawnNow nodes;
+}
+
+pub nodes_alike : (old new : List (Option InstanceEntry)) → AlikeNodes old new → FewerPending old new → NodesFrame old new
+nodes_alike old new alike pending = record {
+  numbers = numbered_alike old new alike;
+  memory = remembered_alike old new alike;
+  pending = pending;
+  held = held_alike old new alike;
+  accepted = standing_alike IsAcceptedNow old new alike;
+  drawn = standing_alike IsDrawnNow old new alike;
+}
+
+-- an instance has ended
+pub nodes_ended : (nodes : List (Option InstanceEntry)) (n : ℕ) → FewerPending nodes (slice_set nodes n None) → NodesFrame nodes (slice_set nodes n None)
+nodes_ended nodes n pending = record {
+  numbers = numbered_ended nodes n;
+  memory = remembered_ended nodes n;
+  pending = pending;
+  held = held_ended_at nodes n;
+  accepted = standing_ended IsAcceptedNow nodes n;
+  drawn = standing_ended IsDrawnNow nodes n;
+}
+
+-- a request is over
+pub nodes_over : (nodes : List (Option InstanceEntry)) (n s : ℕ) (i : InstanceEntry) → InstanceAt nodes n i → FewerPending nodes (slice_set nodes n (Some (without_request i s))) → NodesFrame nodes (slice_set nodes n (Some (without_request i s)))
+nodes_over nodes n s i at pending = record {
+  numbers = numbered_set nodes n i (without_request i s) at (numbered i _ refl refl refl refl refl);
+  memory = remembered_set nodes n i (without_request i s) at (record { term = refl; buckets = refl });
+  pending = pending;
+  held = held_changed nodes n i (without_request i s) at (held_over i s);
+  accepted = standing_over IsAcceptedNow nodes n s i at;
+  drawn = standing_over IsDrawnNow nodes n s i at;
+}
+
+-- the put of a commit has ended
+pub nodes_settled : (w : State) (it : AtDrawn w) (by : Settled) → NodesFrame w.nodes (settled_nodes w it by)
+nodes_settled w it by = record {
+  numbers = numbered_set w.nodes it.node it.i _ it.at (numbered it.i _ refl refl refl refl refl);
+  memory = remembered_set w.nodes it.node it.i _ it.at (record { term = refl; buckets = refl });
+  pending = fewer_settled w it by;
+  held = held_settled w it by;
+  accepted = standing_settled IsAcceptedNow w it by (λ is. is);
+  drawn = standing_settled IsDrawnNow w it by (λ is. is);
+}
+
+-- ---- clients: no transaction has been opened, and no read has been begun or has gone on
+pub record ClientsFrame (old new : List Client) : Type 0 where
+  pub opened : FewerOpen old new
+  pub reading : FewerReading old new
+
+pub clients_stay : (clients : List Client) → ClientsFrame clients clients
+clients_stay clients = record { opened = same_open clients; reading = same_reading clients }
+
+-- ---- stores: shadows and marks stay, and the cells fit what was there before
+pub record StoresFrame (w : State) (h : List Item) (rows : List Row) (pairs : Pairs) : Type 0 where
+  pub cells : CellFacts w.clients w.nodes rows pairs h
+  pub shadows : ShadowsStay h w.rows rows
+  pub marks : MarksStay w.pairs pairs
+
+pub stores_stay : (w : State) (h : List Item) → Holds w h → StoresFrame w h w.rows w.pairs
+stores_stay w h holds = record { cells = holds.cells; shadows = shadows_same h w.rows; marks = marks_same w.pairs }
+
+-- ---- all of them, with items that no fact reads
+pub record Frame (w : State) (h : List Item) (left : State) (items : List Item) : Type 0 where
+  pub quiet : AllQuiet items
+  pub up : w.seen ≤ left.seen
+  pub nodes : NodesFrame w.nodes left.nodes
+  pub clients : ClientsFrame w.clients left.clients
+  pub shadows : ShadowsStay h w.rows left.rows
+  pub marks : MarksStay w.pairs left.pairs
+  pub cells : CellFacts left.clients left.nodes left.rows left.pairs (h ++ items)
+  pub requests : RequestFacts left.nodes left.clients (h ++ items)
+  pub under_way : UnderWayFacts left.clients left.sweep left.rows left.pairs (h ++ items)
+
+pub live_by : (old new : List Client) (nodes left : List (Option InstanceEntry)) → ClientsFrame old new → NodesFrame nodes left → FewerLive old nodes new left
+live_by old new nodes left clients kept = fewer_live old new nodes left clients.opened kept.pending
+
+pub frame : (w : State) (h : List Item) (left : State) (items : List Item) → AllQuiet items → w.seen ≤ left.seen → NodesFrame w.nodes left.nodes → ClientsFrame w.clients left.clients → StoresFrame w h left.rows left.pairs → RequestFacts left.nodes left.clients (h ++ items) → UnderWayFacts left.clients left.sweep left.rows left.pairs (h ++ items) → Frame w h left items
+frame w h left items quiet up nodes clients stores requests under_way = record {
+  quiet = quiet;
+  up = up;
+  nodes = nodes;
+  clients = clients;
+  shadows = stores.shadows;
+  marks = stores.marks;
+  cells = cells_calm w.clients left.clients w.nodes left.nodes left.rows left.pairs h (h ++ items) (λ t live. inl (live_by w.clients left.clients w.nodes left.nodes clients nodes t live)) (calm_quiet h items quiet) stores.cells;
+  requests = requests;
+  under_way = under_way;
+}
+
+-- ---- each group of facts is kept by a frame
+pub numbers_framed : (w : State) (h : List Item) (left : State) (items : List Item) → Frame w h left items → Holds w h → NumberFacts w.setup left.seen left.nodes w.master (h ++ items)
+numbers_framed w h left items f holds = quiet_one w h left.nodes left.seen items f.nodes.numbers f.up f.quiet holds
+
+pub memory_framed : (w : State) (h : List Item) (left : State) (items : List Item) → Frame w h left items → Holds w h → MemoryFacts w.setup left.nodes (h ++ items)
+memory_framed w h left items f holds = memory_same w.setup w.nodes left.nodes h (h ++ items) f.nodes.memory (nothing_quiet h items f.quiet) holds.memory
+
+-- also behind items that are no asks for a start
+pub begins_on : (w : State) (h items : List Item) (nodes : List (Option InstanceEntry)) (clients : List Client) → NodesFrame w.nodes nodes → FewerOpen w.clients clients → ((s : ℕ) → AsksNothing s items) → Holds w h → BeginFacts clients nodes (h ++ items)
+begins_on w h items nodes clients kept opens none holds = record {
+  fresh = fresh_fewer w.nodes nodes h items (begins_of w.nodes nodes kept.held) kept.accepted kept.drawn none holds.begins.fresh;
+  below = below_fewer w.clients clients w.nodes nodes opens (numbers_keep w.nodes nodes kept.numbers) kept.drawn holds.begins.below;
+}
+
+pub begins_framed : (w : State) (h : List Item) (left : State) (items : List Item) → Frame w h left items → Holds w h → BeginFacts left.clients left.nodes (h ++ items)
+begins_framed w h left items f holds = begins_on w h items left.nodes left.clients f.nodes f.clients.opened (λ s. quiet_no_ask s items f.quiet) holds
+
+pub reads_framed : (w : State) (h : List Item) (left : State) (items : List Item) → Frame w h left items → Holds w h → ReadsRight left.clients left.nodes left.rows left.pairs (h ++ items)
+reads_framed w h left items f holds =
+    reads_stay w h items left.nodes left.rows left.pairs left.clients (quiet_no_reads items f.quiet)
+    (rely_calm w h (h ++ items) left.nodes left.rows left.pairs (calm_quiet h items f.quiet) (none_comes w h left.nodes f.nodes.pending) f.shadows f.marks) f.clients.reading holds
+
+pub live_framed : (w : State) (h : List Item) (left : State) (items : List Item) → Frame w h left items → FewerLive w.clients w.nodes left.clients left.nodes
+live_framed w h left items f = live_by w.clients left.clients w.nodes left.nodes f.clients f.nodes

@@ -1,0 +1,114 @@
+-- An outcome places nothing that is marked before it is placed, and nothing that is neither open nor in flight.
+use Rattle.std.proofs.Common.{◌≡◌, ℕ, List, [], ◌∷◌, ◌++◌, append_assoc, ◌⊎◌, inl, inr, refl, sym, ◌∙◌, ap, subst}
+use Rattle.std.proofs.lemmas.Option.{none-some}
+use Rattle.stamp_base.specs.declared.stores.Mark.TheVariants.{Invalid as InvalidMark}
+use Rattle.history_book.specs.Isolation.{Committed}
+use Rattle.history_book.specs.declared.item.Item.{Item}
+use Rattle.history_book.specs.declared.item.Item.TheVariants.{Begin, Placed}
+use Rattle.history_book.proofs.MemberLemmas.{in_front, in_push}
+use Rattle.client_parts.specs.KeyRead.{read_ask}
+use Rattle.client_parts.specs.Resolve.{settle_ask}
+use Rattle.store_parts.specs.Pairs.{mark_of}
+use Rattle.machine.specs.State.{State}
+use Rattle.machine.specs.StoreSteps.{pairs_after}
+use Rattle.isolation_laws.specs.Words.{Marked, Begun}
+use Rattle.isolation_laws.specs.Pending.{Live}
+use Rattle.isolation_laws.specs.Holds.{Holds}
+use Rattle.isolation_laws.proofs.Holding.Frames.{live_framed}
+use Rattle.isolation_laws.proofs.Holding.Framed.{framed}
+use Rattle.isolation_laws.specs.Laws.{IsMarkedFirst, IsLost}
+use Rattle.isolation_laws.proofs.Pushed.{old_placed}
+use Rattle.isolation_laws.proofs.Outcome.OutcomesOfStamps.{PlacedOne, placed_items}
+use Rattle.isolation_laws.proofs.Outcome.Outcomes.{Outcome, OfGranted, OfRenewed, OfExtended, OfAskedBegin, OfAskedCommit, OfAccepted, OfDrew, OfPlaced, OfAnsweredBegin, OfWrote, OfFetched, OfReadDropped, OfReadStepped, OfOutcome, OfOutcomeFailed, OfCompleted, OfSwept, OfSweepListed, OfSweepFailed, left_by, told_by_outcome}
+use Rattle.isolation_laws.proofs.Holding.IsolatedItems.{Stamping, StampsNone, StampsPlaced, StampsBegin, stamping, placed_old}
+use Rattle.isolation_laws.proofs.Stores.StoresStay.{MarksStay, marks_put, marks_after, marks_may, marks_if}
+use Rattle.isolation_laws.proofs.Requests.PendingFewer.{fewer_granted, fewer_renewed, fewer_extended, fewer_asked_begin, fewer_settled}
+use Rattle.isolation_laws.proofs.Requests.OpenAfter.{fewer_open_asked_begin, fewer_open_wrote, fewer_open_fetched, fewer_open_read}
+use Rattle.isolation_laws.proofs.Stores.LiveAfter.{fewer_live, live_by_clients, live_by_nodes, live_asked_commit, live_accepted, live_drew, live_answered_begin}
+use Rattle.isolation_laws.proofs.Numbers.NumbersKept.{in_flight_of, drawn_pending}
+use Rattle.isolation_laws.proofs.Requests.RequestsOfBegins.{start_unbegun}
+
+-- ---- what an outcome places
+placed_same : (t c u d : ℕ) → Placed t c ≡ Placed u d → t ≡ u
+placed_same t c u d same = cc
+
+placed_first : (w : State) (h : List Item) (k : PlacedOne w) (t c : ℕ) → Committed (h ++ placed_items w k) t c → Committed h t c ⊎ (t ≡ k.it.start)
+placed_first w h k t c m =
+    let split : Committed ((h ++ Placed k.it.start k.it.commit ∷ []) ++ k.items) t c = subst (λ (all : List Item). Committed all t c) (sym (append_assoc h (Placed k.it.start k.it.commit ∷ []) k.items)) m in
+    elim (in_push (Placed t c) (Placed k.it.start k.it.commit) h (old_placed (h ++ Placed k.it.start k.it.commit ∷ []) k.items t c k.quiet split)) [
+      | inl old ↦ inl old
+      | inr now ↦ inr (placed_same t c k.it.start k.it.commit now)
+    ]
+
+begin_places : (h : List Item) (s b t c : ℕ) → Committed (h ++ Begin s b ∷ []) t c → Committed h t c
+begin_places h s b t c m = elim (in_push (Placed t c) (Begin s b) h m) [
+  | inl old ↦ old
+  | inr now ↦ absurd (cc)
+]
+
+placed_by : (w : State) (h items : List Item) (t c : ℕ) → Stamping w items → Committed (h ++ items) t c → Committed h t c ⊎ ((k : PlacedOne w) × (t ≡ k.it.start))
+placed_by w h items t c (StampsNone none) m = inl (placed_old h items t c none m)
+placed_by w h items t c (StampsPlaced k is) m = elim (placed_first w h k t c (subst (λ (xs : List Item). Committed (h ++ xs) t c) is m)) [
+  | inl old ↦ inl old
+  | inr now ↦ inr (k, now)
+]
+placed_by w h items t c (StampsBegin k is) m = inl (begin_places h k.session k.start t c (subst (λ (xs : List Item). Committed (h ++ xs) t c) is m))
+
+-- ---- marks stay
+marks_kept : (w : State) (o : Outcome w) → MarksStay w.pairs (left_by w o).pairs
+marks_kept w (OfPlaced k) = marks_put w.pairs k.it.start _
+marks_kept w (OfReadDropped k) = marks_may w.pairs k.pairs k.pairs_are
+marks_kept w (OfReadStepped k) = marks_after (read_ask k.r) w.pairs
+marks_kept w (OfOutcome k) = marks_after (settle_ask k.x) w.pairs
+marks_kept w (OfOutcomeFailed k) = marks_may w.pairs k.pairs k.pairs_are
+marks_kept w (OfCompleted k) = marks_if w.pairs (pairs_after k.asked w.pairs) k.applied (marks_after k.asked w.pairs)
+marks_kept w (OfSwept k) = marks_after k.asked w.pairs
+marks_kept w (OfSweepFailed k) = marks_if w.pairs (pairs_after k.asked w.pairs) k.applied (marks_after k.asked w.pairs)
+marks_kept w _ = λ u marked. marked
+
+-- ---- nothing becomes live again
+live_kept : (w : State) (h : List Item) (o : Outcome w) (s t : ℕ) → Holds w h → Begun h s t → Live (left_by w o).clients (left_by w o).nodes t → Live w.clients w.nodes t
+live_kept w h (OfGranted k) s t holds begun live = live_by_nodes w.clients w.nodes _ (fewer_granted w k) t live
+live_kept w h (OfRenewed k) s t holds begun live = live_by_nodes w.clients w.nodes _ (fewer_renewed w k) t live
+live_kept w h (OfExtended k) s t holds begun live = live_by_nodes w.clients w.nodes _ (fewer_extended w k) t live
+live_kept w h (OfAskedBegin k) s t holds begun live = fewer_live w.clients _ w.nodes _ (fewer_open_asked_begin w k) (fewer_asked_begin w k) t live
+live_kept w h (OfAskedCommit k) s t holds begun live = live_asked_commit w k t live
+live_kept w h (OfAccepted k) s t holds begun live = live_accepted w k t live
+live_kept w h (OfDrew k) s t holds begun live = live_drew w k t live
+live_kept w h (OfPlaced k) s t holds begun live = live_by_nodes w.clients w.nodes _ (fewer_settled w k.it k.by) t live
+live_kept w h (OfAnsweredBegin k) s t holds begun live = elim (live_answered_begin w k t live) [
+  | inl old ↦ old
+  | inr now ↦ absurd (start_unbegun w h k s holds (subst (Begun h s) now begun))
+]
+live_kept w h (OfWrote k) s t holds begun live = live_by_clients w.clients _ w.nodes (fewer_open_wrote w k) t live
+live_kept w h (OfFetched k) s t holds begun live = live_by_clients w.clients _ w.nodes (fewer_open_fetched w k) t live
+live_kept w h (OfReadStepped k) s t holds begun live = live_by_clients w.clients _ w.nodes (fewer_open_read w k) t live
+live_kept w h (OfSweepListed k) s t holds begun live = live
+live_kept w h o s t holds begun live = live_framed w h (left_by w o) (told_by_outcome w o) (framed w h o holds refl) t live
+
+-- ---- one outcome
+no_mark : (w : State) (k : PlacedOne w) (t : ℕ) → Marked w.pairs t → t ≡ k.it.start → ⊥
+no_mark w k t marked same = none-some InvalidMark (sym k.free ∙ (ap (mark_of w.pairs) (sym same) ∙ marked))
+
+pub marked_outcome : (w : State) (h : List Item) (o : Outcome w) (t : ℕ) → Holds w h → IsMarkedFirst w h t → IsMarkedFirst (left_by w o) (h ++ told_by_outcome w o) t
+marked_outcome w h o t holds first = record {
+  marked = marks_kept w o t first.marked;
+  unplaced = λ c m. elim (placed_by w h (told_by_outcome w o) t c (stamping w h o holds) m) [
+    | inl old ↦ first.unplaced c old
+    | inr now ↦ no_mark w now.0 t first.marked now.1
+  ];
+}
+
+in_flight_live : (w : State) (h : List Item) (k : PlacedOne w) (t : ℕ) → Holds w h → t ≡ k.it.start → Live w.clients w.nodes t
+in_flight_live w h k t holds same = inr (record { coming = in_flight_of w k.it; pending = drawn_pending w k.it holds.requests.requests; start_is = sym same })
+
+pub lost_outcome : (w : State) (h : List Item) (o : Outcome w) (t : ℕ) → Holds w h → IsLost w h t → IsLost (left_by w o) (h ++ told_by_outcome w o) t
+lost_outcome w h o t holds lost = record {
+  session = lost.session;
+  begun = in_front (Begin lost.session t) h (told_by_outcome w o) lost.begun;
+  dead = λ live. lost.dead (live_kept w h o lost.session t holds lost.begun live);
+  unplaced = λ c m. elim (placed_by w h (told_by_outcome w o) t c (stamping w h o holds) m) [
+    | inl old ↦ lost.unplaced c old
+    | inr now ↦ lost.dead (in_flight_live w h now.0 t holds now.1)
+  ];
+}

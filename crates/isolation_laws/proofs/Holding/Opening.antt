@@ -1,0 +1,101 @@
+-- All that ties state and history holds in the opening state, of an empty history.
+use Rattle.std.proofs.Common.{[], ◌≡◌, ℕ, true, false, Some, None, inl, inr, sym, ◌∙◌, ap}
+use Rattle.std.specs.FinMap as map
+use Rattle.std.specs.Ordering.{nat_cmp}
+use Rattle.std.proofs.lemmas.Option.{none-some}
+use Rattle.stamp_base.specs.declared.stores.Mark.TheVariants.{Committed as CommittedMark}
+use Rattle.stamp_base.specs.SetupNumbers.{SetupNumbers, AreInRange}
+use Rattle.history_book.specs.Isolation.{NewStamps, StartsAbove, RightRead, Isolated}
+use Rattle.store_parts.specs.declared.rows.Cell.{Cell}
+use Rattle.store_parts.specs.Rows.{looked, AreOrdered}
+use Rattle.client_parts.specs.declared.session.State.TheVariants as phase
+use Rattle.machine.specs.State.{Nothing, Reads, Settles, Client, opening}
+use Rattle.isolation_laws.specs.Words.{HasRecord}
+use Rattle.isolation_laws.specs.Pending.{Live}
+use Rattle.isolation_laws.specs.Cells.{CellFacts}
+use Rattle.isolation_laws.specs.UnderWay.{UnderWayFacts}
+use Rattle.isolation_laws.specs.Reads.{ReadFacts}
+use Rattle.isolation_laws.specs.Holds.{Holds}
+use Rattle.isolation_laws.proofs.Inversions.InversionSound.{none_at}
+use Rattle.isolation_laws.proofs.Holding.OpeningSessions.{in_none, each_none, is_new, not_in, not_under_way, not_open, opening_numbers, opening_requests, opening_memory, opening_begins}
+
+-- ---- the stores and what is under way
+not_live : (setup : SetupNumbers) (t : ℕ) → Live (opening setup).clients (opening setup).nodes t → ⊥
+not_live setup t (inl o) = not_open o.session t o.epoch o.open_at
+not_live setup t (inr p) = none_at setup.nodes p.coming.node p.pending.instance_of p.pending.at
+
+none_looked : (k t : ℕ) (cell : Cell) → looked [] k t ≡ Some cell → ⊥
+unfolding looked
+none_looked k t cell found = cc
+
+none_marked : (t c : ℕ) → HasRecord map.empty t c → ⊥
+none_marked t c has = none-some (CommittedMark c) (sym (map.get-empty nat_cmp t) ∙ has)
+
+none_ordered : AreOrdered []
+unfolding AreOrdered
+none_ordered = tt
+
+opening_cells : (setup : SetupNumbers) → CellFacts (opening setup).clients (opening setup).nodes (opening setup).rows (opening setup).pairs []
+opening_cells setup = record {
+  rows_are = record {
+    ordered = none_ordered;
+    begun = λ k t cell found. absurd (none_looked k t cell found);
+    placed = λ k t c cell found. absurd (none_looked k t cell found);
+  };
+  pairs_are = record { placed = λ t c has. absurd (none_marked t c has) };
+  live = record { bare = λ t k live. absurd (not_live setup t live) };
+  placed = record {
+    cells = λ t c k m. absurd (in_none _ m);
+    found = λ t c m. absurd (in_none _ m);
+  };
+}
+
+opening_under_way : (setup : SetupNumbers) → UnderWayFacts (opening setup).clients (opening setup).sweep (opening setup).rows (opening setup).pairs []
+opening_under_way setup = record {
+  finishing = record {
+    finish = λ s c asks at is. let clash : phase.Free ≡ phase.Completing false = not_in s c (phase.Completing false) at is in absurd (cc);
+    busy = λ s c at is. let clash : phase.Free ≡ phase.Completing false = not_in s c (phase.Completing false) at is in absurd (cc);
+  };
+  undoing = record {
+    undo = λ s t c asks at is. let clash : phase.Free ≡ phase.Completing true = not_in s c (phase.Completing true) at is in absurd (cc);
+    busy = λ s c at is. let clash : phase.Free ≡ phase.Completing true = not_in s c (phase.Completing true) at is in absurd (cc);
+    unplaced = λ s t c txn m. absurd (in_none _ m);
+  };
+  settling = record {
+    resolve = λ s c at is. let clash : phase.Free ≡ phase.OpenOutcome = not_in s c phase.OpenOutcome at is in absurd (cc);
+    only = λ s c x at is. let clash : Nothing ≡ Settles x = not_under_way s c (Settles x) at is in absurd (cc);
+  };
+  heals = record { placed = λ s k t commit c at offer. let clash : None ≡ Some (k, t, commit) = ap (λ (x : Client). x.heal) (sym (is_new s c at)) ∙ offer in absurd (cc) };
+  sweeping = record { knows = λ s is. absurd (cc) };
+}
+
+opening_reads : (setup : SetupNumbers) → ReadFacts (opening setup).clients (opening setup).nodes (opening setup).rows (opening setup).pairs []
+opening_reads setup = record {
+  reading = record { reads = λ s c r at is. let clash : Nothing ≡ Reads r = not_under_way s c (Reads r) at is in absurd (cc) };
+  lasting = record { lasts = λ s b k u answer value m. absurd (in_none _ m) };
+}
+
+opening_isolated : Isolated []
+opening_isolated = record {
+  apart = record { apart = λ t c u d k v w one. absurd (in_none _ one) };
+  stamped = record {
+    distinct = each_none NewStamps;
+    no_start_commits = λ s t u begun. absurd (in_none _ begun);
+    start_below_commit = λ t c m. absurd (in_none _ m);
+  };
+  fresh = each_none StartsAbove;
+  reads = each_none (RightRead []);
+}
+
+pub opening_holds : (setup : SetupNumbers) → AreInRange setup → Holds (opening setup) []
+opening_holds setup in_range = record {
+  in_range = in_range;
+  numbers = opening_numbers setup;
+  requests = opening_requests setup;
+  memory = opening_memory setup;
+  cells = opening_cells setup;
+  under_way = opening_under_way setup;
+  begins = opening_begins setup;
+  reads = opening_reads setup;
+  isolated = opening_isolated;
+}

@@ -1,0 +1,130 @@
+-- In the opening state no instance is there and no client works: numbers, sessions, requests, the conflict memory, begins.
+use Rattle.std.proofs.Common.{[], ◌≡◌, ℕ, true, IsTrue, List, ◌⊎◌, inl, inr, refl, sym, ◌∙◌, ap}
+use Rattle.std.specs.Prelude.{replicate}
+use Rattle.stamp_base.specs.SetupNumbers.{SetupNumbers}
+use Rattle.history_book.specs.Members.{◌∈◌, AtEach}
+use Rattle.client_parts.specs.declared.session.State.{State as SessionState}
+use Rattle.client_parts.specs.declared.session.State.TheVariants as phase
+use Rattle.client_parts.specs.SessionSteps.{has_transaction}
+use Rattle.machine.specs.State.{UnderWay, Nothing, Client, client_new, opening}
+use Rattle.isolation_laws.specs.Words.{ClientAt, OpenAt}
+use Rattle.isolation_laws.specs.Numbers.{IsNewDraw, NumberFacts}
+use Rattle.isolation_laws.specs.Requests.{HasAsked, RequestFacts}
+use Rattle.isolation_laws.specs.Memory.{MemoryFacts}
+use Rattle.isolation_laws.specs.Begins.{BeginFacts}
+use Rattle.isolation_laws.proofs.Inversions.InversionSound.{found_copy, none_at}
+
+-- ---- nothing is there
+pub in_none : {X : Type 0} (x : X) → x ∈ [] → ⊥
+unfolding ◌∈◌
+in_none x m = m
+
+pub each_none : {X : Type 0} (P : List X → X → Type 0) → AtEach P []
+each_none P = record { at = λ p x found. absurd (cc) }
+
+-- each client is new
+pub is_new : (s : ℕ) (c : Client) → ClientAt (replicate 16 client_new) s c → c ≡ client_new
+is_new s c at = found_copy 16 s client_new c at
+
+pub not_in : (s : ℕ) (c : Client) (state : SessionState) → ClientAt (replicate 16 client_new) s c → c.entry.state ≡ state → phase.Free ≡ state
+not_in s c state at is = ap (λ (x : Client). x.entry.state) (sym (is_new s c at)) ∙ is
+
+pub not_under_way : (s : ℕ) (c : Client) (work : UnderWay) → ClientAt (replicate 16 client_new) s c → c.under_way ≡ work → Nothing ≡ work
+not_under_way s c work at is = ap (λ (x : Client). x.under_way) (sym (is_new s c at)) ∙ is
+
+pub not_open : (s t e : ℕ) → OpenAt (replicate 16 client_new) s t e → ⊥
+not_open s t e o = let clash : phase.Free ≡ phase.Open = not_in s o.client phase.Open o.at o.state_is in cc
+
+-- ---- numbers
+pub opening_numbers : (setup : SetupNumbers) → NumberFacts setup 0 (opening setup).nodes (opening setup).master []
+opening_numbers setup = record {
+  ranges = record {
+    above = λ n i at. absurd (none_at setup.nodes n i at);
+    within = λ n i at. absurd (none_at setup.nodes n i at);
+    covered = λ n i at. absurd (none_at setup.nodes n i at);
+    counted = λ n i at. absurd (none_at setup.nodes n i at);
+    differ = λ n m i j other at. absurd (none_at setup.nodes n i at);
+    apart = λ n m i j at. absurd (none_at setup.nodes n i at);
+  };
+  leases = record {
+    holder = λ n i at. absurd (none_at setup.nodes n i at);
+    present = λ n i at. absurd (none_at setup.nodes n i at);
+    replaced = λ n i at. absurd (none_at setup.nodes n i at);
+  };
+  drawn = record {
+    counted = λ s n term t commit m. absurd (in_none _ m);
+    earlier = λ s m term t n commit i drew. absurd (in_none _ drew);
+    same = λ s m term t n commit i drew. absurd (in_none _ drew);
+    later = λ s m term t n commit i drew. absurd (in_none _ drew);
+  };
+  new = record { each = each_none IsNewDraw };
+  begun = record {
+    drawn = λ s t m. absurd (in_none _ m);
+    writes = λ s t k value m. absurd (in_none _ m);
+    reads = λ s t k answer m. absurd (in_none _ m);
+    commits = λ s n term t c m. absurd (in_none _ m);
+  };
+  placed = record { drawn = λ t c m. absurd (in_none _ m) };
+}
+
+-- ---- sessions and requests
+free_has : (state : SessionState) → phase.Free ≡ state → IsTrue (has_transaction state) → ⊥
+free_has state is has = let clash : has_transaction phase.Free ≡ true = ap has_transaction is ∙ has in cc
+
+not_asked : (s : ℕ) (c : Client) → ClientAt (replicate 16 client_new) s c → HasAsked c.entry.state → ⊥
+not_asked s c at (inl is) = let clash : phase.Free ≡ phase.Committing = not_in s c phase.Committing at is in cc
+not_asked s c at (inr is) = let clash : phase.Free ≡ phase.OpenOutcome = not_in s c phase.OpenOutcome at is in cc
+
+not_working : (s : ℕ) (c : Client) → ClientAt (replicate 16 client_new) s c → (c.entry.state ≡ phase.Open) ⊎ HasAsked c.entry.state → ⊥
+not_working s c at (inl is) = let clash : phase.Free ≡ phase.Open = not_in s c phase.Open at is in cc
+not_working s c at (inr asked) = not_asked s c at asked
+
+pub opening_requests : (setup : SetupNumbers) → RequestFacts (opening setup).nodes (opening setup).clients []
+opening_requests setup = record {
+  have_begun = record { begun = λ s c at has. absurd (free_has c.entry.state (not_in s c c.entry.state at refl) has) };
+  requests = record {
+    own = λ n s i request p at. absurd (none_at setup.nodes n i at);
+    waits = λ n s i request p at. absurd (none_at setup.nodes n i at);
+    one = λ n m s i j request other p q at. absurd (none_at setup.nodes n i at);
+  };
+  starting = record {
+    drawn = λ n s t i at. absurd (none_at setup.nodes n i at);
+    unbegun = λ n s t r i at. absurd (none_at setup.nodes n i at);
+  };
+  pending = record {
+    begun = λ q p. absurd (none_at setup.nodes q.node p.instance_of p.at);
+    keys = λ q p. absurd (none_at setup.nodes q.node p.instance_of p.at);
+    so_far = λ q p. absurd (none_at setup.nodes q.node p.instance_of p.at);
+  };
+  settled = record {
+    begun = λ n s t c keys by i at. absurd (none_at setup.nodes n i at);
+    drawn = λ n s t c keys by i at. absurd (none_at setup.nodes n i at);
+    settled = λ n s t c keys by i at. absurd (none_at setup.nodes n i at);
+  };
+  accepted = record { within = λ n s t keys i at. absurd (none_at setup.nodes n i at) };
+  opened = record {
+    undrawn = λ s t e o. absurd (not_open s t e o);
+    above = λ s t e o. absurd (not_open s t e o);
+  };
+  keys = record {
+    written = λ s t c at working. absurd (not_working s c at working);
+    some = λ s c at asked. absurd (not_asked s c at asked);
+  };
+}
+
+-- ---- the conflict memory, begins and reads
+pub opening_memory : (setup : SetupNumbers) → MemoryFacts setup (opening setup).nodes []
+opening_memory setup = record {
+  recorded = record { hold = λ n i at. absurd (none_at setup.nodes n i at) };
+  apart = record { apart = λ r s n m term other t c u d k v w one. absurd (in_none _ one) };
+}
+
+pub opening_begins : (setup : SetupNumbers) → BeginFacts (opening setup).clients (opening setup).nodes []
+opening_begins setup = record {
+  fresh = record {
+    asked = λ n s i p at. absurd (none_at setup.nodes n i at);
+    accepted = λ n s t c i at. absurd (none_at setup.nodes n i at);
+    drawn = λ n s b t c i at. absurd (none_at setup.nodes n i at);
+  };
+  below = record { below = λ s b e n i o. absurd (not_open s b e o) };
+}

@@ -1,0 +1,15 @@
+-- Each event comes to one outcome.
+pub mod InversionParts
+pub mod InversionOfSessions
+pub mod InversionOfFetches
+pub mod InversionOfRecord
+pub mod InversionOfExtensions
+pub mod InversionOfAsks
+pub mod InversionOfRequests
+pub mod InversionOfAnswers
+pub mod InversionOfCalls
+pub mod InversionOfSweeps
+pub mod InversionOfSteps
+pub mod InversionOfWork
+pub mod Inversion
+pub mod InversionSound

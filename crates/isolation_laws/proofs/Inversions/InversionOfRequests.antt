@@ -1,0 +1,205 @@
+-- What a node's acceptance and decision of a request come to.
+use Rattle.std.proofs.Common.{◌≡◌, ℕ, ◌+◌, ◌≤◌, ◌==◌, max, Bool, true, false, if◌then◌else◌, [], ◌∷◌, Option, Some, None, ◌⊎◌, inl, inr, refl, sym, subst, arith}
+use Rattle.std.specs.Prelude.{IsTrue, slice_get, slice_set, nat_lt, nat_le}
+use Rattle.std.proofs.lemmas.Bool.{ltb-true, eqb-false}
+use Rattle.history_book.specs.declared.cause.Cause.{Cause}
+use Rattle.history_book.specs.declared.cause.Cause.TheVariants as cause
+use Rattle.history_book.specs.declared.item.Actor.TheVariants.{Node, Session}
+use Rattle.history_book.specs.declared.item.Item.{Item}
+use Rattle.history_book.specs.declared.item.Item.TheVariants as item
+use Rattle.oracle_parts.specs.declared.buckets.Verdict.{Verdict}
+use Rattle.oracle_parts.specs.declared.buckets.Verdict.TheVariants.{Free, Conflict, Hidden}
+use Rattle.oracle_parts.specs.declared.instance.Decided.{Decided}
+use Rattle.oracle_parts.specs.declared.instance.Held.{Held}
+use Rattle.oracle_parts.specs.declared.instance.Progress.{Progress}
+use Rattle.oracle_parts.specs.declared.instance.Progress.TheVariants as progress
+use Rattle.oracle_parts.specs.declared.instance.Request.{Request}
+use Rattle.oracle_parts.specs.declared.instance.Request.TheVariants.{Begin, Commit}
+use Rattle.oracle_parts.specs.Instance.{InstanceEntry, held_of}
+use Rattle.oracle_parts.specs.InstanceSteps.{InstanceStep, decided_by, IsStop, moved, without_request, no_stamp_told, epoch_refusal, accept_unless, accept_if_asked, accept_held, request_verdict, out_of_stamps, decide_drawn, decide_by as verdict_by, decide_if_accepted, decide_held}
+use Rattle.oracle_parts.specs.InstanceLaws.{stamp_of}
+use Rattle.machine.specs.State.{Client, State}
+use Rattle.machine.specs.Effect.{Effect}
+use Rattle.machine.specs.Clients.{after_refusal}
+use Rattle.machine.specs.Machine.{Step, step_by, with_post, with_client, with_reading}
+use Rattle.machine.specs.Events.Accept.{accept_by, accept_request, accept_on}
+use Rattle.machine.specs.Events.Decide.{draw_item, decide_by, decide_request, decide_on}
+use Rattle.isolation_laws.specs.Words.{InstanceAt, ClientAt}
+use Rattle.isolation_laws.specs.Sound.{StopOf, AreStops}
+use Rattle.isolation_laws.proofs.Outcome.Outcomes.{OfAccepted, OfEnded, OfDrew}
+use Rattle.cause_rules.specs.OpenAsks.{ends_request}
+use Rattle.isolation_laws.proofs.Outcome.PlainItems.{node_plain, once_silent}
+use Rattle.isolation_laws.proofs.Outcome.OutcomesOfRecord.{Told}
+use Rattle.isolation_laws.proofs.Inversions.InversionParts.{ComesTo, ComesBy, refusal_quiet, told_quiet, tells, still_both, client_back}
+use Rattle.isolation_laws.proofs.Orders.{max_left}
+use Rattle.isolation_laws.proofs.Pushed.{one_quiet}
+
+abbrev pub for_request : State → ℕ → ℕ → Effect (Option InstanceEntry × Client) → Step
+for_request w node session effect = step_by effect (λ (p : Option InstanceEntry × Client). with_client (with_post w node p.0) session p.1)
+
+-- a node and a client
+pub record Served (w : State) (node session : ℕ) (i : InstanceEntry) (held : Held) (c : Client) : Type 0 where
+  pub at : InstanceAt w.nodes node i
+  pub client_at : ClientAt w.clients session c
+  pub has : held_of i session ≡ Some held
+
+-- the request is over by a refusal
+ended : (w : State) (node session seen : ℕ) (i : InstanceEntry) (held : Held) (c : Client) (why : Cause) → IsTrue (ends_request why) → Served w node session i held c → (held.progress ≡ progress.Asked) ⊎ (held.progress ≡ progress.Accepted) → w.seen ≤ seen → ComesTo w (record (with_client (with_post w node (Some (without_request i session))) session (after_refusal held.request c)) { seen = seen }) (item.Refused (Session session) why ∷ [])
+ended w node session seen i held c why ends served undrawn up = (
+  OfEnded (record {
+    node = node;
+    session = session;
+    i = i;
+    held = held;
+    c = c;
+    at = served.at;
+    has = served.has;
+    undrawn = undrawn;
+    client_at = served.client_at;
+    seen = seen;
+    up = up;
+    why = why;
+    ends = ends;
+    items = item.Refused (Session session) why ∷ [];
+    tells = refl;
+    quiet = refusal_quiet (Session session) why;
+  }),
+  refl,
+  refl,
+)
+
+-- ---- accept
+abbrev accept_step : State → ℕ → ℕ → ℕ → Held → Client → InstanceStep (Unit {0}) → Step
+accept_step w node session reading held c taken = for_request (with_reading w reading) node session (accept_by node session reading held.request taken.left c taken.answer)
+
+-- a commit of an older epoch is refused, and nothing else by the epoch
+old_if : (old : Bool) (why : Cause) → ((if old then Some why else None) ≡ None) ⊎ ((if old then Some why else None) ≡ Some why)
+old_if true why = inr refl
+old_if false why = inl refl
+
+epoch_cases : (i : InstanceEntry) (request : Request) → (epoch_refusal i request ≡ None) ⊎ ((start : ℕ) × (epoch_refusal i request ≡ Some (cause.OldEpoch start i.epoch)))
+epoch_cases i (Begin session) = inl refl
+epoch_cases i (Commit session start keys) = elim (old_if (nat_le start i.epoch) (cause.OldEpoch start i.epoch)) [
+  | inl new ↦ inl new
+  | inr old ↦ inr (start, old)
+]
+
+accept_timely : (w : State) (node session reading : ℕ) (i : InstanceEntry) (held : Held) (c : Client) → Served w node session i held c → held.progress ≡ progress.Asked → w.seen ≤ reading + w.setup.skew → (in_time : Bool) → nat_lt reading i.until ≡ in_time → ComesBy w (accept_step w node session reading held c (accept_unless i session held (if in_time then epoch_refusal i held.request else Some (cause.Expired reading i.until))))
+accept_timely w node session reading i held c served asked steady false late = ended w node session (max w.seen reading) i held c (cause.Expired reading i.until) refl served (inl asked) (max_left w.seen reading)
+accept_timely w node session reading i held c served asked steady true before = elim (epoch_cases i held.request) [
+  | inl new ↦ subst (λ (f : Option Cause). ComesBy w (accept_step w node session reading held c (accept_unless i session held f))) (sym new) (
+    OfAccepted (record {
+      node = node;
+      session = session;
+      reading = reading;
+      i = i;
+      held = held;
+      at = served.at;
+      has = served.has;
+      asked = asked;
+      in_time = ltb-true reading i.until before;
+      in_epoch = new;
+      steady = steady;
+      items = item.Accept session node i.term reading ∷ [];
+      tells = refl;
+      quiet = one_quiet (item.Accept session node i.term reading) refl;
+    }),
+    client_back w session (max w.seen reading) c (slice_set w.nodes node (Some (moved i session held progress.Accepted))) served.client_at,
+    refl,
+  )
+  | inr old ↦ subst (λ (f : Option Cause). ComesBy w (accept_step w node session reading held c (accept_unless i session held f))) (sym old.1) (ended w node session (max w.seen reading) i held c (cause.OldEpoch old.0 i.epoch) refl served (inl asked) (max_left w.seen reading))
+]
+
+accept_still : (w : State) (node session reading : ℕ) (post : Option InstanceEntry) (c : Client) (why : Cause) → slice_get w.nodes node ≡ Some post → ClientAt w.clients session c → ComesTo w (with_client (with_post (with_reading w reading) node post) session c) (item.Refused (Node node) why ∷ [])
+accept_still w node session reading post c why at client_at = still_both w node session (max w.seen reading) post c _ at client_at (max_left w.seen reading) (node_plain node why)
+
+accept_progress : (w : State) (node session reading : ℕ) (i : InstanceEntry) (held : Held) (c : Client) → Served w node session i held c → w.seen ≤ reading + w.setup.skew → (p : Progress) → held.progress ≡ p → ComesBy w (accept_step w node session reading held c (accept_if_asked i session reading held p))
+accept_progress w node session reading i held c served steady progress.Asked is = accept_timely w node session reading i held c served is steady (nat_lt reading i.until) refl
+accept_progress w node session reading i held c served steady progress.Accepted is = accept_still w node session reading (Some i) c (cause.NoRequest session) served.at served.client_at
+accept_progress w node session reading i held c served steady (progress.Drawn stamp) is = accept_still w node session reading (Some i) c (cause.NoRequest session) served.at served.client_at
+accept_progress w node session reading i held c served steady (progress.Settled commit how) is = accept_still w node session reading (Some i) c (cause.NoRequest session) served.at served.client_at
+
+accept_found : (w : State) (node session reading : ℕ) (i : InstanceEntry) (c : Client) → InstanceAt w.nodes node i → ClientAt w.clients session c → w.seen ≤ reading + w.setup.skew → (found : Option Held) → held_of i session ≡ found → ComesBy w (for_request (with_reading w reading) node session (accept_request node session reading i c found))
+accept_found w node session reading i c at client_at steady None has = accept_still w node session reading (Some i) c (cause.NoRequest session) at client_at
+accept_found w node session reading i c at client_at steady (Some held) has =
+    subst (λ (f : Option Held). ComesBy w (accept_step w node session reading held c (accept_held i session reading f))) (sym has) (accept_progress w node session reading i held c (record { at = at; client_at = client_at; has = has }) steady held.progress refl)
+
+pub accept_at : (w : State) (node session reading : ℕ) (post : Option InstanceEntry) (c : Client) → slice_get w.nodes node ≡ Some post → ClientAt w.clients session c → w.seen ≤ reading + w.setup.skew → ComesBy w (for_request (with_reading w reading) node session (accept_on node session reading post c))
+accept_at w node session reading None c at client_at steady = accept_still w node session reading None c (cause.NoOracle node) at client_at
+accept_at w node session reading (Some i) c at client_at steady = accept_found w node session reading i c at client_at steady (held_of i session) refl
+
+-- ---- decide
+abbrev decide_step : State → ℕ → ℕ → Held → Client → InstanceStep Decided → Step
+decide_step w node session held c taken = for_request w node session (decide_by node session held taken.left c taken.answer)
+
+-- a refusal that is kept is one of two
+stop_cases : (why : Cause) → IsStop why → ((found : ℕ) × (why ≡ cause.Replaced found)) ⊎ ((ceiling : ℕ) × (why ≡ cause.Spent ceiling))
+stop_cases (cause.Replaced found) is = inl (found, refl)
+stop_cases (cause.Spent ceiling) is = inr (ceiling, refl)
+stop_cases _ is = absurd is
+
+decide_ended : (w : State) (node session : ℕ) (i : InstanceEntry) (held : Held) (c : Client) (why : Cause) → IsTrue (ends_request why) → Served w node session i held c → held.progress ≡ progress.Accepted → ComesTo w (with_client (with_post w node (Some (without_request i session))) session (after_refusal held.request c)) (item.Refused (Session session) why ∷ [])
+decide_ended w node session i held c why ends served accepted = ended w node session w.seen i held c why ends served (inr accepted) (omega arith)
+
+-- no stamp is left
+decide_out : (w : State) (node session : ℕ) (i : InstanceEntry) (held : Held) (c : Client) → Served w node session i held c → held.progress ≡ progress.Accepted → (stop : Option Cause) → StopOf stop → ComesBy w (decide_step w node session held c (out_of_stamps i session held stop))
+decide_out w node session i held c served accepted None is =
+    let x : Item = item.Refused (Session session) (cause.NoStamp i.last) in
+    let k : Told w = record {
+      it = record { node = node; session = session; i = i; held = held; at = served.at; has = served.has };
+      told = record held { told_no_stamp = true };
+      same_request = refl;
+      same_progress = refl;
+      items = if held.told_no_stamp then [] else x ∷ [];
+      silent = once_silent held.told_no_stamp x refl;
+    } in
+    tells w _ k (told_quiet held.told_no_stamp x refl) (client_back w session w.seen c (slice_set w.nodes node (Some (no_stamp_told i session held))) served.client_at)
+decide_out w node session i held c served accepted (Some why) is = elim (stop_cases why is) [
+  | inl replaced ↦ subst (λ (f : Cause). ComesBy w (decide_step w node session held c (out_of_stamps i session held (Some f)))) (sym replaced.1) (decide_ended w node session i held c (cause.Replaced replaced.0) refl served accepted)
+  | inr spent ↦ subst (λ (f : Cause). ComesBy w (decide_step w node session held c (out_of_stamps i session held (Some f)))) (sym spent.1) (decide_ended w node session i held c (cause.Spent spent.0) refl served accepted)
+]
+
+drawn_same : (node term stamp : ℕ) (request : Request) → draw_item node term request (stamp_of (decided_by request stamp)) ∷ [] ≡ draw_item node term request stamp ∷ []
+drawn_same node term stamp (Begin session) = refl
+drawn_same node term stamp (Commit session start keys) = refl
+
+decide_room : (w : State) (node session : ℕ) (i : InstanceEntry) (held : Held) (c : Client) → Served w node session i held c → StopOf i.stop → held.progress ≡ progress.Accepted → request_verdict i.buckets held.request ≡ Free → (spent : Bool) → (i.last == i.ceiling) ≡ spent → ComesBy w (decide_step w node session held c (if spent then out_of_stamps i session held i.stop else decide_drawn i session held (i.last + 1)))
+decide_room w node session i held c served stop accepted free true full = decide_out w node session i held c served accepted i.stop stop
+decide_room w node session i held c served stop accepted free false room = (
+  OfDrew (record {
+    node = node;
+    session = session;
+    i = i;
+    held = held;
+    at = served.at;
+    has = served.has;
+    accepted = accepted;
+    room = λ same. eqb-false i.last i.ceiling room same;
+    free = free;
+  }),
+  client_back w session w.seen c (slice_set w.nodes node (Some (decide_drawn i session held (i.last + 1)).left)) served.client_at,
+  drawn_same node i.term (i.last + 1) held.request,
+)
+
+decide_verdict : (w : State) (node session : ℕ) (i : InstanceEntry) (held : Held) (c : Client) → Served w node session i held c → StopOf i.stop → held.progress ≡ progress.Accepted → (v : Verdict) → request_verdict i.buckets held.request ≡ v → ComesBy w (decide_step w node session held c (verdict_by i session held v))
+decide_verdict w node session i held c served stop accepted Free is = decide_room w node session i held c served stop accepted is (i.last == i.ceiling) refl
+decide_verdict w node session i held c served stop accepted (Conflict key by) is = decide_ended w node session i held c (cause.Conflict key by) refl served accepted
+decide_verdict w node session i held c served stop accepted (Hidden key water) is = decide_ended w node session i held c (cause.Hidden key water) refl served accepted
+
+pub decide_still : (w : State) (node session : ℕ) (post : Option InstanceEntry) (c : Client) (why : Cause) → slice_get w.nodes node ≡ Some post → ClientAt w.clients session c → ComesTo w (with_client (with_post w node post) session c) (item.Refused (Node node) why ∷ [])
+decide_still w node session post c why at client_at = still_both w node session w.seen post c _ at client_at (omega arith) (node_plain node why)
+
+decide_progress : (w : State) (node session : ℕ) (i : InstanceEntry) (held : Held) (c : Client) → Served w node session i held c → StopOf i.stop → (p : Progress) → held.progress ≡ p → ComesBy w (decide_step w node session held c (decide_if_accepted i session held p))
+decide_progress w node session i held c served stop progress.Accepted is = decide_verdict w node session i held c served stop is (request_verdict i.buckets held.request) refl
+decide_progress w node session i held c served stop progress.Asked is = decide_still w node session (Some i) c (cause.NoRequest session) served.at served.client_at
+decide_progress w node session i held c served stop (progress.Drawn stamp) is = decide_still w node session (Some i) c (cause.NoRequest session) served.at served.client_at
+decide_progress w node session i held c served stop (progress.Settled commit how) is = decide_still w node session (Some i) c (cause.NoRequest session) served.at served.client_at
+
+decide_found : (w : State) (node session : ℕ) (i : InstanceEntry) (c : Client) → InstanceAt w.nodes node i → ClientAt w.clients session c → StopOf i.stop → (found : Option Held) → held_of i session ≡ found → ComesBy w (for_request w node session (decide_request node session i c found))
+decide_found w node session i c at client_at stop None has = decide_still w node session (Some i) c (cause.NoRequest session) at client_at
+decide_found w node session i c at client_at stop (Some held) has =
+    subst (λ (f : Option Held). ComesBy w (decide_step w node session held c (decide_held i session f))) (sym has) (decide_progress w node session i held c (record { at = at; client_at = client_at; has = has }) stop held.progress refl)
+
+pub decide_at : (w : State) (node session : ℕ) (post : Option InstanceEntry) (c : Client) → AreStops w.nodes → slice_get w.nodes node ≡ Some post → ClientAt w.clients session c → ComesBy w (for_request w node session (decide_on node session post c))
+decide_at w node session None c stops at client_at = decide_still w node session None c (cause.NoOracle node) at client_at
+decide_at w node session (Some i) c stops at client_at = decide_found w node session i c at client_at (stops.stop node i at) (held_of i session) refl

@@ -1,0 +1,147 @@
+-- For call_laws too.
+-- What a session has under way fits its state, so that its next step comes to an outcome.
+use Rattle.std.proofs.Common.{◌≡◌, ℕ, Bool, true, false, IsTrue, if◌then◌else◌, List, [], ◌∷◌, Option, Some, None, ◌⊎◌, inl, inr, refl, sym, ◌∙◌, ap, subst}
+use Rattle.std.proofs.lemmas.Option.{same_Some}
+use Rattle.port_io.specs.declared.weather.Fate.{Fate}
+use Rattle.history_book.specs.declared.cause.Cause.{Cause}
+use Rattle.history_book.specs.declared.cause.Cause.TheVariants.{Idle}
+use Rattle.history_book.specs.declared.item.Item.{Item}
+use Rattle.client_parts.specs.declared.asks.Ask.{Ask}
+use Rattle.client_parts.specs.declared.asks.Ask.TheVariants as ask
+use Rattle.client_parts.specs.declared.session.State.{State as SessionState}
+use Rattle.client_parts.specs.declared.session.State.TheVariants as phase
+use Rattle.client_parts.specs.Completion.{finish_asks, undo_asks, first_ask}
+use Rattle.client_parts.specs.Resolve.{Settling, own_settling}
+use Rattle.client_parts.specs.SessionSteps.{SessionEntry, step_refusal, has_transaction}
+use Rattle.machine.specs.State.{UnderWay, Nothing, Reads, Settles, Completes, Client, State}
+use Rattle.machine.specs.Clients.{is_reading, is_reading_by}
+use Rattle.machine.specs.Events.Step.{own_resolve, work_by, work_of, step_at, step_on, step_by as step_unless}
+use Rattle.isolation_laws.specs.Words.{ClientAt}
+use Rattle.isolation_laws.specs.Holds.{Holds}
+use Rattle.isolation_laws.proofs.Outcome.PlainItems.{none_plain, Mild, session_plain, mild_is}
+use Rattle.isolation_laws.proofs.Inversions.InversionParts.{ComesBy, still_client}
+use Rattle.isolation_laws.proofs.Inversions.InversionOfCalls.{NoList}
+use Rattle.isolation_laws.proofs.Inversions.InversionOfSteps.{for_stores, read_comes, IsResolve, settle_comes, IsCompletion, complete_comes}
+
+-- what is done next is what is under way, and fits the state
+abbrev pub IsWork : Client → UnderWay → Type 0
+IsWork c Nothing = Unit {0}
+IsWork c (Reads r) = c.under_way ≡ Reads r
+IsWork c (Settles x) = (c.entry.state ≡ phase.OpenOutcome) × IsResolve c x
+IsWork c (Completes []) = Unit {0}
+IsWork c (Completes (asked ∷ asks)) = IsCompletion c asked asks
+
+-- ---- the next step of what is under way
+work_comes : (w : State) (session : ℕ) (fate : Fate) (c : Client) → ClientAt w.clients session c → (work : UnderWay) → IsWork c work → ComesBy w (for_stores w session (step_at session fate c w.rows w.pairs work))
+work_comes w session fate c at Nothing is = still_client w session c [] at none_plain
+work_comes w session fate c at (Reads r) is = read_comes w session fate c r at is
+work_comes w session fate c at (Settles x) is = settle_comes w session fate c x at is.0 is.1
+work_comes w session fate c at (Completes []) is = still_client w session c [] at none_plain
+work_comes w session fate c at (Completes (asked ∷ asks)) is = complete_comes w session fate c asked asks at is
+
+-- ---- no completion lists keys
+finish_no_list : (t commit : ℕ) (left : List ℕ) (asked : Ask) (asks : List Ask) → asked ∷ asks ≡ finish_asks t commit left → NoList asked
+finish_no_list t commit [] asked asks shape txn is =
+    let first : Some asked ≡ Some (ask.Remove t) = ap first_ask shape in
+    let same : ask.Keys txn ≡ ask.Remove t = sym is ∙ same_Some asked (ask.Remove t) first in
+    cc
+finish_no_list t commit (k ∷ ks) asked asks shape txn is =
+    let first : Some asked ≡ Some (ask.Shadow k t commit) = ap first_ask shape in
+    let same : ask.Keys txn ≡ ask.Shadow k t commit = sym is ∙ same_Some asked (ask.Shadow k t commit) first in
+    cc
+
+undo_no_list : (t : ℕ) (left : List ℕ) (asked : Ask) (asks : List Ask) → asked ∷ asks ≡ undo_asks t left → NoList asked
+undo_no_list t [] asked asks shape txn is = absurd (cc)
+undo_no_list t (k ∷ ks) asked asks shape txn is =
+    let first : Some asked ≡ Some (ask.Erase k t) = ap first_ask shape in
+    let same : ask.Keys txn ≡ ask.Erase k t = sym is ∙ same_Some asked (ask.Erase k t) first in
+    cc
+
+completes_no_list : (w : State) (h : List Item) (session : ℕ) (c : Client) (undo : Bool) (asked : Ask) (asks : List Ask) → Holds w h → ClientAt w.clients session c → c.entry.state ≡ phase.Completing undo → c.under_way ≡ Completes (asked ∷ asks) → NoList asked
+completes_no_list w h session c false asked asks holds at completing under_way =
+    let finish = holds.under_way.finishing.finish session c (asked ∷ asks) at completing under_way in
+    finish_no_list finish.0 finish.1 finish.4.left asked asks finish.4.shape
+completes_no_list w h session c true asked asks holds at completing under_way =
+    let begun = holds.requests.have_begun.begun session c at (subst (λ (state : SessionState). IsTrue (has_transaction state)) (sym completing) refl) in
+    let undo = holds.under_way.undoing.undo session begun.0 c (asked ∷ asks) at completing begun.1 under_way in
+    undo_no_list begun.0 undo.left asked asks undo.shape
+
+-- ---- what is under way
+-- the resolve that is due, where there is one
+own_reads_none : (start : Option ℕ) (keys : List ℕ) (work : UnderWay) → own_resolve start keys ≡ work → (work ≡ Nothing) ⊎ ((x : Settling) × (work ≡ Settles x))
+own_reads_none None keys work is = inl (sym is)
+own_reads_none (Some start) [] work is = inl (sym is)
+own_reads_none (Some start) (key ∷ keys) work is = inr (own_settling key start, sym is)
+
+own_work : (c : Client) → c.entry.state ≡ phase.OpenOutcome → c.under_way ≡ Nothing → IsWork c (own_resolve c.entry.start c.entry.keys)
+own_work c is_open none = elim (own_reads_none c.entry.start c.entry.keys (own_resolve c.entry.start c.entry.keys) refl) [
+  | inl idle ↦ subst (λ (work : UnderWay). IsWork c work) (sym idle) tt
+  | inr due ↦ subst (λ (work : UnderWay). IsWork c work) (sym due.1) (is_open, inr (none, due.1))
+]
+
+settles_only : (w : State) (h : List Item) (session : ℕ) (c : Client) (x : Settling) → Holds w h → ClientAt w.clients session c → c.under_way ≡ Settles x → IsWork c (Settles x)
+settles_only w h session c x holds at under_way = (holds.under_way.settling.only session c x at under_way, inl under_way)
+
+-- no step is made of a session that neither completes, resolves nor reads
+no_step : (reading : Bool) → (if reading then None else Some Idle) ≡ None → reading ≡ false → ⊥
+no_step true go none = cc
+no_step false go none = cc
+
+completes_only : (w : State) (h : List Item) (session : ℕ) (c : Client) (asked : Ask) (asks : List Ask) → Holds w h → ClientAt w.clients session c → c.under_way ≡ Completes (asked ∷ asks) → (state : SessionState) → c.entry.state ≡ state → step_refusal state (is_reading c) ≡ None → IsCompletion c asked asks
+completes_only w h session c asked asks holds at under_way (phase.Completing undo) is go = record {
+  undo = undo;
+  completing = is;
+  under_way = under_way;
+  no_list = completes_no_list w h session c undo asked asks holds at is under_way;
+}
+completes_only w h session c asked asks holds at under_way phase.OpenOutcome is go = elim (holds.under_way.settling.resolve session c at is) [
+  | inl none ↦ let clash : Nothing ≡ Completes (asked ∷ asks) = sym none ∙ under_way in absurd (cc)
+  | inr (x, t, settles, start, own) ↦ let clash : Settles x ≡ Completes (asked ∷ asks) = sym settles ∙ under_way in absurd (cc)
+]
+completes_only w h session c asked asks holds at under_way phase.Free is go = absurd (no_step (is_reading c) go (ap is_reading_by under_way))
+completes_only w h session c asked asks holds at under_way phase.Asking is go = absurd (no_step (is_reading c) go (ap is_reading_by under_way))
+completes_only w h session c asked asks holds at under_way phase.Open is go = absurd (no_step (is_reading c) go (ap is_reading_by under_way))
+completes_only w h session c asked asks holds at under_way phase.Committing is go = absurd (no_step (is_reading c) go (ap is_reading_by under_way))
+completes_only w h session c asked asks holds at under_way phase.Gone is go = absurd (cc)
+
+under_way_fits : (w : State) (h : List Item) (session : ℕ) (c : Client) → Holds w h → ClientAt w.clients session c → step_refusal c.entry.state (is_reading c) ≡ None → (work : UnderWay) → c.under_way ≡ work → IsWork c work
+under_way_fits w h session c holds at go Nothing is = tt
+under_way_fits w h session c holds at go (Reads r) is = is
+under_way_fits w h session c holds at go (Settles x) is = settles_only w h session c x holds at is
+under_way_fits w h session c holds at go (Completes []) is = tt
+under_way_fits w h session c holds at go (Completes (asked ∷ asks)) is = completes_only w h session c asked asks holds at is c.entry.state refl go
+
+work_cases : (state : SessionState) (e : SessionEntry) (work : UnderWay) → ((state ≡ phase.OpenOutcome) × (work ≡ Nothing)) ⊎ (work_by state e work ≡ work)
+work_cases phase.OpenOutcome e Nothing = inl (refl, refl)
+work_cases phase.OpenOutcome e (Reads r) = inr refl
+work_cases phase.OpenOutcome e (Settles x) = inr refl
+work_cases phase.OpenOutcome e (Completes asks) = inr refl
+work_cases phase.Free e work = inr refl
+work_cases phase.Asking e work = inr refl
+work_cases phase.Open e work = inr refl
+work_cases phase.Committing e work = inr refl
+work_cases (phase.Completing undo) e work = inr refl
+work_cases phase.Gone e work = inr refl
+
+pub work_fits : (w : State) (h : List Item) (session : ℕ) (c : Client) → Holds w h → ClientAt w.clients session c → step_refusal c.entry.state (is_reading c) ≡ None → IsWork c (work_of c)
+work_fits w h session c holds at go = elim (work_cases c.entry.state c.entry c.under_way) [
+  | inl due ↦ subst (λ (state : SessionState). IsWork c (work_by state c.entry c.under_way)) (sym due.0) (subst (λ (work : UnderWay). IsWork c (work_by phase.OpenOutcome c.entry work)) (sym due.1) (own_work c due.0 due.1))
+  | inr same ↦ subst (λ (work : UnderWay). IsWork c work) (sym same) (under_way_fits w h session c holds at go c.under_way refl)
+]
+
+idle_mild : (reading : Bool) → Mild (if reading then None else Some Idle)
+idle_mild true = tt
+idle_mild false = refl
+
+step_mild : (state : SessionState) (reading : Bool) → Mild (step_refusal state reading)
+step_mild phase.Gone reading = refl
+step_mild phase.OpenOutcome reading = tt
+step_mild (phase.Completing undo) reading = tt
+step_mild _ reading = idle_mild reading
+
+step_comes : (w : State) (h : List Item) (session : ℕ) (fate : Fate) (c : Client) → Holds w h → ClientAt w.clients session c → (why : Option Cause) → step_refusal c.entry.state (is_reading c) ≡ why → ComesBy w (for_stores w session (step_unless session fate c w.rows w.pairs why))
+step_comes w h session fate c holds at (Some why) go = still_client w session c _ at (session_plain session why (mild_is (step_refusal c.entry.state (is_reading c)) why go (step_mild c.entry.state (is_reading c))))
+step_comes w h session fate c holds at None go = work_comes w session fate c at (work_of c) (work_fits w h session c holds at go)
+
+pub step_at_client : (w : State) (h : List Item) (session : ℕ) (fate : Fate) (c : Client) → Holds w h → ClientAt w.clients session c → ComesBy w (for_stores w session (step_on session fate c w.rows w.pairs))
+step_at_client w h session fate c holds at = step_comes w h session fate c holds at (step_refusal c.entry.state (is_reading c)) refl

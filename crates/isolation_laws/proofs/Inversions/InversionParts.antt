@@ -1,0 +1,129 @@
+-- For call_laws too.
+-- What it is for an event to come to an outcome, and what comes to nothing.
+use Rattle.std.proofs.Common.{◌≡◌, ℕ, ◌≤◌, Bool, true, false, if◌then◌else◌, List, [], ◌∷◌, Option, Some, inl, inr, refl, sym, ◌∙◌, ap, subst, arith}
+use Rattle.std.specs.Prelude.{slice_get, slice_set}
+use Rattle.std.proofs.lemmas.Option.{same_Some}
+use Rattle.std.proofs.lemmas.List.Elements.{All-nil, All-cons}
+use Rattle.history_book.specs.declared.cause.Cause.{Cause}
+use Rattle.history_book.specs.declared.item.Actor.{Actor}
+use Rattle.history_book.specs.declared.item.Actor.TheVariants.{Node}
+use Rattle.history_book.specs.declared.item.Item.{Item}
+use Rattle.history_book.specs.declared.item.Item.TheVariants as item
+use Rattle.client_parts.specs.declared.session.State.TheVariants as phase
+use Rattle.oracle_parts.specs.declared.instance.Held.{Held}
+use Rattle.oracle_parts.specs.Instance.{InstanceEntry, held_of, with_request}
+use Rattle.oracle_parts.specs.InstanceSteps.{instance_stopped}
+use Rattle.machine.specs.State.{Client, State}
+use Rattle.machine.specs.Clients.{is_reading}
+use Rattle.machine.specs.Machine.{Step, with_post, with_client}
+use Rattle.isolation_laws.specs.Words.{InstanceAt, ClientAt}
+use Rattle.isolation_laws.specs.Quiet.{Quiet, AllQuiet}
+use Rattle.isolation_laws.proofs.Lookups.{set_same, instance_changed, held_set}
+use Rattle.isolation_laws.proofs.Outcome.PlainItems.{AllPlain, all_quiet}
+use Rattle.isolation_laws.proofs.Outcome.OutcomesOfRecord.{Alike, AlikeNodes, Stopped, Told, StillBy, Rests, Stops, Tells}
+use Rattle.isolation_laws.proofs.Outcome.OutcomesOfSessions.{AtOpen}
+use Rattle.isolation_laws.proofs.Outcome.Outcomes.{Outcome, OfStill, left_by, told_by_outcome}
+use Rattle.isolation_laws.proofs.Pushed.{one_quiet}
+
+-- the state and the items are those of an outcome
+abbrev pub ComesTo : (w : State) → State → List Item → Type 0
+ComesTo w left items = (o : Outcome w) × (left ≡ left_by w o) × (items ≡ told_by_outcome w o)
+
+abbrev pub ComesBy : (w : State) → Step → Type 0
+ComesBy w step = ComesTo w step.state step.items
+
+-- ---- quiet items
+pub none_quiet : AllQuiet []
+none_quiet = All-nil Quiet
+
+pub two_quiet : (x y : Item) → Quiet x → Quiet y → AllQuiet (x ∷ y ∷ [])
+two_quiet x y one two = All-cons Quiet x (y ∷ []) one (one_quiet y two)
+
+pub refusal_quiet : (actor : Actor) (why : Cause) → AllQuiet (item.Refused actor why ∷ [])
+refusal_quiet actor why = one_quiet (item.Refused actor why) refl
+
+pub told_quiet : (told : Bool) (x : Item) → Quiet x → AllQuiet (if told then [] else x ∷ [])
+told_quiet true x quiet = none_quiet
+told_quiet false x quiet = one_quiet x quiet
+
+-- ---- instances that are alike
+pub alike_same : (i : InstanceEntry) → Alike i i
+alike_same i = record {
+  term = refl;
+  epoch = refl;
+  last = refl;
+  ceiling = refl;
+  until = refl;
+  buckets = refl;
+  stop = λ s. s;
+  requests = λ s new has. (new, has, refl, refl);
+}
+
+pub nodes_same : (nodes : List (Option InstanceEntry)) → AlikeNodes nodes nodes
+nodes_same nodes = record { each = λ n j at. (j, at, alike_same j) }
+
+pub nodes_alike : (nodes : List (Option InstanceEntry)) (n : ℕ) (i j : InstanceEntry) → InstanceAt nodes n i → Alike i j → AlikeNodes nodes (slice_set nodes n (Some j))
+nodes_alike nodes n i j at alike = record {
+  each = λ m k there. elim (instance_changed nodes n m j k there) [
+    | inl here ↦ (i, subst (λ m. InstanceAt nodes m i) (sym here.0) at, subst (λ k. Alike i k) (sym here.1) alike)
+    | inr other ↦ (k, other.1, alike_same k)
+  ];
+}
+
+-- a request was told something
+pub alike_told : (i : InstanceEntry) (session : ℕ) (held told : Held) → held_of i session ≡ Some held → told.request ≡ held.request → told.progress ≡ held.progress → Alike i (with_request i session (Some told))
+alike_told i session held told has request progress = record {
+  term = refl;
+  epoch = refl;
+  last = refl;
+  ceiling = refl;
+  until = refl;
+  buckets = refl;
+  stop = λ s. s;
+  requests = λ s new there. elim (held_set i session s (Some told) new there) [
+    | inl here ↦ let same : new ≡ told = sym (same_Some told new here.1) in
+        (held, subst (λ r. held_of i r ≡ Some held) (sym here.0) has, ap (λ (x : Held). x.request) same ∙ request, ap (λ (x : Held). x.progress) same ∙ progress)
+    | inr other ↦ (new, other.1, refl, refl)
+  ];
+}
+
+-- ---- what changes nothing
+pub still : (w : State) (seen : ℕ) (nodes : List (Option InstanceEntry)) (left : State) (items : List Item) → w.seen ≤ seen → AlikeNodes w.nodes nodes → AllQuiet items → StillBy w nodes items → left ≡ record w { seen = seen; nodes = nodes } → ComesTo w left items
+still w seen nodes left items up alike quiet how same = (OfStill (record { seen = seen; up = up; nodes = nodes; alike = alike; items = items; quiet = quiet; how = how }), same, refl)
+
+-- the nodes stay as they were
+pub rests : (w : State) (seen : ℕ) (nodes : List (Option InstanceEntry)) (left : State) (items : List Item) → w.seen ≤ seen → nodes ≡ w.nodes → AllPlain items → left ≡ record w { seen = seen; nodes = nodes } → ComesTo w left items
+rests w seen nodes left items up same plain is = still w seen nodes left items up (subst (λ new. AlikeNodes w.nodes new) (sym same) (nodes_same w.nodes)) (all_quiet items plain) (Rests same plain) is
+
+pub still_all : (w left : State) (items : List Item) → AllPlain items → left ≡ w → ComesTo w left items
+still_all w left items plain same = rests w w.seen w.nodes left items (omega arith) refl plain same
+
+-- an instance keeps a refusal of the master record
+pub stops : (w : State) (seen : ℕ) (left : State) (k : Stopped w) → w.seen ≤ seen → Alike k.i (instance_stopped k.i k.why) → left ≡ record w { seen = seen; nodes = slice_set w.nodes k.node (Some (instance_stopped k.i k.why)) } → ComesTo w left (item.Refused (Node k.node) k.why ∷ [])
+stops w seen left k up alike same = still w seen (slice_set w.nodes k.node (Some (instance_stopped k.i k.why))) left _ up (nodes_alike w.nodes k.node k.i (instance_stopped k.i k.why) k.at alike) (refusal_quiet (Node k.node) k.why) (Stops k refl refl) same
+
+-- a request was told that it has to wait
+pub tells : (w left : State) (k : Told w) → AllQuiet k.items → left ≡ record w { nodes = slice_set w.nodes k.it.node (Some (with_request k.it.i k.it.session (Some k.told))) } → ComesTo w left k.items
+tells w left k quiet same = still w w.seen (slice_set w.nodes k.it.node (Some (with_request k.it.i k.it.session (Some k.told)))) left k.items (omega arith)
+    (nodes_alike w.nodes k.it.node k.it.i (with_request k.it.i k.it.session (Some k.told)) k.it.at (alike_told k.it.i k.it.session k.it.held k.told k.it.has k.same_request k.same_progress)) quiet (Tells k refl refl) same
+
+-- a client was put back
+pub still_client : (w : State) (session : ℕ) (c : Client) (items : List Item) → ClientAt w.clients session c → AllPlain items → ComesTo w (with_client w session c) items
+still_client w session c items at plain = still_all w (with_client w session c) items plain (ap (λ (clients : List Client). record w { clients = clients }) (set_same w.clients session c at))
+
+-- a node was put back
+pub still_post : (w : State) (node seen : ℕ) (post : Option InstanceEntry) (items : List Item) → slice_get w.nodes node ≡ Some post → w.seen ≤ seen → AllPlain items → ComesTo w (record (with_post w node post) { seen = seen }) items
+still_post w node seen post items at up plain = rests w seen (slice_set w.nodes node post) (record (with_post w node post) { seen = seen }) items up (set_same w.nodes node post at) plain refl
+
+-- a client was put back, beside other nodes
+pub client_back : (w : State) (session seen : ℕ) (c : Client) (nodes : List (Option InstanceEntry)) → ClientAt w.clients session c → record w { seen = seen; nodes = nodes; clients = slice_set w.clients session c } ≡ record w { seen = seen; nodes = nodes }
+client_back w session seen c nodes at = ap (λ (clients : List Client). record w { seen = seen; nodes = nodes; clients = clients }) (set_same w.clients session c at)
+
+-- both were put back
+pub still_both : (w : State) (node session seen : ℕ) (post : Option InstanceEntry) (c : Client) (items : List Item) → slice_get w.nodes node ≡ Some post → ClientAt w.clients session c → w.seen ≤ seen → AllPlain items → ComesTo w (record (with_client (with_post w node post) session c) { seen = seen }) items
+still_both w node session seen post c items at client_at up plain =
+    rests w seen (slice_set w.nodes node post) (record (with_client (with_post w node post) session c) { seen = seen }) items up (set_same w.nodes node post at) plain (client_back w session seen c (slice_set w.nodes node post) client_at)
+
+-- an open transaction without a read under way
+abbrev pub at_open : (w : State) (session : ℕ) (c : Client) → ClientAt w.clients session c → c.entry.state ≡ phase.Open → is_reading c ≡ false → AtOpen w
+at_open w session c at is_open idle = record { session = session; c = c; client_at = at; is_open = is_open; idle = idle }

@@ -1,0 +1,5 @@
+-- The conflict memory.
+pub mod RecordedCommits
+pub mod MemoryStays
+pub mod MemoryOfDraws
+pub mod MemoryKept

@@ -1,0 +1,164 @@
+-- The conflict memory where a stamp is drawn: its instance records the keys, and a free verdict keeps commits of one key
+-- apart.
+use Rattle.std.proofs.Common.{◌≡◌, ◌≢◌, ℕ, ◌+◌, ◌<◌, ◌≤◌, List, [], ◌++◌, Option, Some, None, ◌⊎◌, inl, inr, refl, sym, ◌∙◌, ap, subst, arith, Contains}
+use Rattle.std.specs.Option.{IsSomeAnd, option_or}
+use Rattle.std.proofs.lemmas.Bool.{cases_eq}
+use Rattle.std.proofs.lemmas.List.{append-nil}
+use Rattle.std.proofs.lemmas.Option.{same_Some, none-some}
+use Rattle.history_book.specs.Isolation.{Wrote, last_write}
+use Rattle.history_book.specs.declared.item.Item.{Item}
+use Rattle.history_book.specs.declared.item.Item.TheVariants.{Draw, Write}
+use Rattle.history_book.proofs.HistoryLemmas.{last_write-push}
+use Rattle.oracle_parts.specs.declared.buckets.Verdict.{Verdict}
+use Rattle.oracle_parts.specs.declared.buckets.Verdict.TheVariants.{Free}
+use Rattle.oracle_parts.specs.declared.instance.Request.{Request}
+use Rattle.oracle_parts.specs.declared.instance.Request.TheVariants.{Begin as BeginRequest, Commit}
+use Rattle.oracle_parts.specs.Buckets.{contents, last_commit, verdict, record_pairs, IsShown}
+use Rattle.oracle_parts.specs.InstanceSteps.{pairs_by, request_verdict}
+use Rattle.oracle_parts.proofs.BucketVerdicts.{verdict_shown, record_pairs-append}
+use Rattle.oracle_parts.proofs.LastCommits.{last_commit_greatest}
+use Rattle.machine.specs.State.{State}
+use Rattle.isolation_laws.specs.Words.{DrewCommit, written_keys, recorded, recorded_by}
+use Rattle.isolation_laws.specs.Memory.{AreRecorded, DrawnApart, MemoryFacts}
+use Rattle.isolation_laws.specs.Holds.{Holds}
+use Rattle.isolation_laws.proofs.Outcome.OutcomesOfStamps.{Drew, drew_state, drew_items}
+use Rattle.isolation_laws.proofs.OnceEach.{drawn_once}
+use Rattle.isolation_laws.proofs.Pushed.{recorded-push}
+use Rattle.isolation_laws.proofs.Memory.RecordedCommits.{recorded_contains, recorded_rise, recorded_by_own, recorded_by_other, wrote_key}
+use Rattle.isolation_laws.proofs.Memory.MemoryStays.{unwritten}
+use Rattle.isolation_laws.proofs.Numbers.NumbersOfDraws.{start_drawn, commit_drawn, asker_of, draw_item_is, drew_cases, drew_room}
+use Rattle.isolation_laws.proofs.Numbers.NewStamps.{new_draw, drew_within}
+use Rattle.isolation_laws.proofs.Numbers.NewDraws.{drew_or}
+use Rattle.isolation_laws.proofs.Requests.RequestsOfDraws.{drew_keys, DrawsFor, draws_commit, drawing, drawing_pending}
+use Rattle.isolation_laws.proofs.Orders.{three_ways}
+
+-- ---- what the draw records
+own_keys : (w : State) (h : List Item) (k : Drew w) (r t : ℕ) (keys : List ℕ) → Holds w h → k.held.request ≡ Commit r t keys → keys ≡ written_keys h t
+own_keys w h k r t keys holds is = (holds.requests.pending.keys (drawing w k t keys) (drawing_pending w h k r t keys holds is)).0
+
+now_recorded : (w : State) (h : List Item) (k : Drew w) (request : Request) → Holds w h → k.held.request ≡ request → recorded_by (h ++ drew_items w k) k.i.term (Draw (asker_of request) k.node k.i.term (start_drawn request (k.i.last + 1)) (commit_drawn request (k.i.last + 1))) ≡ pairs_by request (k.i.last + 1)
+now_recorded w h k (BeginRequest r) holds is = refl
+now_recorded w h k (Commit r t keys) holds is =
+    recorded_by_own (h ++ drew_items w k) r k.node k.i.term t (k.i.last + 1)
+    ∙ ap (λ ks. pairs_by (Commit r t ks) (k.i.last + 1)) (drew_keys w k h t ∙ sym (own_keys w h k r t keys holds is))
+
+none_recorded : (w : State) (h : List Item) (k : Drew w) (request : Request) (term : ℕ) → k.i.term ≢ term → recorded_by (h ++ drew_items w k) term (Draw (asker_of request) k.node k.i.term (start_drawn request (k.i.last + 1)) (commit_drawn request (k.i.last + 1))) ≡ []
+none_recorded w h k (BeginRequest r) term other = refl
+none_recorded w h k (Commit r t keys) term other = recorded_by_other (h ++ drew_items w k) r k.node k.i.term term t (k.i.last + 1) other
+
+drew_recorded : (w : State) (h : List Item) (k : Drew w) (term : ℕ) → recorded (h ++ drew_items w k) term ≡ recorded h term ++ recorded_by (h ++ drew_items w k) term (Draw (asker_of k.held.request) k.node k.i.term (start_drawn k.held.request (k.i.last + 1)) (commit_drawn k.held.request (k.i.last + 1)))
+drew_recorded w h k term =
+    recorded-push h (new_draw w k) term (λ t drew. drew_keys w k h t)
+    ∙ ap (λ x. recorded h term ++ recorded_by (h ++ drew_items w k) term x) (draw_item_is k.node k.i.term k.held.request (k.i.last + 1))
+
+own_buckets : (w : State) (h : List Item) (k : Drew w) → Holds w h → record_pairs k.i.buckets (pairs_by k.held.request (k.i.last + 1)) ≡ contents w.setup.buckets w.setup.width (recorded (h ++ drew_items w k) k.i.term)
+own_buckets w h k holds =
+    let before : k.i.buckets ≡ contents w.setup.buckets w.setup.width (recorded h k.i.term) = holds.memory.recorded.hold k.node k.i k.at in
+    let all : recorded (h ++ drew_items w k) k.i.term ≡ recorded h k.i.term ++ pairs_by k.held.request (k.i.last + 1) =
+    drew_recorded w h k k.i.term ∙ ap (λ ps. recorded h k.i.term ++ ps) (now_recorded w h k k.held.request holds refl) in
+    ap (λ bs. record_pairs bs (pairs_by k.held.request (k.i.last + 1))) before
+    ∙ (sym (record_pairs-append _ (recorded h k.i.term) (pairs_by k.held.request (k.i.last + 1)))
+    ∙ ap (contents w.setup.buckets w.setup.width) (sym all))
+
+drew_records : (w : State) (h : List Item) (k : Drew w) → Holds w h → AreRecorded w.setup (drew_state w k).nodes (h ++ drew_items w k)
+drew_records w h k holds = record {
+  hold = λ n j at. elim (drew_cases w k n j at) [
+    | inl here ↦ ap (λ x. x.buckets) here.1 ∙ (own_buckets w h k holds ∙ ap (λ term. contents w.setup.buckets w.setup.width (recorded (h ++ drew_items w k) term)) (ap (λ x. x.term) (sym here.1)))
+    | inr there ↦
+        let other : k.i.term ≢ j.term = λ same. holds.numbers.ranges.differ n k.node j k.i there.0 there.1 k.at (sym same) in
+        holds.memory.recorded.hold n j there.1 ∙ ap (contents w.setup.buckets w.setup.width)
+        (sym (drew_recorded w h k j.term ∙ (ap (λ ps. recorded h j.term ++ ps) (none_recorded w h k k.held.request j.term other) ∙ append-nil (recorded h j.term))))
+  ];
+}
+
+-- ---- a free verdict: what was recorded of the keys is not above the start
+below_last : (last : Option ℕ) (d t : ℕ) → IsSomeAnd last (λ l. d ≤ l) → ((c : ℕ) → last ≡ Some c → c ≤ t) → d ≤ t
+below_last None d t some shown = absurd some
+below_last (Some l) d t some shown = omega (arith, some, shown l refl)
+
+free_shown : (w : State) (h : List Item) (k : Drew w) (r t : ℕ) (keys : List ℕ) → Holds w h → k.held.request ≡ Commit r t keys → IsShown w.setup.buckets w.setup.width (recorded h k.i.term) t keys Free
+free_shown w h k r t keys holds is =
+    let buckets : contents w.setup.buckets w.setup.width (recorded h k.i.term) ≡ k.i.buckets = sym (holds.memory.recorded.hold k.node k.i k.at) in
+    let free : verdict (contents w.setup.buckets w.setup.width (recorded h k.i.term)) t keys ≡ Free = ap (λ bs. verdict bs t keys) buckets ∙ (ap (request_verdict k.i.buckets) (sym is) ∙ k.free) in
+    subst (λ (v : Verdict). IsShown w.setup.buckets w.setup.width (recorded h k.i.term) t keys v) free
+    (verdict_shown w.setup.buckets w.setup.width (recorded h k.i.term) t keys (holds.in_range.buckets).0 (holds.in_range.width).0 (recorded_rise h k.i.term holds.numbers.new))
+
+free_below : (w : State) (h : List Item) (k : Drew w) (r t : ℕ) (keys : List ℕ) (s m u d key : ℕ) (value own : List ℕ) → Holds w h → k.held.request ≡ Commit r t keys → DrewCommit h s m k.i.term u d → Wrote h u key value → Wrote h t key own → d ≤ t
+free_below w h k r t keys s m u d key value own holds is drew wrote mine =
+    let has : Contains keys key = subst (λ ks. Contains ks key) (sym (own_keys w h k r t keys holds is)) (wrote_key h t key own mine) in
+    below_last (last_commit (recorded h k.i.term) key) d t
+    (last_commit_greatest (recorded h k.i.term) key d (recorded_rise h k.i.term holds.numbers.new) (recorded_contains h s m k.i.term u d key value drew wrote))
+    (λ c last. free_shown w h k r t keys holds is key c has last)
+
+-- a start and a commit are never the same stamp
+start_is_no_commit : (s n term t r m other u d : ℕ) → Draw s n term t None ≡ Draw r m other u (Some d) → ⊥
+start_is_no_commit s n term t r m other u d same = cc
+
+apart_stamps : (w : State) (h : List Item) (k : Drew w) (r t : ℕ) (keys : List ℕ) (s m other u d : ℕ) → Holds w h → k.held.request ≡ Commit r t keys → DrewCommit h s m other u d → d ≡ t → ⊥
+apart_stamps w h k r t keys s m other u d holds is drew same =
+    let begun = holds.requests.pending.begun (drawing w k t keys) (drawing_pending w h k r t keys holds is) in
+    let start = holds.numbers.begun.drawn k.session t begun in
+    start_is_no_commit k.session start.0 start.1 t s m other u d (drawn_once h k.session s start.0 m start.1 other t u None (Some d) holds.numbers.new start.2 drew (sym same))
+
+not_above : (d t : ℕ) → d ≤ t → (d ≡ t → ⊥) → d < t
+not_above d t low other = elim (cases_eq d t) [
+  | inl same ↦ absurd (other same)
+  | inr differ ↦ omega (arith, low, differ)
+]
+
+-- the commit that is drawn now, and one before
+apart_now : (w : State) (h : List Item) (k : Drew w) (r t : ℕ) (keys : List ℕ) (s m other u d key : ℕ) (own value : List ℕ) → Holds w h → k.held.request ≡ Commit r t keys → DrewCommit h s m other u d → Wrote h t key own → Wrote h u key value → (k.i.last + 1 < u) ⊎ (d < t)
+apart_now w h k r t keys s m other u d key own value holds is drew mine wrote = elim (three_ways other k.i.term) [
+  | inl less ↦ inr (omega (arith, holds.numbers.drawn.earlier s m other u k.node (Some d) k.i drew k.at less, (drew_within w k r t keys holds.requests.requests holds.requests.accepted is).0))
+  | inr (inl same) ↦ inr (not_above d t (free_below w h k r t keys s m u d key value own holds is (subst (λ term. DrewCommit h s m term u d) same drew) wrote mine) (apart_stamps w h k r t keys s m other u d holds is drew))
+  | inr (inr more) ↦ inl (omega (arith, (holds.numbers.drawn.later s m other u k.node (Some d) k.i drew k.at more).1, drew_room w k holds.numbers.ranges))
+]
+
+-- ---- the facts
+commit_is : (request : Request) (stamp c : ℕ) → Some c ≡ commit_drawn request stamp → c ≡ stamp
+commit_is (BeginRequest r) stamp c is = absurd (none-some c (sym is))
+commit_is (Commit r t keys) stamp c is = same_Some c stamp is
+
+no_write : (w : State) (k : Drew w) (s t key : ℕ) (value : List ℕ) → Draw (asker_of k.held.request) k.node k.i.term (start_drawn k.held.request (k.i.last + 1)) (commit_drawn k.held.request (k.i.last + 1)) ≡ Write s t key value → ⊥
+no_write w k s t key value same = cc
+
+draw_writes_nothing : (w : State) (h : List Item) (k : Drew w) (t key : ℕ) (value : List ℕ) → Wrote (h ++ drew_items w k) t key value → Wrote h t key value
+draw_writes_nothing w h k t key value wrote =
+    ap (λ o. option_or o (last_write h t key)) (sym (unwritten t key (new_draw w k) (λ s q v is. no_write w k s t q v (sym (draw_item_is k.node k.i.term k.held.request (k.i.last + 1)) ∙ is))))
+    ∙ (sym (last_write-push h (new_draw w k) t key) ∙ wrote)
+
+swapped : (c u d t : ℕ) → (c < u) ⊎ (d < t) → (d < t) ⊎ (c < u)
+swapped c u d t (inl a) = inr a
+swapped c u d t (inr b) = inl b
+
+same_transaction : (w : State) (k : Drew w) (t u : ℕ) → t ≡ start_drawn k.held.request (k.i.last + 1) → u ≡ start_drawn k.held.request (k.i.last + 1) → t ≡ u
+same_transaction w k t u a b = a ∙ sym b
+
+drew_apart : (w : State) (h : List Item) (k : Drew w) → Holds w h → DrawnApart (h ++ drew_items w k)
+drew_apart w h k holds = record {
+  apart = λ r s n m term other t c u d key v x first second differ wrote also.
+      let a : Wrote h t key v = draw_writes_nothing w h k t key v wrote in
+      let b : Wrote h u key x = draw_writes_nothing w h k u key x also in
+      elim (drew_or w k h r n term t (Some c) first) [
+        | inl old ↦ elim (drew_or w k h s m other u (Some d) second) [
+          | inl older ↦ holds.memory.apart.apart r s n m term other t c u d key v x old older differ a b
+          | inr now ↦
+              let draws : DrawsFor w k u = draws_commit w k k.held.request u d refl now.1 now.2 in
+              let stamp : d ≡ k.i.last + 1 = commit_is k.held.request (k.i.last + 1) d now.2 in
+              subst (λ q. (c < u) ⊎ (q < t)) (sym stamp) (swapped (k.i.last + 1) t c u (apart_now w h k draws.0 u draws.1 r n term t c key x v holds draws.2 old b a))
+        ]
+        | inr now ↦
+            let draws : DrawsFor w k t = draws_commit w k k.held.request t c refl now.1 now.2 in
+            let stamp : c ≡ k.i.last + 1 = commit_is k.held.request (k.i.last + 1) c now.2 in
+            elim (drew_or w k h s m other u (Some d) second) [
+              | inl older ↦ subst (λ q. (q < u) ⊎ (d < t)) (sym stamp) (apart_now w h k draws.0 t draws.1 s m other u d key v x holds draws.2 older a b)
+              | inr both ↦ absurd (differ (same_transaction w k t u now.1 both.1))
+            ]
+      ];
+}
+
+pub memory_drew : (w : State) (h : List Item) (k : Drew w) → Holds w h → MemoryFacts w.setup (drew_state w k).nodes (h ++ drew_items w k)
+memory_drew w h k holds = record {
+  recorded = drew_records w h k holds;
+  apart = drew_apart w h k holds;
+}

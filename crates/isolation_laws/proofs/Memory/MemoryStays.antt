@@ -1,0 +1,132 @@
+-- The conflict memory stays where no commit is drawn: instances keep their buckets, and items record nothing.
+use Rattle.std.proofs.Common.{◌≡◌, ℕ, ◌==◌, List, [], ◌∷◌, ◌++◌, append_assoc, Option, Some, None, inl, inr, refl, sym, ◌∙◌, ap, subst}
+use Rattle.std.specs.Prelude.{slice_set}
+use Rattle.std.specs.Option.{option_or}
+use Rattle.std.proofs.lemmas.Bool.{cases_Bool, eqb-true}
+use Rattle.std.proofs.lemmas.List.{append-nil}
+use Rattle.history_book.specs.Isolation.{Wrote, last_write, written_by}
+use Rattle.history_book.specs.declared.item.Item.{Item}
+use Rattle.history_book.specs.declared.item.Item.TheVariants.{Draw, Write}
+use Rattle.history_book.proofs.HistoryLemmas.{last_write-push}
+use Rattle.history_book.proofs.MemberLemmas.{in_old}
+use Rattle.stamp_base.specs.SetupNumbers.{SetupNumbers}
+use Rattle.oracle_parts.specs.Buckets.{contents}
+use Rattle.oracle_parts.specs.Instance.{InstanceEntry}
+use Rattle.isolation_laws.specs.Words.{InstanceAt, DrewCommit, HasDrawn, keys_with, written_keys, recorded_by, recorded}
+use Rattle.isolation_laws.specs.Quiet.{AllQuiet}
+use Rattle.isolation_laws.specs.Memory.{AreRecorded, MemoryFacts}
+use Rattle.isolation_laws.proofs.Lookups.{instance_changed, instance_ended}
+use Rattle.isolation_laws.proofs.Outcome.OutcomesOfRecord.{AlikeNodes}
+use Rattle.isolation_laws.proofs.Numbers.NumbersOfItems.{NoDraw}
+use Rattle.isolation_laws.proofs.Pushed.{old_draw, drawn_on, last_write-quiet, written_keys-push, recorded-quiet, recorded-push}
+
+-- ---- instances with the same memory
+pub record IsRememberedAs (i j : InstanceEntry) : Type 0 where
+  pub term : j.term ≡ i.term
+  pub buckets : j.buckets ≡ i.buckets
+
+pub record SameMemory (old new : List (Option InstanceEntry)) : Type 0 where
+  pub each : (n : ℕ) (j : InstanceEntry) → InstanceAt new n j → (i : InstanceEntry) × InstanceAt old n i × IsRememberedAs i j
+
+pub remembered_same : (nodes : List (Option InstanceEntry)) → SameMemory nodes nodes
+remembered_same nodes = record { each = λ n j at. (j, at, record { term = refl; buckets = refl }) }
+
+pub remembered_set : (nodes : List (Option InstanceEntry)) (n : ℕ) (i j : InstanceEntry) → InstanceAt nodes n i → IsRememberedAs i j → SameMemory nodes (slice_set nodes n (Some j))
+remembered_set nodes n i j at same = record {
+  each = λ m x there. elim (instance_changed nodes n m j x there) [
+    | inl here ↦ (i, subst (λ q. InstanceAt nodes q i) (sym here.0) at, subst (λ (y : InstanceEntry). IsRememberedAs i y) (sym here.1) same)
+    | inr other ↦ (x, other.1, record { term = refl; buckets = refl })
+  ];
+}
+
+pub remembered_ended : (nodes : List (Option InstanceEntry)) (n : ℕ) → SameMemory nodes (slice_set nodes n None)
+remembered_ended nodes n = record {
+  each = λ m x there. (x, (instance_ended nodes n m x there).1, record { term = refl; buckets = refl });
+}
+
+pub remembered_alike : (old new : List (Option InstanceEntry)) → AlikeNodes old new → SameMemory old new
+remembered_alike old new alike = record {
+  each = λ n j at. let was = alike.each n j at in (was.0, was.1, record { term = was.2.term; buckets = was.2.buckets });
+}
+
+-- ---- a history g after h in which nothing more is recorded
+pub record RecordsNothing (h g : List Item) : Type 0 where
+  pub same : (term : ℕ) → recorded g term ≡ recorded h term
+  pub drew : (s n term t c : ℕ) → DrewCommit g s n term t c → DrewCommit h s n term t c
+  pub goes : (t : ℕ) → HasDrawn h t → HasDrawn g t
+  pub wrote : (t k : ℕ) (value : List ℕ) → HasDrawn h t → Wrote g t k value → Wrote h t k value
+
+pub nothing_twice : (h g f : List Item) → RecordsNothing h g → RecordsNothing g f → RecordsNothing h f
+nothing_twice h g f first second = record {
+  same = λ term. second.same term ∙ first.same term;
+  drew = λ s n term t c drew. first.drew s n term t c (second.drew s n term t c drew);
+  goes = λ t drew. second.goes t (first.goes t drew);
+  wrote = λ t k value drew wrote. first.wrote t k value drew (second.wrote t k value (first.goes t drew) wrote);
+}
+
+pub nothing_quiet : (h items : List Item) → AllQuiet items → RecordsNothing h (h ++ items)
+nothing_quiet h items quiet = record {
+  same = λ term. recorded-quiet h items term quiet;
+  drew = λ s n term t c drew. old_draw h items s n term t (Some c) quiet drew;
+  goes = λ t drew. drawn_on h items t drew;
+  wrote = λ t k value drew wrote. sym (last_write-quiet h items t k quiet) ∙ wrote;
+}
+
+-- the item writes for no transaction that has drawn
+abbrev pub WritesUndrawn : List Item → Item → Type 0
+WritesUndrawn h x = (s t k : ℕ) (value : List ℕ) → x ≡ Write s t k value → HasDrawn h t → ⊥
+
+keys_unwritten : (keys : List ℕ) (t : ℕ) (x : Item) → ((s k : ℕ) (value : List ℕ) → x ≡ Write s t k value → ⊥) → keys_with keys t x ≡ keys
+keys_unwritten keys t (Write s u k value) other = elim (cases_Bool (u == t)) [
+  | inl own ↦ absurd (other s k value (ap (λ q. Write s q k value) (eqb-true u t own)))
+  | inr different ↦ rw different refl
+]
+keys_unwritten keys t _ other = refl
+
+pub unwritten : (t k : ℕ) (x : Item) → ((s key : ℕ) (value : List ℕ) → x ≡ Write s t key value → ⊥) → written_by t k x ≡ None
+unwritten t k (Write s u key value) other = elim (cases_Bool (u == t)) [
+  | inl own ↦ absurd (other s key value (ap (λ q. Write s q key value) (eqb-true u t own)))
+  | inr different ↦ rw different refl
+]
+unwritten t k _ other = refl
+
+nothing_by : (h : List Item) (term : ℕ) (x : Item) → NoDraw x → recorded_by h term x ≡ []
+nothing_by h term (Draw s n drawn t commit) other = absurd (other s n drawn t commit refl)
+nothing_by h term _ other = refl
+
+pub nothing_push : (h : List Item) (x : Item) → NoDraw x → WritesUndrawn h x → RecordsNothing h (h ++ x ∷ [])
+nothing_push h x other undrawn = record {
+  same = λ term.
+      recorded-push h x term (λ t drew. written_keys-push h x t ∙ keys_unwritten (written_keys h t) t x (λ s k value is. undrawn s t k value is drew))
+      ∙ (ap (λ rest. recorded h term ++ rest) (nothing_by (h ++ x ∷ []) term x other) ∙ append-nil (recorded h term));
+  drew = λ s n term t c drew. in_old (Draw s n term t (Some c)) x h (λ is. other s n term t (Some c) is) drew;
+  goes = λ t drew. drawn_on h (x ∷ []) t drew;
+  wrote = λ t k value drew wrote.
+      ap (λ o. option_or o (last_write h t k)) (sym (unwritten t k x (λ s key v is. undrawn s t key v is drew))) ∙ (sym (last_write-push h x t k) ∙ wrote);
+}
+
+pub nothing_more : (h : List Item) (x : Item) (items : List Item) → NoDraw x → WritesUndrawn h x → AllQuiet items → RecordsNothing h (h ++ x ∷ items)
+nothing_more h x items other undrawn quiet =
+    subst (λ all. RecordsNothing h all) (append_assoc h (x ∷ []) items) (nothing_twice h (h ++ x ∷ []) ((h ++ x ∷ []) ++ items) (nothing_push h x other undrawn) (nothing_quiet (h ++ x ∷ []) items quiet))
+
+-- ---- the facts
+has_drawn : (h : List Item) (s n term t c : ℕ) → DrewCommit h s n term t c → HasDrawn h t
+has_drawn h s n term t c drew = (s, n, term, c, drew)
+
+pub recorded_same : (setup : SetupNumbers) (old new : List (Option InstanceEntry)) (h g : List Item) → SameMemory old new → ((term : ℕ) → recorded g term ≡ recorded h term) → AreRecorded setup old h → AreRecorded setup new g
+recorded_same setup old new h g same records facts = record {
+  hold = λ n j at.
+      let was = same.each n j at in
+      was.2.buckets ∙ (facts.hold n was.0 was.1 ∙ ap (contents setup.buckets setup.width) (ap (recorded h) (sym was.2.term) ∙ sym (records j.term)));
+}
+
+pub memory_same : (setup : SetupNumbers) (old new : List (Option InstanceEntry)) (h g : List Item) → SameMemory old new → RecordsNothing h g → MemoryFacts setup old h → MemoryFacts setup new g
+memory_same setup old new h g same nothing facts = record {
+  recorded = recorded_same setup old new h g same nothing.same facts.recorded;
+  apart = record {
+    apart = λ r s n m term other t c u d k v w first second differ wrote also.
+        let a = nothing.drew r n term t c first in
+        let b = nothing.drew s m other u d second in
+        facts.apart.apart r s n m term other t c u d k v w a b differ (nothing.wrote t k v (has_drawn h r n term t c a) wrote) (nothing.wrote u k w (has_drawn h s m other u d b) also);
+  };
+}

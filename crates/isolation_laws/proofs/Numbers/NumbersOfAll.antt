@@ -1,0 +1,89 @@
+-- Every outcome keeps the facts on stamps, terms and leases.
+use Rattle.std.proofs.Common.{[], max, List, ◌++◌, refl, sym, subst, arith}
+use Rattle.std.proofs.lemmas.List.Elements.{All-nil}
+use Rattle.history_book.specs.declared.item.Item.{Item}
+use Rattle.history_book.specs.declared.item.Actor.TheVariants.{Janitor}
+use Rattle.history_book.specs.declared.item.StoreStep.TheVariants.{Keys}
+use Rattle.history_book.specs.declared.item.Item.TheVariants.{AskBegin, Begin, Write, Placed, Step}
+use Rattle.machine.specs.State.{State}
+use Rattle.isolation_laws.specs.Words.{Begun}
+use Rattle.isolation_laws.specs.Quiet.{Quiet}
+use Rattle.isolation_laws.specs.Numbers.{NumberFacts}
+use Rattle.isolation_laws.specs.Holds.{Holds}
+use Rattle.isolation_laws.proofs.Holding.Framed.{framed}
+use Rattle.isolation_laws.proofs.Holding.Frames.{numbers_framed}
+use Rattle.isolation_laws.proofs.Outcome.OutcomesOfRequests.{AskedBegin, asked_begin_items, asked_begin_state}
+use Rattle.isolation_laws.proofs.Outcome.OutcomesOfStamps.{PlacedOne, AnsweredBegin, placed_items, answered_begin_items, placed_state, answered_begin_state}
+use Rattle.isolation_laws.proofs.Outcome.OutcomesOfSessions.{WroteOne, wrote_items}
+use Rattle.isolation_laws.proofs.Outcome.OutcomesOfWork.{Fetched, ReadStepped, fetched_turn, read_turn, fetched_items, read_stepped_items}
+use Rattle.isolation_laws.proofs.Outcome.OutcomesOfSweeps.{SweepListed, sweep_listed_items}
+use Rattle.isolation_laws.proofs.Outcome.Outcomes.{Outcome, OfGranted, OfRenewed, OfExtended, OfAskedBegin, OfAskedCommit, OfAccepted, OfDrew, OfPlaced, OfAnsweredBegin, OfWrote, OfFetched, OfReadStepped, OfSweepListed, left_by, told_by_outcome}
+use Rattle.isolation_laws.proofs.Numbers.NumbersStay.{numbered_same, numbered}
+use Rattle.isolation_laws.proofs.Numbers.NumbersOfTakes.{numbers_granted}
+use Rattle.isolation_laws.proofs.Numbers.NumbersOfRenewals.{numbers_renewed}
+use Rattle.isolation_laws.proofs.Numbers.NumbersOfRanges.{numbers_extended}
+use Rattle.isolation_laws.proofs.Numbers.NewDraws.{numbers_drew}
+use Rattle.isolation_laws.proofs.Numbers.NumbersOfItems.{begin_is_no_draw, write_is_no_draw, placed_is_no_draw, fits_begin, fits_write, fits_placed, placed_fits}
+use Rattle.isolation_laws.proofs.Numbers.NumbersKept.{loud_numbers, open_begun, drew_start, drew_commit, first_then, quiet_one, at_node}
+use Rattle.isolation_laws.proofs.Orders.{max_left}
+
+-- ---- every outcome
+numbers_asked_begin : (w : State) (h : List Item) (k : AskedBegin w) → Holds w h → NumberFacts w.setup w.seen (asked_begin_state w k).nodes w.master (h ++ asked_begin_items w k)
+numbers_asked_begin w h k holds =
+    loud_numbers w.setup w.seen w.nodes (asked_begin_state w k).nodes w.master h (AskBegin k.session k.node) [] (at_node w k.node k.i _ k.at (numbered k.i _ refl refl refl refl refl)) (λ s m term u d same. cc) (record {
+      drawn = λ s t is. absurd (cc);
+      writes = λ s t key value is. absurd (cc);
+      reads = λ s t key answer is. absurd (cc);
+    }) (λ t c is. absurd (cc)) (All-nil Quiet) holds.numbers
+
+numbers_placed : (w : State) (h : List Item) (k : PlacedOne w) → Holds w h → NumberFacts w.setup w.seen (placed_state w k).nodes w.master (h ++ placed_items w k)
+numbers_placed w h k holds =
+    loud_numbers w.setup w.seen w.nodes (placed_state w k).nodes w.master h (Placed k.it.start k.it.commit) k.items (at_node w k.it.node k.it.i _ k.it.at (numbered k.it.i _ refl refl refl refl refl)) (placed_is_no_draw k.it.start k.it.commit) (fits_placed h k.it.start k.it.commit)
+    (λ t c is. placed_fits h k.it.start k.it.commit t c k.it.session k.it.node k.it.i.term (drew_commit w h k.it holds) is) k.quiet holds.numbers
+
+numbers_answered_begin : (w : State) (h : List Item) (k : AnsweredBegin w) → Holds w h → NumberFacts w.setup w.seen (answered_begin_state w k).nodes w.master (h ++ answered_begin_items w k)
+numbers_answered_begin w h k holds =
+    loud_numbers w.setup w.seen w.nodes (answered_begin_state w k).nodes w.master h (Begin k.session k.start) [] (at_node w k.node k.i _ k.at (numbered k.i _ refl refl refl refl refl)) (begin_is_no_draw k.session k.start) (fits_begin h k.session k.start k.node k.i.term (drew_start w h k holds)) (λ t c is. absurd (cc)) (All-nil Quiet) holds.numbers
+
+numbers_wrote : (w : State) (h : List Item) (k : WroteOne w) → Holds w h → NumberFacts w.setup w.seen w.nodes w.master (h ++ wrote_items w k)
+numbers_wrote w h k holds =
+    loud_numbers w.setup w.seen w.nodes w.nodes w.master h (Write k.it.session k.start k.key k.value) [] (numbered_same w.nodes) (write_is_no_draw k.it.session k.start k.key k.value)
+    (fits_write h k.it.session k.start k.key k.it.session k.value (open_begun w.clients h k.it.session k.start k.it.c holds.requests.have_begun k.it.client_at k.it.is_open k.start_is)) (λ t c is. absurd (cc)) (All-nil Quiet) holds.numbers
+
+numbers_fetched : (w : State) (h : List Item) (k : Fetched w) → Holds w h → NumberFacts w.setup w.seen w.nodes w.master (h ++ fetched_items w k)
+numbers_fetched w h k holds =
+    first_then w.setup w.seen w.nodes w.master h k.first k.it.session k.start k.key k.it.session (fetched_turn w k.key k.start k.epoch) k.quiet
+    (open_begun w.clients h k.it.session k.start k.it.c holds.requests.have_begun k.it.client_at k.it.is_open k.start_is) holds.numbers
+
+-- a read under way is that of a session that has begun
+pub read_begun : (w : State) (h : List Item) (k : ReadStepped w) → Holds w h → Begun h k.session k.r.start
+read_begun w h k holds =
+    let reads = holds.reads.reading.reads k.session k.c k.r k.client_at k.under_way in
+    subst (Begun h k.session) (sym reads.3.start_is) (open_begun w.clients h k.session reads.0 reads.2.client holds.requests.have_begun reads.2.at reads.2.state_is reads.2.start_is)
+
+numbers_read : (w : State) (h : List Item) (k : ReadStepped w) → Holds w h → NumberFacts w.setup w.seen w.nodes w.master (h ++ read_stepped_items w k)
+numbers_read w h k holds = first_then w.setup w.seen w.nodes w.master h k.first k.session k.r.start k.r.key k.session (read_turn w k.r) k.quiet (read_begun w h k holds) holds.numbers
+
+numbers_listed : (w : State) (h : List Item) (k : SweepListed w) → Holds w h → NumberFacts w.setup w.seen w.nodes w.master (h ++ sweep_listed_items w k)
+numbers_listed w h k holds =
+    loud_numbers w.setup w.seen w.nodes w.nodes w.master h (Step Janitor (Keys k.txn k.count)) [] (numbered_same w.nodes) (λ s m term u d same. cc) (record {
+      drawn = λ s t is. absurd (cc);
+      writes = λ s t key value is. absurd (cc);
+      reads = λ s t key answer is. absurd (cc);
+    }) (λ t c is. absurd (cc)) (All-nil Quiet) holds.numbers
+
+pub numbers_kept : (w : State) (h : List Item) (o : Outcome w) → Holds w h → NumberFacts (left_by w o).setup (left_by w o).seen (left_by w o).nodes (left_by w o).master (h ++ told_by_outcome w o)
+numbers_kept w h (OfGranted k) holds = numbers_granted w h k holds
+numbers_kept w h (OfRenewed k) holds = numbers_renewed w h k holds
+numbers_kept w h (OfExtended k) holds = numbers_extended w h k holds
+numbers_kept w h (OfAskedBegin k) holds = numbers_asked_begin w h k holds
+numbers_kept w h (OfAskedCommit k) holds = quiet_one w h _ w.seen k.items (at_node w k.node k.i _ k.at (numbered k.i _ refl refl refl refl refl)) (omega arith) k.quiet holds
+numbers_kept w h (OfAccepted k) holds = quiet_one w h _ (max w.seen k.reading) k.items (at_node w k.node k.i _ k.at (numbered k.i _ refl refl refl refl refl)) (max_left w.seen k.reading) k.quiet holds
+numbers_kept w h (OfDrew k) holds = numbers_drew w h k holds
+numbers_kept w h (OfPlaced k) holds = numbers_placed w h k holds
+numbers_kept w h (OfAnsweredBegin k) holds = numbers_answered_begin w h k holds
+numbers_kept w h (OfWrote k) holds = numbers_wrote w h k holds
+numbers_kept w h (OfFetched k) holds = numbers_fetched w h k holds
+numbers_kept w h (OfReadStepped k) holds = numbers_read w h k holds
+numbers_kept w h (OfSweepListed k) holds = numbers_listed w h k holds
+numbers_kept w h o holds = numbers_framed w h (left_by w o) (told_by_outcome w o) (framed w h o holds refl) holds

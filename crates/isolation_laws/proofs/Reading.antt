@@ -1,0 +1,11 @@
+-- Reads under way, and the answers of the past.
+pub mod ReadersRely
+pub mod ClientsReading
+pub mod ReadsStay
+pub mod CoveredVersions
+pub mod SeesFetched
+pub mod SeesPassed
+pub mod ReadTurns
+pub mod ReadsLonger
+pub mod ReadsOfReads
+pub mod ReadsKept

@@ -1,0 +1,194 @@
+-- Reads under way, past reads and their answers after the outcomes that answer no read.
+use Rattle.std.proofs.Common.{◌≡◌, ◌≢◌, ℕ, ◌==◌, ◌&&◌, ◌<◌, if◌then◌else◌, List, [], ◌∷◌, ◌++◌, append_assoc, Option, Some, None, inl, inr, refl, sym, ◌∙◌, ap, subst, arith}
+use Rattle.std.specs.Prelude.{slice_get}
+use Rattle.std.specs.Option.{option_or}
+use Rattle.std.proofs.lemmas.Bool.{ne_eqb}
+use Rattle.std.proofs.lemmas.Option.{none-some}
+use Rattle.std.proofs.lemmas.List.{append-nil}
+use Rattle.stamp_base.specs.declared.stores.Mark.TheVariants.{Committed as CommittedMark, Invalid as InvalidMark}
+use Rattle.history_book.specs.Members.{◌∈◌, AtEach}
+use Rattle.history_book.specs.Isolation.{Committed, last_write, written_by, RightRead}
+use Rattle.history_book.specs.declared.item.Found.{Found}
+use Rattle.history_book.specs.declared.item.Item.{Item}
+use Rattle.history_book.specs.declared.item.Item.TheVariants.{Draw, Write, Read, Placed}
+use Rattle.history_book.proofs.HistoryLemmas.{last_write-push}
+use Rattle.history_book.proofs.MemberLemmas.{AtEach-push}
+use Rattle.store_parts.specs.Rows.{Row}
+use Rattle.store_parts.specs.Pairs.{Pairs, mark_of}
+use Rattle.oracle_parts.specs.declared.instance.Request.{Request}
+use Rattle.oracle_parts.specs.declared.instance.Request.TheVariants.{Begin as BeginRequest, Commit}
+use Rattle.oracle_parts.specs.Instance.{InstanceEntry}
+use Rattle.machine.specs.State.{Client, State}
+use Rattle.machine.specs.Events.Decide.{draw_item}
+use Rattle.isolation_laws.specs.Words.{epoch_or_none, OpenAt, Begun}
+use Rattle.isolation_laws.specs.Pending.{ComesBelow, IsPending}
+use Rattle.isolation_laws.specs.Quiet.{AllQuiet}
+use Rattle.isolation_laws.specs.Reads.{ReadFacts}
+use Rattle.isolation_laws.specs.Holds.{Holds}
+use Rattle.isolation_laws.proofs.Lookups.{one_client}
+use Rattle.isolation_laws.proofs.Outcome.OutcomesOfRequests.{Accepted, accepted_state}
+use Rattle.isolation_laws.proofs.Outcome.OutcomesOfStamps.{PlacedOne, placed_state, placed_items}
+use Rattle.isolation_laws.proofs.Outcome.OutcomesOfSessions.{AtOpen, WroteOne, wrote_state, wrote_items, WriteFailed}
+use Rattle.isolation_laws.proofs.OnceEach.{begun_once}
+use Rattle.isolation_laws.proofs.Owners.{open_unplaced, accepts_now, begun_below_last}
+use Rattle.isolation_laws.proofs.Pushed.{not_true, in_append, quiet_in, last_write-quiet}
+use Rattle.isolation_laws.proofs.Requests.PendingAfter.{FewerPending}
+use Rattle.isolation_laws.proofs.Requests.PendingFewer.{fewer_comes, fewer_settled}
+use Rattle.isolation_laws.proofs.Requests.PendingMoved.{comes_accepted}
+use Rattle.isolation_laws.proofs.Requests.CommitsInFlight.{goes_on}
+use Rattle.isolation_laws.proofs.Numbers.NumbersKept.{in_flight_of, drawn_pending, drew_commit}
+use Rattle.isolation_laws.proofs.Requests.SettledNow.{Places, places}
+use Rattle.isolation_laws.proofs.Requests.RequestsOfWrites.{wrote_open, wrote_not_pending}
+use Rattle.isolation_laws.proofs.Stores.StoresStay.{ShadowsStay, marks_put, shadows_same, shadows_put}
+use Rattle.isolation_laws.proofs.Reading.ReadersRely.{WasComing, IsReader, IsWritten, RelyOn, open_now_begun, reading_kept, lasts_on, right_kept}
+use Rattle.isolation_laws.proofs.Reading.ClientsReading.{FewerReading, reading_fewer, idle_reads}
+use Rattle.isolation_laws.proofs.Stores.Calm.{write_places_none}
+
+-- ---- items that answer no read
+abbrev pub NoReads : List Item → Type 0
+NoReads items = (s b k : ℕ) (answer : Option Found) → Read s b k answer ∈ items → ⊥
+
+pub quiet_no_reads : (items : List Item) → AllQuiet items → NoReads items
+quiet_no_reads items quiet s b k answer m = not_true (quiet_in (Read s b k answer) items quiet m)
+
+pub then_no_reads : (x : Item) (items : List Item) → ((s b k : ℕ) (answer : Option Found) → Read s b k answer ≡ x → ⊥) → NoReads items → NoReads (x ∷ items)
+unfolding ◌∈◌
+then_no_reads x items other none s b k answer (inl here) = other s b k answer here
+then_no_reads x items other none s b k answer (inr deeper) = none s b k answer deeper
+
+pub none_no_reads : NoReads []
+unfolding ◌∈◌
+none_no_reads s b k answer m = m
+
+pub one_no_reads : (x : Item) → ((s b k : ℕ) (answer : Option Found) → Read s b k answer ≡ x → ⊥) → NoReads (x ∷ [])
+one_no_reads x other = then_no_reads x [] other none_no_reads
+
+draw_reads_none : (node term : ℕ) (request : Request) (stamp s b k : ℕ) (answer : Option Found) → Read s b k answer ≡ draw_item node term request stamp → ⊥
+draw_reads_none node term (BeginRequest session) stamp s b k answer is = cc
+draw_reads_none node term (Commit session start keys) stamp s b k answer is = cc
+
+pub draw_no_reads : (node term : ℕ) (request : Request) (stamp : ℕ) → NoReads (draw_item node term request stamp ∷ [])
+draw_no_reads node term request stamp = one_no_reads (draw_item node term request stamp) (draw_reads_none node term request stamp)
+
+-- no answer is wrong where none is given
+right_none : (g before : List Item) (x : Item) → ((s b k : ℕ) (answer : Option Found) → Read s b k answer ≡ x → ⊥) → RightRead g before x
+right_none g before (Read s b k answer) none = absurd (none s b k answer refl)
+right_none g before _ none = tt
+
+pub rights_more : (g h items : List Item) → NoReads items → AtEach (RightRead g) h → AtEach (RightRead g) (h ++ items)
+unfolding ◌∈◌
+rights_more g h [] none rights = subst (AtEach (RightRead g)) (sym (append-nil h)) rights
+rights_more g h (x ∷ items) none rights = subst (AtEach (RightRead g)) (append_assoc h (x ∷ []) items)
+    (rights_more g (h ++ x ∷ []) items (λ s b k answer m. none s b k answer (inr m)) (AtEach-push (RightRead g) h x rights (right_none g h x (λ s b k answer is. none s b k answer (inl is)))))
+
+-- ---- what an outcome leaves of reads
+pub record ReadsRight (clients : List Client) (nodes : List (Option InstanceEntry)) (rows : List Row) (pairs : Pairs) (g : List Item) : Type 0 where
+  pub facts : ReadFacts clients nodes rows pairs g
+  pub rights : AtEach (RightRead g) g
+
+pub reads_stay : (w : State) (h items : List Item) (nodes : List (Option InstanceEntry)) (rows : List Row) (pairs : Pairs) (clients : List Client) → NoReads items → RelyOn w h nodes rows pairs (h ++ items) → FewerReading w.clients clients → Holds w h → ReadsRight clients nodes rows pairs (h ++ items)
+reads_stay w h items nodes rows pairs clients none rely fewer holds = record {
+  facts = record {
+    reading = reading_fewer w.clients clients nodes rows pairs (h ++ items) fewer (reading_kept w h nodes rows pairs (h ++ items) rely holds);
+    lasting = record {
+      lasts = λ s b k u answer value m comes wrote. elim (in_append (Read s b k answer) h items m) [
+        | inl old ↦ lasts_on w h nodes rows pairs (h ++ items) s b k u answer value rely holds old comes wrote
+        | inr new ↦ absurd (none s b k answer new)
+      ];
+    };
+  };
+  rights = rights_more (h ++ items) h items none (right_kept w h nodes rows pairs (h ++ items) rely holds);
+}
+
+-- ---- what comes below a start
+abbrev pub NoneComes : State → List Item → List (Option InstanceEntry) → Type 0
+NoneComes w h nodes = (r b u : ℕ) → Begun h r b → ComesBelow nodes b u → ComesBelow w.nodes b u
+
+pub none_comes : (w : State) (h : List Item) (nodes : List (Option InstanceEntry)) → FewerPending w.nodes nodes → NoneComes w h nodes
+none_comes w h nodes fewer r b u begun c = fewer_comes w.nodes nodes b u fewer c
+
+pub same_comes : (w : State) (h : List Item) → NoneComes w h w.nodes
+same_comes w h r b u begun c = c
+
+-- what is accepted comes below no start that was begun
+pub none_comes_accepted : (w : State) (h : List Item) (k : Accepted w) → Holds w h → NoneComes w h (accepted_state w k).nodes
+none_comes_accepted w h k holds r b u begun c = elim (comes_accepted w k b u c) [
+  | inl old ↦ old
+  | inr (q, taken, start, below) ↦
+      let now : k.i.term ≡ w.master.term = accepts_now w.setup w.seen k.reading k.node w.nodes w.master k.i holds.numbers.ranges holds.numbers.leases k.at k.steady k.in_time in
+      absurd (omega (arith, below, begun_below_last w.nodes w.master h k.node k.i r b holds.numbers.ranges holds.numbers.drawn holds.numbers.begun k.at now begun))
+]
+
+-- ---- a commit is placed
+placed_writes : (h items : List Item) (t c u k : ℕ) → AllQuiet items → last_write (h ++ Placed t c ∷ items) u k ≡ last_write h u k
+placed_writes h items t c u k quiet =
+    let one : last_write (h ++ Placed t c ∷ []) u k ≡ last_write h u k = last_write-push h (Placed t c) u k in
+    ap (λ xs. last_write xs u k) (sym (append_assoc h (Placed t c ∷ []) items)) ∙ (last_write-quiet (h ++ Placed t c ∷ []) items u k quiet ∙ one)
+
+placed_comes : (w : State) (h : List Item) (k : PlacedOne w) (b u d : ℕ) → Holds w h → u ≡ k.it.start → d ≡ k.it.commit → d < b → WasComing w h b u d
+placed_comes w h k b u d holds start commit below = record {
+  comes = record {
+    coming = in_flight_of w k.it;
+    pending = drawn_pending w k.it holds.requests.requests;
+    start_is = sym start;
+    below = subst (λ x. x < b) commit below;
+  };
+  unmarked = λ marked. none-some InvalidMark (sym k.free ∙ (ap (mark_of w.pairs) (sym start) ∙ marked));
+  drew = (k.it.session, k.it.node, k.it.i.term, subst (λ x. Draw k.it.session k.it.node k.it.i.term x (Some d) ∈ h) (sym start) (subst (λ y. Draw k.it.session k.it.node k.it.i.term k.it.start (Some y) ∈ h) (sym commit) (drew_commit w h k.it holds)));
+}
+
+pub rely_placed : (w : State) (h : List Item) (k : PlacedOne w) → Holds w h → RelyOn w h (placed_state w k).nodes w.rows (placed_state w k).pairs (h ++ placed_items w k)
+rely_placed w h k holds =
+    let now : Places h (h ++ placed_items w k) k.it.start k.it.commit = places h k.items k.it.start k.it.commit k.quiet in
+    record {
+      on = now.on;
+      placed = λ b u d placed less. elim (now.placed u d placed) [
+        | inl old ↦ inl old
+        | inr new ↦ inr (placed_comes w h k b u d holds new.0 new.1 less)
+      ];
+      comes = none_comes w h (placed_state w k).nodes (fewer_settled w k.it k.by);
+      marks = marks_put w.pairs k.it.start (CommittedMark k.it.commit);
+      writes = λ u key written. placed_writes h k.items k.it.start k.it.commit u key k.quiet;
+      shadows = shadows_same h w.rows;
+    }
+
+-- ---- a value is written: by a transaction that is not placed, does not come and does not read
+other_write : (t u k j : ℕ) (value : List ℕ) (s : ℕ) → t ≢ u → written_by u j (Write s t k value) ≡ None
+other_write t u k j value s other = ap (λ b. if b && (k == j) then Some value else None) (ne_eqb t u other)
+
+open_epoch : (w : State) (it : AtOpen w) (start : ℕ) → it.c.entry.start ≡ Some start → OpenAt w.clients it.session start (epoch_or_none it.c.entry.epoch)
+open_epoch w it start is = record { client = it.c; at = it.client_at; state_is = it.is_open; start_is = is; epoch_is = refl }
+
+pub open_not_placed : (w : State) (h : List Item) (it : AtOpen w) (start c : ℕ) → Holds w h → it.c.entry.start ≡ Some start → Committed h start c → ⊥
+open_not_placed w h it start c holds is placed = open_unplaced w.clients h start c holds.numbers.placed holds.requests.opened (record { session = it.session; epoch = epoch_or_none it.c.entry.epoch; open_at = open_epoch w it start is }) placed
+
+-- its session does nothing else
+idle_no_reader : (w : State) (h : List Item) (k : WroteOne w) → Holds w h → IsReader w.clients k.start → ⊥
+idle_no_reader w h k holds reader =
+    let mine : Begun h k.it.session k.start = open_now_begun w h k.it.session k.start (epoch_or_none k.it.c.entry.epoch) holds (wrote_open w k) in
+    let theirs : Begun h reader.session k.start = open_now_begun w h reader.session k.start reader.epoch holds reader.is_open in
+    let session : reader.session ≡ k.it.session = begun_once h reader.session k.it.session k.start holds.isolated.stamped theirs mine in
+    let same : reader.client ≡ k.it.c = one_client w.clients k.it.session reader.client k.it.c (subst (λ s. slice_get w.clients s ≡ Some reader.client) session reader.at) k.it.client_at in
+    idle_reads k.it.c k.it.idle reader.reading (sym (ap (λ (c : Client). c.under_way) same) ∙ reader.reads)
+
+written_other : (w : State) (h : List Item) (k : WroteOne w) (u : ℕ) → Holds w h → IsWritten w h u → k.start ≢ u
+written_other w h k u holds (inl (c, placed)) same = open_not_placed w h k.it k.start c holds k.start_is (subst (λ t. Committed h t c) (sym same) placed)
+written_other w h k u holds (inr (inl pending)) same = wrote_not_pending w h k holds (subst (IsPending w.nodes) (sym same) pending)
+written_other w h k u holds (inr (inr reader)) same = idle_no_reader w h k holds (subst (IsReader w.clients) (sym same) reader)
+
+pub rely_wrote : (w : State) (h : List Item) (k : WroteOne w) → Holds w h → RelyOn w h w.nodes (wrote_state w k).rows w.pairs (h ++ wrote_items w k)
+rely_wrote w h k holds = record {
+  on = goes_on h (wrote_items w k);
+  placed = λ b u d placed less. inl (write_places_none h k.it.session k.start k.key k.value u d placed);
+  comes = same_comes w h;
+  marks = λ u marked. marked;
+  writes = λ u key written. last_write-push h (Write k.it.session k.start k.key k.value) u key ∙ ap (λ o. option_or o (last_write h u key)) (other_write k.start u k.key key k.value k.it.session (written_other w h k u holds written));
+  shadows = shadows_put h w.rows k.key k.start k.value (λ c placed. open_not_placed w h k.it k.start c holds k.start_is placed);
+}
+
+-- a write that failed may have put its cell
+pub shadows_failed : (w : State) (h : List Item) (k : WriteFailed w) → Holds w h → ShadowsStay h w.rows k.rows
+shadows_failed w h k holds = elim k.rows_are [
+  | inl same ↦ subst (λ (rows : List Row). ShadowsStay h w.rows rows) (sym same) (shadows_same h w.rows)
+  | inr put ↦ subst (λ (rows : List Row). ShadowsStay h w.rows rows) (sym put) (shadows_put h w.rows k.key k.start k.value (λ c placed. open_not_placed w h k.it k.start c holds k.start_is placed))
+]

@@ -1,0 +1,27 @@
+-- Sessions, their requests and transactions, and the begins in flight.
+pub mod PendingAfter
+pub mod PendingFewer
+pub mod PendingMoved
+pub mod ClientsOpen
+pub mod OpenAfter
+pub mod ClientsAfter
+pub mod RequestsAfter
+pub mod CommitsInFlight
+pub mod Standing
+pub mod Silent
+pub mod RequestsKept
+pub mod ClientsBecome
+pub mod RequestsOfNodes
+pub mod RequestsOfClients
+pub mod RequestsOfMoves
+pub mod RequestsOfDraws
+pub mod SettledNow
+pub mod RequestsOfSettled
+pub mod RequestsOfBegins
+pub mod RequestsOfWrites
+pub mod RequestsOfAll
+pub mod WrittenKeys
+pub mod AsksBefore
+pub mod FreshBegins
+pub mod SettledBelow
+pub mod BeginsKept

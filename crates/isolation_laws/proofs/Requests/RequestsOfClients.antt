@@ -1,0 +1,141 @@
+-- What outcomes leave of requests and sessions, where one client alone changes.
+use Rattle.std.proofs.Common.{◌≡◌, ℕ, IsTrue, List, ◌⊎◌, inl, inr, refl, sym, ◌∙◌, ap, subst}
+use Rattle.std.specs.Prelude.{slice_set}
+use Rattle.std.proofs.lemmas.Option.{same_Some}
+use Rattle.history_book.specs.declared.item.Item.{Item}
+use Rattle.client_parts.specs.declared.session.State.{State as SessionState}
+use Rattle.client_parts.specs.declared.session.State.TheVariants as phase
+use Rattle.client_parts.specs.SessionSteps.{has_transaction}
+use Rattle.client_parts.specs.Resolve.{SettleTurn, settle_ask, settle_turn}
+use Rattle.oracle_parts.specs.declared.instance.Progress.{Progress}
+use Rattle.oracle_parts.specs.declared.instance.Request.{Request}
+use Rattle.oracle_parts.specs.declared.instance.Request.TheVariants.{Begin, Commit}
+use Rattle.oracle_parts.specs.Instance.{InstanceEntry}
+use Rattle.machine.specs.State.{Client, State}
+use Rattle.machine.specs.StoreSteps.{told_by}
+use Rattle.machine.specs.Clients.{client_freed, client_aborted, client_vanished}
+use Rattle.machine.specs.Events.Fetch.{client_read}
+use Rattle.machine.specs.Events.Step.{client_settled}
+use Rattle.machine.specs.Events.Write.{client_wrote}
+use Rattle.isolation_laws.specs.Words.{InstanceAt, HeldBy, ClientAt}
+use Rattle.isolation_laws.specs.Requests.{WaitsFor, AreRequests, HasAsked}
+use Rattle.isolation_laws.specs.Holds.{Holds}
+use Rattle.isolation_laws.proofs.Outcome.OutcomesOfSessions.{EndedReadOnly, read_only_state, WriteFailed, write_failed_state, Aborted, aborted_state, Vanished, vanished_state, Healed, healed_state}
+use Rattle.isolation_laws.proofs.Outcome.OutcomesOfWork.{Fetched, fetched_turn, fetched_state, ReadDropped, read_dropped_state, read_turn, ReadStepped, read_stepped_state, OutcomeStepped, outcome_state, OutcomeFailed, outcome_failed_state, CompletedOne, completed_state}
+use Rattle.isolation_laws.proofs.Requests.ClientsOpen.{FewerOpen, read_keeps_entry}
+use Rattle.isolation_laws.proofs.Requests.OpenAfter.{fewer_open_read_only, fewer_open_write_failed, fewer_open_aborted, fewer_open_vanished, fewer_open_healed, fewer_open_fetched, fewer_open_dropped, fewer_open_read, fewer_open_outcome, fewer_open_outcome_failed, fewer_open_completed}
+use Rattle.isolation_laws.proofs.Requests.ClientsAfter.{begun_kept, KeepsStart, has_none, has_by, aborted_keeps, freed_keeps, settled_keeps, asks_keep, KeysClient, keys_client, keys_set, keys_closed, gone_closed, keys_aborted, keys_freed, keys_settled, keys_asks}
+use Rattle.isolation_laws.proofs.Requests.RequestsAfter.{WaitsForNone, open_waits, outcome_waits, completing_waits, requests_client, requests_idle}
+use Rattle.isolation_laws.proofs.Requests.Standing.{standing_same}
+use Rattle.isolation_laws.proofs.Requests.CommitsInFlight.{IsSettledNow, IsAcceptedNow, IsDrawnNow}
+use Rattle.isolation_laws.proofs.Requests.RequestsKept.{Leaves}
+use Rattle.isolation_laws.proofs.Requests.ClientsBecome.{Becomes}
+use Rattle.isolation_laws.proofs.Requests.PendingFewer.{same_pending}
+
+-- a client changed, and its requests still fit it
+pub leaves_client : (w : State) (h : List Item) (s : ℕ) (c new : Client) → ClientAt w.clients s c → Becomes h s c new → FewerOpen w.clients (slice_set w.clients s new) → AreRequests w.nodes (slice_set w.clients s new) → Holds w h → Leaves w h w.nodes (slice_set w.clients s new)
+leaves_client w h s c new client becomes opened requests holds = record {
+  have_begun = begun_kept w.clients h s c new client becomes.begun holds.requests.have_begun;
+  requests = requests;
+  starting = standing_same IsDrawnNow w.nodes;
+  pending = same_pending w.nodes;
+  settled = standing_same IsSettledNow w.nodes;
+  accepted = standing_same IsAcceptedNow w.nodes;
+  opened = opened;
+  keys = keys_set w.clients h s new becomes.keys holds.requests.keys;
+}
+
+-- a client that waits for no request changed
+leaves_idle : (w : State) (h : List Item) (s : ℕ) (c new : Client) (state : SessionState) → ClientAt w.clients s c → c.entry.state ≡ state → WaitsForNone state → Becomes h s c new → FewerOpen w.clients (slice_set w.clients s new) → Holds w h → Leaves w h w.nodes (slice_set w.clients s new)
+leaves_idle w h s c new state client is none becomes opened holds =
+    leaves_client w h s c new client becomes opened (requests_idle w.nodes w.clients s c new state client is none holds.requests.requests) holds
+
+open_has : (c : Client) → c.entry.state ≡ phase.Open → IsTrue (has_transaction c.entry.state)
+open_has c is = has_by c.entry.state phase.Open is refl
+
+outcome_has : (c : Client) → c.entry.state ≡ phase.OpenOutcome → IsTrue (has_transaction c.entry.state)
+outcome_has c is = has_by c.entry.state phase.OpenOutcome is refl
+
+-- the entry stays
+same_entry : (h : List Item) (s : ℕ) (old new : Client) → new.entry ≡ old.entry → KeysClient h old → Becomes h s old new
+same_entry h s old new same keys = record {
+  begun = λ has. (subst (λ e. IsTrue (has_transaction e.state)) same has, ap (λ e. e.start) same);
+  keys = record {
+    written = λ t is start. ap (λ e. e.keys) same ∙ keys.written t (subst (λ e. (e.state ≡ phase.Open) ⊎ HasAsked e.state) same is) (sym (ap (λ e. e.start) same) ∙ start);
+    some = λ asked. λ none. keys.some (subst (λ e. HasAsked e.state) same asked) (sym (ap (λ e. e.keys) same) ∙ none);
+  };
+}
+
+keys_of : (w : State) (h : List Item) (s : ℕ) (c : Client) → Holds w h → ClientAt w.clients s c → KeysClient h c
+keys_of w h s c holds at = keys_client w.clients h s c holds.requests.keys at
+
+-- ---- an open transaction
+pub leaves_read_only : (w : State) (h : List Item) (k : EndedReadOnly w) → Holds w h → Leaves w h w.nodes (read_only_state w k).clients
+leaves_read_only w h k holds = leaves_idle w h k.it.session k.it.c (client_freed k.it.c) phase.Open k.it.client_at k.it.is_open open_waits (record { begun = freed_keeps k.it.c; keys = keys_freed h k.it.c }) (fewer_open_read_only w k) holds
+
+write_keeps : (c : Client) (key : ℕ) → IsTrue (has_transaction c.entry.state) → KeepsStart c (client_aborted (client_wrote c key))
+write_keeps c key had has = aborted_keeps (client_wrote c key) had has
+
+pub leaves_write_failed : (w : State) (h : List Item) (k : WriteFailed w) → Holds w h → Leaves w h w.nodes (write_failed_state w k).clients
+leaves_write_failed w h k holds = leaves_idle w h k.it.session k.it.c (client_aborted (client_wrote k.it.c k.key)) phase.Open k.it.client_at k.it.is_open open_waits (record { begun = write_keeps k.it.c k.key (open_has k.it.c k.it.is_open); keys = keys_aborted h (client_wrote k.it.c k.key) }) (fewer_open_write_failed w k) holds
+
+pub leaves_aborted : (w : State) (h : List Item) (k : Aborted w) → Holds w h → Leaves w h w.nodes (aborted_state w k).clients
+leaves_aborted w h k holds = leaves_idle w h k.it.session k.it.c (client_aborted k.it.c) phase.Open k.it.client_at k.it.is_open open_waits (record { begun = aborted_keeps k.it.c (open_has k.it.c k.it.is_open); keys = keys_aborted h k.it.c }) (fewer_open_aborted w k) holds
+
+pub leaves_healed : (w : State) (h : List Item) (k : Healed w) → Holds w h → Leaves w h w.nodes (healed_state w k).clients
+leaves_healed w h k holds = leaves_idle w h k.it.session k.it.c _ phase.Open k.it.client_at k.it.is_open open_waits (same_entry h k.it.session k.it.c _ refl (keys_of w h k.it.session k.it.c holds k.it.client_at)) (fewer_open_healed w k) holds
+
+pub leaves_fetched : (w : State) (h : List Item) (k : Fetched w) → Holds w h → Leaves w h w.nodes (fetched_state w k).clients
+leaves_fetched w h k holds = leaves_idle w h k.it.session k.it.c (client_read k.it.c (fetched_turn w k.key k.start k.epoch)) phase.Open k.it.client_at k.it.is_open open_waits (same_entry h k.it.session k.it.c _ (read_keeps_entry k.it.c (fetched_turn w k.key k.start k.epoch)) (keys_of w h k.it.session k.it.c holds k.it.client_at)) (fewer_open_fetched w k) holds
+
+-- ---- any session: its requests wait for the same state
+waits_same : (request : Request) (old new : Client) → new.entry ≡ old.entry → WaitsFor request old → WaitsFor request new
+waits_same (Begin s) old new same (inl gone) = inl (ap (λ e. e.state) same ∙ gone)
+waits_same (Begin s) old new same (inr asking) = inr (ap (λ e. e.state) same ∙ asking)
+waits_same (Commit s t keys) old new same (inl gone) = inl (ap (λ e. e.state) same ∙ gone)
+waits_same (Commit s t keys) old new same (inr asked) = inr (ap (λ e. e.state) same ∙ asked.0, ap (λ e. e.start) same ∙ asked.1)
+
+held_waits : (w : State) (h : List Item) (s : ℕ) (c : Client) → Holds w h → ClientAt w.clients s c → (n : ℕ) (i : InstanceEntry) (request : Request) (p : Progress) → InstanceAt w.nodes n i → HeldBy i s request p → WaitsFor request c
+held_waits w h s c holds client n i request p at held =
+    let waiting = holds.requests.requests.waits n s i request p at held in
+    subst (λ (x : Client). WaitsFor request x) (same_Some waiting.0 c (sym waiting.1 ∙ client)) waiting.2
+
+leaves_same : (w : State) (h : List Item) (s : ℕ) (c new : Client) → ClientAt w.clients s c → new.entry ≡ c.entry → FewerOpen w.clients (slice_set w.clients s new) → Holds w h → Leaves w h w.nodes (slice_set w.clients s new)
+leaves_same w h s c new client same opened holds =
+    leaves_client w h s c new client (same_entry h s c new same (keys_of w h s c holds client)) opened
+    (requests_client w.nodes w.clients s c new client (λ n i request p at held. waits_same request c new same (held_waits w h s c holds client n i request p at held)) holds.requests.requests) holds
+
+pub leaves_dropped : (w : State) (h : List Item) (k : ReadDropped w) → Holds w h → Leaves w h w.nodes (read_dropped_state w k).clients
+leaves_dropped w h k holds = leaves_same w h k.session k.c _ k.client_at refl (fewer_open_dropped w k) holds
+
+pub leaves_read : (w : State) (h : List Item) (k : ReadStepped w) → Holds w h → Leaves w h w.nodes (read_stepped_state w k).clients
+leaves_read w h k holds = leaves_same w h k.session k.c (client_read k.c (read_turn w k.r)) k.client_at (read_keeps_entry k.c (read_turn w k.r)) (fewer_open_read w k) holds
+
+vanished_waits : (request : Request) (c : Client) → c.entry.state ≡ phase.Gone → WaitsFor request c
+vanished_waits (Begin s) c gone = inl gone
+vanished_waits (Commit s t keys) c gone = inl gone
+
+pub leaves_vanished : (w : State) (h : List Item) (k : Vanished w) → Holds w h → Leaves w h w.nodes (vanished_state w k).clients
+leaves_vanished w h k holds =
+    leaves_client w h k.session k.c (client_vanished k.c) k.client_at
+    (record { begun = λ has. absurd (has_none phase.Gone (inr (inr refl)) has); keys = keys_closed h (client_vanished k.c) gone_closed }) (fewer_open_vanished w k)
+    (requests_client w.nodes w.clients k.session k.c (client_vanished k.c) k.client_at (λ n i request p at held. vanished_waits request (client_vanished k.c) refl) holds.requests.requests) holds
+
+-- ---- an open outcome, and a completion
+pub leaves_outcome : (w : State) (h : List Item) (k : OutcomeStepped w) → Holds w h → Leaves w h w.nodes (outcome_state w k).clients
+leaves_outcome w h k holds =
+    let turn : SettleTurn = settle_turn k.x (told_by (settle_ask k.x) w.rows w.pairs) in
+    leaves_idle w h k.it.session k.it.c (client_settled k.it.c k.x turn) phase.OpenOutcome k.it.client_at k.it.is_open outcome_waits
+    (record { begun = settled_keeps k.it.c k.x turn (outcome_has k.it.c k.it.is_open); keys = keys_settled h k.it.c k.x turn (keys_of w h k.it.session k.it.c holds k.it.client_at) }) (fewer_open_outcome w k) holds
+
+pub leaves_outcome_failed : (w : State) (h : List Item) (k : OutcomeFailed w) → Holds w h → Leaves w h w.nodes (outcome_failed_state w k).clients
+leaves_outcome_failed w h k holds = leaves_same w h k.it.session k.it.c _ k.it.client_at refl (fewer_open_outcome_failed w k) holds
+
+completed_becomes : (w : State) (h : List Item) (k : CompletedOne w) → Holds w h → Becomes h k.session k.c k.left
+completed_becomes w h k holds = elim k.left_is [
+  | inl goes ↦ subst (λ (x : Client). Becomes h k.session k.c x) (sym goes.0) (record { begun = asks_keep k.c k.asks; keys = keys_asks h k.c k.asks (keys_of w h k.session k.c holds k.client_at) })
+  | inr freed ↦ subst (λ (x : Client). Becomes h k.session k.c x) (sym freed) (record { begun = freed_keeps k.c; keys = keys_freed h k.c })
+]
+
+pub leaves_completed : (w : State) (h : List Item) (k : CompletedOne w) → Holds w h → Leaves w h w.nodes (completed_state w k).clients
+leaves_completed w h k holds = leaves_idle w h k.session k.c k.left (phase.Completing k.undo) k.client_at k.completing (completing_waits k.undo) (completed_becomes w h k holds) (fewer_open_completed w k) holds

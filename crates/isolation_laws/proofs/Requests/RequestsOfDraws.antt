@@ -1,0 +1,189 @@
+-- Sessions and requests where a stamp is drawn, and where a commit is settled.
+use Rattle.std.proofs.Common.{◌≡◌, ℕ, ◌+◌, List, ◌++◌, Option, Some, None, ◌⊎◌, inl, inr, refl, sym, ◌∙◌, ap, subst, arith}
+use Rattle.std.proofs.lemmas.Option.{same_Some, none-some}
+use Rattle.history_book.specs.Members.{◌∈◌}
+use Rattle.history_book.specs.declared.item.Item.{Item}
+use Rattle.history_book.specs.declared.item.Item.TheVariants.{Begin, Draw, Write}
+use Rattle.history_book.proofs.MemberLemmas.{in_front, in_last, in_push}
+use Rattle.oracle_parts.specs.declared.instance.Progress.TheVariants as progress
+use Rattle.oracle_parts.specs.declared.instance.Request.{Request}
+use Rattle.oracle_parts.specs.declared.instance.Request.TheVariants.{Begin as BeginRequest, Commit}
+use Rattle.oracle_parts.specs.Instance.{InstanceEntry}
+use Rattle.machine.specs.State.{State}
+use Rattle.machine.specs.Events.Decide.{draw_item}
+use Rattle.isolation_laws.specs.Words.{InstanceAt, HeldBy, OpenAt, Begun, DrewStart, DrewCommit, HasDrawn, written_keys}
+use Rattle.isolation_laws.specs.Pending.{Stage, Taken, InFlight, Pending}
+use Rattle.isolation_laws.specs.Requests.{AreStarting, IsDrawnSoFar, ArePending, RequestFacts}
+use Rattle.isolation_laws.specs.Holds.{Holds}
+use Rattle.isolation_laws.proofs.Lookups.{held_by, held_set, instance_changed}
+use Rattle.isolation_laws.proofs.OnceEach.{begun_once}
+use Rattle.isolation_laws.proofs.Owners.{open_not_pending, so_far_unplaced}
+use Rattle.isolation_laws.proofs.Outcome.OutcomesOfStamps.{Drew, drew_instance, drew_state, drew_items}
+use Rattle.isolation_laws.proofs.Requests.PendingMoved.{IsOlder, IsDrawnNow as IsDrawnQ, pending_drew}
+use Rattle.isolation_laws.proofs.Numbers.NumbersKept.{open_begun}
+use Rattle.isolation_laws.proofs.Requests.ClientsAfter.{have_on, written_keys-no_write}
+use Rattle.isolation_laws.proofs.Requests.RequestsAfter.{requests_fewer}
+use Rattle.isolation_laws.proofs.Requests.Standing.{standing_drew, held_drew}
+use Rattle.isolation_laws.proofs.Requests.CommitsInFlight.{goes_on, StaysPending, PendingOne, pending_one, pending_on, are_pending, IsSettledNow, IsAcceptedNow, settled_fewer, accepted_fewer, open_fewer}
+use Rattle.isolation_laws.proofs.Numbers.NumbersOfDraws.{start_drawn, commit_drawn, asker_of, draw_item_is, drew_room}
+use Rattle.isolation_laws.proofs.Numbers.NewStamps.{older_stamp, new_draw, drew_taken}
+use Rattle.isolation_laws.proofs.Numbers.NewDraws.{drew_begun_old, drew_placed_old}
+
+-- ---- what the draw brings
+write_is_draw : (s u k : ℕ) (v : List ℕ) (r n term t : ℕ) (c : Option ℕ) → Draw r n term t c ≡ Write s u k v → ⊥
+write_is_draw s u k v r n term t c same = cc
+
+pub drew_keys : (w : State) (k : Drew w) (h : List Item) (t : ℕ) → written_keys (h ++ drew_items w k) t ≡ written_keys h t
+drew_keys w k h t = written_keys-no_write h (new_draw w k) t (λ s u key v is. write_is_draw s u key v (asker_of k.held.request) k.node k.i.term (start_drawn k.held.request (k.i.last + 1)) (commit_drawn k.held.request (k.i.last + 1)) (sym (draw_item_is k.node k.i.term k.held.request (k.i.last + 1)) ∙ is))
+
+parts_same : (s n term t c r m other u : ℕ) (d : Option ℕ) → Draw s n term t (Some c) ≡ Draw r m other u d → (t ≡ u) × (Some c ≡ d)
+parts_same s n term t c r m other u d same = (cc, cc)
+
+-- the transaction for which a commit is drawn now
+abbrev pub DrawsFor : (w : State) → Drew w → ℕ → Type 0
+DrawsFor w k t = (r : ℕ) × (keys : List ℕ) × (k.held.request ≡ Commit r t keys)
+
+pub draws_commit : (w : State) (k : Drew w) (request : Request) (t c : ℕ) → k.held.request ≡ request → t ≡ start_drawn request (k.i.last + 1) → Some c ≡ commit_drawn request (k.i.last + 1) → DrawsFor w k t
+draws_commit w k (BeginRequest r) t c is start commit = absurd (none-some c (sym commit))
+draws_commit w k (Commit r u keys) t c is start commit = (r, keys, is ∙ ap (λ q. Commit r q keys) (sym start))
+
+drew_or_drawn : (w : State) (k : Drew w) (h : List Item) (t : ℕ) → HasDrawn (h ++ drew_items w k) t → HasDrawn h t ⊎ DrawsFor w k t
+drew_or_drawn w k h t (s, n, term, c, drew) = elim (in_push (Draw s n term t (Some c)) (new_draw w k) h drew) [
+  | inl old ↦ inl (s, n, term, c, old)
+  | inr now ↦
+      let same = parts_same s n term t c (asker_of k.held.request) k.node k.i.term (start_drawn k.held.request (k.i.last + 1)) (commit_drawn k.held.request (k.i.last + 1)) (now ∙ draw_item_is k.node k.i.term k.held.request (k.i.last + 1)) in
+      inr (draws_commit w k k.held.request t c refl same.0 same.1)
+]
+
+-- the one that draws, as it was taken
+abbrev pub drawing : (w : State) → Drew w → ℕ → List ℕ → InFlight
+drawing w k t keys = record { session = k.session; node = k.node; term = k.i.term; start = t; keys = keys; stage = Taken k.i.last }
+
+pub drawing_pending : (w : State) (h : List Item) (k : Drew w) (r t : ℕ) (keys : List ℕ) → Holds w h → k.held.request ≡ Commit r t keys → Pending w.nodes (drawing w k t keys)
+drawing_pending w h k r t keys holds is = drew_taken w k r t keys holds.requests.requests is
+
+-- another commit in flight is of another transaction
+other_start : (w : State) (h : List Item) (k : Drew w) (q : InFlight) (t : ℕ) → Holds w h → Pending w.nodes q → DrawsFor w k t → q.start ≡ t → (q.node ≡ k.node) × (q.session ≡ k.session)
+other_start w h k q t holds p draws same =
+    let mine : Pending w.nodes (drawing w k t draws.1) = drawing_pending w h k draws.0 t draws.1 holds draws.2 in
+    let session : q.session ≡ k.session = begun_once h q.session k.session t holds.isolated.stamped (subst (Begun h q.session) same (holds.requests.pending.begun q p)) (holds.requests.pending.begun (drawing w k t draws.1) mine) in
+    (holds.requests.requests.one q.node k.node k.session p.instance_of k.i (Commit q.session q.start q.keys) k.held.request p.progress_of k.held.progress p.at k.at (subst (λ s. HeldBy p.instance_of s (Commit q.session q.start q.keys) p.progress_of) session p.held) (held_by k.i k.session k.held k.has), session)
+
+-- ---- commits in flight
+-- a commit that was taken stays in flight, with what is drawn for it so far
+taken_one : (w : State) (h : List Item) (k : Drew w) (q : InFlight) → PendingOne h (record q { stage = Taken k.i.last }) → IsDrawnSoFar (h ++ drew_items w k) q q.stage → PendingOne (h ++ drew_items w k) q
+taken_one w h k q before so_far = record {
+  begun = in_front (Begin q.session q.start) h (drew_items w k) before.begun;
+  keys = before.keys ∙ sym (drew_keys w k h q.start);
+  some = before.some;
+  so_far = so_far;
+}
+
+older_one : (w : State) (h : List Item) (k : Drew w) (q : InFlight) → Holds w h → IsOlder w k q → PendingOne (h ++ drew_items w k) q
+older_one w h k q holds is =
+    let g : List Item = h ++ drew_items w k in
+    let before : PendingOne h (record q { stage = Taken k.i.last }) = pending_one w.nodes h (record q { stage = Taken k.i.last }) holds.requests.pending is.was_taken in
+    taken_one w h k q before (subst (λ (stage : Stage). IsDrawnSoFar g q stage) (sym is.taken) (λ drew. elim (drew_or_drawn w k h q.start drew) [
+      | inl old ↦ before.so_far old
+      | inr now ↦ is.other (other_start w h k (record q { stage = Taken k.i.last }) q.start holds is.was_taken now refl).1
+    ]))
+
+-- the draw of its commit
+draws_its : (w : State) (h : List Item) (k : Drew w) (q : InFlight) (request : Request) → k.held.request ≡ request → request ≡ Commit q.session q.start q.keys → q.node ≡ k.node → q.term ≡ k.i.term → DrewCommit (h ++ drew_items w k) q.session q.node q.term q.start (k.i.last + 1)
+draws_its w h k q request is asks node term =
+    let item : Draw q.session q.node q.term q.start (Some (k.i.last + 1)) ≡ new_draw w k =
+    ap (λ n. Draw q.session n q.term q.start (Some (k.i.last + 1))) node
+    ∙ (ap (λ x. Draw q.session k.node x q.start (Some (k.i.last + 1))) term
+    ∙ sym (ap (λ r. draw_item k.node k.i.term r (k.i.last + 1)) (is ∙ asks))) in
+    subst (λ x. x ∈ (h ++ drew_items w k)) (sym item) (in_last (new_draw w k) h)
+
+drawn_one : (w : State) (h : List Item) (k : Drew w) (q : InFlight) → Holds w h → IsDrawnQ w k q → PendingOne (h ++ drew_items w k) q
+drawn_one w h k q holds is =
+    let g : List Item = h ++ drew_items w k in
+    let before : PendingOne h (record q { stage = Taken k.i.last }) = pending_one w.nodes h (record q { stage = Taken k.i.last }) holds.requests.pending is.was_taken in
+    taken_one w h k q before (subst (λ (stage : Stage). IsDrawnSoFar g q stage) (sym is.has)
+    (draws_its w h k q k.held.request refl is.request_is is.node_is is.term_is, λ c placed. so_far_unplaced h (record q { stage = Taken k.i.last }) (Taken k.i.last) c holds.numbers.placed before.so_far (drew_placed_old w k h q.start c placed)))
+
+-- one that stays as it stood is not the one that draws
+stays_one : (w : State) (h : List Item) (k : Drew w) (q : InFlight) → Holds w h → Pending w.nodes q → ((q.node ≡ k.node) × (q.session ≡ k.session) → ⊥) → StaysPending h (h ++ drew_items w k) q
+stays_one w h k q holds p other = record {
+  alone = record {
+    undrawn = λ drew. elim (drew_or_drawn w k h q.start drew) [
+      | inl old ↦ old
+      | inr now ↦ absurd (other (other_start w h k q q.start holds p now refl))
+    ];
+    unplaced = λ c placed. drew_placed_old w k h q.start c placed;
+  };
+  keys = drew_keys w k h q.start;
+}
+
+drew_pending : (w : State) (h : List Item) (k : Drew w) → Holds w h → ArePending (drew_state w k).nodes (h ++ drew_items w k)
+drew_pending w h k holds = are_pending (drew_state w k).nodes (h ++ drew_items w k) (λ q p. elim (pending_drew w k q p) [
+  | inl old ↦ pending_on h (h ++ drew_items w k) q (goes_on h (drew_items w k)) (stays_one w h k q holds old.0 old.1) (pending_one w.nodes h q holds.requests.pending old.0)
+  | inr (inl older) ↦ older_one w h k q holds older
+  | inr (inr drawn) ↦ drawn_one w h k q holds drawn
+])
+
+-- ---- a begin that drew its start: nobody has begun it
+stamp_unbegun : (w : State) (h : List Item) (k : Drew w) (r : ℕ) → Holds w h → Begun h r (k.i.last + 1) → ⊥
+stamp_unbegun w h k r holds begun =
+    let drew = holds.numbers.begun.drawn r (k.i.last + 1) begun in
+    elim (older_stamp w k h r drew.0 drew.1 (k.i.last + 1) None holds.numbers.ranges holds.numbers.drawn drew.2) [
+      | inl low ↦ omega (arith, low)
+      | inr high ↦ omega (arith, high.0, drew_room w k holds.numbers.ranges)
+    ]
+
+begun_now : (w : State) (h : List Item) (k : Drew w) (s t : ℕ) → k.held.request ≡ BeginRequest s → t ≡ k.i.last + 1 → DrewStart (h ++ drew_items w k) s k.node k.i.term t
+begun_now w h k s t is stamp = subst (λ x. x ∈ (h ++ drew_items w k)) (ap (λ r. draw_item k.node k.i.term r (k.i.last + 1)) is ∙ ap (λ u. Draw s k.node k.i.term u None) (sym stamp)) (in_last (new_draw w k) h)
+
+-- what stands as drawn at the node that drew: the one that drew, or one that stood there
+record DrewHere (w : State) (k : Drew w) (s t : ℕ) : Type 0 where
+  mine : (s ≡ k.session) × (k.held.request ≡ BeginRequest s) × (t ≡ k.i.last + 1)
+
+drawn_stamp_is : (a b : ℕ) → progress.Drawn a ≡ progress.Drawn b → b ≡ a
+drawn_stamp_is a b same = cc
+
+drew_standing : (w : State) (k : Drew w) (n s t : ℕ) (j : InstanceEntry) → InstanceAt (drew_state w k).nodes n j → HeldBy j s (BeginRequest s) (progress.Drawn t) → ((n ≡ k.node) × (j.term ≡ k.i.term) × DrewHere w k s t) ⊎ ((i : InstanceEntry) × InstanceAt w.nodes n i × HeldBy i s (BeginRequest s) (progress.Drawn t) × (j.term ≡ i.term))
+drew_standing w k n s t j at held = elim (instance_changed w.nodes k.node n (drew_instance w k) j at) [
+  | inl here ↦
+      let mine : HeldBy (drew_instance w k) s (BeginRequest s) (progress.Drawn t) = subst (λ (x : InstanceEntry). HeldBy x s (BeginRequest s) (progress.Drawn t)) here.1 held in
+      elim (held_set k.i k.session s (Some (record k.held { progress = progress.Drawn (k.i.last + 1) })) mine.held mine.has) [
+        | inl now ↦
+            let same : record k.held { progress = progress.Drawn (k.i.last + 1) } ≡ mine.held = same_Some (record k.held { progress = progress.Drawn (k.i.last + 1) }) mine.held now.1 in
+            inl (here.0, ap (λ x. x.term) here.1, record { mine = (now.0, ap (λ x. x.request) same ∙ mine.asks, drawn_stamp_is (k.i.last + 1) t (ap (λ x. x.progress) same ∙ mine.stands)) })
+        | inr old ↦ inr (k.i, subst (λ q. InstanceAt w.nodes q k.i) (sym here.0) k.at, record { held = mine.held; has = old.1; asks = mine.asks; stands = mine.stands }, ap (λ x. x.term) here.1)
+      ]
+  | inr there ↦ inr (j, there.1, held, refl)
+]
+
+drew_starting : (w : State) (h : List Item) (k : Drew w) → Holds w h → AreStarting (drew_state w k).nodes (h ++ drew_items w k)
+drew_starting w h k holds = record {
+  drawn = λ n s t j at held. elim (drew_standing w k n s t j at held) [
+    | inl here ↦ subst (λ m. DrewStart (h ++ drew_items w k) s m j.term t) (sym here.0) (subst (λ term. DrewStart (h ++ drew_items w k) s k.node term t) (sym here.1) (begun_now w h k s t here.2.mine.1 here.2.mine.2))
+    | inr was ↦ subst (λ term. DrewStart (h ++ drew_items w k) s n term t) (sym was.3) (in_front (Draw s n was.0.term t None) h (drew_items w k) (holds.requests.starting.drawn n s t was.0 was.1 was.2))
+  ];
+  unbegun = λ n s t r j at held begun. elim (drew_standing w k n s t j at held) [
+    | inl here ↦ stamp_unbegun w h k r holds (subst (Begun h r) here.2.mine.2 (drew_begun_old w k h r t begun))
+    | inr was ↦ holds.requests.starting.unbegun n s t r was.0 was.1 was.2 (drew_begun_old w k h r t begun)
+  ];
+}
+
+drew_not_open : (w : State) (h : List Item) (k : Drew w) (s t e : ℕ) → Holds w h → OpenAt w.clients s t e → DrawsFor w k t → ⊥
+drew_not_open w h k s t e holds o draws =
+    open_not_pending w.nodes w.clients h s t e holds.isolated.stamped holds.requests.requests holds.requests.pending (open_begun w.clients h s t o.client holds.requests.have_begun o.at o.state_is o.start_is) o
+    (record { coming = drawing w k t draws.1; pending = drawing_pending w h k draws.0 t draws.1 holds draws.2; start_is = refl })
+
+pub requests_drew : (w : State) (h : List Item) (k : Drew w) → Holds w h → RequestFacts (drew_state w k).nodes w.clients (h ++ drew_items w k)
+requests_drew w h k holds = record {
+  have_begun = have_on w.clients h (drew_items w k) holds.requests.have_begun;
+  requests = requests_fewer w.nodes (drew_state w k).nodes w.clients (held_drew w k) holds.requests.requests;
+  starting = drew_starting w h k holds;
+  pending = drew_pending w h k holds;
+  settled = settled_fewer w.nodes (drew_state w k).nodes h (h ++ drew_items w k) (standing_drew IsSettledNow w k (λ stamp is. is)) (goes_on h (drew_items w k)) (λ n s t c d i at placed. drew_placed_old w k h t d placed) holds.requests.settled;
+  accepted = accepted_fewer w.nodes (drew_state w k).nodes (standing_drew IsAcceptedNow w k (λ stamp is. is)) holds.requests.accepted;
+  opened = open_fewer w.clients w.clients h (h ++ drew_items w k) (λ s t e o. o) (λ s t e o drew. elim (drew_or_drawn w k h t drew) [
+    | inl old ↦ old
+    | inr now ↦ absurd (drew_not_open w h k s t e holds o now)
+  ]) holds.requests.opened;
+  keys = record { written = λ s t c at is start. holds.requests.keys.written s t c at is start ∙ sym (drew_keys w k h t); some = holds.requests.keys.some };
+}

@@ -1,0 +1,83 @@
+-- Every outcome keeps the facts on the cells and the commit table.
+use Rattle.std.proofs.Common.{◌≡◌, ℕ, ◌+◌, List, ◌++◌, Option, Some, None, inl, inr, refl, ◌∙◌, ap}
+use Rattle.history_book.specs.Isolation.{last_write}
+use Rattle.history_book.specs.declared.item.Item.{Item}
+use Rattle.store_parts.specs.declared.rows.Cell.{Cell}
+use Rattle.store_parts.specs.Rows.{Row, looked}
+use Rattle.store_parts.specs.Pairs.{Pairs}
+use Rattle.client_parts.specs.KeyRead.{settling_of}
+use Rattle.oracle_parts.specs.Instance.{InstanceEntry}
+use Rattle.machine.specs.State.{Client, State}
+use Rattle.isolation_laws.specs.Quiet.{AllQuiet}
+use Rattle.isolation_laws.specs.Cells.{CellFacts}
+use Rattle.isolation_laws.specs.Holds.{Holds}
+use Rattle.isolation_laws.proofs.Holding.Framed.{settle_cells, framed}
+use Rattle.isolation_laws.proofs.Numbers.NumbersKept.{in_flight_of, drawn_pending}
+use Rattle.isolation_laws.proofs.Outcome.OutcomesOfStamps.{Drew, drew_items, PlacedOne, placed_state, placed_items, AnsweredBegin, answered_begin_state, answered_begin_items}
+use Rattle.isolation_laws.proofs.Outcome.OutcomesOfWork.{read_turn, fetched_turn}
+use Rattle.isolation_laws.proofs.Outcome.Outcomes.{Outcome, OfGranted, OfRenewed, OfExtended, OfAskedBegin, OfAskedCommit, OfAccepted, OfDrew, OfPlaced, OfAnsweredBegin, OfWrote, OfFetched, OfReadStepped, OfSweepListed, left_by, told_by_outcome}
+use Rattle.isolation_laws.proofs.Requests.PendingFewer.{fewer_granted, fewer_renewed, fewer_extended, fewer_asked_begin, fewer_settled}
+use Rattle.isolation_laws.proofs.Requests.OpenAfter.{fewer_open_asked_begin, fewer_open_fetched, fewer_open_read}
+use Rattle.isolation_laws.proofs.Requests.RequestsOfBegins.{start_unbegun}
+use Rattle.isolation_laws.proofs.Stores.LiveAfter.{FewerLive, fewer_live, same_live, live_by_clients, live_by_nodes, live_asked_commit, live_accepted, live_drew, live_answered_begin}
+use Rattle.isolation_laws.proofs.Stores.Calm.{Calm, calm_quiet, calm_turn, calm_draw}
+use Rattle.isolation_laws.proofs.Requests.WrittenKeys.{last_write-none}
+use Rattle.isolation_laws.proofs.Stores.CellsStay.{cells_calm}
+use Rattle.isolation_laws.proofs.Stores.CellsMove.{cells_placed}
+use Rattle.isolation_laws.proofs.UnderWay.UnderWayOfRequests.{calm_ask, calm_begin, is_placing}
+use Rattle.isolation_laws.proofs.UnderWay.UnderWayOfSweeps.{calm_listing}
+use Rattle.isolation_laws.proofs.UnderWay.WritesKept.{cells_wrote}
+
+-- ---- no more is live, and the history goes on
+goes : (w : State) (h g : List Item) (clients : List Client) (nodes : List (Option InstanceEntry)) (rows : List Row) (pairs : Pairs) → FewerLive w.clients w.nodes clients nodes → Calm h g → CellFacts w.clients w.nodes rows pairs h → CellFacts clients nodes rows pairs g
+goes w h g clients nodes rows pairs fewer calm facts = cells_calm w.clients clients w.nodes nodes rows pairs h g (λ t live. inl (fewer t live)) calm facts
+
+quietly : (w : State) (h items : List Item) (clients : List Client) (nodes : List (Option InstanceEntry)) → AllQuiet items → FewerLive w.clients w.nodes clients nodes → Holds w h → CellFacts clients nodes w.rows w.pairs (h ++ items)
+quietly w h items clients nodes quiet fewer holds = goes w h (h ++ items) clients nodes w.rows w.pairs fewer (calm_quiet h items quiet) holds.cells
+
+-- ---- a stamp is drawn
+pub calm_drew : (w : State) (h : List Item) (k : Drew w) → Calm h (h ++ drew_items w k)
+calm_drew w h k = calm_draw h k.node k.i.term k.held.request (k.i.last + 1)
+
+-- ---- a begin is answered: its transaction has neither rows nor writes
+start_no_row : (w : State) (h : List Item) (k : AnsweredBegin w) (j : ℕ) → Holds w h → looked w.rows j k.start ≡ None
+start_no_row w h k j holds = by (looked w.rows j k.start) refl
+  where
+    by : (found : Option Cell) → looked w.rows j k.start ≡ found → looked w.rows j k.start ≡ None
+    by None e = e
+    by (Some cell) e = let was = holds.cells.rows_are.begun j k.start cell e in absurd (start_unbegun w h k was.0 holds was.1)
+
+start_no_write : (w : State) (h : List Item) (k : AnsweredBegin w) (j : ℕ) → Holds w h → last_write h k.start j ≡ None
+start_no_write w h k j holds = last_write-none h k.start j (λ s value m. let was = holds.numbers.begun.writes s k.start j value m in start_unbegun w h k was.0 holds was.1)
+
+cells_answered_begin : (w : State) (h : List Item) (k : AnsweredBegin w) → Holds w h → CellFacts (answered_begin_state w k).clients (answered_begin_state w k).nodes w.rows w.pairs (h ++ answered_begin_items w k)
+cells_answered_begin w h k holds = cells_calm w.clients (answered_begin_state w k).clients w.nodes (answered_begin_state w k).nodes w.rows w.pairs h (h ++ answered_begin_items w k)
+    (λ t live. elim (live_answered_begin w k t live) [
+      | inl old ↦ inl old
+      | inr now ↦ inr (λ j. (ap (looked w.rows j) now ∙ start_no_row w h k j holds, ap (λ q. last_write h q j) now ∙ start_no_write w h k j holds))
+    ]) (calm_begin h k.session k.start) holds.cells
+
+-- ---- a commit is placed
+cells_placed_one : (w : State) (h : List Item) (k : PlacedOne w) → Holds w h → CellFacts w.clients (placed_state w k).nodes w.rows (placed_state w k).pairs (h ++ placed_items w k)
+cells_placed_one w h k holds = cells_placed w.clients w.nodes (placed_state w k).nodes w.rows w.pairs h (h ++ placed_items w k) k.it.start k.it.commit
+    (live_by_nodes w.clients w.nodes (placed_state w k).nodes (fewer_settled w k.it k.by))
+    (is_placing h k.items k.it.start k.it.commit k.quiet)
+    (inr (record { coming = in_flight_of w k.it; pending = drawn_pending w k.it holds.requests.requests; start_is = refl }))
+    k.free holds.cells
+
+-- ---- every outcome
+pub cells_kept : (w : State) (h : List Item) (o : Outcome w) → Holds w h → CellFacts (left_by w o).clients (left_by w o).nodes (left_by w o).rows (left_by w o).pairs (h ++ told_by_outcome w o)
+cells_kept w h (OfGranted k) holds = quietly w h k.items _ _ k.quiet (live_by_nodes w.clients w.nodes _ (fewer_granted w k)) holds
+cells_kept w h (OfRenewed k) holds = quietly w h k.items _ _ k.quiet (live_by_nodes w.clients w.nodes _ (fewer_renewed w k)) holds
+cells_kept w h (OfExtended k) holds = quietly w h k.items _ _ k.quiet (live_by_nodes w.clients w.nodes _ (fewer_extended w k)) holds
+cells_kept w h (OfAskedBegin k) holds = goes w h _ _ _ w.rows w.pairs (fewer_live w.clients _ w.nodes _ (fewer_open_asked_begin w k) (fewer_asked_begin w k)) (calm_ask h k.session k.node) holds.cells
+cells_kept w h (OfAskedCommit k) holds = quietly w h k.items _ _ k.quiet (live_asked_commit w k) holds
+cells_kept w h (OfAccepted k) holds = quietly w h k.items _ _ k.quiet (live_accepted w k) holds
+cells_kept w h (OfDrew k) holds = goes w h _ _ _ w.rows w.pairs (live_drew w k) (calm_drew w h k) holds.cells
+cells_kept w h (OfPlaced k) holds = cells_placed_one w h k holds
+cells_kept w h (OfAnsweredBegin k) holds = cells_answered_begin w h k holds
+cells_kept w h (OfWrote k) holds = cells_wrote w h k holds
+cells_kept w h (OfFetched k) holds = goes w h _ _ _ w.rows w.pairs (live_by_clients w.clients _ w.nodes (fewer_open_fetched w k)) (calm_turn h k.first k.it.session k.start k.key (fetched_turn w k.key k.start k.epoch) k.quiet) holds.cells
+cells_kept w h (OfReadStepped k) holds = goes w h _ _ _ w.rows _ (live_by_clients w.clients _ w.nodes (fewer_open_read w k)) (calm_turn h k.first k.session k.r.start k.r.key (read_turn w k.r) k.quiet) (settle_cells w h (settling_of k.r) holds)
+cells_kept w h (OfSweepListed k) holds = goes w h _ _ _ w.rows w.pairs (same_live w.clients w.nodes) (calm_listing h k.txn k.count) holds.cells
+cells_kept w h o holds = (framed w h o holds refl).cells
