@@ -14,3 +14,8 @@ pub mod ReadTurns
 pub mod ReadLines
 pub mod FetchLines
 mod WorkedScripts
+pub mod StoppedSeats
+pub mod SettledCommits
+pub mod StoodBefore
+pub mod StandsBefore
+pub mod StuckRuns

@@ -1,9 +1,9 @@
 -- The worked scripts, computed.
-use Rattle.std.proofs.Common.{◌≡◌, ℕ, zero, suc, ◌+◌, ◌<◌, ◌≤◌, List, [], ◌∷◌, Option, Some, None, inl, inr, refl, sym, ◌∙◌, subst, arith}
+use Rattle.std.proofs.Common.{◌≡◌, ℕ, zero, suc, ◌+◌, ◌≤◌, [], ◌∷◌, Option, Some, None, inl, inr, refl, sym, ◌∙◌, subst, arith}
 use Rattle.std.specs.Prelude.{slice_index_or}
-use Rattle.stamp_base.specs.declared.stores.Store.TheVariants.{Cells, Table, Master}
+use Rattle.stamp_base.specs.declared.stores.Store.TheVariants.{Cells, Table}
 use Rattle.port_io.specs.Planned.{planned_fate}
-use Rattle.store_parts.specs.Rows.{put_row, fetched, front_of, with_shadow, without_bare, looked}
+use Rattle.store_parts.specs.Rows.{put_row, fetched, front_of, without_bare}
 use Rattle.client_parts.specs.KeyRead.{after_passed}
 use Rattle.oracle_parts.specs.Buckets.{record_pairs, kept_commit, verdict}
 use Rattle.oracle_parts.specs.Instance.{InstanceEntry, instance_new, in_flight, least_unsettled}

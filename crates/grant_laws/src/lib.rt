@@ -2,10 +2,12 @@
 #![tactic(auto)]
 
 mod granted;
+mod waiting;
 mod worked;
 
 pub use granted::{
     begins_are_granted, commits_are_granted, reads_are_granted, takes_are_granted,
     writes_are_granted,
 };
+pub use waiting::stuck_runs_wait;
 pub use worked::{a_begin, a_commit, a_read, a_take, a_write};
