@@ -19,3 +19,6 @@ pub mod SettledCommits
 pub mod StoodBefore
 pub mod StandsBefore
 pub mod StuckRuns
+pub mod OwnCarried
+pub mod ServedTurns
+pub mod StageTurns

@@ -3,3 +3,4 @@ pub mod Premises
 pub mod Laws
 pub mod Worked
 pub mod Stuck
+pub mod Turns
