@@ -22,3 +22,4 @@ pub mod StuckRuns
 pub mod OwnCarried
 pub mod ServedTurns
 pub mod StageTurns
+pub mod KeptRequests

@@ -1,6 +1,6 @@
 -- What is granted to the lines of a script that is carried out by turns: an own turn that makes what its line asks for, and the
 -- turns by which the stages of a node serve a request, each under its premises when it is made, whatever turns came before.
-use Rattle.std.specs.Prelude.{◌≡◌, ◌≢◌, ℕ, ◌+◌, ◌<◌, ◌≤◌, ◌^◌, List, [], ◌∷◌, ◌++◌, Option, None, Some, MatchOption}
+use Rattle.std.specs.Prelude.{◌≡◌, ℕ, ◌+◌, ◌<◌, ◌≤◌, ◌^◌, ◌==◌, ◌&&◌, Bool, false, List, [], ◌∷◌, ◌++◌, None, IfSome}
 use Rattle.stamp_base.specs.SetupNumbers.{AreInRange}
 use Rattle.stamp_base.specs.declared.stores.Store.TheVariants.{Table, Master}
 use Rattle.port_io.specs.declared.weather.Fate.TheVariants.{Works}
@@ -29,7 +29,7 @@ use Rattle.line_runs.specs.Runs.{Played}
 use Rattle.run_turns.specs.declared.ahead.Ahead.TheVariants.{Makes}
 use Rattle.run_turns.specs.declared.turn.Turn.{Turn}
 use Rattle.run_turns.specs.declared.turn.Turn.TheVariants as turn
-use Rattle.run_turns.specs.Carried.{Carried, own_ahead, turned, carried}
+use Rattle.run_turns.specs.Carried.{Carried, own_ahead, event_of, turned, carried}
 use Rattle.grant_laws.specs.Granted.{reading_of, next_fate}
 use Rattle.grant_laws.specs.Premises.{CanWrite, CanTake}
 
@@ -83,3 +83,21 @@ abbrev pub ExtensionsAreCarried : Type 0
 ExtensionsAreCarried =
     (script : ScriptData) (turns : List Turn) (node : ℕ) (oracle : InstanceEntry) → let c = carried script turns in AreInRange script.setup → IsPlayable script 0 script.lines → InstanceAt c.played.state.nodes node oracle → oracle.term ≡ c.played.state.master.term → c.played.state.master.ceiling + script.setup.range ≤ 2 ^ 62 → next_fate script c.played Master ≡ Works →
     Adds script c (turn.Extend node) (item.Extend node oracle.term (c.played.state.master.ceiling + script.setup.range))
+
+-- ---- requests in between
+-- the event asks for the session at the node, serves its request there, or ends the node's instance
+abbrev pub touches : ℕ → ℕ → Event → Bool
+touches node session (event.Crash n) = n == node
+touches node session (event.AskBegin s n) = (n == node) && (s == session)
+touches node session (event.AskCommit s n) = (n == node) && (s == session)
+touches node session (event.Accept n s reading) = (n == node) && (s == session)
+touches node session (event.Decide n s) = (n == node) && (s == session)
+touches node session (event.Put n s) = (n == node) && (s == session)
+touches node session (event.Answer n s) = (n == node) && (s == session)
+touches node session _ = false
+
+-- every other turn leaves the request as far as it has come
+abbrev pub RequestsStay : Type 0
+RequestsStay =
+    (script : ScriptData) (turns : List Turn) (t : Turn) (node session : ℕ) (request : Request) (progress : Progress) → let c = carried script turns in IfSome (event_of script c t) (λ e. touches node session e ≡ false) → IsServed c.played node session request progress →
+    IsServed (turned script c t).played node session request progress

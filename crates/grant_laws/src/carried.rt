@@ -1,5 +1,5 @@
 // What is asked for by the lines of a script that is carried out by turns is granted, whatever turns came before.
-ghost use Rattle.grant_laws.specs.Turns.{WritesAreCarried, TakesAreCarried, ServedTurnsAreGranted, ExtensionsAreCarried};
+ghost use Rattle.grant_laws.specs.Turns.{WritesAreCarried, TakesAreCarried, ServedTurnsAreGranted, ExtensionsAreCarried, RequestsStay};
 
 use run_turns::turns_keep_facts;
 
@@ -33,3 +33,9 @@ pub fn extensions_are_carried()
 {
     turns_keep_facts();
 }
+
+/// Between the turns that serve it a request stays as far as it has come: every turn leaves it so that does not serve that request,
+/// ask for its session at its node, or crash its node.
+pub fn requests_stay()
+    ensures { RequestsStay }
+{}
