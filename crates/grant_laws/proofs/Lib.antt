@@ -23,3 +23,4 @@ pub mod OwnCarried
 pub mod ServedTurns
 pub mod StageTurns
 pub mod KeptRequests
+pub mod ReadTurnsMade

@@ -86,21 +86,21 @@ pub record HasAnswer (script : ScriptData) (line : Line) (s key start most : ℕ
   pub appends : Appends from.played.items next.played.items (item.Read s start key answer)
 
 -- the step of the machine
-abbrev the_step : State → ℕ → Effect StepParts → Step
+abbrev pub the_step : State → ℕ → Effect StepParts → Step
 the_step w s effect = step_of_effect effect (λ (q : StepParts). record (with_client w s q.0) { rows = q.1; pairs = q.2 })
 
 -- what the read's next call is told, and what the step comes to by the read's turn
-abbrev told_now : Played → Reading → Told
+abbrev pub told_now : Played → Reading → Told
 told_now p r = told_by (read_ask r) p.state.rows p.state.pairs
 
-abbrev by_turn : ℕ → Played → Client → Reading → ReadTurn → Step
+abbrev pub by_turn : ℕ → Played → Client → Reading → ReadTurn → Step
 by_turn s p c r turn = the_step p.state s (stepped_on (client_read c turn) (met (Session s) (read_ask r) Works p.state.rows p.state.pairs) (read_items s r.start r.key turn))
 
-record StepsSo (script : ScriptData) (s : ℕ) (p : Played) (c : Client) (r : Reading) (turn : ReadTurn) : Type 0 where
-  is : step_of script p (event.Step s) ≡ by_turn s p c r turn
-  calls : (played script p (event.Step s)).calls ≡ one_more p.calls (store_of (read_ask r))
+pub record StepsSo (script : ScriptData) (s : ℕ) (p : Played) (c : Client) (r : Reading) (turn : ReadTurn) : Type 0 where
+  pub is : step_of script p (event.Step s) ≡ by_turn s p c r turn
+  pub calls : (played script p (event.Step s)).calls ≡ one_more p.calls (store_of (read_ask r))
 
-steps_so : (script : ScriptData) (s key start many : ℕ) (p : Played) (r : Reading) (k : IsReading s key start p r) → CallsWork script (many + 1) p.calls → StepsSo script s p k.client r (read_told r (told_now p r))
+pub steps_so : (script : ScriptData) (s key start many : ℕ) (p : Played) (r : Reading) (k : IsReading s key start p r) → CallsWork script (many + 1) p.calls → StepsSo script s p k.client r (read_told r (told_now p r))
 steps_so script s key start many p r k works =
     let w : State = p.state in
     let e : Event = event.Step s in

@@ -1,14 +1,17 @@
 -- What is granted to the lines of a script that is carried out by turns: an own turn that makes what its line asks for, and the
 -- turns by which the stages of a node serve a request, each under its premises when it is made, whatever turns came before.
-use Rattle.std.specs.Prelude.{◌≡◌, ℕ, ◌+◌, ◌<◌, ◌≤◌, ◌^◌, ◌==◌, ◌&&◌, Bool, false, List, [], ◌∷◌, ◌++◌, None, IfSome}
+use Rattle.std.specs.Prelude.{◌≡◌, ℕ, ◌+◌, ◌<◌, ◌≤◌, ◌^◌, ◌*◌, ◌⊎◌, ◌==◌, ◌&&◌, Bool, false, List, [], ◌∷◌, ◌++◌, Option, None, IfSome}
 use Rattle.stamp_base.specs.SetupNumbers.{AreInRange}
+use Rattle.stamp_base.specs.declared.stores.Store.{Store}
 use Rattle.stamp_base.specs.declared.stores.Store.TheVariants.{Table, Master}
 use Rattle.port_io.specs.declared.weather.Fate.TheVariants.{Works}
 use Rattle.history_book.specs.declared.cause.Cause.TheVariants as cause
 use Rattle.history_book.specs.declared.item.Actor.TheVariants.{Node, Session}
+use Rattle.history_book.specs.declared.item.Found.{Found}
 use Rattle.history_book.specs.declared.item.Item.{Item}
 use Rattle.history_book.specs.declared.item.Item.TheVariants as item
 use Rattle.client_parts.specs.declared.session.State.TheVariants as phase
+use Rattle.client_parts.specs.KeyRead.{Reading, read_left}
 use Rattle.oracle_parts.specs.declared.buckets.Verdict.TheVariants.{Free}
 use Rattle.oracle_parts.specs.declared.instance.Progress.{Progress}
 use Rattle.oracle_parts.specs.declared.instance.Progress.TheVariants as progress
@@ -17,7 +20,7 @@ use Rattle.oracle_parts.specs.declared.instance.Request.TheVariants.{Begin, Comm
 use Rattle.oracle_parts.specs.declared.instance.Settled.TheVariants as how
 use Rattle.oracle_parts.specs.Instance.{InstanceEntry, in_flight, least_unsettled}
 use Rattle.oracle_parts.specs.InstanceSteps.{request_verdict, epoch_refusal}
-use Rattle.machine.specs.State.{Client, State}
+use Rattle.machine.specs.State.{Reads, Client}
 use Rattle.machine.specs.Clients.{is_reading}
 use Rattle.machine.specs.declared.event.Event.{Event}
 use Rattle.machine.specs.declared.event.Event.TheVariants as event
@@ -30,8 +33,8 @@ use Rattle.run_turns.specs.declared.ahead.Ahead.TheVariants.{Makes}
 use Rattle.run_turns.specs.declared.turn.Turn.{Turn}
 use Rattle.run_turns.specs.declared.turn.Turn.TheVariants as turn
 use Rattle.run_turns.specs.Carried.{Carried, own_ahead, event_of, turned, carried}
-use Rattle.grant_laws.specs.Granted.{reading_of, next_fate}
-use Rattle.grant_laws.specs.Premises.{CanWrite, CanTake}
+use Rattle.grant_laws.specs.Granted.{reading_of, next_fate, Appends}
+use Rattle.grant_laws.specs.Premises.{CanWrite, CanTake, cells_to_read, CanRead}
 
 -- the turn appends the item alone
 abbrev pub Adds : ScriptData → Carried → Turn → Item → Type 0
@@ -101,3 +104,30 @@ abbrev pub RequestsStay : Type 0
 RequestsStay =
     (script : ScriptData) (turns : List Turn) (t : Turn) (node session : ℕ) (request : Request) (progress : Progress) → let c = carried script turns in IfSome (event_of script c t) (λ e. touches node session e ≡ false) → IsServed c.played node session request progress →
     IsServed (turned script c t).played node session request progress
+
+-- ---- reads
+-- the session reads the key by its start, and this read is under way
+pub record ReadsKey (p : Played) (session start key : ℕ) (r : Reading) : Type 0 where
+  pub client : Client
+  pub session_is : ClientAt p.state.clients session client
+  pub in_work : client.entry.state ≡ phase.Open
+  pub under_way : client.under_way ≡ Reads r
+  pub key_is : r.key ≡ key
+  pub start_is : r.start ≡ start
+
+-- the turn has appended the read's answer, or fewer steps are left than these
+pub record GoesOn (p : Played) (session start key most : ℕ) : Type 0 where
+  pub later : Reading
+  pub reads : ReadsKey p session start key later
+  pub fewer : read_left later < most
+
+abbrev pub AnswersOr : Played → Played → ℕ → ℕ → ℕ → ℕ → Type 0
+AnswersOr before after session start key most = ((answer : Option Found) × Appends before.items after.items (item.Read session start key answer)) ⊎ GoesOn after session start key most
+
+-- an own turn that makes a step of a read, no call of which fails now, appends the answer or leaves fewer steps; so does the fetch
+-- that begins it, which leaves at most three for each cell
+pub record ReadsAreCarried : Type 0 where
+  pub steps : (script : ScriptData) (turns : List Turn) (session start key : ℕ) (r : Reading) → let c = carried script turns in own_ahead script c (Session session) ≡ Makes (event.Step session) → ReadsKey c.played session start key r → ((store : Store) → next_fate script c.played store ≡ Works) →
+      AnswersOr c.played (turned script c (turn.Own (Session session))).played session start key (read_left r)
+  pub fetches : (script : ScriptData) (turns : List Turn) (session key : ℕ) → let c = carried script turns in AreInRange script.setup → IsPlayable script 0 script.lines → own_ahead script c (Session session) ≡ Makes (event.Fetch session key) → (can : CanRead script c.played session key) →
+      AnswersOr c.played (turned script c (turn.Own (Session session))).played session can.start key (3 * cells_to_read c.played can.start key + 1)

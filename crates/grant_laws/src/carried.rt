@@ -1,6 +1,7 @@
 // What is asked for by the lines of a script that is carried out by turns is granted, whatever turns came before.
-ghost use Rattle.grant_laws.specs.Turns.{WritesAreCarried, TakesAreCarried, ServedTurnsAreGranted, ExtensionsAreCarried, RequestsStay};
+ghost use Rattle.grant_laws.specs.Turns.{WritesAreCarried, TakesAreCarried, ServedTurnsAreGranted, ExtensionsAreCarried, RequestsStay, ReadsAreCarried};
 
+use client_parts::reads_end;
 use run_turns::turns_keep_facts;
 
 /// An own turn that makes a write appends it, under the premises of a write line.
@@ -39,3 +40,11 @@ pub fn extensions_are_carried()
 pub fn requests_stay()
     ensures { RequestsStay }
 {}
+
+/// An own turn that makes a step of a read appends the answer or leaves fewer steps, where its call works; and so does the fetch
+/// that begins it, which leaves at most three for each cell. So a read whose calls work ends with its answer.
+pub fn reads_are_carried()
+    ensures { ReadsAreCarried }
+{
+    reads_end();
+}

@@ -7,8 +7,8 @@ mod waiting;
 mod worked;
 
 pub use carried::{
-    extensions_are_carried, requests_stay, served_turns_are_granted, takes_are_carried,
-    writes_are_carried,
+    extensions_are_carried, reads_are_carried, requests_stay, served_turns_are_granted,
+    takes_are_carried, writes_are_carried,
 };
 pub use granted::{
     begins_are_granted, commits_are_granted, reads_are_granted, takes_are_granted,
