@@ -3,7 +3,6 @@ use Rattle.std.proofs.Common.{◌≡◌, ◌≢◌, ℕ, ◌==◌, ◌&&◌, Boo
 use Rattle.std.specs.Prelude.{slice_get, slice_set, IfSome}
 use Rattle.std.proofs.lemmas.Bool.{cases_eq, eq-eqb, eqb-false}
 use Rattle.std.proofs.lemmas.Option.{same_Some}
-use Rattle.stamp_base.specs.SetupNumbers.{SetupNumbers}
 use Rattle.stamp_base.specs.declared.stores.Mark.{Mark}
 use Rattle.port_io.specs.declared.weather.Fate.{Fate}
 use Rattle.port_io.specs.declared.weather.Fate.TheVariants.{Works, FailsUnchanged, FailsApplied}
@@ -27,14 +26,14 @@ use Rattle.oracle_parts.specs.declared.instance.Request.{Request}
 use Rattle.oracle_parts.specs.declared.instance.Request.TheVariants.{Begin, Commit}
 use Rattle.oracle_parts.specs.declared.instance.Settled.TheVariants as how
 use Rattle.oracle_parts.specs.Instance.{InstanceEntry, held_of, session_of, stamps_at}
-use Rattle.oracle_parts.specs.InstanceSteps.{InstanceStep, instance_ask, instance_accept, instance_decide, instance_answer}
+use Rattle.oracle_parts.specs.InstanceSteps.{instance_ask, instance_accept, instance_decide, instance_answer}
 use Rattle.oracle_parts.specs.InstanceLaws.{InstanceCall, Asks, Accepts, Decides, Settles, Answers, after_call, call_session}
 use Rattle.oracle_parts.proofs.InstanceRequests.{held_of-after_call_other}
 use Rattle.machine.specs.State.{Client, State}
 use Rattle.machine.specs.Clients.{is_reading}
 use Rattle.machine.specs.declared.event.Event.{Event}
 use Rattle.machine.specs.declared.event.Event.TheVariants as event
-use Rattle.machine.specs.Machine.{Step, nothing, with_reading, at_post, at_client, at_both, stepped}
+use Rattle.machine.specs.Machine.{Step, with_reading, at_post, at_client, at_both, stepped}
 use Rattle.machine.specs.Events.Take.{take_on}
 use Rattle.machine.specs.Events.Renew.{renew_by, renew_on}
 use Rattle.machine.specs.Events.Extend.{extend_by, extend_on}
@@ -46,11 +45,11 @@ use Rattle.machine.specs.Events.Decide.{decide_by, decide_request, decide_on}
 use Rattle.machine.specs.Events.Put.{to_place, put_by, put_commit, put_on}
 use Rattle.machine.specs.Events.Answer.{answer_by, answer_request, answer_on}
 use Rattle.script_data.specs.Data.{ScriptData}
-use Rattle.isolation_laws.specs.Words.{InstanceAt, HeldBy}
+use Rattle.isolation_laws.specs.Words.{InstanceAt}
 use Rattle.isolation_laws.proofs.Lookups.{set_found, set_other}
 use Rattle.line_runs.specs.Runs.{fate_of, step_of}
 use Rattle.run_turns.specs.declared.turn.Turn.{Turn}
-use Rattle.run_turns.specs.Carried.{Carried, event_of, turned_by, turned, carried}
+use Rattle.run_turns.specs.Carried.{Carried, event_of, turned_by, carried}
 use Rattle.grant_laws.specs.Turns.{IsServed, touches, RequestsStay}
 
 -- ---- a request at a node

@@ -1,6 +1,5 @@
 -- Own turns that write and take, and what a turn appends.
-use Rattle.std.proofs.Common.{◌≡◌, ℕ, List, [], ◌∷◌, ◌++◌, Option, Some, refl, ◌∙◌, ap}
-use Rattle.history_book.specs.declared.item.Actor.{Actor}
+use Rattle.std.proofs.Common.{◌≡◌, List, [], ◌∷◌, ◌++◌, Option, Some, ◌∙◌, ap}
 use Rattle.history_book.specs.declared.item.Actor.TheVariants.{Node, Session}
 use Rattle.history_book.specs.declared.item.Item.{Item}
 use Rattle.history_book.specs.declared.item.Item.TheVariants as item
@@ -8,10 +7,9 @@ use Rattle.machine.specs.declared.event.Event.{Event}
 use Rattle.machine.specs.declared.event.Event.TheVariants as event
 use Rattle.script_data.specs.Data.{ScriptData}
 use Rattle.line_runs.specs.Runs.{step_of}
-use Rattle.run_turns.specs.declared.ahead.Ahead.TheVariants.{Makes}
 use Rattle.run_turns.specs.declared.turn.Turn.{Turn}
 use Rattle.run_turns.specs.declared.turn.Turn.TheVariants as turn
-use Rattle.run_turns.specs.Carried.{Carried, own_ahead, made_by, event_of, turned_by, carried}
+use Rattle.run_turns.specs.Carried.{Carried, made_by, event_of, turned_by, carried}
 use Rattle.run_turns.specs.Laws.{TurnsKeepFacts}
 use Rattle.grant_laws.specs.Granted.{reading_of}
 use Rattle.grant_laws.specs.Turns.{Adds, WritesAreCarried, TakesAreCarried}

@@ -1,68 +1,41 @@
 -- Own turns of a read: its fetch, and its steps.
-use Rattle.std.proofs.Common.{◌≡◌, ℕ, ◌+◌, ◌*◌, ◌≤◌, Bool, false, List, [], ◌∷◌, ◌++◌, length, Option, Some, None, refl, sym, ◌∙◌, ap, subst, arith, zero, suc, inl, inr, ◌⊎◌}
+use Rattle.std.proofs.Common.{◌≡◌, ℕ, ◌+◌, ◌*◌, List, [], ◌∷◌, ◌++◌, length, Option, Some, None, refl, sym, ◌∙◌, ap, subst, arith, inl, inr}
 use Rattle.stamp_base.specs.declared.stores.Store.{Store}
-use Rattle.stamp_base.specs.declared.stores.Store.TheVariants.{Cells}
-use Rattle.port_io.specs.declared.weather.Fate.{Fate}
 use Rattle.port_io.specs.Planned.{planned_fate}
 use Rattle.port_io.specs.declared.weather.Fate.TheVariants.{Works}
-use Rattle.history_book.specs.declared.cause.Cause.{Cause}
 use Rattle.history_book.specs.declared.item.Actor.TheVariants.{Session}
 use Rattle.history_book.specs.declared.item.StoreStep.TheVariants as store_step
 use Rattle.history_book.specs.declared.item.Item.{Item}
 use Rattle.history_book.specs.declared.item.Item.TheVariants as item
 use Rattle.store_parts.specs.declared.rows.Cell.{Cell}
-use Rattle.store_parts.specs.Rows.{Row, fetched, front_of}
-use Rattle.client_parts.specs.declared.key_read.Answer.{Answer}
-use Rattle.client_parts.specs.declared.session.State.{State as SessionState}
-use Rattle.client_parts.specs.declared.session.State.TheVariants as phase
-use Rattle.client_parts.specs.SessionSteps.{work_refusal, step_refusal}
-use Rattle.client_parts.specs.KeyRead.{Reading, ReadTurn, Asks, Answers, read_over, read_left, ReadsEnd, read_told, read_ask}
-use Rattle.machine.specs.State.{Reads as UnderRead, Client, State, UnderWay}
-use Rattle.machine.specs.Clients.{is_reading, is_reading_by}
-use Rattle.machine.specs.Effect.{Effect}
+use Rattle.store_parts.specs.Rows.{fetched, front_of}
+use Rattle.client_parts.specs.KeyRead.{Reading, ReadTurn, Asks, Answers, read_left, ReadsEnd, read_told, read_ask}
+use Rattle.machine.specs.State.{Reads as UnderRead, Client}
 use Rattle.machine.specs.declared.event.Event.{Event}
 use Rattle.machine.specs.declared.event.Event.TheVariants as event
-use Rattle.machine.specs.Machine.{Step, step_by as step_of_effect, with_client, at_client, asks, asks_at_client}
-use Rattle.machine.specs.Events.Fetch.{found_of, fetch_worked, fetch_by, fetch_open, fetch_on, epoch_asks, fetch_asks, client_read, read_items}
-use Rattle.machine.specs.Events.Write.{open_asks}
-use Rattle.script_data.specs.declared.line.Line.{Line}
-use Rattle.script_data.specs.declared.line.Verb.{Verb}
-use Rattle.script_data.specs.declared.line.Verb.TheVariants as verb
+use Rattle.machine.specs.Machine.{Step}
+use Rattle.machine.specs.Events.Fetch.{found_of}
 use Rattle.script_data.specs.Data.{ScriptData}
 use Rattle.isolation_laws.specs.Words.{ClientAt}
 use Rattle.isolation_laws.proofs.Lookups.{set_found}
-use Rattle.line_runs.specs.declared.point.Point.TheVariants.{Opens, Reads}
-use Rattle.line_runs.specs.Halts.{halt_of, follows}
-use Rattle.line_runs.specs.Laws.{EventsLowerWhatIsLeft, IsPlayable}
-use Rattle.line_runs.specs.Runs.{calls_on, Calls, Played, one_more, calls_after, fate_by, fate_of, step_of, played, run_after, left_in, opened, Run, next_in}
+use Rattle.line_runs.specs.Laws.{IsPlayable}
+use Rattle.line_runs.specs.Runs.{calls_on, Played, step_of, played}
 use Rattle.line_runs.proofs.ReadLines.{OfKey, over_key, told_key}
-use Rattle.grant_laws.specs.Granted.{line_of, next_fate, Appends}
-use Rattle.grant_laws.proofs.LongerRuns.{in_one, in_last, appended_before, Leads, leads_on, leads_one, leads_to, line_appends, run_at}
-use Rattle.grant_laws.proofs.ReadLines.{IsReading, HasAnswer, read_answers, told_now, by_turn, StepsSo, steps_so}
-use Rattle.grant_laws.proofs.Before.{Known, known_before, granted}
-use Rattle.grant_laws.specs.Turns.{ReadsKey, GoesOn, AnswersOr, ReadsAreCarried}
-use Rattle.line_runs.specs.Left.{of_client, cells_by, client_reads, client_fetches}
-use Rattle.line_runs.proofs.AlwaysFit.{Fit}
-use Rattle.line_runs.proofs.Fitting.{EpochFits, fit_at}
-use Rattle.grant_laws.proofs.ReadTurns.{OfStart, over_start, CallsWork, works_on, works_now, told_start}
+use Rattle.grant_laws.specs.Granted.{next_fate}
+use Rattle.grant_laws.proofs.LongerRuns.{in_one, in_last}
+use Rattle.grant_laws.proofs.ReadLines.{IsReading, told_now, StepsSo, steps_so}
+use Rattle.grant_laws.specs.Turns.{ReadsKey, AnswersOr, ReadsAreCarried}
+use Rattle.grant_laws.proofs.ReadTurns.{OfStart, over_start, CallsWork, told_start}
 use Rattle.stamp_base.specs.SetupNumbers.{AreInRange}
 use Rattle.run_turns.specs.declared.ahead.Ahead.TheVariants.{Makes}
 use Rattle.run_turns.specs.declared.turn.Turn.{Turn}
 use Rattle.run_turns.specs.declared.turn.Turn.TheVariants as turn
-use Rattle.run_turns.specs.Carried.{Carried, own_ahead, made_by, event_of, turned_by, turned, carried, all_passed, at_first}
+use Rattle.run_turns.specs.Carried.{Carried, own_ahead, made_by, turned_by, turned, carried, all_passed, at_first}
 use Rattle.run_turns.proofs.Facts.{Facts, facts_all, facts_at_first}
 use Rattle.grant_laws.specs.Premises.{cells_to_read, CanRead}
 use Rattle.grant_laws.proofs.FetchLines.{has_epoch, may_fetch, first_turn, FetchesSo, fetches_so}
-use Rattle.history_book.specs.declared.item.Found.{Found}
-use Rattle.store_parts.specs.Pairs.{Pairs}
 use Rattle.client_parts.specs.declared.asks.Told.{Told}
-use Rattle.client_parts.specs.declared.resolve.SettlePoint.{SettlePoint}
-use Rattle.client_parts.specs.declared.resolve.SettlePoint.TheVariants.{FirstLook, Table, Marking, LastLook}
-use Rattle.client_parts.specs.Resolve.{settle_left}
-use Rattle.machine.specs.Readers.{doing_at, doing_by}
-use Rattle.machine.specs.StoreSteps.{met, store_of, told_by}
-use Rattle.machine.specs.Events.Step.{StepParts, stepped_on, work_by, next_of, read_by, step_at, step_by, step_on, store_asked, step_asks_by, step_asks}
-use Rattle.line_runs.specs.Next.{read_next}
+use Rattle.machine.specs.StoreSteps.{met}
 
 -- an own turn that makes the event comes to what the event plays
 own_plays : (script : ScriptData) (c : Carried) (s : ℕ) (e : Event) → own_ahead script c (Session s) ≡ Makes e → (turned script c (turn.Own (Session s))).played ≡ played script c.played e

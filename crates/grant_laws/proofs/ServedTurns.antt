@@ -1,22 +1,15 @@
 -- The turns by which the stages of a node serve a request, whatever turns came before.
-use Rattle.std.proofs.Common.{◌≡◌, ◌≢◌, ℕ, ◌+◌, ◌<◌, ◌≤◌, ◌^◌, ◌==◌, nat_lt, Bool, true, false, cond, List, [], ◌∷◌, ◌++◌, length, Option, Some, None, refl, sym, ◌∙◌, ap, subst, arith}
-use Rattle.std.specs.Prelude.{slice_get, slice_set}
-use Rattle.std.proofs.lemmas.Bool.{lt-ltb, ne_eqb}
-use Rattle.std.proofs.lemmas.Option.{none-some}
-use Rattle.stamp_base.specs.declared.stores.Store.{Store}
-use Rattle.stamp_base.specs.declared.stores.Store.TheVariants.{Table, Master}
+use Rattle.std.proofs.Common.{◌≡◌, ◌≢◌, ℕ, ◌+◌, ◌<◌, Bool, cond, List, [], ◌∷◌, length, Option, Some, None, refl, sym, ◌∙◌, ap, subst}
+use Rattle.std.proofs.lemmas.Bool.{ne_eqb}
 use Rattle.stamp_base.specs.declared.stores.Mark.{Mark}
 use Rattle.stamp_base.specs.declared.stores.Mark.TheVariants.{Committed as CommittedMark, Invalid as InvalidMark}
-use Rattle.stamp_base.specs.SetupNumbers.{SetupNumbers}
 use Rattle.port_io.specs.declared.weather.Fate.{Fate}
 use Rattle.port_io.specs.declared.weather.Fate.TheVariants.{Works}
 use Rattle.port_io.specs.Fates.{fated}
 use Rattle.history_book.specs.declared.cause.Cause.{Cause}
-use Rattle.history_book.specs.declared.cause.Cause.TheVariants as cause
 use Rattle.history_book.specs.declared.item.Item.{Item}
 use Rattle.history_book.specs.declared.item.Item.TheVariants as item
 use Rattle.store_parts.specs.Pairs.{Pairs, mark_of, put_pair}
-use Rattle.store_parts.specs.Record.{MasterRecord, extended}
 use Rattle.oracle_parts.specs.declared.buckets.Verdict.{Verdict}
 use Rattle.oracle_parts.specs.declared.buckets.Verdict.TheVariants.{Free}
 use Rattle.oracle_parts.specs.declared.instance.Held.{Held}
@@ -26,36 +19,29 @@ use Rattle.oracle_parts.specs.declared.instance.Request.{Request}
 use Rattle.oracle_parts.specs.declared.instance.Request.TheVariants.{Begin, Commit}
 use Rattle.oracle_parts.specs.declared.instance.Settled.TheVariants as how
 use Rattle.oracle_parts.specs.Instance.{InstanceEntry, held_of, with_request, stamps_by, stamps_of_held, unsettled_by, least_unsettled}
-use Rattle.oracle_parts.specs.InstanceSteps.{moved, accept_refusal, epoch_refusal, accept_unless, accept_if_asked, accept_held, out_of_stamps, decided_by, decide_drawn, decide_by, request_verdict, decide_if_accepted, decide_held, settle_if_drawn, settle_held, answer_begin, answer_if_ready, answer_held, instance_widened}
+use Rattle.oracle_parts.specs.InstanceSteps.{moved, accept_refusal, accept_unless, accept_if_asked, accept_held, out_of_stamps, decided_by, decide_drawn, decide_by, request_verdict, decide_if_accepted, decide_held, settle_if_drawn, settle_held, answer_begin, answer_if_ready, answer_held}
 use Rattle.oracle_parts.specs.InstanceLaws.{stamp_of}
 use Rattle.oracle_parts.proofs.InstanceRequests.{held_of-with_request_same}
 use Rattle.machine.specs.State.{Client, State}
 use Rattle.machine.specs.Effect.{Effect, done}
 use Rattle.machine.specs.declared.event.Event.{Event}
-use Rattle.machine.specs.declared.event.Event.TheVariants as event
-use Rattle.machine.specs.Machine.{Step, step_by, with_post, with_reading, at_post, on_request, asks, asks_at_post}
+use Rattle.machine.specs.Machine.{Step, on_request, asks}
 use Rattle.machine.specs.Events.Accept.{accept_by, accept_request, accept_on}
 use Rattle.machine.specs.Events.Decide.{draw_item, decide_by as decision_by, decide_request, decide_on}
-use Rattle.machine.specs.Events.Put.{to_place, to_place_by, put_by, put_commit, put_on, put_asks, commit_asks}
+use Rattle.machine.specs.Events.Put.{to_place, to_place_by, put_by, put_commit, put_on}
 use Rattle.machine.specs.Events.Answer.{answer_by, answer_request, answer_on}
-use Rattle.machine.specs.Events.Extend.{extend_on, extend_asks}
 use Rattle.script_data.specs.Data.{ScriptData}
-use Rattle.isolation_laws.specs.Words.{InstanceAt, HeldBy, ClientAt, Marked}
+use Rattle.isolation_laws.specs.Words.{InstanceAt, ClientAt, Marked}
 use Rattle.isolation_laws.specs.Sound.{Stands}
-use Rattle.isolation_laws.specs.Pending.{Stage, Has, InFlight, Pending}
+use Rattle.isolation_laws.specs.Pending.{Has, InFlight, Pending}
 use Rattle.isolation_laws.specs.Requests.{WaitsFor}
 use Rattle.isolation_laws.proofs.Lookups.{set_found}
 use Rattle.cause_laws.proofs.HeldCounts.{held_within}
-use Rattle.line_runs.specs.Runs.{Played, fate_by, fate_of, step_of, played}
+use Rattle.line_runs.specs.Runs.{Played, step_of, played}
 use Rattle.line_runs.proofs.Serving.{node_step, on_both}
 use Rattle.run_turns.specs.declared.turn.Turn.{Turn}
-use Rattle.run_turns.specs.declared.turn.Turn.TheVariants as turn
-use Rattle.run_turns.specs.Carried.{Carried, turned, carried}
-use Rattle.run_turns.specs.Laws.{TurnsKeepFacts}
-use Rattle.grant_laws.specs.Granted.{reading_of, next_fate}
-use Rattle.grant_laws.specs.Turns.{Adds, IsServed, Serves, ServedAreGranted, ServedTurnsAreGranted, ExtensionsAreCarried}
-use Rattle.grant_laws.proofs.Effects.{widens}
-use Rattle.grant_laws.proofs.OwnCarried.{turn_adds}
+use Rattle.run_turns.specs.Carried.{Carried, turned}
+use Rattle.grant_laws.specs.Turns.{Adds, IsServed, Serves}
 
 -- ---- the parts that a turn looks at
 -- the client of a request, and that the request has its place

@@ -5,7 +5,6 @@ use Rattle.stamp_base.specs.SetupNumbers.{AreInRange}
 use Rattle.stamp_base.specs.declared.stores.Store.{Store}
 use Rattle.stamp_base.specs.declared.stores.Store.TheVariants.{Table, Master}
 use Rattle.port_io.specs.declared.weather.Fate.TheVariants.{Works}
-use Rattle.history_book.specs.declared.cause.Cause.TheVariants as cause
 use Rattle.history_book.specs.declared.item.Actor.TheVariants.{Node, Session}
 use Rattle.history_book.specs.declared.item.Found.{Found}
 use Rattle.history_book.specs.declared.item.Item.{Item}
@@ -18,10 +17,9 @@ use Rattle.oracle_parts.specs.declared.instance.Progress.TheVariants as progress
 use Rattle.oracle_parts.specs.declared.instance.Request.{Request}
 use Rattle.oracle_parts.specs.declared.instance.Request.TheVariants.{Begin, Commit}
 use Rattle.oracle_parts.specs.declared.instance.Settled.TheVariants as how
-use Rattle.oracle_parts.specs.Instance.{InstanceEntry, in_flight, least_unsettled}
+use Rattle.oracle_parts.specs.Instance.{InstanceEntry, least_unsettled}
 use Rattle.oracle_parts.specs.InstanceSteps.{request_verdict, epoch_refusal}
 use Rattle.machine.specs.State.{Reads, Client}
-use Rattle.machine.specs.Clients.{is_reading}
 use Rattle.machine.specs.declared.event.Event.{Event}
 use Rattle.machine.specs.declared.event.Event.TheVariants as event
 use Rattle.machine.specs.Events.Decide.{draw_item}
