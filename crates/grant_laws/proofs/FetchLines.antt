@@ -35,7 +35,7 @@ use Rattle.line_runs.specs.Halts.{halt_of, follows}
 use Rattle.line_runs.specs.Laws.{EventsLowerWhatIsLeft}
 use Rattle.line_runs.specs.Runs.{Calls, Played, one_more, calls_after, fate_by, fate_of, step_of, played, run_after, left_in, opened}
 use Rattle.line_runs.proofs.ReadLines.{OfKey, over_key}
-use Rattle.grant_laws.specs.Granted.{line_of}
+use Rattle.grant_laws.specs.Granted.{line_of, next_fate}
 use Rattle.grant_laws.proofs.LongerRuns.{in_one, in_last, appended_before, Leads, leads_on, leads_one, leads_to, line_appends, run_at}
 use Rattle.grant_laws.proofs.ReadLines.{IsReading, HasAnswer, read_answers}
 use Rattle.grant_laws.proofs.Before.{Known, known_before, granted}
@@ -93,12 +93,12 @@ pub record FetchesSo (script : ScriptData) (s key start : ℕ) (p : Played) (c :
   pub is : step_of script p (event.Fetch s key) ≡ fetch_turn s p c key start turn
   pub calls : (played script p (event.Fetch s key)).calls ≡ one_more p.calls Cells
 
-pub fetches_so : (script : ScriptData) (s key start epoch many : ℕ) (p : Played) (c : Client) → ClientAt p.state.clients s c → c.entry.state ≡ phase.Open → MayFetch c start epoch → CallsWork script (many + 1) p.calls → FetchesSo script s key start p c (first_turn p key start epoch)
-fetches_so script s key start epoch many p c at in_work may works =
+pub fetches_so : (script : ScriptData) (s key start epoch : ℕ) (p : Played) (c : Client) → ClientAt p.state.clients s c → c.entry.state ≡ phase.Open → MayFetch c start epoch → next_fate script p Cells ≡ Works → FetchesSo script s key start p c (first_turn p key start epoch)
+fetches_so script s key start epoch p c at in_work may works =
     let w : State = p.state in
     let e : Event = event.Fetch s key in
     let asked : asks w e ≡ Some Cells = ap (λ (found : Option Client). asks_at_client found fetch_asks) at ∙ fetch_asked c start epoch may in
-    let fate : fate_of script p e ≡ Works = ap (λ (store : Option Store). fate_by script p.calls store) asked ∙ works_now script many p.calls Cells works in
+    let fate : fate_of script p e ≡ Works = ap (λ (store : Option Store). fate_by script p.calls store) asked ∙ works in
     record {
       session_is = at;
       in_work = in_work;
@@ -169,8 +169,8 @@ reads_are_granted lowers ends script p number s key before can =
     let many : ℕ = 3 * length (front_of start (fetched p.state.rows key start)) in
     let known : Known script p = known_before lowers script line p before in
     let epoch : (e : ℕ) × (c.entry.epoch ≡ Some e) = has_epoch p s c known.fit can.session_is can.in_work in
-    let works : CallsWork script (many + 1) p.calls = λ store n less. can.reading store n (omega (arith, less)) in
-    let so : FetchesSo script s key start p c (first_turn p key start epoch.0) = fetches_so script s key start epoch.0 many p c can.session_is can.in_work (may_fetch c start epoch.0 can.in_work can.at_rest can.begun epoch.1) works in
+    let works : CallsWork script (many + 1) p.calls = λ store n from less. can.reading store n from (omega (arith, less)) in
+    let so : FetchesSo script s key start p c (first_turn p key start epoch.0) = fetches_so script s key start epoch.0 p c can.session_is can.in_work (may_fetch c start epoch.0 can.in_work can.at_rest can.begun epoch.1) (works_now script many p.calls Cells tt works) in
     let all : HasAnswer script line s key start (many + 1) (opened p) = by_first ends script number s key start epoch.0 many p c (first_turn p key start epoch.0) refl refl works so in
     let x : Item = item.Read s start key all.answer in
     (all.answer, granted script line p x before (line_appends script line p all.steps all.next x (omega (arith, all.few, room_left number s key start p c can.session_is can.begun)) all.leads all.appends))

@@ -11,6 +11,7 @@ use Rattle.store_parts.specs.declared.rows.Cell.{Cell}
 use Rattle.store_parts.specs.Rows.{fetched, front_of}
 use Rattle.client_parts.specs.KeyRead.{Reading, ReadTurn, Asks, Answers, read_left, ReadsEnd, read_told, read_ask}
 use Rattle.machine.specs.State.{Reads as UnderRead, Client}
+use Rattle.machine.specs.StoreSteps.{store_of}
 use Rattle.machine.specs.declared.event.Event.{Event}
 use Rattle.machine.specs.declared.event.Event.TheVariants as event
 use Rattle.machine.specs.Machine.{Step}
@@ -32,7 +33,7 @@ use Rattle.run_turns.specs.declared.turn.Turn.{Turn}
 use Rattle.run_turns.specs.declared.turn.Turn.TheVariants as turn
 use Rattle.run_turns.specs.Carried.{Carried, own_ahead, made_by, turned_by, turned, carried, all_passed, at_first}
 use Rattle.run_turns.proofs.Facts.{Facts, facts_all, facts_at_first}
-use Rattle.grant_laws.specs.Premises.{cells_to_read, CanRead}
+use Rattle.grant_laws.specs.Premises.{cells_to_read, CanFetch}
 use Rattle.grant_laws.proofs.FetchLines.{has_epoch, may_fetch, first_turn, FetchesSo, fetches_so}
 use Rattle.client_parts.specs.declared.asks.Told.{Told}
 use Rattle.machine.specs.StoreSteps.{met}
@@ -67,17 +68,11 @@ step_by_turn ends script s start key p r told k (Asks later) is so =
       fewer = ends.1 r later told is;
     })
 
--- the next call on each store works
-one_works : (script : ScriptData) (p : Played) → ((store : Store) → next_fate script p store ≡ Works) → CallsWork script (0 + 1) p.calls
-one_works script p works store n less =
-    let none : calls_on p.calls store + n + 1 ≡ calls_on p.calls store + 1 = omega (arith, less) in
-    ap (λ (call : ℕ). planned_fate script.faults store call) none ∙ works store
-
-step_carried : ReadsEnd → (script : ScriptData) (turns : List Turn) (s start key : ℕ) (r : Reading) → own_ahead script (carried script turns) (Session s) ≡ Makes (event.Step s) → ReadsKey (carried script turns).played s start key r → ((store : Store) → next_fate script (carried script turns).played store ≡ Works) → AnswersOr (carried script turns).played (turned script (carried script turns) (turn.Own (Session s))).played s start key (read_left r)
+step_carried : ReadsEnd → (script : ScriptData) (turns : List Turn) (s start key : ℕ) (r : Reading) → own_ahead script (carried script turns) (Session s) ≡ Makes (event.Step s) → ReadsKey (carried script turns).played s start key r → next_fate script (carried script turns).played (store_of (read_ask r)) ≡ Works → AnswersOr (carried script turns).played (turned script (carried script turns) (turn.Own (Session s))).played s start key (read_left r)
 step_carried ends script turns s start key r ahead reads works =
     let c : Carried = carried script turns in
     let k : IsReading s key start c.played r = as_reading c.played s start key r reads in
-    let so : StepsSo script s c.played k.client r (read_told r (told_now c.played r)) = steps_so script s key start 0 c.played r k (one_works script c.played works) in
+    let so : StepsSo script s c.played k.client r (read_told r (told_now c.played r)) = steps_so script s key start c.played r k works in
     subst (λ (after : Played). AnswersOr c.played after s start key (read_left r)) (sym (own_plays script c s (event.Step s) ahead)) (step_by_turn ends script s start key c.played r (told_now c.played r) k (read_told r (told_now c.played r)) refl so)
 
 -- ---- the fetch
@@ -102,14 +97,13 @@ fetch_by_turn ends script s start key epoch most p c (Asks r) is all so =
       fewer = omega (arith, all, ends.0 key start epoch cells r is);
     })
 
-fetch_carried : ReadsEnd → (script : ScriptData) (turns : List Turn) (s key : ℕ) → AreInRange script.setup → IsPlayable script 0 script.lines → own_ahead script (carried script turns) (Session s) ≡ Makes (event.Fetch s key) → (can : CanRead script (carried script turns).played s key) → AnswersOr (carried script turns).played (turned script (carried script turns) (turn.Own (Session s))).played s can.start key (3 * cells_to_read (carried script turns).played can.start key + 1)
+fetch_carried : ReadsEnd → (script : ScriptData) (turns : List Turn) (s key : ℕ) → AreInRange script.setup → IsPlayable script 0 script.lines → own_ahead script (carried script turns) (Session s) ≡ Makes (event.Fetch s key) → (can : CanFetch script (carried script turns).played s) → AnswersOr (carried script turns).played (turned script (carried script turns) (turn.Own (Session s))).played s can.start key (3 * cells_to_read (carried script turns).played can.start key + 1)
 fetch_carried ends script turns s key in_range playable ahead can =
     let c : Carried = carried script turns in
     let facts : Facts script c = facts_all script playable turns (all_passed script (at_first script)) (facts_at_first script in_range) in
     let most : ℕ = 3 * cells_to_read c.played can.start key in
     let epoch : (e : ℕ) × (can.client.entry.epoch ≡ Some e) = has_epoch c.played s can.client facts.fit can.session_is can.in_work in
-    let works : CallsWork script (most + 1) c.played.calls = λ store n less. can.reading store n (omega (arith, less)) in
-    let so : FetchesSo script s key can.start c.played can.client (first_turn c.played key can.start epoch.0) = fetches_so script s key can.start epoch.0 most c.played can.client can.session_is can.in_work (may_fetch can.client can.start epoch.0 can.in_work can.at_rest can.begun epoch.1) works in
+    let so : FetchesSo script s key can.start c.played can.client (first_turn c.played key can.start epoch.0) = fetches_so script s key can.start epoch.0 c.played can.client can.session_is can.in_work (may_fetch can.client can.start epoch.0 can.in_work can.at_rest can.begun epoch.1) can.fetching in
     subst (λ (after : Played). AnswersOr c.played after s can.start key (most + 1)) (sym (own_plays script c s (event.Fetch s key) ahead)) (fetch_by_turn ends script s can.start key epoch.0 most c.played can.client (first_turn c.played key can.start epoch.0) refl refl so)
 
 pub reads_are_carried : ReadsEnd → ReadsAreCarried

@@ -2,7 +2,6 @@
 -- turns by which the stages of a node serve a request, each under its premises when it is made, whatever turns came before.
 use Rattle.std.specs.Prelude.{◌≡◌, ℕ, ◌+◌, ◌<◌, ◌≤◌, ◌^◌, ◌*◌, ◌⊎◌, ◌==◌, ◌&&◌, Bool, false, List, [], ◌∷◌, ◌++◌, Option, None, IfSome}
 use Rattle.stamp_base.specs.SetupNumbers.{AreInRange}
-use Rattle.stamp_base.specs.declared.stores.Store.{Store}
 use Rattle.stamp_base.specs.declared.stores.Store.TheVariants.{Table, Master}
 use Rattle.port_io.specs.declared.weather.Fate.TheVariants.{Works}
 use Rattle.history_book.specs.declared.item.Actor.TheVariants.{Node, Session}
@@ -10,7 +9,7 @@ use Rattle.history_book.specs.declared.item.Found.{Found}
 use Rattle.history_book.specs.declared.item.Item.{Item}
 use Rattle.history_book.specs.declared.item.Item.TheVariants as item
 use Rattle.client_parts.specs.declared.session.State.TheVariants as phase
-use Rattle.client_parts.specs.KeyRead.{Reading, read_left}
+use Rattle.client_parts.specs.KeyRead.{Reading, read_ask, read_left}
 use Rattle.oracle_parts.specs.declared.buckets.Verdict.TheVariants.{Free}
 use Rattle.oracle_parts.specs.declared.instance.Progress.{Progress}
 use Rattle.oracle_parts.specs.declared.instance.Progress.TheVariants as progress
@@ -20,6 +19,7 @@ use Rattle.oracle_parts.specs.declared.instance.Settled.TheVariants as how
 use Rattle.oracle_parts.specs.Instance.{InstanceEntry, least_unsettled}
 use Rattle.oracle_parts.specs.InstanceSteps.{request_verdict, epoch_refusal}
 use Rattle.machine.specs.State.{Reads, Client}
+use Rattle.machine.specs.StoreSteps.{store_of}
 use Rattle.machine.specs.declared.event.Event.{Event}
 use Rattle.machine.specs.declared.event.Event.TheVariants as event
 use Rattle.machine.specs.Events.Decide.{draw_item}
@@ -32,7 +32,7 @@ use Rattle.run_turns.specs.declared.turn.Turn.{Turn}
 use Rattle.run_turns.specs.declared.turn.Turn.TheVariants as turn
 use Rattle.run_turns.specs.Carried.{Carried, own_ahead, event_of, turned, carried}
 use Rattle.grant_laws.specs.Granted.{reading_of, next_fate, Appends}
-use Rattle.grant_laws.specs.Premises.{CanWrite, CanTake, cells_to_read, CanRead}
+use Rattle.grant_laws.specs.Premises.{CanWrite, CanTake, cells_to_read, CanFetch}
 
 -- the turn appends the item alone
 abbrev pub Adds : ScriptData → Carried → Turn → Item → Type 0
@@ -125,7 +125,7 @@ AnswersOr before after session start key most = ((answer : Option Found) × Appe
 -- an own turn that makes a step of a read, no call of which fails now, appends the answer or leaves fewer steps; so does the fetch
 -- that begins it, which leaves at most three for each cell
 pub record ReadsAreCarried : Type 0 where
-  pub steps : (script : ScriptData) (turns : List Turn) (session start key : ℕ) (r : Reading) → let c = carried script turns in own_ahead script c (Session session) ≡ Makes (event.Step session) → ReadsKey c.played session start key r → ((store : Store) → next_fate script c.played store ≡ Works) →
+  pub steps : (script : ScriptData) (turns : List Turn) (session start key : ℕ) (r : Reading) → let c = carried script turns in own_ahead script c (Session session) ≡ Makes (event.Step session) → ReadsKey c.played session start key r → next_fate script c.played (store_of (read_ask r)) ≡ Works →
       AnswersOr c.played (turned script c (turn.Own (Session session))).played session start key (read_left r)
-  pub fetches : (script : ScriptData) (turns : List Turn) (session key : ℕ) → let c = carried script turns in AreInRange script.setup → IsPlayable script 0 script.lines → own_ahead script c (Session session) ≡ Makes (event.Fetch session key) → (can : CanRead script c.played session key) →
+  pub fetches : (script : ScriptData) (turns : List Turn) (session key : ℕ) → let c = carried script turns in AreInRange script.setup → IsPlayable script 0 script.lines → own_ahead script c (Session session) ≡ Makes (event.Fetch session key) → (can : CanFetch script c.played session) →
       AnswersOr c.played (turned script c (turn.Own (Session session))).played session can.start key (3 * cells_to_read c.played can.start key + 1)
