@@ -35,12 +35,13 @@ use Rattle.line_runs.specs.Halts.{halt_of, follows}
 use Rattle.line_runs.specs.Laws.{EventsLowerWhatIsLeft}
 use Rattle.line_runs.specs.Runs.{Calls, Played, one_more, calls_after, fate_by, fate_of, step_of, played, run_after, left_in, opened}
 use Rattle.line_runs.proofs.ReadLines.{OfKey, over_key}
-use Rattle.grant_laws.specs.Granted.{line_of}
+use Rattle.grant_laws.specs.Granted.{line_of, next_fate}
 use Rattle.grant_laws.proofs.LongerRuns.{in_one, in_last, appended_before, Leads, leads_on, leads_one, leads_to, line_appends, run_at}
 use Rattle.grant_laws.proofs.ReadLines.{IsReading, HasAnswer, read_answers}
 use Rattle.grant_laws.proofs.Before.{Known, known_before, granted}
 use Rattle.grant_laws.specs.Laws.{ReadsAreGranted}
 use Rattle.line_runs.specs.Left.{of_client, cells_by, client_reads, client_fetches}
+use Rattle.line_runs.proofs.AlwaysFit.{Fit}
 use Rattle.line_runs.proofs.Fitting.{EpochFits, fit_at}
 use Rattle.grant_laws.proofs.ReadTurns.{OfStart, over_start, CallsWork, works_on, works_now}
 
@@ -50,16 +51,16 @@ epoch_by : (epoch : Option ℕ) → EpochFits phase.Open epoch → (e : ℕ) × 
 epoch_by None fits = absurd fits
 epoch_by (Some e) fits = (e, refl)
 
-has_epoch : (script : ScriptData) (p : Played) (s : ℕ) (c : Client) → Known script p → ClientAt p.state.clients s c → c.entry.state ≡ phase.Open → (e : ℕ) × (c.entry.epoch ≡ Some e)
-has_epoch script p s c known at in_work = epoch_by c.entry.epoch (subst (λ (state : SessionState). EpochFits state c.entry.epoch) in_work (fit_at p.state.clients s c known.fit.epochs at))
+pub has_epoch : (p : Played) (s : ℕ) (c : Client) → Fit p.state → ClientAt p.state.clients s c → c.entry.state ≡ phase.Open → (e : ℕ) × (c.entry.epoch ≡ Some e)
+has_epoch p s c fit at in_work = epoch_by c.entry.epoch (subst (λ (state : SessionState). EpochFits state c.entry.epoch) in_work (fit_at p.state.clients s c fit.epochs at))
 
 -- what the session may do, and by which start and epoch
-record MayFetch (c : Client) (start epoch : ℕ) : Type 0 where
-  is_free : work_refusal c.entry.state (is_reading c) ≡ None
-  start_is : c.entry.start ≡ Some start
-  epoch_is : c.entry.epoch ≡ Some epoch
+pub record MayFetch (c : Client) (start epoch : ℕ) : Type 0 where
+  pub is_free : work_refusal c.entry.state (is_reading c) ≡ None
+  pub start_is : c.entry.start ≡ Some start
+  pub epoch_is : c.entry.epoch ≡ Some epoch
 
-may_fetch : (c : Client) (start epoch : ℕ) → c.entry.state ≡ phase.Open → is_reading c ≡ false → c.entry.start ≡ Some start → c.entry.epoch ≡ Some epoch → MayFetch c start epoch
+pub may_fetch : (c : Client) (start epoch : ℕ) → c.entry.state ≡ phase.Open → is_reading c ≡ false → c.entry.start ≡ Some start → c.entry.epoch ≡ Some epoch → MayFetch c start epoch
 may_fetch c start epoch in_work at_rest start_is epoch_is = record {
   is_free = ap (λ (state : SessionState). work_refusal state (is_reading c)) in_work ∙ ap (λ (reading : Bool). work_refusal phase.Open reading) at_rest;
   start_is = start_is;
@@ -73,10 +74,10 @@ fetch_asked c start epoch may =
     ∙ ap (λ (at : Option ℕ). open_asks None at) may.start_is
 
 -- the turn that the read begins with
-abbrev first_turn : Played → ℕ → ℕ → ℕ → ReadTurn
+abbrev pub first_turn : Played → ℕ → ℕ → ℕ → ReadTurn
 first_turn p key start epoch = read_over key start epoch (front_of start (fetched p.state.rows key start))
 
-abbrev fetch_turn : ℕ → Played → Client → ℕ → ℕ → ReadTurn → Step
+abbrev pub fetch_turn : ℕ → Played → Client → ℕ → ℕ → ReadTurn → Step
 fetch_turn s p c key start turn = step_of_effect (fetch_worked s start key c (fetched p.state.rows key start) turn) (λ (q : Client). with_client p.state s q)
 
 fetch_effect : (s key start epoch : ℕ) (fate : Fate) (c : Client) (rows : List Row) → MayFetch c start epoch → fate ≡ Works → fetch_on s key fate c rows ≡ fetch_worked s start key c (fetched rows key start) (read_over key start epoch (front_of start (fetched rows key start)))
@@ -86,18 +87,18 @@ fetch_effect s key start epoch fate c rows may works =
     ∙ ap (λ (at : Option ℕ). fetch_open s key fate c rows None (Some start) at) may.epoch_is
     ∙ ap (λ (f : Fate). fetch_by s start epoch key f c (fetched rows key start)) works
 
-record FetchesSo (script : ScriptData) (s key start : ℕ) (p : Played) (c : Client) (turn : ReadTurn) : Type 0 where
-  session_is : ClientAt p.state.clients s c
-  in_work : c.entry.state ≡ phase.Open
-  is : step_of script p (event.Fetch s key) ≡ fetch_turn s p c key start turn
-  calls : (played script p (event.Fetch s key)).calls ≡ one_more p.calls Cells
+pub record FetchesSo (script : ScriptData) (s key start : ℕ) (p : Played) (c : Client) (turn : ReadTurn) : Type 0 where
+  pub session_is : ClientAt p.state.clients s c
+  pub in_work : c.entry.state ≡ phase.Open
+  pub is : step_of script p (event.Fetch s key) ≡ fetch_turn s p c key start turn
+  pub calls : (played script p (event.Fetch s key)).calls ≡ one_more p.calls Cells
 
-fetches_so : (script : ScriptData) (s key start epoch many : ℕ) (p : Played) (c : Client) → ClientAt p.state.clients s c → c.entry.state ≡ phase.Open → MayFetch c start epoch → CallsWork script (many + 1) p.calls → FetchesSo script s key start p c (first_turn p key start epoch)
-fetches_so script s key start epoch many p c at in_work may works =
+pub fetches_so : (script : ScriptData) (s key start epoch : ℕ) (p : Played) (c : Client) → ClientAt p.state.clients s c → c.entry.state ≡ phase.Open → MayFetch c start epoch → next_fate script p Cells ≡ Works → FetchesSo script s key start p c (first_turn p key start epoch)
+fetches_so script s key start epoch p c at in_work may works =
     let w : State = p.state in
     let e : Event = event.Fetch s key in
     let asked : asks w e ≡ Some Cells = ap (λ (found : Option Client). asks_at_client found fetch_asks) at ∙ fetch_asked c start epoch may in
-    let fate : fate_of script p e ≡ Works = ap (λ (store : Option Store). fate_by script p.calls store) asked ∙ works_now script many p.calls Cells works in
+    let fate : fate_of script p e ≡ Works = ap (λ (store : Option Store). fate_by script p.calls store) asked ∙ works in
     record {
       session_is = at;
       in_work = in_work;
@@ -167,9 +168,9 @@ reads_are_granted lowers ends script p number s key before can =
     let start : ℕ = can.start in
     let many : ℕ = 3 * length (front_of start (fetched p.state.rows key start)) in
     let known : Known script p = known_before lowers script line p before in
-    let epoch : (e : ℕ) × (c.entry.epoch ≡ Some e) = has_epoch script p s c known can.session_is can.in_work in
-    let works : CallsWork script (many + 1) p.calls = λ store n less. can.reading store n (omega (arith, less)) in
-    let so : FetchesSo script s key start p c (first_turn p key start epoch.0) = fetches_so script s key start epoch.0 many p c can.session_is can.in_work (may_fetch c start epoch.0 can.in_work can.at_rest can.begun epoch.1) works in
+    let epoch : (e : ℕ) × (c.entry.epoch ≡ Some e) = has_epoch p s c known.fit can.session_is can.in_work in
+    let works : CallsWork script (many + 1) p.calls = λ store n from less. can.reading store n from (omega (arith, less)) in
+    let so : FetchesSo script s key start p c (first_turn p key start epoch.0) = fetches_so script s key start epoch.0 p c can.session_is can.in_work (may_fetch c start epoch.0 can.in_work can.at_rest can.begun epoch.1) (works_now script many p.calls Cells tt works) in
     let all : HasAnswer script line s key start (many + 1) (opened p) = by_first ends script number s key start epoch.0 many p c (first_turn p key start epoch.0) refl refl works so in
     let x : Item = item.Read s start key all.answer in
     (all.answer, granted script line p x before (line_appends script line p all.steps all.next x (omega (arith, all.few, room_left number s key start p c can.session_is can.begun)) all.leads all.appends))

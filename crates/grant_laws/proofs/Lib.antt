@@ -14,3 +14,13 @@ pub mod ReadTurns
 pub mod ReadLines
 pub mod FetchLines
 mod WorkedScripts
+pub mod StoppedSeats
+pub mod SettledCommits
+pub mod StoodBefore
+pub mod StandsBefore
+pub mod StuckRuns
+pub mod OwnCarried
+pub mod ServedTurns
+pub mod StageTurns
+pub mod KeptRequests
+pub mod ReadTurnsMade

@@ -33,6 +33,7 @@ use Rattle.script_data.specs.Data.{ScriptData}
 use Rattle.line_runs.specs.Laws.{EventsLowerWhatIsLeft}
 use Rattle.line_runs.specs.Runs.{Played, fate_by, fate_of, step_of, played, next_in, run_after, left_in, opened}
 use Rattle.grant_laws.specs.Granted.{line_of, reading_of, Appends}
+use Rattle.grant_laws.specs.Premises.{CanWrite, CanTake}
 use Rattle.grant_laws.specs.Laws.{WritesAreGranted, TakesAreGranted}
 use Rattle.grant_laws.proofs.LongerRuns.{in_one, leads_one, line_appends}
 use Rattle.grant_laws.proofs.Before.{Known, known_before, granted}
@@ -55,9 +56,9 @@ written s key value fate c rows start is_free begun works =
     ∙ ap (λ (at : Option ℕ). (write_open s key value fate c rows None at).items) begun
     ∙ ap (λ (f : Fate). (write_open s key value f c rows None (Some start)).items) works
 
-pub writes_are_granted : WritesAreGranted
-writes_are_granted script p number s key value before can =
-    let line : Line = line_of number (Session s) (verb.Write key value) in
+-- the event that the line makes
+pub write_tells : (script : ScriptData) (p : Played) (s key : ℕ) (value : List ℕ) (can : CanWrite script p s key) → (step_of script p (event.Write s key value)).items ≡ item.Write s can.start key value ∷ []
+write_tells script p s key value can =
     let w : State = p.state in
     let c : Client = can.client in
     let e : Event = event.Write s key value in
@@ -67,11 +68,15 @@ writes_are_granted script p number s key value before can =
     ∙ ap (λ (why : Option Cause). open_asks why c.entry.start) is_free
     ∙ ap (λ (start : Option ℕ). open_asks None start) can.begun in
     let fate : fate_of script p e ≡ Works = ap (λ (store : Option Store). fate_by script p.calls store) asked ∙ can.writing in
-    let tells : (step_of script p e).items ≡ item.Write s can.start key value ∷ [] =
     ap (λ (found : Option Client). (at_client w found (λ d. step_by (write_on s key value (fate_of script p e) d w.rows) (λ q. record (with_client w s q.0) { rows = q.1 }))).items) can.session_is
-    ∙ written s key value (fate_of script p e) c w.rows can.start is_free can.begun fate in
+    ∙ written s key value (fate_of script p e) c w.rows can.start is_free can.begun fate
+
+pub writes_are_granted : WritesAreGranted
+writes_are_granted script p number s key value before can =
+    let line : Line = line_of number (Session s) (verb.Write key value) in
+    let e : Event = event.Write s key value in
     let x : Item = item.Write s can.start key value in
-    granted script line p x before (line_appends script line p 1 (run_after script line (opened p) e) x (omega arith) (leads_one script line (opened p) e refl) (first_appends script line p e x (omega arith) refl tells))
+    granted script line p x before (line_appends script line p 1 (run_after script line (opened p) e) x (omega arith) (leads_one script line (opened p) e refl) (first_appends script line p e x (omega arith) refl (write_tells script p s key value can)))
 
 -- ---- a take
 not_early_by : (rules : Leasing) (r : MasterRecord) (reading : ℕ) → (r.holder ≡ None) ⊎ (r.until + rules.skew ≤ reading) → is_early rules r reading ≡ false
@@ -89,19 +94,26 @@ took setup node reading fate r is_free works =
     ap (λ (f : Fate). (take_on setup node reading f None r).items) works
     ∙ ap (λ (why : Option TakeRefused). (take_by setup node reading (taken rules r node reading) [] (answered Works refused.StoreFault why (granted_at rules r reading))).items) is_free
 
-pub takes_are_granted : EventsLowerWhatIsLeft → TakesAreGranted
-takes_are_granted lowers script p number node before can =
-    let line : Line = line_of number (Node node) verb.Take in
+-- the take of the next term
+abbrev pub next_take : ScriptData → Played → ℕ → Item
+next_take script p node = take_item node (reading_of script p node) (granted_at (rules_of script.setup) p.state.master (reading_of script p node))
+
+pub take_tells : (script : ScriptData) (p : Played) (node : ℕ) → p.state.setup ≡ script.setup → CanTake script p node → (step_of script p (event.Take node (reading_of script p node))).items ≡ next_take script p node ∷ []
+take_tells script p node setup_is can =
     let w : State = p.state in
     let reading : ℕ = reading_of script p node in
     let e : Event = event.Take node reading in
-    let known : Known script p = known_before lowers script line p before in
     let asked : asks w e ≡ Some Master = ap (λ (found : Option (Option InstanceEntry)). asks_at_post found take_asks) can.vacant in
     let fate : fate_of script p e ≡ Works = ap (λ (store : Option Store). fate_by script p.calls store) asked ∙ can.taking in
     let is_free : take_refused (rules_of script.setup) w.master reading ≡ None = take_free (rules_of script.setup) w.master reading can.lapsed can.stamps in
-    let x : Item = take_item node reading (granted_at (rules_of script.setup) w.master reading) in
-    let tells : (step_of script p e).items ≡ x ∷ [] =
     ap (λ (found : Option (Option InstanceEntry)). (at_post (with_reading w reading) found (λ post. step_by (take_on w.setup node reading (fate_of script p e) post w.master) (λ q. record (with_post (with_reading w reading) node q.0) { master = q.1 }))).items) can.vacant
-    ∙ ap (λ (setup : SetupNumbers). (take_on setup node reading (fate_of script p e) None w.master).items) known.reached.setup
-    ∙ took script.setup node reading (fate_of script p e) w.master is_free fate in
-    granted script line p x before (line_appends script line p 1 (run_after script line (opened p) e) x (omega arith) (leads_one script line (opened p) e refl) (first_appends script line p e x (omega arith) refl tells))
+    ∙ ap (λ (setup : SetupNumbers). (take_on setup node reading (fate_of script p e) None w.master).items) setup_is
+    ∙ took script.setup node reading (fate_of script p e) w.master is_free fate
+
+pub takes_are_granted : EventsLowerWhatIsLeft → TakesAreGranted
+takes_are_granted lowers script p number node before can =
+    let line : Line = line_of number (Node node) verb.Take in
+    let e : Event = event.Take node (reading_of script p node) in
+    let x : Item = next_take script p node in
+    let known : Known script p = known_before lowers script line p before in
+    granted script line p x before (line_appends script line p 1 (run_after script line (opened p) e) x (omega arith) (leads_one script line (opened p) e refl) (first_appends script line p e x (omega arith) refl (take_tells script p node known.reached.setup can)))

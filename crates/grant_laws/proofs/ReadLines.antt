@@ -39,9 +39,9 @@ use Rattle.line_runs.specs.Halts.{halt_of, follows}
 use Rattle.line_runs.specs.Next.{read_next}
 use Rattle.line_runs.specs.Runs.{Calls, Played, one_more, calls_after, fate_by, fate_of, step_of, played, Run, run_after, next_in}
 use Rattle.line_runs.proofs.ReadLines.{OfKey, told_key}
-use Rattle.grant_laws.specs.Granted.{line_of, Appends}
+use Rattle.grant_laws.specs.Granted.{line_of, Appends, next_fate}
 use Rattle.grant_laws.proofs.LongerRuns.{in_one, in_last, appended_before, Leads, leads_on, leads_one, leads_to, run_at}
-use Rattle.grant_laws.proofs.ReadTurns.{OfStart, told_start, CallsWork, works_on, works_now}
+use Rattle.grant_laws.proofs.ReadTurns.{OfStart, told_start, CallsWork, works_on, works_now, read_from}
 
 -- ---- a read under way
 pub record IsReading (s key start : ℕ) (p : Played) (r : Reading) : Type 0 where
@@ -86,26 +86,26 @@ pub record HasAnswer (script : ScriptData) (line : Line) (s key start most : ℕ
   pub appends : Appends from.played.items next.played.items (item.Read s start key answer)
 
 -- the step of the machine
-abbrev the_step : State → ℕ → Effect StepParts → Step
+abbrev pub the_step : State → ℕ → Effect StepParts → Step
 the_step w s effect = step_of_effect effect (λ (q : StepParts). record (with_client w s q.0) { rows = q.1; pairs = q.2 })
 
 -- what the read's next call is told, and what the step comes to by the read's turn
-abbrev told_now : Played → Reading → Told
+abbrev pub told_now : Played → Reading → Told
 told_now p r = told_by (read_ask r) p.state.rows p.state.pairs
 
-abbrev by_turn : ℕ → Played → Client → Reading → ReadTurn → Step
+abbrev pub by_turn : ℕ → Played → Client → Reading → ReadTurn → Step
 by_turn s p c r turn = the_step p.state s (stepped_on (client_read c turn) (met (Session s) (read_ask r) Works p.state.rows p.state.pairs) (read_items s r.start r.key turn))
 
-record StepsSo (script : ScriptData) (s : ℕ) (p : Played) (c : Client) (r : Reading) (turn : ReadTurn) : Type 0 where
-  is : step_of script p (event.Step s) ≡ by_turn s p c r turn
-  calls : (played script p (event.Step s)).calls ≡ one_more p.calls (store_of (read_ask r))
+pub record StepsSo (script : ScriptData) (s : ℕ) (p : Played) (c : Client) (r : Reading) (turn : ReadTurn) : Type 0 where
+  pub is : step_of script p (event.Step s) ≡ by_turn s p c r turn
+  pub calls : (played script p (event.Step s)).calls ≡ one_more p.calls (store_of (read_ask r))
 
-steps_so : (script : ScriptData) (s key start many : ℕ) (p : Played) (r : Reading) (k : IsReading s key start p r) → CallsWork script (many + 1) p.calls → StepsSo script s p k.client r (read_told r (told_now p r))
-steps_so script s key start many p r k works =
+pub steps_so : (script : ScriptData) (s key start : ℕ) (p : Played) (r : Reading) (k : IsReading s key start p r) → next_fate script p (store_of (read_ask r)) ≡ Works → StepsSo script s p k.client r (read_told r (told_now p r))
+steps_so script s key start p r k works =
     let w : State = p.state in
     let e : Event = event.Step s in
     let asked : asks w e ≡ Some (store_of (read_ask r)) = ap (λ (found : Option Client). asks_at_client found step_asks) k.session_is ∙ step_asked k.client r k.in_work k.under_way in
-    let fate : fate_of script p e ≡ Works = ap (λ (store : Option Store). fate_by script p.calls store) asked ∙ works_now script many p.calls (store_of (read_ask r)) works in
+    let fate : fate_of script p e ≡ Works = ap (λ (store : Option Store). fate_by script p.calls store) asked ∙ works in
     record {
       is = ap (λ (found : Option Client). at_client w found (λ c. the_step w s (step_on s (fate_of script p e) c w.rows w.pairs))) k.session_is ∙ ap (λ (effect : Effect StepParts). the_step w s effect) (step_effect s (fate_of script p e) k.client r w.rows w.pairs k.in_work k.under_way fate);
       calls = ap (λ (store : Option Store). calls_after p.calls store) asked;
@@ -168,8 +168,8 @@ pub read_answers : ReadsEnd → (most : ℕ) (script : ScriptData) (number s key
 read_answers ends zero script number s key start p r k few works = absurd (omega (arith, few, some_left r.point))
 read_answers ends (suc many) script number s key start p r k few works =
     let told : Told = told_now p r in
-    let more : CallsWork script (many + 1) p.calls = λ store n less. works store n (omega (arith, less)) in
-    let so : StepsSo script s p k.client r (read_told r told) = steps_so script s key start many p r k more in
+    let more : CallsWork script (many + 1) p.calls = λ store n from less. works store n from (omega (arith, less)) in
+    let so : StepsSo script s p k.client r (read_told r told) = steps_so script s key start p r k (works_now script many p.calls (store_of (read_ask r)) (read_from (read_ask r)) more) in
     let all : HasAnswer script (line_of number (Session s) (verb.Read key)) s key start (many + 1) (run_at Reads p) =
     by_told script number s key start many p r told k (read_told r told) refl so (λ later is there.
     read_answers ends many script number s key start (played script p (event.Step s)) later there (omega (arith, few, ends.1 r later told is)) (subst (λ (calls : Calls). CallsWork script many calls) (sym so.calls) (works_on script many p.calls (store_of (read_ask r)) more))) in

@@ -5,7 +5,11 @@ use Rattle.stamp_base.specs.declared.stores.Store.TheVariants.{Cells, Table, Mas
 use Rattle.port_io.specs.declared.weather.Fate.TheVariants as fate
 use Rattle.port_io.specs.Planned.{planned_fate}
 use Rattle.store_parts.specs.declared.rows.Cell.{Cell}
+use Rattle.client_parts.specs.declared.asks.Ask.{Ask}
+use Rattle.client_parts.specs.declared.asks.Ask.TheVariants as ask
 use Rattle.client_parts.specs.declared.asks.Told.{Told}
+use Rattle.machine.specs.StoreSteps.{store_of}
+use Rattle.grant_laws.specs.Premises.{IsReadFrom}
 use Rattle.client_parts.specs.declared.resolve.Outcome.TheVariants.{Committed, Dead}
 use Rattle.client_parts.specs.declared.resolve.SettlePoint.TheVariants.{Table as AtTable}
 use Rattle.client_parts.specs.Resolve.{SettleTurn, Goes, Decides, settle_turn}
@@ -44,7 +48,7 @@ told_start r told = settled_start r (settle_turn (settling_of r) told)
 -- ---- calls that work
 -- on each store the next so many calls work
 abbrev pub CallsWork : ScriptData → ℕ → Calls → Type 0
-CallsWork script many calls = (store : Store) (n : ℕ) → n < many → planned_fate script.faults store (calls_on calls store + n + 1) ≡ fate.Works
+CallsWork script many calls = (store : Store) (n : ℕ) → IsReadFrom store → n < many → planned_fate script.faults store (calls_on calls store + n + 1) ≡ fate.Works
 
 -- a call more on one store is one more, or none, on each
 one_or_none : (calls : Calls) (asked store : Store) → (calls_on (one_more calls asked) store ≡ calls_on calls store + 1) ⊎ (calls_on (one_more calls asked) store ≡ calls_on calls store)
@@ -58,12 +62,22 @@ one_or_none calls Master Cells = inr refl
 one_or_none calls Master Table = inr refl
 one_or_none calls Master Master = inl refl
 
-still_works : (script : ScriptData) (many : ℕ) (calls : Calls) (asked store : Store) (n : ℕ) → CallsWork script (many + 1) calls → n < many → (calls_on (one_more calls asked) store ≡ calls_on calls store + 1) ⊎ (calls_on (one_more calls asked) store ≡ calls_on calls store) → planned_fate script.faults store (calls_on (one_more calls asked) store + n + 1) ≡ fate.Works
-still_works script many calls asked store n works less (inl one) = ap (λ (call : ℕ). planned_fate script.faults store call) (omega (arith, one)) ∙ works store (n + 1) (omega (arith, less))
-still_works script many calls asked store n works less (inr none) = ap (λ (call : ℕ). planned_fate script.faults store (call + n + 1)) none ∙ works store n (omega (arith, less))
+still_works : (script : ScriptData) (many : ℕ) (calls : Calls) (asked store : Store) (n : ℕ) → CallsWork script (many + 1) calls → IsReadFrom store → n < many → (calls_on (one_more calls asked) store ≡ calls_on calls store + 1) ⊎ (calls_on (one_more calls asked) store ≡ calls_on calls store) → planned_fate script.faults store (calls_on (one_more calls asked) store + n + 1) ≡ fate.Works
+still_works script many calls asked store n works from less (inl one) = ap (λ (call : ℕ). planned_fate script.faults store call) (omega (arith, one)) ∙ works store (n + 1) from (omega (arith, less))
+still_works script many calls asked store n works from less (inr none) = ap (λ (call : ℕ). planned_fate script.faults store (call + n + 1)) none ∙ works store n from (omega (arith, less))
 
 pub works_on : (script : ScriptData) (many : ℕ) (calls : Calls) (asked : Store) → CallsWork script (many + 1) calls → CallsWork script many (one_more calls asked)
-works_on script many calls asked works store n less = still_works script many calls asked store n works less (one_or_none calls asked store)
+works_on script many calls asked works store n from less = still_works script many calls asked store n works from less (one_or_none calls asked store)
 
-pub works_now : (script : ScriptData) (many : ℕ) (calls : Calls) (asked : Store) → CallsWork script (many + 1) calls → planned_fate script.faults asked (calls_on calls asked + 1) ≡ fate.Works
-works_now script many calls asked works = ap (λ (call : ℕ). planned_fate script.faults asked call) (omega arith) ∙ works asked 0 (omega arith)
+pub works_now : (script : ScriptData) (many : ℕ) (calls : Calls) (asked : Store) → IsReadFrom asked → CallsWork script (many + 1) calls → planned_fate script.faults asked (calls_on calls asked + 1) ≡ fate.Works
+works_now script many calls asked from works = ap (λ (call : ℕ). planned_fate script.faults asked call) (omega arith) ∙ works asked 0 from (omega arith)
+
+-- each ask is of one of them
+pub read_from : (a : Ask) → IsReadFrom (store_of a)
+read_from (ask.Get txn) = tt
+read_from (ask.Mark txn) = tt
+read_from (ask.Look key txn) = tt
+read_from (ask.Shadow key txn commit) = tt
+read_from (ask.Remove txn) = tt
+read_from (ask.Erase key txn) = tt
+read_from (ask.Keys txn) = tt

@@ -103,7 +103,7 @@ not_here : (post : Option InstanceEntry) (s : ℕ) → ((j : InstanceEntry) → 
 not_here None s none = refl
 not_here (Some j) s none = none j refl
 
-holder_is_from : (k : ℕ) (nodes : List (Option InstanceEntry)) (node s : ℕ) (i : InstanceEntry) (held : Held) → InstanceAt nodes node i → held_of i s ≡ Some held → Alone nodes node s → holder_from k nodes s ≡ Some (k + node, held)
+pub holder_is_from : (k : ℕ) (nodes : List (Option InstanceEntry)) (node s : ℕ) (i : InstanceEntry) (held : Held) → InstanceAt nodes node i → held_of i s ≡ Some held → Alone nodes node s → holder_from k nodes s ≡ Some (k + node, held)
 unfolding holder_from
 holder_is_from k [] node s i held at has alone = absurd (none-some (Some i) at)
 holder_is_from k (post ∷ posts) zero s i held at has alone =

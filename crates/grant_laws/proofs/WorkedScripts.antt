@@ -1,9 +1,9 @@
 -- The worked scripts, computed.
-use Rattle.std.proofs.Common.{◌≡◌, ℕ, zero, suc, ◌+◌, ◌<◌, ◌≤◌, List, [], ◌∷◌, Option, Some, None, inl, inr, refl, sym, ◌∙◌, subst, arith}
+use Rattle.std.proofs.Common.{◌≡◌, ℕ, zero, suc, ◌+◌, ◌≤◌, [], ◌∷◌, Option, Some, None, inl, inr, refl, sym, ◌∙◌, subst, arith}
 use Rattle.std.specs.Prelude.{slice_index_or}
-use Rattle.stamp_base.specs.declared.stores.Store.TheVariants.{Cells, Table, Master}
+use Rattle.stamp_base.specs.declared.stores.Store.TheVariants.{Cells, Table}
 use Rattle.port_io.specs.Planned.{planned_fate}
-use Rattle.store_parts.specs.Rows.{put_row, fetched, front_of, with_shadow, without_bare, looked}
+use Rattle.store_parts.specs.Rows.{put_row, fetched, front_of, without_bare}
 use Rattle.client_parts.specs.KeyRead.{after_passed}
 use Rattle.oracle_parts.specs.Buckets.{record_pairs, kept_commit, verdict}
 use Rattle.oracle_parts.specs.Instance.{InstanceEntry, instance_new, in_flight, least_unsettled}
@@ -123,7 +123,7 @@ quiet calls store n = refl
 pub read_can : CanRead worked.reading worked.before_reading 0 0
 unfolding lines_played run_for planned_fate holder_from record_pairs kept_commit verdict least_unsettled put_row without_bare fetched front_of after_passed
 read_can =
-    record { client = client_of worked.before_reading; start = 1; session_is = refl; begun = refl; in_work = refl; at_rest = refl; reading = λ store n few. quiet worked.before_reading.calls store n }
+    record { client = client_of worked.before_reading; start = 1; session_is = refl; begun = refl; in_work = refl; at_rest = refl; reading = λ store n from few. quiet worked.before_reading.calls store n }
 
 pub commit_can : CanCommit worked.committing worked.before_committing 0 0
 unfolding lines_played run_for planned_fate holder_from record_pairs kept_commit verdict least_unsettled put_row without_bare fetched front_of after_passed

@@ -95,6 +95,12 @@ pub record CanCommit (script : ScriptData) (p : Played) (session node : ℕ) : T
   pub placing : next_fate script p Table ≡ Works
 
 -- ---- a read
+-- a read calls the cells and the commit table
+abbrev pub IsReadFrom : Store → Type 0
+IsReadFrom Cells = Unit {0}
+IsReadFrom Table = Unit {0}
+IsReadFrom Master = ⊥
+
 -- the cells that a fetch of the key gives, down to the first that decides by itself
 abbrev pub cells_to_read : Played → ℕ → ℕ → ℕ
 cells_to_read p start key = length (front_of start (fetched p.state.rows key start))
@@ -108,5 +114,18 @@ pub record CanRead (script : ScriptData) (p : Played) (session key : ℕ) : Type
   pub in_work : client.entry.state ≡ phase.Open
   -- no read is under way
   pub at_rest : is_reading client ≡ false
-  -- on either store the next calls work, as many as the read can make: the fetch, and three for each cell
-  pub reading : (store : Store) (n : ℕ) → n ≤ 3 * cells_to_read p start key → planned_fate script.faults store (calls_on p.calls store + n + 1) ≡ Works
+  -- on both stores the next calls work, as many as the read can make: the fetch, and three for each cell
+  pub reading : (store : Store) (n : ℕ) → IsReadFrom store → n ≤ 3 * cells_to_read p start key → planned_fate script.faults store (calls_on p.calls store + n + 1) ≡ Works
+
+-- ---- the fetch of a read alone
+pub record CanFetch (script : ScriptData) (p : Played) (session : ℕ) : Type 0 where
+  pub client : Client
+  pub start : ℕ
+  -- the session's transaction has this start, and is open
+  pub session_is : ClientAt p.state.clients session client
+  pub begun : client.entry.start ≡ Some start
+  pub in_work : client.entry.state ≡ phase.Open
+  -- no read is under way
+  pub at_rest : is_reading client ≡ false
+  -- the next call on the cells works
+  pub fetching : next_fate script p Cells ≡ Works
