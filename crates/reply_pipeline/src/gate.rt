@@ -8,12 +8,17 @@ pub struct GatePlace {
     pub stage: Stage,
 }
 
-/// Is passed before each step of a stage, outside all locks. It may keep a stage waiting.
+/// Is passed before each step of a stage, outside all locks. It may keep a stage waiting. And it is told how far a replay is,
+/// which has no stages.
 pub trait Gate: Sync {
     fn pass<R: Wait>(&self, rt: &R, place: GatePlace);
+
+    /// So many lines of a script were carried out in file order, of all that it has. What a gate does with that is no part of
+    /// any promise: by default, nothing.
+    fn carried_out(&self, _lines: usize, _of: usize) {}
 }
 
-/// A gate that is always open.
+/// A gate that is always open, and says nothing.
 pub struct OpenGate;
 
 impl Gate for OpenGate {

@@ -1,4 +1,4 @@
-// Verdicts on a long history: the indices take their memory, and the items that break a rule are found by hand.
+// The indices of a long history take their memory.
 ghost use Rattle.std.specs.Prelude.{◌<◌};
 
 use super::*;
@@ -33,15 +33,6 @@ fn placed(start: u64, commit: u64) -> Result<Item, Fail> {
     Ok(Item::Placed { start, commit })
 }
 
-fn read_of_nothing(start: u64, key: u64) -> Result<Item, Fail> {
-    Ok(Item::Read {
-        session: SessionNo::FIRST,
-        start: Stamp::new(start).ok_or("a start")?,
-        key: KeyNo::new(key).ok_or("a key")?,
-        answer: None,
-    })
-}
-
 // The starts are 1, 11, 21 and so on, each commit is 4 above its start, and the keys go round.
 fn add_transaction(items: &mut Vec<Item>, number: u64) -> Result<(), Fail>
     requires { number < LONG }
@@ -51,19 +42,6 @@ fn add_transaction(items: &mut Vec<Item>, number: u64) -> Result<(), Fail>
     let write = write(start, number % 8)?;
     let placed = placed(start, start + 4)?;
     items.extend_from_slice(&[begin, write, placed])?;
-    Ok(())
-}
-
-fn assert_long(
-    rt: &impl Abort,
-    alloc: Global,
-    whole: &Vec<Item>,
-    want: Verdict,
-    more: &[Item],
-) -> Result<(), Fail> {
-    let mut items = whole.clone()?;
-    items.extend_from_slice(more)?;
-    assert_eq!(rt; judge(alloc, &items), Ok(want), "after {more:?}");
     Ok(())
 }
 
@@ -82,33 +60,13 @@ fn assert_unsuspected(rt: &impl Abort, alloc: Global, items: &[Item]) -> Result<
     Ok(())
 }
 
-// 9,000 items. The last two transactions end with the items 8997 and 9000, at the commits 29985 and 29995.
+// 9,000 items.
 #[test]
 fn long(rt: HostRuntime) -> Result<(), Fail> {
     let mut items = Vec::new(rt.alloc());
     for number in 0..LONG {
         add_transaction(&mut items, number)?;
     }
-    assert_long(&rt, rt.alloc(), &items, Verdict::Isolated, &[])?;
-    assert_unsuspected(&rt, rt.alloc(), &items)?;
-    let table: &[(Rule, usize, usize, &[Item])] = &[
-        (Rule::Stamped, 8997, 9001, &[begin(29985)?]),
-        (
-            Rule::Apart,
-            9000,
-            9002,
-            &[write(29993, 7)?, placed(29993, 29999)?],
-        ),
-        (Rule::Read, 9001, 8999, &[read_of_nothing(30001, 7)?]),
-        (Rule::Fresh, 9000, 9001, &[begin(29993)?]),
-    ];
-    for (rule, first, second, more) in table {
-        let want = Verdict::Broken {
-            rule: *rule,
-            first: *first,
-            second: *second,
-        };
-        assert_long(&rt, rt.alloc(), &items, want, more)?;
-    }
-    Ok(())
+    assert_eq!(rt; judge(rt.alloc(), &items), Ok(Verdict::Isolated));
+    assert_unsuspected(&rt, rt.alloc(), &items)
 }
