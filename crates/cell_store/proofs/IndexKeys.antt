@@ -16,7 +16,7 @@ use Rattle.store_parts.specs.Rows.{Row, put_row, looked, with_shadow, without_ba
 use Rattle.store_parts.proofs.RowLaws.{looked-put_bare, looked-put_other, looked-without_other}
 use Rattle.store_parts.proofs.RowVersions.{keys_of_version-sorted, without_bare_gone}
 use Rattle.cell_store.specs.Index.{Entry, entry_of, entry_cmp, key_of}
-use Rattle.cell_store.proofs.Stamped.{placed, is_some-shadow}
+use Rattle.cell_store.proofs.Places.{placed, is_some-shadow}
 
 -- ---- the keys of a version
 -- the keys of the entries of t

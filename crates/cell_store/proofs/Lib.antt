@@ -3,6 +3,6 @@ mod KeyRows
 mod Shadows
 mod Fronts
 mod MapRows
-mod Stamped
+mod Places
 mod IndexKeys
 mod Entries

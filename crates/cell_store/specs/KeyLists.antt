@@ -1,11 +1,11 @@
 -- How lists of cells, one for each key, hold rows.
-use Rattle.std.specs.Prelude.{◌≡◌, ℕ, ◌<◌, ◌≤◌, List, [], ◌∷◌, ◌++◌, map, take, length, IsSome}
+use Rattle.std.specs.Prelude.{◌≡◌, ℕ, ◌<◌, List, [], ◌∷◌, ◌++◌, map, take, length}
 use Rattle.std.specs.List.{All, AllPairs, HoldsAt}
 use Rattle.std.specs.Ordering.{nat_cmp}
 use Rattle.std.specs.BTreeMap as tree
 use Rattle.std.specs.declared.vec.Vec.{Vec}
 use Rattle.store_parts.specs.declared.rows.Cell.{Cell}
-use Rattle.store_parts.specs.Rows.{Row, looked, AreOrdered}
+use Rattle.store_parts.specs.Rows.{Row, AreOrdered}
 use Rattle.cell_store.specs.declared.rows.Rows.TheInside.{Inside}
 
 -- the row that a cell of the key stands for
@@ -34,12 +34,7 @@ abbrev pub rows_of : {A : Type 0} → List (ℕ × Vec Cell A) → List Row
 rows_of [] = []
 rows_of (e ∷ es) = rows_at e.0 e.1.items ++ rows_of es
 
--- versions begin at 1
-abbrev pub AreStamped : List Row → Type 0
-AreStamped rows = (k t : ℕ) → IsSome (looked rows k t) → 1 ≤ t
-
--- the keys and the rows ascend, and versions begin at 1
+-- the keys and the rows ascend
 pub record IsSound (rows : Inside) : Type 0 where
   pub keys_ordered : tree.IsOrdered nat_cmp rows.lists
   pub ordered : AreOrdered (rows_of rows.lists.entries)
-  pub stamped : AreStamped (rows_of rows.lists.entries)

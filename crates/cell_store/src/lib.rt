@@ -2,7 +2,7 @@
 //! version to its keys.
 #![tactic(auto)]
 
-ghost use Rattle.std.specs.Prelude.{◌≡◌, ◌↔◌, [], length, slice_get, None, IfOk, IsOk, IsSome, OnErr, OnOk};
+ghost use Rattle.std.specs.Prelude.{◌≡◌, ◌↔◌, [], length, None, IfOk, IsOk, IsSome, OnErr, OnOk};
 ghost use Rattle.std.specs.List.Sorted.{IsStrictlyIncreasing};
 ghost use Rattle.cell_store.specs.Calls.{put_row, fetched, front_of, looked, with_shadow, without_bare, keys_of_version, AreFalling, AreOrdered, AreUpto, HasOnly, IsBare, IsOneCall, UnlessNoMemory, OnNoMemory, fated};
 
@@ -58,13 +58,6 @@ impl Cells {
             index: BTreeSet::new(alloc),
             alloc,
         }
-    }
-
-    /// A store's rows ascend by key and version, so that no key and version stand twice.
-    pub fn rows_ordered(&self)
-        ensures { AreOrdered self.now.rows }
-    {
-        self.rows.are_ordered();
     }
 
     /// Adds a bare row, or replaces the value of the row that is there. After NoMemory the store is as before and the
@@ -149,24 +142,6 @@ impl Cells {
     {
         let found = self.rows.cell(key, version);
         answered_under(weather.next(Store::Cells), found)
-    }
-
-    /// The key's cell of the greatest version that is at most `upto`, in one step. None exactly where there is no such
-    /// row. Versions begin at 1, so that a walk down a key's versions ends there.
-    pub fn newest<W: Weather>(
-        &self,
-        weather: &mut W,
-        key: KeyNo,
-        upto: Stamp,
-    ) -> Result<Option<Cell>, StoreFault>
-        ensures value { IfOk result (λ found. found ≡ slice_get (fetched self.now.rows key upto) 0) }
-        ensures call { IsOneCall Store.Cells (W.ahead weather.old) (W.ahead weather.new)
-            (W.faults weather.old) (W.faults weather.new) result }
-        ensures ordered { AreOrdered self.now.rows }
-        ensures stamped { fetched self.now.rows key 0 ≡ [] }
-    {
-        let newest = self.rows.newest(key, upto);
-        answered_under(weather.next(Store::Cells), newest)
     }
 
     /// Sets the shadow of the row that is there. Where no such row is there, nothing changes.

@@ -1,5 +1,5 @@
 // The rows, in lists of cells by key.
-ghost use Rattle.std.specs.Prelude.{◌≡◌, ℕ, [], length, slice_get, IfOk, IsSome, None, OnErr, OnOk};
+ghost use Rattle.std.specs.Prelude.{◌≡◌, ℕ, [], length, reverse, IfOk, IsSome, None, OnErr, OnOk};
 ghost use Rattle.cell_store.specs.KeyLists.{rows_at, AreRising};
 ghost use Rattle.cell_store.specs.Calls.{put_row, fetched, front_of, looked, with_shadow, without_bare, AreOrdered};
 
@@ -53,13 +53,20 @@ impl Rows {
         ensures rising { AreRising result.now }
         ensures looked { (t : ℕ) → looked (rows_at key result.now) key t ≡ looked self.now key t }
         ensures fetched { (upto : ℕ) → fetched (rows_at key result.now) key upto ≡ fetched self.now key upto }
-        ensures stamped { fetched self.now key 0 ≡ [] }
         ensures ordered { AreOrdered self.now }
     {
         match self.lists.get(&key) {
             Some(cells) => cells,
             None => &[],
         }
+    }
+
+    /// The key's cells of version at most `upto`, in ascending order of version.
+    fn cells_upto(&self, key: KeyNo, upto: Stamp) -> &[Cell]
+        ensures value { fetched self.now key upto ≡ reverse result.now }
+        ensures ordered { AreOrdered self.now }
+    {
+        key_list::upto(self.cells_of(key), upto)
     }
 
     /// The cell of the row that is there.
@@ -75,8 +82,7 @@ impl Rows {
         ensures value { IfOk result (λ cells. cells.items ≡ fetched self.now key upto) }
         ensures ordered { AreOrdered self.now }
     {
-        let cells = key_list::upto(self.cells_of(key), upto);
-        Ok(key_list::turned(self.alloc, cells)?)
+        Ok(key_list::turned(self.alloc, self.cells_upto(key, upto))?)
     }
 
     /// Of the same cells, how many there are, and those down to the first with a shadow below the start.
@@ -85,20 +91,11 @@ impl Rows {
         ensures cells { IfOk result (λ front. front.cells.items ≡ front_of start (fetched self.now key start)) }
         ensures ordered { AreOrdered self.now }
     {
-        let cells = key_list::upto(self.cells_of(key), start);
+        let cells = self.cells_upto(key, start);
         Ok(Front {
             versions: cells.len() as u64,
             cells: key_list::turned(self.alloc, key_list::front(cells, start))?,
         })
-    }
-
-    /// The key's cell of the greatest version that is at most `upto`.
-    pub fn newest(&self, key: KeyNo, upto: Stamp) -> Option<Cell>
-        ensures value { result ≡ slice_get (fetched self.now key upto) 0 }
-        ensures stamped { fetched self.now key 0 ≡ [] }
-        ensures ordered { AreOrdered self.now }
-    {
-        key_list::upto(self.cells_of(key), upto).last().copied()
     }
 
     /// Adds a bare row where there is none.
@@ -107,8 +104,6 @@ impl Rows {
         ensures ok { OnOk result (self.new ≡ put_row self.old key version value) }
         ensures err { OnErr result (self.new ≡ self.old) }
     {
-        // Versions begin at 1, which `value` tells.
-        let _ = version.value();
         if let Some(cells) = self.lists.get_mut(&key) {
             return key_list::enter(cells, version, value);
         }

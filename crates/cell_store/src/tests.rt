@@ -1,4 +1,4 @@
-// Each call where it works and where it fails, and a key with some hundred versions.
+// Each call where it works and where it fails, and the front of a key with several versions.
 ghost use Rattle.std.specs.Prelude.{◌≡◌};
 ghost use Rattle.cell_store.specs.Calls.{looked};
 
@@ -64,66 +64,12 @@ fn set_shadow(
     }
 }
 
-#[test]
-fn each_call_works(rt: HostRuntime) -> Result<(), Fail> {
-    let (key, version, commit) = (KeyNo::LAST, stamp(1)?, stamp(Stamp::GREATEST)?);
-    let mut calm = CalmWeather::new();
-    let mut cells = Cells::new(rt.alloc());
-    put(&mut cells, Fate::Works, key, version, value(b"old")?).ok_or("a shadow")??;
-    put(&mut cells, Fate::Works, key, version, value(b"new")?).ok_or("a shadow")??;
-    set_shadow(&mut cells, Fate::Works, key, version, commit).ok_or("a shadow")??;
-    cells.remove_bare(&mut calm, key, version)?;
-    let cell = Some(Cell {
-        version,
-        value: value(b"new")?,
-        shadow: Some(commit),
-    });
-    assert_eq!(rt; cell_at(&cells, key, version), cell);
-    assert_eq!(rt; cells.newest(&mut calm, key, commit)?, cell);
-    assert_eq!(rt; cells.fetch(&mut calm, key, commit)?.first().copied(), cell);
-    assert_eq!(rt;
-        cells.keys_of(&mut calm, version)?.as_slice(),
-        [key].as_slice()
-    );
-    Ok(())
-}
-
-#[test]
-fn each_call_fails(rt: HostRuntime) -> Result<(), Fail> {
-    let (key, version) = (KeyNo::FIRST, stamp(3)?);
-    let mut weather = OneFate::new(Fate::FailsApplied);
-    let mut cells = Cells::new(rt.alloc());
-    let told = put(&mut cells, Fate::FailsApplied, key, version, value(b"x")?);
-    assert_eq!(rt; told, Some(Err(StoreError::StoreFault)));
-    let told = set_shadow(&mut cells, Fate::FailsUnchanged, key, version, version);
-    assert_eq!(rt; told, Some(Err(StoreFault)));
-    assert_eq!(rt;
-        cell_at(&cells, key, version).is_some_and(|cell| cell.shadow.is_none()),
-        true
-    );
-    assert_eq!(rt; cells.look(&mut weather, key, version), Err(StoreFault));
-    assert_eq!(rt; cells.newest(&mut weather, key, version), Err(StoreFault));
-    assert_eq!(rt; cells.fetch(&mut weather, key, version).is_ok(), false);
-    assert_eq!(rt;
-        cells.fetch_front(&mut weather, key, version).is_ok(),
-        false
-    );
-    assert_eq!(rt; cells.keys_of(&mut weather, version).is_ok(), false);
-    assert_eq!(rt;
-        cells.remove_bare(&mut weather, key, version),
-        Err(StoreFault)
-    );
-    assert_eq!(rt; cell_at(&cells, key, version), None);
-    Ok(())
-}
-
-/// Versions 200, 199, and so on down to 1 of the key, of which those that 10 divides are committed 5 later.
-fn two_hundred(alloc: Global, key: KeyNo) -> Result<Cells, Fail> {
+/// Versions 1 to 60 of the key, of which those that 10 divides are committed 5 later.
+fn committed_by_tens(alloc: Global, key: KeyNo) -> Result<Cells, Fail> {
     let mut cells = Cells::new(alloc);
-    let value = value(b"x")?;
-    for number in (1..201u64).rev() {
+    for number in 1..61u64 {
         let version = stamp(number)?;
-        put(&mut cells, Fate::Works, key, version, value).ok_or("a shadow")??;
+        put(&mut cells, Fate::Works, key, version, value(b"x")?).ok_or("a shadow")??;
         if number % 10 == 0 {
             let commit = stamp(number + 5)?;
             set_shadow(&mut cells, Fate::Works, key, version, commit).ok_or("a shadow")??;
@@ -132,16 +78,61 @@ fn two_hundred(alloc: Global, key: KeyNo) -> Result<Cells, Fail> {
     Ok(cells)
 }
 
+/// One bare row.
+fn one_row(alloc: Global, key: KeyNo, version: Stamp) -> Result<Cells, Fail> {
+    let mut cells = Cells::new(alloc);
+    put(&mut cells, Fate::Works, key, version, value(b"x")?).ok_or("a shadow")??;
+    Ok(cells)
+}
+
+#[test]
+fn a_row_is_shadowed(rt: HostRuntime) -> Result<(), Fail> {
+    let (key, version) = (KeyNo::LAST, Stamp::FIRST);
+    let mut cells = one_row(rt.alloc(), key, version)?;
+    set_shadow(&mut cells, Fate::Works, key, version, Stamp::LAST).ok_or("a shadow")??;
+    let shadow = cell_at(&cells, key, version).and_then(|cell| cell.shadow);
+    assert_eq!(rt; shadow, Some(Stamp::LAST));
+    Ok(())
+}
+
+#[test]
+fn a_row_is_removed(rt: HostRuntime) -> Result<(), Fail> {
+    let (key, version) = (KeyNo::FIRST, Stamp::LAST);
+    let mut cells = one_row(rt.alloc(), key, version)?;
+    cells.remove_bare(&mut CalmWeather::new(), key, version)?;
+    assert_eq!(rt; cell_at(&cells, key, version), None);
+    Ok(())
+}
+
+#[test]
+fn rows_are_listed(rt: HostRuntime) -> Result<(), Fail> {
+    let (key, version) = (KeyNo::FIRST, Stamp::FIRST);
+    let cells = one_row(rt.alloc(), key, version)?;
+    let fetched = cells.fetch(&mut CalmWeather::new(), key, version)?;
+    assert_eq!(rt; fetched.len(), 1);
+    let keys = cells.keys_of(&mut CalmWeather::new(), version)?;
+    assert_eq!(rt; keys.as_slice(), [key].as_slice());
+    Ok(())
+}
+
+#[test]
+fn a_fault_hides_what_was_done(rt: HostRuntime) -> Result<(), Fail> {
+    let (key, version) = (KeyNo::FIRST, Stamp::FIRST);
+    let mut cells = Cells::new(rt.alloc());
+    let told = put(&mut cells, Fate::FailsApplied, key, version, value(b"x")?);
+    assert_eq!(rt; told, Some(Err(StoreError::StoreFault)));
+    assert!(rt; cell_at(&cells, key, version).is_some());
+    Ok(())
+}
+
 // Up to 43, the first with a shadow below 43 is 30, since 40 was committed at 45.
 #[test]
-fn fronts_of_one_key(rt: HostRuntime) -> Result<(), Fail> {
-    let key = KeyNo::new(7).ok_or("a key")?;
-    let cells = two_hundred(rt.alloc(), key)?;
-    for (start, versions, last) in [(15, 15, 1), (16, 16, 10), (43, 43, 30), (500, 200, 200)] {
-        let front = cells.fetch_front(&mut CalmWeather::new(), key, stamp(start)?)?;
-        assert_eq!(rt; front.versions, versions, "up to {start}");
-        let end = front.cells.last().map(|cell| cell.version.value());
-        assert_eq!(rt; end, Some(last), "up to {start}");
-    }
+fn a_front_of_one_key(rt: HostRuntime) -> Result<(), Fail> {
+    let key = KeyNo::FIRST;
+    let cells = committed_by_tens(rt.alloc(), key)?;
+    let front = cells.fetch_front(&mut CalmWeather::new(), key, stamp(43)?)?;
+    assert_eq!(rt; front.versions, 43);
+    let last = front.cells.last().map(|cell| cell.version.value());
+    assert_eq!(rt; last, Some(30));
     Ok(())
 }

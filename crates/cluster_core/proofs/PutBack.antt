@@ -11,21 +11,21 @@ use Rattle.machine.specs.Effect.{Effect}
 use Rattle.machine.specs.Machine.{step_by, nothing, with_post, with_client}
 use Rattle.event_parts.specs.Made.{Leaves, Makes, AsksNone}
 use Rattle.event_parts.specs.declared.stopped.Stopped.{Stopped}
-use Rattle.event_parts.specs.declared.stopped.Stopped.TheVariants.{Refused, Fault, NoMemory}
+use Rattle.event_parts.specs.declared.stopped.Stopped.TheVariants.{Refused, StoreFault, NoMemory}
 use Rattle.cluster_core.specs.Seen.{seen_made}
 use Rattle.cluster_core.specs.Whole.{effect_of}
 
 pub put_back : {P : Type 0} → (effect : Effect P) (whole : P → State) (old now : P) (w v : State) (before after : List Item) (result : Result Unit Stopped) → whole old ≡ w → v ≡ whole now → Makes effect old now before after result → Makes (effect_of (step_by effect whole)) w v before after result
 put_back effect whole old now w v before after (Ok _) at is made = record { parts = is ∙ ap whole made.parts; items = made.items; stop = made.stop }
 put_back effect whole old now w v before after (Err (Refused why)) at is made = record { parts = is ∙ ap whole made.parts; items = made.items; stop = made.stop }
-put_back effect whole old now w v before after (Err (Fault store)) at is made = record { parts = is ∙ ap whole made.parts; items = made.items; stop = made.stop }
+put_back effect whole old now w v before after (Err (StoreFault store)) at is made = record { parts = is ∙ ap whole made.parts; items = made.items; stop = made.stop }
 put_back effect whole old now w v before after (Err NoMemory) at is made = (is ∙ (ap whole made.0 ∙ at), made.1)
 
 -- the same with a reading that the event hands in
 pub put_back_seen : {P : Type 0} → (effect : Effect P) (whole : ℕ → P → State) (old now : P) (w v : State) (seen reading : ℕ) (before after : List Item) (result : Result Unit Stopped) → whole seen old ≡ w → v ≡ whole (seen_made seen reading result) now → Makes effect old now before after result → Makes (effect_of (step_by effect (whole (max seen reading)))) w v before after result
 put_back_seen effect whole old now w v seen reading before after (Ok _) at is made = record { parts = is ∙ ap (whole (max seen reading)) made.parts; items = made.items; stop = made.stop }
 put_back_seen effect whole old now w v seen reading before after (Err (Refused why)) at is made = record { parts = is ∙ ap (whole (max seen reading)) made.parts; items = made.items; stop = made.stop }
-put_back_seen effect whole old now w v seen reading before after (Err (Fault store)) at is made = record { parts = is ∙ ap (whole (max seen reading)) made.parts; items = made.items; stop = made.stop }
+put_back_seen effect whole old now w v seen reading before after (Err (StoreFault store)) at is made = record { parts = is ∙ ap (whole (max seen reading)) made.parts; items = made.items; stop = made.stop }
 put_back_seen effect whole old now w v seen reading before after (Err NoMemory) at is made = (is ∙ (ap (whole seen) made.0 ∙ at), made.1)
 
 -- an event that names no node of the system

@@ -10,7 +10,7 @@ use Rattle.machine.specs.State.{State, opening}
 use Rattle.machine.specs.Machine.{asks, IsSteadyAt, reading_of, stepped}
 use Rattle.event_parts.specs.Made.{fate_ahead}
 use Rattle.event_parts.specs.declared.stopped.Stopped.{Stopped}
-use Rattle.event_parts.specs.declared.stopped.Stopped.TheVariants.{Refused, Fault, NoMemory}
+use Rattle.event_parts.specs.declared.stopped.Stopped.TheVariants.{Refused, StoreFault, NoMemory}
 use Rattle.cause_laws.proofs.AlwaysExplained.{tells_stay, tells_at_first}
 use Rattle.call_laws.proofs.BoundsKept.{bounded_first, bounds_stay}
 use Rattle.call_laws.proofs.RecordCalls.{extensions_fit}
@@ -39,7 +39,7 @@ after_event old now e fate reached steady at told =
 pub reached_after : (ahead : Store → ℕ → Fate) (old now : Whole) (e : Event) (result : Result Unit Stopped) → IsReached old → IsSteadyAt old.state.setup.skew old.state.seen (reading_of e) → MakesStep (step_under ahead old.state e) old now result → IsReached now
 reached_after ahead old now e (Ok _) reached steady made = after_event old now e (fate_ahead (asks old.state e) ahead) reached steady made.parts made.items
 reached_after ahead old now e (Err (Refused why)) reached steady made = after_event old now e (fate_ahead (asks old.state e) ahead) reached steady made.parts made.items
-reached_after ahead old now e (Err (Fault store)) reached steady made = after_event old now e (fate_ahead (asks old.state e) ahead) reached steady made.parts made.items
+reached_after ahead old now e (Err (StoreFault store)) reached steady made = after_event old now e (fate_ahead (asks old.state e) ahead) reached steady made.parts made.items
 reached_after ahead old now e (Err NoMemory) reached steady made = same_whole now old.state old.history made.0 made.1 reached
 
 pub calls_may_be_made : (w : Whole) (e : Event) → IsReached w → IsSteadyAt w.state.setup.skew w.state.seen (reading_of e) → CanMake w.state e

@@ -1,5 +1,5 @@
 // The cluster, whose history is isolated and explained.
-ghost use Rattle.std.specs.Prelude.{◌≡◌, ◌↔◌, [], Some, IfOk, IsTrue};
+ghost use Rattle.std.specs.Prelude.{◌≡◌, [], IfOk};
 ghost use Rattle.stamp_base.specs.Setups.{numbers_of};
 ghost use Rattle.history_book.specs.Isolation.{Isolated};
 ghost use Rattle.cause_rules.specs.Explained.{Explained};
@@ -80,14 +80,6 @@ impl Cluster {
         self.engine.seen()
     }
 
-    /// Whether a reading may be handed in: it is behind none before it by more than the skew, and far from the end of the
-    /// numbers.
-    pub fn is_steady(&self, reading: u64) -> bool
-        ensures { IsTrue result ↔ IsSteadyAt self.now.state.setup.skew self.now.state.seen (Some reading) }
-    {
-        self.engine.is_steady(reading)
-    }
-
     /// What the session is doing.
     pub fn doing(&self, session: SessionNo) -> Doing
         ensures { result ≡ read.doing_of self.now.state session }
@@ -101,6 +93,20 @@ impl Cluster {
         ensures { result ≡ (read.place_of self.now.state session, read.asks_commit self.now.state session) }
     {
         self.engine.in_flight(session)
+    }
+
+    /// Where the session's request stands, and at which node. None exactly where it has none in flight.
+    pub fn place(&self, session: SessionNo) -> Option<(NodeNo, Place)>
+        ensures { result ≡ read.place_of self.now.state session }
+    {
+        self.in_flight(session).0
+    }
+
+    /// Whether a commit of the session is in flight.
+    pub fn asks_commit(&self, session: SessionNo) -> bool
+        ensures { result ≡ read.asks_commit self.now.state session }
+    {
+        self.in_flight(session).1
     }
 
     /// The term of the node's oracle. None where it has none.

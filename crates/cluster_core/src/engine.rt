@@ -15,11 +15,11 @@ use history_book::{Book, Item};
 use invalidator::Sweep;
 use machine::Event;
 use master_record::Master;
-use oracle_core::Instance;
 use port_io::Weather;
 use stamp_base::{NoMemory, SessionNo, Setup};
 use std::alloc::Global;
 use std::marker::Model;
+use takeover_core::Post;
 
 /// The setup, the clients, the nodes' instances, the open sweep, the stores, and the history.
 #[derive(Drop)]
@@ -31,7 +31,7 @@ pub struct Engine {
     // One for each session, by its number.
     pub(crate) clients: Vec<Client>,
     // One for each node of the setup, by its number.
-    pub(crate) posts: Vec<Option<Instance>>,
+    pub(crate) posts: Vec<Post>,
     pub(crate) sweep: Option<Sweep>,
     pub(crate) cells: Cells,
     pub(crate) table: Table,
@@ -134,12 +134,12 @@ fn free_clients(alloc: Global) -> Result<Vec<Client>, NoMemory>
 }
 
 /// So many nodes without an instance.
-fn vacant_posts(alloc: Global, nodes: u64) -> Result<Vec<Option<Instance>>, NoMemory>
+fn vacant_posts(alloc: Global, nodes: u64) -> Result<Vec<Post>, NoMemory>
     ensures { IfOk result (λ posts. posts.items ≡ replicate nodes None) }
 {
     let mut posts = Vec::new(alloc);
     for i in 0..nodes {
-        posts.push(None)?;
+        posts.push(Post::vacant())?;
     }
     Ok(posts)
 }

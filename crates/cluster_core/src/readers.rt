@@ -1,20 +1,15 @@
 // What can be read of the state.
-ghost use Rattle.std.specs.Prelude.{◌≡◌, ◌≤◌, ◌↔◌, IsTrue, length, Some};
-ghost use Rattle.machine.specs.Machine.{IsSteadyAt};
+ghost use Rattle.std.specs.Prelude.{◌≡◌, ◌≤◌, length, Some};
 ghost use Rattle.machine.specs.Readers as read;
 ghost use Rattle.cluster_core.specs.Holders.{holds_commit, standing_held, standing_of};
 
 use crate::Engine;
 use client_parts::State;
 use event_parts::Client;
-use lease_keeper::is_steady;
 use machine::Doing;
-use oracle_core::Instance;
 use oracle_parts::{Held, Place, Request};
 use stamp_base::{NodeNo, SessionNo, Term};
-
-/// Readings are far from the end of the numbers.
-const GREATEST_READING: u64 = 1 << 61;
+use takeover_core::Post;
 
 impl Engine {
     /// The greatest reading that was handed in, at first 0.
@@ -22,14 +17,6 @@ impl Engine {
         ensures { result ≡ self.now.state.seen }
     {
         self.seen
-    }
-
-    /// Whether a reading may be handed in: it is behind none before it by more than the skew, and far from the end of the
-    /// numbers.
-    pub fn is_steady(&self, reading: u64) -> bool
-        ensures { IsTrue result ↔ IsSteadyAt self.now.state.setup.skew self.now.state.seen (Some reading) }
-    {
-        reading <= GREATEST_READING && is_steady(self.seen, reading, self.setup.skew)
     }
 
     /// What the session is doing.
@@ -82,17 +69,15 @@ fn doing_of(client: &Client) -> Doing
     }
 }
 
-fn term_at(post: &Option<Instance>) -> Option<Term>
+#[tactic(auto, using(crate::proofs::PostTerms::term_of_post))]
+fn term_at(post: &Post) -> Option<Term>
     ensures { result ≡ read.term_at (Some post.now) }
 {
-    match post {
-        Some(instance) => Some(instance.term()),
-        None => None,
-    }
+    post.term_of()
 }
 
 /// The first node that holds a request of the session, where that stands, and whether it is a commit.
-fn holder_of(posts: &[Option<Instance>], session: SessionNo) -> Option<(NodeNo, Place, bool)>
+fn holder_of(posts: &[Post], session: SessionNo) -> Option<(NodeNo, Place, bool)>
     requires { length posts.now ≤ 8 }
     ensures { result ≡ standing_held (read.holder_from 0 posts.now session) }
 {
@@ -107,10 +92,10 @@ fn holder_of(posts: &[Option<Instance>], session: SessionNo) -> Option<(NodeNo, 
     None
 }
 
-fn standing_at(post: &Option<Instance>, session: SessionNo) -> Option<(Place, bool)>
+fn standing_at(post: &Post, session: SessionNo) -> Option<(Place, bool)>
     ensures { result ≡ standing_of (read.held_at post.now session) }
 {
-    match post {
+    match &post.instance {
         Some(instance) => {
             let place = instance.place(session)?;
             Some((place, is_commit(&instance.requests()[session.index()])))

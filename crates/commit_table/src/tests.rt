@@ -1,5 +1,5 @@
-// Each call once in calm weather, and both failures.
-use crate::{Put, StoreError, StoreFault, Table};
+// Each call once in calm weather, and a failure that took effect.
+use crate::{Put, StoreError, Table};
 use port_io::{CalmWeather, Fate, OneFate};
 use stamp_base::{Mark, Stamp};
 use std::test::Fail;
@@ -7,29 +7,29 @@ use std::test::Fail;
 const COMMITTED: Mark = Mark::Committed(Stamp::LAST);
 
 #[test]
-fn each_call_once(rt: HostRuntime) -> Result<(), Fail> {
+fn an_entry_comes_and_goes(rt: HostRuntime) {
     let mut calm = CalmWeather::new();
-    let txn = Stamp::FIRST;
     let mut table = Table::new(rt.alloc());
-    let put = table.put_if_absent(&mut calm, txn, COMMITTED);
+    let put = table.put_if_absent(&mut calm, Stamp::FIRST, COMMITTED);
     assert_eq!(rt; put, Ok(Put::Placed));
-    table.reserve(txn)?;
-    let put = table.put_reserved(&mut calm, txn, Mark::Invalid);
-    assert_eq!(rt; put, Ok(Put::Found(COMMITTED)));
-    assert_eq!(rt; table.get(&mut calm, txn), Ok(Some(COMMITTED)));
-    assert_eq!(rt; table.remove_committed(&mut calm, txn), Ok(()));
-    assert_eq!(rt; table.mark_of(txn), None);
+    assert_eq!(rt; table.get(&mut calm, Stamp::FIRST), Ok(Some(COMMITTED)));
+    assert_eq!(rt; table.remove_committed(&mut calm, Stamp::FIRST), Ok(()));
+}
+
+#[test]
+fn a_place_is_used(rt: HostRuntime) -> Result<(), Fail> {
+    let mut table = Table::new(rt.alloc());
+    table.reserve(Stamp::FIRST)?;
+    let put = table.put_reserved(&mut CalmWeather::new(), Stamp::FIRST, Mark::Invalid);
+    assert_eq!(rt; put, Ok(Put::Placed));
     Ok(())
 }
 
 #[test]
-fn faults_hide_what_was_done(rt: HostRuntime) {
-    let txn = Stamp::FIRST;
+fn a_fault_hides_what_was_done(rt: HostRuntime) {
     let mut table = Table::new(rt.alloc());
     let mut applied = OneFate::new(Fate::FailsApplied);
-    let put = table.put_if_absent(&mut applied, txn, Mark::Invalid);
+    let put = table.put_if_absent(&mut applied, Stamp::FIRST, Mark::Invalid);
     assert_eq!(rt; put, Err(StoreError::StoreFault));
-    assert_eq!(rt; table.mark_of(txn), Some(Mark::Invalid));
-    let mut unchanged = OneFate::new(Fate::FailsUnchanged);
-    assert_eq!(rt; table.get(&mut unchanged, txn), Err(StoreFault));
+    assert_eq!(rt; table.mark_of(Stamp::FIRST), Some(Mark::Invalid));
 }

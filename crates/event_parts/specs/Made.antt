@@ -7,7 +7,7 @@ use Rattle.history_book.specs.declared.item.Item.{Item}
 use Rattle.store_parts.specs.StoreCalls.{AsksOnce}
 use Rattle.machine.specs.Effect.{Effect, Stop, Refuses, Faults}
 use Rattle.event_parts.specs.declared.stopped.Stopped.{Stopped}
-use Rattle.event_parts.specs.declared.stopped.Stopped.TheVariants.{Refused, Fault, NoMemory}
+use Rattle.event_parts.specs.declared.stopped.Stopped.TheVariants.{Refused, StoreFault, NoMemory}
 
 -- the parts are what the effect leaves of them, its items were appended, and it stopped so
 pub record Leaves {P : Type 0} (effect : Effect P) (now : P) (before after : List Item) (end : Option Stop) : Type 0 where
@@ -19,14 +19,14 @@ pub record Leaves {P : Type 0} (effect : Effect P) (now : P) (before after : Lis
 abbrev pub Makes : {P : Type 0} → Effect P → P → P → List Item → List Item → Result Unit Stopped → Type 0
 Makes effect old now before after (Ok _) = Leaves effect now before after None
 Makes effect old now before after (Err (Refused why)) = Leaves effect now before after (Some (Refuses why))
-Makes effect old now before after (Err (Fault store)) = Leaves effect now before after (Some (Faults store))
+Makes effect old now before after (Err (StoreFault store)) = Leaves effect now before after (Some (Faults store))
 Makes effect old now before after (Err NoMemory) = (now ≡ old) × (after ≡ before)
 
 -- how a call answers that stopped so, or did not stop
 abbrev pub ended : Option Stop → Result Unit Stopped
 ended None = Ok tt
 ended (Some (Refuses why)) = Err (Refused why)
-ended (Some (Faults store)) = Err (Fault store)
+ended (Some (Faults store)) = Err (StoreFault store)
 
 -- the parts of what touches none
 abbrev pub no_parts : Unit {0}
@@ -47,7 +47,7 @@ AsksOf (Some store) before now faults_before faults_now = AsksOnce store before 
 abbrev pub Asks : Result Unit Stopped → Option Store → (Store → ℕ → Fate) → (Store → ℕ → Fate) → ℕ → ℕ → Type 0
 Asks (Ok _) asks before now faults_before faults_now = AsksOf asks before now faults_before faults_now
 Asks (Err (Refused why)) asks before now faults_before faults_now = AsksOf asks before now faults_before faults_now
-Asks (Err (Fault store)) asks before now faults_before faults_now = AsksOf asks before now faults_before faults_now
+Asks (Err (StoreFault store)) asks before now faults_before faults_now = AsksOf asks before now faults_before faults_now
 Asks (Err NoMemory) asks before now faults_before faults_now = AsksNone before now faults_before faults_now
 
 -- the fate that the weather has ahead for the store that is asked; where none is, any would do

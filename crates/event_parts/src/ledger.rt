@@ -59,13 +59,13 @@ pub fn tell_once(book: &mut Book, told: bool, actor: Actor, cause: Cause) -> Res
 pub fn fail(book: &mut Book, actor: Actor, store: Store, made: Option<Item>) -> Result<(), Stopped>
     requires { 2 ≤ book.old.spare }
     ensures items { book.new.items ≡ book.old.items ++ made_items made ++ Item.Fault actor store ∷ [] }
-    ensures answer { result ≡ Err (Stopped.Fault store) }
+    ensures answer { result ≡ Err (Stopped.StoreFault store) }
 {
     if let Some(item) = made {
         book.append_reserved(item);
     }
     book.append_reserved(Item::Fault { actor, store });
-    Err(Stopped::Fault(store))
+    Err(Stopped::StoreFault(store))
 }
 
 /// A read that has its answer is told.

@@ -8,7 +8,7 @@ pub enum Stopped {
     /// The event was refused.
     Refused(Cause),
     /// The event's call on the store failed.
-    Fault(Store),
+    StoreFault(Store),
     /// Memory was refused. All is as before the event.
     NoMemory,
 }

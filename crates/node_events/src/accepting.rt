@@ -11,12 +11,13 @@ use history_book::{Actor, Book, Cause, Item};
 use oracle_core::Instance;
 use oracle_parts::Request;
 use stamp_base::{NodeNo, SessionNo};
+use takeover_core::Post;
 
 /// The node accepts the session's request: refused as NoOracle, then as NoRequest unless it was asked, then as Expired or
 /// OldEpoch, which end the request. No other event looks at the lease.
 pub fn accept(
     book: &mut Book,
-    post: &mut Option<Instance>,
+    post: &mut Post,
     client: &mut Client,
     node: NodeNo,
     session: SessionNo,
@@ -26,7 +27,7 @@ pub fn accept(
     ensures { Makes (accept_on node session reading post.old client.old) (post.old, client.old) (post.new, client.new)
         book.old.items book.new.items result }
 {
-    match post {
+    match &mut post.instance {
         None => ledger::refuse(book, Actor::Node(node), Cause::NoOracle { node }),
         Some(instance) => accept_at(book, instance, client, node, session, reading),
     }

@@ -12,13 +12,14 @@ use history_book::{Actor, Book, Cause, Item};
 use oracle_core::Instance;
 use oracle_parts::Reply;
 use stamp_base::{NodeNo, SessionNo, Stamp};
+use takeover_core::Post;
 
 /// The node answers the session's request, which ends it: refused as NoOracle, then as NoRequest unless it is a begin that was
 /// drawn or a commit that was settled, or as NotYet while a commit that was drawn below a begin's start is not settled,
 /// which it is told once. A commit that is invalid or open is told as a refusal.
 pub fn answer(
     book: &mut Book,
-    post: &mut Option<Instance>,
+    post: &mut Post,
     client: &mut Client,
     node: NodeNo,
     session: SessionNo,
@@ -27,7 +28,7 @@ pub fn answer(
     ensures { Makes (answer_on node session post.old client.old) (post.old, client.old) (post.new, client.new)
         book.old.items book.new.items result }
 {
-    match post {
+    match &mut post.instance {
         None => ledger::refuse(book, Actor::Node(node), Cause::NoOracle { node }),
         Some(instance) => answer_at(book, instance, client, node, session),
     }

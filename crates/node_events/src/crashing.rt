@@ -12,12 +12,13 @@ use history_book::{Actor, Book, Cause, Item};
 use oracle_core::Instance;
 use oracle_parts::{Held, Request};
 use stamp_base::{NodeNo, SessionNo, Term};
+use takeover_core::Post;
 
 /// The node's instance ends, and its requests are lost: refused as NoOracle where it has none. In the order of the sessions,
 /// one that was asking there is free, and one whose commit was in flight there has an open outcome.
 pub fn crash(
     book: &mut Book,
-    post: &mut Option<Instance>,
+    post: &mut Post,
     clients: &mut [Client],
     node: NodeNo,
 ) -> Result<(), Stopped>
@@ -25,13 +26,13 @@ pub fn crash(
     ensures { Makes (crash_on node post.old clients.old) (post.old, clients.old) (post.new, clients.new)
         book.old.items book.new.items result }
 {
-    match post {
+    match &post.instance {
         None => ledger::refuse(book, Actor::Node(node), Cause::NoOracle { node }),
         Some(instance) => {
             // The crash, and at most one refusal for each session.
             ledger::make_room(book, SessionNo::COUNT + 1)?;
             lose_all(book, instance, clients, node);
-            *post = None;
+            post.crashed();
             Ok(())
         }
     }

@@ -12,13 +12,14 @@ use history_book::{Actor, Book, Cause, Item};
 use oracle_core::Instance;
 use oracle_parts::{Decided, Held, Request};
 use stamp_base::{NodeNo, SessionNo, Stamp, Term};
+use takeover_core::Post;
 
 /// The node draws the stamp of the session's request: refused as NoOracle, then as NoRequest unless it was accepted, then as
 /// Conflict or Hidden, or by the record's refusal that the instance keeps, which end the request, or as NoStamp, which it
 /// is told once.
 pub fn decide(
     book: &mut Book,
-    post: &mut Option<Instance>,
+    post: &mut Post,
     client: &mut Client,
     node: NodeNo,
     session: SessionNo,
@@ -27,7 +28,7 @@ pub fn decide(
     ensures { Makes (decide_on node session post.old client.old) (post.old, client.old) (post.new, client.new)
         book.old.items book.new.items result }
 {
-    match post {
+    match &mut post.instance {
         None => ledger::refuse(book, Actor::Node(node), Cause::NoOracle { node }),
         Some(instance) => decide_at(book, instance, client, node, session),
     }

@@ -14,13 +14,14 @@ use oracle_core::Instance;
 use port_io::{Fate, OneFate, Weather};
 use stamp_base::{NodeNo, Store, Term};
 use store_parts::ExtendRefused;
+use takeover_core::Post;
 
 /// The node's instance may draw one range more: refused as NoOracle where it has no instance, then as Replaced or Spent as
 /// the record says, which the instance keeps. A failed call that took effect moves the record alone.
 pub fn extend<W: Weather>(
     weather: &mut W,
     book: &mut Book,
-    post: &mut Option<Instance>,
+    post: &mut Post,
     master: &mut Master,
     node: NodeNo,
 ) -> Result<(), Stopped>
@@ -32,10 +33,10 @@ pub fn extend<W: Weather>(
     ensures asked { Asks result (extend_asks post.old) (W.ahead weather.old) (W.ahead weather.new)
         (W.faults weather.old) (W.faults weather.new) }
 {
-    match post {
-        None => ledger::refuse(book, Actor::Node(node), Cause::NoOracle { node }),
-        Some(instance) => extend_held(weather, book, instance, master, node),
-    }
+    let Some(instance) = &mut post.instance else {
+        return ledger::refuse(book, Actor::Node(node), Cause::NoOracle { node });
+    };
+    extend_held(weather, book, instance, master, node)
 }
 
 fn extend_held<W: Weather>(

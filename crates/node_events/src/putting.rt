@@ -13,13 +13,14 @@ use oracle_core::Instance;
 use oracle_parts::{Held, Progress, Request, Settled};
 use port_io::Weather;
 use stamp_base::{Mark, NodeNo, SessionNo, Stamp, Store};
+use takeover_core::Post;
 
 /// The node places the record of the session's commit, unless a mark stands in its place: refused as NoOracle, then as
 /// NoRequest unless the commit was drawn and is not settled. The commit is settled in all ways, also where the call fails.
 pub fn put<W: Weather>(
     weather: &mut W,
     book: &mut Book,
-    post: &mut Option<Instance>,
+    post: &mut Post,
     table: &mut Table,
     node: NodeNo,
     session: SessionNo,
@@ -30,7 +31,7 @@ pub fn put<W: Weather>(
     ensures asked { Asks result (put_asks session post.old) (W.ahead weather.old) (W.ahead weather.new)
         (W.faults weather.old) (W.faults weather.new) }
 {
-    match post {
+    match &mut post.instance {
         None => ledger::refuse(book, Actor::Node(node), Cause::NoOracle { node }),
         Some(instance) => put_at(weather, book, instance, table, node, session),
     }

@@ -14,13 +14,14 @@ use oracle_core::Instance;
 use port_io::{Fate, OneFate, Weather};
 use stamp_base::{NodeNo, Store, Term};
 use store_parts::RenewRefused;
+use takeover_core::Post;
 
 /// The node's lease lasts to the reading and the lease's length: refused as NoOracle where it has no instance, then as
 /// Replaced as the record says, which the instance keeps. A failed call that took effect moves the record alone.
 pub fn renew<W: Weather>(
     weather: &mut W,
     book: &mut Book,
-    post: &mut Option<Instance>,
+    post: &mut Post,
     master: &mut Master,
     node: NodeNo,
     reading: u64,
@@ -33,10 +34,10 @@ pub fn renew<W: Weather>(
     ensures asked { Asks result (renew_asks post.old) (W.ahead weather.old) (W.ahead weather.new)
         (W.faults weather.old) (W.faults weather.new) }
 {
-    match post {
-        None => ledger::refuse(book, Actor::Node(node), Cause::NoOracle { node }),
-        Some(instance) => renew_held(weather, book, instance, master, node, reading),
-    }
+    let Some(instance) = &mut post.instance else {
+        return ledger::refuse(book, Actor::Node(node), Cause::NoOracle { node });
+    };
+    renew_held(weather, book, instance, master, node, reading)
 }
 
 fn renew_held<W: Weather>(

@@ -14,6 +14,7 @@ use port_io::{Fate, OneFate, Weather};
 use stamp_base::{NoMemory, NodeNo, Setup, Store};
 use std::alloc::Global;
 use store_parts::{Grant, TakeRefused};
+use takeover_core::Post;
 
 /// The node takes the record, where it has no instance: refused as Holding where it has one, then as Early or Spent as the
 /// record says. A failed call hides these refusals, and leaves the node without an instance even where it took effect.
@@ -22,7 +23,7 @@ pub fn take<W: Weather>(
     book: &mut Book,
     alloc: Global,
     setup: &Setup,
-    post: &mut Option<Instance>,
+    post: &mut Post,
     master: &mut Master,
     node: NodeNo,
     reading: u64,
@@ -35,12 +36,9 @@ pub fn take<W: Weather>(
     ensures asked { Asks result (take_asks post.old) (W.ahead weather.old) (W.ahead weather.new)
         (W.faults weather.old) (W.faults weather.new) }
 {
-    match post {
-        Some(instance) => {
-            let term = instance.term();
-            ledger::refuse(book, Actor::Node(node), Cause::Holding { term })
-        }
-        None => take_vacant(weather, book, alloc, setup, post, master, node, reading),
+    match post.may_take() {
+        Err(cause) => ledger::refuse(book, Actor::Node(node), cause),
+        Ok(()) => take_vacant(weather, book, alloc, setup, post, master, node, reading),
     }
 }
 
@@ -50,7 +48,7 @@ fn take_vacant<W: Weather>(
     book: &mut Book,
     alloc: Global,
     setup: &Setup,
-    post: &mut Option<Instance>,
+    post: &mut Post,
     master: &mut Master,
     node: NodeNo,
     reading: u64,
@@ -70,7 +68,7 @@ fn take_vacant<W: Weather>(
     let fate = ledger::fate_of(weather, Store::Master);
     match master.take(&mut OneFate::new(fate), node, reading) {
         Ok(grant) => {
-            *post = opened;
+            serve(post, opened);
             book.append_reserved(take_item(node, reading, &grant));
             Ok(())
         }
@@ -103,6 +101,16 @@ fn open_granted(
             Ok(Some(opened))
         }
         Err(_) => Ok(None),
+    }
+}
+
+/// The instance of the grant serves at the node.
+fn serve(post: &mut Post, opened: Option<Instance>)
+    requires { post.old ≡ None }
+    ensures { post.new ≡ opened }
+{
+    if let Some(instance) = opened {
+        post.granted(instance);
     }
 }
 

@@ -66,13 +66,6 @@ impl Instance {
         })
     }
 
-    /// The node that has the instance.
-    pub fn node(&self) -> NodeNo
-        ensures { result ≡ self.now.node }
-    {
-        self.node
-    }
-
     /// The term of the grant.
     pub fn term(&self) -> Term
         ensures { result ≡ self.now.term }
@@ -96,25 +89,11 @@ impl Instance {
     }
 
     /// The greatest stamp that can be drawn.
-    pub fn ceiling(&self) -> u64
+    pub fn range_end(&self) -> u64
         ensures value { result ≡ self.now.ceiling }
         ensures range { self.now.ceiling ≤ 2 ^ 62 }
     {
         self.range.ceiling()
-    }
-
-    /// The refusal of the master record that is kept.
-    pub fn stop(&self) -> Option<Cause>
-        ensures { result ≡ self.now.stop }
-    {
-        self.stop
-    }
-
-    /// How many requests may be held at once.
-    pub fn slots(&self) -> u64
-        ensures { result ≡ self.now.slots }
-    {
-        self.slots
     }
 
     /// How many requests are held.
@@ -139,13 +118,6 @@ impl Instance {
         self.requests[session.index()]
     }
 
-    /// The request of a session and where it stands. None exactly where the session has none.
-    pub fn request_of(&self, session: SessionNo) -> Option<(Request, Place)>
-        ensures { result ≡ entry.request_at self.now session }
-    {
-        requests::request_of(&self.requests[session.index()])
-    }
-
     /// Where the request of a session stands. None exactly where the session has none.
     pub fn place(&self, session: SessionNo) -> Option<Place>
         ensures { result ≡ entry.place_at self.now session }
@@ -158,13 +130,6 @@ impl Instance {
         ensures { result ≡ entry.stamps_at self.now session }
     {
         requests::stamps_of(&self.requests[session.index()])
-    }
-
-    /// Whether the session has a request that was refused as NoStamp before.
-    pub fn told_no_stamp(&self, session: SessionNo) -> bool
-        ensures { result ≡ entry.was_told_no_stamp self.now session }
-    {
-        requests::told_no_stamp(&self.requests[session.index()])
     }
 
     /// Whether the session has a request that was refused as NotYet before.
@@ -373,9 +338,7 @@ impl Instance {
                 if let Some(held) = &mut self.requests[session.index()] {
                     held.told_no_stamp = true;
                 }
-                Err(Cause::NoStamp {
-                    last: self.range.last(),
-                })
+                Err(Cause::NoStamp { last: self.last() })
             }
             Some(cause) => {
                 self.end(session);

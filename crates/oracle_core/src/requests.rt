@@ -27,15 +27,6 @@ pub fn just_asked(request: Request) -> Held
     }
 }
 
-pub fn request_of(held: &Option<Held>) -> Option<(Request, Place)>
-    ensures { result ≡ entry.request_of_held held.now }
-{
-    match held {
-        None => None,
-        Some(held) => Some((held.request, place_of_progress(&held.progress))),
-    }
-}
-
 pub fn place_of(held: &Option<Held>) -> Option<Place>
     ensures { result ≡ entry.place_of_held held.now }
 {
@@ -53,15 +44,6 @@ fn place_of_progress(progress: &Progress) -> Place
         Progress::Accepted => Place::Accepted,
         Progress::Drawn { .. } => Place::Drawn,
         Progress::Settled { .. } => Place::Settled,
-    }
-}
-
-pub fn told_no_stamp(held: &Option<Held>) -> bool
-    ensures { result ≡ entry.no_stamp_of_held held.now }
-{
-    match held {
-        None => false,
-        Some(held) => held.told_no_stamp,
     }
 }
 

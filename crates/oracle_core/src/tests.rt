@@ -51,53 +51,52 @@ fn decided(instance: &mut Instance, request: Request) -> Result<Decided, Cause> 
 }
 
 #[test]
-fn requests_come_and_go(rt: HostRuntime) -> Result<(), Fail> {
+fn a_begin_comes_and_goes(rt: HostRuntime) -> Result<(), Fail> {
     let mut instance = opened(rt.alloc(), 0, 100)?;
-    let (first, last) = (SessionNo::FIRST, SessionNo::LAST);
-    let second = Stamp::new(2).ok_or("a stamp")?;
-    assert_eq!(rt;
-        decided(&mut instance, begin()),
-        Ok(Decided::Started(Stamp::FIRST))
-    );
-    assert!(rt; instance.answer(first).is_ok());
-    assert_eq!(rt;
-        decided(&mut instance, commit()),
-        Ok(Decided::Drawn(second))
-    );
-    if instance.ceiling() <= 200 {
-        instance.widened(200);
-    }
-    assert!(rt; decided(&mut instance, begin()).is_ok());
-    assert_eq!(rt;
-        instance.answer(first),
-        Err(Cause::NotYet { commit: second })
-    );
-    assert!(rt; instance.settle(last, Settled::Placed).is_ok());
-    assert_eq!(rt;
-        instance.answer(last),
-        Ok(Reply::Committed { commit: second })
-    );
-    assert!(rt; instance.answer(first).is_ok());
+    let started = decided(&mut instance, begin());
+    assert_eq!(rt; started, Ok(Decided::Started(Stamp::FIRST)));
+    let epoch = instance.epoch();
+    let begun = Reply::Begun {
+        start: Stamp::FIRST,
+        epoch,
+    };
+    assert_eq!(rt; instance.answer(SessionNo::FIRST), Ok(begun));
     Ok(())
 }
 
 #[test]
-fn end_of_stamps(rt: HostRuntime) -> Result<(), Fail> {
-    let mut instance = opened(rt.alloc(), Stamp::GREATEST - 1, Stamp::GREATEST)?;
-    let (session, ceiling) = (SessionNo::FIRST, Stamp::GREATEST);
+fn a_commit_comes_and_goes(rt: HostRuntime) -> Result<(), Fail> {
+    let mut instance = opened(rt.alloc(), 0, 100)?;
+    let commit = decided(&mut instance, commit());
+    assert_eq!(rt; commit, Ok(Decided::Drawn(Stamp::FIRST)));
+    assert!(rt; instance.settle(SessionNo::LAST, Settled::Invalid).is_ok());
+    assert_eq!(rt; instance.answer(SessionNo::LAST), Ok(Reply::Invalid));
+    Ok(())
+}
+
+#[test]
+fn a_range_is_widened(rt: HostRuntime) -> Result<(), Fail> {
+    let mut instance = opened(rt.alloc(), 0, 0)?;
     instance.renewed(20);
     assert_eq!(rt;
         decided(&mut instance, begin()),
-        Ok(Decided::Started(Stamp::LAST))
+        Err(Cause::NoStamp { last: 0 })
     );
-    assert!(rt; instance.answer(session).is_ok());
-    assert_eq!(rt;
-        decided(&mut instance, begin()),
-        Err(Cause::NoStamp { last: ceiling })
-    );
-    assert!(rt; instance.told_no_stamp(session));
+    if instance.range_end() <= 100 {
+        instance.widened(100);
+    }
+    assert!(rt; instance.decide(SessionNo::FIRST).is_ok());
+    Ok(())
+}
+
+#[test]
+fn the_stamps_end(rt: HostRuntime) -> Result<(), Fail> {
+    let ceiling = Stamp::GREATEST;
+    let mut instance = opened(rt.alloc(), ceiling, ceiling)?;
+    let none = decided(&mut instance, begin());
+    assert_eq!(rt; none, Err(Cause::NoStamp { last: ceiling }));
     instance.stopped(Cause::Spent { ceiling });
-    assert_eq!(rt; instance.decide(session), Err(Cause::Spent { ceiling }));
-    assert!(rt; instance.place(session).is_none());
+    let ended = instance.decide(SessionNo::FIRST);
+    assert_eq!(rt; ended, Err(Cause::Spent { ceiling }));
     Ok(())
 }

@@ -11,7 +11,7 @@ use Rattle.machine.specs.State.{opening}
 use Rattle.machine.specs.Machine.{Step, asks}
 use Rattle.event_parts.specs.Made.{Asks}
 use Rattle.event_parts.specs.declared.stopped.Stopped.{Stopped}
-use Rattle.event_parts.specs.declared.stopped.Stopped.TheVariants.{Refused, Fault, NoMemory}
+use Rattle.event_parts.specs.declared.stopped.Stopped.TheVariants.{Refused, StoreFault, NoMemory}
 use Rattle.script_data.specs.Data.{ScriptData}
 use Rattle.line_runs.specs.Runs.{Played, calls_on, step_of}
 use Rattle.cluster_core.specs.Whole.{Whole, MakesStep, step_under}
@@ -26,7 +26,7 @@ plays_on e (Ok done) old new clock after before now faults later made asked is =
     (stopped script p e old clock before None at made.stop, stands_on script p e old new clock after before now at made.parts made.items (moves_on (asks old.state e) before now faults later asked) is)
 plays_on e (Err (Refused why)) old new clock after before now faults later made asked is = λ script p at.
     (stopped script p e old clock before (Some (Refuses why)) at made.stop, stands_on script p e old new clock after before now at made.parts made.items (moves_on (asks old.state e) before now faults later asked) is)
-plays_on e (Err (Fault store)) old new clock after before now faults later made asked is = λ script p at.
+plays_on e (Err (StoreFault store)) old new clock after before now faults later made asked is = λ script p at.
     (stopped script p e old clock before (Some (Faults store)) at made.stop, stands_on script p e old new clock after before now at made.parts made.items (moves_on (asks old.state e) before now faults later asked) is)
 plays_on e (Err NoMemory) old new clock after before now faults later made asked is = λ script p at. record {
   state = made.0 ∙ at.state;

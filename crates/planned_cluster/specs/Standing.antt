@@ -7,7 +7,7 @@ use Rattle.port_io.specs.Planned.{PlannedFault, planned_fate}
 use Rattle.machine.specs.declared.event.Event.{Event}
 use Rattle.machine.specs.Effect.{Stop, Refuses, Faults}
 use Rattle.event_parts.specs.declared.stopped.Stopped.{Stopped}
-use Rattle.event_parts.specs.declared.stopped.Stopped.TheVariants.{Refused, Fault, NoMemory}
+use Rattle.event_parts.specs.declared.stopped.Stopped.TheVariants.{Refused, StoreFault, NoMemory}
 use Rattle.script_data.specs.Data.{ScriptData}
 use Rattle.line_runs.specs.Runs.{Played, calls_on, clock_after, step_of, played, opening_played}
 use Rattle.cluster_core.specs.Whole.{Whole}
@@ -29,7 +29,7 @@ OpensFor setup faults whole clock ahead = (script : ScriptData) → script.setup
 abbrev pub Reaches : Option Stop → Result Unit Stopped → Type 0 → Type 0 → Type 0
 Reaches stop (Ok _) before after = (stop ≡ None) × after
 Reaches stop (Err (Refused why)) before after = (stop ≡ Some (Refuses why)) × after
-Reaches stop (Err (Fault store)) before after = (stop ≡ Some (Faults store)) × after
+Reaches stop (Err (StoreFault store)) before after = (stop ≡ Some (Faults store)) × after
 Reaches stop (Err NoMemory) before after = before
 
 -- wherever the script was played, the event was played too

@@ -7,7 +7,7 @@ use Rattle.stamp_base.specs.declared.stores.Store.{Store}
 use Rattle.port_io.specs.declared.weather.Fate.{Fate}
 use Rattle.machine.specs.declared.event.Event.{Event}
 use Rattle.event_parts.specs.declared.stopped.Stopped.{Stopped}
-use Rattle.event_parts.specs.declared.stopped.Stopped.TheVariants.{Refused, Fault, NoMemory as Memory}
+use Rattle.event_parts.specs.declared.stopped.Stopped.TheVariants.{Refused, StoreFault, NoMemory as Memory}
 use Rattle.script_data.specs.Data.{ScriptData}
 use Rattle.line_runs.specs.declared.point.Halt.{Halt}
 use Rattle.line_runs.specs.Halts.{halt_of}
@@ -19,7 +19,7 @@ use Rattle.replay_driver.specs.Playing.{Advances, IsSaidOf}
 advanced : (script : ScriptData) (p : Played) (e : Event) (answer : Result Unit Stopped) (halt : Option Halt) (old new : Whole) (clock later : ℕ) (before now : Store → ℕ → Fate) → PlaysOn e answer old clock before new later now → IsSaidOf answer (Ok halt) → StandsAt script p old clock before → Advances script p e halt new later now
 advanced script p e (Ok done) halt old new clock later before now plays said at = record { stands = (plays script p at).1; stop = said ∙ sym (ap halt_of (plays script p at).0) }
 advanced script p e (Err (Refused why)) halt old new clock later before now plays said at = record { stands = (plays script p at).1; stop = said ∙ sym (ap halt_of (plays script p at).0) }
-advanced script p e (Err (Fault store)) halt old new clock later before now plays said at = record { stands = (plays script p at).1; stop = said ∙ sym (ap halt_of (plays script p at).0) }
+advanced script p e (Err (StoreFault store)) halt old new clock later before now plays said at = record { stands = (plays script p at).1; stop = said ∙ sym (ap halt_of (plays script p at).0) }
 advanced script p e (Err Memory) halt old new clock later before now plays said at = absurd (true≢false (sym said))
 
 pub made : (e : Event) (answer : Result Unit Stopped) (result : Result (Option Halt) NoMemory) (old new : Whole) (clock later : ℕ) (before now : Store → ℕ → Fate) → PlaysOn e answer old clock before new later now → IsSaidOf answer result → IfOk result (λ halt. (script : ScriptData) (p : Played) → StandsAt script p old clock before → Advances script p e halt new later now)

@@ -33,7 +33,7 @@ pub record IsPlayedTo (script : ScriptData) (count : ℕ) (whole : Whole) (clock
 abbrev pub IsSaidOf : Result Unit Stopped → Result (Option Halt) NoMemory → Type 0
 IsSaidOf (Ok _) result = IsOkAnd result (λ halt. halt ≡ None)
 IsSaidOf (Err (stopped.Refused why)) result = IsOkAnd result (λ halt. halt ≡ Some (refused_by why))
-IsSaidOf (Err (stopped.Fault store)) result = IsOkAnd result (λ halt. halt ≡ Some Faulted)
+IsSaidOf (Err (stopped.StoreFault store)) result = IsOkAnd result (λ halt. halt ≡ Some Faulted)
 IsSaidOf (Err stopped.NoMemory) result = IsErr result
 
 -- the event was played too, and this is how it stopped

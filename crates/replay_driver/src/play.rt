@@ -63,7 +63,7 @@ fn answered(answer: Result<(), Stopped>) -> Result<Option<Halt>, NoMemory>
     match answer {
         Ok(()) => Ok(None),
         Err(Stopped::Refused(cause)) => Ok(Some(refused(&cause))),
-        Err(Stopped::Fault(_)) => Ok(Some(Halt::Faulted)),
+        Err(Stopped::StoreFault(_)) => Ok(Some(Halt::Faulted)),
         Err(Stopped::NoMemory) => Err(NoMemory),
     }
 }

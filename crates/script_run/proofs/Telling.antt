@@ -9,7 +9,7 @@ use Rattle.machine.specs.declared.event.Event.{Event}
 use Rattle.machine.specs.Effect.{Stop, Refuses, Faults}
 use Rattle.machine.specs.Readers.{term_of}
 use Rattle.event_parts.specs.declared.stopped.Stopped.{Stopped}
-use Rattle.event_parts.specs.declared.stopped.Stopped.TheVariants.{Refused, Fault, NoMemory}
+use Rattle.event_parts.specs.declared.stopped.Stopped.TheVariants.{Refused, StoreFault, NoMemory}
 use Rattle.run_turns.specs.declared.turn.Turn.{Turn}
 use Rattle.run_turns.specs.declared.turn.Turn.TheVariants as turn
 use Rattle.run_turns.specs.Carried.{event_of}
@@ -94,5 +94,5 @@ own_stopped old new actor e stop before asked is told length_is asks made =
 pub own_made : (old new : Ran) (actor : Actor) (e : Event) (answer : Result Unit Stopped) (before : ℕ) (asked : Option (ℕ × ℕ)) → event_of old.script (reached_by old) (turn.Own actor) ≡ Some e → IsTold old.script (reached_by old).played e → before ≡ length (items_of old) → asked ≡ asked_of (state_of new) (node_asked (drop before (items_of new))) → (answer ≡ Err NoMemory → ⊥) → Makes old (turn.Own actor) e answer new → MakesOwn old actor asked new
 own_made old new actor e (Ok done) before asked is told length_is asks some made = own_stopped old new actor e None before asked is told length_is asks made
 own_made old new actor e (Err (Refused why)) before asked is told length_is asks some made = own_stopped old new actor e (Some (Refuses why)) before asked is told length_is asks made
-own_made old new actor e (Err (Fault store)) before asked is told length_is asks some made = own_stopped old new actor e (Some (Faults store)) before asked is told length_is asks made
+own_made old new actor e (Err (StoreFault store)) before asked is told length_is asks some made = own_stopped old new actor e (Some (Faults store)) before asked is told length_is asks made
 own_made old new actor e (Err NoMemory) before asked is told length_is asks some made = absurd (some refl)

@@ -11,7 +11,7 @@ use Rattle.line_runs.specs.Halts.{refused_by}
 use Rattle.run_turns.specs.declared.turn.Turn.TheVariants as turn
 use Rattle.machine.specs.Machine.{Step}
 use Rattle.event_parts.specs.declared.stopped.Stopped.{Stopped}
-use Rattle.event_parts.specs.declared.stopped.Stopped.TheVariants.{Refused, Fault, NoMemory}
+use Rattle.event_parts.specs.declared.stopped.Stopped.TheVariants.{Refused, StoreFault, NoMemory}
 use Rattle.line_runs.specs.Runs.{step_of}
 use Rattle.run_turns.specs.declared.turn.Turn.{Turn}
 use Rattle.run_turns.specs.Lawful.{IsLawful, IsTold}
@@ -39,7 +39,7 @@ pub record MakesTurn (old : Ran) (turn : Turn) (event : Event) (stop : Option St
 abbrev pub Makes : Ran → Turn → Event → Result Unit Stopped → Ran → Type 0
 Makes old turn event (Ok _) new = MakesTurn old turn event None new
 Makes old turn event (Err (Refused why)) new = MakesTurn old turn event (Some (Refuses why)) new
-Makes old turn event (Err (Fault store)) new = MakesTurn old turn event (Some (Faults store)) new
+Makes old turn event (Err (StoreFault store)) new = MakesTurn old turn event (Some (Faults store)) new
 Makes old turn event (Err NoMemory) new = new ≡ old
 
 -- ---- what the code looks at
@@ -47,7 +47,7 @@ Makes old turn event (Err NoMemory) new = new ≡ old
 abbrev pub halted : Result Unit Stopped → Option (Option Halt)
 halted (Ok _) = Some None
 halted (Err (Refused why)) = Some (Some (refused_by why))
-halted (Err (Fault store)) = Some (Some halt.Faulted)
+halted (Err (StoreFault store)) = Some (Some halt.Faulted)
 halted (Err NoMemory) = None
 
 abbrev pub has_some : List Item → Bool

@@ -92,7 +92,7 @@ fn halted(answer: &Result<(), Stopped>) -> Option<Option<Halt>>
     match answer {
         Ok(()) => Some(None),
         Err(Stopped::Refused(cause)) => Some(Some(refused(cause))),
-        Err(Stopped::Fault(_)) => Some(Some(Halt::Faulted)),
+        Err(Stopped::StoreFault(_)) => Some(Some(Halt::Faulted)),
         Err(Stopped::NoMemory) => None,
     }
 }

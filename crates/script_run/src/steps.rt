@@ -35,7 +35,7 @@ impl ScriptRun {
         let before = self.planned.cluster.history().len();
         match self.make(Turn::Own { actor: *actor }, event) {
             Err(Stopped::NoMemory) => Advance::NoMemory,
-            Ok(()) | Err(Stopped::Refused(_)) | Err(Stopped::Fault(_)) => {
+            Ok(()) | Err(Stopped::Refused(_)) | Err(Stopped::StoreFault(_)) => {
                 Advance::Did {
                     asked: self.asked_since(before),
                 }
@@ -89,7 +89,7 @@ impl ScriptRun {
         match self.make(turn, event) {
             Ok(()) => done(&turn, &self.history()[before..]),
             Err(Stopped::Refused(cause)) => StageStep::Refused(cause),
-            Err(Stopped::Fault(_)) => StageStep::Fault,
+            Err(Stopped::StoreFault(_)) => StageStep::Fault,
             Err(Stopped::NoMemory) => StageStep::NoMemory,
         }
     }

@@ -11,12 +11,13 @@ use history_book::{Actor, Book, Cause, Item};
 use oracle_core::Instance;
 use oracle_parts::Request;
 use stamp_base::{NodeNo, SessionNo};
+use takeover_core::Post;
 
 /// The session asks the node for a start: refused as gone or busy, then as NoOracle, then as Full.
 pub fn ask_begin(
     book: &mut Book,
     client: &mut Client,
-    post: &mut Option<Instance>,
+    post: &mut Post,
     session: SessionNo,
     node: NodeNo,
 ) -> Result<(), Stopped>
@@ -27,7 +28,7 @@ pub fn ask_begin(
     if let Err(cause) = client.check_begin() {
         return ledger::refuse(book, Actor::Session(session), cause);
     }
-    match post {
+    match &mut post.instance {
         None => ledger::refuse(book, Actor::Session(session), Cause::NoOracle { node }),
         Some(instance) => {
             let request = Request::Begin { session };

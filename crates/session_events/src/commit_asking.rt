@@ -13,13 +13,14 @@ use history_book::{Actor, Book, Cause, Ending, Item};
 use oracle_core::Instance;
 use oracle_parts::Request;
 use stamp_base::{NodeNo, SessionNo, Stamp};
+use takeover_core::Post;
 
 /// The session asks the node to commit what it wrote: refused as gone, without a transaction or busy, then as NoOracle,
 /// then as Full. A transaction without writes ends at once, and no node is looked at.
 pub fn ask_commit(
     book: &mut Book,
     client: &mut Client,
-    post: &mut Option<Instance>,
+    post: &mut Post,
     session: SessionNo,
     node: NodeNo,
 ) -> Result<(), Stopped>
@@ -39,7 +40,7 @@ pub fn ask_commit(
 fn commit_open(
     book: &mut Book,
     client: &mut Client,
-    post: &mut Option<Instance>,
+    post: &mut Post,
     session: SessionNo,
     node: NodeNo,
     start: Stamp,
@@ -59,7 +60,7 @@ fn commit_open(
         client.freed();
         return Ok(());
     }
-    match post {
+    match &mut post.instance {
         None => ledger::refuse(book, Actor::Session(session), Cause::NoOracle { node }),
         Some(instance) => commit_written(book, client, instance, session, node, start),
     }

@@ -78,7 +78,7 @@ fn write_open<W: Weather>(
 fn tell_failed(book: &mut Book, session: SessionNo, start: Stamp) -> Result<(), Stopped>
     requires { 2 ≤ book.old.spare }
     ensures items { book.new.items ≡ book.old.items ++ Item.Fault (Actor.Session session) Store.Cells ∷ Item.End session start Ending.Aborted ∷ [] }
-    ensures answer { result ≡ Err (Stopped.Fault Store.Cells) }
+    ensures answer { result ≡ Err (Stopped.StoreFault Store.Cells) }
 {
     let actor = Actor::Session(session);
     let store = Store::Cells;
@@ -89,5 +89,5 @@ fn tell_failed(book: &mut Book, session: SessionNo, start: Stamp) -> Result<(), 
         start,
         how,
     });
-    Err(Stopped::Fault(Store::Cells))
+    Err(Stopped::StoreFault(Store::Cells))
 }

@@ -72,7 +72,7 @@ fn step_asked<W: Weather>(
         }
         Err(StoreError::StoreFault) => {
             client.failed();
-            Err(Stopped::Fault(asks::store_of(ask)))
+            Err(Stopped::StoreFault(asks::store_of(ask)))
         }
         Err(StoreError::NoMemory) => Err(Stopped::NoMemory),
     }

@@ -17,16 +17,16 @@ use commit_table::{StoreError, Table};
 use event_parts::{Stopped, ledger};
 use history_book::{Actor, Book, Cause, Item, StoreStep};
 use invalidator::Sweep;
-use oracle_core::Instance;
 use port_io::Weather;
 use stamp_base::{KeyNo, NodeNo, Store, TxnId};
+use takeover_core::Post;
 
 /// The janitor begins to sweep the transaction, by the epoch of the node's instance: refused as busy where a sweep is open,
 /// then as NoOracle. Nothing is told.
 pub fn sweep_open(
     book: &mut Book,
     sweep: &mut Option<Sweep>,
-    post: &Option<Instance>,
+    post: &Post,
     node: NodeNo,
     txn: TxnId,
 ) -> Result<(), Stopped>
@@ -35,7 +35,7 @@ pub fn sweep_open(
     if sweep.is_some() {
         return ledger::refuse(book, Actor::Janitor, Cause::Busy);
     }
-    match post {
+    match &post.instance {
         None => ledger::refuse(book, Actor::Janitor, Cause::NoOracle { node }),
         Some(instance) => {
             *sweep = Some(Sweep::open(txn, instance.epoch()));
@@ -150,7 +150,7 @@ fn meet_asked<W: Weather>(
         Ok(answer) => take_answer(book, sweep, answer),
         Err(StoreError::StoreFault) => {
             *sweep = None;
-            Err(Stopped::Fault(asks::store_of(ask)))
+            Err(Stopped::StoreFault(asks::store_of(ask)))
         }
         Err(StoreError::NoMemory) => Err(Stopped::NoMemory),
     }

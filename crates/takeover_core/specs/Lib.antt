@@ -1,1 +1,1 @@
-pub use Rattle.oracle_parts.specs.PostSteps
+pub mod Holding

@@ -1,79 +1,69 @@
-//! The posts of the nodes: which node has an oracle's instance, and of which term.
+//! The post of a node: the oracle's instance that the node has, or none.
 #![tactic(auto)]
 
-ghost use Rattle.std.specs.Prelude.{◌≡◌, ◌<◌, ◌≤◌, MatchResult, length};
-ghost use Rattle.oracle_parts.specs.PostSteps as step;
+ghost use Rattle.std.specs.Prelude.{◌≡◌, MatchResult, None, Some};
+ghost use Rattle.takeover_core.specs.Holding.{holding, term_held};
 
 use history_book::Cause;
-use stamp_base::{NodeNo, Term};
+use oracle_core::Instance;
+use stamp_base::Term;
 use std::marker::Model;
 
-/// For each node the term of its instance.
+/// Who serves at a node: nobody, or the instance of the grant that the node took last. It stands alone, so that a node's events
+/// need no more of the system than its post.
 #[derive(Drop)]
-pub struct Posts {
-    terms: [Option<Term>; NodeNo::COUNT],
-    nodes: usize,
+pub struct Post {
+    pub instance: Option<Instance>,
 }
 
-impl Model for Posts {
-    ghost use Rattle.std.specs.Prelude.{◌≤◌, ℕ, List, Option, take};
+impl Model for Post {
+    ghost use Rattle.std.specs.Prelude.{Option};
+    ghost use Rattle.oracle_parts.specs.Instance.{InstanceEntry};
 
-    ghost Value = { List (Option ℕ) };
+    ghost Value = { Option InstanceEntry };
 
-    ghost view = { λ p. take p.nodes p.terms };
-
-    ghost invariant = { λ p. p.nodes ≤ 8 };
+    ghost view = { λ p. p.instance };
 }
 
-impl Posts {
-    /// The posts of so many nodes. None has an instance.
-    pub fn new(nodes: u64) -> Posts
-        requires { nodes ≤ 8 }
-        ensures { result ≡ step.posts_new nodes }
+impl Post {
+    /// No instance serves here.
+    pub fn vacant() -> Post
+        ensures { result ≡ None }
     {
-        Posts {
-            terms: [None; NodeNo::COUNT],
-            nodes: nodes as usize,
-        }
+        Post { instance: None }
     }
 
     /// Whether the node may take the record. Refused as Holding exactly where it has an instance, with that term.
-    pub fn may_take(&self, node: NodeNo) -> Result<(), Cause>
-        requires { node < length self.now }
-        ensures { MatchResult result (λ _. step.post_refusal self.now node ≡ None) (λ cause. step.post_refusal self.now node ≡ Some cause) }
+    pub fn may_take(&self) -> Result<(), Cause>
+        ensures { MatchResult result (λ _. holding self.now ≡ None) (λ cause. holding self.now ≡ Some cause) }
     {
-        match self.term_of(node) {
+        match self.term_of() {
             None => Ok(()),
             Some(term) => Err(Cause::Holding { term }),
         }
     }
 
-    /// The node has an instance of this term from now on.
-    #[tactic(auto, using(crate::proofs::PostLemmas::set_in_front))]
-    pub fn granted(&mut self, node: NodeNo, term: Term)
-        requires { node < length self.old }
-        ensures { self.new ≡ step.post_granted self.old node term }
+    /// The node has this instance from now on.
+    pub fn granted(&mut self, instance: Instance)
+        ensures { self.new ≡ Some instance }
     {
-        self.terms[node.index()] = Some(term);
+        self.instance = Some(instance);
     }
 
     /// The node has no instance from now on.
-    #[tactic(auto, using(crate::proofs::PostLemmas::set_in_front))]
-    pub fn crashed(&mut self, node: NodeNo)
-        requires { node < length self.old }
-        ensures { self.new ≡ step.post_crashed self.old node }
+    pub fn crashed(&mut self)
+        ensures { self.new ≡ None }
     {
-        self.terms[node.index()] = None;
+        self.instance = None;
     }
 
     /// The term of the node's instance. None exactly where it has none.
-    pub fn term_of(&self, node: NodeNo) -> Option<Term>
-        requires { node < length self.now }
-        ensures { result ≡ step.post_of self.now node }
+    pub fn term_of(&self) -> Option<Term>
+        ensures { result ≡ term_held self.now }
     {
-        self.terms[node.index()]
+        match &self.instance {
+            None => None,
+            Some(instance) => Some(instance.term()),
+        }
     }
 }
-
-#[cfg(test)]
-mod tests;

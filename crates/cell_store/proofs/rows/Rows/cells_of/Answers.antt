@@ -3,7 +3,6 @@ use Rattle.std.specs.Option.{option_copied}
 use Rattle.store_parts.specs.Rows.{fetched, looked}
 use Rattle.cell_store.proofs.RowSplits.{look_is_asked, fetch_is_asked}
 use Rattle.cell_store.proofs.MapRows.{asked_there, asked_none, rising_there}
-use Rattle.cell_store.proofs.Stamped.{nothing_below}
 use Rattle.cell_store.proofs.rows.Rows.cells_of.Goals as goal
 
 pub returns-in-Some-clause-rising : goal.returns-in-Some-clause-rising
@@ -21,9 +20,6 @@ returns-in-Some-clause-fetched c = λ upto.
     let found = sym c.get.ensures.value ∙ ap option_copied c.in-Some.is in
     rw (← c.self.view_is, c.deref.ensures.value) (sym (asked_there c.args.key (λ rows. fetched rows c.args.key upto) c.self.inside.lists.entries c.in-Some.cells.now (fetch_is_asked c.args.key upto) c.self.invariant.keys_ordered found))
 
-pub returns-in-Some-clause-stamped : goal.returns-in-Some-clause-stamped
-returns-in-Some-clause-stamped c = rw (← c.self.view_is) (nothing_below _ c.args.key c.self.invariant.ordered c.self.invariant.stamped)
-
 pub returns-in-None-clause-looked : goal.returns-in-None-clause-looked
 returns-in-None-clause-looked c = λ t.
     let absent = sym c.get.ensures.value ∙ ap option_copied c.in-None.is in
@@ -33,6 +29,3 @@ pub returns-in-None-clause-fetched : goal.returns-in-None-clause-fetched
 returns-in-None-clause-fetched c = λ upto.
     let absent = sym c.get.ensures.value ∙ ap option_copied c.in-None.is in
     rw (← c.self.view_is) (sym (asked_none c.args.key (λ rows. fetched rows c.args.key upto) c.self.inside.lists.entries (fetch_is_asked c.args.key upto) c.self.invariant.keys_ordered absent))
-
-pub returns-in-None-clause-stamped : goal.returns-in-None-clause-stamped
-returns-in-None-clause-stamped c = rw (← c.self.view_is) (nothing_below _ c.args.key c.self.invariant.ordered c.self.invariant.stamped)

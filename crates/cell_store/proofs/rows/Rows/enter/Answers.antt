@@ -3,10 +3,9 @@ use Rattle.std.specs.Option.{option_copied_mut}
 use Rattle.std.proofs.lemmas.Result.{on_ok_weaker, on_err_weaker}
 use Rattle.store_parts.specs.Rows.{Row, looked, put_row, AreOrdered}
 use Rattle.store_parts.proofs.RowLaws.{ordered-put}
-use Rattle.cell_store.specs.KeyLists.{rows_at, rows_of, AreStamped}
+use Rattle.cell_store.specs.KeyLists.{rows_at, rows_of}
 use Rattle.cell_store.proofs.RowSplits.{look_is_asked, nothing_is_edit, put_is_edit, put-behind}
 use Rattle.cell_store.proofs.MapRows.{asked_there, rising_there, rows_of-set_value, rows_of-insert_entry}
-use Rattle.cell_store.proofs.Stamped.{stamped_put}
 use Rattle.cell_store.proofs.rows.Rows.enter.Goals as goal
 
 pub enter-requires : goal.enter-requires
@@ -47,12 +46,10 @@ invariant_of-self c = elim (either c.enter.result (on_ok_weaker c.enter.result (
   | inl e ↦ record {
     keys_ordered = (c.get_mut.follows.holds c.enter.new.cells).4;
     ordered = subst (λ (rows : List Row). AreOrdered rows) (sym e) (ordered-put (rows_of c.self.inside.lists.entries) c.args.key c.args.version c.args.value c.self.invariant.ordered);
-    stamped = subst (λ (rows : List Row). AreStamped rows) (sym e) (stamped_put (rows_of c.self.inside.lists.entries) c.args.key c.args.version c.args.value c.self.invariant.stamped c.value.ensures.range.0);
   }
   | inr e ↦ record {
     keys_ordered = (c.get_mut.follows.holds c.enter.new.cells).4;
     ordered = subst (λ (rows : List Row). AreOrdered rows) (sym e) c.self.invariant.ordered;
-    stamped = subst (λ (rows : List Row). AreStamped rows) (sym e) c.self.invariant.stamped;
   }
 ]
 
@@ -75,7 +72,6 @@ pub invariant_of-self-2 : goal.invariant_of-self-2
 invariant_of-self-2 c = record {
   keys_ordered = c.insert.ensures.ordered;
   ordered = subst (λ (rows : List Row). AreOrdered rows) (sym (rows_left c)) (ordered-put (rows_of c.self.inside.lists.entries) c.args.key c.args.version c.args.value c.self.invariant.ordered);
-  stamped = subst (λ (rows : List Row). AreStamped rows) (sym (rows_left c)) (stamped_put (rows_of c.self.inside.lists.entries) c.args.key c.args.version c.args.value c.self.invariant.stamped c.value.ensures.range.0);
 }
 
 pub returns-clause-ok : goal.returns-clause-ok

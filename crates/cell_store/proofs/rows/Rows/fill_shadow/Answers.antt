@@ -2,10 +2,9 @@ use Rattle.std.proofs.Common.{◌≡◌, List, sym, subst, ap, ◌∙◌}
 use Rattle.std.specs.Option.{option_copied_mut}
 use Rattle.store_parts.specs.Rows.{Row, looked, with_shadow, AreOrdered}
 use Rattle.store_parts.proofs.RowLaws.{ordered-shadow}
-use Rattle.cell_store.specs.KeyLists.{rows_of, AreStamped}
+use Rattle.cell_store.specs.KeyLists.{rows_of}
 use Rattle.cell_store.proofs.RowSplits.{look_is_asked, looked-none, shadow_absent, shadow_is_edit}
 use Rattle.cell_store.proofs.MapRows.{asked_none, rising_there, rows_of-set_value}
-use Rattle.cell_store.proofs.Stamped.{stamped_shadow}
 use Rattle.cell_store.proofs.rows.Rows.fill_shadow.Goals as goal
 
 pub fill_shadow-requires : goal.fill_shadow-requires
@@ -28,7 +27,6 @@ pub invariant_of-self-2 : goal.invariant_of-self-2
 invariant_of-self-2 c = record {
   keys_ordered = (c.get_mut.follows.holds c.fill_shadow.new.cells).4;
   ordered = subst (λ (rows : List Row). AreOrdered rows) (sym (rows_left c)) (ordered-shadow (rows_of c.self.inside.lists.entries) c.args.key c.args.version c.args.commit c.self.invariant.ordered);
-  stamped = subst (λ (rows : List Row). AreStamped rows) (sym (rows_left c)) (stamped_shadow (rows_of c.self.inside.lists.entries) c.args.key c.args.version c.args.commit c.self.invariant.stamped);
 }
 
 pub returns : goal.returns

@@ -3,10 +3,9 @@ use Rattle.std.specs.Option.{option_copied_mut}
 use Rattle.store_parts.specs.Rows.{Row, looked, without_bare, AreOrdered}
 use Rattle.store_parts.proofs.RowLaws.{ordered-without}
 use Rattle.store_parts.proofs.RowVersions.{without_bare_absent}
-use Rattle.cell_store.specs.KeyLists.{rows_of, AreStamped}
+use Rattle.cell_store.specs.KeyLists.{rows_of}
 use Rattle.cell_store.proofs.RowSplits.{look_is_asked, looked-none, without_is_edit}
 use Rattle.cell_store.proofs.MapRows.{asked_none, rising_there, rows_of-set_value}
-use Rattle.cell_store.proofs.Stamped.{stamped_without}
 use Rattle.cell_store.proofs.rows.Rows.remove_bare.Goals as goal
 
 pub remove_bare-requires : goal.remove_bare-requires
@@ -29,7 +28,6 @@ pub invariant_of-self-2 : goal.invariant_of-self-2
 invariant_of-self-2 c = record {
   keys_ordered = (c.get_mut.follows.holds c.remove_bare.new.cells).4;
   ordered = subst (λ (rows : List Row). AreOrdered rows) (sym (rows_left c)) (ordered-without (rows_of c.self.inside.lists.entries) c.args.key c.args.version c.self.invariant.ordered);
-  stamped = subst (λ (rows : List Row). AreStamped rows) (sym (rows_left c)) (stamped_without (rows_of c.self.inside.lists.entries) c.args.key c.args.version c.self.invariant.ordered c.self.invariant.stamped);
 }
 
 pub returns : goal.returns

@@ -2,10 +2,9 @@ use Rattle.std.proofs.Common.{◌≡◌, List, is_some, IsSome, sym, subst, ap, 
 use Rattle.std.specs.Option.{option_copied_mut}
 use Rattle.store_parts.specs.Rows.{Row, looked, put_row, AreOrdered}
 use Rattle.store_parts.proofs.RowLaws.{ordered-put}
-use Rattle.cell_store.specs.KeyLists.{rows_of, AreStamped}
+use Rattle.cell_store.specs.KeyLists.{rows_of}
 use Rattle.cell_store.proofs.RowSplits.{look_is_asked, looked-none, put_is_edit}
 use Rattle.cell_store.proofs.MapRows.{asked_none, asked_there, rising_there, rows_of-set_value}
-use Rattle.cell_store.proofs.Stamped.{stamped_put}
 use Rattle.cell_store.proofs.rows.Rows.replace_value.Goals as goal
 
 pub replace_value-requires : goal.replace_value-requires
@@ -35,7 +34,6 @@ pub invariant_of-self-2 : goal.invariant_of-self-2
 invariant_of-self-2 c = record {
   keys_ordered = (c.get_mut.follows.holds c.replace_value.new.cells).4;
   ordered = subst (λ (rows : List Row). AreOrdered rows) (sym (rows_left c)) (ordered-put (rows_of c.self.inside.lists.entries) c.args.key c.args.version c.args.value c.self.invariant.ordered);
-  stamped = subst (λ (rows : List Row). AreStamped rows) (sym (rows_left c)) (stamped_put (rows_of c.self.inside.lists.entries) c.args.key c.args.version c.args.value c.self.invariant.stamped (c.self.invariant.stamped c.args.key c.args.version (row_there c)));
 }
 
 pub returns : goal.returns
