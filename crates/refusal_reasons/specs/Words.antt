@@ -1,0 +1,56 @@
+-- The explanation of a refusal: its item, its cause in words, and the earlier item that shows it.
+use Rattle.std.specs.Prelude.{ℕ, ◌+◌, List, [], ◌∷◌, ◌++◌, Option, None, Some, slice_get, codes, decimal}
+use Rattle.history_book.specs.declared.cause.Cause.{Cause}
+use Rattle.history_book.specs.declared.cause.Cause.TheVariants as cause
+use Rattle.history_book.specs.declared.item.Item.{Item}
+use Rattle.history_book.specs.declared.item.Item.TheVariants.{Refused}
+use Rattle.history_lanes.specs.declared.sign.Link.{Link}
+use Rattle.history_lanes.specs.declared.sign.Sign.{Sign}
+use Rattle.history_text.specs.Text.{body_of}
+
+unfoldable pub reason_text : Cause → List ℕ
+reason_text (cause.Conflict key by) = codes "a transaction that ran at the same time wrote the key too, and its commit was drawn first"
+reason_text (cause.Hidden key water) = codes "the node has forgotten what was committed at the key, and a commit that it forgot is above the start; by the buckets of the setup, which no history tells"
+reason_text (cause.OldEpoch start epoch) = codes "the transaction began in an earlier term, whose commits its node does not know"
+reason_text (cause.Expired reading until) = codes "the lease of its node was over by that node's clock"
+reason_text (cause.Replaced found) = codes "a later term holds the master record"
+reason_text (cause.Spent ceiling) = codes "a further range of stamps would go past the last one; by the range of the setup, which no history tells"
+reason_text (cause.NoStamp last) = codes "the stamps of the term are drawn up to the end of its range"
+reason_text (cause.Invalid start) = codes "a reader or a sweep had marked the transaction before its commit was placed"
+reason_text (cause.Open start) = codes "nobody can say whether the commit was placed: the call failed, or the node crashed"
+reason_text (cause.Crashed node term) = codes "the node crashed before it gave a start"
+reason_text (cause.NotYet commit) = codes "a commit below the start is drawn and not yet placed, and the transaction has to see it"
+reason_text (cause.NoRequest session) = codes "the session has no such request there"
+reason_text (cause.NoOracle node) = codes "the node has no instance: it has not taken a term since it crashed, or its last take failed"
+reason_text (cause.Full in_flight) = codes "the node holds as many requests as it has slots; by the slots of the setup, which no history tells"
+reason_text (cause.Early reading until) = codes "by a clock that is behind, the lease may still stand; by the skew of the setup, which no history tells"
+reason_text (cause.Holding term) = codes "the node has an instance already"
+reason_text cause.NoTransaction = codes "the session has no transaction open"
+reason_text cause.Busy = codes "it has something else under way"
+reason_text cause.TooManyKeys = codes "the write would have been to a 65th key"
+reason_text cause.Gone = codes "the session has vanished"
+reason_text cause.Idle = codes "it has nothing of that kind under way"
+reason_text (cause.Undecided start epoch) = codes "the transaction may still commit, so the sweep left it"
+
+-- an item by its number, counted from 1, and its words
+unfoldable pub named_text : ℕ → Item → List ℕ
+named_text number item = decimal number ++ codes ": " ++ body_of item ++ codes "\n"
+
+abbrev pub witness_text : ℕ → Option Item → List ℕ
+witness_text number None = []
+witness_text number (Some item) = codes "    shown by " ++ named_text number item
+
+-- the item that shows the refusal, where one does
+abbrev pub shown_text : Option Link → (ℕ → Option Item) → List ℕ
+shown_text None item_at = []
+shown_text (Some link) item_at = witness_text (link.place + 1) (item_at link.place)
+
+-- the lines on a sign of this number: none where its item is no refusal
+unfoldable pub explanation : List Item → ℕ → Item → Option Link → List ℕ
+explanation items number (Refused actor why) link = named_text number (Refused actor why) ++ codes "    " ++ reason_text why ++ codes "\n" ++ shown_text link (slice_get items)
+explanation items number _ link = []
+
+-- the explanations of all refusals, in order
+unfoldable pub explanations : List Item → ℕ → List Sign → List ℕ
+explanations items number [] = []
+explanations items number (sign ∷ signs) = explanation items number sign.item sign.link ++ explanations items (number + 1) signs

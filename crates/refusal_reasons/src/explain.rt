@@ -1,0 +1,132 @@
+// The explanations of refusals, in words.
+ghost use Rattle.std.specs.Prelude.{◌≡◌, ◌+◌, ◌-◌, ◌^◌, ◌≤◌, ◌<◌, ◌++◌, Some, IfOk, OnOk, length, slice_get};
+ghost use Rattle.refusal_reasons.specs.Words.{explanation, explanations, named_text, reason_text, shown_text, witness_text};
+
+use history_book::{Cause, Item};
+use history_lanes::{Link, Sign};
+use history_text::{LineBuf, print_body};
+use history_view::Text;
+use stamp_base::NoMemory;
+use std::alloc::Global;
+
+/// The explanations of all refusals among the items, whose signs these are.
+pub fn explain_refusals(alloc: Global, items: &[Item], signs: &[Sign]) -> Result<Text, NoMemory>
+    ensures { IfOk result (λ text. text ≡ explanations items.now 1 signs.now) }
+{
+    let mut text = Text::new(alloc);
+    print_all(&mut text, items, signs)?;
+    Ok(text)
+}
+
+#[tactic(auto, unfolding(crate::specs::Words::explanations))]
+fn print_all(text: &mut Text, items: &[Item], signs: &[Sign]) -> Result<(), NoMemory>
+    ensures { OnOk result (text.new ≡ text.old ++ explanations items.now 1 signs.now) }
+{
+    for place in 0..signs.len() {
+        print_explanation(text, items, place as u64 + 1, &signs[place])?;
+    }
+    Ok(())
+}
+
+/// Adds the lines on a sign of this number: none where its item is no refusal.
+#[tactic(auto, unfolding(crate::specs::Words::explanation))]
+fn print_explanation(
+    text: &mut Text,
+    items: &[Item],
+    number: u64,
+    sign: &Sign,
+) -> Result<(), NoMemory>
+    ensures { OnOk result (text.new ≡ text.old ++ explanation items.now number sign.now.item sign.now.link) }
+{
+    match sign.item {
+        Item::Refused { cause, .. } => {
+            print_named(text, number, &sign.item)?;
+            text.push_between(b"    ", reason(cause), b"\n")?;
+            print_shown(text, items, sign.link)
+        }
+        _ => Ok(()),
+    }
+}
+
+/// Adds the item that shows a refusal, where one does.
+fn print_shown(text: &mut Text, items: &[Item], link: Option<Link>) -> Result<(), NoMemory>
+    ensures { OnOk result (text.new ≡ text.old ++ shown_text link (slice_get items.now)) }
+{
+    match link {
+        Some(link) => match items.get(link.place) {
+            Some(item) => print_witness(text, link.place as u64 + 1, item),
+            None => Ok(()),
+        },
+        None => Ok(()),
+    }
+}
+
+fn print_witness(text: &mut Text, number: u64, item: &Item) -> Result<(), NoMemory>
+    ensures { OnOk result (text.new ≡ text.old ++ witness_text number (Some item.now)) }
+{
+    text.push(b"    shown by ")?;
+    print_named(text, number, item)?;
+    Ok(())
+}
+
+/// Adds an item by its number and its words.
+#[tactic(auto, unfolding(crate::specs::Words::named_text))]
+fn print_named(text: &mut Text, number: u64, item: &Item) -> Result<(), NoMemory>
+    ensures { OnOk result (text.new ≡ text.old ++ named_text number item.now) }
+{
+    let mut line = LineBuf::new();
+    print_body(item, &mut line);
+    text.push_number(number)?;
+    text.push_between(b": ", line.as_slice(), b"\n")
+}
+
+/// Why such a refusal comes.
+#[tactic(auto, unfolding(crate::specs::Words::reason_text))]
+fn reason(cause: Cause) -> &'static [u8]
+    ensures { result.now ≡ reason_text cause }
+{
+    match cause {
+        Cause::Conflict { .. } => {
+            b"a transaction that ran at the same time wrote the key too, and its commit was drawn first"
+        }
+        Cause::Hidden { .. } => {
+            b"the node has forgotten what was committed at the key, and a commit that it forgot is above the start; by the buckets of the setup, which no history tells"
+        }
+        Cause::OldEpoch { .. } => {
+            b"the transaction began in an earlier term, whose commits its node does not know"
+        }
+        Cause::Expired { .. } => { b"the lease of its node was over by that node's clock" }
+        Cause::Replaced { .. } => { b"a later term holds the master record" }
+        Cause::Spent { .. } => {
+            b"a further range of stamps would go past the last one; by the range of the setup, which no history tells"
+        }
+        Cause::NoStamp { .. } => { b"the stamps of the term are drawn up to the end of its range" }
+        Cause::Invalid { .. } => {
+            b"a reader or a sweep had marked the transaction before its commit was placed"
+        }
+        Cause::Open { .. } => {
+            b"nobody can say whether the commit was placed: the call failed, or the node crashed"
+        }
+        Cause::Crashed { .. } => { b"the node crashed before it gave a start" }
+        Cause::NotYet { .. } => {
+            b"a commit below the start is drawn and not yet placed, and the transaction has to see it"
+        }
+        Cause::NoRequest { .. } => { b"the session has no such request there" }
+        Cause::NoOracle { .. } => {
+            b"the node has no instance: it has not taken a term since it crashed, or its last take failed"
+        }
+        Cause::Full { .. } => {
+            b"the node holds as many requests as it has slots; by the slots of the setup, which no history tells"
+        }
+        Cause::Early { .. } => {
+            b"by a clock that is behind, the lease may still stand; by the skew of the setup, which no history tells"
+        }
+        Cause::Holding { .. } => { b"the node has an instance already" }
+        Cause::NoTransaction => { b"the session has no transaction open" }
+        Cause::Busy => { b"it has something else under way" }
+        Cause::TooManyKeys => { b"the write would have been to a 65th key" }
+        Cause::Gone => { b"the session has vanished" }
+        Cause::Idle => { b"it has nothing of that kind under way" }
+        Cause::Undecided { .. } => { b"the transaction may still commit, so the sweep left it" }
+    }
+}
