@@ -1,10 +1,10 @@
 -- What a reader at the water or above it finds in all rows, it finds in those that stay.
-use Rattle.std.proofs.Common.{◌≡◌, ℕ, ◌<◌, ◌≤◌, ◌==◌, Bool, true, false, ◌&&◌, ◌||◌, ◌⊎◌, List, [], ◌∷◌, inl, inr, ⊎_elim, refl, sym, ap, ◌∙◌, subst, true≢false, arith, eq-eqb}
+use Rattle.std.proofs.Common.{◌≡◌, ℕ, ◌<◌, ◌≤◌, Bool, true, false, ◌||◌, ◌⊎◌, List, [], ◌∷◌, inl, inr, refl, sym, ap, ◌∙◌, subst, true≢false, arith, eq-eqb}
 use Rattle.std.specs.Prelude.{nat_le, if◌then◌else◌, Option, None, Some}
 use Rattle.history_book.specs.Members.{◌∈◌}
 use Rattle.store_parts.specs.Rows.{Row, IsBelowAll, AreOrdered}
-use Rattle.store_parts.specs.Pairs.{Pairs}
-use Rattle.cell_compaction.specs.Rest.{commit_below, Latest, latest_in, found_of, is_latest, stays_by, stays, kept_of, compacted, with_commits, snapshot}
+use Rattle.cell_compaction.specs.declared.latest.Latest.{Latest}
+use Rattle.cell_compaction.specs.Rest.{latest_in, found_of, is_latest, stays_by, stays, kept_of, compacted, with_commits}
 use Rattle.history_book.specs.Isolation.{Visible}
 use Rattle.cell_compaction.specs.Laws.{CompactionKeepsSnapshots, ArchivesAreVisible}
 use Rattle.cell_compaction.proofs.Snapshots.{snapshots_visible}
@@ -63,15 +63,15 @@ latest_stays rows water s k above latest is =
     let r : Row = is.row in
     let here = below_is s r.shadow latest.commit is.seen.seen in
     let low : latest.commit < water → is_latest latest.commit r.version (latest_in rows water r.key) ≡ true = λ lt.
-        subst (λ key. is_latest latest.commit r.version (latest_in rows water key) ≡ true) (sym is.seen.key)
-            (stays_as_latest rows water k r latest.commit (record { has = is.seen.has; key = is.seen.key; seen = seen_by water r.shadow latest.commit here.0 lt })
-            (λ x d other.
-                let p = below_is water x.shadow d other.seen in
-                let under = p.1 in
-                subst (IsBehind d x.version latest.commit) (sym is.version) (is.others x d (record { has = other.has; key = other.key; seen = seen_by s x.shadow d p.0 (omega arith) })))
-            (latest_in rows water k) (latest_is rows water k)) in
+    subst (λ key. is_latest latest.commit r.version (latest_in rows water key) ≡ true) (sym is.seen.key)
+    (stays_as_latest rows water k r latest.commit (record { has = is.seen.has; key = is.seen.key; seen = seen_by water r.shadow latest.commit here.0 lt })
+    (λ x d other.
+    let p = below_is water x.shadow d other.seen in
+    let under = p.1 in
+    subst (IsBehind d x.version latest.commit) (sym is.version) (is.others x d (record { has = other.has; key = other.key; seen = seen_by s x.shadow d p.0 (omega arith) })))
+    (latest_in rows water k) (latest_is rows water k)) in
     subst (λ commit. stays_by water r commit (latest_in rows water r.key) ≡ true) (sym here.0)
-        (at_water water latest.commit (nat_le water latest.commit) (is_latest latest.commit r.version (latest_in rows water r.key)) refl low)
+    (at_water water latest.commit (nat_le water latest.commit) (is_latest latest.commit r.version (latest_in rows water r.key)) refl low)
 
 same_found : (rows : List Row) (water s k : ℕ) → AreOrdered rows → water ≤ s → (latest now : Option Latest) → IsLatest rows s k latest → IsLatest (kept_of rows water rows) s k now → now ≡ latest
 same_found rows water s k ordered above None None h n = refl

@@ -5,7 +5,8 @@ use Rattle.std.proofs.lemmas.Bool.{cases_Bool, eqb-true, eqb-false, and_parts}
 use Rattle.std.proofs.lemmas.Option.{same_Some, none-some}
 use Rattle.history_book.specs.Members.{◌∈◌}
 use Rattle.store_parts.specs.Rows.{Row}
-use Rattle.cell_compaction.specs.Rest.{Latest, commit_below, is_later, row_with, later_of, with_row, latest_in}
+use Rattle.cell_compaction.specs.declared.latest.Latest.{Latest}
+use Rattle.cell_compaction.specs.Rest.{commit_below, is_later, row_with, later_of, with_row, latest_in}
 
 -- the reader sees the row at the key, by this commit
 pub record IsSeen (rows : List Row) (s k : ℕ) (r : Row) (c : ℕ) : Type 0 where
@@ -84,9 +85,9 @@ lost r rs s k c latest seen behind h = record {
   value = h.value;
   others = λ x d other.
       ⊎_elim (λ (e : x ≡ r).
-          let same : d ≡ c = same_Some d c (sym other.seen ∙ ap (λ (y : Row). commit_below s y.shadow) e ∙ seen) in
-          let v : x.version ≡ r.version = ap (λ (y : Row). y.version) e in
-          ⊎_elim (λ (lt : c < latest.commit). inl (omega arith)) (λ (p : (c ≡ latest.commit) × (r.version ≤ latest.version)). inr (same ∙ p.0, (let q = p.1 in omega arith))) behind)
+      let same : d ≡ c = same_Some d c (sym other.seen ∙ ap (λ (y : Row). commit_below s y.shadow) e ∙ seen) in
+      let v : x.version ≡ r.version = ap (λ (y : Row). y.version) e in
+      ⊎_elim (λ (lt : c < latest.commit). inl (omega arith)) (λ (p : (c ≡ latest.commit) × (r.version ≤ latest.version)). inr (same ∙ p.0, (let q = p.1 in omega arith))) behind)
       (h.others x d) (seen_among r rs s k x d other);
 }
 

@@ -2,3 +2,5 @@ pub mod LatestRows
 pub mod MemberRows
 pub mod Snapshots
 pub mod KeptRows
+pub mod KeyRows
+pub mod KeepingRows

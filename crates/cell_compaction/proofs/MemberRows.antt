@@ -1,7 +1,7 @@
 -- In rows that ascend, what stands among them is what a look finds, so that a key and a version name one row.
-use Rattle.std.proofs.Common.{◌≡◌, ℕ, ◌<◌, ◌⊎◌, true, false, List, [], ◌∷◌, inl, inr, ⊎_elim, refl, sym, ap, ◌∙◌, subst, arith}
-use Rattle.std.specs.Prelude.{map, Option, None, Some}
-use Rattle.std.proofs.lemmas.Option.{same_Some, none-some}
+use Rattle.std.proofs.Common.{◌≡◌, ℕ, ◌<◌, ◌⊎◌, List, [], ◌∷◌, inl, inr, ⊎_elim, refl, sym, ap, ◌∙◌, subst, arith}
+use Rattle.std.specs.Prelude.{Some}
+use Rattle.std.proofs.lemmas.Option.{same_Some}
 use Rattle.history_book.specs.Members.{◌∈◌}
 use Rattle.store_parts.specs.declared.rows.Cell.{Cell}
 use Rattle.store_parts.specs.Rows.{Row, cell_of, looked, IsBelowAll, AreOrdered}
@@ -22,7 +22,7 @@ unfolding AreOrdered ◌∈◌
 member_looked r [] ordered has = absurd has
 member_looked r (x ∷ xs) ordered has =
     ⊎_elim (λ (e : r ≡ x). looked-here x xs r.key r.version (ap (λ (y : Row). y.key) (sym e)) (ap (λ (y : Row). y.version) (sym e)) ∙ ap (λ y. Some (cell_of y)) (sym e))
-        (λ (later : r ∈ xs). looked-past x xs r.key r.version (λ key version. ⊎_elim (λ (lt : x.key < r.key). omega (arith, key)) (λ (p : (x.key ≡ r.key) × (x.version < r.version)). (let q = p.1 in omega (arith, version))) (below_member x r xs ordered.0 later)) ∙ member_looked r xs ordered.1 later) has
+    (λ (later : r ∈ xs). looked-past x xs r.key r.version (λ key version. ⊎_elim (λ (lt : x.key < r.key). omega (arith, key)) (λ (p : (x.key ≡ r.key) × (x.version < r.version)). (let q = p.1 in omega (arith, version))) (below_member x r xs ordered.0 later)) ∙ member_looked r xs ordered.1 later) has
 
 -- a cell that is found is that of a row
 pub record IsRowOf (rs : List Row) (k t : ℕ) (cell : Cell) : Type 0 where

@@ -1,5 +1,5 @@
 -- Stores at rest give every reader what it sees in the history.
-use Rattle.std.proofs.Common.{◌≡◌, ℕ, ◌<◌, ◌≤◌, ◌⊎◌, List, inl, inr, ⊎_elim, refl, sym, ap, ◌∙◌, subst, arith}
+use Rattle.std.proofs.Common.{◌≡◌, ℕ, ◌<◌, ◌≤◌, List, inl, inr, ⊎_elim, refl, sym, ap, ◌∙◌, subst, arith}
 use Rattle.std.specs.Prelude.{Option, None, Some}
 use Rattle.std.proofs.lemmas.Option.{same_Some, none-some}
 use Rattle.stamp_base.specs.declared.stores.Mark.{Mark}
@@ -10,10 +10,11 @@ use Rattle.history_book.specs.declared.item.Item.{Item}
 use Rattle.store_parts.specs.declared.rows.Cell.{Cell}
 use Rattle.store_parts.specs.Rows.{Row, cell_of, looked}
 use Rattle.store_parts.specs.Pairs.{Pairs, mark_of}
-use Rattle.cell_compaction.specs.Rest.{StandsAtRest, IsWritten, commit_in, commit_of, with_commit, with_commits, Latest, latest_in, found_of}
+use Rattle.cell_compaction.specs.declared.latest.Latest.{Latest}
+use Rattle.cell_compaction.specs.Rest.{StandsAtRest, commit_in, commit_of, with_commit, with_commits, latest_in, found_of}
 use Rattle.cell_compaction.specs.Laws.{SnapshotsAreVisible}
-use Rattle.cell_compaction.proofs.LatestRows.{IsSeen, IsTheLatest, IsLatest, latest_is, below_is, seen_by}
-use Rattle.cell_compaction.proofs.MemberRows.{IsRowOf, looked_member, member_looked, IsFilledOf, filled_member, filled_from}
+use Rattle.cell_compaction.proofs.LatestRows.{IsSeen, IsLatest, latest_is, below_is, seen_by}
+use Rattle.cell_compaction.proofs.MemberRows.{looked_member, member_looked, filled_member, filled_from}
 
 -- a row of this key, version, value and commit
 pub record HasRow (rows : List Row) (pairs : Pairs) (t c k : ℕ) (value : List ℕ) : Type 0 where

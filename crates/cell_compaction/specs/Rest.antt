@@ -10,6 +10,7 @@ use Rattle.history_book.specs.declared.item.Item.{Item}
 use Rattle.store_parts.specs.declared.rows.Cell.{Cell}
 use Rattle.store_parts.specs.Rows.{Row, looked, AreOrdered}
 use Rattle.store_parts.specs.Pairs.{Pairs, mark_of}
+use Rattle.cell_compaction.specs.declared.latest.Latest.{Latest}
 
 -- ---- the stores and their history
 -- the cell has this value, and its commit as shadow, or as its pair where it is bare
@@ -43,12 +44,6 @@ abbrev pub with_commits : Pairs → List Row → List Row
 with_commits pairs rows = map (with_commit pairs) rows
 
 -- ---- what a reader finds in rows that have their commits
--- a row of a key, with its commit
-pub record Latest : Type 0 where
-  pub commit : ℕ
-  pub version : ℕ
-  pub value : List ℕ
-
 abbrev pub commit_below : ℕ → Option ℕ → Option ℕ
 commit_below s None = None
 commit_below s (Some c) = if nat_lt c s then Some c else None

@@ -2,3 +2,4 @@ pub mod Seen
 pub mod KeyLists
 pub mod Index
 pub mod Calls
+pub mod AtRest

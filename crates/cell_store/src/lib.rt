@@ -6,10 +6,12 @@ ghost use Rattle.std.specs.Prelude.{◌≡◌, ◌↔◌, [], length, None, IfOk
 ghost use Rattle.std.specs.List.Sorted.{IsStrictlyIncreasing};
 ghost use Rattle.cell_store.specs.Calls.{put_row, fetched, front_of, looked, with_shadow, without_bare, keys_of_version, AreFalling, AreOrdered, AreUpto, HasOnly, IsBare, IsOneCall, UnlessNoMemory, OnNoMemory, fated};
 
+mod at_rest;
 mod key_list;
 mod rows;
 mod version_index;
 
+pub use at_rest::Row;
 use port_io::{Fate, Store, Weather};
 use rows::Rows;
 use stamp_base::{KeyNo, NoMemory, Stamp, Value};

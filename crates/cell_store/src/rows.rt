@@ -1,8 +1,10 @@
 // The rows, in lists of cells by key.
-ghost use Rattle.std.specs.Prelude.{◌≡◌, ℕ, [], length, reverse, IfOk, IsSome, None, OnErr, OnOk};
+ghost use Rattle.std.specs.Prelude.{◌≡◌, ℕ, [], length, map, reverse, slice_get, IfOk, IsSome, None, OnErr, OnOk};
 ghost use Rattle.cell_store.specs.KeyLists.{rows_at, AreRising};
+ghost use Rattle.cell_store.specs.AtRest.{row_of};
 ghost use Rattle.cell_store.specs.Calls.{put_row, fetched, front_of, looked, with_shadow, without_bare, AreOrdered};
 
+use crate::at_rest::{Row, rows_in};
 use crate::{Cell, Front, key_list};
 use stamp_base::{KeyNo, NoMemory, Stamp, Value};
 use std::alloc::Global;
@@ -141,5 +143,13 @@ impl Rows {
             return;
         };
         key_list::remove_bare(cells, version);
+    }
+
+    /// The rows as a list.
+    pub fn into_rows(self) -> Result<Vec<Row>, NoMemory>
+        ensures rows { IfOk result (λ rows. map row_of rows.items ≡ self) }
+        ensures ordered { AreOrdered self }
+    {
+        rows_in(self.alloc, &self.lists)
     }
 }
