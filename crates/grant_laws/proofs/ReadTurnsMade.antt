@@ -1,7 +1,5 @@
 -- Own turns of a read: its fetch, and its steps.
 use Rattle.std.proofs.Common.{◌≡◌, ℕ, ◌+◌, ◌*◌, List, [], ◌∷◌, ◌++◌, length, Option, Some, None, refl, sym, ◌∙◌, ap, subst, arith, inl, inr}
-use Rattle.stamp_base.specs.declared.stores.Store.{Store}
-use Rattle.port_io.specs.Planned.{planned_fate}
 use Rattle.port_io.specs.declared.weather.Fate.TheVariants.{Works}
 use Rattle.history_book.specs.declared.item.Actor.TheVariants.{Session}
 use Rattle.history_book.specs.declared.item.StoreStep.TheVariants as store_step
@@ -20,13 +18,13 @@ use Rattle.script_data.specs.Data.{ScriptData}
 use Rattle.isolation_laws.specs.Words.{ClientAt}
 use Rattle.isolation_laws.proofs.Lookups.{set_found}
 use Rattle.line_runs.specs.Laws.{IsPlayable}
-use Rattle.line_runs.specs.Runs.{calls_on, Played, step_of, played}
+use Rattle.line_runs.specs.Runs.{Played, step_of, played}
 use Rattle.line_runs.proofs.ReadLines.{OfKey, over_key, told_key}
 use Rattle.grant_laws.specs.Granted.{next_fate}
 use Rattle.grant_laws.proofs.LongerRuns.{in_one, in_last}
 use Rattle.grant_laws.proofs.ReadLines.{IsReading, told_now, StepsSo, steps_so}
 use Rattle.grant_laws.specs.Turns.{ReadsKey, AnswersOr, ReadsAreCarried}
-use Rattle.grant_laws.proofs.ReadTurns.{OfStart, over_start, CallsWork, told_start}
+use Rattle.grant_laws.proofs.ReadTurns.{OfStart, over_start, told_start}
 use Rattle.stamp_base.specs.SetupNumbers.{AreInRange}
 use Rattle.run_turns.specs.declared.ahead.Ahead.TheVariants.{Makes}
 use Rattle.run_turns.specs.declared.turn.Turn.{Turn}
