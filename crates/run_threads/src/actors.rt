@@ -1,20 +1,19 @@
 // What the thread of an actor does.
 ghost use Rattle.std.specs.Prelude.{◌≡◌, length};
 ghost use Rattle.reply_pipeline.specs.Seats.{IsSenderPass};
-ghost use Rattle.actor_steps.specs.Going.{GoesOn};
+ghost use Rattle.thread_steps.specs.Going.{GoesOn};
 
 use crate::lines::LinesLeft;
 use crate::shared::Shared;
 use crate::waking::wake_for;
-use actor_steps::{ActorStep, ActorSteps};
 use history_book::Actor;
 use line_shares::ActorShare;
 use reply_pipeline::{Gate, send_ticket};
 use stage_queues::{StagePass, Ticket, Waiter};
-use stage_steps::Steps;
 use stamp_base::{NodeNo, Term};
 use std::sync::Wait;
 use std::sync::ledger::Ledger;
+use thread_steps::{ActorStep, ActorSteps, Steps};
 
 /// Makes the events of the actor's lines until none is left, memory is refused, or it would wait and the queues are closed.
 pub fn act<L: Ledger, R: Wait, B: Steps + ActorSteps<L> + Sync, G: Gate>(

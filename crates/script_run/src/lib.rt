@@ -15,4 +15,4 @@ pub use answers::Advance;
 pub use laws::{advances_go_further, ended_runs_are_whole, stage_steps_go_further};
 pub use run::ScriptRun;
 pub use run_turns::{Turn, Why};
-pub use stage_steps::StageStep;
+pub use thread_steps::StageStep;

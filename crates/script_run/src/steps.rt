@@ -12,7 +12,7 @@ use history_book::{Actor, Item};
 use machine::Event;
 use planned_cluster::Stopped;
 use run_turns::{Ahead, Turn, own_turns_are_told};
-use stage_steps::StageStep;
+use thread_steps::StageStep;
 use stamp_base::{NodeNo, SessionNo, Stage, Stamp, Term};
 
 impl ScriptRun {
