@@ -1,6 +1,6 @@
 -- A request stage's pass after each of its calls.
 use Rattle.std.proofs.Common.{◌≡◌, ℕ, ◌+◌, ◌-◌, ◌≤◌, true, false, List, [], ◌∷◌, ◌++◌, refl, sym, ap, ◌∙◌, subst, append-nil, append_assoc, arith}
-use Rattle.std.specs.Prelude.{Option, None, Some, Result, Ok, Err, IfSome, IsSomeAnd, IsErr, MatchOption, MatchResult, slice_get}
+use Rattle.std.specs.Prelude.{Option, None, Some, Result, Ok, Err, IfOk, IfSome, IsSomeAnd, IsErr, MatchOption, MatchResult, slice_get}
 use Rattle.std.proofs.lemmas.List.{map-append}
 use Rattle.std.proofs.lemmas.List.Concat.{flat_map-append, flat_map-cons}
 use Rattle.batch_pool.specs.declared.batch.Entry.{Entry}
@@ -16,7 +16,7 @@ use Rattle.stage_queues.specs.Plan.{Plan, NodeRing, node_ring}
 use Rattle.stage_queues.specs.NodePasses.{changed, batch_put, TakesOneOf, TakesTicket, IsOfRing}
 use Rattle.stage_queues.specs.Passes.{StageAccount, at_node, with_node, let_go, ReceivesTickets, SendsBatches}
 use Rattle.reply_pipeline.specs.Picks.{IsPickOf}
-use Rattle.reply_pipeline.specs.Requesting.{taken_tickets, put_batches, tickets_at, batches_at, ticket_of, tickets_of, entered, IsRequestPass, IsRequesting, HasRequested, Enters, MayEnter}
+use Rattle.reply_pipeline.specs.Requesting.{taken_tickets, put_batches, tickets_at, batches_at, ticket_of, tickets_of, entered, IsRequestPass, IsRequesting, HasRequested, Enters, EntersLeft, MayEnter, KeepsLeft}
 use Rattle.reply_pipeline.proofs.ReachLemmas.{rings_here, ring_node, changed_of, both_said, now_here, still_reaches}
 use Rattle.reply_pipeline.proofs.PickLemmas.{pick_one, pick_not, pick_front}
 
@@ -115,14 +115,18 @@ module _ (queues : Plan) (node : ℕ) (p : StageAccount) where
         ap (λ l. front ++ l) (map-append ticket_of entries (entry ∷ [])) ∙ sym (append_assoc front (tickets_of entries) (ticket_of entry ∷ [])) ∙ ap (λ t. (front ++ tickets_of entries) ++ t ∷ []) of in
         taken_with number hand entries (entries ++ entry ∷ []) h (λ picks. subst (λ l. IsPickOf l (tickets_at p node ++ ticket ∷ [])) (sym more) (pick_one (front ++ tickets_of entries) (tickets_at p node) ticket picks))
 
-  pub sent : (q : StageAccount) (item : Numbered) → IsRequesting queues node item.number 1 item.batch.entries p → q ≡ let_go p node (batch_put item (at_node p node)) → IsRequesting queues node (item.number + 1) 0 [] q
-  sent q item h is =
+  -- with entries that are entered behind those of the batch
+  pub sent_more : (q : StageAccount) (item : Numbered) (more : List Entry) → IsRequesting queues node item.number 1 (item.batch.entries ++ more) p → q ≡ let_go p node (batch_put item (at_node p node)) → IsRequesting queues node (item.number + 1) 0 more q
+  sent_more q item more h is =
       let new = batch_put item (at_node p node) in
       let nodes = ap (λ x. x.nodes) is in
       let here : at_node q node ≡ new = now_here queues node p q new h.pass.reaches nodes in
-      let put : batches_at q node ≡ batches_at p node ++ item ∷ [] = ap (λ n. put_batches n.batches) here ∙ put_more item (at_node p node).batches h.pass.sends in
-      let last = next_after-push 0 (batches_at p node) item in
-      let whole : entered (batches_at q node) ++ [] ≡ entered (batches_at p node) ++ tickets_of item.batch.entries = append-nil (entered (batches_at q node)) ∙ ap entered put ∙ entered-push (batches_at p node) item in record {
+      let before = batches_at p node in
+      let put : batches_at q node ≡ before ++ item ∷ [] = ap (λ n. put_batches n.batches) here ∙ put_more item (at_node p node).batches h.pass.sends in
+      let last = next_after-push 0 before item in
+      let whole : entered (batches_at q node) ++ tickets_of more ≡ entered before ++ tickets_of (item.batch.entries ++ more) =
+      ap (λ l. l ++ tickets_of more) (ap entered put ∙ entered-push before item) ∙ append_assoc (entered before) (tickets_of item.batch.entries) (tickets_of more)
+      ∙ ap (λ l. entered before ++ l) (sym (map-append ticket_of item.batch.entries more)) in record {
         pass = record {
           reaches = still_reaches queues node p q new h.pass.reaches nodes (λ rings of. record { requests = of.requests; batches = changed_of _ rings.batches (at_node p node).batches of.batches; settled = of.settled });
           takes = subst (λ n. IsSomeAnd n.requests (λ r. r.account.receives ≡ true)) (sym here) h.pass.takes;
@@ -130,8 +134,14 @@ module _ (queues : Plan) (node : ℕ) (p : StageAccount) where
         };
         holds = ap (λ x. x.held) is ∙ (let e = h.holds in omega arith);
         below = subst (λ l. next_after 0 l ≤ item.number + 1) (sym put) (omega arith);
-        enters = subst (λ l. IsPickOf l (tickets_at q node)) (sym whole) (subst (λ n. IsPickOf (entered (batches_at p node) ++ tickets_of item.batch.entries) (taken_tickets n.requests)) (sym here) h.enters);
+        enters = subst (λ l. IsPickOf l (tickets_at q node)) (sym whole) (subst (λ n. IsPickOf (entered before ++ tickets_of (item.batch.entries ++ more)) (taken_tickets n.requests)) (sym here) h.enters);
       }
+
+  pub sent : (q : StageAccount) (item : Numbered) → IsRequesting queues node item.number 1 item.batch.entries p → q ≡ let_go p node (batch_put item (at_node p node)) → IsRequesting queues node (item.number + 1) 0 [] q
+  sent q item h is = sent_more q item [] (subst (λ entries. IsRequesting queues node item.number 1 entries p) (sym (append-nil item.batch.entries)) h) is
+
+  pub keeps_left : (q : StageAccount) (item : Numbered) → q ≡ let_go p node (batch_put item (at_node p node)) → KeepsLeft queues node item p q
+  keeps_left q item is = λ ticket may entry of. sent_more q item (entry ∷ []) (may entry of) is
 
 module _ (queues : Plan) (node : ℕ) (p q : StageAccount) where
   pub gave_back : (number : ℕ) (entries : List Entry) → IsRequesting queues node number 1 entries p → q ≡ record p { held = p.held - 1 } → HasRequested queues node q
@@ -145,6 +155,13 @@ module _ (queues : Plan) (node : ℕ) (p q : StageAccount) where
       → MatchResult result (λ _. IsRequesting queues node (item.number + 1) 0 [] q) (λ back. (back ≡ item) × (q ≡ p))
   has_sent ring (Ok x) item h is e = sent queues node p q item h (subst (λ n. q ≡ let_go p n (batch_put item (at_node p n))) (ring_node queues node p ring (λ rings. rings.batches) h.pass.reaches is) e)
   has_sent ring (Err back) item h is e = e
+
+  pub has_kept : (ring : NodeRing) (result : Result (Unit {0}) Numbered) (item : Numbered) → IsRequesting queues node item.number 1 item.batch.entries p
+      → IfSome (slice_get queues.nodes node) (λ rings. ring ≡ node_ring node rings.batches)
+      → MatchResult result (λ _. q ≡ let_go p ring.node (batch_put item (at_node p ring.node))) (λ back. (back ≡ item) × (q ≡ p))
+      → IfOk result (λ _. KeepsLeft queues node item p q)
+  has_kept ring (Ok x) item h is e = keeps_left queues node p q item (subst (λ n. q ≡ let_go p n (batch_put item (at_node p n))) (ring_node queues node p ring (λ rings. rings.batches) h.pass.reaches is) e)
+  has_kept ring (Err back) item h is e = tt
 
   -- what a receive says of the pass
   abbrev pub Rest : ℕ → Option Ticket → Type 0
@@ -189,3 +206,10 @@ module _ (queues : Plan) (node : ℕ) (p q r : StageAccount) where
   took_batch number entries h is =
       let one : p.held + 1 ≡ 1 = (let e = h.holds in omega arith) in
       subst (λ n. IsRequesting queues node number n entries q) one (holds_other queues node p q number 0 (p.held + 1) entries h is)
+
+module _ (queues : Plan) (node : ℕ) (p q : StageAccount) where
+  -- with a ticket left that gave no entry, or none left
+  pub enters_first : {E : Type 0} (left : Option Ticket) (result : Result Entry E) → MatchResult result (λ entry. Enters queues node (Some entry) p q) (λ _. Enters queues node None p q)
+      → MatchResult result (λ entry. EntersLeft queues node left (Some entry) p q) (λ _. EntersLeft queues node left None p q)
+  enters_first left (Ok entry) first = λ number goes. first number 0 [] goes.0
+  enters_first left (Err end) first = λ number goes. first number 0 [] goes.0

@@ -1,5 +1,5 @@
 -- What a request stage did through its pass.
-use Rattle.std.specs.Prelude.{◌≡◌, ℕ, ◌≤◌, true, List, [], ◌∷◌, ◌++◌, map, flat_map, Option, None, Some, IsSomeAnd}
+use Rattle.std.specs.Prelude.{⊤, ◌≡◌, ℕ, ◌+◌, ◌≤◌, true, List, [], ◌∷◌, ◌++◌, map, flat_map, Option, None, Some, IfSome, IsSomeAnd}
 use Rattle.batch_pool.specs.declared.batch.Entry.{Entry}
 use Rattle.persist_batches.specs.declared.numbered.Numbered.{Numbered}
 use Rattle.queue_passes.specs.Holds.{Holds}
@@ -10,6 +10,8 @@ use Rattle.batch_rule.specs.declared.account.BatchAccount.{BatchAccount}
 use Rattle.batch_rule.specs.Numbers.{next_after}
 use Rattle.stage_queues.specs.Plan.{Plan}
 use Rattle.stage_queues.specs.Passes.{StageAccount, at_node}
+use Rattle.reply_pipeline.specs.declared.request.Served.{Served}
+use Rattle.reply_pipeline.specs.declared.request.Served.TheVariants as served
 use Rattle.reply_pipeline.specs.Reach.{ReachesNode}
 use Rattle.reply_pipeline.specs.Picks.{IsPickOf}
 
@@ -73,6 +75,29 @@ Enters queues node found old new =
 -- a ticket was taken, of which an entry may be entered
 abbrev pub MayEnter : Plan → ℕ → Ticket → StageAccount → StageAccount → Type 0
 MayEnter queues node ticket old new = (entry : Entry) → ticket_of entry ≡ ticket → Enters queues node (Some entry) old new
+
+-- ---- a ticket that was taken, and is left for a while
+-- an entry of it may still be entered
+abbrev pub MayStill : Plan → ℕ → ℕ → ℕ → List Entry → Ticket → StageAccount → Type 0
+MayStill queues node number hand entries ticket p = (entry : Entry) → ticket_of entry ≡ ticket → IsRequesting queues node number hand (entries ++ entry ∷ []) p
+
+-- a batch of this number is next, and an entry of the ticket that is left may be its first
+abbrev pub GoesOnWith : Plan → ℕ → ℕ → Option Ticket → StageAccount → Type 0
+GoesOnWith queues node number left p = IsRequesting queues node number 0 [] p × IfSome left (λ ticket. MayStill queues node number 0 [] ticket p)
+
+-- a ticket that is left when a batch is sent is left behind it
+abbrev pub KeepsLeft : Plan → ℕ → Numbered → StageAccount → StageAccount → Type 0
+KeepsLeft queues node batch old new = (ticket : Ticket) → MayStill queues node batch.number 1 batch.batch.entries ticket old → MayStill queues node (batch.number + 1) 0 [] ticket new
+
+-- tickets were taken, and the entry, if there is one, is of the one that was left or of the last of them
+abbrev pub EntersLeft : Plan → ℕ → Option Ticket → Option Entry → StageAccount → StageAccount → Type 0
+EntersLeft queues node left found old new = (number : ℕ) → GoesOnWith queues node number left old → IsRequesting queues node number 0 (with_entry [] found) new
+
+-- an entry is of the ticket
+abbrev pub IsServed : Ticket → Served → Type 0
+IsServed ticket (served.Drawn entry) = ticket_of entry ≡ ticket
+IsServed ticket served.Ended = ⊤
+IsServed ticket served.Held = ⊤
 
 -- the request stage has ended, and holds nothing
 pub record HasRequested (queues : Plan) (node : ℕ) (p : StageAccount) : Type 0 where

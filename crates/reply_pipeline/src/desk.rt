@@ -2,9 +2,9 @@ use crate::ending::StageEnd;
 use crate::gate::{Gate, GatePlace};
 use history_book::Actor;
 use stage_queues::{Queues, Waiter};
-use stage_steps::{StageStep, Steps};
 use stamp_base::{NodeNo, SessionNo, Stage, Term};
 use std::sync::Wait;
+use thread_steps::{StageStep, Steps};
 
 /// Where a stage of a node works.
 #[derive(Drop)]

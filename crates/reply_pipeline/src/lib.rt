@@ -15,8 +15,8 @@ pub use gate::{Gate, GatePlace, OpenGate};
 pub use persist::persist_worker;
 pub use reply::reply_stage;
 pub use request::request_stage;
-pub use stage_steps::{StageStep, Steps};
-pub use tickets::send_ticket;
+pub use thread_steps::{StageStep, Steps};
+pub use tickets::{offer_ticket, send_ticket};
 
 #[cfg(test)]
 mod tests;

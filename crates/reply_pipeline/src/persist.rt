@@ -8,10 +8,10 @@ use crate::gate::Gate;
 use batch_pool::Entry;
 use persist_batches::Numbered;
 use stage_queues::{Queues, StagePass};
-use stage_steps::{StageStep, Steps};
 use stamp_base::{NodeNo, Stage};
 use std::sync::Wait;
 use std::thread;
+use thread_steps::{StageStep, Steps};
 
 /// Serves as one of the node's persist workers, until the queues are closed or memory is refused.
 pub fn persist_worker<R: Wait, B: Steps, G: Gate>(

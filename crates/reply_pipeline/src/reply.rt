@@ -9,10 +9,10 @@ use batch_pool::{Batch, Entry};
 use history_book::Cause;
 use persist_batches::{Numbered, Reorder};
 use stage_queues::{Queues, StagePass};
-use stage_steps::{StageStep, Steps};
 use stamp_base::{NodeNo, Stage};
 use std::alloc::Global;
 use std::sync::Wait;
+use thread_steps::{StageStep, Steps};
 
 /// Serves as the node's reply stage, until the queues are closed or memory is refused.
 pub fn reply_stage<R: Wait, B: Steps, G: Gate>(

@@ -1,6 +1,7 @@
-// The request stage: serves tickets until each request is drawn or has ended, and sends what was drawn on in batches.
+// The request stage: serves tickets until each request is drawn or has ended, and sends what was drawn on in batches. What is drawn
+// does not wait for a stage that is held.
 ghost use Rattle.std.specs.Prelude.{◌≡◌, ◌≢◌, ◌+◌, ◌<◌, ◌∷◌, ◌++◌, [], length, IfOk, IfSome, MatchResult};
-ghost use Rattle.reply_pipeline.specs.Requesting.{IsRequestPass, IsUnused, EntersTickets, IsRequesting, HasRequested, Enters, MayEnter, ticket_of};
+ghost use Rattle.reply_pipeline.specs.Requesting.{IsRequestPass, IsUnused, EntersTickets, IsRequesting, HasRequested, Enters, EntersLeft, MayEnter, MayStill, GoesOnWith, KeepsLeft, IsServed, ticket_of};
 
 use crate::desk::Desk;
 use crate::ending::StageEnd;
@@ -9,10 +10,20 @@ use batch_pool::{Batch, Entry};
 use history_book::Cause;
 use persist_batches::Numbered;
 use stage_queues::{Queues, StagePass, Ticket};
-use stage_steps::{StageStep, Steps};
 use stamp_base::{NodeNo, Stage};
 use std::sync::Wait;
 use std::thread;
+use thread_steps::{StageStep, Steps};
+
+/// What became of a ticket that was taken.
+pub enum Served {
+    /// Its request is drawn.
+    Drawn(Entry),
+    /// Its request has ended, or is not there any more.
+    Ended,
+    /// The stage is held.
+    Held,
+}
 
 /// Serves as the node's request stage, until the queues are closed or memory is refused. Batches are numbered from 0 on.
 pub fn request_stage<R: Wait, B: Steps, G: Gate>(
@@ -51,9 +62,11 @@ fn serve<R: Wait, B: Steps, G: Gate>(
     requires { IsRequesting desk.now.queues.now desk.now.node 0 0 [] pass.old }
     ensures { HasRequested desk.now.queues.now desk.now.node pass.new }
 {
+    let mut left = None;
     for number in 0..u64::MAX {
-        if let Err(end) = make_batch(rt, desk, number, pass) {
-            return end;
+        match make_batch(rt, desk, number, left, pass) {
+            Ok(next) => left = next,
+            Err(end) => return end,
         }
     }
     // No number is left.
@@ -61,27 +74,51 @@ fn serve<R: Wait, B: Steps, G: Gate>(
     StageEnd::Closed
 }
 
-// Gathers what is drawn next in a batch of this number, and sends it.
+// Gathers what is drawn next in a batch of this number, and sends it. A ticket may be left from the batch before, and from this one,
+// whose request waits for a stage that is held.
 fn make_batch<R: Wait, B: Steps, G: Gate>(
     rt: &R,
     desk: &Desk<'_, B, G>,
     number: u64,
+    left: Option<Ticket>,
     pass: &mut StagePass,
-) -> Result<(), StageEnd>
-    requires { IsRequesting desk.now.queues.now desk.now.node number 0 [] pass.old }
-    ensures { MatchResult result (λ _. IsRequesting desk.now.queues.now desk.now.node (number + 1) 0 [] pass.new) (λ _. HasRequested desk.now.queues.now desk.now.node pass.new) }
+) -> Result<Option<Ticket>, StageEnd>
+    requires requesting { IsRequesting desk.now.queues.now desk.now.node number 0 [] pass.old }
+    requires left { IfSome left (λ ticket. MayStill desk.now.queues.now desk.now.node number 0 [] ticket pass.old) }
+    ensures { MatchResult result (λ left. GoesOnWith desk.now.queues.now desk.now.node (number + 1) left pass.new) (λ _. HasRequested desk.now.queues.now desk.now.node pass.new) }
 {
-    let entry = first_entry(rt, desk, pass)?;
+    let entry = left_or_first(rt, desk, left, pass)?;
     let batch = empty_batch(rt, desk, pass)?;
     let mut batch = Numbered { number, batch };
     enter(&mut batch.batch, entry);
     match fill(rt, desk, pass, &mut batch) {
-        Ok(()) => send(rt, desk, pass, batch),
+        Ok(left) => {
+            send(rt, desk, pass, batch)?;
+            Ok(left)
+        }
         Err(end) => {
             give_back(rt, desk, pass, batch);
             Err(end)
         }
     }
+}
+
+// The entry of the ticket that is left, or else of one behind it.
+fn left_or_first<R: Wait, B: Steps, G: Gate>(
+    rt: &R,
+    desk: &Desk<'_, B, G>,
+    left: Option<Ticket>,
+    pass: &mut StagePass,
+) -> Result<Entry, StageEnd>
+    requires { IsRequestPass desk.now.queues.now desk.now.node pass.old }
+    ensures { MatchResult result (λ entry. EntersLeft desk.now.queues.now desk.now.node left (Some entry) pass.old pass.new) (λ _. EntersLeft desk.now.queues.now desk.now.node left None pass.old pass.new) }
+{
+    if let Some(ticket) = left {
+        if let Some(entry) = serve_ticket(rt, desk, &ticket)? {
+            return Ok(entry);
+        }
+    }
+    first_entry(rt, desk, pass)
 }
 
 // Serves tickets until a request is drawn, and waits where there is none.
@@ -102,24 +139,29 @@ fn first_entry<R: Wait, B: Steps, G: Gate>(
     unreachable!()
 }
 
-// Adds what is drawn until the batch is full or no ticket is there.
+// Adds what is drawn until the batch is full, no ticket is there, or the stage is held; the ticket that waits for it then is left.
 fn fill<R: Wait, B: Steps, G: Gate>(
     rt: &R,
     desk: &Desk<'_, B, G>,
     pass: &mut StagePass,
     batch: &mut Numbered,
-) -> Result<(), StageEnd>
+) -> Result<Option<Ticket>, StageEnd>
     requires { IsRequesting desk.now.queues.now desk.now.node batch.old.number 1 batch.old.batch.entries pass.old }
     ensures gathered { IsRequesting desk.now.queues.now desk.now.node batch.new.number 1 batch.new.batch.entries pass.new }
     ensures number { batch.new.number ≡ batch.old.number }
+    ensures left { IfOk result (λ left. IfSome left (λ ticket. MayStill desk.now.queues.now desk.now.node batch.new.number 1 batch.new.batch.entries ticket pass.new)) }
 {
     for _ in rt.forever() {
         if batch.batch.is_full() {
-            return Ok(());
+            return Ok(None);
         }
-        match next_entry(rt, desk, pass)? {
-            Some(entry) => enter(&mut batch.batch, entry),
-            None => return Ok(()),
+        let Some(ticket) = receive(rt, desk, pass) else {
+            return Ok(None);
+        };
+        match try_ticket(rt, desk, &ticket)? {
+            Served::Drawn(entry) => enter(&mut batch.batch, entry),
+            Served::Ended => {}
+            Served::Held => return Ok(Some(ticket)),
         }
     }
     unreachable!()
@@ -158,7 +200,7 @@ fn next_entry<R: Wait, B: Steps, G: Gate>(
     unreachable!()
 }
 
-// Makes the steps of a ticket's request until it is drawn. None where it has ended or is not there any more.
+// Serves a ticket, and waits while the stage is held. None where its request has ended or is not there any more.
 fn serve_ticket<R: Wait, B: Steps, G: Gate>(
     rt: &R,
     desk: &Desk<'_, B, G>,
@@ -167,22 +209,40 @@ fn serve_ticket<R: Wait, B: Steps, G: Gate>(
     ensures { IfOk result (λ found. IfSome found (λ entry. ticket_of entry ≡ ticket.now)) }
 {
     for _ in rt.forever() {
+        match try_ticket(rt, desk, ticket)? {
+            Served::Drawn(entry) => return Ok(Some(entry)),
+            Served::Ended => return Ok(None),
+            Served::Held => desk.wait(rt, Stage::Request, 0)?,
+        }
+    }
+    unreachable!()
+}
+
+// Makes the steps of a ticket's request until it is drawn or has ended, or the stage is held.
+fn try_ticket<R: Wait, B: Steps, G: Gate>(
+    rt: &R,
+    desk: &Desk<'_, B, G>,
+    ticket: &Ticket,
+) -> Result<Served, StageEnd>
+    ensures { IfOk result (IsServed ticket.now) }
+{
+    for _ in rt.forever() {
         match desk.step(rt, Stage::Request, ticket.session, ticket.term) {
             StageStep::Did { start, commit } => {
                 desk.wake_session(ticket.session);
-                return Ok(Some(Entry {
+                return Ok(Served::Drawn(Entry {
                     session: ticket.session,
                     term: ticket.term,
                     start,
                     commit,
                 }));
             }
-            StageStep::Held => desk.wait(rt, Stage::Request, 0)?,
+            StageStep::Held => return Ok(Served::Held),
             StageStep::NoMemory => return Err(StageEnd::NoMemory),
             step => {
                 if !goes_on(&step) {
                     desk.wake_session(ticket.session);
-                    return Ok(None);
+                    return Ok(Served::Ended);
                 }
             }
         }
@@ -231,7 +291,8 @@ fn send<R: Wait, B: Steps, G: Gate>(
     batch: Numbered,
 ) -> Result<(), StageEnd>
     requires { IsRequesting desk.now.queues.now desk.now.node batch.number 1 batch.batch.entries pass.old }
-    ensures { MatchResult result (λ _. IsRequesting desk.now.queues.now desk.now.node (batch.number + 1) 0 [] pass.new) (λ _. HasRequested desk.now.queues.now desk.now.node pass.new) }
+    ensures sent { MatchResult result (λ _. IsRequesting desk.now.queues.now desk.now.node (batch.number + 1) 0 [] pass.new) (λ _. HasRequested desk.now.queues.now desk.now.node pass.new) }
+    ensures left { IfOk result (λ _. KeepsLeft desk.now.queues.now desk.now.node batch pass.old pass.new) }
 {
     let mut batch = batch;
     for _ in rt.forever() {
@@ -268,7 +329,8 @@ fn try_send<R: Wait, B: Steps, G: Gate>(
     batch: Numbered,
 ) -> Result<(), Numbered>
     requires { IsRequesting desk.now.queues.now desk.now.node batch.number 1 batch.batch.entries pass.old }
-    ensures { MatchResult result (λ _. IsRequesting desk.now.queues.now desk.now.node (batch.number + 1) 0 [] pass.new) (λ back. (back ≡ batch) × (pass.new ≡ pass.old)) }
+    ensures sent { MatchResult result (λ _. IsRequesting desk.now.queues.now desk.now.node (batch.number + 1) 0 [] pass.new) (λ back. (back ≡ batch) × (pass.new ≡ pass.old)) }
+    ensures left { IfOk result (λ _. KeepsLeft desk.now.queues.now desk.now.node batch pass.old pass.new) }
 {
     desk.queues.batches(desk.node).send(rt, pass, batch)
 }

@@ -24,7 +24,7 @@ pub fn send_ticket<R: Wait>(
 {
     let mut ticket = ticket;
     for _ in rt.forever() {
-        match try_send(rt, node, queues, pass, ticket) {
+        match offer_ticket(rt, node, queues, pass, ticket) {
             Ok(()) => return Ok(()),
             Err(back) => ticket = back,
         }
@@ -36,7 +36,8 @@ pub fn send_ticket<R: Wait>(
     unreachable!()
 }
 
-fn try_send<R: Wait>(
+/// Sends a ticket to the node's request stage, unless its queue is full; the ticket is handed back then, and nothing was sent.
+pub fn offer_ticket<R: Wait>(
     rt: &R,
     node: NodeNo,
     queues: &Queues,

@@ -10,8 +10,8 @@ use Rattle.run_turns.specs.declared.turn.Turn.{Turn}
 use Rattle.run_turns.specs.Carried.{carried_items, AreWhole}
 use Rattle.run_turns.specs.Lawful.{AreLawful}
 use Rattle.run_turns.specs.Laws.{TurnsAnswer, TurnsArePlanned}
-use Rattle.script_actors.specs.Actors.{AreAtTheirEnds}
-use Rattle.script_actors.proofs.AllEnded.{all_ended}
+use Rattle.thread_scripts.specs.Actors.{AreAtTheirEnds}
+use Rattle.thread_scripts.proofs.AllEnded.{all_ended}
 use Rattle.script_run.specs.Run.{Ran}
 use Rattle.script_run.specs.Steps.{place_of}
 use Rattle.script_run.specs.Further.{EndedRunsAreWhole}

@@ -9,10 +9,10 @@ use Rattle.planned_cluster.specs.Fitting.{SessionIsThere}
 use Rattle.planned_cluster.proofs.Fitting.{lines_fit}
 use Rattle.line_shares.specs.declared.cursor.Cursor.{Cursor}
 use Rattle.line_shares.specs.Done.{first_cursor, caught_up}
-use Rattle.script_actors.specs.Actors.{actors_of, AreBehind, CoverLines}
-use Rattle.script_actors.proofs.Places.{place_is_within}
-use Rattle.script_actors.proofs.Covered.{covered_at_first}
-use Rattle.script_actors.proofs.Behind.{behind_at_first, behind_further, behind_up, covered_up}
+use Rattle.thread_scripts.specs.Actors.{actors_of, AreBehind, CoverLines}
+use Rattle.thread_scripts.proofs.Places.{place_is_within}
+use Rattle.thread_scripts.proofs.Covered.{covered_at_first}
+use Rattle.thread_scripts.proofs.Behind.{behind_at_first, behind_further, behind_up, covered_up}
 use Rattle.script_run.specs.Run.{Ran}
 use Rattle.script_run.specs.Steps.{place_of}
 use Rattle.script_run.specs.Further.{IsFurther}

@@ -10,12 +10,12 @@ use Rattle.run_turns.specs.Carried.{carried_items, AreWhole}
 use Rattle.run_turns.specs.Lawful.{AreLawful}
 use Rattle.script_run.specs.declared.answers.Advance.{Advance}
 use Rattle.script_run.specs.declared.answers.Advance.TheVariants as advance
-use Rattle.stage_steps.specs.declared.step.StageStep.{StageStep}
+use Rattle.thread_steps.specs.declared.stages.StageStep.{StageStep}
 use Rattle.script_run.specs.Run.{Ran}
 use Rattle.script_run.specs.Steps as steps
 use Rattle.line_shares.specs.declared.cursor.Cursor.{Cursor}
 use Rattle.line_shares.specs.Done.{Done, all_done, caught_up}
-use Rattle.script_actors.specs.Actors.{AreBehind, CoverLines, AreAtTheirEnds}
+use Rattle.thread_scripts.specs.Actors.{AreBehind, CoverLines, AreAtTheirEnds}
 
 -- what lies under the lock: the script with the turns that were made, and how many lines of each actor are done
 pub record Played : Type 0 where

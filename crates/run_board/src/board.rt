@@ -7,23 +7,21 @@ ghost use Rattle.line_runs.specs.Answers.{Answers};
 ghost use Rattle.line_runs.specs.Planned.{Planned};
 ghost use Rattle.run_turns.specs.Told.{AreForThreads};
 ghost use Rattle.line_shares.specs.Done.{parts_for, fresh};
-ghost use Rattle.script_actors.specs.Actors.{actors_of};
-ghost use Rattle.actor_steps.specs.Going.{GoesOn};
+ghost use Rattle.thread_scripts.specs.Actors.{actors_of};
+ghost use Rattle.thread_steps.specs.Going.{GoesOn};
 ghost use Rattle.run_board.specs.Playing.{IsResult};
 
 use crate::play::Play;
-use actor_steps::{ActorStep, ActorSteps};
 use cluster_core::Cluster;
 use line_shares::{ActorShare, Cursors};
-use script_actors::actors_with_lines;
-use script_copies::copied;
 use script_run::{Advance, StageStep, Turn};
 use session_script::Script;
-use stage_steps::Steps;
 use stamp_base::{NoMemory, NodeNo, SessionNo, Stage, Term};
 use std::alloc::Global;
 use std::sync::ledger::{Blank, Ledger};
 use std::sync::{Mutex, Wait};
+use thread_scripts::{actors_with_lines, copied};
+use thread_steps::{ActorStep, ActorSteps, Steps};
 
 /// A play behind a lock, and its script once more.
 #[derive(Drop)]

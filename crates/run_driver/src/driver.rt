@@ -4,7 +4,7 @@ ghost use Rattle.session_script.specs.Script.{data_of};
 ghost use Rattle.line_shares.specs.Done.{parts_for};
 ghost use Rattle.run_turns.specs.Told.{AreForThreads};
 ghost use Rattle.run_driver.specs.Runs.{RunsTo};
-ghost use Rattle.script_actors.specs.Actors.{actors_of};
+ghost use Rattle.thread_scripts.specs.Actors.{actors_of};
 
 use crate::rest::finish;
 use cluster_core::Cluster;
@@ -12,7 +12,6 @@ use reply_pipeline::Gate;
 use run_board::Board;
 use run_threads::play;
 use run_turns::Turn;
-use script_actors::parts_of;
 use session_script::Script;
 use stamp_base::NoMemory;
 use std::alloc::Global;
@@ -20,6 +19,7 @@ use std::marker::Brand;
 use std::sync::Wait;
 use std::sync::ledger::{Blank, Ledger};
 use std::thread::Threads;
+use thread_scripts::parts_of;
 
 /// Carries a script out on threads, which pass the gate before each step of a stage: the cluster, and the turns that led there.
 /// They are a whole list of lawful turns of the script, in whatever order the threads made them, and the history is what they make

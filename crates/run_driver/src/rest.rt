@@ -7,11 +7,11 @@ use cluster_core::Cluster;
 use line_shares::ActorShare;
 use run_board::{Advance, Board};
 use run_turns::Turn;
-use stage_steps::{StageStep, Steps};
 use stamp_base::{NoMemory, NodeNo, SessionNo, Setup, Stage, Term};
 use std::sync::Wait;
 use std::sync::ledger::Ledger;
 use std::thread;
+use thread_steps::{StageStep, Steps};
 
 /// What the board gives once nothing is left.
 pub fn finish<L: Ledger, R: Wait>(

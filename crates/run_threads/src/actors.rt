@@ -1,20 +1,30 @@
 // What the thread of an actor does.
 ghost use Rattle.std.specs.Prelude.{◌≡◌, length};
 ghost use Rattle.reply_pipeline.specs.Seats.{IsSenderPass};
-ghost use Rattle.actor_steps.specs.Going.{GoesOn};
+ghost use Rattle.thread_steps.specs.Going.{GoesOn};
 
 use crate::lines::LinesLeft;
 use crate::shared::Shared;
 use crate::waking::wake_for;
-use actor_steps::{ActorStep, ActorSteps};
 use history_book::Actor;
 use line_shares::ActorShare;
-use reply_pipeline::{Gate, send_ticket};
+use reply_pipeline::{Gate, offer_ticket, send_ticket};
 use stage_queues::{StagePass, Ticket, Waiter};
-use stage_steps::Steps;
 use stamp_base::{NodeNo, Term};
 use std::sync::Wait;
 use std::sync::ledger::Ledger;
+use std::thread;
+use thread_steps::{ActorStep, ActorSteps, Steps};
+
+/// So often a ticket is offered to a full queue before the board is asked again.
+const OFFERS: u64 = 64;
+
+/// A ticket for which the queue of the node had no room.
+#[derive(Clone, Copy)]
+struct Unsent {
+    node: NodeNo,
+    ticket: Ticket,
+}
 
 /// Makes the events of the actor's lines until none is left, memory is refused, or it would wait and the queues are closed.
 pub fn act<L: Ledger, R: Wait, B: Steps + ActorSteps<L> + Sync, G: Gate>(
@@ -30,11 +40,13 @@ pub fn act<L: Ledger, R: Wait, B: Steps + ActorSteps<L> + Sync, G: Gate>(
     let mut mine = mine;
     let mut pass = pass;
     let mut left = LinesLeft::after(mine.actor(), shared.lines, mine.done());
+    let mut unsent = None;
     for _ in rt.forever() {
-        if !turn(rt, shared, &mut left, &mut mine, &mut pass) {
+        if !turn(rt, shared, &mut left, &mut mine, &mut pass, &mut unsent) {
             break;
         }
     }
+    send_last(rt, shared, &mut pass, unsent);
     mine
 }
 
@@ -45,6 +57,7 @@ fn turn<L: Ledger, R: Wait, B: Steps + ActorSteps<L> + Sync, G: Gate>(
     left: &mut LinesLeft<'_>,
     mine: &mut ActorShare<L>,
     pass: &mut StagePass,
+    unsent: &mut Option<Unsent>,
 ) -> bool
     requires pass { IsSenderPass shared.now.queues.now pass.old }
     requires nodes { length shared.now.queues.now.nodes ≡ shared.now.setup.nodes }
@@ -56,10 +69,12 @@ fn turn<L: Ledger, R: Wait, B: Steps + ActorSteps<L> + Sync, G: Gate>(
     wake_others(shared, left, mine.done() - before);
     match step {
         ActorStep::Did { asked } => {
-            tell_asked(rt, shared, mine.actor(), asked, pass);
+            // A session asks again only once its last request has ended, so a ticket of that one is let go.
+            *unsent = asked_ticket(mine.actor(), asked).or(*unsent);
+            offer(rt, shared, pass, unsent);
             true
         }
-        ActorStep::Waits => wait(rt, shared, mine.actor()),
+        ActorStep::Waits => wait(rt, shared, mine.actor(), pass, unsent),
         ActorStep::Ended => false,
         ActorStep::NoMemory => {
             shared.give_up();
@@ -81,35 +96,97 @@ fn wake_others<B: Steps + Sync, G: Gate>(
     }
 }
 
-// Sends a ticket where the event was an ask. Where the queues are closed it is not sent, and nobody serves the request here.
-fn tell_asked<R: Wait, B: Steps + Sync, G: Gate>(
+// The ticket of an ask.
+fn asked_ticket(actor: Actor, asked: Option<(NodeNo, Term)>) -> Option<Unsent> {
+    match (asked, actor) {
+        (Some((node, term)), Actor::Session(session)) => {
+            Some(Unsent {
+                node,
+                ticket: Ticket { session, term },
+            })
+        }
+        _ => None,
+    }
+}
+
+// Sends the ticket if the queue of its node has room.
+fn offer<R: Wait, B: Steps + Sync, G: Gate>(
     rt: &R,
     shared: &Shared<'_, B, G>,
-    actor: Actor,
-    asked: Option<(NodeNo, Term)>,
     pass: &mut StagePass,
+    unsent: &mut Option<Unsent>,
 )
     requires pass { IsSenderPass shared.now.queues.now pass.old }
     requires nodes { length shared.now.queues.now.nodes ≡ shared.now.setup.nodes }
     ensures { IsSenderPass shared.now.queues.now pass.new }
 {
-    if let (Some((node, term)), Actor::Session(session)) = (asked, actor) {
+    if let Some(Unsent { node, ticket }) = *unsent {
         // No clause of the board says that the node is one of the setup.
-        if node.value() < shared.setup.nodes {
-            let _unsent = send_ticket(rt, node, shared.queues, pass, Ticket { session, term });
+        if node.value() >= shared.setup.nodes
+            || offer_ticket(rt, node, shared.queues, pass, ticket).is_ok()
+        {
+            *unsent = None;
         }
     }
 }
 
-// Waits until the actor is woken. A wake since its last step ends the wait at once. False where the queues are closed.
+// Sends the ticket of an actor with no line left, however long the queue is full. Where the queues are closed it is not sent, and
+// nobody serves the request here.
+fn send_last<R: Wait, B: Steps + Sync, G: Gate>(
+    rt: &R,
+    shared: &Shared<'_, B, G>,
+    pass: &mut StagePass,
+    unsent: Option<Unsent>,
+)
+    requires pass { IsSenderPass shared.now.queues.now pass.old }
+    requires nodes { length shared.now.queues.now.nodes ≡ shared.now.setup.nodes }
+{
+    if let Some(Unsent { node, ticket }) = unsent {
+        if node.value() < shared.setup.nodes {
+            let _unsent = send_ticket(rt, node, shared.queues, pass, ticket);
+        }
+    }
+}
+
+// Waits until the actor is woken, or, with a ticket that is not sent, for a while, since nobody wakes who waits for room. A wake since
+// the actor's last step ends the wait at once. False where the queues are closed.
 fn wait<R: Wait, B: Steps + Sync, G: Gate>(
     rt: &R,
     shared: &Shared<'_, B, G>,
     actor: Actor,
-) -> bool {
+    pass: &mut StagePass,
+    unsent: &mut Option<Unsent>,
+) -> bool
+    requires pass { IsSenderPass shared.now.queues.now pass.old }
+    requires nodes { length shared.now.queues.now.nodes ≡ shared.now.setup.nodes }
+    ensures { IsSenderPass shared.now.queues.now pass.new }
+{
     if shared.queues.closed() {
         return false;
     }
-    shared.queues.wait(rt, Waiter::Actor(actor));
+    offer_for_a_while(rt, shared, pass, unsent);
+    if unsent.is_none() {
+        shared.queues.wait(rt, Waiter::Actor(actor));
+    }
     true
+}
+
+// Offers the ticket again and again, and then lets the board be asked whether its request is still there.
+fn offer_for_a_while<R: Wait, B: Steps + Sync, G: Gate>(
+    rt: &R,
+    shared: &Shared<'_, B, G>,
+    pass: &mut StagePass,
+    unsent: &mut Option<Unsent>,
+)
+    requires pass { IsSenderPass shared.now.queues.now pass.old }
+    requires nodes { length shared.now.queues.now.nodes ≡ shared.now.setup.nodes }
+    ensures { IsSenderPass shared.now.queues.now pass.new }
+{
+    for _ in 0..OFFERS {
+        if unsent.is_none() {
+            return;
+        }
+        thread::yield_now();
+        offer(rt, shared, pass, unsent);
+    }
 }

@@ -2,18 +2,16 @@ ghost use Rattle.std.specs.Prelude.{◌≡◌, ◌≤◌, ◌<◌, ◌^◌, All,
 ghost use Rattle.std.specs.List.{AllZip};
 ghost use Rattle.std.specs.Vec.{vec_capacity};
 ghost use Rattle.reply_pipeline.specs.Seats.{AreReady, IsSenderPass};
-ghost use Rattle.actor_steps.specs.Going.{GoesOn};
+ghost use Rattle.thread_steps.specs.Going.{GoesOn};
 
 use crate::crew::Crew;
 use crate::sending::{join_all, send_all};
 use crate::shared::Shared;
 use crate::stages::start_stages;
-use actor_steps::ActorSteps;
 use line_shares::ActorShare;
 use reply_pipeline::Gate;
 use script_data::Line;
 use stage_queues::StagePass;
-use stage_steps::Steps;
 use stamp_base::{NoMemory, Setup};
 use std::alloc::Global;
 use std::sync::Wait;
@@ -21,6 +19,7 @@ use std::sync::atomic::{AtomicBool, Ordering};
 use std::sync::ledger::Ledger;
 use std::thread;
 use std::thread::Threads;
+use thread_steps::{ActorSteps, Steps};
 
 /// Carries the lines out at the board: the actor of each share and every stage of each node on a thread of its own. It ends once all
 /// of them have, and gives back the shares, in their order. Where a thread cannot be made, actors that would wait end before their

@@ -3,20 +3,19 @@ ghost use Rattle.std.specs.Prelude.{◌≡◌, ◌≤◌, All, length, vec_len};
 ghost use Rattle.std.specs.List.{AllZip};
 ghost use Rattle.std.specs.Vec.{vec_capacity};
 ghost use Rattle.reply_pipeline.specs.Seats.{IsSenderPass};
-ghost use Rattle.actor_steps.specs.Going.{GoesOn};
+ghost use Rattle.thread_steps.specs.Going.{GoesOn};
 
 use crate::actors::act;
 use crate::before::Before;
 use crate::sent::Sent;
 use crate::shared::Shared;
-use actor_steps::ActorSteps;
 use line_shares::ActorShare;
 use reply_pipeline::Gate;
 use stage_queues::StagePass;
-use stage_steps::Steps;
 use std::sync::Wait;
 use std::sync::ledger::Ledger;
 use std::thread::{Scope, Threads};
+use thread_steps::{ActorSteps, Steps};
 
 /// Starts the thread of each actor.
 pub fn send_all<

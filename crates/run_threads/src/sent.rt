@@ -1,5 +1,5 @@
 ghost use Rattle.std.specs.Prelude.{◌≡◌};
-ghost use Rattle.actor_steps.specs.Going.{GoesOn};
+ghost use Rattle.thread_steps.specs.Going.{GoesOn};
 ghost use Rattle.run_threads.specs.Sending.{done_of};
 
 use crate::before::Before;
@@ -10,7 +10,7 @@ use std::thread::{Promise, PromisedHandle, Threads};
 
 // An actor's thread gives back the share that it was given, with a count that did not fall.
 impl<L: Ledger> Promise<ActorShare<L>> for Before {
-    ghost use Rattle.actor_steps.specs.Going.{GoesOn};
+    ghost use Rattle.thread_steps.specs.Going.{GoesOn};
     ghost use Rattle.run_threads.specs.Sending.{done_of};
 
     ghost kept_by = { λ before mine. GoesOn (done_of before) mine };
@@ -27,7 +27,7 @@ pub struct Sent<L: Ledger> {
 impl<L: Ledger> Model for Sent<L> {
     ghost use Rattle.std.specs.Prelude.{◌≡◌, MatchResult};
     ghost use Rattle.line_shares.specs.Done.{Done};
-    ghost use Rattle.actor_steps.specs.Going.{GoesOn};
+    ghost use Rattle.thread_steps.specs.Going.{GoesOn};
     ghost use Rattle.run_threads.specs.Sending.{done_of};
 
     ghost Value = { Done };

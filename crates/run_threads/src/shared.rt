@@ -1,9 +1,9 @@
 use reply_pipeline::Gate;
 use script_data::Line;
 use stage_queues::Queues;
-use stage_steps::Steps;
 use stamp_base::Setup;
 use std::sync::atomic::{AtomicBool, Ordering};
+use thread_steps::Steps;
 
 /// What all threads share.
 #[derive(Drop)]

@@ -5,11 +5,11 @@ ghost use Rattle.reply_pipeline.specs.Seats.{AreReady, IsReadyFor, stage_at};
 use crate::shared::Shared;
 use reply_pipeline::{Gate, StageEnd, persist_worker, reply_stage, request_stage};
 use stage_queues::StagePass;
-use stage_steps::Steps;
 use stamp_base::{NodeNo, Stage};
 use std::alloc::Global;
 use std::sync::Wait;
 use std::thread::{Scope, Threads};
+use thread_steps::Steps;
 
 /// Starts every stage of every node. Where no thread can be made the queues are closed, so that nobody waits for this stage for ever.
 pub fn start_stages<'s, E: 's, R: Threads + Wait + Sync + 's, B: Steps + Sync + 's, G: Gate + 's>(

@@ -6,8 +6,8 @@ use Rattle.machine.specs.declared.event.Event.{Event}
 use Rattle.run_turns.specs.declared.turn.Turn.{Turn}
 use Rattle.run_turns.specs.declared.turn.Turn.TheVariants as turn
 use Rattle.run_turns.specs.Carried.{event_of}
-use Rattle.stage_steps.specs.declared.step.StageStep.{StageStep}
-use Rattle.stage_steps.specs.declared.step.StageStep.TheVariants as step
+use Rattle.thread_steps.specs.declared.stages.StageStep.{StageStep}
+use Rattle.thread_steps.specs.declared.stages.StageStep.TheVariants as step
 use Rattle.script_run.specs.declared.answers.Advance.TheVariants as advance
 use Rattle.script_run.specs.Run.{Ran, reached_by, with_turn}
 use Rattle.script_run.specs.Making.{TurnsBy}

@@ -15,8 +15,8 @@ use Rattle.run_turns.specs.declared.turn.Turn.TheVariants as turn
 use Rattle.run_turns.specs.Carried.{event_of}
 use Rattle.run_turns.specs.Lawful.{IsTold}
 use Rattle.script_run.specs.Making.{step_in, TurnsBy, MakesTurn, Makes}
-use Rattle.stage_steps.specs.declared.step.StageStep.{StageStep}
-use Rattle.stage_steps.specs.declared.step.StageStep.TheVariants as step
+use Rattle.thread_steps.specs.declared.stages.StageStep.{StageStep}
+use Rattle.thread_steps.specs.declared.stages.StageStep.TheVariants as step
 use Rattle.script_run.specs.Run.{Ran, reached_by}
 use Rattle.script_run.specs.Steps.{state_of, asked_of, node_asked, drawn_in, did, done_by, told_by, TellsTurn, ServesBy, IsServable, ServesOnce, Serves, IsStageHeld, MakesOwn}
 use Rattle.script_run.proofs.Since.{items_of, has_grown}

@@ -3,7 +3,7 @@ use Rattle.std.specs.Prelude.{◌≡◌, ℕ, ◌≤◌}
 use Rattle.stamp_base.specs.declared.stage.Stage.{Stage}
 use Rattle.history_book.specs.declared.item.Actor.{Actor}
 use Rattle.run_turns.specs.Carried.{AreWhole}
-use Rattle.stage_steps.specs.declared.step.StageStep.{StageStep}
+use Rattle.thread_steps.specs.declared.stages.StageStep.{StageStep}
 use Rattle.script_run.specs.declared.answers.Advance.{Advance}
 use Rattle.script_run.specs.Run.{Ran}
 use Rattle.script_run.specs.Steps.{place_of, HasEnded, Advances, Serves}

@@ -1,3 +1,4 @@
+pub mod Names
 pub mod Seating
 pub mod Run
 pub mod Making

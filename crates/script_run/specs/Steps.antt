@@ -14,11 +14,11 @@ use Rattle.run_turns.specs.declared.turn.Turn.TheVariants as turn
 use Rattle.run_turns.specs.Seats.{lines_of}
 use Rattle.run_turns.specs.Carried.{seat_of, own_ahead, event_of, is_held, holds_at}
 use Rattle.run_turns.specs.Lawful.{IsLawful, IsInPlace, stage_of, session_view, stage_turn}
-pub use Rattle.script_actors.specs.Places.{place_in}
+pub use Rattle.thread_scripts.specs.Places.{place_in}
 use Rattle.script_run.specs.declared.answers.Advance.{Advance}
 use Rattle.script_run.specs.declared.answers.Advance.TheVariants as advance
-use Rattle.stage_steps.specs.declared.step.StageStep.{StageStep}
-use Rattle.stage_steps.specs.declared.step.StageStep.TheVariants as step
+use Rattle.thread_steps.specs.declared.stages.StageStep.{StageStep}
+use Rattle.thread_steps.specs.declared.stages.StageStep.TheVariants as step
 use Rattle.script_run.specs.Run.{Ran, reached_by, with_turn}
 use Rattle.script_run.specs.Making.{step_in, MakesTurn}
 

@@ -1,14 +1,16 @@
 // Making one event of a script run.
-ghost use Rattle.std.specs.Prelude.{◌≡◌, ℕ, ◌<◌, ◌≤◌, ◌==◌, OnOk, Some, drop, length, vec_len};
+ghost use Rattle.std.specs.Prelude.{◌≡◌, ℕ, ◌<◌, ◌≤◌, ◌==◌, IfOk, IfSome, OnOk, Some, false, drop, length, option_map, vec_len};
 ghost use Rattle.std.specs.List.{list_any};
 ghost use Rattle.std.specs.Vec.{vec_capacity};
-ghost use Rattle.run_turns.specs.Carried.{event_of};
+ghost use Rattle.run_turns.specs.Carried.{event_of, is_posted, names_after};
 ghost use Rattle.run_turns.specs.Lawful.{IsFree, IsInPlace, stage_of};
+ghost use Rattle.script_run.specs.Names.{with_name};
 ghost use Rattle.script_run.specs.Run.{reached_by};
 ghost use Rattle.script_run.specs.Making.{Makes, halted, is_told, finds_no_stamp, with_node, lacking_after};
 
 use crate::ScriptRun;
-use crate::marks::{note_name, note_stage};
+use crate::marks::note_stage;
+use crate::names::PostedNames;
 use crate::seated::{go_on, pass_all};
 use history_book::Item;
 use line_runs::{Halt, refused};
@@ -17,7 +19,7 @@ use planned_cluster::Stopped;
 use run_turns::{
     Turn, own_turns_are_told, quiet_turns_change_nothing, stage_turns_are_told, was_asked,
 };
-use stamp_base::{Name, NoMemory, NodeNo};
+use stamp_base::{NoMemory, NodeNo};
 
 impl ScriptRun {
     /// Makes the event of a turn that may be made. A turn whose event appends nothing is not told, and leaves all as it was.
@@ -30,9 +32,9 @@ impl ScriptRun {
         own_turns_are_told();
         stage_turns_are_told();
         quiet_turns_change_nothing();
-        if reserve(&mut self.turns, &mut self.names, &mut self.lacking).is_err() {
+        let Ok(name) = make_room(&mut self.turns, &mut self.names, &mut self.lacking, event) else {
             return Err(Stopped::NoMemory);
-        }
+        };
         let before = self.planned.cluster.history().len();
         let answer = self.planned.make(event);
         let Some(halt) = halted(&answer) else {
@@ -44,7 +46,7 @@ impl ScriptRun {
             return answer;
         }
         let asked = was_asked(items);
-        note_name(&mut self.names, event);
+        self.names.add(name);
         note_stage(&mut self.held, event);
         go_on(&mut self.seated, &turn, halt, asked);
         pass_all(
@@ -59,22 +61,24 @@ impl ScriptRun {
     }
 }
 
-/// Room for one turn, one name and one node.
-fn reserve(
+/// Room for one turn, one node, and the name that the event posts, which is given.
+fn make_room(
     turns: &mut Vec<Turn>,
-    names: &mut Vec<Name>,
+    names: &mut PostedNames,
     lacking: &mut Vec<NodeNo>,
-) -> Result<(), NoMemory>
+    event: &Event,
+) -> Result<Option<Vec<u8>>, NoMemory>
     ensures turns { turns.new.items ≡ turns.old.items }
-    ensures names { names.new.items ≡ names.old.items }
+    ensures names { names.new.names ≡ names.old.names }
     ensures lacking { lacking.new.items ≡ lacking.old.items }
     ensures room { OnOk result ((vec_len turns.new < vec_capacity turns.new)
-        × (vec_len names.new < vec_capacity names.new) × (vec_len lacking.new < vec_capacity lacking.new)) }
+        × (0 < names.new.room) × (vec_len lacking.new < vec_capacity lacking.new)) }
+    ensures name { IfOk result (λ name. with_name names.old.names (option_map (λ n. n.items) name) ≡ names_after names.old.names event.now) }
+    ensures absent { IfOk result (λ name. IfSome name (λ n. is_posted names.new.names n.items ≡ false)) }
 {
     turns.reserve(1)?;
-    names.reserve(1)?;
     lacking.reserve(1)?;
-    Ok(())
+    names.make_room(event)
 }
 
 /// The items of a history from this place on.

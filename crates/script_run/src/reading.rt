@@ -12,7 +12,7 @@ ghost use Rattle.script_run.specs.Steps.{HasEnded, IsStageHeld, state_of, place_
 
 use crate::ScriptRun;
 use crate::making::is_lacking;
-use crate::marks::{holds_at, is_posted};
+use crate::marks::holds_at;
 use crate::seated::seated_of;
 use history_book::Actor;
 use machine::Event;
@@ -66,7 +66,7 @@ impl ScriptRun {
         ensures { result ≡ name_posted (reached_by self.now).names verb.now }
     {
         match verb {
-            Verb::Await { name } => is_posted(self.names.as_slice(), name),
+            Verb::Await { name } => self.names.contains(name),
             _ => true,
         }
     }

@@ -8,13 +8,14 @@ ghost use Rattle.run_turns.specs.Lawful.{AreLawful};
 ghost use Rattle.run_turns.specs.Told.{AreForThreads};
 ghost use Rattle.script_run.specs.Run.{reached_by};
 
+use crate::names::PostedNames;
 use crate::seated::{Seated, all_seated, pass_all, see_sessions};
 use history_book::Item;
 use planned_cluster::{Cluster, PlannedCluster};
 use port_io::{PlannedWeather, Weather};
 use run_turns::{Holds, Turn};
 use session_script::Script;
-use stamp_base::{Name, NoMemory, NodeNo};
+use stamp_base::{NoMemory, NodeNo};
 use std::alloc::Global;
 use std::marker::Model;
 
@@ -23,7 +24,7 @@ use std::marker::Model;
 pub struct ScriptRun {
     pub(crate) script: Script,
     pub(crate) planned: PlannedCluster,
-    pub(crate) names: Vec<Name>,
+    pub(crate) names: PostedNames,
     pub(crate) held: Vec<Holds>,
     pub(crate) seated: Vec<Seated>,
     // The nodes whose last decision found no stamp, where nothing else was made since.
@@ -43,7 +44,7 @@ impl Model for ScriptRun {
 
     ghost invariant = { λ r.
         StandsAt (data_of r.script) (carried (data_of r.script) r.turns.items).played r.planned.cluster r.planned.clock (⟦<PlannedWeather as Weather>⟧.ahead r.planned.weather)
-        × SitsAt (data_of r.script) (carried (data_of r.script) r.turns.items) r.names.items r.held.items r.seated.items
+        × SitsAt (data_of r.script) (carried (data_of r.script) r.turns.items) r.names.names r.held.items r.seated.items
         × IsCarriedOut (data_of r.script) r.turns.items r.lacking.items };
 }
 
@@ -64,7 +65,7 @@ impl ScriptRun {
         Ok(ScriptRun {
             script,
             planned,
-            names: Vec::new(alloc),
+            names: PostedNames::new(alloc),
             held,
             seated,
             lacking: Vec::new(alloc),

@@ -12,8 +12,8 @@ use history_book::{Actor, Item};
 use machine::Event;
 use planned_cluster::Stopped;
 use run_turns::{Ahead, Turn, own_turns_are_told};
-use stage_steps::StageStep;
 use stamp_base::{NodeNo, SessionNo, Stage, Stamp, Term};
+use thread_steps::StageStep;
 
 impl ScriptRun {
     /// Makes the next event of the actor's present line, unless it waits or no line is left.

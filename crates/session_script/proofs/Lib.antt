@@ -1,4 +1,4 @@
 mod LineLemmas
-mod NameLemmas
+pub mod NameLemmas
 mod SettingLemmas
 mod SoundLemmas

@@ -1,2 +1,9 @@
 mod Verbs
 mod Reading
+pub mod Places
+pub mod Covered
+pub mod Behind
+pub mod AllEnded
+mod Adding
+mod ListEnd
+mod Deciding

@@ -81,60 +81,6 @@ fn is_served(made: &[Made], node: NodeNo, session: SessionNo) -> bool {
         && steps.next().is_none()
 }
 
-#[test]
-fn a_ticket_is_served(rt: HostRuntime) -> Result<(), Fail> {
-    let board = Fake::open(rt.alloc(), None)?;
-    let Crew {
-        queues,
-        mut stages,
-        mut session,
-    } = opened(rt.alloc())?;
-    let sent = send_ticket(
-        &rt,
-        NodeNo::FIRST,
-        &queues,
-        &mut session,
-        ticket_of(SessionNo::FIRST),
-    );
-    assert!(rt; sent.is_ok());
-    let ended = serve_beside(&rt, rt.alloc(), &board, &queues, &mut stages, &OpenGate, 4);
-    assert_eq!(rt; ended, 8);
-    assert!(rt; is_served(&board.into_made(), NodeNo::FIRST, SessionNo::FIRST));
-    assert_eq!(rt; at_home(&rt, NodeNo::FIRST, &queues, &mut session), BUFFERS);
-    Ok(())
-}
-
-// The reply stage is refused memory and closes the queues, so every other stage ends as well.
-#[test]
-fn want_of_memory_ends_all(rt: HostRuntime) -> Result<(), Fail> {
-    let board = Fake::open(rt.alloc(), Some((Stage::Reply, StageStep::NoMemory)))?;
-    let Crew {
-        queues,
-        mut stages,
-        mut session,
-    } = opened(rt.alloc())?;
-    let sent = send_ticket(
-        &rt,
-        NodeNo::FIRST,
-        &queues,
-        &mut session,
-        ticket_of(SessionNo::FIRST),
-    );
-    assert!(rt; sent.is_ok());
-    let ended = serve_beside(
-        &rt,
-        rt.alloc(),
-        &board,
-        &queues,
-        &mut stages,
-        &OpenGate,
-        100,
-    );
-    assert_eq!(rt; (ended, board.count(&rt)), (7, 3));
-    assert_eq!(rt; at_home(&rt, NodeNo::FIRST, &queues, &mut session), BUFFERS);
-    Ok(())
-}
-
 /// Lets the first node's persist workers and the other node's reply stage pass once both have come.
 #[derive(Drop)]
 struct Meeting {

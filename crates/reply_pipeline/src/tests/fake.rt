@@ -17,6 +17,7 @@ pub struct Made {
 pub struct Fake {
     made: Mutex<Vec<Made>>,
     instead: Option<(Stage, StageStep)>,
+    held: Option<SessionNo>,
 }
 
 impl Fake {
@@ -25,7 +26,16 @@ impl Fake {
         Ok(Fake {
             made: Mutex::new(Vec::with_capacity(alloc, 16)?),
             instead,
+            held: None,
         })
+    }
+
+    /// The same, with every stage held for this session.
+    pub fn holding(self, session: SessionNo) -> Fake {
+        Fake {
+            held: Some(session),
+            ..self
+        }
     }
 
     /// How many steps were made.
@@ -38,8 +48,9 @@ impl Fake {
         self.made.into_inner()
     }
 
-    fn answer(&self, stage: Stage, before: usize) -> StageStep {
+    fn answer(&self, stage: Stage, session: SessionNo, before: usize) -> StageStep {
         match self.instead {
+            _ if self.held == Some(session) => StageStep::Held,
             Some((at, answer)) if at == stage => answer,
             _ => next_step(stage, before),
         }
@@ -57,7 +68,7 @@ impl Steps for Fake {
     ) -> StageStep {
         let mut made = self.made.lock(rt);
         let before = steps_of(&made, session);
-        let answer = self.answer(stage, before);
+        let answer = self.answer(stage, session, before);
         if is_made(&answer)
             && made
                 .push(Made {

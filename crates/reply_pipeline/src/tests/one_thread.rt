@@ -43,21 +43,6 @@ fn are_steps(made: &[Made], stages: &[Stage]) -> bool {
 }
 
 #[test]
-fn closed_stages_end(rt: HostRuntime) -> Result<(), Fail> {
-    let board = Fake::open(rt.alloc(), None)?;
-    let Crew {
-        queues,
-        mut stages,
-        mut session,
-    } = opened(rt.alloc())?;
-    queues.close();
-    let ended = serve_by_turn(&rt, rt.alloc(), &board, &queues, &mut stages);
-    assert_eq!(rt; (ended, board.count(&rt)), (8, 0));
-    assert_eq!(rt; at_home(&rt, NodeNo::FIRST, &queues, &mut session), BUFFERS);
-    Ok(())
-}
-
-#[test]
 fn a_stale_ticket_is_passed_over(rt: HostRuntime) -> Result<(), Fail> {
     let board = Fake::open(rt.alloc(), None)?;
     let Crew {
@@ -84,27 +69,23 @@ fn a_stale_ticket_is_passed_over(rt: HostRuntime) -> Result<(), Fail> {
     Ok(())
 }
 
-// The worker that takes the batch is held, so the reply stage gets nothing.
+// The request stage is held for the second ticket. What was drawn before is sent and answered, and the ticket is left.
 #[test]
-fn a_held_batch_is_given_back(rt: HostRuntime) -> Result<(), Fail> {
-    let board = Fake::open(rt.alloc(), Some((Stage::Persist, StageStep::Held)))?;
+fn what_is_drawn_does_not_wait_for_a_held_stage(rt: HostRuntime) -> Result<(), Fail> {
+    let board = Fake::open(rt.alloc(), None)?.holding(SessionNo::LAST);
     let Crew {
         queues,
         mut stages,
         mut session,
     } = opened(rt.alloc())?;
-    let sent = send_ticket(
-        &rt,
-        NodeNo::FIRST,
-        &queues,
-        &mut session,
-        ticket_of(SessionNo::FIRST),
-    );
-    assert!(rt; sent.is_ok());
+    for waits in [SessionNo::FIRST, SessionNo::LAST] {
+        let sent = send_ticket(&rt, NodeNo::FIRST, &queues, &mut session, ticket_of(waits));
+        assert!(rt; sent.is_ok());
+    }
     queues.close();
     let ended = serve_by_turn(&rt, rt.alloc(), &board, &queues, &mut stages);
     assert_eq!(rt; ended, 8);
-    let steps = [Stage::Request, Stage::Request];
+    let steps = [Stage::Request, Stage::Request, Stage::Persist, Stage::Reply];
     assert!(rt; are_steps(&board.into_made(), &steps));
     assert_eq!(rt; at_home(&rt, NodeNo::FIRST, &queues, &mut session), BUFFERS);
     Ok(())

@@ -1,4 +1,4 @@
-use Rattle.actor_steps.specs.Going.{GoesOn}
+use Rattle.thread_steps.specs.Going.{GoesOn}
 use Rattle.reply_pipeline.specs.Seats.{IsSenderPass}
 use Rattle.run_threads.proofs.actors.act.Given as goal
 

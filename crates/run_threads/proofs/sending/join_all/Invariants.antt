@@ -2,7 +2,7 @@ use Rattle.std.proofs.Common.{◌≤◌}
 use Rattle.std.specs.Prelude.{vec_len}
 use Rattle.std.specs.List.{AllZip}
 use Rattle.std.specs.Vec.{vec_capacity}
-use Rattle.actor_steps.specs.Going.{GoesOn}
+use Rattle.thread_steps.specs.Going.{GoesOn}
 use Rattle.run_threads.proofs.sending.join_all.Given as goal
 
 abbrev pub invariant-loop-one : goal.invariant-loop-one

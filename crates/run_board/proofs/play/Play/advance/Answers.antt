@@ -1,6 +1,6 @@
 use Rattle.std.proofs.Common.{List, sym, ap, ◌∙◌, subst}
 use Rattle.line_shares.specs.declared.cursor.Cursor.{Cursor}
-use Rattle.script_actors.proofs.Behind.{can_come_up}
+use Rattle.thread_scripts.proofs.Behind.{can_come_up}
 use Rattle.script_run.specs.Steps.{place_of}
 use Rattle.run_board.specs.Playing.{IsKept}
 use Rattle.run_board.proofs.Kept.{kept_further, place_is_small, kept_up}

@@ -1,6 +1,6 @@
 use Rattle.std.proofs.Common.{subst}
 use Rattle.run_turns.specs.Laws.{IsPlannedSoFar}
-use Rattle.script_actors.specs.Actors.{AreBehind}
+use Rattle.thread_scripts.specs.Actors.{AreBehind}
 use Rattle.script_run.specs.Run.{reached_by}
 use Rattle.script_run.specs.Steps.{place_of}
 use Rattle.run_board.specs.Playing.{Played}

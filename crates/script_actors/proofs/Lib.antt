@@ -1,6 +1,0 @@
-pub mod Places
-pub mod Covered
-pub mod Behind
-pub mod AllEnded
-mod Adding
-mod ListEnd
