@@ -1,8 +1,9 @@
 -- Words: a number that is printed is the only one that its text is read as, and words name one command at most.
-use Rattle.std.proofs.Common.{◌≡◌, ℕ, List, [], ◌∷◌, Result, Ok, Err, codes, decimal, arith, refl, sym, ap, ◌∙◌, subst}
-use Rattle.std.specs.Str.Parse.{ParsesUnsigned}
-use Rattle.std.proofs.lemmas.Fmt.{parse-decimal, decimal_injective}
+use Rattle.std.proofs.Common.{◌≡◌, ℕ, List, [], ◌∷◌, Result, Ok, Err, if◌then◌else◌, codes, decimal, arith, refl, sym, ap, ◌∙◌, subst}
+use Rattle.std.specs.Str.Parse.{ParsesUnsigned, digits_value}
+use Rattle.std.proofs.lemmas.Fmt.{parse-decimal, decimal_injective, decimal_is_IsNumeral}
 use Rattle.stamp_base.specs.Ranges.{IsWithin}
+use Rattle.history_reading.specs.ReadWords.{is_word}
 use Rattle.omid_top.specs.declared.words.Command.{Command}
 use Rattle.omid_top.specs.declared.words.Command.TheVariants as command
 use Rattle.omid_top.specs.Texts.{IsStorm, Names}
@@ -27,44 +28,30 @@ number_of m n first same = cc
 pub one_storm : (m n : ℕ) (words : List (List ℕ)) → IsStorm m words → IsStorm n words → m ≡ n
 one_storm m n words one other = decimal_injective m n (omega (arith, one.within.1)) (omega (arith, other.within.1)) (number_of m n (codes "storm") (sym one.named ∙ other.named))
 
+-- the command that words name, where they name one: of one word, of two, and of a storm by its number
+one_word : List ℕ → Command
+one_word word = if is_word (codes "run") word then command.Run else if is_word (codes "audit") word then command.Audit else command.Replay
+
+two_words : List ℕ → List ℕ → Command
+two_words word second = if is_word (codes "storm") word then command.Storm (digits_value 10 second) else if is_word (codes "summary") second then command.ReplaySummary else command.ReplayJson
+
+named : List (List ℕ) → Command
+named (word ∷ []) = one_word word
+named (word ∷ second ∷ words) = two_words word second
+named [] = command.Replay
+
+is_named : (one : Command) (words : List (List ℕ)) → Names one words → one ≡ named words
+unfolding named one_word two_words
+is_named command.Replay words it = sym (ap named it)
+is_named command.ReplaySummary words it = sym (ap named it)
+is_named command.ReplayJson words it = sym (ap named it)
+is_named command.Run words it = sym (ap named it)
+is_named command.Audit words it = sym (ap named it)
+is_named (command.Storm n) words it = ap command.Storm (sym (decimal_is_IsNumeral n (omega (arith, it.within.1))).1) ∙ sym (ap named it.named)
+
 -- words name one command at most
 pub one_command : (one other : Command) (words : List (List ℕ)) → Names one words → Names other words → one ≡ other
-one_command command.Replay command.Replay words one other = refl
-one_command command.Replay command.ReplaySummary words one other = cc
-one_command command.Replay command.ReplayJson words one other = cc
-one_command command.Replay command.Run words one other = cc
-one_command command.Replay command.Audit words one other = cc
-one_command command.Replay (command.Storm n) words one other = let named : words ≡ _ = other.named in cc
-one_command command.ReplaySummary command.Replay words one other = cc
-one_command command.ReplaySummary command.ReplaySummary words one other = refl
-one_command command.ReplaySummary command.ReplayJson words one other = cc
-one_command command.ReplaySummary command.Run words one other = cc
-one_command command.ReplaySummary command.Audit words one other = cc
-one_command command.ReplaySummary (command.Storm n) words one other = let named : words ≡ _ = other.named in cc
-one_command command.ReplayJson command.Replay words one other = cc
-one_command command.ReplayJson command.ReplaySummary words one other = cc
-one_command command.ReplayJson command.ReplayJson words one other = refl
-one_command command.ReplayJson command.Run words one other = cc
-one_command command.ReplayJson command.Audit words one other = cc
-one_command command.ReplayJson (command.Storm n) words one other = let named : words ≡ _ = other.named in cc
-one_command command.Run command.Replay words one other = cc
-one_command command.Run command.ReplaySummary words one other = cc
-one_command command.Run command.ReplayJson words one other = cc
-one_command command.Run command.Run words one other = refl
-one_command command.Run command.Audit words one other = cc
-one_command command.Run (command.Storm n) words one other = let named : words ≡ _ = other.named in cc
-one_command command.Audit command.Replay words one other = cc
-one_command command.Audit command.ReplaySummary words one other = cc
-one_command command.Audit command.ReplayJson words one other = cc
-one_command command.Audit command.Run words one other = cc
-one_command command.Audit command.Audit words one other = refl
-one_command command.Audit (command.Storm n) words one other = let named : words ≡ _ = other.named in cc
-one_command (command.Storm m) command.Replay words one other = let named : words ≡ _ = one.named in cc
-one_command (command.Storm m) command.ReplaySummary words one other = let named : words ≡ _ = one.named in cc
-one_command (command.Storm m) command.ReplayJson words one other = let named : words ≡ _ = one.named in cc
-one_command (command.Storm m) command.Run words one other = let named : words ≡ _ = one.named in cc
-one_command (command.Storm m) command.Audit words one other = let named : words ≡ _ = one.named in cc
-one_command (command.Storm m) (command.Storm n) words one other = ap command.Storm (one_storm m n words one other)
+one_command one other words this that = is_named one words this ∙ sym (is_named other words that)
 
 pub names_storm : (one : Command) (transactions : ℕ) (words : List (List ℕ)) → one ≡ command.Storm transactions → Names one words → IsStorm transactions words
 names_storm one transactions words is named = subst (λ (found : Command). Names found words) is named

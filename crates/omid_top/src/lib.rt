@@ -26,8 +26,7 @@ mod words;
 use form::Form;
 use port_io::{Sink, Source};
 pub use process::{program, words_behind};
-pub use progress::ShownProgress;
-pub use replay_driver::{Progress, Silent};
+pub use progress::ShowingGate;
 pub use run_driver::{Gate, GatePlace, OpenGate};
 pub use status::Status;
 use std::alloc::Global;
@@ -55,14 +54,13 @@ use words::Command;
 /// The words are text. A caller that has a word which is none hands in an empty one in its place, as `words_behind` does:
 /// no command has either.
 #[tactic(auto, using(crate::proofs::WordLemmas::one_command, crate::proofs::WordLemmas::one_storm))]
-pub fn omid<R: Threads + Wait + Sync, S: Source, K: Sink, G: Gate, P: Progress>(
+pub fn omid<R: Threads + Wait + Sync, S: Source, K: Sink, G: Gate>(
     rt: &R,
     alloc: Global,
     words: &[String],
     source: &mut S,
     sink: &mut K,
     gate: &G,
-    progress: &P,
 ) -> Status
     // What is done for the words, status by status.
     ensures replay { IsReplay (map string_bytes words.now) →
@@ -93,30 +91,14 @@ pub fn omid<R: Threads + Wait + Sync, S: Source, K: Sink, G: Gate, P: Progress>(
     ensures no_memory { result.code ≡ 6 → (sink.new ≡ sink.old) ⊎ IsReplayJson (map string_bytes words.now) }
 {
     match words::command_of(words) {
-        Some(Command::Replay) => replay::replay_source(
-            alloc,
-            Form::History,
-            source,
-            sink,
-            progress,
-        ),
-        Some(Command::ReplaySummary) => replay::replay_source(
-            alloc,
-            Form::Summary,
-            source,
-            sink,
-            progress,
-        ),
-        Some(Command::ReplayJson) => replay::replay_source(
-            alloc,
-            Form::Json,
-            source,
-            sink,
-            progress,
-        ),
+        Some(Command::Replay) => replay::replay_source(alloc, Form::History, source, sink, gate),
+        Some(Command::ReplaySummary) => {
+            replay::replay_source(alloc, Form::Summary, source, sink, gate)
+        }
+        Some(Command::ReplayJson) => replay::replay_source(alloc, Form::Json, source, sink, gate),
         Some(Command::Run) => run::run_source(rt, alloc, source, sink, gate),
         Some(Command::Audit) => audit::audit_source(alloc, source, sink),
-        Some(Command::Storm(transactions)) => replay::storm(alloc, transactions, sink, progress),
+        Some(Command::Storm(transactions)) => replay::storm(alloc, transactions, sink, gate),
         None => usage::say_usage(sink),
     }
 }

@@ -4,7 +4,7 @@ ghost use Rattle.std.specs.Prelude.{◌≡◌, ◌≢◌, ◌≤◌, ◌⊎◌, 
 ghost use Rattle.std.specs.Str.{IsUtf8};
 ghost use Rattle.omid_top.specs.Texts.{IsAudit, IsKnown};
 
-use crate::{OpenGate, ShownProgress, Status, omid};
+use crate::{ShowingGate, Status, omid};
 use port_io::{Failed, StdSink, StdSource};
 use stamp_base::NoMemory;
 use std::alloc::Global;
@@ -31,7 +31,7 @@ pub fn program<R: Env + Alloc<A = Global> + Threads + Wait + Sync>(
             &words,
             StdSource::new(input),
             StdSink::new(output),
-            &ShownProgress::new(errors),
+            &ShowingGate::new(errors),
         ),
         Err(NoMemory) => Status::NO_MEMORY,
     }
@@ -72,22 +72,14 @@ fn carried_out<R: Alloc<A = Global> + Threads + Wait + Sync>(
     words: &[String],
     mut source: StdSource,
     mut sink: StdSink,
-    progress: &ShownProgress,
+    gate: &ShowingGate,
 ) -> Status
     ensures usage { result.code ≡ 2 → IsKnown (map string_bytes words.now) → ⊥ }
     ensures no_command { (IsKnown (map string_bytes words.now) → ⊥) → (result.code ≡ 2) ⊎ (result.code ≡ 5) }
     ensures judged { result.code ≡ 7 → IsAudit (map string_bytes words.now) }
     ensures codes { (result.code ≤ 7) × (result.code ≢ 1) }
 {
-    let status = omid(
-        rt,
-        rt.alloc(),
-        words,
-        &mut source,
-        &mut sink,
-        &OpenGate,
-        progress,
-    );
+    let status = omid(rt, rt.alloc(), words, &mut source, &mut sink, gate);
     last_status(status, sink.finish())
 }
 

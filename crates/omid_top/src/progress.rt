@@ -1,6 +1,8 @@
-// Showing how far a script is carried out.
+// Showing how far a replay is.
 use replay_driver::Progress;
+use run_driver::{Gate, GatePlace};
 use std::io::{IsTerminal, Stderr};
+use std::sync::Wait;
 
 /// More lines than a script has that is carried out before a line of progress could be read.
 const LONG: usize = 10_000;
@@ -8,16 +10,16 @@ const LONG: usize = 10_000;
 /// How often progress is shown of one script, at most.
 const TIMES: usize = 100;
 
-/// Shows on standard error how far a long script is carried out, where that is a terminal. Nobody hears of what standard
-/// error does not take.
+/// The program's gate: it is always open, and shows on standard error how far the replay of a long script is, where that is a
+/// terminal. Nobody hears of what standard error does not take.
 #[derive(Drop)]
-pub struct ShownProgress {
+pub struct ShowingGate {
     terminal: Option<Stderr>,
 }
 
-impl ShownProgress {
-    pub fn new(errors: Stderr) -> ShownProgress {
-        ShownProgress {
+impl ShowingGate {
+    pub fn new(errors: Stderr) -> ShowingGate {
+        ShowingGate {
             terminal: if errors.is_terminal() {
                 Some(errors)
             } else {
@@ -27,13 +29,27 @@ impl ShownProgress {
     }
 }
 
-impl Progress for ShownProgress {
-    fn carried(&self, lines: usize, of: usize) {
+impl Gate for ShowingGate {
+    fn pass<R: Wait>(&self, _rt: &R, _place: GatePlace) {}
+
+    fn carried_out(&self, lines: usize, of: usize) {
         if let Some(errors) = &self.terminal {
             if is_shown(lines, of) {
                 show(errors, lines, of);
             }
         }
+    }
+}
+
+/// A gate, where a replay wants to know whom it tells how far it is.
+#[derive(Drop)]
+pub(crate) struct TellsGate<'a, G: Gate> {
+    pub gate: &'a G,
+}
+
+impl<'a, G: Gate> Progress for TellsGate<'a, G> {
+    fn carried_out(&self, lines: usize, of: usize) {
+        self.gate.carried_out(lines, of);
     }
 }
 

@@ -13,20 +13,22 @@ ghost use Rattle.omid_top.specs.Texts.{bad_line_text, replay_text, text_in};
 use crate::bad_line::named;
 use crate::form::Form;
 use crate::print::PrintStop;
+use crate::progress::TellsGate;
 use crate::script::{Mode, Script, ScriptCause, ScriptFault, read_script};
 use crate::{Status, print};
 use port_io::{ReadStop, Sink, Source, read_up_to};
-use replay_driver::{Progress, storm_script};
+use replay_driver::{replay_told, storm_script};
+use run_driver::Gate;
 use stamp_base::{BYTE_LIMIT, NoMemory};
 use std::alloc::Global;
 
-/// Reads a script, carries it out in file order, and writes its history in this form.
-pub fn replay_source<S: Source, K: Sink, P: Progress>(
+/// Reads a script, carries it out in file order, and writes its history in this form. The gate is told how far it is.
+pub fn replay_source<S: Source, K: Sink, G: Gate>(
     alloc: Global,
     form: Form,
     source: &mut S,
     sink: &mut K,
-    progress: &P,
+    gate: &G,
 ) -> Status
     ensures replay { Replays (text_in form) result.code (S.left source.old) (S.left source.new) (K.held sink.old) (K.held sink.new) }
     ensures source_failed { result.code ≡ 4 → Risen (S.faults source.old) (S.faults source.new) × (sink.new ≡ sink.old) }
@@ -37,7 +39,7 @@ pub fn replay_source<S: Source, K: Sink, P: Progress>(
     ensures lines { result.code ≡ 6 → IfSome (S.left source.old) (λ bytes. GainsLines (K.held sink.old) (K.held sink.new) (history_of (script_of bytes Replay))) }
 {
     match read_up_to(alloc, source, BYTE_LIMIT) {
-        Ok(bytes) => replay_bytes(alloc, form, &bytes, sink, progress),
+        Ok(bytes) => replay_bytes(alloc, form, &bytes, sink, gate),
         Err(ReadStop::TooLong) => named(sink, 0, ScriptCause::TooLong),
         Err(ReadStop::Failed) => Status::SOURCE_FAILED,
         Err(ReadStop::NoMemory) => Status::NO_MEMORY,
@@ -46,12 +48,12 @@ pub fn replay_source<S: Source, K: Sink, P: Progress>(
 
 /// Carries out the script that the bytes are.
 #[tactic(auto, using(crate::proofs::PrintLemmas::no_lines))]
-fn replay_bytes<K: Sink, P: Progress>(
+fn replay_bytes<K: Sink, G: Gate>(
     alloc: Global,
     form: Form,
     bytes: &[u8],
     sink: &mut K,
-    progress: &P,
+    gate: &G,
 ) -> Status
     ensures replayed { result.code ≡ 0 → IsOkAnd (script_of bytes.now Replay) (λ script.
         KeepsPromise script × Gains (K.held sink.old) (K.held sink.new) (text_in form (replayed script))) }
@@ -65,7 +67,7 @@ fn replay_bytes<K: Sink, P: Progress>(
     ensures codes { (result.code ≡ 0) ⊎ (result.code ≡ 3) ⊎ (result.code ≡ 5) ⊎ (result.code ≡ 6) }
 {
     match read_script(alloc, bytes, Mode::Replay) {
-        Ok(script) => replay_script(alloc, form, &script, sink, progress),
+        Ok(script) => replay_script(alloc, form, &script, sink, gate),
         Err(ScriptFault::At { line, cause }) => named(sink, line, cause),
         Err(ScriptFault::NoMemory) => Status::NO_MEMORY,
     }
@@ -73,12 +75,12 @@ fn replay_bytes<K: Sink, P: Progress>(
 
 /// Carries the script out and writes its history.
 #[tactic(auto, using(crate::proofs::PromiseLemmas::promise_kept, crate::proofs::PrintLemmas::no_lines))]
-fn replay_script<K: Sink, P: Progress>(
+fn replay_script<K: Sink, G: Gate>(
     alloc: Global,
     form: Form,
     script: &Script,
     sink: &mut K,
-    progress: &P,
+    gate: &G,
 ) -> Status
     requires { vec_len script.now.lines ≤ LINE_LIMIT }
     ensures replayed { result.code ≡ 0 → KeepsPromise (data_of script.now) × Gains (K.held sink.old) (K.held sink.new) (text_in form (replayed (data_of script.now))) }
@@ -89,7 +91,7 @@ fn replay_script<K: Sink, P: Progress>(
     ensures lines { result.code ≡ 6 → GainsLines (K.held sink.old) (K.held sink.new) (replayed (data_of script.now)) }
     ensures codes { (result.code ≡ 0) ⊎ (result.code ≡ 5) ⊎ (result.code ≡ 6) }
 {
-    match replay_driver::replay(alloc, script, progress) {
+    match replay_told(alloc, script, &TellsGate { gate }) {
         Ok(cluster) => match print::print_in(alloc, form, sink, cluster.history()) {
             Ok(()) => Status::DONE,
             Err(PrintStop::Failed) => Status::SINK_FAILED,
@@ -100,12 +102,7 @@ fn replay_script<K: Sink, P: Progress>(
 }
 
 /// Carries out the storm of so many transactions, and writes the summary of its history.
-pub fn storm<K: Sink, P: Progress>(
-    alloc: Global,
-    transactions: u64,
-    sink: &mut K,
-    progress: &P,
-) -> Status
+pub fn storm<K: Sink, G: Gate>(alloc: Global, transactions: u64, sink: &mut K, gate: &G) -> Status
     requires { IsWithin 1 20000 transactions }
     ensures storm { Storms transactions result.code (K.held sink.old) (K.held sink.new) }
     ensures sink_failed { result.code ≡ 5 → Risen (K.faults sink.old) (K.faults sink.new) }
@@ -113,7 +110,7 @@ pub fn storm<K: Sink, P: Progress>(
     ensures no_memory { result.code ≡ 6 → sink.new ≡ sink.old }
 {
     match storm_script(alloc, transactions) {
-        Ok(script) => replay_script(alloc, Form::Summary, &script, sink, progress),
+        Ok(script) => replay_script(alloc, Form::Summary, &script, sink, gate),
         Err(NoMemory) => Status::NO_MEMORY,
     }
 }

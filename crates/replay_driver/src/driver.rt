@@ -9,7 +9,7 @@ ghost use Rattle.line_runs.specs.Runs.{replayed};
 ghost use Rattle.replay_driver.specs.Playing.{IsPlayedTo};
 
 use crate::play::{make, seen};
-use crate::progress::Progress;
+use crate::progress::{Progress, Silent};
 use cluster_core::Cluster;
 use line_runs::{Point, events_lower_what_is_left, follows, lines_are_answered, next_event};
 use planned_cluster::{PlannedCluster, see_session};
@@ -20,8 +20,19 @@ use stamp_base::{LINE_LIMIT, NoMemory};
 use std::alloc::Global;
 
 /// The cluster once all the script's lines were carried out, each to its end. A refused line ends nothing: its refusal stands
-/// in the history. Behind each line, `progress` is told how many were carried out.
-pub fn replay<P: Progress>(
+/// in the history.
+pub fn replay(alloc: Global, script: &Script) -> Result<Cluster, NoMemory>
+    requires { vec_len script.now.lines ≤ LINE_LIMIT }
+    ensures history { IfOk result (λ cluster. cluster.history ≡ replayed (data_of script.now)) }
+    ensures answered { IfOk result (λ cluster. Answers (data_of script.now) cluster.history) }
+    ensures planned { IfOk result (λ cluster. Planned (data_of script.now) cluster.history) }
+    ensures setup { IfOk result (λ cluster. cluster.state.setup ≡ numbers_of script.now.setup) }
+{
+    replay_told(alloc, script, &Silent)
+}
+
+/// The same. Behind each line, `progress` is told how many were carried out.
+pub fn replay_told<P: Progress>(
     alloc: Global,
     script: &Script,
     progress: &P,
@@ -38,7 +49,7 @@ pub fn replay<P: Progress>(
     for place in 0..script.lines.len() {
         see_session(&script.lines[place].actor);
         play_line(&mut play, script, place)?;
-        progress.carried(place + 1, script.lines.len());
+        progress.carried_out(place + 1, script.lines.len());
     }
     Ok(play.cluster)
 }

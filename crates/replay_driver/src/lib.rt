@@ -9,6 +9,6 @@ mod progress;
 mod storm;
 
 pub use cluster_core::Cluster;
-pub use driver::replay;
-pub use progress::{Progress, Silent};
+pub use driver::{replay, replay_told};
+pub use progress::Progress;
 pub use storm::{STORM_LIMIT, storm_script};

@@ -73,7 +73,6 @@ s0 write k61 v
 s0 write k62 v
 s0 write k63 v
 s0 write k64 v
-s0 write k5 w
 s0 commit a
 ";
 
@@ -148,7 +147,6 @@ write s0 start=1 k61 v
 write s0 start=1 k62 v
 write s0 start=1 k63 v
 refused s0 too-many-keys
-write s0 start=1 k5 w
 ";
 
 /// Once for each key.

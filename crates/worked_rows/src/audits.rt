@@ -1,6 +1,9 @@
 // What the program says of histories that it audits, byte for byte.
-use crate::calls::answer_of;
+use crate::calls::answers;
+use std::alloc::{AllocError, Global};
+use std::sync::Wait;
 use std::test::Fail;
+use std::thread::Threads;
 use worked_commits::commits::PLAIN_HISTORY;
 
 /// A history, what an audit of it must write, and its status.
@@ -122,12 +125,86 @@ fn audits() -> &'static [Audit] {
     &AUDITS
 }
 
+/// A history of 9,000 items, whose transactions come one after the other. The last two end with the items 8997 and 9000, at the
+/// commits 29985 and 29995.
+fn long_history(alloc: Global) -> Result<Vec<u8>, AllocError> {
+    let mut text = Vec::new(alloc);
+    for number in 0..3000_u64 {
+        let key = number % 8;
+        let start = 10 * number + 1;
+        let commit = start + 4;
+        let items = format!(in alloc;
+            "begin s0 start={start}\nwrite s0 start={start} k{key} v\nplaced start={start} commit={commit}\n"
+        )?;
+        text.extend_from_slice(items.as_bytes())?;
+    }
+    Ok(text)
+}
+
+/// What may stand behind that history, and what an audit says then.
+static LONG: [(&str, &str, u8); 5] = [
+    ("", "isolated items=9000\n", 0),
+    (
+        "begin s0 start=29985\n",
+        "not isolated: stamped 8997 9001\n",
+        7,
+    ),
+    (
+        "write s0 start=29993 k7 v\nplaced start=29993 commit=29999\n",
+        "not isolated: apart 9000 9002\n",
+        7,
+    ),
+    (
+        "read s0 start=30001 k7 none\n",
+        "not isolated: read 9001 8999\n",
+        7,
+    ),
+    (
+        "begin s0 start=29993\n",
+        "not isolated: fresh 9000 9001\n",
+        7,
+    ),
+];
+
+fn long() -> &'static [(&'static str, &'static str, u8)] {
+    &LONG
+}
+
+/// Whether an audit says so of the history with the last items behind it.
+fn is_judged_behind<R: Threads + Wait + Sync>(
+    rt: &R,
+    alloc: Global,
+    history: &[u8],
+    last: &str,
+    report: &str,
+    ended: u8,
+) -> Result<bool, AllocError> {
+    let mut whole = history.to_vec(alloc)?;
+    whole.extend_from_slice(last.as_bytes())?;
+    answers(rt, alloc, &["audit"], &whole, report.as_bytes(), ended)
+}
+
 #[test]
 fn histories_are_judged(rt: HostRuntime) -> Result<(), Fail> {
     for audit in audits() {
-        let (written, status) = answer_of(&rt, rt.alloc(), &["audit"], audit.history.as_bytes())?;
-        assert_eq!(rt; status, audit.status);
-        assert_eq!(rt; written.as_slice(), audit.report.as_bytes());
+        let (history, report) = (audit.history.as_bytes(), audit.report.as_bytes());
+        assert!(rt;
+            answers(&rt, rt.alloc(), &["audit"], history, report, audit.status)?,
+            "{}",
+            audit.history
+        );
+    }
+    Ok(())
+}
+
+#[test]
+fn long_histories_are_judged(rt: HostRuntime) -> Result<(), Fail> {
+    let history = long_history(rt.alloc())?;
+    for (last, report, ended) in long() {
+        assert!(rt;
+            is_judged_behind(&rt, rt.alloc(), &history, last, report, *ended)?,
+            "{last}"
+        );
     }
     Ok(())
 }

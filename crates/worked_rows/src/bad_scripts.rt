@@ -1,13 +1,12 @@
 // What the program says of words that are no command, and of bytes that are no script.
-use crate::calls::answer_of;
-use std::alloc::{AllocError, Global};
+use crate::calls::answers;
 use std::test::Fail;
-use worked_commits::commits::{PLAIN_HISTORY, PLAIN_PATH};
+use worked_commits::commits::PLAIN_PATH;
 
 pub const USAGE: &str = "usage: omid replay [summary|json] | run | audit | storm N\n";
 
 /// Words that are no command.
-const NO_COMMANDS: [&[&str]; 8] = [
+static NO_COMMANDS: [&[&str]; 22] = [
     &[],
     &["replay", "now"],
     &["audit", "now"],
@@ -16,6 +15,21 @@ const NO_COMMANDS: [&[&str]; 8] = [
     &["json"],
     &["replay", "JSON"],
     &["replay", "json", "summary"],
+    &["summary"],
+    &["replay", "Summary"],
+    &["replay", "summary", "summary"],
+    // Nearly a storm.
+    &["storm"],
+    &["storm", ""],
+    &["storm", "0"],
+    &["storm", "01"],
+    &["storm", "+1"],
+    &["storm", "-1"],
+    &["storm", " 1"],
+    &["storm", "1x"],
+    &["storm", "20001"],
+    &["storm", "18446744073709551617"],
+    &["storm", "1", "1"],
 ];
 
 /// A script, and what is said of it.
@@ -69,73 +83,101 @@ static BAD_SCRIPTS: [(&str, &str); 31] = [
     ),
 ];
 
-/// Behind a function, a proof that goes over the rows does not look into their texts.
+/// The same of a script for threads.
+static BAD_IN_A_RUN: [(&str, &str); 2] = [
+    ("a accept s0\n", "script line 1: replay only\n"),
+    ("a take\ns0 ask-begin a\n", "script line 2: replay only\n"),
+];
+
+/// Words that replay a script.
+static REPLAYS: [&[&str]; 3] = [&["replay"], &["replay", "summary"], &["replay", "json"]];
+
+// Behind functions, a proof that goes over the rows does not look into their texts.
+
+fn no_commands() -> &'static [&'static [&'static str]] {
+    &NO_COMMANDS
+}
+
+fn replays() -> &'static [&'static [&'static str]] {
+    &REPLAYS
+}
+
 fn bad_scripts() -> &'static [(&'static str, &'static str)] {
     &BAD_SCRIPTS
 }
 
-/// The line, over and over.
-fn repeated(alloc: Global, line: &str, count: usize) -> Result<Vec<u8>, AllocError> {
-    let mut text = Vec::new(alloc);
-    for _ in 0..count {
-        text.extend_from_slice(line.as_bytes())?;
-    }
-    Ok(text)
-}
-
-/// As many planned faults as lines.
-fn planned_faults(alloc: Global, count: u64) -> Result<Vec<u8>, AllocError> {
-    let mut text = Vec::new(alloc);
-    for planned in 0..count {
-        let call = planned + 1;
-        let line = format!(in alloc; "fault cells {call} unchanged\n")?;
-        text.extend_from_slice(line.as_bytes())?;
-    }
-    Ok(text)
+fn bad_in_a_run() -> &'static [(&'static str, &'static str)] {
+    &BAD_IN_A_RUN
 }
 
 #[test]
 fn words_that_are_no_command_get_the_usage(rt: HostRuntime) -> Result<(), Fail> {
-    for words in NO_COMMANDS {
-        for input in [PLAIN_PATH, PLAIN_HISTORY] {
-            let (written, status) = answer_of(&rt, rt.alloc(), words, input.as_bytes())?;
-            assert_eq!(rt; status, 2);
-            assert_eq!(rt; written.as_slice(), USAGE.as_bytes());
+    for words in no_commands() {
+        assert!(rt;
+            answers(
+                &rt,
+                rt.alloc(),
+                words,
+                PLAIN_PATH.as_bytes(),
+                USAGE.as_bytes(),
+                2
+            )?
+        );
+    }
+    Ok(())
+}
+
+/// A bad script is named in place of what is written of a good one.
+#[test]
+fn bad_scripts_are_named(rt: HostRuntime) -> Result<(), Fail> {
+    for words in replays() {
+        for (script, report) in bad_scripts() {
+            assert!(rt;
+                answers(
+                    &rt,
+                    rt.alloc(),
+                    words,
+                    script.as_bytes(),
+                    report.as_bytes(),
+                    3
+                )?,
+                "{script}"
+            );
         }
     }
     Ok(())
 }
 
 #[test]
-fn bad_scripts_are_named(rt: HostRuntime) -> Result<(), Fail> {
-    for (script, report) in bad_scripts() {
-        let (written, status) = answer_of(&rt, rt.alloc(), &["replay"], script.as_bytes())?;
-        assert_eq!(rt; status, 3, "{script}");
-        assert_eq!(rt; written.as_slice(), report.as_bytes(), "{script}");
+fn what_only_a_replay_can_do_is_named(rt: HostRuntime) -> Result<(), Fail> {
+    for (script, report) in bad_in_a_run() {
+        assert!(rt;
+            answers(
+                &rt,
+                rt.alloc(),
+                &["run"],
+                script.as_bytes(),
+                report.as_bytes(),
+                3
+            )?,
+            "{script}"
+        );
     }
     Ok(())
 }
 
 #[test]
-fn long_scripts_are_named(rt: HostRuntime) -> Result<(), Fail> {
-    let rows = [
-        (
-            planned_faults(rt.alloc(), 33)?,
-            "script line 33: too many faults\n",
-        ),
-        (
-            repeated(rt.alloc(), "clock tick 1\n", 131_073)?,
-            "script line 131073: too many lines\n",
-        ),
-        (
-            vec![in rt.alloc(); b'\n'; 16_777_217]?,
-            "script line 0: too long\n",
-        ),
-    ];
-    for (script, report) in rows {
-        let (written, status) = answer_of(&rt, rt.alloc(), &["replay"], &script)?;
-        assert_eq!(rt; status, 3, "{report}");
-        assert_eq!(rt; written.as_slice(), report.as_bytes());
-    }
+fn too_many_bytes_are_named(rt: HostRuntime) -> Result<(), Fail> {
+    let script = vec![in rt.alloc(); b'\n'; 16_777_217]?;
+    assert!(rt;
+        answers(
+            &rt,
+            rt.alloc(),
+            &["replay"],
+            &script,
+            b"script line 0: too long\n",
+            3
+        )?
+    );
     Ok(())
 }

@@ -1,9 +1,10 @@
-// One call of the program over bytes in memory.
-use omid_top::{OpenGate, Silent, omid};
+// Calls of the program over bytes in memory.
+use omid_top::{OpenGate, omid};
 use port_io::{MemSink, MemSource};
 use std::alloc::{AllocError, Global};
 use std::sync::Wait;
 use std::thread::Threads;
+use worked_pieces::Replay;
 
 /// More bytes than any of the texts has.
 const ROOM: usize = 262_144;
@@ -44,7 +45,42 @@ pub fn written_for<R: Threads + Wait + Sync>(
         Ok(sink) => sink,
         Err(_) => return Err(AllocError),
     };
-    let status = omid(rt, alloc, words, &mut source, &mut sink, &OpenGate, &Silent);
+    let status = omid(rt, alloc, words, &mut source, &mut sink, &OpenGate);
     let written = sink.bytes().to_vec(alloc)?;
     Ok((written, status.code))
+}
+
+/// Whether the program writes this for the words and the input, and ends with this status.
+pub fn answers<R: Threads + Wait + Sync>(
+    rt: &R,
+    alloc: Global,
+    names: &[&str],
+    input: &[u8],
+    text: &[u8],
+    ended: u8,
+) -> Result<bool, AllocError> {
+    let (written, status) = answer_of(rt, alloc, names, input)?;
+    Ok(status == ended && written.as_slice() == text)
+}
+
+/// Whether an audit finds the history isolated.
+pub fn is_isolated<R: Threads + Wait + Sync>(
+    rt: &R,
+    alloc: Global,
+    history: &[u8],
+) -> Result<bool, AllocError> {
+    let (_, status) = answer_of(rt, alloc, &["audit"], history)?;
+    Ok(status == 0)
+}
+
+/// Whether the program writes the history of the example for its script and these words.
+pub fn tells<R: Threads + Wait + Sync>(
+    rt: &R,
+    alloc: Global,
+    names: &[&str],
+    replay: &Replay,
+) -> Result<bool, AllocError> {
+    let script = joined(alloc, replay.script)?;
+    let history = joined(alloc, replay.history)?;
+    answers(rt, alloc, names, &script, &history, 0)
 }

@@ -1,5 +1,5 @@
 // A script under each fault that can be planned for it: all is carried out, and what is written is isolated.
-use crate::calls::{answer_of, joined};
+use crate::calls::{answer_of, is_isolated, joined, tells};
 use std::alloc::{AllocError, Global};
 use std::sync::Wait;
 use std::test::Fail;
@@ -28,26 +28,26 @@ fn faults(alloc: Global) -> Result<Vec<String>, AllocError> {
     Ok(faults)
 }
 
-/// The status of the script under the fault, and that of the audit of what it wrote.
-fn statuses_of<R: Threads + Wait + Sync>(
+/// Whether the script is carried out under the fault, and what it wrote is isolated.
+fn is_carried_out<R: Threads + Wait + Sync>(
     rt: &R,
     alloc: Global,
     way: &str,
     fault: &str,
-) -> Result<(u8, u8), AllocError> {
+) -> Result<bool, AllocError> {
     let script = joined(alloc, &[fault, HOSTILE])?;
     let (written, status) = answer_of(rt, alloc, &[way], &script)?;
-    let (_, judged) = answer_of(rt, alloc, &["audit"], &written)?;
-    Ok((status, judged))
+    Ok(status == 0 && is_isolated(rt, alloc, &written)?)
 }
 
 #[test]
 fn each_fault_leaves_an_isolated_history(rt: HostRuntime) -> Result<(), Fail> {
     for fault in &faults(rt.alloc())? {
         for way in WAYS {
-            let (status, judged) = statuses_of(&rt, rt.alloc(), way, fault)?;
-            assert_eq!(rt; status, 0, "{way} {fault}");
-            assert_eq!(rt; judged, 0, "{way} {fault}");
+            assert!(rt;
+                is_carried_out(&rt, rt.alloc(), way, fault)?,
+                "{way} {fault}"
+            );
         }
     }
     Ok(())
@@ -56,12 +56,11 @@ fn each_fault_leaves_an_isolated_history(rt: HostRuntime) -> Result<(), Fail> {
 #[test]
 fn faults_are_told(rt: HostRuntime) -> Result<(), Fail> {
     for replay in replays() {
-        let name = replay.name;
-        let script = joined(rt.alloc(), replay.script)?;
-        let history = joined(rt.alloc(), replay.history)?;
-        let (written, status) = answer_of(&rt, rt.alloc(), &["replay"], &script)?;
-        assert_eq!(rt; status, 0, "{name}");
-        assert!(rt; written == history, "{name}");
+        assert!(rt;
+            tells(&rt, rt.alloc(), &["replay"], replay)?,
+            "{}",
+            replay.name
+        );
     }
     Ok(())
 }

@@ -1,5 +1,5 @@
-// Progress: whoever is told how far a script is carried out hears of each line once.
-use omid_top::{OpenGate, Progress, omid};
+// Progress: a gate that wants to know how far a replay is hears of each line once.
+use omid_top::{Gate, GatePlace, omid};
 use port_io::{MemSink, MemSource};
 use std::alloc::{AllocError, Global};
 use std::sync::Wait;
@@ -28,23 +28,25 @@ fn counts() -> &'static [(&'static [&'static str], &'static str, usize)] {
 
 /// Counts how often it was told something, and keeps what it was told last.
 #[derive(Drop)]
-struct CountingProgress {
+struct CountingGate {
     calls: AtomicUsize,
     lines: AtomicUsize,
     of: AtomicUsize,
 }
 
-impl Progress for CountingProgress {
-    fn carried(&self, lines: usize, of: usize) {
+impl Gate for CountingGate {
+    fn pass<R: Wait>(&self, _rt: &R, _place: GatePlace) {}
+
+    fn carried_out(&self, lines: usize, of: usize) {
         self.calls.fetch_add(1, Ordering::SeqCst);
         self.lines.store(lines, Ordering::SeqCst);
         self.of.store(of, Ordering::SeqCst);
     }
 }
 
-impl CountingProgress {
-    fn new() -> CountingProgress {
-        CountingProgress {
+impl CountingGate {
+    fn new() -> CountingGate {
+        CountingGate {
             calls: AtomicUsize::new(0),
             lines: AtomicUsize::new(0),
             of: AtomicUsize::new(0),
@@ -77,17 +79,9 @@ fn told_for<R: Threads + Wait + Sync>(
         Ok(sink) => sink,
         Err(_) => return Err(AllocError),
     };
-    let progress = CountingProgress::new();
-    omid(
-        rt,
-        alloc,
-        &words,
-        &mut source,
-        &mut sink,
-        &OpenGate,
-        &progress,
-    );
-    Ok(progress.told())
+    let gate = CountingGate::new();
+    omid(rt, alloc, &words, &mut source, &mut sink, &gate);
+    Ok(gate.told())
 }
 
 #[test]

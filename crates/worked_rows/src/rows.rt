@@ -1,6 +1,9 @@
 // What a replay writes for a script, byte for byte, and that it is isolated.
-use crate::calls::{answer_of, joined};
+use crate::calls::{is_isolated, joined, tells};
+use std::alloc::{AllocError, Global};
+use std::sync::Wait;
 use std::test::Fail;
+use std::thread::Threads;
 use worked_commits::{commits, conflicts, many_keys};
 use worked_examples::{examples, threads};
 use worked_faults::{leases, outcomes, refusals, takeovers};
@@ -27,19 +30,22 @@ pub fn topic(number: usize) -> &'static [Replay] {
     }
 }
 
+/// Whether the example is replayed as it must be, and its history is isolated.
+fn is_replayed<R: Threads + Wait + Sync>(
+    rt: &R,
+    alloc: Global,
+    replay: &Replay,
+) -> Result<bool, AllocError> {
+    let history = joined(alloc, replay.history)?;
+    Ok(tells(rt, alloc, &["replay"], replay)? && is_isolated(rt, alloc, &history)?)
+}
+
 #[test]
 fn each_script_is_replayed(rt: HostRuntime) -> Result<(), Fail> {
     for number in 0..TOPICS {
         assert_eq!(rt; topic(number).len(), COUNTS[number]);
         for replay in topic(number) {
-            let name = replay.name;
-            let script = joined(rt.alloc(), replay.script)?;
-            let history = joined(rt.alloc(), replay.history)?;
-            let (written, status) = answer_of(&rt, rt.alloc(), &["replay"], &script)?;
-            assert_eq!(rt; status, 0, "{name}");
-            assert!(rt; written == history, "{name}");
-            let (_, status) = answer_of(&rt, rt.alloc(), &["audit"], &history)?;
-            assert_eq!(rt; status, 0, "{name}");
+            assert!(rt; is_replayed(&rt, rt.alloc(), replay)?, "{}", replay.name);
         }
     }
     Ok(())

@@ -1,14 +1,14 @@
 // Scripts carried out on threads: those with one order are carried out in that of the file, and whatever comes of the others is
 // isolated.
-use crate::calls::{answer_of, joined};
-use crate::faults::{call, first_lines, open_sink, open_source};
-use omid_top::{Gate, GatePlace, Silent, omid};
-use port_io::{MemSink, MemSource};
+use crate::calls::{answer_of, is_isolated, tells};
+use crate::faults::{keeps_lines, open_sink, open_source, reads_nothing};
+use omid_top::{Gate, GatePlace, omid};
 use stamp_base::{NodeNo, Stage};
+use std::alloc::{AllocError, Global};
 use std::sync::Wait;
 use std::sync::atomic::{AtomicBool, Ordering};
 use std::test::Fail;
-use std::thread;
+use std::thread::{self, Threads};
 use worked_commits::commits::PLAIN_PATH;
 use worked_examples::threads;
 
@@ -17,12 +17,7 @@ const RUN: &[&str] = &["run"];
 #[test]
 fn scripts_with_one_order_are_run_in_it(rt: HostRuntime) -> Result<(), Fail> {
     for replay in threads::replays() {
-        let name = replay.name;
-        let script = joined(rt.alloc(), replay.script)?;
-        let history = joined(rt.alloc(), replay.history)?;
-        let (written, status) = answer_of(&rt, rt.alloc(), RUN, &script)?;
-        assert_eq!(rt; status, 0, "{name}");
-        assert!(rt; written == history, "{name}");
+        assert!(rt; tells(&rt, rt.alloc(), RUN, replay)?, "{}", replay.name);
     }
     Ok(())
 }
@@ -129,24 +124,21 @@ fn free() -> &'static [&'static str] {
     &FREE
 }
 
+/// Whether the script is carried out on threads, and what they made is isolated.
+fn is_run<R: Threads + Wait + Sync>(
+    rt: &R,
+    alloc: Global,
+    script: &str,
+) -> Result<bool, AllocError> {
+    let (history, status) = answer_of(rt, alloc, RUN, script.as_bytes())?;
+    Ok(status == 0 && is_isolated(rt, alloc, &history)?)
+}
+
 #[test]
 fn whatever_threads_make_is_isolated(rt: HostRuntime) -> Result<(), Fail> {
     for script in free() {
-        let (history, status) = answer_of(&rt, rt.alloc(), RUN, script.as_bytes())?;
-        assert_eq!(rt; status, 0, "{script}");
-        let (_, status) = answer_of(&rt, rt.alloc(), &["audit"], &history)?;
-        assert_eq!(rt; status, 0, "{script}");
+        assert!(rt; is_run(&rt, rt.alloc(), script)?, "{script}");
     }
-    Ok(())
-}
-
-const REPLAY_ONLY: &str = "script line 2: replay only\n";
-
-#[test]
-fn what_only_a_replay_can_do_is_no_line(rt: HostRuntime) -> Result<(), Fail> {
-    let (written, status) = answer_of(&rt, rt.alloc(), RUN, b"a take\ns0 ask-begin a\n")?;
-    assert_eq!(rt; status, 3);
-    assert_eq!(rt; written.as_slice(), REPLAY_ONLY.as_bytes());
     Ok(())
 }
 
@@ -156,17 +148,15 @@ const TICKS: &str = "clock tick 12\nclock tick 13\n";
 const TICKED: &str = "tick 12\ntick 13\n";
 
 #[test]
-fn sources_and_sinks_that_fail_end_a_run(rt: HostRuntime) -> Result<(), Fail> {
-    let mut source = open_source(rt.alloc(), TICKS, &[1])?;
-    let mut sink = open_sink(rt.alloc(), 64, &[])?;
-    assert_eq!(rt; call(&rt, rt.alloc(), RUN, &mut source, &mut sink)?, 4);
-    assert_eq!(rt; sink.bytes().len(), 0);
+fn a_source_that_fails_ends_a_run(rt: HostRuntime) -> Result<(), Fail> {
+    assert!(rt; reads_nothing(&rt, rt.alloc(), RUN, TICKS, 1)?);
+    Ok(())
+}
+
+#[test]
+fn a_sink_that_fails_ends_a_run(rt: HostRuntime) -> Result<(), Fail> {
     for sent in 0..2 {
-        let mut source = open_source(rt.alloc(), TICKS, &[])?;
-        let mut sink = open_sink(rt.alloc(), 64, &[sent as u64 + 1])?;
-        assert_eq!(rt; call(&rt, rt.alloc(), RUN, &mut source, &mut sink)?, 5);
-        let lines = first_lines(rt.alloc(), TICKED, sent)?;
-        assert_eq!(rt; sink.bytes(), lines.as_slice());
+        assert!(rt; keeps_lines(&rt, rt.alloc(), RUN, TICKS, TICKED, sent)?);
     }
     Ok(())
 }
@@ -250,21 +240,12 @@ s1 read k0
 #[test]
 fn two_stages_meet(rt: HostRuntime) -> Result<(), Fail> {
     let words = vec![in rt.alloc(); "run".to_string(rt.alloc())?]?;
-    let mut source = MemSource::new(MEETING.as_bytes().to_vec(rt.alloc())?, Vec::new(rt.alloc()));
+    let mut source = open_source(rt.alloc(), MEETING, &[])?;
     let mut sink = open_sink(rt.alloc(), 4096, &[])?;
     let gate = MeetingGate::new();
-    let status = omid(
-        &rt,
-        rt.alloc(),
-        &words,
-        &mut source,
-        &mut sink,
-        &gate,
-        &Silent,
-    );
+    let status = omid(&rt, rt.alloc(), &words, &mut source, &mut sink, &gate);
     assert_eq!(rt; status.code, 0);
     assert!(rt; gate.have_met());
-    let (_, status) = answer_of(&rt, rt.alloc(), &["audit"], sink.bytes())?;
-    assert_eq!(rt; status, 0);
+    assert!(rt; is_isolated(&rt, rt.alloc(), sink.bytes())?);
     Ok(())
 }

@@ -2,7 +2,7 @@ use Rattle.port_io.specs.contracts.planned.PlannedWeatherWeather.TheImpl.{ahead-
 use Rattle.session_script.specs.Script.{data_of}
 use Rattle.replay_driver.specs.Playing.{IsPlayedTo}
 use Rattle.planned_cluster.proofs.Fitting.{SessionsAreThere}
-use Rattle.replay_driver.proofs.driver.replay.Given as goal
+use Rattle.replay_driver.proofs.driver.replay_told.Given as goal
 
 abbrev pub invariant-loop-place : goal.invariant-loop-place
 invariant-loop-place g l = record {

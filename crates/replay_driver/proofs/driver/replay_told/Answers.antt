@@ -7,7 +7,7 @@ use Rattle.session_script.specs.Script.{data_of}
 use Rattle.planned_cluster.proofs.Playable.{playable_at_first}
 use Rattle.replay_driver.proofs.Counting.{none_played, all_played}
 use Rattle.planned_cluster.proofs.Fitting.{one_more_there, lines_fit}
-use Rattle.replay_driver.proofs.driver.replay.Goals as goal
+use Rattle.replay_driver.proofs.driver.replay_told.Goals as goal
 
 pub open-requires : goal.open-requires
 open-requires g c = rw c.deref.ensures.value c.args.script.now.sound.one_fault_each
