@@ -65,6 +65,7 @@ own_of (turn.Own actor) = actor
 own_of _ = Clock
 
 own : (old : Ran) (actor : Actor) (cursors : List Cursor) (place : ℕ) → place ≡ place_of (with_turn old (turn.Own actor)) actor → All (λ (c : Cursor). c.actor ≡ actor → c.done ≤ place) cursors → AreCounted old cursors → AreCounted (with_turn old (turn.Own actor)) (caught_up actor place cursors)
+unfolding own_of
 own old actor cursors place at low counted = made old (turn.Own actor) (caught_up actor place cursors)
     (λ other is. subst (λ (a : Actor). IsUpTo (place_of (with_turn old (turn.Own actor)) a) (cursor_of (caught_up actor place cursors) a)) (ap own_of is) (subst (λ (n : ℕ). IsUpTo n (cursor_of (caught_up actor place cursors) actor)) at (comes_up actor place cursors)))
     (counted_up old cursors actor place low counted)
