@@ -1,3 +1,4 @@
 mod Kept
+mod Counted
 mod Closing
 mod SoFar

@@ -1,11 +1,14 @@
 -- A play as its contracts see it, and what the calls make of it.
-use Rattle.std.specs.Prelude.{◌≡◌, ℕ, ◌+◌, ◌≤◌, List, length}
+use Rattle.std.specs.Prelude.{◌≡◌, ℕ, ◌+◌, ◌≤◌, List, [], ◌∷◌, ◌++◌, length, find, Option, IfSome}
 use Rattle.stamp_base.specs.declared.stage.Stage.{Stage}
 use Rattle.stamp_base.specs.declared.limits.TheConstants.{LINE_LIMIT}
+use Rattle.history_book.specs.declared.item.Actor.{Actor}
 use Rattle.history_book.specs.declared.item.Item.{Item}
+use Rattle.history_book.specs.Members.{AtEach}
 use Rattle.script_data.specs.Data.{ScriptData, IsSound}
 use Rattle.line_runs.specs.Laws.{AreLinesOf}
 use Rattle.run_turns.specs.declared.turn.Turn.{Turn}
+use Rattle.run_turns.specs.declared.turn.Turn.TheVariants as turn
 use Rattle.run_turns.specs.Carried.{carried_items, AreWhole}
 use Rattle.run_turns.specs.Lawful.{AreLawful}
 use Rattle.script_run.specs.declared.answers.Advance.{Advance}
@@ -14,7 +17,7 @@ use Rattle.thread_steps.specs.declared.stages.StageStep.{StageStep}
 use Rattle.script_run.specs.Run.{Ran}
 use Rattle.script_run.specs.Steps as steps
 use Rattle.line_shares.specs.declared.cursor.Cursor.{Cursor}
-use Rattle.line_shares.specs.Done.{Done, all_done, caught_up}
+use Rattle.line_shares.specs.Done.{Done, all_done, caught_up, is_same}
 use Rattle.thread_scripts.specs.Actors.{AreBehind, CoverLines, AreAtTheirEnds}
 
 -- what lies under the lock: the script with the turns that were made, and how many lines of each actor are done
@@ -29,6 +32,25 @@ pub record IsKept (ran : Ran) (cursors : List Cursor) : Type 0 where
   pub sessions : AreLinesOf ran.script.setup ran.script.lines
   pub behind : AreBehind (steps.place_of ran) cursors
   pub covered : CoverLines ran.script.lines cursors
+
+-- ---- how far the cursors are
+abbrev pub cursor_of : List Cursor → Actor → Option Cursor
+cursor_of cursors actor = find (λ cursor. is_same cursor.actor actor) cursors
+
+abbrev pub IsUpTo : ℕ → Option Cursor → Type 0
+IsUpTo place cursor = IfSome cursor (λ c. place ≤ c.done)
+
+-- where the actor had come to with a turn of its own its cursor has come too: what it lacks are lines that had nothing left to do
+abbrev pub IsCountedAt : Ran → List Cursor → Actor → List Turn → Turn → Type 0
+IsCountedAt ran cursors actor before t = t ≡ turn.Own actor → IsUpTo (steps.place_of (record { script = ran.script; turns = before ++ t ∷ [] }) actor) (cursor_of cursors actor)
+
+abbrev pub AreCounted : Ran → List Cursor → Type 0
+AreCounted ran cursors = (actor : Actor) → AtEach (IsCountedAt ran cursors actor) ran.turns
+
+-- what is kept under the lock
+pub record IsKeptPlay (ran : Ran) (cursors : List Cursor) : Type 0 where
+  pub kept : IsKept ran cursors
+  pub counted : AreCounted ran cursors
 
 -- ---- an actor's step
 -- the cursor of the share's actor comes up to the actor's seat, and the share counts as much more

@@ -13,7 +13,7 @@ ghost use Rattle.run_turns.specs.Laws.{IsPlannedSoFar};
 ghost use Rattle.script_run.specs.Run.{reached_by};
 ghost use Rattle.script_run.specs.Steps.{place_of};
 ghost use Rattle.thread_steps.specs.Going.{GoesOn};
-ghost use Rattle.run_board.specs.Playing.{Advances, Serves, IsOver, IsResult};
+ghost use Rattle.run_board.specs.Playing.{Advances, Serves, AreCounted, IsOver, IsResult};
 ghost use Rattle.run_board.specs.SoFar.{AreAnsweredSoFar};
 
 use crate::sessions::see_sessions;
@@ -41,13 +41,13 @@ pub struct Play<L: Ledger> {
 }
 
 impl<L: Ledger> Model for Play<L> {
-    ghost use Rattle.run_board.specs.Playing.{Played, IsKept};
+    ghost use Rattle.run_board.specs.Playing.{Played, IsKeptPlay};
 
     ghost Value = { Played };
 
     ghost view = { λ p. record { ran = p.run; cursors = p.cursors } };
 
-    ghost invariant = { λ p. IsKept p.run p.cursors };
+    ghost invariant = { λ p. IsKeptPlay p.run p.cursors };
 }
 
 impl<L: Ledger> Play<L> {
@@ -71,13 +71,15 @@ impl<L: Ledger> Play<L> {
 
     /// The history that the turns have made, at every moment. It is isolated, and each of its refusals is shown by what stands
     /// before it. Every line that an actor has passed is answered, and so is each line before a cursor, since no cursor is ahead of
-    /// its actor. Faults, ticks and readings are those that the script plans.
+    /// its actor; nor does one lack a line that its actor had passed with a turn of its own. Faults, ticks and readings are those that
+    /// the script plans.
     pub fn history(&self) -> &[Item]
         ensures value { result.now ≡ carried_items self.now.ran.script self.now.ran.turns }
         ensures isolated { Isolated result.now }
         ensures explained { Explained self.now.ran.script.setup result.now }
         ensures answered { AreAnsweredSoFar self.now.ran }
         ensures behind { AreBehind (place_of self.now.ran) self.now.cursors }
+        ensures counted { AreCounted self.now.ran self.now.cursors }
         ensures planned { IsPlannedSoFar self.now.ran.script (reached_by self.now.ran) }
     {
         turns_answer_so_far();
