@@ -4,3 +4,4 @@ pub mod Fates
 pub mod StoreCallsMade
 pub mod StaysReached
 pub mod RequestHolders
+mod AtRest
