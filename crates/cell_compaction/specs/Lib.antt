@@ -1,3 +1,4 @@
 pub mod Rest
 pub mod Laws
 pub mod Archives
+pub mod Worked

@@ -5,3 +5,4 @@ pub mod StoreCallsMade
 pub mod StaysReached
 pub mod RequestHolders
 mod PostTerms
+mod AtRest

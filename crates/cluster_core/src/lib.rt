@@ -9,9 +9,11 @@ mod engine;
 mod readers;
 mod record_events;
 mod request_events;
+mod stores;
 mod sweep_events;
 mod transaction_events;
 
 pub use cluster::Cluster;
 pub use engine::Engine;
 pub use event_parts::Stopped;
+pub use stores::Stores;
