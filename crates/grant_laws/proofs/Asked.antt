@@ -18,9 +18,9 @@ use Rattle.machine.specs.declared.event.Event.TheVariants as event
 use Rattle.script_data.specs.declared.line.Line.{Line}
 use Rattle.script_data.specs.declared.line.Verb.{Verb}
 use Rattle.script_data.specs.Data.{ScriptData}
-use Rattle.line_runs.specs.declared.point.Point.TheVariants.{Drives}
-use Rattle.line_runs.specs.Next.{reading_at, is_served}
-use Rattle.line_runs.specs.Runs.{Played, clocks_of, played}
+use Rattle.line_steps.specs.declared.point.Point.TheVariants.{Drives}
+use Rattle.line_steps.specs.Next.{reading_at, is_served}
+use Rattle.line_steps.specs.Runs.{Played, clocks_of, played}
 use Rattle.grant_laws.specs.Granted.{line_of}
 use Rattle.grant_laws.proofs.LongerRuns.{longer_still, Leads, leads_on, run_at}
 use Rattle.grant_laws.proofs.Spots.{Spot, IsAt, Makes, leads_there, serves_on}

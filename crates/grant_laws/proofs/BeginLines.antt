@@ -4,7 +4,7 @@ use Rattle.std.specs.Prelude.{slice_set, slice_index_or, MatchOption}
 use Rattle.std.proofs.lemmas.List.{set-set}
 use Rattle.oracle_parts.specs.declared.instance.Held.{Held}
 use Rattle.machine.specs.Events.Answer.{answer_on}
-use Rattle.line_runs.specs.Runs.{line_run}
+use Rattle.line_steps.specs.Runs.{line_run}
 use Rattle.std.proofs.lemmas.Bool.{lt-ltb}
 use Rattle.std.proofs.lemmas.List.{length-set}
 use Rattle.history_book.specs.declared.cause.Cause.TheVariants as cause
@@ -28,10 +28,10 @@ use Rattle.script_data.specs.declared.line.Target.TheVariants as target
 use Rattle.script_data.specs.declared.line.Verb.{Verb}
 use Rattle.script_data.specs.declared.line.Verb.TheVariants as verb
 use Rattle.script_data.specs.Data.{ScriptData}
-use Rattle.line_runs.specs.declared.point.Point.TheVariants.{Opens, Drives}
-use Rattle.line_runs.specs.Halts.{halt_of, follows}
-use Rattle.line_runs.specs.Laws.{EventsLowerWhatIsLeft}
-use Rattle.line_runs.specs.Runs.{Played, step_of, played, opened, Run, run_after}
+use Rattle.line_steps.specs.declared.point.Point.TheVariants.{Opens, Drives}
+use Rattle.line_steps.specs.Halts.{halt_of, follows}
+use Rattle.line_steps.specs.Laws.{EventsLowerWhatIsLeft}
+use Rattle.line_steps.specs.Runs.{Played, step_of, played, opened, Run, run_after}
 use Rattle.grant_laws.specs.Granted.{line_of, IsBefore, reading_of, Appends, Grants}
 use Rattle.grant_laws.specs.Laws.{BeginsAreGranted}
 use Rattle.grant_laws.proofs.LongerRuns.{Longer, longer_still, in_one, appended_before, Leads, leads_on, leads_one, leads_to, line_appends, run_at}
@@ -42,7 +42,7 @@ use Rattle.grant_laws.proofs.Effects.{asked_of, begin_taken, with_stamp, begin_i
 use Rattle.grant_laws.proofs.Serving.{with_both, on_ask_made, Drew}
 use Rattle.grant_laws.proofs.Extending.{CanDraw}
 use Rattle.grant_laws.proofs.Asked.{asked_is_drawn, holds_stamp}
-use Rattle.line_runs.proofs.Serving.{on_both}
+use Rattle.line_steps.proofs.Serving.{on_both}
 
 -- a request that is no drawn commit leaves what is the least unsettled commit
 same_least : (requests : List (Option Held)) (s start : ℕ) (now : Held) → slice_index_or requests s None ≡ None → unsettled_commit (Some now) ≡ None → least_unsettled (slice_set requests s (Some now)) start ≡ least_unsettled requests start

@@ -26,10 +26,10 @@ use Rattle.script_data.specs.declared.line.Line.{Line}
 use Rattle.script_data.specs.declared.line.Target.TheVariants as target
 use Rattle.script_data.specs.declared.line.Verb.{Verb}
 use Rattle.script_data.specs.declared.line.Verb.TheVariants as verb
-use Rattle.line_runs.specs.declared.point.Point.TheVariants.{Opens, Drives}
-use Rattle.line_runs.specs.Halts.{halt_of, follows}
-use Rattle.line_runs.specs.Laws.{EventsLowerWhatIsLeft}
-use Rattle.line_runs.specs.Runs.{Played, fate_by, step_of, played, opened}
+use Rattle.line_steps.specs.declared.point.Point.TheVariants.{Opens, Drives}
+use Rattle.line_steps.specs.Halts.{halt_of, follows}
+use Rattle.line_steps.specs.Laws.{EventsLowerWhatIsLeft}
+use Rattle.line_steps.specs.Runs.{Played, fate_by, step_of, played, opened}
 use Rattle.grant_laws.specs.Granted.{line_of, reading_of}
 use Rattle.grant_laws.specs.Laws.{CommitsAreGranted}
 use Rattle.grant_laws.proofs.LongerRuns.{Longer, longer_still, appended_before, Leads, leads_on, leads_to, line_appends, run_at}

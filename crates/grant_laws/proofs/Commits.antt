@@ -24,9 +24,9 @@ use Rattle.script_data.specs.declared.line.Target.TheVariants as target
 use Rattle.script_data.specs.declared.line.Verb.{Verb}
 use Rattle.script_data.specs.declared.line.Verb.TheVariants as verb
 use Rattle.script_data.specs.Data.{ScriptData}
-use Rattle.line_runs.specs.declared.point.Point.TheVariants.{Drives}
-use Rattle.line_runs.specs.Runs.{Calls, Played, fate_by, fate_of, step_of, calls_after, one_more, played, Run, run_after}
-use Rattle.line_runs.proofs.Serving.{on_both}
+use Rattle.line_steps.specs.declared.point.Point.TheVariants.{Drives}
+use Rattle.line_steps.specs.Runs.{Calls, Played, fate_by, fate_of, step_of, calls_after, one_more, played, Run, run_after}
+use Rattle.line_steps.proofs.Serving.{on_both}
 use Rattle.grant_laws.specs.Granted.{line_of, Appends}
 use Rattle.grant_laws.proofs.LongerRuns.{in_one, appended_before, Leads, leads_on, leads_one, run_at}
 use Rattle.grant_laws.proofs.Spots.{Spot, IsAt, Makes, leads_there, serves_next, serves_on}

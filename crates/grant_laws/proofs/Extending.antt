@@ -29,10 +29,10 @@ use Rattle.machine.specs.Events.Take.{rules_of}
 use Rattle.script_data.specs.declared.line.Line.{Line}
 use Rattle.script_data.specs.declared.line.Verb.{Verb}
 use Rattle.script_data.specs.Data.{ScriptData}
-use Rattle.line_runs.specs.declared.point.Point.TheVariants.{Drives, Extends}
-use Rattle.line_runs.specs.Halts.{halt_of, follows}
-use Rattle.line_runs.specs.Next.{is_served, extend_next}
-use Rattle.line_runs.specs.Runs.{Calls, Played, fate_by, fate_of, step_of, calls_after, one_more, played, next_in}
+use Rattle.line_steps.specs.declared.point.Point.TheVariants.{Drives, Extends}
+use Rattle.line_steps.specs.Halts.{halt_of, follows}
+use Rattle.line_steps.specs.Next.{is_served, extend_next}
+use Rattle.line_steps.specs.Runs.{Calls, Played, fate_by, fate_of, step_of, calls_after, one_more, played, next_in}
 use Rattle.grant_laws.specs.Granted.{line_of}
 use Rattle.grant_laws.proofs.LongerRuns.{longer_still, Leads, leads_on, leads_to, run_at}
 use Rattle.grant_laws.proofs.Spots.{Spot, IsAt, Makes, leads_there, holder_is, serves_on}

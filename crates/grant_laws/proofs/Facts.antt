@@ -13,7 +13,7 @@ use Rattle.oracle_parts.specs.Instance.{InstanceEntry}
 use Rattle.machine.specs.State.{Client}
 use Rattle.script_data.specs.Data.{ScriptData}
 use Rattle.isolation_laws.specs.Words.{InstanceAt, ClientAt, Marked, epoch_or_none}
-use Rattle.line_runs.specs.Runs.{Played, fate_by}
+use Rattle.line_steps.specs.Runs.{Played, fate_by}
 use Rattle.grant_laws.specs.Granted.{HasStamp}
 use Rattle.grant_laws.proofs.Before.{Known}
 use Rattle.grant_laws.proofs.Spots.{Spot, IsAt, none_held}

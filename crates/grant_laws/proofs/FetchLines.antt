@@ -30,19 +30,19 @@ use Rattle.script_data.specs.declared.line.Verb.TheVariants as verb
 use Rattle.script_data.specs.Data.{ScriptData}
 use Rattle.isolation_laws.specs.Words.{ClientAt}
 use Rattle.isolation_laws.proofs.Lookups.{set_found}
-use Rattle.line_runs.specs.declared.point.Point.TheVariants.{Opens, Reads}
-use Rattle.line_runs.specs.Halts.{halt_of, follows}
-use Rattle.line_runs.specs.Laws.{EventsLowerWhatIsLeft}
-use Rattle.line_runs.specs.Runs.{Calls, Played, one_more, calls_after, fate_by, fate_of, step_of, played, run_after, left_in, opened}
-use Rattle.line_runs.proofs.ReadLines.{OfKey, over_key}
+use Rattle.line_steps.specs.declared.point.Point.TheVariants.{Opens, Reads}
+use Rattle.line_steps.specs.Halts.{halt_of, follows}
+use Rattle.line_steps.specs.Laws.{EventsLowerWhatIsLeft}
+use Rattle.line_steps.specs.Runs.{Calls, Played, one_more, calls_after, fate_by, fate_of, step_of, played, run_after, left_in, opened}
+use Rattle.line_steps.proofs.ReadLines.{OfKey, over_key}
 use Rattle.grant_laws.specs.Granted.{line_of, next_fate}
 use Rattle.grant_laws.proofs.LongerRuns.{in_one, in_last, appended_before, Leads, leads_on, leads_one, leads_to, line_appends, run_at}
 use Rattle.grant_laws.proofs.ReadLines.{IsReading, HasAnswer, read_answers}
 use Rattle.grant_laws.proofs.Before.{Known, known_before, granted}
 use Rattle.grant_laws.specs.Laws.{ReadsAreGranted}
-use Rattle.line_runs.specs.Left.{of_client, cells_by, client_reads, client_fetches}
-use Rattle.line_runs.proofs.AlwaysFit.{Fit}
-use Rattle.line_runs.proofs.Fitting.{EpochFits, fit_at}
+use Rattle.line_steps.specs.Left.{of_client, cells_by, client_reads, client_fetches}
+use Rattle.line_steps.proofs.AlwaysFit.{Fit}
+use Rattle.line_steps.proofs.Fitting.{EpochFits, fit_at}
 use Rattle.grant_laws.proofs.ReadTurns.{OfStart, over_start, CallsWork, works_on, works_now}
 
 -- ---- the fetch

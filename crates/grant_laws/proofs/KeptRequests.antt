@@ -47,9 +47,9 @@ use Rattle.machine.specs.Events.Answer.{answer_by, answer_request, answer_on}
 use Rattle.script_data.specs.Data.{ScriptData}
 use Rattle.isolation_laws.specs.Words.{InstanceAt}
 use Rattle.isolation_laws.proofs.Lookups.{set_found, set_other}
-use Rattle.line_runs.specs.Runs.{fate_of, step_of}
-use Rattle.run_turns.specs.declared.turn.Turn.{Turn}
-use Rattle.run_turns.specs.Carried.{Carried, event_of, turned_by, carried}
+use Rattle.line_steps.specs.Runs.{fate_of, step_of}
+use Rattle.turn_rules.specs.declared.turn.Turn.{Turn}
+use Rattle.turn_rules.specs.Carried.{Carried, event_of, turned_by, carried}
 use Rattle.grant_laws.specs.Turns.{IsServed, touches, RequestsStay}
 
 -- ---- a request at a node

@@ -30,8 +30,8 @@ use Rattle.machine.specs.Events.Write.{write_refused, write_on, write_open, writ
 use Rattle.script_data.specs.declared.line.Line.{Line}
 use Rattle.script_data.specs.declared.line.Verb.TheVariants as verb
 use Rattle.script_data.specs.Data.{ScriptData}
-use Rattle.line_runs.specs.Laws.{EventsLowerWhatIsLeft}
-use Rattle.line_runs.specs.Runs.{Played, fate_by, fate_of, step_of, played, next_in, run_after, left_in, opened}
+use Rattle.line_steps.specs.Laws.{EventsLowerWhatIsLeft}
+use Rattle.line_steps.specs.Runs.{Played, fate_by, fate_of, step_of, played, next_in, run_after, left_in, opened}
 use Rattle.grant_laws.specs.Granted.{line_of, reading_of, Appends}
 use Rattle.grant_laws.specs.Premises.{CanWrite, CanTake}
 use Rattle.grant_laws.specs.Laws.{WritesAreGranted, TakesAreGranted}

@@ -6,11 +6,11 @@ use Rattle.history_book.specs.declared.item.Item.TheVariants as item
 use Rattle.machine.specs.declared.event.Event.{Event}
 use Rattle.machine.specs.declared.event.Event.TheVariants as event
 use Rattle.script_data.specs.Data.{ScriptData}
-use Rattle.line_runs.specs.Runs.{step_of}
-use Rattle.run_turns.specs.declared.turn.Turn.{Turn}
-use Rattle.run_turns.specs.declared.turn.Turn.TheVariants as turn
-use Rattle.run_turns.specs.Carried.{Carried, made_by, event_of, turned_by, carried}
-use Rattle.run_turns.specs.Laws.{TurnsKeepFacts}
+use Rattle.line_steps.specs.Runs.{step_of}
+use Rattle.turn_rules.specs.declared.turn.Turn.{Turn}
+use Rattle.turn_rules.specs.declared.turn.Turn.TheVariants as turn
+use Rattle.turn_rules.specs.Carried.{Carried, made_by, event_of, turned_by, carried}
+use Rattle.turn_rules.specs.Laws.{TurnsKeepFacts}
 use Rattle.grant_laws.specs.Granted.{reading_of}
 use Rattle.grant_laws.specs.Turns.{Adds, WritesAreCarried, TakesAreCarried}
 use Rattle.grant_laws.proofs.OneEvent.{write_tells, next_take, take_tells}

@@ -34,11 +34,11 @@ use Rattle.script_data.specs.declared.line.Verb.TheVariants as verb
 use Rattle.script_data.specs.Data.{ScriptData}
 use Rattle.isolation_laws.specs.Words.{ClientAt}
 use Rattle.isolation_laws.proofs.Lookups.{set_found}
-use Rattle.line_runs.specs.declared.point.Point.TheVariants.{Reads}
-use Rattle.line_runs.specs.Halts.{halt_of, follows}
-use Rattle.line_runs.specs.Next.{read_next}
-use Rattle.line_runs.specs.Runs.{Calls, Played, one_more, calls_after, fate_by, fate_of, step_of, played, Run, run_after, next_in}
-use Rattle.line_runs.proofs.ReadLines.{OfKey, told_key}
+use Rattle.line_steps.specs.declared.point.Point.TheVariants.{Reads}
+use Rattle.line_steps.specs.Halts.{halt_of, follows}
+use Rattle.line_steps.specs.Next.{read_next}
+use Rattle.line_steps.specs.Runs.{Calls, Played, one_more, calls_after, fate_by, fate_of, step_of, played, Run, run_after, next_in}
+use Rattle.line_steps.proofs.ReadLines.{OfKey, told_key}
 use Rattle.grant_laws.specs.Granted.{line_of, Appends, next_fate}
 use Rattle.grant_laws.proofs.LongerRuns.{in_one, in_last, appended_before, Leads, leads_on, leads_one, leads_to, run_at}
 use Rattle.grant_laws.proofs.ReadTurns.{OfStart, told_start, CallsWork, works_on, works_now, read_from}

@@ -15,7 +15,7 @@ use Rattle.client_parts.specs.declared.resolve.SettlePoint.TheVariants.{Table as
 use Rattle.client_parts.specs.Resolve.{SettleTurn, Goes, Decides, settle_turn}
 use Rattle.client_parts.specs.KeyRead.{Reading, ReadTurn, Asks, Answers, found_cell, found_by, settling_of, after_passed, turn_at, read_over, read_by, read_told}
 use Rattle.script_data.specs.Data.{ScriptData}
-use Rattle.line_runs.specs.Runs.{Calls, calls_on, one_more}
+use Rattle.line_steps.specs.Runs.{Calls, calls_on, one_more}
 
 -- ---- a read keeps its start
 abbrev pub OfStart : ℕ → ReadTurn → Type 0

@@ -17,20 +17,20 @@ use Rattle.machine.specs.Events.Fetch.{found_of}
 use Rattle.script_data.specs.Data.{ScriptData}
 use Rattle.isolation_laws.specs.Words.{ClientAt}
 use Rattle.isolation_laws.proofs.Lookups.{set_found}
-use Rattle.line_runs.specs.Laws.{IsPlayable}
-use Rattle.line_runs.specs.Runs.{Played, step_of, played}
-use Rattle.line_runs.proofs.ReadLines.{OfKey, over_key, told_key}
+use Rattle.line_steps.specs.Laws.{IsPlayable}
+use Rattle.line_steps.specs.Runs.{Played, step_of, played}
+use Rattle.line_steps.proofs.ReadLines.{OfKey, over_key, told_key}
 use Rattle.grant_laws.specs.Granted.{next_fate}
 use Rattle.grant_laws.proofs.LongerRuns.{in_one, in_last}
 use Rattle.grant_laws.proofs.ReadLines.{IsReading, told_now, StepsSo, steps_so}
 use Rattle.grant_laws.specs.Turns.{ReadsKey, AnswersOr, ReadsAreCarried}
 use Rattle.grant_laws.proofs.ReadTurns.{OfStart, over_start, told_start}
 use Rattle.stamp_base.specs.SetupNumbers.{AreInRange}
-use Rattle.run_turns.specs.declared.ahead.Ahead.TheVariants.{Makes}
-use Rattle.run_turns.specs.declared.turn.Turn.{Turn}
-use Rattle.run_turns.specs.declared.turn.Turn.TheVariants as turn
-use Rattle.run_turns.specs.Carried.{Carried, own_ahead, made_by, turned_by, turned, carried, all_passed, at_first}
-use Rattle.run_turns.proofs.Facts.{Facts, facts_all, facts_at_first}
+use Rattle.turn_rules.specs.declared.ahead.Ahead.TheVariants.{Makes}
+use Rattle.turn_rules.specs.declared.turn.Turn.{Turn}
+use Rattle.turn_rules.specs.declared.turn.Turn.TheVariants as turn
+use Rattle.turn_rules.specs.Carried.{Carried, own_ahead, made_by, turned_by, turned, carried, all_passed, at_first}
+use Rattle.turn_rules.proofs.Facts.{Facts, facts_all, facts_at_first}
 use Rattle.grant_laws.specs.Premises.{cells_to_read, CanFetch}
 use Rattle.grant_laws.proofs.FetchLines.{has_epoch, may_fetch, first_turn, FetchesSo, fetches_so}
 use Rattle.client_parts.specs.declared.asks.Told.{Told}

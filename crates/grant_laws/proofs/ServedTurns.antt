@@ -37,10 +37,10 @@ use Rattle.isolation_laws.specs.Pending.{Has, InFlight, Pending}
 use Rattle.isolation_laws.specs.Requests.{WaitsFor}
 use Rattle.isolation_laws.proofs.Lookups.{set_found}
 use Rattle.cause_laws.proofs.HeldCounts.{held_within}
-use Rattle.line_runs.specs.Runs.{Played, step_of, played}
-use Rattle.line_runs.proofs.Serving.{node_step, on_both}
-use Rattle.run_turns.specs.declared.turn.Turn.{Turn}
-use Rattle.run_turns.specs.Carried.{Carried, turned}
+use Rattle.line_steps.specs.Runs.{Played, step_of, played}
+use Rattle.line_steps.proofs.Serving.{node_step, on_both}
+use Rattle.turn_rules.specs.declared.turn.Turn.{Turn}
+use Rattle.turn_rules.specs.Carried.{Carried, turned}
 use Rattle.grant_laws.specs.Turns.{Adds, IsServed, Serves}
 
 -- ---- the parts that a turn looks at

@@ -23,10 +23,10 @@ use Rattle.script_data.specs.declared.line.Line.{Line}
 use Rattle.script_data.specs.declared.line.Verb.{Verb}
 use Rattle.script_data.specs.Data.{ScriptData}
 use Rattle.isolation_laws.proofs.Lookups.{set_found}
-use Rattle.line_runs.specs.declared.point.Point.TheVariants.{Drives}
-use Rattle.line_runs.specs.Next.{is_served}
-use Rattle.line_runs.specs.Runs.{Played, step_of, calls_after, clock_after, played}
-use Rattle.line_runs.proofs.Serving.{node_step, on_both}
+use Rattle.line_steps.specs.declared.point.Point.TheVariants.{Drives}
+use Rattle.line_steps.specs.Next.{is_served}
+use Rattle.line_steps.specs.Runs.{Played, step_of, calls_after, clock_after, played}
+use Rattle.line_steps.proofs.Serving.{node_step, on_both}
 use Rattle.grant_laws.specs.Granted.{line_of}
 use Rattle.grant_laws.proofs.LongerRuns.{Longer, Leads, run_at}
 use Rattle.grant_laws.proofs.Spots.{Spot, IsAt, Makes, leads_there, serves_on}

@@ -23,11 +23,11 @@ use Rattle.isolation_laws.proofs.InversionSound.{none_at}
 use Rattle.cause_laws.proofs.Deeds.{Deed, OfRested, OfTook, OfRenewed, OfWidened, OfStopped, OfCrashed, OfAsked, OfAccepted, OfDrew, OfSettled, OfTold, OfEnded, OfLearned, nodes_by, DeedOf}
 use Rattle.cause_laws.proofs.DeedRecords.{Took, took_nodes}
 use Rattle.cause_laws.proofs.DeedsDone.{deed_of}
-use Rattle.line_runs.specs.Laws.{IsPlayable}
-use Rattle.line_runs.specs.Runs.{fate_of, step_of}
-use Rattle.run_turns.specs.declared.turn.Turn.{Turn}
-use Rattle.run_turns.specs.Carried.{Carried, event_of, all_passed, turned_by, turned, at_first, carried}
-use Rattle.run_turns.proofs.Facts.{Facts, facts_turned, facts_at_first}
+use Rattle.line_steps.specs.Laws.{IsPlayable}
+use Rattle.line_steps.specs.Runs.{fate_of, step_of}
+use Rattle.turn_rules.specs.declared.turn.Turn.{Turn}
+use Rattle.turn_rules.specs.Carried.{Carried, event_of, all_passed, turned_by, turned, at_first, carried}
+use Rattle.turn_rules.proofs.Facts.{Facts, facts_turned, facts_at_first}
 
 -- a begin is never settled
 abbrev pub MaySettle : Request → Progress → Type 0

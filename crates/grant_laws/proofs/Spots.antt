@@ -24,11 +24,11 @@ use Rattle.isolation_laws.specs.Words.{InstanceAt, ClientAt}
 use Rattle.isolation_laws.specs.Requests.{WaitsFor}
 use Rattle.isolation_laws.specs.Sound.{Stands}
 use Rattle.isolation_laws.proofs.Lookups.{set_found, instance_changed, held_by, one_client}
-use Rattle.line_runs.specs.declared.point.Point.{Point}
-use Rattle.line_runs.specs.declared.point.Point.TheVariants.{Drives}
-use Rattle.line_runs.specs.Halts.{halt_of, follows}
-use Rattle.line_runs.specs.Next.{Clocks, serves, is_served, drive_next}
-use Rattle.line_runs.specs.Runs.{Played, Calls, clocks_of, step_of, calls_after, clock_after, played, next_in}
+use Rattle.line_steps.specs.declared.point.Point.{Point}
+use Rattle.line_steps.specs.declared.point.Point.TheVariants.{Drives}
+use Rattle.line_steps.specs.Halts.{halt_of, follows}
+use Rattle.line_steps.specs.Next.{Clocks, serves, is_served, drive_next}
+use Rattle.line_steps.specs.Runs.{Played, Calls, clocks_of, step_of, calls_after, clock_after, played, next_in}
 use Rattle.grant_laws.specs.Granted.{line_of}
 use Rattle.grant_laws.proofs.LongerRuns.{Leads, leads_to, run_at}
 

@@ -35,10 +35,10 @@ use Rattle.script_data.specs.Data.{ScriptData}
 use Rattle.isolation_laws.specs.Words.{InstanceAt, Marked}
 use Rattle.isolation_laws.specs.Sound.{Stands}
 use Rattle.isolation_laws.proofs.Lookups.{set_found}
-use Rattle.line_runs.specs.Runs.{fate_by, fate_of, step_of, played}
-use Rattle.run_turns.specs.declared.turn.Turn.TheVariants as turn
-use Rattle.run_turns.specs.Carried.{Carried, carried}
-use Rattle.run_turns.specs.Laws.{TurnsKeepFacts}
+use Rattle.line_steps.specs.Runs.{fate_by, fate_of, step_of, played}
+use Rattle.turn_rules.specs.declared.turn.Turn.TheVariants as turn
+use Rattle.turn_rules.specs.Carried.{Carried, carried}
+use Rattle.turn_rules.specs.Laws.{TurnsKeepFacts}
 use Rattle.grant_laws.specs.Granted.{reading_of, next_fate}
 use Rattle.grant_laws.specs.Turns.{Adds, IsServed, Serves, ServedTurnsAreGranted, ExtensionsAreCarried}
 use Rattle.grant_laws.proofs.Effects.{widens}

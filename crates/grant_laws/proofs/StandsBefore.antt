@@ -23,14 +23,14 @@ use Rattle.script_data.specs.Data.{ScriptData}
 use Rattle.isolation_laws.specs.Sound.{Stands}
 use Rattle.isolation_laws.specs.Words.{InstanceAt, ClientAt}
 use Rattle.isolation_laws.proofs.Lookups.{held_by}
-use Rattle.line_runs.specs.Next.{reading_at}
-use Rattle.line_runs.specs.Runs.{step_of, clocks_of}
-use Rattle.line_runs.proofs.Holders.{Served, is_served_at}
-use Rattle.line_runs.proofs.Serving.{on_both}
-use Rattle.run_turns.specs.declared.turn.Turn.{Turn}
-use Rattle.run_turns.specs.declared.turn.Turn.TheVariants as turn
-use Rattle.run_turns.specs.Carried.{Carried}
-use Rattle.run_turns.specs.Lawful.{answered_from, LacksStamps, IsTold}
+use Rattle.line_steps.specs.Next.{reading_at}
+use Rattle.line_steps.specs.Runs.{step_of, clocks_of}
+use Rattle.line_steps.proofs.Holders.{Served, is_served_at}
+use Rattle.line_steps.proofs.Serving.{on_both}
+use Rattle.turn_rules.specs.declared.turn.Turn.{Turn}
+use Rattle.turn_rules.specs.declared.turn.Turn.TheVariants as turn
+use Rattle.turn_rules.specs.Carried.{Carried}
+use Rattle.turn_rules.specs.Lawful.{answered_from, LacksStamps, IsTold}
 use Rattle.grant_laws.specs.Stuck.{stage_before, IsHeld, StandsBefore}
 use Rattle.grant_laws.proofs.Spots.{holder_is_from}
 use Rattle.grant_laws.proofs.SettledCommits.{MaySettle}

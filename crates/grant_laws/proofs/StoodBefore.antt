@@ -27,11 +27,11 @@ use Rattle.isolation_laws.specs.Sound.{Stands}
 use Rattle.isolation_laws.specs.Words.{ClientAt}
 use Rattle.isolation_laws.specs.Requests.{WaitsFor}
 use Rattle.isolation_laws.proofs.Lookups.{held_by}
-use Rattle.line_runs.proofs.Holders.{Served}
-use Rattle.run_turns.specs.declared.turn.Turn.{Turn}
-use Rattle.run_turns.specs.Carried.{Carried, is_held, holds_at, event_of}
-use Rattle.run_turns.specs.Lawful.{stage_of, IsFree, is_accepted, is_accepted_by, IsInPlace, IsTold, IsLawful}
-use Rattle.run_turns.specs.Told.{StageTurnsAreTold}
+use Rattle.line_steps.proofs.Holders.{Served}
+use Rattle.turn_rules.specs.declared.turn.Turn.{Turn}
+use Rattle.turn_rules.specs.Carried.{Carried, is_held, holds_at, event_of}
+use Rattle.turn_rules.specs.Lawful.{stage_of, IsFree, is_accepted, is_accepted_by, IsInPlace, IsTold, IsLawful}
+use Rattle.turn_rules.specs.Told.{StageTurnsAreTold}
 use Rattle.grant_laws.specs.Stuck.{IsHeld}
 use Rattle.grant_laws.proofs.SettledCommits.{AllFit}
 

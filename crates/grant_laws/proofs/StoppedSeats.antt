@@ -11,21 +11,21 @@ use Rattle.script_data.specs.declared.line.Line.{Line}
 use Rattle.script_data.specs.declared.line.Verb.{Verb}
 use Rattle.script_data.specs.declared.line.Verb.TheVariants as verb
 use Rattle.script_data.specs.Data.{ScriptData}
-use Rattle.line_runs.specs.declared.point.Point.{Point}
-use Rattle.line_runs.specs.declared.point.Point.TheVariants.{Opens, Drives, Extends, Finishes, Reads, Steps, Over}
-use Rattle.line_runs.specs.declared.point.View.{View}
-use Rattle.line_runs.specs.Next.{Clocks, is_served, finish_next, idle_next, next}
-use Rattle.line_runs.specs.Runs.{clocks_of}
-use Rattle.line_runs.specs.Views.{view_of}
-use Rattle.run_turns.specs.declared.ahead.Ahead.TheVariants.{Waits, Passes}
-use Rattle.run_turns.specs.declared.ahead.Why.TheVariants.{Reply, Name}
-use Rattle.run_turns.specs.declared.seat.Seat.{Seat}
-use Rattle.run_turns.specs.declared.turn.Turn.{Turn}
-use Rattle.run_turns.specs.Waiting.{made_next, drive_ahead, collect_ahead, own_opens, own_next}
-use Rattle.run_turns.specs.Seats.{lines_of, lines_left, with_next_line, ahead_of, is_passed, passed}
-use Rattle.run_turns.specs.Carried.{Carried, seat_of, event_of, with_event, seat_passed, all_passed, turned_by, turned, at_first, carried}
-use Rattle.run_turns.proofs.SeatLists.{drop_next}
-use Rattle.run_turns.proofs.SeatsOn.{passed_actor, passed_seat}
+use Rattle.line_steps.specs.declared.point.Point.{Point}
+use Rattle.line_steps.specs.declared.point.Point.TheVariants.{Opens, Drives, Extends, Finishes, Reads, Steps, Over}
+use Rattle.line_steps.specs.declared.point.View.{View}
+use Rattle.line_steps.specs.Next.{Clocks, is_served, finish_next, idle_next, next}
+use Rattle.line_steps.specs.Runs.{clocks_of}
+use Rattle.line_steps.specs.Views.{view_of}
+use Rattle.turn_rules.specs.declared.ahead.Ahead.TheVariants.{Waits, Passes}
+use Rattle.turn_rules.specs.declared.ahead.Why.TheVariants.{Reply, Name}
+use Rattle.turn_rules.specs.declared.seat.Seat.{Seat}
+use Rattle.turn_rules.specs.declared.turn.Turn.{Turn}
+use Rattle.turn_rules.specs.Waiting.{made_next, drive_ahead, collect_ahead, own_opens, own_next}
+use Rattle.turn_rules.specs.Seats.{lines_of, lines_left, with_next_line, ahead_of, is_passed, passed}
+use Rattle.turn_rules.specs.Carried.{Carried, seat_of, event_of, with_event, seat_passed, all_passed, turned_by, turned, at_first, carried}
+use Rattle.turn_rules.proofs.SeatLists.{drop_next}
+use Rattle.turn_rules.proofs.SeatsOn.{passed_actor, passed_seat}
 
 -- ---- the seat once lines are passed
 -- no line is left, or something is ahead of the first
@@ -74,7 +74,7 @@ pub always_stopped : (script : ScriptData) (turns : List Turn) → AllStopped sc
 always_stopped script turns = stopped_on script turns (all_passed script (at_first script)) (all_stopped script (at_first script))
 
 -- ---- what is ahead
-not_waiting : (why : Rattle.run_turns.specs.declared.ahead.Why.Why) (e : Option Event) → made_next e ≡ Waits why → ⊥
+not_waiting : (why : Rattle.turn_rules.specs.declared.ahead.Why.Why) (e : Option Event) → made_next e ≡ Waits why → ⊥
 not_waiting why None is = absurd (cc)
 not_waiting why (Some e) is = absurd (cc)
 

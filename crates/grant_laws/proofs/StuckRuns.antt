@@ -9,25 +9,25 @@ use Rattle.script_data.specs.declared.line.Line.{Line}
 use Rattle.script_data.specs.declared.line.Verb.{Verb}
 use Rattle.script_data.specs.declared.line.Verb.TheVariants as verb
 use Rattle.script_data.specs.Data.{ScriptData}
-use Rattle.line_runs.specs.declared.point.View.{View}
-use Rattle.line_runs.specs.Laws.{IsPlayable, AreLinesOf}
-use Rattle.line_runs.specs.Answers.{same_actor}
-use Rattle.line_runs.specs.Next.{Clocks}
-use Rattle.line_runs.specs.Runs.{clocks_of}
-use Rattle.line_runs.specs.Views.{view_of}
-use Rattle.line_runs.proofs.ScriptWalks.{actor_same}
-use Rattle.run_turns.specs.declared.ahead.Ahead.{Ahead}
-use Rattle.run_turns.specs.declared.ahead.Ahead.TheVariants.{Makes, Waits, Passes}
-use Rattle.run_turns.specs.declared.ahead.Why.TheVariants.{Reply, Name}
-use Rattle.run_turns.specs.declared.seat.Seat.{Seat}
-use Rattle.run_turns.specs.declared.turn.Turn.{Turn}
-use Rattle.run_turns.specs.declared.turn.Turn.TheVariants as turn
-use Rattle.run_turns.specs.Seats.{lines_of, lines_left, present_line, ahead_of, is_passed}
-use Rattle.run_turns.specs.Carried.{Carried, is_posted, name_posted, ahead_at, seat_ahead, ahead_in, own_ahead, made_by, event_of, carried}
-use Rattle.run_turns.specs.Lawful.{IsTold}
-use Rattle.run_turns.specs.Told.{AreForThreads, OwnTurnsAreTold, StageTurnsAreTold}
-use Rattle.run_turns.specs.Laws.{TurnsKeepFacts}
-use Rattle.run_turns.proofs.SeatLists.{drop_get, filtered}
+use Rattle.line_steps.specs.declared.point.View.{View}
+use Rattle.line_steps.specs.Laws.{IsPlayable, AreLinesOf}
+use Rattle.line_steps.specs.Answers.{same_actor}
+use Rattle.line_steps.specs.Next.{Clocks}
+use Rattle.line_steps.specs.Runs.{clocks_of}
+use Rattle.line_steps.specs.Views.{view_of}
+use Rattle.line_steps.proofs.ScriptWalks.{actor_same}
+use Rattle.turn_rules.specs.declared.ahead.Ahead.{Ahead}
+use Rattle.turn_rules.specs.declared.ahead.Ahead.TheVariants.{Makes, Waits, Passes}
+use Rattle.turn_rules.specs.declared.ahead.Why.TheVariants.{Reply, Name}
+use Rattle.turn_rules.specs.declared.seat.Seat.{Seat}
+use Rattle.turn_rules.specs.declared.turn.Turn.{Turn}
+use Rattle.turn_rules.specs.declared.turn.Turn.TheVariants as turn
+use Rattle.turn_rules.specs.Seats.{lines_of, lines_left, present_line, ahead_of, is_passed}
+use Rattle.turn_rules.specs.Carried.{Carried, is_posted, name_posted, ahead_at, seat_ahead, ahead_in, own_ahead, made_by, event_of, carried}
+use Rattle.turn_rules.specs.Lawful.{IsTold}
+use Rattle.turn_rules.specs.Told.{AreForThreads, OwnTurnsAreTold, StageTurnsAreTold}
+use Rattle.turn_rules.specs.Laws.{TurnsKeepFacts}
+use Rattle.turn_rules.proofs.SeatLists.{drop_get, filtered}
 use Rattle.grant_laws.specs.Stuck.{IsStuck, AwaitsName, AwaitsReply, StuckRunsWait}
 use Rattle.grant_laws.proofs.StoppedSeats.{HasStopped, always_stopped, passes_anyway, LacksName, next_name, HasRequest, next_reply}
 use Rattle.grant_laws.proofs.SettledCommits.{commits_alone_settle}

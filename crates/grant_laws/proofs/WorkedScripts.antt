@@ -9,7 +9,7 @@ use Rattle.oracle_parts.specs.Buckets.{record_pairs, kept_commit, verdict}
 use Rattle.oracle_parts.specs.Instance.{InstanceEntry, instance_new, in_flight, least_unsettled}
 use Rattle.machine.specs.State.{Client, client_new}
 use Rattle.machine.specs.Readers.{holder_from}
-use Rattle.line_runs.specs.Runs.{Calls, Played, calls_on, run_for, lines_played, replayed}
+use Rattle.line_steps.specs.Runs.{Calls, Played, calls_on, run_for, lines_played, replayed}
 use Rattle.std.proofs.lemmas.Option.{none-some}
 use Rattle.stamp_base.specs.declared.stores.Store.{Store}
 use Rattle.stamp_base.specs.declared.stores.Mark.TheVariants.{Invalid as InvalidMark}

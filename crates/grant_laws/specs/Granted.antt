@@ -12,9 +12,9 @@ use Rattle.oracle_parts.specs.Instance.{InstanceEntry}
 use Rattle.script_data.specs.declared.line.Line.{Line}
 use Rattle.script_data.specs.declared.line.Verb.{Verb}
 use Rattle.script_data.specs.Data.{ScriptData}
-use Rattle.line_runs.specs.Next.{reading_at}
-use Rattle.line_runs.specs.Runs.{Played, fate_by, clocks_of, line_run, lines_played, opening_played, replayed}
-use Rattle.line_runs.specs.Laws.{IsPlayable}
+use Rattle.line_steps.specs.Next.{reading_at}
+use Rattle.line_steps.specs.Runs.{Played, fate_by, clocks_of, line_run, lines_played, opening_played, replayed}
+use Rattle.line_steps.specs.Laws.{IsPlayable}
 
 -- ---- before a line
 abbrev pub line_of : ℕ → Actor → Verb → Line

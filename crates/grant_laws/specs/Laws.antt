@@ -8,7 +8,7 @@ use Rattle.oracle_parts.specs.Instance.{least_unsettled}
 use Rattle.script_data.specs.declared.line.Target.TheVariants as target
 use Rattle.script_data.specs.declared.line.Verb.TheVariants as verb
 use Rattle.script_data.specs.Data.{ScriptData}
-use Rattle.line_runs.specs.Runs.{Played}
+use Rattle.line_steps.specs.Runs.{Played}
 use Rattle.grant_laws.specs.Granted.{line_of, IsBefore, reading_of, Grants}
 use Rattle.grant_laws.specs.Premises.{CanWrite, CanTake, CanBegin, CanCommit, CanRead}
 

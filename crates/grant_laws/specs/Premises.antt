@@ -14,7 +14,7 @@ use Rattle.oracle_parts.specs.Instance.{InstanceEntry, in_flight}
 use Rattle.machine.specs.State.{Client}
 use Rattle.machine.specs.Clients.{is_reading}
 use Rattle.script_data.specs.Data.{ScriptData}
-use Rattle.line_runs.specs.Runs.{Played, calls_on}
+use Rattle.line_steps.specs.Runs.{Played, calls_on}
 use Rattle.isolation_laws.specs.Words.{InstanceAt, ClientAt, Marked}
 use Rattle.grant_laws.specs.Granted.{reading_of, next_fate, HasStamp}
 

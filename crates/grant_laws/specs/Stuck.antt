@@ -10,15 +10,15 @@ use Rattle.oracle_parts.specs.declared.instance.Place.TheVariants as place
 use Rattle.script_data.specs.declared.line.Line.{Line}
 use Rattle.script_data.specs.declared.line.Verb.TheVariants as verb
 use Rattle.script_data.specs.Data.{ScriptData}
-use Rattle.line_runs.specs.Laws.{IsPlayable, AreLinesOf}
-use Rattle.run_turns.specs.declared.ahead.Ahead.TheVariants.{Waits}
-use Rattle.run_turns.specs.declared.ahead.Why.TheVariants as why
-use Rattle.run_turns.specs.declared.seat.Seat.{Seat}
-use Rattle.run_turns.specs.declared.turn.Turn.{Turn}
-use Rattle.run_turns.specs.Seats.{lines_left, present_line}
-use Rattle.run_turns.specs.Carried.{Carried, is_posted, is_held, holds_at, seat_ahead, seat_of, carried}
-use Rattle.run_turns.specs.Lawful.{session_view, IsLawful}
-use Rattle.run_turns.specs.Told.{AreForThreads}
+use Rattle.line_steps.specs.Laws.{IsPlayable, AreLinesOf}
+use Rattle.turn_rules.specs.declared.ahead.Ahead.TheVariants.{Waits}
+use Rattle.turn_rules.specs.declared.ahead.Why.TheVariants as why
+use Rattle.turn_rules.specs.declared.seat.Seat.{Seat}
+use Rattle.turn_rules.specs.declared.turn.Turn.{Turn}
+use Rattle.turn_rules.specs.Seats.{lines_left, present_line}
+use Rattle.turn_rules.specs.Carried.{Carried, is_posted, is_held, holds_at, seat_ahead, seat_of, carried}
+use Rattle.turn_rules.specs.Lawful.{session_view, IsLawful}
+use Rattle.turn_rules.specs.Told.{AreForThreads}
 
 -- no turn can be made after these
 abbrev pub IsStuck : ScriptData → List Turn → Type 0

@@ -25,12 +25,12 @@ use Rattle.machine.specs.declared.event.Event.TheVariants as event
 use Rattle.machine.specs.Events.Decide.{draw_item}
 use Rattle.script_data.specs.Data.{ScriptData}
 use Rattle.isolation_laws.specs.Words.{InstanceAt, HeldBy, ClientAt, Marked}
-use Rattle.line_runs.specs.Laws.{IsPlayable}
-use Rattle.line_runs.specs.Runs.{Played}
-use Rattle.run_turns.specs.declared.ahead.Ahead.TheVariants.{Makes}
-use Rattle.run_turns.specs.declared.turn.Turn.{Turn}
-use Rattle.run_turns.specs.declared.turn.Turn.TheVariants as turn
-use Rattle.run_turns.specs.Carried.{Carried, own_ahead, event_of, turned, carried}
+use Rattle.line_steps.specs.Laws.{IsPlayable}
+use Rattle.line_steps.specs.Runs.{Played}
+use Rattle.turn_rules.specs.declared.ahead.Ahead.TheVariants.{Makes}
+use Rattle.turn_rules.specs.declared.turn.Turn.{Turn}
+use Rattle.turn_rules.specs.declared.turn.Turn.TheVariants as turn
+use Rattle.turn_rules.specs.Carried.{Carried, own_ahead, event_of, turned, carried}
 use Rattle.grant_laws.specs.Granted.{reading_of, next_fate, Appends}
 use Rattle.grant_laws.specs.Premises.{CanWrite, CanTake, cells_to_read, CanFetch}
 

@@ -2,7 +2,7 @@
 ghost use Rattle.grant_laws.specs.Turns.{WritesAreCarried, TakesAreCarried, ServedTurnsAreGranted, ExtensionsAreCarried, RequestsStay, ReadsAreCarried};
 
 use client_parts::reads_end;
-use run_turns::turns_keep_facts;
+use turn_rules::turns_keep_facts;
 
 /// An own turn that makes a write appends it, under the premises of a write line.
 pub fn writes_are_carried()

@@ -2,7 +2,7 @@
 ghost use Rattle.grant_laws.specs.Laws.{WritesAreGranted, TakesAreGranted, BeginsAreGranted, CommitsAreGranted, ReadsAreGranted};
 
 use client_parts::reads_end;
-use line_runs::events_lower_what_is_left;
+use line_steps::events_lower_what_is_left;
 
 /// A write line of an open transaction appends its write, in whatever state the lines before it have come to: all that is asked
 /// for is that no read is under way, that the key is written already or there is room for it, and that the cells' next call

@@ -3,7 +3,7 @@
 ghost use Rattle.std.specs.Prelude.{◌≡◌, []};
 ghost use Rattle.stamp_base.specs.declared.stores.Store.TheVariants.{Cells, Table};
 ghost use Rattle.history_book.specs.declared.item.Item.TheVariants.{Committed};
-ghost use Rattle.line_runs.specs.Runs.{replayed};
+ghost use Rattle.line_steps.specs.Runs.{replayed};
 ghost use Rattle.grant_laws.specs.Granted.{Grants};
 ghost use Rattle.grant_laws.specs.Premises.{CanTake, CanBegin, CanWrite, CanRead, CanCommit};
 ghost use Rattle.grant_laws.specs.Worked as worked;

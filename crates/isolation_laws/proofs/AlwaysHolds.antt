@@ -1,4 +1,4 @@
--- For line_runs, cause_laws, call_laws, planned_laws, replay_driver and run_turns too.
+-- For line_steps, cause_laws, call_laws, planned_laws, replay_driver and turn_rules too.
 -- What ties state and history holds after every list of moves with steady readings; so each history is snapshot isolated.
 use Rattle.std.proofs.Common.{◌≡◌, ℕ, List, [], ◌∷◌, ◌++◌, append_assoc, refl, sym, ◌∙◌, ap, subst}
 use Rattle.std.proofs.lemmas.List.{append-nil}

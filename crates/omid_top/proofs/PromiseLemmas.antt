@@ -9,9 +9,9 @@ use Rattle.script_lines.specs.declared.cause.ScriptCause.{ScriptCause}
 use Rattle.session_script.specs.declared.fault.ScriptFault.{ScriptFault}
 use Rattle.session_script.specs.declared.fault.ScriptFault.TheVariants.{At}
 use Rattle.session_script.specs.Script.{BadLine, ReadsScript}
-use Rattle.line_runs.specs.Answers.{Answers}
-use Rattle.line_runs.specs.Planned.{Planned}
-use Rattle.line_runs.specs.Runs.{replayed}
+use Rattle.line_steps.specs.Answers.{Answers}
+use Rattle.line_steps.specs.Planned.{Planned}
+use Rattle.line_steps.specs.Runs.{replayed}
 use Rattle.omid_top.specs.Promise.{KeepsPromise}
 
 pub promise_kept : (script : ScriptData) (h : List Item) → h ≡ replayed script → Isolated h → Explained script.setup h → Answers script h → Planned script h → KeepsPromise script

@@ -8,7 +8,7 @@ use Rattle.history_json.specs.Json.{json_printed}
 use Rattle.history_text.specs.Summary.{summarized}
 use Rattle.session_script.specs.Script.{script_of}
 use Rattle.script_lines.specs.declared.mode.Mode.TheVariants.{Replay, Run}
-use Rattle.line_runs.specs.Runs.{replayed}
+use Rattle.line_steps.specs.Runs.{replayed}
 use Rattle.replay_driver.specs.Storm.{storm_data}
 use Rattle.omid_top.specs.Audit.{IsVerdict, Reported, ReportedFront, IsFairTo}
 use Rattle.omid_top.specs.Promise.{KeepsPromise, GainsFront, GainsLines, history_of, WritesRun, IsCutRun}

@@ -7,10 +7,10 @@ use Rattle.cause_rules.specs.Explained.{Explained}
 use Rattle.port_io.specs.Ports.{Gains}
 use Rattle.script_data.specs.Data.{ScriptData}
 use Rattle.session_script.specs.Script.{BadLine}
-use Rattle.line_runs.specs.Runs.{replayed}
-use Rattle.line_runs.specs.Answers.{Answers}
-use Rattle.line_runs.specs.Planned.{Planned}
-use Rattle.run_turns.specs.declared.turn.Turn.{Turn}
+use Rattle.line_steps.specs.Runs.{replayed}
+use Rattle.line_steps.specs.Answers.{Answers}
+use Rattle.line_steps.specs.Planned.{Planned}
+use Rattle.turn_rules.specs.declared.turn.Turn.{Turn}
 use Rattle.run_driver.specs.Runs.{RunsTo}
 use Rattle.history_text.specs.Text.{printed}
 use Rattle.omid_top.specs.Texts.{bad_line_text}

@@ -8,7 +8,7 @@ use Rattle.history_json.specs.Json.{json_printed}
 use Rattle.script_lines.specs.Causes.{cause_text}
 use Rattle.script_data.specs.Data.{ScriptData}
 use Rattle.session_script.specs.Script.{BadLine}
-use Rattle.line_runs.specs.Runs.{replayed}
+use Rattle.line_steps.specs.Runs.{replayed}
 use Rattle.omid_top.specs.declared.form.Form.{Form}
 use Rattle.omid_top.specs.declared.form.Form.TheVariants as form
 use Rattle.omid_top.specs.declared.words.Command.{Command}

@@ -5,7 +5,7 @@ ghost use Rattle.stamp_base.specs.declared.limits.TheConstants.{LINE_LIMIT};
 ghost use Rattle.port_io.specs.Ports.{Risen, Gains};
 ghost use Rattle.session_script.specs.Script.{script_of, data_of};
 ghost use Rattle.script_lines.specs.declared.mode.Mode.TheVariants.{Replay};
-ghost use Rattle.line_runs.specs.Runs.{replayed};
+ghost use Rattle.line_steps.specs.Runs.{replayed};
 ghost use Rattle.omid_top.specs.Commands.{Replays, Storms};
 ghost use Rattle.omid_top.specs.Promise.{KeepsPromise, GainsFront, GainsLines, history_of};
 ghost use Rattle.omid_top.specs.Texts.{bad_line_text, replay_text, text_in};

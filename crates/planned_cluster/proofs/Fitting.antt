@@ -11,7 +11,7 @@ use Rattle.script_data.specs.declared.line.Target.TheVariants as targets
 use Rattle.script_data.specs.declared.line.Verb.{Verb}
 use Rattle.script_data.specs.declared.line.Verb.TheVariants as verbs
 use Rattle.script_data.specs.Sound.{LineIsSound, actor_needs, verb_needs}
-use Rattle.line_runs.specs.Laws.{ActorFits, VerbFits, AreLinesOf}
+use Rattle.line_steps.specs.Laws.{ActorFits, VerbFits, AreLinesOf}
 use Rattle.planned_cluster.specs.Fitting.{SessionIsThere}
 
 -- sessions of all lines are there

@@ -6,7 +6,7 @@ use Rattle.script_data.specs.declared.line.Line.{Line}
 use Rattle.script_data.specs.Data.{ScriptData, IsSound}
 use Rattle.script_data.specs.Sound.{LineIsSound}
 use Rattle.script_data.specs.Ticks.{ticks_of}
-use Rattle.line_runs.specs.Laws.{IsPlayable}
+use Rattle.line_steps.specs.Laws.{IsPlayable}
 
 ticks_are_few : (nodes : ℕ) (lines : List Line) → All (LineIsSound nodes) lines → ticks_of lines ≤ length lines * 1000000
 unfolding ticks_of

@@ -9,7 +9,7 @@ use Rattle.machine.specs.Effect.{Stop, Refuses, Faults}
 use Rattle.event_parts.specs.declared.stopped.Stopped.{Stopped}
 use Rattle.event_parts.specs.declared.stopped.Stopped.TheVariants.{Refused, StoreFault, NoMemory}
 use Rattle.script_data.specs.Data.{ScriptData}
-use Rattle.line_runs.specs.Runs.{Played, calls_on, clock_after, step_of, played, opening_played}
+use Rattle.line_steps.specs.Runs.{Played, calls_on, clock_after, step_of, played, opening_played}
 use Rattle.cluster_core.specs.Whole.{Whole}
 
 -- cluster, clock and weather stand where the script was played so far: the fates ahead are the planned ones of the calls that

@@ -3,13 +3,13 @@ ghost use Rattle.stamp_base.specs.Setups.{numbers_of};
 ghost use Rattle.port_io.specs.Planned.{OneEach};
 ghost use Rattle.history_book.specs.declared.item.Actor.TheVariants.{Session};
 ghost use Rattle.machine.specs.Machine.{IsSteadyAt, reading_of};
-ghost use Rattle.line_runs.specs.Views.{view_of};
+ghost use Rattle.line_steps.specs.Views.{view_of};
 ghost use Rattle.planned_cluster.specs.Fitting.{SessionIsThere};
 ghost use Rattle.planned_cluster.specs.Standing.{OpensFor, PlaysOn, clock_made};
 
 use cluster_core::{Cluster, Stopped};
 use history_book::Actor;
-use line_runs::View;
+use line_steps::View;
 use machine::{Doing, Event};
 use port_io::{Fate, PlannedWeather, Weather};
 use stamp_base::{NoMemory, SessionNo, Setup, Store};

@@ -19,7 +19,7 @@ use Rattle.machine.specs.Events.Step.{step_asks}
 use Rattle.machine.specs.Events.Heal.{heal_asks}
 use Rattle.isolation_laws.specs.Sound.{Stands}
 use Rattle.cause_laws.specs.Shows.{Shows}
-use Rattle.line_runs.specs.Next.{Clocks}
+use Rattle.line_steps.specs.Next.{Clocks}
 use Rattle.planned_laws.specs.SoFar.{ReadsClocks}
 use Rattle.planned_laws.proofs.ReadItems.{Made, made_none, made_one, post_made, client_made, node_made, session_made, both_made}
 use Rattle.planned_laws.proofs.MadeOfRecord.{take_on_made, renew_on_made, extend_on_made}

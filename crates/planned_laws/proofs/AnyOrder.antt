@@ -17,12 +17,12 @@ use Rattle.script_data.specs.declared.line.Verb.TheVariants as verb
 use Rattle.script_data.specs.Data.{ScriptData}
 use Rattle.isolation_laws.proofs.AlwaysHolds.{facts_stay}
 use Rattle.cause_laws.proofs.AlwaysExplained.{tells_stay, tells_at_first}
-use Rattle.line_runs.specs.Next.{Clocks}
-use Rattle.line_runs.specs.Runs.{Played, fate_of, step_of, clocks_of, played, opening_played}
+use Rattle.line_steps.specs.Next.{Clocks}
+use Rattle.line_steps.specs.Runs.{Played, fate_of, step_of, clocks_of, played, opening_played}
 use Rattle.script_data.specs.Ticks.{tick_of, ticks_of}
-use Rattle.line_runs.specs.Planned.{tick_by, with_tick, ticks_in}
-use Rattle.line_runs.proofs.Ending.{opening_reached}
-use Rattle.line_runs.proofs.Timing.{Timed, InTime, in_time}
+use Rattle.line_steps.specs.Planned.{tick_by, with_tick, ticks_in}
+use Rattle.line_steps.proofs.Ending.{opening_reached}
+use Rattle.line_steps.proofs.Timing.{Timed, InTime, in_time}
 use Rattle.planned_laws.specs.SoFar.{ReadsClocks, ticks_with, PlannedSoFar}
 use Rattle.planned_laws.specs.Orders.{TimedEvent, all_played, AllRead, ticks_made, IsTold, EventsStayTold, OrdersArePlanned}
 use Rattle.planned_laws.proofs.OneEvent.{planned_at_first, events_stay_planned, planned_in_the_end}

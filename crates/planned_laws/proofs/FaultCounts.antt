@@ -13,9 +13,9 @@ use Rattle.port_io.specs.Planned.{PlannedFault, same_store, is_of, planned_fate}
 use Rattle.history_book.specs.declared.item.Item.{Item}
 use Rattle.history_book.specs.declared.item.Item.TheVariants as item
 use Rattle.script_data.specs.Data.{ScriptData}
-use Rattle.line_runs.specs.Next.{Clocks}
-use Rattle.line_runs.specs.Planned.{is_fault_of, plans}
-use Rattle.line_runs.specs.Runs.{Calls, calls_on, one_more, calls_after, fate_by}
+use Rattle.line_steps.specs.Next.{Clocks}
+use Rattle.line_steps.specs.Planned.{is_fault_of, plans}
+use Rattle.line_steps.specs.Runs.{Calls, calls_on, one_more, calls_after, fate_by}
 use Rattle.planned_laws.specs.SoFar.{is_due}
 use Rattle.planned_laws.proofs.ReadItems.{IsRead, Failed, Made}
 

@@ -21,7 +21,7 @@ use Rattle.machine.specs.Effect.{kept_items}
 use Rattle.machine.specs.Events.Take.{rules_of, take_item, take_by, take_on, take_asks}
 use Rattle.machine.specs.Events.Renew.{renew_by, renew_on, renew_asks}
 use Rattle.machine.specs.Events.Extend.{extend_by, extend_on, extend_asks}
-use Rattle.line_runs.specs.Next.{Clocks, reading_at}
+use Rattle.line_steps.specs.Next.{Clocks, reading_at}
 use Rattle.planned_laws.proofs.ReadItems.{Made, none_read, one_read, made_one, made_fault, made_refused, unchanged_fails, applied_fails}
 
 -- ---- takes

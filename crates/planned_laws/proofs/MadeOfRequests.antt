@@ -37,7 +37,7 @@ use Rattle.isolation_laws.proofs.Lookups.{held_by}
 use Rattle.cause_laws.specs.Due.{Serves}
 use Rattle.cause_laws.specs.Shows.{Shows}
 use Rattle.cause_laws.proofs.ShownOfRequests.{node_of}
-use Rattle.line_runs.specs.Next.{Clocks, reading_at}
+use Rattle.line_steps.specs.Next.{Clocks, reading_at}
 use Rattle.planned_laws.proofs.ReadItems.{Made, none_read, one_read, made_one, made_fault, unchanged_fails, applied_fails, AnswersUntimed, made_refused, made_once}
 
 -- ---- accept

@@ -31,7 +31,7 @@ use Rattle.machine.specs.Events.Heal.{no_offer_cause, offer_of, heal_at, heal_on
 use Rattle.machine.specs.Events.Step.{read_step, settle_items, settle_step, complete_step, work_of, next_of, step_at, step_by, step_on, store_asked, step_asks_by, step_asks}
 use Rattle.machine.specs.Events.SweepOpen.{sweep_open_on}
 use Rattle.machine.specs.Events.SweepStep.{undecided_items, sweep_met, sweep_lists, sweep_at, sweep_step_on, sweep_step_asks}
-use Rattle.line_runs.specs.Next.{Clocks}
+use Rattle.line_steps.specs.Next.{Clocks}
 use Rattle.planned_laws.proofs.ReadItems.{IsRead, Made, none_read, one_read, made_none, made_one, made_fault, unchanged_fails, applied_fails, Untimed, IfUntimed, made_refused}
 use Rattle.planned_laws.proofs.MadeOfSessions.{read_turn_read}
 

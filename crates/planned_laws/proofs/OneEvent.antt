@@ -18,9 +18,9 @@ use Rattle.script_data.specs.Data.{ScriptData}
 use Rattle.cause_rules.specs.Asks.{its_node}
 use Rattle.cause_laws.proofs.SinceWords.{last_told-push}
 use Rattle.cause_laws.specs.Shows.{Tells}
-use Rattle.line_runs.specs.Next.{Clocks, reading_at}
-use Rattle.line_runs.specs.Planned.{is_fault_of, times_told, times_from, time_by, time_or_start, shown, IsTimed}
-use Rattle.line_runs.specs.Runs.{Played, calls_on, fate_by, fate_of, step_of, clocks_of, clock_after, played}
+use Rattle.line_steps.specs.Next.{Clocks, reading_at}
+use Rattle.line_steps.specs.Planned.{is_fault_of, times_told, times_from, time_by, time_or_start, shown, IsTimed}
+use Rattle.line_steps.specs.Runs.{Played, calls_on, fate_by, fate_of, step_of, clocks_of, clock_after, played}
 use Rattle.planned_laws.specs.SoFar.{ReadsClocks, PlannedSoFar}
 use Rattle.planned_laws.specs.Laws.{PlannedAtFirst, EventsStayPlanned, PlannedInTheEnd}
 use Rattle.planned_laws.proofs.ReadItems.{Made}

@@ -11,20 +11,20 @@ use Rattle.script_data.specs.declared.line.Verb.TheVariants as verb
 use Rattle.script_data.specs.Data.{ScriptData}
 use Rattle.cause_laws.specs.Shows.{Tells}
 use Rattle.cause_laws.proofs.AlwaysExplained.{tells_stay, tells_at_first}
-use Rattle.line_runs.specs.declared.point.Halt.{Halt}
-use Rattle.line_runs.specs.declared.point.Halt.TheVariants.{NoStamp, NotYet, Refused, Faulted}
-use Rattle.line_runs.specs.declared.point.Point.{Point}
-use Rattle.line_runs.specs.declared.point.Point.TheVariants.{Opens, Drives, Extends, Finishes, Reads, Steps, Over}
-use Rattle.line_runs.specs.declared.point.View.{View}
-use Rattle.line_runs.specs.Halts.{halt_of, unless_halted, after_write, after_serving, after_extending, after_opening, follows}
-use Rattle.line_runs.specs.Views.{view_of}
-use Rattle.line_runs.specs.Next.{Clocks, next}
-use Rattle.line_runs.specs.Planned.{tick_by, with_tick, ticks_in}
-use Rattle.line_runs.specs.Runs.{Played, step_of, Run, clocks_of, next_in, run_after, left_in, going_on, run_for, opened, line_run, lines_played, opening_played, script_played}
+use Rattle.line_steps.specs.declared.point.Halt.{Halt}
+use Rattle.line_steps.specs.declared.point.Halt.TheVariants.{NoStamp, NotYet, Refused, Faulted}
+use Rattle.line_steps.specs.declared.point.Point.{Point}
+use Rattle.line_steps.specs.declared.point.Point.TheVariants.{Opens, Drives, Extends, Finishes, Reads, Steps, Over}
+use Rattle.line_steps.specs.declared.point.View.{View}
+use Rattle.line_steps.specs.Halts.{halt_of, unless_halted, after_write, after_serving, after_extending, after_opening, follows}
+use Rattle.line_steps.specs.Views.{view_of}
+use Rattle.line_steps.specs.Next.{Clocks, next}
+use Rattle.line_steps.specs.Planned.{tick_by, with_tick, ticks_in}
+use Rattle.line_steps.specs.Runs.{Played, step_of, Run, clocks_of, next_in, run_after, left_in, going_on, run_for, opened, line_run, lines_played, opening_played, script_played}
 use Rattle.script_data.specs.Ticks.{tick_of, ticks_of}
-use Rattle.line_runs.specs.Laws.{EventsLowerWhatIsLeft, IsPlayable, IsReached}
-use Rattle.line_runs.proofs.Ending.{Keeps, Going, Ended, goes_on, line_ends, opening_reached}
-use Rattle.line_runs.proofs.Timing.{tick_ahead}
+use Rattle.line_steps.specs.Laws.{EventsLowerWhatIsLeft, IsPlayable, IsReached}
+use Rattle.line_steps.proofs.Ending.{Keeps, Going, Ended, goes_on, line_ends, opening_reached}
+use Rattle.line_steps.proofs.Timing.{tick_ahead}
 use Rattle.planned_laws.specs.SoFar.{ReadsClocks, ticks_with, tick_at, PlannedSoFar}
 use Rattle.planned_laws.specs.Laws.{ScriptsArePlanned}
 use Rattle.planned_laws.proofs.OneEvent.{planned_at_first, events_stay_planned, planned_in_the_end}

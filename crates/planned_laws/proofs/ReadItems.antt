@@ -16,7 +16,7 @@ use Rattle.oracle_parts.specs.Instance.{InstanceEntry}
 use Rattle.machine.specs.State.{Client, State}
 use Rattle.machine.specs.Effect.{refused_once}
 use Rattle.machine.specs.Machine.{Step, at_post, at_client, at_both, asks_at_post, asks_at_client}
-use Rattle.line_runs.specs.Next.{Clocks, reading_at}
+use Rattle.line_steps.specs.Next.{Clocks, reading_at}
 
 -- ---- one item
 abbrev pub IsCauseRead : Clocks → Actor → Cause → Type 0

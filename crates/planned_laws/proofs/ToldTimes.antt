@@ -17,8 +17,8 @@ use Rattle.history_book.specs.declared.item.Item.TheVariants as item
 use Rattle.cause_rules.specs.Since.{last_told}
 use Rattle.cause_laws.proofs.SinceWords.{last_told-same}
 use Rattle.cause_laws.proofs.LongerHistories.{each_longer}
-use Rattle.line_runs.specs.Next.{Clocks, reading_at}
-use Rattle.line_runs.specs.Planned.{times_told, times_from, time_by, time_or_start, shown, IsCauseTimed, IsTimed}
+use Rattle.line_steps.specs.Next.{Clocks, reading_at}
+use Rattle.line_steps.specs.Planned.{times_told, times_from, time_by, time_or_start, shown, IsCauseTimed, IsTimed}
 use Rattle.planned_laws.proofs.ReadItems.{IsCauseRead, IsRead, Made}
 
 -- ---- items that tell no time

@@ -6,12 +6,12 @@ use Rattle.machine.specs.declared.event.Event.{Event}
 use Rattle.script_data.specs.declared.line.Verb.{Verb}
 use Rattle.script_data.specs.Data.{ScriptData}
 use Rattle.cause_laws.specs.Shows.{Tells}
-use Rattle.line_runs.specs.declared.point.Point.{Point}
-use Rattle.line_runs.specs.declared.point.View.{View}
-use Rattle.line_runs.specs.Next.{Clocks, next}
-use Rattle.line_runs.specs.Runs.{Played, clocks_of, played, opening_played, replayed}
-use Rattle.line_runs.specs.Laws.{IsPlayable}
-use Rattle.line_runs.specs.Planned.{ticks_in, Planned}
+use Rattle.line_steps.specs.declared.point.Point.{Point}
+use Rattle.line_steps.specs.declared.point.View.{View}
+use Rattle.line_steps.specs.Next.{Clocks, next}
+use Rattle.line_steps.specs.Runs.{Played, clocks_of, played, opening_played, replayed}
+use Rattle.line_steps.specs.Laws.{IsPlayable}
+use Rattle.line_steps.specs.Planned.{ticks_in, Planned}
 use Rattle.planned_laws.specs.SoFar.{ReadsClocks, ticks_with, tick_at, PlannedSoFar}
 
 -- before the first event

@@ -4,9 +4,9 @@ use Rattle.stamp_base.specs.SetupNumbers.{AreInRange}
 use Rattle.machine.specs.declared.event.Event.{Event}
 use Rattle.script_data.specs.Data.{ScriptData}
 use Rattle.cause_laws.specs.Shows.{Tells}
-use Rattle.line_runs.specs.Runs.{Played, clocks_of, played, opening_played}
-use Rattle.line_runs.specs.Laws.{IsPlayable, IsReached}
-use Rattle.line_runs.specs.Planned.{with_tick, ticks_in, Planned}
+use Rattle.line_steps.specs.Runs.{Played, clocks_of, played, opening_played}
+use Rattle.line_steps.specs.Laws.{IsPlayable, IsReached}
+use Rattle.line_steps.specs.Planned.{with_tick, ticks_in, Planned}
 use Rattle.planned_laws.specs.SoFar.{ReadsClocks}
 
 -- an event, and how long it ticks, if it does

@@ -9,11 +9,11 @@ use Rattle.machine.specs.declared.event.Event.TheVariants as event
 use Rattle.script_data.specs.declared.line.Verb.{Verb}
 use Rattle.script_data.specs.Data.{ScriptData}
 use Rattle.cause_rules.specs.Since.{last_told}
-use Rattle.line_runs.specs.declared.point.Point.{Point}
-use Rattle.line_runs.specs.declared.point.Point.TheVariants.{Opens}
-use Rattle.line_runs.specs.Next.{Clocks, reading_at}
-use Rattle.line_runs.specs.Runs.{Played, calls_on}
-use Rattle.line_runs.specs.Planned.{is_fault_of, plans, times_told, tick_by, times_from, time_by, time_or_start, IsTimed}
+use Rattle.line_steps.specs.declared.point.Point.{Point}
+use Rattle.line_steps.specs.declared.point.Point.TheVariants.{Opens}
+use Rattle.line_steps.specs.Next.{Clocks, reading_at}
+use Rattle.line_steps.specs.Runs.{Played, calls_on}
+use Rattle.line_steps.specs.Planned.{is_fault_of, plans, times_told, tick_by, times_from, time_by, time_or_start, IsTimed}
 
 -- ---- events that read the clocks
 -- a take, a renewal and an acceptance have the reading of their node's clock; a tick goes on from the base clock by so much,

@@ -5,7 +5,7 @@
 ghost use Rattle.planned_laws.specs.Laws.{PlannedAtFirst, EventsStayPlanned, PlannedInTheEnd, LinesReadClocks, ScriptsArePlanned};
 ghost use Rattle.planned_laws.specs.Orders.{EventsStayTold, OrdersArePlanned};
 
-use line_runs::events_lower_what_is_left;
+use line_steps::events_lower_what_is_left;
 
 /// Before the first event everything is as planned.
 pub fn planned_at_first()

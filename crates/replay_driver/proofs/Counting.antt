@@ -8,7 +8,7 @@ use Rattle.script_data.specs.declared.line.Line.{Line}
 use Rattle.script_data.specs.Data.{IsSound}
 use Rattle.script_data.specs.Data.{ScriptData}
 use Rattle.script_data.specs.Ticks.{tick_of, ticks_of}
-use Rattle.line_runs.specs.Runs.{Played, line_run, lines_played, opening_played, replayed}
+use Rattle.line_steps.specs.Runs.{Played, line_run, lines_played, opening_played, replayed}
 use Rattle.cluster_core.specs.Whole.{Whole}
 use Rattle.planned_cluster.specs.Standing.{StandsAt}
 use Rattle.replay_driver.specs.Playing.{IsPlayedTo, played_to}

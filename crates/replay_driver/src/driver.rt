@@ -3,15 +3,15 @@ ghost use Rattle.std.specs.Prelude.{◌≡◌, ◌<◌, ◌≤◌, ◌+◌, IfOk
 ghost use Rattle.stamp_base.specs.declared.limits.TheConstants.{LINE_LIMIT};
 ghost use Rattle.stamp_base.specs.Setups.{numbers_of};
 ghost use Rattle.session_script.specs.Script.{data_of};
-ghost use Rattle.line_runs.specs.Answers.{Answers};
-ghost use Rattle.line_runs.specs.Planned.{Planned};
-ghost use Rattle.line_runs.specs.Runs.{replayed};
+ghost use Rattle.line_steps.specs.Answers.{Answers};
+ghost use Rattle.line_steps.specs.Planned.{Planned};
+ghost use Rattle.line_steps.specs.Runs.{replayed};
 ghost use Rattle.replay_driver.specs.Playing.{IsPlayedTo};
 
 use crate::play::{make, seen};
 use crate::progress::{Progress, Silent};
 use cluster_core::Cluster;
-use line_runs::{Point, events_lower_what_is_left, follows, lines_are_answered, next_event};
+use line_steps::{Point, events_lower_what_is_left, follows, lines_are_answered, next_event};
 use planned_cluster::{PlannedCluster, see_session};
 use planned_laws::scripts_are_planned;
 use port_io::{PlannedWeather, Weather};

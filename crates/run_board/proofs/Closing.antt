@@ -2,19 +2,19 @@
 use Rattle.std.proofs.Common.{◌≡◌, List, sym, subst}
 use Rattle.history_book.specs.declared.item.Item.{Item}
 use Rattle.script_data.specs.Data.{ScriptData}
-use Rattle.line_runs.specs.Answers.{Answers}
-use Rattle.line_runs.specs.Planned.{Planned}
+use Rattle.line_steps.specs.Answers.{Answers}
+use Rattle.line_steps.specs.Planned.{Planned}
 use Rattle.line_shares.specs.declared.cursor.Cursor.{Cursor}
 use Rattle.planned_cluster.proofs.Playable.{playable_at_first}
-use Rattle.run_turns.specs.declared.turn.Turn.{Turn}
-use Rattle.run_turns.specs.Carried.{carried_items, AreWhole}
-use Rattle.run_turns.specs.Lawful.{AreLawful}
-use Rattle.run_turns.specs.Laws.{TurnsAnswer, TurnsArePlanned}
+use Rattle.turn_rules.specs.declared.turn.Turn.{Turn}
+use Rattle.turn_rules.specs.Carried.{carried_items, AreWhole}
+use Rattle.turn_rules.specs.Lawful.{AreLawful}
+use Rattle.turn_rules.specs.Laws.{TurnsAnswer, TurnsArePlanned}
 use Rattle.thread_scripts.specs.Actors.{AreAtTheirEnds}
 use Rattle.thread_scripts.proofs.AllEnded.{all_ended}
-use Rattle.script_run.specs.Run.{Ran}
-use Rattle.script_run.specs.Steps.{place_of}
-use Rattle.script_run.specs.Further.{EndedRunsAreWhole}
+use Rattle.turn_engine.specs.Run.{Ran}
+use Rattle.turn_engine.specs.Steps.{place_of}
+use Rattle.turn_engine.specs.Further.{EndedRunsAreWhole}
 use Rattle.run_board.specs.Playing.{Played, IsKept, IsResult}
 
 whole_at_end : (r : Ran) (cursors : List Cursor) → EndedRunsAreWhole → IsKept r cursors → AreAtTheirEnds r.script cursors → AreWhole r.script r.turns

@@ -13,17 +13,17 @@ use Rattle.machine.specs.declared.event.Event.{Event}
 use Rattle.line_shares.specs.declared.cursor.Cursor.{Cursor}
 use Rattle.line_shares.specs.Done.{is_same, caught_up}
 use Rattle.line_shares.proofs.CaughtUp.{actor_is}
-use Rattle.run_turns.specs.declared.turn.Turn.{Turn}
-use Rattle.run_turns.specs.declared.turn.Turn.TheVariants as turn
-use Rattle.run_turns.specs.Carried.{event_of}
-use Rattle.run_turns.specs.Lawful.{stage_of}
+use Rattle.turn_rules.specs.declared.turn.Turn.{Turn}
+use Rattle.turn_rules.specs.declared.turn.Turn.TheVariants as turn
+use Rattle.turn_rules.specs.Carried.{event_of}
+use Rattle.turn_rules.specs.Lawful.{stage_of}
 use Rattle.thread_steps.specs.declared.stages.StageStep.{StageStep}
 use Rattle.thread_steps.specs.declared.stages.StageStep.TheVariants as step
-use Rattle.script_run.specs.declared.answers.Advance.{Advance}
-use Rattle.script_run.specs.declared.answers.Advance.TheVariants as advance
-use Rattle.script_run.specs.Run.{Ran, reached_by, with_turn}
-use Rattle.script_run.specs.Making.{TurnsBy}
-use Rattle.script_run.specs.Steps.{place_of, TellsTurn, ServesOnce, Advances, Serves}
+use Rattle.turn_engine.specs.declared.answers.Advance.{Advance}
+use Rattle.turn_engine.specs.declared.answers.Advance.TheVariants as advance
+use Rattle.turn_engine.specs.Run.{Ran, reached_by, with_turn}
+use Rattle.turn_engine.specs.Making.{TurnsBy}
+use Rattle.turn_engine.specs.Steps.{place_of, TellsTurn, ServesOnce, Advances, Serves}
 use Rattle.run_board.specs.Playing.{cursor_of, IsUpTo, IsCountedAt, AreCounted}
 
 -- ---- the cursors

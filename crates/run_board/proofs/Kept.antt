@@ -4,7 +4,7 @@ use Rattle.std.specs.Prelude.{map}
 use Rattle.history_book.specs.declared.item.Actor.{Actor}
 use Rattle.script_data.specs.declared.line.Line.{Line}
 use Rattle.script_data.specs.Data.{ScriptData, IsSound}
-use Rattle.line_runs.specs.Laws.{AreLinesOf}
+use Rattle.line_steps.specs.Laws.{AreLinesOf}
 use Rattle.planned_cluster.specs.Fitting.{SessionIsThere}
 use Rattle.planned_cluster.proofs.Fitting.{lines_fit}
 use Rattle.line_shares.specs.declared.cursor.Cursor.{Cursor}
@@ -13,9 +13,9 @@ use Rattle.thread_scripts.specs.Actors.{actors_of, AreBehind, CoverLines}
 use Rattle.thread_scripts.proofs.Places.{place_is_within}
 use Rattle.thread_scripts.proofs.Covered.{covered_at_first}
 use Rattle.thread_scripts.proofs.Behind.{behind_at_first, behind_further, behind_up, covered_up}
-use Rattle.script_run.specs.Run.{Ran}
-use Rattle.script_run.specs.Steps.{place_of}
-use Rattle.script_run.specs.Further.{IsFurther}
+use Rattle.turn_engine.specs.Run.{Ran}
+use Rattle.turn_engine.specs.Steps.{place_of}
+use Rattle.turn_engine.specs.Further.{IsFurther}
 use Rattle.run_board.specs.Playing.{IsKept}
 
 -- ---- at first

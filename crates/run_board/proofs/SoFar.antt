@@ -2,8 +2,8 @@
 use Rattle.std.proofs.Common.{List}
 use Rattle.line_shares.specs.declared.cursor.Cursor.{Cursor}
 use Rattle.planned_cluster.proofs.Playable.{playable_at_first}
-use Rattle.run_turns.specs.Laws.{TurnsAnswerSoFar, TurnsArePlannedSoFar, IsPlannedSoFar}
-use Rattle.script_run.specs.Run.{Ran, reached_by}
+use Rattle.turn_rules.specs.Laws.{TurnsAnswerSoFar, TurnsArePlannedSoFar, IsPlannedSoFar}
+use Rattle.turn_engine.specs.Run.{Ran, reached_by}
 use Rattle.run_board.specs.Playing.{IsKept}
 use Rattle.run_board.specs.SoFar.{AreAnsweredSoFar}
 

@@ -1,10 +1,10 @@
 -- What holds of a play at every moment.
 use Rattle.std.specs.Prelude.{◌≡◌, Some}
 use Rattle.history_book.specs.declared.item.Actor.{Actor}
-use Rattle.run_turns.specs.declared.seat.Seat.{Seat}
-use Rattle.run_turns.specs.Carried.{seat_of}
-use Rattle.run_turns.specs.Laws.{IsAnsweredSoFar}
-use Rattle.script_run.specs.Run.{Ran, reached_by}
+use Rattle.turn_rules.specs.declared.seat.Seat.{Seat}
+use Rattle.turn_rules.specs.Carried.{seat_of}
+use Rattle.turn_rules.specs.Laws.{IsAnsweredSoFar}
+use Rattle.turn_engine.specs.Run.{Ran, reached_by}
 
 -- each actor's lines are answered as far as its seat has come, and a read that is under way is owed
 abbrev pub AreAnsweredSoFar : Ran → Type 0

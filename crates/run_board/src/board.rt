@@ -3,9 +3,9 @@ ghost use Rattle.stamp_base.specs.declared.limits.TheConstants.{LINE_LIMIT};
 ghost use Rattle.history_book.specs.Isolation.{Isolated};
 ghost use Rattle.cause_rules.specs.Explained.{Explained};
 ghost use Rattle.session_script.specs.Script.{data_of};
-ghost use Rattle.line_runs.specs.Answers.{Answers};
-ghost use Rattle.line_runs.specs.Planned.{Planned};
-ghost use Rattle.run_turns.specs.Told.{AreForThreads};
+ghost use Rattle.line_steps.specs.Answers.{Answers};
+ghost use Rattle.line_steps.specs.Planned.{Planned};
+ghost use Rattle.turn_rules.specs.Told.{AreForThreads};
 ghost use Rattle.line_shares.specs.Done.{parts_for, fresh};
 ghost use Rattle.thread_scripts.specs.Actors.{actors_of};
 ghost use Rattle.thread_steps.specs.Going.{GoesOn};
@@ -14,7 +14,6 @@ ghost use Rattle.run_board.specs.Playing.{IsResult};
 use crate::play::Play;
 use cluster_core::Cluster;
 use line_shares::{ActorShare, Cursors};
-use script_run::{Advance, StageStep, Turn};
 use session_script::Script;
 use stamp_base::{NoMemory, NodeNo, SessionNo, Stage, Term};
 use std::alloc::Global;
@@ -22,6 +21,7 @@ use std::sync::ledger::{Blank, Ledger};
 use std::sync::{Mutex, Wait};
 use thread_scripts::{actors_with_lines, copied};
 use thread_steps::{ActorStep, ActorSteps, Steps};
+use turn_engine::{Advance, StageStep, Turn};
 
 /// A play behind a lock, and its script once more.
 #[derive(Drop)]

@@ -10,5 +10,5 @@ pub use board::Board;
 pub use cluster_core::Cluster;
 pub use line_shares::ActorShare;
 pub use play::Play;
-pub use script_run::{Advance, StageStep, Turn, Why};
 pub use thread_scripts::parts_of;
+pub use turn_engine::{Advance, StageStep, Turn, Why};

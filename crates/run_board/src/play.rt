@@ -3,15 +3,15 @@ ghost use Rattle.stamp_base.specs.declared.limits.TheConstants.{LINE_LIMIT};
 ghost use Rattle.history_book.specs.Isolation.{Isolated};
 ghost use Rattle.cause_rules.specs.Explained.{Explained};
 ghost use Rattle.session_script.specs.Script.{data_of};
-ghost use Rattle.line_runs.specs.Answers.{Answers};
-ghost use Rattle.line_runs.specs.Planned.{Planned};
-ghost use Rattle.run_turns.specs.Told.{AreForThreads};
-ghost use Rattle.run_turns.specs.Carried.{carried_items};
+ghost use Rattle.line_steps.specs.Answers.{Answers};
+ghost use Rattle.line_steps.specs.Planned.{Planned};
+ghost use Rattle.turn_rules.specs.Told.{AreForThreads};
+ghost use Rattle.turn_rules.specs.Carried.{carried_items};
 ghost use Rattle.line_shares.specs.Done.{all_done, first_cursor};
 ghost use Rattle.thread_scripts.specs.Actors.{actors_of, AreBehind, AreAtTheirEnds};
-ghost use Rattle.run_turns.specs.Laws.{IsPlannedSoFar};
-ghost use Rattle.script_run.specs.Run.{reached_by};
-ghost use Rattle.script_run.specs.Steps.{place_of};
+ghost use Rattle.turn_rules.specs.Laws.{IsPlannedSoFar};
+ghost use Rattle.turn_engine.specs.Run.{reached_by};
+ghost use Rattle.turn_engine.specs.Steps.{place_of};
 ghost use Rattle.thread_steps.specs.Going.{GoesOn};
 ghost use Rattle.run_board.specs.Playing.{Advances, Serves, AreCounted, IsOver, IsResult};
 ghost use Rattle.run_board.specs.SoFar.{AreAnsweredSoFar};
@@ -20,17 +20,17 @@ use crate::sessions::see_sessions;
 use cluster_core::Cluster;
 use history_book::Item;
 use line_shares::{ActorShare, Cursors};
-use run_turns::{turns_answer, turns_answer_so_far, turns_are_planned, turns_are_planned_so_far};
-use script_run::{
-    Advance, ScriptRun, StageStep, Turn, advances_go_further, ended_runs_are_whole,
-    stage_steps_go_further,
-};
 use session_script::Script;
 use stamp_base::{NoMemory, NodeNo, SessionNo, Stage, Term};
 use std::alloc::Global;
 use std::marker::Model;
 use std::sync::ledger::Ledger;
 use thread_scripts::{are_at_their_ends, is_same};
+use turn_engine::{
+    Advance, ScriptRun, StageStep, Turn, advances_go_further, ended_runs_are_whole,
+    stage_steps_go_further,
+};
+use turn_rules::{turns_answer, turns_answer_so_far, turns_are_planned, turns_are_planned_so_far};
 
 /// What lies under the lock: the script, the turns that were made of it and what stands after them, and how many lines of each
 /// actor are done.

@@ -4,9 +4,9 @@ use Rattle.history_book.specs.declared.item.Item.{Item}
 use Rattle.history_book.specs.Isolation.{Isolated}
 use Rattle.cause_rules.specs.Explained.{Explained}
 use Rattle.script_data.specs.Data.{ScriptData}
-use Rattle.line_runs.specs.Answers.{Answers}
-use Rattle.line_runs.specs.Planned.{Planned}
-use Rattle.run_turns.specs.declared.turn.Turn.{Turn}
+use Rattle.line_steps.specs.Answers.{Answers}
+use Rattle.line_steps.specs.Planned.{Planned}
+use Rattle.turn_rules.specs.declared.turn.Turn.{Turn}
 use Rattle.run_board.specs.Playing.{IsResult}
 
 -- The history is what these turns make of the script, which are lawful and whole. It is snapshot isolated, shows the cause of every

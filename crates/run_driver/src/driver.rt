@@ -2,7 +2,7 @@ ghost use Rattle.std.specs.Prelude.{◌≡◌, ◌<◌, ◌≤◌, IfOk, vec_len
 ghost use Rattle.stamp_base.specs.declared.limits.TheConstants.{LINE_LIMIT};
 ghost use Rattle.session_script.specs.Script.{data_of};
 ghost use Rattle.line_shares.specs.Done.{parts_for};
-ghost use Rattle.run_turns.specs.Told.{AreForThreads};
+ghost use Rattle.turn_rules.specs.Told.{AreForThreads};
 ghost use Rattle.run_driver.specs.Runs.{RunsTo};
 ghost use Rattle.thread_scripts.specs.Actors.{actors_of};
 
@@ -10,8 +10,6 @@ use crate::rest::finish;
 use cluster_core::Cluster;
 use reply_pipeline::Gate;
 use run_board::Board;
-use run_threads::play;
-use run_turns::Turn;
 use session_script::Script;
 use stamp_base::NoMemory;
 use std::alloc::Global;
@@ -19,7 +17,9 @@ use std::marker::Brand;
 use std::sync::Wait;
 use std::sync::ledger::{Blank, Ledger};
 use std::thread::Threads;
+use thread_crew::play;
 use thread_scripts::parts_of;
+use turn_rules::Turn;
 
 /// Carries a script out on threads, which pass the gate before each step of a stage: the cluster, and the turns that led there.
 /// They are a whole list of lawful turns of the script, in whatever order the threads made them, and the history is what they make

@@ -7,4 +7,4 @@ mod rest;
 pub use cluster_core::Cluster;
 pub use driver::run;
 pub use reply_pipeline::{Gate, GatePlace, OpenGate};
-pub use run_turns::Turn;
+pub use turn_rules::Turn;

@@ -6,12 +6,12 @@ ghost use Rattle.run_driver.specs.Runs.{RunsTo};
 use cluster_core::Cluster;
 use line_shares::ActorShare;
 use run_board::{Advance, Board};
-use run_turns::Turn;
 use stamp_base::{NoMemory, NodeNo, SessionNo, Setup, Stage, Term};
 use std::sync::Wait;
 use std::sync::ledger::Ledger;
 use std::thread;
 use thread_steps::{StageStep, Steps};
+use turn_rules::Turn;
 
 /// What the board gives once nothing is left.
 pub fn finish<L: Ledger, R: Wait>(

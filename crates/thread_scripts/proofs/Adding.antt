@@ -6,8 +6,8 @@ use Rattle.std.proofs.lemmas.List.Elements.{filter-append}
 use Rattle.history_book.specs.declared.item.Actor.{Actor}
 use Rattle.history_book.specs.declared.item.Actor.TheVariants.{Clock, Janitor}
 use Rattle.script_data.specs.Data.{ScriptData}
-use Rattle.run_turns.specs.declared.seat.Seat.{Seat}
-use Rattle.run_turns.specs.Seats.{first_seat, seats_of}
+use Rattle.turn_rules.specs.declared.seat.Seat.{Seat}
+use Rattle.turn_rules.specs.Seats.{first_seat, seats_of}
 use Rattle.thread_scripts.specs.Actors.{has_lines, with_actor, with_lines}
 
 behind : (has : Bool) (actor : Actor) (actors : List Actor) → actors ++ cond has (actor ∷ []) [] ≡ cond has (actors ++ actor ∷ []) actors

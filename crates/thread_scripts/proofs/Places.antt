@@ -10,16 +10,16 @@ use Rattle.machine.specs.declared.event.Event.{Event}
 use Rattle.machine.specs.Machine.{Step}
 use Rattle.script_data.specs.declared.line.Line.{Line}
 use Rattle.script_data.specs.Data.{ScriptData}
-use Rattle.line_runs.specs.declared.point.View.{View}
-use Rattle.line_runs.specs.Answers.{same_actor}
-use Rattle.line_runs.specs.Next.{Clocks}
-use Rattle.line_runs.specs.Runs.{clocks_of, step_of}
-use Rattle.line_runs.specs.Views.{view_of}
-use Rattle.run_turns.specs.declared.seat.Seat.{Seat}
-use Rattle.run_turns.specs.declared.turn.Turn.{Turn}
-use Rattle.run_turns.specs.declared.turn.Turn.TheVariants as turn
-use Rattle.run_turns.specs.Seats.{first_seat, first_seats, seats_of, lines_of, lines_left, present_line, with_event_at, with_next_line, ahead_of, is_passed, passed}
-use Rattle.run_turns.specs.Carried.{Carried, seat_of, event_of, moved, with_event, seat_passed, all_passed, turned_by, turned, at_first, carried}
+use Rattle.line_steps.specs.declared.point.View.{View}
+use Rattle.line_steps.specs.Answers.{same_actor}
+use Rattle.line_steps.specs.Next.{Clocks}
+use Rattle.line_steps.specs.Runs.{clocks_of, step_of}
+use Rattle.line_steps.specs.Views.{view_of}
+use Rattle.turn_rules.specs.declared.seat.Seat.{Seat}
+use Rattle.turn_rules.specs.declared.turn.Turn.{Turn}
+use Rattle.turn_rules.specs.declared.turn.Turn.TheVariants as turn
+use Rattle.turn_rules.specs.Seats.{first_seat, first_seats, seats_of, lines_of, lines_left, present_line, with_event_at, with_next_line, ahead_of, is_passed, passed}
+use Rattle.turn_rules.specs.Carried.{Carried, seat_of, event_of, moved, with_event, seat_passed, all_passed, turned_by, turned, at_first, carried}
 use Rattle.thread_scripts.specs.Places.{place_in}
 
 -- ---- one seat

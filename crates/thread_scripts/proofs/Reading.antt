@@ -18,7 +18,7 @@ use Rattle.script_lines.specs.Words.{is_plain, is_silent, words_of, LineWords, l
 use Rattle.session_script.specs.Names.{name_objection}
 use Rattle.session_script.specs.Script.{SoFar, BadLine, script_from, after_line, after_words, opened_line, setup_line, actor_line, after_setting, after_telling, or_bad_line, nothing_read}
 use Rattle.session_script.specs.Settings.{setting_of, objection}
-use Rattle.run_turns.specs.Told.{IsForThreads, AreForThreads}
+use Rattle.turn_rules.specs.Told.{IsForThreads, AreForThreads}
 use Rattle.thread_scripts.specs.Laws.{RunScriptsAreForThreads}
 use Rattle.thread_scripts.proofs.Verbs.{bound, always, unless_so, line_fits}
 

@@ -12,7 +12,7 @@ use Rattle.script_lines.specs.Grammar.{named, verb_forms, verb_words, is_replay_
 use Rattle.script_lines.specs.Results.{◌>>=◌}
 use Rattle.script_lines.specs.Verbs.{form_at, form_of, verb_of, verb_at}
 use Rattle.script_lines.specs.Words.{LineWords}
-use Rattle.run_turns.specs.Told.{IsForThreads}
+use Rattle.turn_rules.specs.Told.{IsForThreads}
 
 -- ---- answers
 pub bound : {A B : Type 0} (x : Result A ScriptCause) (f : A → Result B ScriptCause) (P : A → Type 0) (Q : B → Type 0) → IfOk x P → ((a : A) → P a → IfOk (f a) Q) → IfOk (x >>= f) Q

@@ -3,7 +3,7 @@ use Rattle.std.specs.Prelude.{◌≡◌, ℕ, List, Ok}
 use Rattle.script_data.specs.Data.{ScriptData}
 use Rattle.script_lines.specs.declared.mode.Mode.TheVariants.{Run}
 use Rattle.session_script.specs.Script.{script_of}
-use Rattle.run_turns.specs.Told.{AreForThreads}
+use Rattle.turn_rules.specs.Told.{AreForThreads}
 
 -- the lines of a script that was read for threads are for threads
 abbrev pub RunScriptsAreForThreads : Type 0

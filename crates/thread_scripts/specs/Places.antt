@@ -1,6 +1,6 @@
 -- How many lines of an actor are passed.
 use Rattle.std.specs.Prelude.{ℕ, Option, None, Some}
-use Rattle.run_turns.specs.declared.seat.Seat.{Seat}
+use Rattle.turn_rules.specs.declared.seat.Seat.{Seat}
 
 -- as many as its seat has come past; none where it has no seat
 abbrev pub place_in : Option Seat → ℕ

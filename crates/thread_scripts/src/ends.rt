@@ -1,7 +1,7 @@
 // Cursors behind which no line is left.
 ghost use Rattle.std.specs.Prelude.{◌≡◌, ◌↔◌, IsTrue, slice_get, None};
 ghost use Rattle.session_script.specs.Script.{data_of};
-ghost use Rattle.run_turns.specs.Seats.{lines_of};
+ghost use Rattle.turn_rules.specs.Seats.{lines_of};
 ghost use Rattle.thread_scripts.specs.Actors.{AreAtTheirEnds};
 
 use line_shares::Cursor;

@@ -2,7 +2,7 @@ use Rattle.std.proofs.Common.{◌≡◌, ℕ, List, [], ◌∷◌, ap, ◌∙◌
 use Rattle.history_book.specs.declared.item.Actor.{Actor}
 use Rattle.history_book.specs.declared.item.Actor.TheVariants.{Clock, Node, Session, Janitor}
 use Rattle.session_script.specs.Script.{data_of}
-use Rattle.run_turns.specs.Seats.{first_seat, seats_of}
+use Rattle.turn_rules.specs.Seats.{first_seat, seats_of}
 use Rattle.thread_scripts.specs.Actors.{with_actor, with_lines}
 use Rattle.thread_scripts.proofs.Adding.{first_two, none_added, next_added}
 use Rattle.thread_scripts.proofs.actors.actors_with_lines.Goals as goal

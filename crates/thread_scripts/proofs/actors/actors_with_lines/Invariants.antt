@@ -1,7 +1,7 @@
 use Rattle.std.specs.Prelude.{◌≡◌, ◌+◌, ◌≤◌, ◌++◌, ◌∷◌, vec_len}
 use Rattle.history_book.specs.declared.item.Actor.TheVariants.{Clock, Node, Session, Janitor}
 use Rattle.session_script.specs.Script.{data_of}
-use Rattle.run_turns.specs.Seats.{first_seat, seats_of}
+use Rattle.turn_rules.specs.Seats.{first_seat, seats_of}
 use Rattle.thread_scripts.specs.Actors.{with_lines}
 use Rattle.thread_scripts.proofs.actors.actors_with_lines.Given as goal
 

@@ -2,7 +2,7 @@ use Rattle.std.proofs.Common.{List, sym, ap, ◌∙◌, subst}
 use Rattle.history_book.specs.declared.item.Actor.{Actor}
 use Rattle.line_shares.specs.declared.cursor.Cursor.{Cursor}
 use Rattle.thread_scripts.proofs.Behind.{can_come_up}
-use Rattle.script_run.specs.Steps.{place_of, Advances}
+use Rattle.turn_engine.specs.Steps.{place_of, Advances}
 use Rattle.run_board.specs.Playing.{IsKeptPlay}
 use Rattle.run_board.proofs.Kept.{kept_further, place_is_small, kept_up}
 use Rattle.run_board.proofs.Counted.{counted_advanced}

@@ -1,5 +1,0 @@
-use Rattle.line_runs.proofs.AllLower.{all_lower}
-use Rattle.line_runs.proofs.laws.events_lower_what_is_left.Goals as goal
-
-pub returns : goal.returns
-returns c = all_lower c.reads_end.ensures c.settles_end.ensures

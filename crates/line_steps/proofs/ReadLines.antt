@@ -1,0 +1,65 @@
+-- A read that a line has begun ends with its value or with a fault: its fetch, and each of its steps.
+use Rattle.std.proofs.Common.{◌≡◌, ℕ, Bool, true, false, cond, nat_lt, ◌==◌, ◌||◌, is_some, List, [], ◌∷◌, ◌++◌, Option, None, ◌⊎◌, inl, refl}
+use Rattle.history_book.specs.declared.item.Actor.TheVariants.{Session}
+use Rattle.history_book.specs.declared.item.Item.{Item}
+use Rattle.history_book.specs.declared.item.Item.TheVariants as item
+use Rattle.store_parts.specs.declared.rows.Cell.{Cell}
+use Rattle.client_parts.specs.declared.asks.Told.{Told}
+use Rattle.client_parts.specs.declared.resolve.Outcome.TheVariants.{Committed, Dead}
+use Rattle.client_parts.specs.Resolve.{SettleTurn, Goes, Decides, settle_turn}
+use Rattle.client_parts.specs.KeyRead.{Reading, ReadTurn, Asks, Answers, found_cell, found_by, settling_of, after_passed, turn_at, read_over, read_by, read_told}
+use Rattle.machine.specs.State.{Client, State}
+use Rattle.machine.specs.Machine.{Step}
+use Rattle.isolation_laws.specs.Words.{ClientAt}
+use Rattle.line_steps.proofs.Plain.{AllPlain}
+use Rattle.line_steps.proofs.Working.{ReadWork}
+use Rattle.line_steps.proofs.Walks.{AllNot, plain_not, Paid, paid_before}
+
+-- ---- a read keeps its key
+-- the reads of a turn are of this key
+abbrev pub OfKey : ℕ → ReadTurn → Type 0
+OfKey key (Asks r) = r.key ≡ key
+OfKey key (Answers a) = Unit {0}
+
+first_key : (key start epoch : ℕ) (c : Cell) (cs : List Cell) (answers : Bool) → OfKey key (cond answers (Answers (found_cell c)) (Asks (record { key = key; start = start; epoch = epoch; cell = c; older = cs; point = Rattle.client_parts.specs.declared.resolve.SettlePoint.TheVariants.Table })))
+first_key key start epoch c cs true = tt
+first_key key start epoch c cs false = refl
+
+turn_key : (key start epoch : ℕ) (cells : List Cell) → OfKey key (turn_at key start epoch cells)
+turn_key key start epoch [] = tt
+turn_key key start epoch (c ∷ cs) = first_key key start epoch c cs ((c.version == start) || is_some c.shadow)
+
+pub over_key : (key start epoch : ℕ) (cells : List Cell) → OfKey key (read_over key start epoch cells)
+over_key key start epoch cells = turn_key key start epoch (after_passed start cells)
+
+decided_key : (r : Reading) (c : ℕ) (by_table below : Bool) → OfKey r.key (cond below (Answers (found_by r.key r.cell c by_table)) (read_over r.key r.start r.epoch r.older))
+decided_key r c by_table true = tt
+decided_key r c by_table false = over_key r.key r.start r.epoch r.older
+
+settled_key : (r : Reading) (turn : SettleTurn) → OfKey r.key (read_by r turn)
+settled_key r (Goes p) = refl
+settled_key r (Decides Dead) = over_key r.key r.start r.epoch r.older
+settled_key r (Decides (Committed c by_table)) = decided_key r c by_table (nat_lt c r.start)
+
+pub told_key : (r : Reading) (told : Told) → OfKey r.key (read_told r told)
+told_key r told = settled_key r (settle_turn (settling_of r) told)
+
+-- ---- a read under way
+-- the session reads the key
+pub record ReadsKey (w : State) (s key : ℕ) : Type 0 where
+  pub c : Client
+  pub at : ClientAt w.clients s c
+  pub work : ReadWork c
+  pub key_is : work.r.key ≡ key
+
+-- after a step the read has ended, or goes on
+abbrev pub EndsOrReads : ℕ → ℕ → Step → Type 0
+EndsOrReads s key step = Paid (Session s) key step.items ⊎ (AllNot (Session s) step.items × ReadsKey step.state s key × (step.stop ≡ None))
+
+-- the items after those that the store's step shows
+pub ends_with : (s key : ℕ) (items : List Item) (x : Item) → AllPlain items → Paid (Session s) key (x ∷ []) → Paid (Session s) key (items ++ x ∷ [])
+ends_with s key items x plain ends = paid_before (Session s) key items (x ∷ []) (plain_not (Session s) items plain) ends
+
+pub read_pays : (s start key read : ℕ) (found : Option (ℕ × List ℕ)) → read ≡ key → Paid (Session s) key (item.Read s start read (Rattle.machine.specs.Events.Fetch.found_of found) ∷ [])
+unfolding Paid AllNot
+read_pays s start key read found is = inl ((refl, is), tt)

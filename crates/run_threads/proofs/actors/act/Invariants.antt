@@ -1,6 +1,0 @@
-use Rattle.thread_steps.specs.Going.{GoesOn}
-use Rattle.reply_pipeline.specs.Seats.{IsSenderPass}
-use Rattle.run_threads.proofs.actors.act.Given as goal
-
-abbrev pub invariant-loop : goal.invariant-loop
-invariant-loop g l = GoesOn l.fn.mine l.mine × IsSenderPass l.shared.queues.now l.pass

@@ -1,5 +1,0 @@
-use Rattle.run_turns.proofs.OwnEvents.{own_lowers}
-use Rattle.run_turns.proofs.laws.own_events_lower_what_is_left.Goals as goal
-
-pub returns : goal.returns
-returns c = own_lowers c.events_lower_what_is_left.ensures

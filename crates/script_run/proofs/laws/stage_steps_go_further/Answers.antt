@@ -1,5 +1,0 @@
-use Rattle.script_run.proofs.Further.{stage_steps_go_further}
-use Rattle.script_run.proofs.laws.stage_steps_go_further.Goals as goal
-
-pub returns : goal.returns
-returns c = stage_steps_go_further

@@ -1,0 +1,25 @@
+ghost use Rattle.std.specs.Prelude.{◌≡◌};
+ghost use Rattle.thread_crew.specs.Sending.{done_of};
+
+use history_book::Actor;
+use line_shares::ActorShare;
+use std::sync::ledger::Ledger;
+
+/// A share as it was before its actor's thread began.
+#[derive(Clone, Copy)]
+pub struct Before {
+    pub actor: Actor,
+    pub done: u64,
+}
+
+impl Before {
+    /// As the share is now.
+    pub fn of<L: Ledger>(mine: &ActorShare<L>) -> Before
+        ensures { done_of result ≡ mine.now }
+    {
+        Before {
+            actor: mine.actor(),
+            done: mine.done(),
+        }
+    }
+}

@@ -1,0 +1,118 @@
+-- The turn by which a stage serves a request is one of that stage, and the request stands where it is made.
+use Rattle.std.proofs.Common.{◌≡◌, ℕ, zero, suc, ◌==◌, ◌||◌, Bool, true, false, cond, List, [], ◌∷◌, Option, Some, None, All, inr, refl, sym, ◌∙◌, ap, subst}
+use Rattle.std.specs.Prelude.{slice_get, slice_index_or}
+use Rattle.std.specs.List.{list_any}
+use Rattle.std.proofs.lemmas.Bool.{true≢false, eqb-true}
+use Rattle.std.proofs.lemmas.List.Elements.{All-head, All-tail}
+use Rattle.std.proofs.lemmas.Option.{same_Some, none-some}
+use Rattle.stamp_base.specs.declared.stage.Stage.{Stage}
+use Rattle.stamp_base.specs.declared.stage.Stage.TheVariants.{Request, Persist, Reply}
+use Rattle.history_book.specs.declared.item.Item.{Item}
+use Rattle.oracle_parts.specs.declared.instance.Held.{Held}
+use Rattle.oracle_parts.specs.declared.instance.Place.{Place}
+use Rattle.oracle_parts.specs.declared.instance.Place.TheVariants as place
+use Rattle.oracle_parts.specs.declared.instance.Progress.TheVariants as progress
+use Rattle.oracle_parts.specs.Instance.{InstanceEntry}
+use Rattle.machine.specs.State.{State}
+use Rattle.isolation_laws.specs.Sound.{Stands}
+use Rattle.line_steps.proofs.Serving.{Serving}
+use Rattle.turn_rules.specs.declared.turn.Turn.{Turn}
+use Rattle.turn_rules.specs.declared.turn.Turn.TheVariants as turn
+use Rattle.turn_rules.specs.Lawful as lawful
+use Rattle.turn_rules.specs.Lawful.{stage_of, IsInPlace, LacksStamps, session_view, serving_turn, serving_turn_of, stage_turn}
+use Rattle.turn_engine.specs.Run.{Ran, reached_by, IsUsedUp, IsCarriedOut}
+use Rattle.turn_engine.specs.Steps.{state_of, IsServable}
+use Rattle.turn_engine.proofs.Steady.{facts}
+use Rattle.turn_engine.proofs.Silent.{serving, is_accepted}
+
+-- ---- a turn of a stage
+pub record IsOfStage (w : State) (stage : Stage) (node : ℕ) (by : Turn) : Type 0 where
+  pub of_stage : stage_of by ≡ Some (node, stage)
+  pub in_place : IsInPlace w by
+
+of_turn : (w : State) (stage : Stage) (node : ℕ) (made by : Turn) → Some made ≡ Some by → IsOfStage w stage node made → IsOfStage w stage node by
+of_turn w stage node made by is k = subst (λ (t : Turn). IsOfStage w stage node t) (same_Some made by is) k
+
+serving_of : (w : State) (stage : Stage) (node s : ℕ) (commit : Bool) (at : Place) (by : Turn) → (session_view w s).request ≡ Some (node, at) → (session_view w s).commit ≡ commit → serving_turn stage node s commit at ≡ Some by → IsOfStage w stage node by
+serving_of w Request node s commit place.Asked by asks same is = of_turn w Request node (turn.Accept node s) by is (record { of_stage = refl; in_place = asks })
+serving_of w Request node s commit place.Accepted by asks same is = of_turn w Request node (turn.Decide node s) by is (record { of_stage = refl; in_place = asks })
+serving_of w Persist node s true place.Drawn by asks same is = of_turn w Persist node (turn.Put node s) by is (record { of_stage = refl; in_place = (asks, same) })
+serving_of w Reply node s false place.Drawn by asks same is = of_turn w Reply node (turn.Answer node s) by is (record { of_stage = refl; in_place = asks ∙ ap (λ (b : Bool). Some (node, lawful.answered_from b)) (sym same) })
+serving_of w Reply node s true place.Settled by asks same is = of_turn w Reply node (turn.Answer node s) by is (record { of_stage = refl; in_place = asks ∙ ap (λ (b : Bool). Some (node, lawful.answered_from b)) (sym same) })
+serving_of w _ node s commit at by asks same is = absurd (none-some by is)
+
+serving_here : (w : State) (stage : Stage) (node s : ℕ) (request : ℕ × Place) (by : Turn) → (session_view w s).request ≡ Some request → (here : Bool) → (request.0 == node) ≡ here → cond here (serving_turn stage node s (session_view w s).commit request.1) None ≡ Some by → IsOfStage w stage node by
+serving_here w stage node s request by asks false here is = absurd (none-some by is)
+serving_here w stage node s request by asks true here is =
+    let same : request.0 ≡ node = eqb-true request.0 node here in
+    serving_of w stage node s (session_view w s).commit request.1 by (asks ∙ ap (λ (n : ℕ). Some (n, request.1)) same) refl is
+
+serving_any : (w : State) (stage : Stage) (node s : ℕ) (request : Option (ℕ × Place)) (by : Turn) → (session_view w s).request ≡ request → serving_turn_of stage node s (session_view w s).commit request ≡ Some by → IsOfStage w stage node by
+serving_any w stage node s None by asks is = absurd (none-some by is)
+serving_any w stage node s (Some request) by asks is = serving_here w stage node s request by asks (request.0 == node) refl is
+
+pub of_stage_turn : (w : State) (stage : Stage) (node s : ℕ) (by : Turn) → stage_turn stage node s (session_view w s) ≡ Some by → IsOfStage w stage node by
+of_stage_turn w stage node s by is = serving_any w stage node s (session_view w s).request by refl is
+
+-- ---- where a decision found no stamp, the range can be extended
+any_by : (held : Option Held) (others : List (Option Held)) (here : Bool) → lawful.is_accepted held ≡ here → list_any lawful.is_accepted others ≡ true → list_any lawful.is_accepted (held ∷ others) ≡ true
+any_by held others true here later = ap (λ (b : Bool). b || list_any lawful.is_accepted others) here
+any_by held others false here later = ap (λ (b : Bool). b || list_any lawful.is_accepted others) here ∙ later
+
+any_accepted : (all : List (Option Held)) (s : ℕ) (held : Held) → slice_index_or all s None ≡ Some held → lawful.is_accepted (Some held) ≡ true → list_any lawful.is_accepted all ≡ true
+any_accepted [] s held has accepted = absurd (none-some held has)
+any_accepted (first ∷ others) zero held has accepted = ap (λ (b : Bool). b || list_any lawful.is_accepted others) (ap lawful.is_accepted has ∙ accepted)
+any_accepted (first ∷ others) (suc s) held has accepted = any_by first others (lawful.is_accepted first) refl (any_accepted others s held has accepted)
+
+lacks : (w : State) (node : ℕ) (i : InstanceEntry) → slice_get w.nodes node ≡ Some (Some i) → IsUsedUp (slice_get w.nodes node) → list_any lawful.is_accepted i.requests ≡ true → LacksStamps (slice_get w.nodes node)
+lacks w node i at used waits =
+    let used_up : i.last ≡ i.ceiling = subst (λ (o : Option (Option InstanceEntry)). IsUsedUp o) at used in
+    subst (λ (o : Option (Option InstanceEntry)). LacksStamps o) (sym at) (used_up, waits)
+
+pub lacks_stamps : (w : State) (h : List Item) (node s : ℕ) → Stands w h → IsInPlace w (turn.Decide node s) → IsUsedUp (slice_get w.nodes node) → LacksStamps (slice_get w.nodes node)
+lacks_stamps w h node s stands asks used =
+    let k : Serving w h s (node, place.Accepted) = serving w h node s place.Accepted stands asks in
+    let accepted : k.served.held.progress ≡ progress.Accepted = is_accepted w h node s k in
+    lacks w node k.served.holder.i k.served.holder.at used (any_accepted k.served.holder.i.requests s k.served.held k.served.holder.has (ap lawful.is_accepted_by accepted))
+
+-- a decision that serves is of the node and the session
+decide_by : (stage : Stage) (node s : ℕ) (commit : Bool) (at : Place) (n other : ℕ) → serving_turn stage node s commit at ≡ Some (turn.Decide n other) → serving_turn stage node s commit at ≡ Some (turn.Decide node s)
+decide_by Request node s commit place.Asked n other is = absurd (cc)
+decide_by Request node s commit place.Accepted n other is = refl
+decide_by Persist node s true place.Drawn n other is = absurd (cc)
+decide_by Reply node s false place.Drawn n other is = absurd (cc)
+decide_by Reply node s true place.Settled n other is = absurd (cc)
+decide_by _ node s commit at n other is = absurd (none-some (turn.Decide n other) is)
+
+decide_here : (stage : Stage) (node s : ℕ) (commit : Bool) (at : Place) (n other : ℕ) (here : Bool) → cond here (serving_turn stage node s commit at) None ≡ Some (turn.Decide n other) → cond here (serving_turn stage node s commit at) None ≡ Some (turn.Decide node s)
+decide_here stage node s commit at n other true is = decide_by stage node s commit at n other is
+decide_here stage node s commit at n other false is = absurd (none-some (turn.Decide n other) is)
+
+decide_any : (stage : Stage) (node s : ℕ) (commit : Bool) (request : Option (ℕ × Place)) (n other : ℕ) → serving_turn_of stage node s commit request ≡ Some (turn.Decide n other) → serving_turn_of stage node s commit request ≡ Some (turn.Decide node s)
+decide_any stage node s commit None n other is = absurd (none-some (turn.Decide n other) is)
+decide_any stage node s commit (Some request) n other is = decide_here stage node s commit request.1 n other (request.0 == node) is
+
+pub decides : (w : State) (stage : Stage) (node s n other : ℕ) → stage_turn stage node s (session_view w s) ≡ Some (turn.Decide n other) → stage_turn stage node s (session_view w s) ≡ Some (turn.Decide node s)
+decides w stage node s n other is = decide_any stage node s (session_view w s).commit (session_view w s).request n other is
+
+-- ---- the turn that serves
+
+used_by : (w : State) (n node : ℕ) (others : Bool) → IsUsedUp (slice_get w.nodes n) → (others ≡ true → IsUsedUp (slice_get w.nodes node)) → (here : Bool) → (n == node) ≡ here → here || others ≡ true → IsUsedUp (slice_get w.nodes node)
+used_by w n node others first later true here is = subst (λ (m : ℕ). IsUsedUp (slice_get w.nodes m)) (eqb-true n node here) first
+used_by w n node others first later false here is = later is
+
+used_at : (w : State) (node : ℕ) (lacking : List ℕ) → All (λ n. IsUsedUp (slice_get w.nodes n)) lacking → list_any (λ (n : ℕ). n == node) lacking ≡ true → IsUsedUp (slice_get w.nodes node)
+used_at w node [] all is = absurd (true≢false (sym is))
+used_at w node (n ∷ lacking) all is = used_by w n node (list_any (λ (m : ℕ). m == node) lacking) (All-head (λ m. IsUsedUp (slice_get w.nodes m)) n lacking all) (used_at w node lacking (All-tail (λ m. IsUsedUp (slice_get w.nodes m)) n lacking all)) (n == node) refl is
+
+-- where the node's last decision found no stamp, the range is extended in place of the next one
+pub extends_first : (r : Ran) (lacking : List ℕ) (stage : Stage) (node s n other : ℕ) → IsCarriedOut r.script r.turns lacking → list_any (λ (m : ℕ). m == node) lacking ≡ true → stage_turn stage node s (session_view (state_of r) s) ≡ Some (turn.Decide n other) → IsServable r node stage s (turn.Extend node)
+extends_first r lacking stage node s n other out lacks is =
+    let w : State = state_of r in
+    let decides_it : stage_turn stage node s (session_view w s) ≡ Some (turn.Decide node s) = decides w stage node s n other is in
+    let k : IsOfStage w stage node (turn.Decide node s) = of_stage_turn w stage node s (turn.Decide node s) decides_it in
+    record {
+      of_stage = k.of_stage;
+      in_place = lacks_stamps w (reached_by r).played.items node s (facts r.script r.turns out.sound out.few).reached.stands k.in_place (used_at w node lacking out.used_up lacks);
+      of_session = inr (refl, decides_it);
+    }

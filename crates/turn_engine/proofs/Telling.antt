@@ -1,0 +1,98 @@
+-- How the turns of stages and of actors are told.
+use Rattle.std.proofs.Common.{◌≡◌, ℕ, Bool, true, false, List, Option, Some, None, Result, Ok, Err, inl, inr, refl, sym, ◌∙◌, ap, subst, drop, length}
+use Rattle.std.specs.Prelude.{IsSomeAnd}
+use Rattle.std.proofs.lemmas.Bool.{true≢false}
+use Rattle.stamp_base.specs.declared.stage.Stage.{Stage}
+use Rattle.history_book.specs.declared.item.Actor.{Actor}
+use Rattle.history_book.specs.declared.item.Item.{Item}
+use Rattle.machine.specs.declared.event.Event.{Event}
+use Rattle.machine.specs.Effect.{Stop, Refuses, Faults}
+use Rattle.machine.specs.Readers.{term_of}
+use Rattle.event_parts.specs.declared.stopped.Stopped.{Stopped}
+use Rattle.event_parts.specs.declared.stopped.Stopped.TheVariants.{Refused, StoreFault, NoMemory}
+use Rattle.turn_rules.specs.declared.turn.Turn.{Turn}
+use Rattle.turn_rules.specs.declared.turn.Turn.TheVariants as turn
+use Rattle.turn_rules.specs.Carried.{event_of}
+use Rattle.turn_rules.specs.Lawful.{IsTold}
+use Rattle.turn_engine.specs.Making.{step_in, TurnsBy, MakesTurn, Makes}
+use Rattle.thread_steps.specs.declared.stages.StageStep.{StageStep}
+use Rattle.thread_steps.specs.declared.stages.StageStep.TheVariants as step
+use Rattle.turn_engine.specs.Run.{Ran, reached_by}
+use Rattle.turn_engine.specs.Steps.{state_of, asked_of, node_asked, drawn_in, did, done_by, told_by, TellsTurn, ServesBy, IsServable, ServesOnce, Serves, IsStageHeld, MakesOwn}
+use Rattle.turn_engine.proofs.Since.{items_of, has_grown}
+
+-- ---- a turn is told neither as held nor as stale
+abbrev is_plain : StageStep → Bool
+is_plain step.Held = false
+is_plain (step.Stale found) = false
+is_plain _ = true
+
+did_plain : (stamps : Option (ℕ × Option ℕ)) → is_plain (did stamps) ≡ true
+did_plain None = refl
+did_plain (Some stamps) = refl
+
+done_plain : (by : Turn) (items : List Item) → is_plain (done_by by items) ≡ true
+done_plain (turn.Decide node session) items = did_plain (drawn_in items)
+done_plain (turn.Put node session) items = refl
+done_plain (turn.Answer node session) items = refl
+done_plain (turn.Own actor) items = refl
+done_plain (turn.Accept node session) items = refl
+done_plain (turn.Extend node) items = refl
+
+told_plain : (by : Turn) (items : List Item) (stop : Option Stop) → is_plain (told_by by items stop) ≡ true
+told_plain by items None = done_plain by items
+told_plain by items (Some (Refuses why)) = refl
+told_plain by items (Some (Faults store)) = refl
+
+-- what a stage made for the session's request
+pub record Served (old : Ran) (node term : ℕ) (stage : Stage) (session : ℕ) (by : Turn) (e : Event) : Type 0 where
+  pub free : IsStageHeld old node stage ≡ false
+  pub of_term : term_of (state_of old) node ≡ Some term
+  pub servable : IsServable old node stage session by
+  pub event : event_of old.script (reached_by old) by ≡ Some e
+
+once : (old new : Ran) (node term : ℕ) (stage : Stage) (session : ℕ) (by : Turn) (e : Event) (result : StageStep) → Served old node term stage session by e → TellsTurn old by e result new → ServesOnce old node term stage session result new
+once old new node term stage session by e result k tells = record {
+  by = by;
+  free = k.free;
+  of_term = k.of_term;
+  servable = k.servable;
+  told = subst (λ (found : Option Event). IsSomeAnd found (λ x. TellsTurn old by x result new)) (sym k.event) tells;
+}
+
+not_plain : (old new : Ran) (by : Turn) (e : Event) (result : StageStep) → is_plain result ≡ false → TellsTurn old by e result new → ⊥
+not_plain old new by e result not tells = true≢false (sym (told_plain by (step_in old e).items tells.stop) ∙ ap is_plain (sym tells.told) ∙ not)
+
+pub serves : (old new : Ran) (node term : ℕ) (stage : Stage) (session : ℕ) (by : Turn) (e : Event) (result : StageStep) → Served old node term stage session by e → ServesBy old by e result new → Serves old node term stage session result new
+serves old new node term stage session by e step.NoMemory k made = (k.free, made)
+serves old new node term stage session by e step.Held k made = absurd (not_plain old new by e step.Held refl made)
+serves old new node term stage session by e (step.Stale found) k made = absurd (not_plain old new by e (step.Stale found) refl made)
+serves old new node term stage session by e step.Went k made = once old new node term stage session by e step.Went k made
+serves old new node term stage session by e (step.Did start commit) k made = once old new node term stage session by e (step.Did start commit) k made
+serves old new node term stage session by e step.Settled k made = once old new node term stage session by e step.Settled k made
+serves old new node term stage session by e step.Answered k made = once old new node term stage session by e step.Answered k made
+serves old new node term stage session by e (step.Refused why) k made = once old new node term stage session by e (step.Refused why) k made
+serves old new node term stage session by e step.Fault k made = once old new node term stage session by e step.Fault k made
+
+-- ---- an actor's turn
+own_by : (old new : Ran) (actor : Actor) (e : Event) (asked : Option (ℕ × ℕ)) → event_of old.script (reached_by old) (turn.Own actor) ≡ Some e → IsTold old.script (reached_by old).played e → asked ≡ asked_of (state_of new) (node_asked (step_in old e).items) → TurnsBy old (turn.Own actor) e new → MakesOwn old actor asked new
+own_by old new actor e asked is told asks (inl made) = record {
+  lawful = made.0;
+  turns = made.1;
+  asks = subst (λ (found : Option Event). IsSomeAnd found (λ x. asked ≡ asked_of (state_of new) (node_asked (step_in old x).items))) (sym is) asks;
+}
+own_by old new actor e asked is told asks (inr quiet) = absurd (quiet.untold told)
+
+pub makes_own : (old new : Ran) (actor : Actor) (e : Event) (stop : Option Stop) (asked : Option (ℕ × ℕ)) (items : List Item) → event_of old.script (reached_by old) (turn.Own actor) ≡ Some e → (step_in old e).items ≡ items → MakesTurn old (turn.Own actor) e stop new → IsTold old.script (reached_by old).played e → asked ≡ asked_of (state_of new) (node_asked items) → MakesOwn old actor asked new
+makes_own old new actor e stop asked items is appended made told asks = own_by old new actor e asked is told (asks ∙ ap (λ (xs : List Item). asked_of (state_of new) (node_asked xs)) (sym appended)) made.made
+
+own_stopped : (old new : Ran) (actor : Actor) (e : Event) (stop : Option Stop) (before : ℕ) (asked : Option (ℕ × ℕ)) → event_of old.script (reached_by old) (turn.Own actor) ≡ Some e → IsTold old.script (reached_by old).played e → before ≡ length (items_of old) → asked ≡ asked_of (state_of new) (node_asked (drop before (items_of new))) → MakesTurn old (turn.Own actor) e stop new → MakesOwn old actor asked new
+own_stopped old new actor e stop before asked is told length_is asks made =
+    makes_own old new actor e stop asked (drop before (items_of new)) is (sym (has_grown old new (turn.Own actor) e before is length_is made.made).since) made told asks
+
+-- unless memory was refused
+pub own_made : (old new : Ran) (actor : Actor) (e : Event) (answer : Result Unit Stopped) (before : ℕ) (asked : Option (ℕ × ℕ)) → event_of old.script (reached_by old) (turn.Own actor) ≡ Some e → IsTold old.script (reached_by old).played e → before ≡ length (items_of old) → asked ≡ asked_of (state_of new) (node_asked (drop before (items_of new))) → (answer ≡ Err NoMemory → ⊥) → Makes old (turn.Own actor) e answer new → MakesOwn old actor asked new
+own_made old new actor e (Ok done) before asked is told length_is asks some made = own_stopped old new actor e None before asked is told length_is asks made
+own_made old new actor e (Err (Refused why)) before asked is told length_is asks some made = own_stopped old new actor e (Some (Refuses why)) before asked is told length_is asks made
+own_made old new actor e (Err (StoreFault store)) before asked is told length_is asks some made = own_stopped old new actor e (Some (Faults store)) before asked is told length_is asks made
+own_made old new actor e (Err NoMemory) before asked is told length_is asks some made = absurd (some refl)

@@ -1,0 +1,26 @@
+-- What every step keeps, and what stands at the end.
+use Rattle.std.specs.Prelude.{◌≡◌, ℕ, ◌≤◌}
+use Rattle.stamp_base.specs.declared.stage.Stage.{Stage}
+use Rattle.history_book.specs.declared.item.Actor.{Actor}
+use Rattle.turn_rules.specs.Carried.{AreWhole}
+use Rattle.thread_steps.specs.declared.stages.StageStep.{StageStep}
+use Rattle.turn_engine.specs.declared.answers.Advance.{Advance}
+use Rattle.turn_engine.specs.Run.{Ran}
+use Rattle.turn_engine.specs.Steps.{place_of, HasEnded, Advances, Serves}
+
+-- it is the same script, and no actor's place has fallen
+pub record IsFurther (old new : Ran) : Type 0 where
+  pub script : new.script ≡ old.script
+  pub places : (actor : Actor) → place_of old actor ≤ place_of new actor
+
+-- so it is after an actor's step
+abbrev pub AdvancesGoFurther : Type 0
+AdvancesGoFurther = (old new : Ran) (actor : Actor) (answer : Advance) → Advances old actor answer new → IsFurther old new
+
+-- and after a stage's
+abbrev pub StageStepsGoFurther : Type 0
+StageStepsGoFurther = (old new : Ran) (node term : ℕ) (stage : Stage) (session : ℕ) (answer : StageStep) → Serves old node term stage session answer new → IsFurther old new
+
+-- where every actor has ended, the turns are whole
+abbrev pub EndedRunsAreWhole : Type 0
+EndedRunsAreWhole = (r : Ran) → ((actor : Actor) → HasEnded r actor) → AreWhole r.script r.turns

@@ -1,0 +1,16 @@
+-- The names that are posted, as contracts see them.
+use Rattle.std.specs.Prelude.{ℕ, List, [], ◌∷◌, ◌++◌, if◌then◌else◌, Option, None, Some}
+use Rattle.turn_rules.specs.Carried.{is_posted}
+
+-- the names, and for how many more there is room
+pub record Posted : Type 0 where
+  pub names : List (List ℕ)
+  pub room : ℕ
+
+abbrev pub with_name : List (List ℕ) → Option (List ℕ) → List (List ℕ)
+with_name names None = names
+with_name names (Some name) = names ++ name ∷ []
+
+-- the name, unless it is posted
+abbrev pub new_name : List (List ℕ) → List ℕ → Option (List ℕ)
+new_name names name = if is_posted names name then None else Some name

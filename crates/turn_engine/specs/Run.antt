@@ -1,0 +1,51 @@
+-- A script run as its contracts see it, and what its parts keep.
+use Rattle.std.specs.Prelude.{◌≡◌, ℕ, ◌≤◌, List, ◌++◌, [], ◌∷◌, All, map, length, slice_get, Option, Some}
+use Rattle.stamp_base.specs.declared.limits.TheConstants.{LINE_LIMIT}
+use Rattle.oracle_parts.specs.Instance.{InstanceEntry}
+use Rattle.script_data.specs.Data.{ScriptData, IsSound}
+use Rattle.line_steps.specs.Laws.{AreLinesOf}
+use Rattle.turn_rules.specs.declared.seat.Holds.{Holds}
+use Rattle.turn_rules.specs.declared.turn.Turn.{Turn}
+use Rattle.turn_rules.specs.Seats.{lines_of}
+use Rattle.turn_rules.specs.Carried.{Carried, carried}
+use Rattle.turn_rules.specs.Lawful.{AreLawful}
+use Rattle.turn_rules.specs.Told.{AreForThreads}
+use Rattle.turn_engine.specs.declared.seated.Seated.{Seated}
+
+-- the script, and the turns that were made
+pub record Ran : Type 0 where
+  pub script : ScriptData
+  pub turns : List Turn
+
+abbrev pub reached_by : Ran → Carried
+reached_by r = carried r.script r.turns
+
+abbrev pub with_turn : Ran → Turn → Ran
+with_turn r turn = record { script = r.script; turns = r.turns ++ turn ∷ [] }
+
+-- ---- what the parts of a run keep
+-- the lines beside a seat are its actor's, and the seat is at one of them or past them
+pub record IsSeated (script : ScriptData) (s : Seated) : Type 0 where
+  pub lines : s.lines.items ≡ lines_of script s.seat.actor
+  pub place : s.seat.place ≤ length s.lines.items
+
+-- the node's instance has no stamp left
+abbrev pub IsUsedUp : Option (Option InstanceEntry) → Type 0
+IsUsedUp (Some (Some i)) = i.last ≡ i.ceiling
+IsUsedUp _ = ⊥
+
+-- names, holds and seats are what the turns made of them
+pub record SitsAt (script : ScriptData) (c : Carried) (names : List (List ℕ)) (held : List Holds) (seated : List Seated) : Type 0 where
+  pub posted : names ≡ c.names
+  pub held_is : held ≡ c.held
+  pub seats : map (λ s. s.seat) seated ≡ c.seats
+  pub each : All (IsSeated script) seated
+
+-- the script is one that was read, and the turns are lawful
+pub record IsCarriedOut (script : ScriptData) (turns : List Turn) (lacking : List ℕ) : Type 0 where
+  pub sound : IsSound script
+  pub few : length script.lines ≤ LINE_LIMIT
+  pub sessions : AreLinesOf script.setup script.lines
+  pub for_threads : AreForThreads script.lines
+  pub lawful : AreLawful script turns
+  pub used_up : All (λ node. IsUsedUp (slice_get (carried script turns).played.state.nodes node)) lacking

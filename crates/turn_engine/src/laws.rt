@@ -1,0 +1,17 @@
+// What every step keeps, and what stands at the end.
+ghost use Rattle.turn_engine.specs.Further.{AdvancesGoFurther, StageStepsGoFurther, EndedRunsAreWhole};
+
+/// Whichever actor advances, the script stays, and no actor's place falls.
+pub fn advances_go_further()
+    ensures { AdvancesGoFurther }
+{}
+
+/// Whichever stage makes a step, the script stays, and no actor's place falls.
+pub fn stage_steps_go_further()
+    ensures { StageStepsGoFurther }
+{}
+
+/// Where every actor has ended, the turns are whole.
+pub fn ended_runs_are_whole()
+    ensures { EndedRunsAreWhole }
+{}

@@ -1,0 +1,143 @@
+// What a script run tells of actors and stages.
+ghost use Rattle.std.specs.Prelude.{◌≡◌, ◌<◌, Some, None, true, MatchOption, IfSome};
+ghost use Rattle.machine.specs.Readers as read;
+ghost use Rattle.line_steps.specs.Clocks.{HaveRoom};
+ghost use Rattle.line_steps.specs.Next.{reading_at};
+ghost use Rattle.line_steps.specs.Runs.{clocks_of};
+ghost use Rattle.turn_rules.specs.declared.ahead.Ahead.TheVariants.{Passes};
+ghost use Rattle.turn_rules.specs.Carried.{ahead_at, own_ahead, event_of, made_by, name_posted};
+ghost use Rattle.turn_rules.specs.Lawful as lawful;
+ghost use Rattle.turn_engine.specs.Run.{reached_by};
+ghost use Rattle.turn_engine.specs.Steps.{HasEnded, IsStageHeld, state_of, place_of, IsServable};
+
+use crate::ScriptRun;
+use crate::making::is_lacking;
+use crate::marks::holds_at;
+use crate::seated::seated_of;
+use history_book::Actor;
+use machine::Event;
+use script_data::{Line, Verb};
+use stamp_base::{NodeNo, SessionNo, Stage, Term};
+use turn_rules::{Ahead, Seat, Turn, own_event, stage_turn};
+
+impl ScriptRun {
+    /// How many of the actor's lines are passed.
+    pub fn place(&self, actor: &Actor) -> usize
+        ensures { result ≡ place_of self.now actor.now }
+    {
+        match seated_of(self.seated.as_slice(), actor) {
+            Some(seated) => seated.seat.place,
+            None => 0,
+        }
+    }
+
+    /// What is ahead of the actor's present line.
+    pub(crate) fn ahead(&self, actor: &Actor) -> Ahead
+        ensures ahead { result ≡ own_ahead self.now.script (reached_by self.now) actor.now }
+        ensures ended { result ≡ Passes → HasEnded self.now actor.now }
+    {
+        match seated_of(self.seated.as_slice(), actor) {
+            Some(seated) => self.ahead_at(&seated.seat, seated.line()),
+            None => Ahead::Passes,
+        }
+    }
+
+    fn ahead_at(&self, seat: &Seat, line: Option<Line>) -> Ahead
+        requires { IfSome line (λ l. HaveRoom (reached_by self.now).played.clock self.now.script.leads l.verb) }
+        ensures { result ≡ ahead_at self.now.script (reached_by self.now) seat.now line }
+    {
+        match line {
+            None => Ahead::Passes,
+            Some(line) => {
+                own_event(
+                    self.planned.clock,
+                    self.script.leads.as_slice(),
+                    self.name_posted(&line.verb),
+                    &line,
+                    seat.point,
+                    &self.planned.view(seat.actor),
+                    seat.unawaited,
+                )
+            }
+        }
+    }
+
+    fn name_posted(&self, verb: &Verb) -> bool
+        ensures { result ≡ name_posted (reached_by self.now).names verb.now }
+    {
+        match verb {
+            Verb::Await { name } => self.names.contains(name),
+            _ => true,
+        }
+    }
+
+    /// Whether the node's stage is held.
+    pub(crate) fn is_held(&self, node: NodeNo, stage: Stage) -> bool
+        ensures { result ≡ IsStageHeld self.now node stage }
+    {
+        holds_at(self.held.as_slice(), node).is_held(stage)
+    }
+
+    /// The term of the node's oracle.
+    pub(crate) fn term_of(&self, node: NodeNo) -> Option<Term>
+        ensures { result ≡ read.term_of (state_of self.now) node }
+    {
+        self.planned.cluster.term_of(node)
+    }
+
+    /// The turn by which the node's stage serves the session's request as it stands: where a decision found no stamp, the range is
+    /// extended first.
+    pub(crate) fn turn_of(&self, stage: Stage, node: NodeNo, session: SessionNo) -> Option<Turn>
+        ensures { MatchOption result (lawful.stage_turn stage node session (lawful.session_view (state_of self.now) session) ≡ None)
+            (λ turn. IsServable self.now node stage session turn) }
+    {
+        let view = self.planned.view(Actor::Session(session));
+        match stage_turn(stage, node, session, &view) {
+            Some(Turn::Decide { .. }) if is_lacking(self.lacking.as_slice(), &node) => {
+                Some(Turn::Extend { node })
+            }
+            found => found,
+        }
+    }
+
+    /// The event of a stage's turn.
+    pub(crate) fn event_of(&self, turn: &Turn) -> Option<Event>
+        ensures { result ≡ event_of self.now.script (reached_by self.now) turn.now }
+    {
+        match *turn {
+            Turn::Own { actor } => event_ahead(&self.ahead(&actor)),
+            Turn::Accept { node, session } => {
+                Some(Event::Accept {
+                    node,
+                    session,
+                    reading: self.reading_at(node),
+                })
+            }
+            Turn::Decide { node, session } => Some(Event::Decide { node, session }),
+            Turn::Put { node, session } => Some(Event::Put { node, session }),
+            Turn::Answer { node, session } => Some(Event::Answer { node, session }),
+            Turn::Extend { node } => Some(Event::Extend { node }),
+        }
+    }
+
+    /// What the node's clock shows.
+    fn reading_at(&self, node: NodeNo) -> u64
+        ensures { result ≡ reading_at (clocks_of self.now.script (reached_by self.now).played) node }
+    {
+        let lead = match self.script.leads.get(node.index()) {
+            Some(lead) => *lead,
+            None => 0,
+        };
+        self.planned.clock + lead
+    }
+}
+
+/// The event that is ahead, if there is one.
+fn event_ahead(ahead: &Ahead) -> Option<Event>
+    ensures { result ≡ made_by ahead.now }
+{
+    match ahead {
+        Ahead::Makes(event) => Some(*event),
+        Ahead::Waits(_) | Ahead::Passes => None,
+    }
+}

@@ -1,0 +1,100 @@
+-- Whichever turns are made, the lines that an actor has passed are answered, and whole turns answer every line.
+use Rattle.std.proofs.Common.{◌≡◌, ℕ, List, [], ◌∷◌, Option, Some, None, inl, inr, refl, sym, ◌∙◌, ap, subst}
+use Rattle.std.specs.Prelude.{filter, All}
+use Rattle.std.proofs.lemmas.List.{append-nil}
+use Rattle.std.proofs.lemmas.Option.{none-some}
+use Rattle.stamp_base.specs.SetupNumbers.{AreInRange}
+use Rattle.history_book.specs.declared.item.Actor.{Actor}
+use Rattle.history_book.specs.declared.item.Item.{Item}
+use Rattle.machine.specs.declared.event.Doing.{Doing}
+use Rattle.machine.specs.declared.event.Doing.TheVariants as doing
+use Rattle.machine.specs.declared.event.Event.TheVariants as event
+use Rattle.machine.specs.Readers.{doing_of}
+use Rattle.script_data.specs.declared.line.Line.{Line}
+use Rattle.script_data.specs.Data.{ScriptData}
+use Rattle.line_steps.specs.declared.point.Point.{Point}
+use Rattle.line_steps.specs.declared.point.Point.TheVariants.{Opens, Drives, Extends, Finishes, Reads, Steps, Over}
+use Rattle.line_steps.specs.Answers.{same_actor, is_of, Answered}
+use Rattle.line_steps.specs.Laws.{AreLinesOf, IsPlayable}
+use Rattle.line_steps.specs.Next.{read_next}
+use Rattle.line_steps.specs.Views.{view_of}
+use Rattle.line_steps.proofs.ReadSteps.{read_has_next}
+use Rattle.line_steps.proofs.Walks.{walks_end}
+use Rattle.turn_rules.specs.declared.seat.Seat.{Seat}
+use Rattle.turn_rules.specs.declared.turn.Turn.{Turn}
+use Rattle.turn_rules.specs.Seats.{lines_of, lines_left}
+use Rattle.turn_rules.specs.Carried.{Carried, seat_of, all_passed, at_first, carried, carried_items, AreWhole}
+use Rattle.turn_rules.specs.Laws.{IsAnsweredTo, unanswered, OwesRead, IsAnsweredSoFar, TurnsAnswerSoFar, TurnsAnswer}
+use Rattle.turn_rules.proofs.AllSeats.{at_opening, has_seat, no_lines}
+use Rattle.turn_rules.proofs.Facts.{facts_at_first, later_ticks}
+use Rattle.turn_rules.proofs.SeatLists.{Place, find_place, drop_get}
+use Rattle.turn_rules.proofs.SoFar.{IsAt, SoFar, so_far_passed, so_far_all}
+use Rattle.turn_rules.proofs.WalksOn.{Present, ReadUnderWay, StandsSo}
+
+all_so_far : (script : ScriptData) (turns : List Turn) → AreInRange script.setup → IsPlayable script 0 script.lines → AreLinesOf script.setup script.lines → SoFar script (carried script turns)
+all_so_far script turns in_range playable of_script = so_far_all script playable of_script turns (all_passed script (at_first script)) (so_far_passed script (at_first script) (facts_at_first script in_range) (at_opening script))
+
+-- ---- so far
+pub none_unanswered : (at : Point) → unanswered at [] ≡ []
+none_unanswered Opens = refl
+none_unanswered Drives = refl
+none_unanswered Extends = refl
+none_unanswered Finishes = refl
+none_unanswered Reads = refl
+none_unanswered Steps = refl
+none_unanswered Over = refl
+
+is_reading : (s : ℕ) (now : Doing) → read_next s now ≡ Some (event.Step s) → now ≡ doing.Reading
+is_reading s doing.Reading is = refl
+is_reading s doing.Free is = absurd (none-some (event.Step s) is)
+is_reading s doing.Waiting is = absurd (none-some (event.Step s) is)
+is_reading s doing.Open is = absurd (none-some (event.Step s) is)
+is_reading s doing.OpenOutcome is = absurd (none-some (event.Step s) is)
+is_reading s doing.Completing is = absurd (none-some (event.Step s) is)
+is_reading s doing.Gone is = absurd (none-some (event.Step s) is)
+
+owes : (script : ScriptData) (c : Carried) (seat : Seat) (line : Line) (lines : List Line) → lines_left script seat ≡ line ∷ lines → ReadUnderWay seat.actor script.lines c.played.state c.played.items seat.point line lines → OwesRead script c seat
+owes script c seat line lines left k = record {
+  key = k.key;
+  line = line;
+  present = drop_get seat.place (lines_of script seat.actor) line lines left;
+  reads = k.verb_is;
+  point = k.at_is;
+  doing = ap (λ (a : Actor). (view_of c.played.state a).doing) k.actor_is ∙ is_reading k.s (doing_of c.played.state k.s) (read_has_next c.played.state k.s k.key k.reads);
+  answered = subst (λ (ls : List Line). IsAnsweredTo seat.actor script.lines c.played.items (Some k.key) (unanswered seat.point ls)) (sym left) (subst (λ (p : Point). IsAnsweredTo seat.actor script.lines c.played.items (Some k.key) (unanswered p (line ∷ lines))) (sym k.at_is) k.to);
+}
+
+present_so_far : (script : ScriptData) (c : Carried) (seat : Seat) (line : Line) (lines : List Line) → lines_left script seat ≡ line ∷ lines → Present seat.actor script.lines c.played.state c.played.items seat.point line lines → IsAnsweredSoFar script c seat
+present_so_far script c seat line lines left (inl (opens, so)) = inl (subst (λ (ls : List Line). IsAnsweredTo seat.actor script.lines c.played.items None (unanswered seat.point ls)) (sym left) (subst (λ (p : Point). IsAnsweredTo seat.actor script.lines c.played.items None (unanswered p (line ∷ lines))) (sym opens) so))
+present_so_far script c seat line lines left (inr (inl (later, so))) = inl (subst (λ (ls : List Line). IsAnsweredTo seat.actor script.lines c.played.items None (unanswered seat.point ls)) (sym left) (subst (λ (ls : List Line). IsAnsweredTo seat.actor script.lines c.played.items None ls) (sym (later_ticks seat.point line lines later)) so))
+present_so_far script c seat line lines left (inr (inr k)) = inr (owes script c seat line lines left k)
+
+seat_so_far : (script : ScriptData) (c : Carried) (seat : Seat) (rest : List Line) → lines_left script seat ≡ rest → StandsSo seat.actor script.lines c.played.state c.played.items seat.point rest → IsAnsweredSoFar script c seat
+seat_so_far script c seat [] left so = inl (subst (λ (ls : List Line). IsAnsweredTo seat.actor script.lines c.played.items None (unanswered seat.point ls)) (sym left) (subst (λ (ls : List Line). IsAnsweredTo seat.actor script.lines c.played.items None ls) (sym (none_unanswered seat.point)) so))
+seat_so_far script c seat (line ∷ lines) left so = present_so_far script c seat line lines left so
+
+pub turns_answer_so_far : TurnsAnswerSoFar
+turns_answer_so_far script turns actor seat in_range playable of_script sits =
+    let c : Carried = carried script turns in
+    let at : IsAt script c actor (Some seat) = subst (λ (found : Option Seat). IsAt script c actor found) sits ((all_so_far script turns in_range playable of_script).at actor) in
+    let mine : StandsSo seat.actor script.lines c.played.state c.played.items seat.point (lines_left script seat) = subst (λ (a : Actor). StandsSo a script.lines c.played.state c.played.items seat.point (lines_left script seat)) (sym at.0) at.1 in
+    (at.0, seat_so_far script c seat (lines_left script seat) refl mine)
+
+-- ---- whole turns
+pub whole_seat : (script : ScriptData) (c : Carried) (actor : Actor) (seat : Seat) → All (λ (s : Seat). lines_left script s ≡ []) c.seats → seat_of c.seats actor ≡ Some seat → lines_left script seat ≡ []
+whole_seat script c actor seat whole sits =
+    let k : Place c.seats seat = find_place (λ (x : Seat). same_actor x.actor actor) c.seats seat sits in
+    subst (λ (s : Seat). lines_left script s ≡ []) (k.is seat) (whole k.place seat k.inside)
+
+answered_now : (actor : Actor) (all : List Line) (h : List Item) (lines : List Line) → filter (is_of actor) lines ≡ [] → IsAnsweredTo actor all h None lines → Answered actor None (filter (is_of actor) all) h
+answered_now actor all h lines none so = subst (λ (items : List Item). Answered actor None (filter (is_of actor) all) items) (append-nil h) (so [] (subst (λ (ls : List Line). Answered actor None ls []) (sym none) (walks_end actor)))
+
+whole_at : (script : ScriptData) (turns : List Turn) (actor : Actor) → AreLinesOf script.setup script.lines → AreWhole script turns → (found : Option Seat) → seat_of (carried script turns).seats actor ≡ found → IsAt script (carried script turns) actor found → Answered actor None (filter (is_of actor) script.lines) (carried_items script turns)
+whole_at script turns actor of_script whole None none at = answered_now actor script.lines (carried_items script turns) script.lines (no_lines script.setup actor script.lines of_script (λ fits. has_seat script actor turns fits none)) at
+whole_at script turns actor of_script whole (Some seat) sits (same, so) =
+    let c : Carried = carried script turns in
+    let done : IsAnsweredTo actor script.lines c.played.items None [] = subst (λ (ls : List Line). StandsSo actor script.lines c.played.state c.played.items seat.point ls) (whole_seat script c actor seat whole sits) so in
+    answered_now actor script.lines (carried_items script turns) [] refl done
+
+pub turns_answer : TurnsAnswer
+turns_answer script turns in_range playable of_script whole actor = whole_at script turns actor of_script whole (seat_of (carried script turns).seats actor) refl ((all_so_far script turns in_range playable of_script).at actor)

@@ -1,0 +1,102 @@
+-- What makes an event: a line of the actor's seat, or a stage.
+use Rattle.std.proofs.Common.{◌≡◌, ℕ, zero, suc, List, [], ◌∷◌, Option, Some, None, refl, sym, ◌∙◌, subst}
+use Rattle.std.specs.Prelude.{slice_get}
+use Rattle.std.proofs.lemmas.Option.{same_Some, none-some}
+use Rattle.stamp_base.specs.SetupNumbers.{SetupNumbers}
+use Rattle.history_book.specs.declared.item.Actor.{Actor}
+use Rattle.machine.specs.declared.event.Event.{Event}
+use Rattle.machine.specs.declared.event.Event.TheVariants as event
+use Rattle.script_data.specs.declared.line.Line.{Line}
+use Rattle.script_data.specs.Data.{ScriptData}
+use Rattle.line_steps.specs.Answers.{same_actor}
+use Rattle.line_steps.specs.Laws.{ActorFits, VerbFits, AreLinesOf}
+use Rattle.line_steps.specs.Next.{reading_at}
+use Rattle.line_steps.specs.Runs.{clocks_of}
+use Rattle.line_steps.specs.Views.{view_of}
+use Rattle.line_steps.proofs.PlainEvents.{OpensNone}
+use Rattle.line_steps.proofs.ScriptWalks.{actor_same}
+use Rattle.line_steps.proofs.Timing.{Timed}
+use Rattle.turn_rules.specs.declared.seat.Seat.{Seat}
+use Rattle.turn_rules.specs.declared.turn.Turn.{Turn}
+use Rattle.turn_rules.specs.declared.turn.Turn.TheVariants as turn
+use Rattle.turn_rules.specs.Seats.{present_line, ahead_of}
+use Rattle.turn_rules.specs.Carried.{Carried, name_posted, ahead_at, ahead_in, seat_of, made_by, event_of}
+use Rattle.turn_rules.proofs.OwnEvents.{IsNextOf, own_is_next}
+use Rattle.turn_rules.proofs.SeatLists.{find_true, Filtered, filtered}
+use Rattle.turn_rules.proofs.StillReading.{IsNotOf}
+
+-- ---- a line of an actor
+-- it is the actor's
+pub present_own : (script : ScriptData) (seat : Seat) (line : Line) → present_line script seat ≡ Some line → line.actor ≡ seat.actor
+present_own script seat line is =
+    let k : Filtered (λ (x : Line). same_actor x.actor seat.actor) script.lines line = filtered (λ (x : Line). same_actor x.actor seat.actor) script.lines seat.place line is in
+    actor_same line.actor seat.actor k.passes
+
+fits_at : (setup : SetupNumbers) (lines : List Line) (n : ℕ) (line : Line) → AreLinesOf setup lines → slice_get lines n ≡ Some line → ActorFits setup line.actor × VerbFits setup line.verb
+unfolding AreLinesOf
+fits_at setup [] n line fit is = absurd (none-some line is)
+fits_at setup (x ∷ xs) zero line fit is = subst (λ (z : Line). ActorFits setup z.actor × VerbFits setup z.verb) (same_Some x line is) (fit.0, fit.1)
+fits_at setup (x ∷ xs) (suc n) line fit is = fits_at setup xs n line fit.2 is
+
+-- it and its node are of the system
+pub present_fits : (script : ScriptData) (seat : Seat) (line : Line) → AreLinesOf script.setup script.lines → present_line script seat ≡ Some line → ActorFits script.setup line.actor × VerbFits script.setup line.verb
+present_fits script seat line fit is =
+    let k : Filtered (λ (x : Line). same_actor x.actor seat.actor) script.lines line = filtered (λ (x : Line). same_actor x.actor seat.actor) script.lines seat.place line is in
+    fits_at script.setup script.lines k.place line fit k.is
+
+-- ---- an own turn
+-- the actor's seat and its present line, which makes the event
+pub record OwnTurn (script : ScriptData) (c : Carried) (actor : Actor) (e : Event) : Type 0 where
+  pub seat : Seat
+  pub sits : seat_of c.seats actor ≡ Some seat
+  pub same : seat.actor ≡ actor
+  pub line : Line
+  pub present : present_line script seat ≡ Some line
+  pub own : line.actor ≡ actor
+  pub next : IsNextOf (clocks_of script c.played) line.actor line.verb seat.point (view_of c.played.state line.actor) e
+  pub makes : made_by (ahead_of (clocks_of script c.played) (name_posted c.names line.verb) (view_of c.played.state line.actor) line seat) ≡ Some e
+
+own_line : (script : ScriptData) (c : Carried) (actor : Actor) (e : Event) (seat : Seat) → seat_of c.seats actor ≡ Some seat → (line : Option Line) → present_line script seat ≡ line → made_by (ahead_at script c seat line) ≡ Some e → OwnTurn script c actor e
+own_line script c actor e seat sits None present makes = absurd (none-some e makes)
+own_line script c actor e seat sits (Some line) present makes =
+    let same : seat.actor ≡ actor = actor_same seat.actor actor (find_true (λ (x : Seat). same_actor x.actor actor) c.seats seat sits) in
+    let own : line.actor ≡ seat.actor = present_own script seat line present in
+    let mine : made_by (ahead_of (clocks_of script c.played) (name_posted c.names line.verb) (view_of c.played.state line.actor) line seat) ≡ Some e = subst (λ (a : Actor). made_by (ahead_of (clocks_of script c.played) (name_posted c.names line.verb) (view_of c.played.state a) line seat) ≡ Some e) (sym own) makes in
+    record {
+      seat = seat;
+      sits = sits;
+      same = same;
+      line = line;
+      present = present;
+      own = own ∙ same;
+      next = own_is_next (clocks_of script c.played) (name_posted c.names line.verb) line.actor line.verb seat.point (view_of c.played.state line.actor) seat.unawaited e mine;
+      makes = mine;
+    }
+
+own_seat : (script : ScriptData) (c : Carried) (actor : Actor) (e : Event) (found : Option Seat) → seat_of c.seats actor ≡ found → made_by (ahead_in script c found) ≡ Some e → OwnTurn script c actor e
+own_seat script c actor e None sits makes = absurd (none-some e makes)
+own_seat script c actor e (Some seat) sits makes = own_line script c actor e seat sits (present_line script seat) refl makes
+
+pub own_turn : (script : ScriptData) (c : Carried) (actor : Actor) (e : Event) → event_of script c (turn.Own actor) ≡ Some e → OwnTurn script c actor e
+own_turn script c actor e makes = own_seat script c actor e (seat_of c.seats actor) refl makes
+
+-- ---- a stage's turn
+pub record StageTurn (script : ScriptData) (c : Carried) (e : Event) : Type 0 where
+  pub opens_none : OpensNone e
+  pub of_none : (s : ℕ) → IsNotOf s e
+  pub timed : Timed (clocks_of script c.played) 0 e
+
+abbrev pub IsOwn : Turn → Type 0
+IsOwn (turn.Own actor) = Unit {0}
+IsOwn _ = ⊥
+
+stage_event : (script : ScriptData) (c : Carried) (made e : Event) → Some made ≡ Some e → StageTurn script c made → StageTurn script c e
+stage_event script c made e is k = subst (λ (x : Event). StageTurn script c x) (same_Some made e is) k
+
+pub stage_turn : (script : ScriptData) (c : Carried) (t : Turn) (e : Event) → (IsOwn t → ⊥) → event_of script c t ≡ Some e → StageTurn script c e
+stage_turn script c (turn.Own actor) e not is = absurd (not tt)
+stage_turn script c (turn.Accept node session) e not is = stage_event script c (event.Accept node session (reading_at (clocks_of script c.played) node)) e is (record { opens_none = tt; of_none = λ s. tt; timed = refl })
+stage_turn script c (turn.Decide node session) e not is = stage_event script c (event.Decide node session) e is (record { opens_none = tt; of_none = λ s. tt; timed = tt })
+stage_turn script c (turn.Put node session) e not is = stage_event script c (event.Put node session) e is (record { opens_none = tt; of_none = λ s. tt; timed = tt })
+stage_turn script c (turn.Answer node session) e not is = stage_event script c (event.Answer node session) e is (record { opens_none = tt; of_none = λ s. tt; timed = tt })
+stage_turn script c (turn.Extend node) e not is = stage_event script c (event.Extend node) e is (record { opens_none = tt; of_none = λ s. tt; timed = tt })

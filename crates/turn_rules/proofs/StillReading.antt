@@ -1,0 +1,148 @@
+-- A session whose transaction is open has no request in flight. So an event that is not its own leaves its client as it was,
+-- and a read under way goes on.
+use Rattle.std.proofs.Common.{◌≡◌, ℕ, zero, suc, false, List, [], ◌∷◌, Option, Some, None, inl, inr, refl, sym, ◌∙◌, ap, subst}
+use Rattle.std.specs.Prelude.{slice_get, slice_set, slice_index_or}
+use Rattle.std.proofs.lemmas.Bool.Decides.{eqb_tells}
+use Rattle.port_io.specs.declared.weather.Fate.{Fate}
+use Rattle.history_book.specs.declared.item.Item.{Item}
+use Rattle.client_parts.specs.declared.session.State.TheVariants as phase
+use Rattle.oracle_parts.specs.declared.instance.Held.{Held}
+use Rattle.oracle_parts.specs.declared.instance.Request.{Request}
+use Rattle.oracle_parts.specs.declared.instance.Request.TheVariants.{Begin, Commit}
+use Rattle.oracle_parts.specs.Instance.{InstanceEntry, held_of, stamps_of_held}
+use Rattle.machine.specs.declared.event.Event.{Event}
+use Rattle.machine.specs.declared.event.Event.TheVariants as event
+use Rattle.machine.specs.State.{Client, State}
+use Rattle.machine.specs.Machine.{Step, step_by, with_reading, with_post, at_post, at_client, at_both, stepped}
+use Rattle.machine.specs.Readers.{held_at}
+use Rattle.machine.specs.Events.Accept.{accept_request, accept_on}
+use Rattle.machine.specs.Events.Answer.{answer_request, answer_on}
+use Rattle.machine.specs.Events.Crash.{crashed_client, crashed_clients, crash_on}
+use Rattle.machine.specs.Events.Decide.{decide_request, decide_on}
+use Rattle.machine.proofs.PartsKept.{leaves_parts}
+use Rattle.isolation_laws.specs.Requests.{WaitsFor}
+use Rattle.isolation_laws.specs.Sound.{Stands}
+use Rattle.isolation_laws.specs.Words.{InstanceAt, ClientAt}
+use Rattle.isolation_laws.proofs.Lookups.{set_found, set_other, one_client, held_by}
+use Rattle.line_steps.proofs.ReadLines.{ReadsKey}
+
+-- ---- no request of an open transaction is in flight
+waits_not : (request : Request) (c : Client) → c.entry.state ≡ phase.Open → WaitsFor request c → ⊥
+waits_not (Begin session) c is (inl gone) = let clash : phase.Open ≡ phase.Gone = sym is ∙ gone in cc
+waits_not (Begin session) c is (inr asking) = let clash : phase.Open ≡ phase.Asking = sym is ∙ asking in cc
+waits_not (Commit session start keys) c is (inl gone) = let clash : phase.Open ≡ phase.Gone = sym is ∙ gone in cc
+waits_not (Commit session start keys) c is (inr (committing, start_is)) = let clash : phase.Open ≡ phase.Committing = sym is ∙ committing in cc
+
+none_by : (w : State) (h : List Item) (s : ℕ) (c : Client) → Stands w h → ClientAt w.clients s c → c.entry.state ≡ phase.Open → (node : ℕ) (i : InstanceEntry) → InstanceAt w.nodes node i → (held : Option Held) → held_of i s ≡ held → held ≡ None
+none_by w h s c stands at is node i there None has = refl
+none_by w h s c stands at is node i there (Some held) has =
+    let waits = stands.holds.requests.requests.waits node s i held.request held.progress there (held_by i s held has) in
+    absurd (waits_not held.request c is (subst (λ (d : Client). WaitsFor held.request d) (one_client w.clients s waits.0 c waits.1 at) waits.2))
+
+none_held : (w : State) (h : List Item) (s : ℕ) (c : Client) → Stands w h → ClientAt w.clients s c → c.entry.state ≡ phase.Open → (node : ℕ) (i : InstanceEntry) → InstanceAt w.nodes node i → held_of i s ≡ None
+none_held w h s c stands at is node i there = none_by w h s c stands at is node i there (held_of i s) refl
+
+-- ---- looking up the parts
+-- the client that is looked for, and the event's
+abbrev pub Same : State → ℕ → Step → Type 0
+Same w s step = slice_get step.state.clients s ≡ slice_get w.clients s
+
+by_client : (w : State) (s : ℕ) (f : Client → Step) → ((c : Client) → Same w s (f c)) → (found : Option Client) → Same w s (at_client w found f)
+by_client w s f each None = refl
+by_client w s f each (Some c) = each c
+
+by_both : (w : State) (s : ℕ) (f : Option InstanceEntry → Client → Step) → ((post : Option InstanceEntry) (c : Client) → Same w s (f post c)) → (post : Option (Option InstanceEntry)) (found : Option Client) → Same w s (at_both w post found f)
+by_both w s f each None found = refl
+by_both w s f each (Some post) None = refl
+by_both w s f each (Some post) (Some c) = each post c
+
+-- ---- a node that serves a request
+abbrev NoneAt : ℕ → Option InstanceEntry → Type 0
+NoneAt s post = held_at post s ≡ None
+
+none_at : (w : State) (h : List Item) (s : ℕ) (c : Client) → Stands w h → ClientAt w.clients s c → c.entry.state ≡ phase.Open → (node : ℕ) (post : Option InstanceEntry) → slice_get w.nodes node ≡ Some post → NoneAt s post
+none_at w h s c stands at is node None there = refl
+none_at w h s c stands at is node (Some i) there = none_held w h s c stands at is node i there
+
+accept_same : (node s reading : ℕ) (post : Option InstanceEntry) (c : Client) → NoneAt s post → (accept_on node s reading post c).parts.1 ≡ c
+accept_same node s reading None c none = refl
+accept_same node s reading (Some i) c none = ap (λ (held : Option Held). (accept_request node s reading i c held).parts.1) none
+
+decide_same : (node s : ℕ) (post : Option InstanceEntry) (c : Client) → NoneAt s post → (decide_on node s post c).parts.1 ≡ c
+decide_same node s None c none = refl
+decide_same node s (Some i) c none = ap (λ (held : Option Held). (decide_request node s i c held).parts.1) none
+
+answer_same : (node s : ℕ) (post : Option InstanceEntry) (c : Client) → NoneAt s post → (answer_on node s post c).parts.1 ≡ c
+answer_same node s None c none = refl
+answer_same node s (Some i) c none = ap (λ (held : Option Held). (answer_request node s i c (stamps_of_held held)).parts.1) none
+
+-- the served client, of this session or another
+serve_by : (w : State) (s t : ℕ) (c : Client) (f : Option InstanceEntry → Client → Step) (made : Option InstanceEntry → Client → Client) → ClientAt w.clients s c → (node : ℕ) → ((post : Option InstanceEntry) (d : Client) → (f post d).state.clients ≡ slice_set w.clients t (made post d)) → ((post : Option InstanceEntry) → slice_get w.nodes node ≡ Some post → t ≡ s → made post c ≡ c) → Same w s (at_both w (slice_get w.nodes node) (slice_get w.clients t) f)
+serve_by w s t c f made at node sets same = elim (eqb_tells s t) [
+  | inl here ↦
+      subst (λ (q : ℕ). Same w s (at_both w (slice_get w.nodes node) (slice_get w.clients q) f)) here.1 (subst (λ (found : Option Client). Same w s (at_both w (slice_get w.nodes node) found f)) (sym at) (own (slice_get w.nodes node) refl (sym here.1)))
+  | inr other ↦ by_both w s f (λ post d. ap (λ (cs : List Client). slice_get cs s) (sets post d) ∙ set_other w.clients t s (made post d) other.1) (slice_get w.nodes node) (slice_get w.clients t)
+]
+  where
+    own : (found : Option (Option InstanceEntry)) → slice_get w.nodes node ≡ found → t ≡ s → Same w s (at_both w found (Some c) f)
+    own None there mine = refl
+    own (Some post) there mine =
+        ap (λ (cs : List Client). slice_get cs s) (sets post c)
+        ∙ ap (λ (d : Client). slice_get (slice_set w.clients t d) s) (same post there mine)
+        ∙ ap (λ (q : ℕ). slice_get (slice_set w.clients q c) s) mine
+        ∙ set_found w.clients s c c at
+        ∙ sym at
+
+-- ---- a crash
+crashed_same : (requests : List (Option Held)) (cs : List Client) (s : ℕ) → slice_index_or requests s None ≡ None → slice_get (crashed_clients requests cs) s ≡ slice_get cs s
+unfolding crashed_clients
+crashed_same [] cs s none = refl
+crashed_same (held ∷ others) [] s none = refl
+crashed_same (held ∷ others) (c ∷ cs) zero none = ap (λ (x : Option Held). Some (crashed_client x c)) none
+crashed_same (held ∷ others) (c ∷ cs) (suc s) none = crashed_same others cs s none
+
+crash_same : (w : State) (s : ℕ) (node : ℕ) (found : Option (Option InstanceEntry)) → ((post : Option InstanceEntry) → found ≡ Some post → NoneAt s post) → Same w s (at_post w found (λ post. step_by (crash_on node post w.clients) (λ p. record (with_post w node p.0) { clients = p.1 })))
+crash_same w s node None none = refl
+crash_same w s node (Some None) none = refl
+crash_same w s node (Some (Some i)) none = crashed_same i.requests w.clients s (none (Some i) refl)
+
+-- ---- each event that is not the session's own
+abbrev pub IsNotOf : ℕ → Event → Type 0
+IsNotOf s (event.AskBegin session node) = s ≡ session → ⊥
+IsNotOf s (event.AskCommit session node) = s ≡ session → ⊥
+IsNotOf s (event.Write session key value) = s ≡ session → ⊥
+IsNotOf s (event.Fetch session key) = s ≡ session → ⊥
+IsNotOf s (event.Step session) = s ≡ session → ⊥
+IsNotOf s (event.Heal session) = s ≡ session → ⊥
+IsNotOf s (event.Abort session) = s ≡ session → ⊥
+IsNotOf s (event.Vanish session) = s ≡ session → ⊥
+IsNotOf s e = Unit {0}
+
+untouched : (w : State) (s : ℕ) (e : Event) (fate : Fate) → Rattle.machine.specs.Laws.touches_clients e ≡ false → Same w s (stepped w e fate)
+untouched w s e fate not = ap (λ (cs : List Client). slice_get cs s) ((leaves_parts w e fate).clients not)
+
+pub client_stays : (w : State) (h : List Item) (s : ℕ) (c : Client) → Stands w h → ClientAt w.clients s c → c.entry.state ≡ phase.Open → (e : Event) (fate : Fate) → IsNotOf s e → Same w s (stepped w e fate)
+client_stays w h s c stands at is (event.Tick to) fate not = refl
+client_stays w h s c stands at is (event.Note actor said) fate not = refl
+client_stays w h s c stands at is (event.Take node reading) fate not = untouched w s (event.Take node reading) fate refl
+client_stays w h s c stands at is (event.Renew node reading) fate not = untouched w s (event.Renew node reading) fate refl
+client_stays w h s c stands at is (event.Extend node) fate not = untouched w s (event.Extend node) fate refl
+client_stays w h s c stands at is (event.Put node session) fate not = untouched w s (event.Put node session) fate refl
+client_stays w h s c stands at is (event.SweepOpen node txn) fate not = untouched w s (event.SweepOpen node txn) fate refl
+client_stays w h s c stands at is event.SweepStep fate not = untouched w s event.SweepStep fate refl
+client_stays w h s c stands at is (event.Crash node) fate not = crash_same w s node (slice_get w.nodes node) (none_at w h s c stands at is node)
+client_stays w h s c stands at is (event.Accept node t reading) fate not = serve_by (with_reading w reading) s t c _ (λ post d. (accept_on node t reading post d).parts.1) at node (λ post d. refl) (λ post there mine. accept_same node t reading post c (subst (λ (q : ℕ). NoneAt q post) (sym mine) (none_at w h s c stands at is node post there)))
+client_stays w h s c stands at is (event.Decide node t) fate not = serve_by w s t c _ (λ post d. (decide_on node t post d).parts.1) at node (λ post d. refl) (λ post there mine. decide_same node t post c (subst (λ (q : ℕ). NoneAt q post) (sym mine) (none_at w h s c stands at is node post there)))
+client_stays w h s c stands at is (event.Answer node t) fate not = serve_by w s t c _ (λ post d. (answer_on node t post d).parts.1) at node (λ post d. refl) (λ post there mine. answer_same node t post c (subst (λ (q : ℕ). NoneAt q post) (sym mine) (none_at w h s c stands at is node post there)))
+client_stays w h s c stands at is (event.AskBegin t node) fate not = by_both w s _ (λ post d. set_other w.clients t s _ not) (slice_get w.nodes node) (slice_get w.clients t)
+client_stays w h s c stands at is (event.AskCommit t node) fate not = by_both w s _ (λ post d. set_other w.clients t s _ not) (slice_get w.nodes node) (slice_get w.clients t)
+client_stays w h s c stands at is (event.Write t key value) fate not = by_client w s _ (λ d. set_other w.clients t s _ not) (slice_get w.clients t)
+client_stays w h s c stands at is (event.Fetch t key) fate not = by_client w s _ (λ d. set_other w.clients t s _ not) (slice_get w.clients t)
+client_stays w h s c stands at is (event.Step t) fate not = by_client w s _ (λ d. set_other w.clients t s _ not) (slice_get w.clients t)
+client_stays w h s c stands at is (event.Heal t) fate not = by_client w s _ (λ d. set_other w.clients t s _ not) (slice_get w.clients t)
+client_stays w h s c stands at is (event.Abort t) fate not = by_client w s _ (λ d. set_other w.clients t s _ not) (slice_get w.clients t)
+client_stays w h s c stands at is (event.Vanish t) fate not = by_client w s _ (λ d. set_other w.clients t s _ not) (slice_get w.clients t)
+
+-- a read under way goes on
+pub still_reads : (w : State) (h : List Item) (s key : ℕ) → Stands w h → ReadsKey w s key → (e : Event) (fate : Fate) → IsNotOf s e → ReadsKey (stepped w e fate).state s key
+still_reads w h s key stands k e fate not = record { c = k.c; at = client_stays w h s k.c stands k.at k.work.is_open e fate not ∙ k.at; work = k.work; key_is = k.key_is }

@@ -1,0 +1,89 @@
+-- How an actor's lines are answered so far: the walk of the history along them, which items of others and of its own line
+-- take further.
+use Rattle.std.proofs.Common.{◌≡◌, ℕ, Bool, true, false, cond, List, [], ◌∷◌, ◌++◌, append_assoc, Option, Some, None, ◌⊎◌, inl, inr, refl, sym, subst}
+use Rattle.std.specs.Prelude.{filter}
+use Rattle.history_book.specs.declared.item.Actor.{Actor}
+use Rattle.history_book.specs.declared.item.Actor.TheVariants.{Session}
+use Rattle.history_book.specs.declared.item.Item.{Item}
+use Rattle.machine.specs.State.{State}
+use Rattle.script_data.specs.declared.line.Line.{Line}
+use Rattle.script_data.specs.declared.line.Verb.{Verb}
+use Rattle.script_data.specs.declared.line.Verb.TheVariants as verb
+use Rattle.line_steps.specs.declared.point.Point.{Point}
+use Rattle.line_steps.specs.declared.point.Point.TheVariants.{Opens, Reads}
+use Rattle.line_steps.specs.Answers.{is_of, Answered}
+use Rattle.line_steps.proofs.FetchLines.{ReadBegun}
+use Rattle.line_steps.proofs.LaterEvents.{IsLater}
+use Rattle.line_steps.proofs.ReadLines.{ReadsKey}
+use Rattle.line_steps.proofs.Walks.{AllNot, Paid, LineItems, walks_over, walks_read, walks_line}
+use Rattle.turn_rules.specs.Laws.{IsAnsweredTo}
+
+-- ---- the walk
+-- over items that open no line, to a read that is owed
+walks_owed : (actor : Actor) (key : ℕ) (lines : List Line) (xs ys : List Item) → AllNot actor xs → Answered actor (Some key) lines ys → Answered actor (Some key) lines (xs ++ ys)
+unfolding AllNot Answered
+walks_owed actor key lines [] ys none walks = walks
+walks_owed actor key lines (x ∷ xs) ys none walks = inr (none.0, walks_owed actor key lines xs ys none.1 walks)
+
+walks_past : (actor : Actor) (begun : Option ℕ) (lines : List Line) (xs ys : List Item) → AllNot actor xs → Answered actor begun lines ys → Answered actor begun lines (xs ++ ys)
+walks_past actor None lines xs ys none walks = walks_over actor lines xs ys none walks
+walks_past actor (Some key) lines xs ys none walks = walks_owed actor key lines xs ys none walks
+
+-- over the items with which a read of a line begins
+walks_begun : (w : State) (s key : ℕ) (line : Line) (lines : List Line) (xs ys : List Item) → line.actor ≡ Session s → line.verb ≡ verb.Read key → ReadBegun w s key xs → Answered (Session s) (Some key) lines ys → Answered (Session s) None (line ∷ lines) (xs ++ ys)
+unfolding Answered
+walks_begun w s key line lines xs ys actor_is verb_is k walks =
+    let rest : Answered (Session s) (Some key) lines (k.rest ++ ys) = walks_owed (Session s) key lines k.rest ys k.none walks in
+    let begins : Answered (Session s) (Rattle.line_steps.specs.Answers.read_begun (verb.Read key) k.first) lines (k.rest ++ ys) = subst (λ (begun : Option ℕ). Answered (Session s) begun lines (k.rest ++ ys)) (sym k.begun) rest in
+    let first : Rattle.line_steps.specs.Answers.IsAnswer line.actor line.verb k.first = subst (λ (a : Actor). Rattle.line_steps.specs.Answers.IsAnswer a line.verb k.first) (sym actor_is) (subst (λ (v : Verb). Rattle.line_steps.specs.Answers.IsAnswer (Session s) v k.first) (sym verb_is) k.answers) in
+    let begun : Answered (Session s) (Rattle.line_steps.specs.Answers.read_begun line.verb k.first) lines (k.rest ++ ys) = subst (λ (v : Verb). Answered (Session s) (Rattle.line_steps.specs.Answers.read_begun v k.first) lines (k.rest ++ ys)) (sym verb_is) begins in
+    subst (λ (items : List Item). Answered (Session s) None (line ∷ lines) (items ++ ys)) (sym k.is) (inl (first, begun))
+
+-- ---- what answers the rest, answers all
+-- more items answer some of the lines
+answered_on : (actor : Actor) (all : List Line) (h items : List Item) (begun then : Option ℕ) (lines rest : List Line) → IsAnsweredTo actor all h begun lines → ((later : List Item) → Answered actor then (filter (is_of actor) rest) later → Answered actor begun (filter (is_of actor) lines) (items ++ later)) → IsAnsweredTo actor all (h ++ items) then rest
+answered_on actor all h items begun then lines rest so on later walks = subst (λ (xs : List Item). Answered actor None (filter (is_of actor) all) xs) (sym (append_assoc h items later)) (so (items ++ later) (on later walks))
+
+pub answered_past : (actor : Actor) (all : List Line) (h items : List Item) (begun : Option ℕ) (lines : List Line) → AllNot actor items → IsAnsweredTo actor all h begun lines → IsAnsweredTo actor all (h ++ items) begun lines
+answered_past actor all h items begun lines none so = answered_on actor all h items begun begun lines lines so (λ later walks. walks_past actor begun (filter (is_of actor) lines) items later none walks)
+
+-- a line of a form without an opening item is not waited for
+pub answered_skip : (actor : Actor) (all : List Line) (h : List Item) (line : Line) (lines : List Line) → is_of actor line ≡ false → IsAnsweredTo actor all h None (line ∷ lines) → IsAnsweredTo actor all h None lines
+answered_skip actor all h line lines not so later walks = so later (subst (λ (own : Bool). Answered actor None (cond own (line ∷ filter (is_of actor) lines) (filter (is_of actor) lines)) later) (sym not) walks)
+
+pub answered_line : (actor : Actor) (all : List Line) (h items : List Item) (line : Line) (lines : List Line) → is_of actor line ≡ true → LineItems actor line.actor line.verb items → IsAnsweredTo actor all h None (line ∷ lines) → IsAnsweredTo actor all (h ++ items) None lines
+answered_line actor all h items line lines own k so = answered_on actor all h items None None (line ∷ lines) lines so (λ later walks. subst (λ (mine : Bool). Answered actor None (cond mine (line ∷ filter (is_of actor) lines) (filter (is_of actor) lines)) (items ++ later)) (sym own) (walks_line actor line (filter (is_of actor) lines) items later k walks))
+
+pub answered_begun : (w : State) (s key : ℕ) (all : List Line) (h items : List Item) (line : Line) (lines : List Line) → line.actor ≡ Session s → line.verb ≡ verb.Read key → is_of (Session s) line ≡ true → ReadBegun w s key items → IsAnsweredTo (Session s) all h None (line ∷ lines) → IsAnsweredTo (Session s) all (h ++ items) (Some key) lines
+answered_begun w s key all h items line lines actor_is verb_is own k so = answered_on (Session s) all h items None (Some key) (line ∷ lines) lines so (λ later walks. subst (λ (mine : Bool). Answered (Session s) None (cond mine (line ∷ filter (is_of (Session s)) lines) (filter (is_of (Session s)) lines)) (items ++ later)) (sym own) (walks_begun w s key line (filter (is_of (Session s)) lines) items later actor_is verb_is k walks))
+
+pub answered_read : (actor : Actor) (key : ℕ) (all : List Line) (h items : List Item) (lines : List Line) → Paid actor key items → IsAnsweredTo actor all h (Some key) lines → IsAnsweredTo actor all (h ++ items) None lines
+answered_read actor key all h items lines paid so = answered_on actor all h items (Some key) None lines lines so (λ later walks. walks_read actor key (filter (is_of actor) lines) items later paid walks)
+
+-- at first nothing is answered
+pub answered_none : (actor : Actor) (all : List Line) → IsAnsweredTo actor all [] None all
+answered_none actor all later walks = walks
+
+-- ---- an actor with these lines left, the first of which stands at this point
+-- a read of the line is under way
+pub record ReadUnderWay (actor : Actor) (all : List Line) (w : State) (h : List Item) (at : Point) (line : Line) (lines : List Line) : Type 0 where
+  pub s : ℕ
+  pub key : ℕ
+  pub actor_is : actor ≡ Session s
+  pub verb_is : line.verb ≡ verb.Read key
+  pub at_is : at ≡ Reads
+  pub reads : ReadsKey w s key
+  pub to : IsAnsweredTo actor all h (Some key) lines
+
+-- the first line has not opened; or it is answered; or its read is under way
+abbrev pub Present : Actor → List Line → State → List Item → Point → Line → List Line → Type 0
+Present actor all w h at line lines = ((at ≡ Opens) × IsAnsweredTo actor all h None (line ∷ lines)) ⊎ (IsLater at × IsAnsweredTo actor all h None lines) ⊎ ReadUnderWay actor all w h at line lines
+
+abbrev pub StandsSo : Actor → List Line → State → List Item → Point → List Line → Type 0
+StandsSo actor all w h at [] = IsAnsweredTo actor all h None []
+StandsSo actor all w h at (line ∷ lines) = Present actor all w h at line lines
+
+-- before its next line
+pub stands_next : (actor : Actor) (all : List Line) (w : State) (h : List Item) (lines : List Line) → IsAnsweredTo actor all h None lines → StandsSo actor all w h Opens lines
+stands_next actor all w h [] so = so
+stands_next actor all w h (line ∷ lines) so = inl (refl, so)

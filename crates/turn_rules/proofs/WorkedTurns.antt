@@ -1,0 +1,31 @@
+-- The worked turns, computed.
+use Rattle.std.proofs.Common.{◌≡◌, refl}
+use Rattle.std.specs.Prelude.{map}
+use Rattle.port_io.specs.Planned.{planned_fate}
+use Rattle.history_book.specs.declared.item.Actor.TheVariants.{Node, Session}
+use Rattle.store_parts.specs.Rows.{put_row}
+use Rattle.oracle_parts.specs.Buckets.{record_pairs, kept_commit, verdict}
+use Rattle.oracle_parts.specs.Instance.{least_unsettled}
+use Rattle.machine.specs.Events.Crash.{crashed_clients, all_crashed_items}
+use Rattle.machine.specs.Readers.{holder_from}
+use Rattle.turn_rules.specs.declared.ahead.Ahead.TheVariants.{Waits}
+use Rattle.turn_rules.specs.declared.ahead.Why.TheVariants.{Reply, Name}
+use Rattle.turn_rules.specs.Seats.{seats_of, passed}
+use Rattle.turn_rules.specs.Carried.{own_ahead, carried, carried_items}
+use Rattle.turn_rules.specs.WorkedTurns as worked
+
+pub begin_waits : own_ahead worked.script (carried worked.script worked.asked_turns) (Session 0) ≡ Waits Reply
+unfolding seats_of passed holder_from planned_fate
+begin_waits = refl
+
+pub name_is_awaited : own_ahead worked.script (carried worked.script worked.asked_turns) (Node 0) ≡ Waits Name
+unfolding seats_of passed holder_from planned_fate
+name_is_awaited = refl
+
+pub whole_items : carried_items worked.script worked.whole_turns ≡ worked.items
+unfolding seats_of passed holder_from planned_fate record_pairs least_unsettled put_row crashed_clients all_crashed_items verdict kept_commit
+whole_items = refl
+
+pub whole_places : map (λ seat. seat.place) (carried worked.script worked.whole_turns).seats ≡ worked.places
+unfolding seats_of passed holder_from planned_fate record_pairs least_unsettled put_row crashed_clients all_crashed_items verdict kept_commit
+whole_places = refl

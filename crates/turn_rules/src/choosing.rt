@@ -1,0 +1,83 @@
+// What is ahead of a line that is carried out on threads.
+ghost use Rattle.std.specs.Prelude.{◌≡◌};
+ghost use Rattle.line_steps.specs.Clocks.{clocks, HaveRoom};
+ghost use Rattle.turn_rules.specs.Waiting as waiting;
+
+use crate::ahead::{Ahead, Why};
+use history_book::Actor;
+use line_steps::{Point, View, finish_next, idle_next, is_served, next_event};
+use machine::Event;
+use script_data::{Line, Verb};
+use stamp_base::SessionNo;
+
+/// What is ahead of the actor's present line from this point on: `posted` says whether the name that it awaits is posted, and
+/// `unawaited` whether its session's last ask was made and no later line has waited for the answer.
+pub fn own_event(
+    base: u64,
+    leads: &[u64],
+    posted: bool,
+    line: &Line,
+    point: Point,
+    view: &View,
+    unawaited: bool,
+) -> Ahead
+    requires { HaveRoom base leads.now line.now.verb }
+    ensures { result ≡ waiting.own_next (clocks base leads.now) posted line.now.actor line.now.verb point view.now unawaited }
+{
+    match (point, line.actor) {
+        (Point::Opens, _) => own_opens(base, leads, posted, line, view, unawaited),
+        (Point::Drives, Actor::Session(session)) => drive_ahead(session, &line.verb, view),
+        (Point::Extends, Actor::Session(_)) => Ahead::Passes,
+        _ => made_next(next_event(base, leads, line, point, view)),
+    }
+}
+
+fn own_opens(
+    base: u64,
+    leads: &[u64],
+    posted: bool,
+    line: &Line,
+    view: &View,
+    unawaited: bool,
+) -> Ahead
+    requires { HaveRoom base leads.now line.now.verb }
+    ensures { result ≡ waiting.own_opens (clocks base leads.now) posted line.now.actor line.now.verb view.now unawaited }
+{
+    match (&line.verb, line.actor) {
+        (Verb::Await { .. }, _) if !posted => Ahead::Waits(Why::Name),
+        (Verb::Collect, Actor::Session(session)) => collect_ahead(session, view, unawaited),
+        _ => made_next(next_event(base, leads, line, Point::Opens, view)),
+    }
+}
+
+/// The stages serve the request; once it has ended, a completion follows.
+fn drive_ahead(session: SessionNo, verb: &Verb, view: &View) -> Ahead
+    ensures { result ≡ waiting.drive_ahead session verb.now view.now view.now.request }
+{
+    match view.request {
+        None => made_next(finish_next(session, view.doing)),
+        Some((_, place)) if is_served(verb, place) => Ahead::Waits(Why::Reply),
+        Some(_) => Ahead::Passes,
+    }
+}
+
+/// A session with no request in flight has come too late to collect it, or has nothing to collect.
+fn collect_ahead(session: SessionNo, view: &View, unawaited: bool) -> Ahead
+    ensures { result ≡ waiting.collect_ahead session view.now unawaited view.now.request }
+{
+    match view.request {
+        Some(_) => Ahead::Waits(Why::Reply),
+        None if unawaited => made_next(finish_next(session, view.doing)),
+        None => made_next(idle_next(session, view.doing)),
+    }
+}
+
+/// A line without a next event is passed.
+fn made_next(next: Option<Event>) -> Ahead
+    ensures { result ≡ waiting.made_next next }
+{
+    match next {
+        Some(event) => Ahead::Makes(event),
+        None => Ahead::Passes,
+    }
+}

@@ -1,0 +1,43 @@
+// Passing lines with nothing left to do.
+ghost use Rattle.std.specs.Prelude.{◌≡◌, ◌<◌, ◌≤◌, ◌^◌, true, All, drop, length};
+ghost use Rattle.line_steps.specs.Clocks.{clocks, HaveRoom};
+ghost use Rattle.turn_rules.specs.Seats as seats;
+
+use crate::ahead::Ahead;
+use crate::choosing::own_event;
+use crate::seat::Seat;
+use line_steps::{Point, View};
+use script_data::{Line, Verb};
+
+/// Passes each of the actor's lines with nothing left to do, from the seat's place on.
+pub fn pass(base: u64, leads: &[u64], view: &View, lines: &[Line], seat: &mut Seat)
+    requires room { All (λ line. HaveRoom base leads.now line.verb) lines.now }
+    requires place { seat.old.place ≤ length lines.now }
+    ensures { seat.new ≡ seats.passed (clocks base leads.now) view.now (drop seat.old.place lines.now) seat.old }
+{
+    while seat.place < lines.len() && is_passed(base, leads, view, &lines[seat.place], seat) {
+        *seat = with_next_line(&lines[seat.place], seat);
+    }
+}
+
+/// A line that awaits a name has something to do, whether or not the name is posted.
+fn is_passed(base: u64, leads: &[u64], view: &View, line: &Line, seat: &Seat) -> bool
+    requires { HaveRoom base leads.now line.now.verb }
+    ensures { result ≡ seats.is_passed (seats.ahead_of (clocks base leads.now) true view.now line.now seat.now) }
+{
+    let ahead = own_event(base, leads, true, line, seat.point, view, seat.unawaited);
+    matches!(ahead, Ahead::Passes)
+}
+
+/// The seat with this line passed. Once a collect is passed, no ask is left unawaited.
+fn with_next_line(line: &Line, seat: &Seat) -> Seat
+    requires { seat.now.place < 2 ^ 63 }
+    ensures { result ≡ seats.with_next_line line.now seat.now }
+{
+    Seat {
+        actor: seat.actor,
+        place: seat.place + 1,
+        point: Point::Opens,
+        unawaited: seat.unawaited && !matches!(line.verb, Verb::Collect),
+    }
+}
