@@ -1,5 +1,5 @@
 // The bank: what a program does to begin, read, write and commit at a cluster.
-ghost use Rattle.std.specs.Prelude.{◌≡◌, IsTrue};
+ghost use Rattle.std.specs.Prelude.{◌≡◌, IsTrue, Some};
 ghost use Rattle.machine.specs.Machine.{IsSteadyAt, reading_of};
 
 use crate::failure::Failure;
@@ -10,6 +10,9 @@ use machine::{Doing, Event};
 use port_io::CalmWeather;
 use stamp_base::{KeyNo, NodeNo, SessionNo, Setup, Value};
 use std::alloc::Global;
+
+/// The greatest reading that a cluster takes.
+const LAST_READING: u64 = 2_305_843_009_213_693_952;
 
 /// A cluster, under a weather in which no call fails, and the clock that all its nodes read.
 #[derive(Drop)]
@@ -36,7 +39,7 @@ impl Bank {
         match self.cluster.make(&mut self.weather, &event) {
             Ok(()) => Ok(()),
             Err(Stopped::Refused(_)) => Err(Failure::Refused),
-            Err(Stopped::Fault(_)) => Err(Failure::Fault),
+            Err(Stopped::StoreFault(_)) => Err(Failure::Fault),
             Err(Stopped::NoMemory) => Err(Failure::NoMemory),
         }
     }
@@ -176,11 +179,19 @@ fn is_steady(cluster: &Cluster, event: &Event) -> bool
     ensures { IsTrue result → IsSteadyAt cluster.now.state.setup.skew cluster.now.state.seen (reading_of event.now) }
 {
     match *event {
-        Event::Take { reading, .. } => cluster.is_steady(reading),
-        Event::Renew { reading, .. } => cluster.is_steady(reading),
-        Event::Accept { reading, .. } => cluster.is_steady(reading),
+        Event::Take { reading, .. } => comes_next(cluster, reading),
+        Event::Renew { reading, .. } => comes_next(cluster, reading),
+        Event::Accept { reading, .. } => comes_next(cluster, reading),
         _ => true,
     }
+}
+
+/// Whether the reading is behind none before it, and far from the end of the numbers. The skew is not asked for: all nodes here
+/// read one clock.
+fn comes_next(cluster: &Cluster, reading: u64) -> bool
+    ensures { IsTrue result → IsSteadyAt cluster.now.state.setup.skew cluster.now.state.seen (Some reading) }
+{
+    cluster.seen() <= reading && reading <= LAST_READING
 }
 
 fn number_in(value: Value) -> Result<u64, Failure> {
