@@ -1,6 +1,8 @@
 -- The turns by which the stages of a node serve a request, whatever turns came before.
-use Rattle.std.proofs.Common.{◌≡◌, ◌≢◌, ℕ, ◌+◌, ◌<◌, Bool, cond, List, [], ◌∷◌, length, Option, Some, None, refl, sym, ◌∙◌, ap, subst}
-use Rattle.std.proofs.lemmas.Bool.{ne_eqb}
+use Rattle.std.proofs.Common.{◌≡◌, ◌≢◌, ℕ, ◌+◌, ◌<◌, Bool, cond, List, [], ◌∷◌, length, Option, Some, None, inl, inr, refl, sym, ◌∙◌, ap, subst}
+use Rattle.std.proofs.lemmas.Bool.{ne_eqb, cases_lt}
+use Rattle.std.proofs.lemmas.List.{get_or_past}
+use Rattle.std.proofs.lemmas.Option.{none-some}
 use Rattle.stamp_base.specs.declared.stores.Mark.{Mark}
 use Rattle.stamp_base.specs.declared.stores.Mark.TheVariants.{Committed as CommittedMark, Invalid as InvalidMark}
 use Rattle.port_io.specs.declared.weather.Fate.{Fate}
@@ -36,7 +38,6 @@ use Rattle.isolation_laws.specs.Sound.{Stands}
 use Rattle.isolation_laws.specs.Pending.{Has, InFlight, Pending}
 use Rattle.isolation_laws.specs.Requests.{WaitsFor}
 use Rattle.isolation_laws.proofs.Lookups.{set_found}
-use Rattle.cause_laws.proofs.HeldCounts.{held_within}
 use Rattle.line_steps.specs.Runs.{Played, step_of, played}
 use Rattle.line_steps.proofs.Serving.{node_step, on_both}
 use Rattle.turn_rules.specs.declared.turn.Turn.{Turn}
@@ -44,6 +45,12 @@ use Rattle.turn_rules.specs.Carried.{Carried, turned}
 use Rattle.grant_laws.specs.Turns.{Adds, IsServed, Serves}
 
 -- ---- the parts that a turn looks at
+held_within : (i : InstanceEntry) (s : ℕ) (held : Held) → held_of i s ≡ Some held → s < length i.requests
+held_within i s held has = elim (cases_lt s (length i.requests)) [
+  | inl within ↦ within
+  | inr past ↦ absurd (none-some held (sym (get_or_past i.requests s None past) ∙ has))
+]
+
 -- the client of a request, and that the request has its place
 pub record Parts (p : Played) (node s : ℕ) (request : Request) (at : Progress) (k : IsServed p node s request at) : Type 0 where
   pub client : Client

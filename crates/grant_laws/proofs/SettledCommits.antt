@@ -1,8 +1,8 @@
 -- Only commits are settled, whichever turns are made.
-use Rattle.std.proofs.Common.{◌≡◌, ℕ, ◌+◌, Bool, true, false, List, [], ◌∷◌, Option, Some, None, inl, inr, refl, sym, ◌∙◌, ap, subst}
+use Rattle.std.proofs.Common.{◌≡◌, ℕ, ◌+◌, Bool, true, false, List, [], ◌∷◌, Option, Some, None, inl, inr, refl, sym, ◌∙◌, ap, subst, arith}
 use Rattle.std.specs.Prelude.{fold, slice_set}
 use Rattle.std.proofs.lemmas.Option.{same_Some, none-some}
-use Rattle.stamp_base.specs.SetupNumbers.{AreInRange}
+use Rattle.stamp_base.specs.SetupNumbers.{AreInRange, SetupNumbers}
 use Rattle.oracle_parts.specs.declared.instance.Held.{Held}
 use Rattle.oracle_parts.specs.declared.instance.Progress.{Progress}
 use Rattle.oracle_parts.specs.declared.instance.Progress.TheVariants as progress
@@ -13,19 +13,26 @@ use Rattle.oracle_parts.specs.InstanceSteps.{just_asked}
 use Rattle.oracle_parts.proofs.InstanceRequests.{held_of-instance_new}
 use Rattle.machine.specs.State.{State}
 use Rattle.machine.specs.declared.event.Event.{Event}
+use Rattle.machine.specs.Machine.{reading_of, IsSteadyAt}
 use Rattle.store_parts.specs.Record.{granted}
 use Rattle.machine.specs.Events.Take.{rules_of, instance_of}
 use Rattle.script_data.specs.Data.{ScriptData}
 use Rattle.isolation_laws.specs.Words.{InstanceAt}
-use Rattle.isolation_laws.specs.Sound.{Stands}
 use Rattle.isolation_laws.proofs.Lookups.{instance_changed, instance_ended, held_set}
-use Rattle.isolation_laws.proofs.InversionSound.{none_at}
-use Rattle.cause_laws.proofs.Deeds.{Deed, OfRested, OfTook, OfRenewed, OfWidened, OfStopped, OfCrashed, OfAsked, OfAccepted, OfDrew, OfSettled, OfTold, OfEnded, OfLearned, nodes_by, DeedOf}
-use Rattle.cause_laws.proofs.DeedRecords.{Took, took_nodes}
-use Rattle.cause_laws.proofs.DeedsDone.{deed_of}
+use Rattle.isolation_laws.proofs.Inversions.InversionSound.{none_at}
+use Rattle.isolation_laws.proofs.Outcome.OutcomesOfRecord.{AlikeNodes, Granted, granted_nodes, Renewed, renewed_nodes, Extended, extended_nodes}
+use Rattle.isolation_laws.proofs.Outcome.OutcomesOfStamps.{AtDrawn, settled_nodes}
+use Rattle.isolation_laws.proofs.Outcome.Outcomes.{Outcome, OfStill, OfGranted, OfRenewed, OfExtended, OfCrashed, OfAskedBegin, OfAskedCommit, OfAccepted, OfEnded, OfDrew, OfPlaced, OfNotPlaced, OfAnsweredBegin, OfAnsweredCommit, OfEndedReadOnly, OfWrote, OfWriteFailed, OfAborted, OfVanished, OfHealed, OfFetched, OfReadDropped, OfReadStepped, OfOutcome, OfOutcomeFailed, OfCompleted, OfSweepOpened, OfSwept, OfSweepListed, OfSweepFailed, left_by}
+use Rattle.isolation_laws.proofs.AlwaysHolds.{each_outcome}
 use Rattle.line_steps.specs.Laws.{IsPlayable}
-use Rattle.line_steps.specs.Runs.{fate_of, step_of}
+use Rattle.line_steps.specs.Runs.{fate_of, clocks_of}
+use Rattle.line_steps.specs.Views.{view_of}
+use Rattle.line_steps.proofs.Timing.{tick_ahead, Timed, in_time}
+use Rattle.history_book.specs.declared.item.Actor.{Actor}
 use Rattle.turn_rules.specs.declared.turn.Turn.{Turn}
+use Rattle.turn_rules.specs.declared.turn.Turn.TheVariants as turn
+use Rattle.turn_rules.proofs.OwnTimes.{own_tick, own_timed}
+use Rattle.turn_rules.proofs.OwnTurns.{OwnTurn, own_turn, stage_turn}
 use Rattle.turn_rules.specs.Carried.{Carried, event_of, all_passed, turned_by, turned, at_first, carried}
 use Rattle.turn_rules.proofs.Facts.{Facts, facts_turned, facts_at_first}
 
@@ -61,7 +68,7 @@ by_request nodes node r i now new all at same fits = by_node nodes node now all 
 new_fits : (now held : Held) → Fits now → Some now ≡ Some held → Fits held
 new_fits now held fits is = subst (λ (h : Held). Fits h) (same_Some now held is) fits
 
--- ---- each deed
+-- ---- each outcome
 asked_fits : (request : Request) → Fits (just_asked request)
 asked_fits (Begin s) = tt
 asked_fits (Commit s start keys) = tt
@@ -76,35 +83,90 @@ moved_fits (Commit s start keys) p open_still = tt
 commit_fits : (request : Request) (p : Progress) (s start : ℕ) (keys : List ℕ) → request ≡ Commit s start keys → MaySettle request p
 commit_fits request p s start keys is = subst (λ (q : Request). MaySettle q p) (sym is) tt
 
-took_fits : (w : State) (k : Took w) (failed : Bool) → AllFit w.nodes → AllFit (took_nodes w k failed)
-took_fits w k true all = all
-took_fits w k false all = by_node w.nodes k.node (instance_of w.setup k.node (granted (rules_of w.setup) w.master k.reading)) all (λ s held has. absurd (none-some held (sym (held_of-instance_new (granted (rules_of w.setup) w.master k.reading) k.node w.setup.buckets w.setup.width w.setup.slots s) ∙ has)))
+granted_fits : (w : State) (k : Granted w) (failed : Bool) → AllFit w.nodes → AllFit (granted_nodes w k failed)
+granted_fits w k true all = all
+granted_fits w k false all = by_node w.nodes k.node (instance_of w.setup k.node (granted (rules_of w.setup) w.master k.reading)) all (λ s held has. absurd (none-some held (sym (held_of-instance_new (granted (rules_of w.setup) w.master k.reading) k.node w.setup.buckets w.setup.width w.setup.slots s) ∙ has)))
 
-fits_by : (w : State) (d : Deed w) → AllFit w.nodes → AllFit (nodes_by w d)
-fits_by w (OfRested k) all = all
-fits_by w (OfTook k) all = took_fits w k k.failed all
-fits_by w (OfRenewed k) all = by_same w.nodes k.node k.i _ all k.at refl
-fits_by w (OfWidened k) all = by_same w.nodes k.node k.i _ all k.at refl
-fits_by w (OfStopped k) all = by_same w.nodes k.node k.i _ all k.at refl
+renewed_fits : (w : State) (k : Renewed w) (failed : Bool) → AllFit w.nodes → AllFit (renewed_nodes w k failed)
+renewed_fits w k true all = all
+renewed_fits w k false all = by_same w.nodes k.node k.i _ all k.at refl
+
+extended_fits : (w : State) (k : Extended w) (failed : Bool) → AllFit w.nodes → AllFit (extended_nodes w k failed)
+extended_fits w k true all = all
+extended_fits w k false all = by_same w.nodes k.node k.i _ all k.at refl
+
+-- each request was there, at the same place
+by_alike : (old new : List (Option InstanceEntry)) → AlikeNodes old new → AllFit old → AllFit new
+by_alike old new alike all n s j held at has =
+    let was = alike.each n j at in
+    let before = was.2.requests s held has in
+    subst (λ (request : Request). MaySettle request held.progress) (sym before.2) (subst (λ (p : Progress). MaySettle before.0.request p) (sym before.3) (all n s was.0 before.0 was.1 before.1))
+
+settled_fits : (w : State) (it : AtDrawn w) (by : Rattle.oracle_parts.specs.declared.instance.Settled.Settled) → AllFit w.nodes → AllFit (settled_nodes w it by)
+settled_fits w it by all = by_request w.nodes it.node it.session it.i _ (Some (record it.held { progress = progress.Settled it.commit by })) all it.at refl (λ held is. new_fits (record it.held { progress = progress.Settled it.commit by }) held (commit_fits it.held.request (progress.Settled it.commit by) it.asker it.start it.keys it.request_is) is)
+
+over_fits : (w : State) (node session : ℕ) (i : InstanceEntry) → InstanceAt w.nodes node i → AllFit w.nodes → AllFit (slice_set w.nodes node (Some (with_request i session None)))
+over_fits w node session i at all = by_request w.nodes node session i _ None all at refl (λ held is. absurd (none-some held is))
+
+fits_by : (w : State) (o : Outcome w) → AllFit w.nodes → AllFit (left_by w o).nodes
+fits_by w (OfStill k) all = by_alike w.nodes k.nodes k.alike all
+fits_by w (OfGranted k) all = granted_fits w k k.failed all
+fits_by w (OfRenewed k) all = renewed_fits w k k.failed all
+fits_by w (OfExtended k) all = extended_fits w k k.failed all
 fits_by w (OfCrashed k) all = λ n s i held at has. all n s i held (instance_ended w.nodes k.node n i at).1 has
-fits_by w (OfAsked k) all = by_request w.nodes k.node (session_of k.request) k.i _ (Some (just_asked k.request)) all k.at refl (λ held is. new_fits (just_asked k.request) held (asked_fits k.request) is)
-fits_by w (OfAccepted k) all = by_request w.nodes k.it.node k.it.session k.it.i _ (Some (record k.it.held { progress = progress.Accepted })) all k.it.at refl (λ held is. new_fits (record k.it.held { progress = progress.Accepted }) held (moved_fits k.it.held.request progress.Accepted (λ commit how clash. cc)) is)
-fits_by w (OfDrew k) all = by_request w.nodes k.it.node k.it.session k.it.i _ (Some (record k.it.held { progress = progress.Drawn (k.it.i.last + 1) })) all k.it.at refl (λ held is. new_fits (record k.it.held { progress = progress.Drawn (k.it.i.last + 1) }) held (moved_fits k.it.held.request (progress.Drawn (k.it.i.last + 1)) (λ commit how clash. cc)) is)
-fits_by w (OfSettled k) all = by_request w.nodes k.it.node k.it.session k.it.i _ (Some (record k.it.held { progress = progress.Settled k.commit k.by })) all k.it.at refl (λ held is. new_fits (record k.it.held { progress = progress.Settled k.commit k.by }) held (commit_fits k.it.held.request (progress.Settled k.commit k.by) k.asker k.start k.keys k.request_is) is)
-fits_by w (OfTold k) all = by_request w.nodes k.it.node k.it.session k.it.i _ (Some k.told) all k.it.at refl (λ held is. new_fits k.told held (subst (λ (request : Request). MaySettle request k.told.progress) (sym k.same_request) (subst (λ (p : Progress). MaySettle k.it.held.request p) (sym k.same_progress) (all k.it.node k.it.session k.it.i k.it.held k.it.at k.it.has))) is)
-fits_by w (OfEnded k) all = by_request w.nodes k.it.node k.it.session k.it.i _ None all k.it.at refl (λ held is. absurd (none-some held is))
-fits_by w (OfLearned k) all = all
+fits_by w (OfAskedBegin k) all = by_request w.nodes k.node k.session k.i _ (Some (just_asked (Begin k.session))) all k.at refl (λ held is. new_fits (just_asked (Begin k.session)) held tt is)
+fits_by w (OfAskedCommit k) all = by_request w.nodes k.node k.session k.i _ (Some (just_asked (Commit k.session k.start k.c.entry.keys))) all k.at refl (λ held is. new_fits (just_asked (Commit k.session k.start k.c.entry.keys)) held tt is)
+fits_by w (OfAccepted k) all = by_request w.nodes k.node k.session k.i _ (Some (record k.held { progress = progress.Accepted })) all k.at refl (λ held is. new_fits (record k.held { progress = progress.Accepted }) held (moved_fits k.held.request progress.Accepted (λ commit how clash. cc)) is)
+fits_by w (OfEnded k) all = over_fits w k.node k.session k.i k.at all
+fits_by w (OfDrew k) all = by_request w.nodes k.node k.session k.i _ (Some (record k.held { progress = progress.Drawn (k.i.last + 1) })) all k.at refl (λ held is. new_fits (record k.held { progress = progress.Drawn (k.i.last + 1) }) held (moved_fits k.held.request (progress.Drawn (k.i.last + 1)) (λ commit how clash. cc)) is)
+fits_by w (OfPlaced k) all = settled_fits w k.it k.by all
+fits_by w (OfNotPlaced k) all = settled_fits w k.it k.by all
+fits_by w (OfAnsweredBegin k) all = over_fits w k.node k.session k.i k.at all
+fits_by w (OfAnsweredCommit k) all = over_fits w k.node k.session k.i k.at all
+fits_by w (OfEndedReadOnly k) all = all
+fits_by w (OfWrote k) all = all
+fits_by w (OfWriteFailed k) all = all
+fits_by w (OfAborted k) all = all
+fits_by w (OfVanished k) all = all
+fits_by w (OfHealed k) all = all
+fits_by w (OfFetched k) all = all
+fits_by w (OfReadDropped k) all = all
+fits_by w (OfReadStepped k) all = all
+fits_by w (OfOutcome k) all = all
+fits_by w (OfOutcomeFailed k) all = all
+fits_by w (OfCompleted k) all = all
+fits_by w (OfSweepOpened k) all = all
+fits_by w (OfSwept k) all = all
+fits_by w (OfSweepListed k) all = all
+fits_by w (OfSweepFailed k) all = all
+
+-- ---- the readings of turns are steady
+steady_at : (script : ScriptData) (c : Carried) (e : Event) (tick : ℕ) → IsPlayable script 0 script.lines → Facts script c → Timed (clocks_of script c.played) tick e → IsSteadyAt c.played.state.setup.skew c.played.state.seen (reading_of e)
+steady_at script c e tick playable k timed =
+    subst (λ (setup : SetupNumbers). IsSteadyAt setup.skew c.played.state.seen (reading_of e)) (sym k.reached.setup)
+      (in_time (clocks_of script c.played) tick script.setup.skew c.played.state.seen e timed (record { leads = playable.leads; room = omega (arith, k.time, playable.ticks); before = k.reached.seen })).steady
+
+own_steady : (script : ScriptData) (c : Carried) (actor : Actor) (e : Event) → IsPlayable script 0 script.lines → Facts script c → OwnTurn script c actor e → IsSteadyAt c.played.state.setup.skew c.played.state.seen (reading_of e)
+own_steady script c actor e playable k own =
+    steady_at script c e (own_tick own.line.actor (tick_ahead own.seat.point own.line.verb)) playable k (own_timed (clocks_of script c.played) own.line.actor own.line.verb own.seat.point (view_of c.played.state own.line.actor) e own.next)
+
+turn_steady : (script : ScriptData) (c : Carried) (t : Turn) (e : Event) → IsPlayable script 0 script.lines → Facts script c → event_of script c t ≡ Some e → IsSteadyAt c.played.state.setup.skew c.played.state.seen (reading_of e)
+turn_steady script c (turn.Own actor) e playable k is = own_steady script c actor e playable k (own_turn script c actor e is)
+turn_steady script c (turn.Accept node session) e playable k is = steady_at script c e 0 playable k (stage_turn script c (turn.Accept node session) e (λ own. own) is).timed
+turn_steady script c (turn.Decide node session) e playable k is = steady_at script c e 0 playable k (stage_turn script c (turn.Decide node session) e (λ own. own) is).timed
+turn_steady script c (turn.Put node session) e playable k is = steady_at script c e 0 playable k (stage_turn script c (turn.Put node session) e (λ own. own) is).timed
+turn_steady script c (turn.Answer node session) e playable k is = steady_at script c e 0 playable k (stage_turn script c (turn.Answer node session) e (λ own. own) is).timed
+turn_steady script c (turn.Extend node) e playable k is = steady_at script c e 0 playable k (stage_turn script c (turn.Extend node) e (λ own. own) is).timed
 
 -- ---- all turns
-fits_on : (script : ScriptData) (c : Carried) (t : Turn) (e : Option Event) → Stands c.played.state c.played.items → AllFit c.played.state.nodes → AllFit (turned_by script c t e).played.state.nodes
-fits_on script c t None stands all = all
-fits_on script c t (Some e) stands all =
-    let by : DeedOf c.played.state (step_of script c.played e).state.nodes (step_of script c.played e).items = deed_of c.played.state c.played.items e (fate_of script c.played e) stands in
-    subst (λ (nodes : List (Option InstanceEntry)). AllFit nodes) (sym by.leaves) (fits_by c.played.state by.deed all)
+fits_on : (script : ScriptData) (c : Carried) (t : Turn) → IsPlayable script 0 script.lines → Facts script c → AllFit c.played.state.nodes → (found : Option Event) → event_of script c t ≡ found → AllFit (turned_by script c t found).played.state.nodes
+fits_on script c t playable k all None is = all
+fits_on script c t playable k all (Some e) is =
+    each_outcome (λ v items. AllFit v.nodes) c.played.state c.played.items e (fate_of script c.played e) k.reached.stands (turn_steady script c t e playable k is) (λ o. fits_by c.played.state o all)
 
 all_fit : (script : ScriptData) → IsPlayable script 0 script.lines → (turns : List Turn) (c : Carried) → Facts script c → AllFit c.played.state.nodes → AllFit (fold (turned script) c turns).played.state.nodes
 all_fit script playable [] c facts all = all
-all_fit script playable (t ∷ turns) c facts all = all_fit script playable turns (turned script c t) (facts_turned script c t playable facts) (fits_on script c t (event_of script c t) facts.reached.stands all)
+all_fit script playable (t ∷ turns) c facts all = all_fit script playable turns (turned script c t) (facts_turned script c t playable facts) (fits_on script c t playable facts all (event_of script c t) refl)
 
 pub commits_alone_settle : (script : ScriptData) (turns : List Turn) → AreInRange script.setup → IsPlayable script 0 script.lines → AllFit (carried script turns).played.state.nodes
 commits_alone_settle script turns in_range playable = all_fit script playable turns (all_passed script (at_first script)) (facts_at_first script in_range) (λ n s i held at has. absurd (none_at script.setup.nodes n i at))
