@@ -144,7 +144,7 @@ fits_by w (OfSweepFailed k) all = all
 steady_at : (script : ScriptData) (c : Carried) (e : Event) (tick : ℕ) → IsPlayable script 0 script.lines → Facts script c → Timed (clocks_of script c.played) tick e → IsSteadyAt c.played.state.setup.skew c.played.state.seen (reading_of e)
 steady_at script c e tick playable k timed =
     subst (λ (setup : SetupNumbers). IsSteadyAt setup.skew c.played.state.seen (reading_of e)) (sym k.reached.setup)
-      (in_time (clocks_of script c.played) tick script.setup.skew c.played.state.seen e timed (record { leads = playable.leads; room = omega (arith, k.time, playable.ticks); before = k.reached.seen })).steady
+    (in_time (clocks_of script c.played) tick script.setup.skew c.played.state.seen e timed (record { leads = playable.leads; room = omega (arith, k.time, playable.ticks); before = k.reached.seen })).steady
 
 own_steady : (script : ScriptData) (c : Carried) (actor : Actor) (e : Event) → IsPlayable script 0 script.lines → Facts script c → OwnTurn script c actor e → IsSteadyAt c.played.state.setup.skew c.played.state.seen (reading_of e)
 own_steady script c actor e playable k own =
