@@ -1,4 +1,4 @@
-//! The items of a history, and what isolation means over a list of them.
+//! The items of a history, and what isolation and serial order mean over a list of them.
 #![tactic(auto)]
 
 mod book;

@@ -83,7 +83,7 @@ fn writes_shared(items: &[Item], start: Stamp, other: Stamp, item: &Item) -> boo
 }
 
 /// Whether the transaction wrote the key.
-fn wrote(items: &[Item], start: Stamp, key: KeyNo) -> bool
+pub fn wrote(items: &[Item], start: Stamp, key: KeyNo) -> bool
     ensures { result ≡ list_any (λ x. apart.writes start key x) items.now }
 {
     for item in items {

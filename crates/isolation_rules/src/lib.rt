@@ -13,6 +13,7 @@ mod views;
 mod visible;
 mod walk;
 
+pub use apart::wrote;
 pub use read::second_by_views;
 pub use verdict::{Rule, Verdict};
 pub use version::Version;

@@ -96,6 +96,13 @@ impl Instance {
         self.range.ceiling()
     }
 
+    /// The bounded memory of conflicts, as decisions left it.
+    pub fn buckets(&self) -> &Buckets
+        ensures { result.now ≡ self.now.buckets }
+    {
+        &self.buckets
+    }
+
     /// How many requests are held.
     pub fn in_flight(&self) -> u64
         ensures { result ≡ entry.in_flight self.now }
@@ -216,6 +223,27 @@ impl Instance {
                 self.end(session);
                 Err(Cause::Hidden { key, water })
             }
+        }
+    }
+
+    /// Ends a commit that was accepted, before its stamp, for a reason that its caller has. Refused as NoRequest exactly
+    /// where the session has none.
+    pub fn refuse(&mut self, session: SessionNo) -> Result<(), Cause>
+        ensures left { self.new ≡ (step.instance_refuse self.old session).left }
+        ensures answer { result ≡ (step.instance_refuse self.old session).answer }
+    {
+        match &self.requests[session.index()] {
+            Some(
+                Held {
+                    request: Request::Commit { .. },
+                    progress: Progress::Accepted,
+                    ..
+                },
+            ) => {
+                self.end(session);
+                Ok(())
+            }
+            _ => Err(Cause::NoRequest { session }),
         }
     }
 

@@ -2,6 +2,7 @@
 use super::*;
 use crate::requests;
 use history_book::Cause;
+use oracle_parts::Verdict;
 use stamp_base::{KeyList, KeyNo, NodeNo, SessionNo, Setup, Stamp, Term};
 use std::alloc::Global;
 use std::test::Fail;
@@ -71,6 +72,25 @@ fn a_commit_comes_and_goes(rt: HostRuntime) -> Result<(), Fail> {
     assert_eq!(rt; commit, Ok(Decided::Drawn(Stamp::FIRST)));
     assert!(rt; instance.settle(SessionNo::LAST, Settled::Invalid).is_ok());
     assert_eq!(rt; instance.answer(SessionNo::LAST), Ok(Reply::Invalid));
+    Ok(())
+}
+
+// What is accepted can be refused, once, and nothing was recorded for it.
+#[test]
+fn a_commit_is_refused(rt: HostRuntime) -> Result<(), Fail> {
+    let mut instance = opened(rt.alloc(), 0, 100)?;
+    let session = SessionNo::LAST;
+    let none = Err(Cause::NoRequest { session });
+    assert_eq!(rt; instance.refuse(session), none);
+    let _ = instance.ask(commit());
+    assert_eq!(rt; instance.refuse(session), none);
+    let _ = instance.accept(session, 9);
+    assert_eq!(rt; instance.refuse(session), Ok(()));
+    assert_eq!(rt; instance.place(session), None);
+    let mut keys = KeyList::empty();
+    let _ = keys.push(KeyNo::FIRST);
+    let told = instance.buckets().check(Stamp::FIRST, &keys);
+    assert_eq!(rt; told, Verdict::Free);
     Ok(())
 }
 

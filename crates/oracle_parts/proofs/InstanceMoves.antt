@@ -13,8 +13,8 @@ use Rattle.oracle_parts.specs.declared.instance.Held.{Held}
 use Rattle.oracle_parts.specs.declared.instance.Settled.{Settled as How}
 use Rattle.oracle_parts.specs.declared.instance.Decided.{Decided}
 use Rattle.oracle_parts.specs.Instance.{InstanceEntry, held_of, in_flight, with_request, session_of, unsettled_by, least_unsettled}
-use Rattle.oracle_parts.specs.InstanceSteps.{InstanceStep, stays, just_asked, instance_ask, accept_refusal, accept_unless, accept_if_asked, accept_held, instance_accept, out_of_stamps, decided_by, decide_drawn, decide_by, request_verdict, decide_if_accepted, decide_held, instance_decide, settle_if_drawn, settle_held, instance_settle, answer_begin, answer_if_ready, answer_held, instance_answer}
-use Rattle.oracle_parts.specs.InstanceLaws.{InstanceCall, Asks, Accepts, Settles, Answers, after_call, ChangesRequestsAlone, IsNoDecision}
+use Rattle.oracle_parts.specs.InstanceSteps.{InstanceStep, stays, just_asked, instance_ask, accept_refusal, accept_unless, accept_if_asked, accept_held, instance_accept, out_of_stamps, decided_by, decide_drawn, decide_by, request_verdict, decide_if_accepted, decide_held, instance_decide, refuse_if_accepted, refuse_held, instance_refuse, settle_if_drawn, settle_held, instance_settle, answer_begin, answer_if_ready, answer_held, instance_answer}
+use Rattle.oracle_parts.specs.InstanceLaws.{InstanceCall, Asks, Accepts, Refuses, Settles, Answers, after_call, ChangesRequestsAlone, IsNoDecision}
 
 -- ---- ask
 quiet_ask_by : (i : InstanceEntry) (request : Request) (full : Bool) → ChangesRequestsAlone i (if full then stays {A = Unit {0}} i (cause.Full (in_flight i)) else record { left = with_request i (session_of request) (Some (just_asked request)); answer = Ok tt }).left
@@ -39,6 +39,18 @@ quiet_accept_held i session reading (Some held) = quiet_accept_if_asked i sessio
 
 pub quiet_accept : (i : InstanceEntry) (session reading : ℕ) → ChangesRequestsAlone i (instance_accept i session reading).left
 quiet_accept i session reading = quiet_accept_held i session reading (held_of i session)
+
+-- ---- refuse
+quiet_refuse_if_accepted : (i : InstanceEntry) (session : ℕ) (request : Request) (progress : Progress) → ChangesRequestsAlone i (refuse_if_accepted i session request progress).left
+quiet_refuse_if_accepted i session (Commit s start keys) Accepted = refl
+quiet_refuse_if_accepted i session request progress = refl
+
+quiet_refuse_held : (i : InstanceEntry) (session : ℕ) (held : Option Held) → ChangesRequestsAlone i (refuse_held i session held).left
+quiet_refuse_held i session None = refl
+quiet_refuse_held i session (Some held) = quiet_refuse_if_accepted i session held.request held.progress
+
+pub quiet_refuse : (i : InstanceEntry) (session : ℕ) → ChangesRequestsAlone i (instance_refuse i session).left
+quiet_refuse i session = quiet_refuse_held i session (held_of i session)
 
 -- ---- settle
 quiet_settle_if_drawn : (i : InstanceEntry) (session : ℕ) (how : How) (held : Held) (commit : Option ℕ) → ChangesRequestsAlone i (settle_if_drawn i session how held commit).left
@@ -71,7 +83,7 @@ quiet_answer i session = quiet_answer_held i session (held_of i session)
 
 -- ---- decide
 -- a decision that is refused
-pub record Refuses (i : InstanceEntry) (step : InstanceStep Decided) : Type 0 where
+pub record StaysUndrawn (i : InstanceEntry) (step : InstanceStep Decided) : Type 0 where
   pub quiet : ChangesRequestsAlone i step.left
   pub never : (d : Decided) → step.answer ≡ Ok d → ⊥
 
@@ -87,15 +99,15 @@ refusal why = Err why
 err_never : (why : Cause) (d : Decided) → refusal why ≡ Ok d → ⊥
 err_never why d e = cc
 
-out_refuses : (i : InstanceEntry) (session : ℕ) (held : Held) (stop : Option Cause) → Refuses i (out_of_stamps i session held stop)
+out_refuses : (i : InstanceEntry) (session : ℕ) (held : Held) (stop : Option Cause) → StaysUndrawn i (out_of_stamps i session held stop)
 out_refuses i session held None = record { quiet = refl; never = err_never (cause.NoStamp i.last) }
 out_refuses i session held (Some why) = record { quiet = refl; never = err_never why }
 
-free_cases : (i : InstanceEntry) (session : ℕ) (held : Held) (out : Bool) → let step : InstanceStep Decided = (if out then out_of_stamps i session held i.stop else decide_drawn i session held (i.last + 1)) in Refuses i step ⊎ ((out ≡ false) × (step ≡ decide_drawn i session held (i.last + 1)))
+free_cases : (i : InstanceEntry) (session : ℕ) (held : Held) (out : Bool) → let step : InstanceStep Decided = (if out then out_of_stamps i session held i.stop else decide_drawn i session held (i.last + 1)) in StaysUndrawn i step ⊎ ((out ≡ false) × (step ≡ decide_drawn i session held (i.last + 1)))
 free_cases i session held true = inl (out_refuses i session held i.stop)
 free_cases i session held false = inr (refl, refl)
 
-by_cases : (i : InstanceEntry) (session : ℕ) (held : Held) (v : Verdict) → request_verdict i.buckets held.request ≡ v → Refuses i (decide_by i session held v) ⊎ Draws i session held (decide_by i session held v)
+by_cases : (i : InstanceEntry) (session : ℕ) (held : Held) (v : Verdict) → request_verdict i.buckets held.request ≡ v → StaysUndrawn i (decide_by i session held v) ⊎ Draws i session held (decide_by i session held v)
 by_cases i session held Free e = elim (free_cases i session held (i.last == i.ceiling)) [
   | inl r ↦ inl r
   | inr d ↦ inr (record { free = e; room = eqb-false i.last i.ceiling d.0; made = d.1 })
@@ -103,7 +115,7 @@ by_cases i session held Free e = elim (free_cases i session held (i.last == i.ce
 by_cases i session held (Conflict key by) e = inl (record { quiet = refl; never = err_never (cause.Conflict key by) })
 by_cases i session held (Hidden key water) e = inl (record { quiet = refl; never = err_never (cause.Hidden key water) })
 
-if_accepted_cases : (i : InstanceEntry) (session : ℕ) (held : Held) (progress : Progress) → Refuses i (decide_if_accepted i session held progress) ⊎ Draws i session held (decide_if_accepted i session held progress)
+if_accepted_cases : (i : InstanceEntry) (session : ℕ) (held : Held) (progress : Progress) → StaysUndrawn i (decide_if_accepted i session held progress) ⊎ Draws i session held (decide_if_accepted i session held progress)
 if_accepted_cases i session held Accepted = by_cases i session held (request_verdict i.buckets held.request) refl
 if_accepted_cases i session held _ = inl (record { quiet = refl; never = err_never (cause.NoRequest session) })
 
@@ -111,7 +123,7 @@ abbrev pub DrawsFor : InstanceEntry → ℕ → Option Held → InstanceStep Dec
 DrawsFor i session None step = ⊥
 DrawsFor i session (Some held) step = Draws i session held step
 
-pub held_cases : (i : InstanceEntry) (session : ℕ) (held : Option Held) → Refuses i (decide_held i session held) ⊎ DrawsFor i session held (decide_held i session held)
+pub held_cases : (i : InstanceEntry) (session : ℕ) (held : Option Held) → StaysUndrawn i (decide_held i session held) ⊎ DrawsFor i session held (decide_held i session held)
 held_cases i session None = inl (record { quiet = refl; never = err_never (cause.NoRequest session) })
 held_cases i session (Some held) = if_accepted_cases i session held held.progress
 
@@ -119,6 +131,7 @@ held_cases i session (Some held) = if_accepted_cases i session held held.progres
 pub alone-after_call : (i : InstanceEntry) (call : InstanceCall) → IsNoDecision call → ChangesRequestsAlone i (after_call i call)
 alone-after_call i (Asks request) is = quiet_ask i request
 alone-after_call i (Accepts session reading) is = quiet_accept i session reading
+alone-after_call i (Refuses session) is = quiet_refuse i session
 alone-after_call i (Settles session how) is = quiet_settle i session how
 alone-after_call i (Answers session) is = quiet_answer i session
 alone-after_call i _ is = absurd is

@@ -8,8 +8,8 @@ use Rattle.oracle_parts.specs.declared.instance.Held.{Held}
 use Rattle.oracle_parts.specs.declared.instance.Decided.{Decided}
 use Rattle.oracle_parts.specs.Instance.{InstanceEntry, instance_new, held_of}
 use Rattle.oracle_parts.specs.InstanceSteps.{InstanceStep, decided_by, decide_drawn, instance_decide}
-use Rattle.oracle_parts.specs.InstanceLaws.{InstanceCall, Asks, Accepts, Decides, Settles, Answers, Widens, Renews, Stops, after_call, CanCall, IsInRange, GoesUp, stamp_of, DrawsNext, ChangesRequestsAlone}
-use Rattle.oracle_parts.proofs.InstanceMoves.{quiet_ask, quiet_accept, quiet_settle, quiet_answer, DrawsFor, held_cases}
+use Rattle.oracle_parts.specs.InstanceLaws.{InstanceCall, Asks, Accepts, Decides, Refuses, Settles, Answers, Widens, Renews, Stops, after_call, CanCall, IsInRange, GoesUp, stamp_of, DrawsNext, ChangesRequestsAlone}
+use Rattle.oracle_parts.proofs.InstanceMoves.{quiet_ask, quiet_accept, quiet_refuse, quiet_settle, quiet_answer, DrawsFor, held_cases}
 
 quiet_goes_up : (i j : InstanceEntry) → ChangesRequestsAlone i j → GoesUp i j
 quiet_goes_up i j q =
@@ -40,6 +40,7 @@ goes_up i (Decides session) can = elim (held_cases i session (held_of i session)
   | inl r ↦ quiet_goes_up i (after_call i (Decides session)) r.quiet
   | inr d ↦ draws_goes_up i session (held_of i session) (instance_decide i session) d
 ]
+goes_up i (Refuses session) can = quiet_goes_up i (after_call i (Refuses session)) (quiet_refuse i session)
 goes_up i (Settles session how) can = quiet_goes_up i (after_call i (Settles session how)) (quiet_settle i session how)
 goes_up i (Answers session) can = quiet_goes_up i (after_call i (Answers session)) (quiet_answer i session)
 goes_up i (Widens ceiling) can = record { node = refl; term = refl; epoch = refl; slots = refl; last = omega arith; ceiling = can; until = omega arith }
@@ -96,6 +97,7 @@ stays_in_range i (Decides session) can r = elim (held_cases i session (held_of i
   | inl refused ↦ quiet_in_range i (after_call i (Decides session)) refused.quiet r
   | inr drew ↦ draws_in_range i session (held_of i session) (instance_decide i session) r drew
 ]
+stays_in_range i (Refuses session) can r = quiet_in_range i (after_call i (Refuses session)) (quiet_refuse i session) r
 stays_in_range i (Settles session how) can r = quiet_in_range i (after_call i (Settles session how)) (quiet_settle i session how) r
 stays_in_range i (Answers session) can r = quiet_in_range i (after_call i (Answers session)) (quiet_answer i session) r
 stays_in_range i (Widens ceiling) can r = record { above = r.above; within = omega (arith, r.within, can) }

@@ -16,11 +16,11 @@ use Rattle.oracle_parts.specs.declared.instance.Decided.{Decided}
 use Rattle.oracle_parts.specs.Buckets.{Bucket, empty_bucket, contents, record_pairs, pair_of, pairs_of, verdict, CommitsRise, IsShown}
 use Rattle.oracle_parts.specs.Instance.{InstanceEntry, instance_new, held_of}
 use Rattle.oracle_parts.specs.InstanceSteps.{InstanceStep, pairs_by, decide_drawn, request_verdict, instance_decide}
-use Rattle.oracle_parts.specs.InstanceLaws.{InstanceCall, Asks, Accepts, Decides, Settles, Answers, Widens, Renews, Stops, after_call, IsRecordedIn, decided_pairs, call_pairs, RequestIsFree, HeldIsFree, ChangesRequestsAlone}
+use Rattle.oracle_parts.specs.InstanceLaws.{InstanceCall, Asks, Accepts, Decides, Refuses, Settles, Answers, Widens, Renews, Stops, after_call, IsRecordedIn, decided_pairs, call_pairs, RequestIsFree, HeldIsFree, ChangesRequestsAlone}
 use Rattle.oracle_parts.proofs.BucketVerdicts.{record_pairs-append, verdict_shown}
 use Rattle.oracle_parts.proofs.LastCommits.{NotAfter, rise_tail, rise_head}
 use Rattle.oracle_parts.proofs.InstanceNumbers.{stamp_of-decided_by}
-use Rattle.oracle_parts.proofs.InstanceMoves.{quiet_ask, quiet_accept, quiet_settle, quiet_answer, DrawsFor, held_cases}
+use Rattle.oracle_parts.proofs.InstanceMoves.{quiet_ask, quiet_accept, quiet_refuse, quiet_settle, quiet_answer, DrawsFor, held_cases}
 
 -- ---- pairs
 rise_append : (top : ℕ) (earlier later : List Recorded) → CommitsRise earlier → All (λ pair. pair.commit ≤ top) earlier → CommitsRise later → All (λ pair. top ≤ pair.commit) later → CommitsRise (earlier ++ later)
@@ -99,6 +99,7 @@ pub call_records : (count width : ℕ) (pairs : List Recorded) (i : InstanceEntr
 call_records count width pairs i (Asks request) r = quiet_call count width pairs i (after_call i (Asks request)) (quiet_ask i request) r
 call_records count width pairs i (Accepts session reading) r = quiet_call count width pairs i (after_call i (Accepts session reading)) (quiet_accept i session reading) r
 call_records count width pairs i (Decides session) r = decided_records count width pairs i session r
+call_records count width pairs i (Refuses session) r = quiet_call count width pairs i (after_call i (Refuses session)) (quiet_refuse i session) r
 call_records count width pairs i (Settles session how) r = quiet_call count width pairs i (after_call i (Settles session how)) (quiet_settle i session how) r
 call_records count width pairs i (Answers session) r = quiet_call count width pairs i (after_call i (Answers session)) (quiet_answer i session) r
 call_records count width pairs i (Widens ceiling) r = same_call count width pairs i (after_call i (Widens ceiling)) refl refl r

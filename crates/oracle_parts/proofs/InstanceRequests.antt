@@ -17,8 +17,8 @@ use Rattle.oracle_parts.specs.declared.instance.Progress.TheVariants.{Asked, Acc
 use Rattle.oracle_parts.specs.declared.instance.Held.{Held}
 use Rattle.oracle_parts.specs.declared.instance.Settled.{Settled as How}
 use Rattle.oracle_parts.specs.Instance.{InstanceEntry, instance_new, held_of, in_flight, with_request, session_of, unsettled_by, least_unsettled}
-use Rattle.oracle_parts.specs.InstanceSteps.{stays, just_asked, accept_refusal, accept_unless, accept_if_asked, accept_held, out_of_stamps, decide_drawn, decide_by, request_verdict, decide_if_accepted, decide_held, settle_if_drawn, settle_held, answer_begin, answer_if_ready, answer_held}
-use Rattle.oracle_parts.specs.InstanceLaws.{InstanceCall, Asks, Accepts, Decides, Settles, Answers, Widens, Renews, Stops, after_call, call_session, FitsItsSlots}
+use Rattle.oracle_parts.specs.InstanceSteps.{stays, just_asked, accept_refusal, accept_unless, accept_if_asked, accept_held, out_of_stamps, decide_drawn, decide_by, request_verdict, decide_if_accepted, decide_held, refuse_if_accepted, refuse_held, settle_if_drawn, settle_held, answer_begin, answer_if_ready, answer_held}
+use Rattle.oracle_parts.specs.InstanceLaws.{InstanceCall, Asks, Accepts, Decides, Refuses, Settles, Answers, Widens, Renews, Stops, after_call, call_session, FitsItsSlots}
 use Rattle.oracle_parts.proofs.InstanceNumbers.{goes_up}
 
 -- ---- one request
@@ -78,6 +78,14 @@ decide_changes : (i : InstanceEntry) (session : ℕ) (held : Option Held) → he
 decide_changes i session None there = Leaves refl
 decide_changes i session (Some held) there = decide_if_accepted_changes i session held held.progress there
 
+refuse_if_accepted_changes : (i : InstanceEntry) (session : ℕ) (request : Request) (progress : Progress) → Changes i session (refuse_if_accepted i session request progress).left
+refuse_if_accepted_changes i session (Commit s start keys) Accepted = Ends refl
+refuse_if_accepted_changes i session request progress = Leaves refl
+
+refuse_changes : (i : InstanceEntry) (session : ℕ) (held : Option Held) → Changes i session (refuse_held i session held).left
+refuse_changes i session None = Leaves refl
+refuse_changes i session (Some held) = refuse_if_accepted_changes i session held.request held.progress
+
 settle_if_drawn_changes : (i : InstanceEntry) (session : ℕ) (how : How) (held : Held) (commit : Option ℕ) → held_of i session ≡ Some held → Changes i session (settle_if_drawn i session how held commit).left
 settle_if_drawn_changes i session how held None there = Leaves refl
 settle_if_drawn_changes i session how held (Some commit) there = Moves held (record held { progress = Settled commit how }) there refl
@@ -108,6 +116,7 @@ call_changes : (i : InstanceEntry) (call : InstanceCall) → ChangesOwn i (call_
 call_changes i (Asks request) = ask_changes i request (in_flight i == i.slots) refl
 call_changes i (Accepts session reading) = accept_changes i session reading (held_of i session) refl
 call_changes i (Decides session) = decide_changes i session (held_of i session) refl
+call_changes i (Refuses session) = refuse_changes i session (held_of i session)
 call_changes i (Settles session how) = settle_changes i session how (held_of i session) refl
 call_changes i (Answers session) = answer_changes i session (held_of i session) refl
 call_changes i (Widens ceiling) = refl
@@ -182,6 +191,7 @@ slots_stay i (Widens ceiling) = refl
 slots_stay i (Asks request) = (goes_up i (Asks request) tt).slots
 slots_stay i (Accepts session reading) = (goes_up i (Accepts session reading) tt).slots
 slots_stay i (Decides session) = (goes_up i (Decides session) tt).slots
+slots_stay i (Refuses session) = (goes_up i (Refuses session) tt).slots
 slots_stay i (Settles session how) = (goes_up i (Settles session how) tt).slots
 slots_stay i (Answers session) = (goes_up i (Answers session) tt).slots
 slots_stay i (Renews until) = refl

@@ -14,8 +14,8 @@ use Rattle.oracle_parts.specs.declared.instance.Progress.TheVariants.{Asked, Acc
 use Rattle.oracle_parts.specs.declared.instance.Held.{Held}
 use Rattle.oracle_parts.specs.declared.instance.Settled.{Settled as How}
 use Rattle.oracle_parts.specs.Instance.{InstanceEntry, instance_new, held_of, in_flight, with_request, session_of, unsettled_by, least_unsettled}
-use Rattle.oracle_parts.specs.InstanceSteps.{stays, just_asked, accept_refusal, accept_unless, accept_if_asked, accept_held, out_of_stamps, decide_drawn, decide_by, request_verdict, decide_if_accepted, decide_held, settle_if_drawn, settle_held, answer_begin, answer_if_ready, answer_held}
-use Rattle.oracle_parts.specs.InstanceLaws.{InstanceCall, Asks, Accepts, Decides, Settles, Answers, Widens, Renews, Stops, after_call, progress_stamp, IsDrawnWithin, AreDrawnWithin}
+use Rattle.oracle_parts.specs.InstanceSteps.{stays, just_asked, accept_refusal, accept_unless, accept_if_asked, accept_held, out_of_stamps, decide_drawn, decide_by, request_verdict, decide_if_accepted, decide_held, refuse_if_accepted, refuse_held, settle_if_drawn, settle_held, answer_begin, answer_if_ready, answer_held}
+use Rattle.oracle_parts.specs.InstanceLaws.{InstanceCall, Asks, Accepts, Decides, Refuses, Settles, Answers, Widens, Renews, Stops, after_call, progress_stamp, IsDrawnWithin, AreDrawnWithin}
 
 abbrev Between : ℕ → ℕ → ℕ → Type 0
 Between epoch last stamp = (epoch < stamp) × (stamp ≤ last)
@@ -82,6 +82,15 @@ decide_held_within : (i : InstanceEntry) (session : ℕ) (held : Option Held) �
 decide_held_within i session None above here all = all
 decide_held_within i session (Some held) above here all = decide_if_accepted_within i session held held.progress above here all
 
+-- ---- refuse
+refuse_if_accepted_within : (i : InstanceEntry) (session : ℕ) (request : Request) (progress : Progress) → AreDrawnWithin i → AreDrawnWithin (refuse_if_accepted i session request progress).left
+refuse_if_accepted_within i session (Commit s start keys) Accepted all = set_within i session None tt all
+refuse_if_accepted_within i session request progress all = all
+
+refuse_held_within : (i : InstanceEntry) (session : ℕ) (held : Option Held) → AreDrawnWithin i → AreDrawnWithin (refuse_held i session held).left
+refuse_held_within i session None all = all
+refuse_held_within i session (Some held) all = refuse_if_accepted_within i session held.request held.progress all
+
 -- ---- settle and answer
 unsettled_within : (epoch last : ℕ) (request : Request) (progress : Progress) → IfSome (progress_stamp progress) (Between epoch last) → IfSome (unsettled_by request progress) (Between epoch last)
 unsettled_within epoch last (Commit s start keys) (Drawn stamp) h = h
@@ -113,6 +122,7 @@ pub call_within : (i : InstanceEntry) (call : InstanceCall) → i.epoch ≤ i.la
 call_within i (Asks request) above all = ask_within i request (in_flight i == i.slots) all
 call_within i (Accepts session reading) above all = accept_held_within i session reading (held_of i session) all
 call_within i (Decides session) above all = decide_held_within i session (held_of i session) above (at_within i.epoch i.last i.requests session all) all
+call_within i (Refuses session) above all = refuse_held_within i session (held_of i session) all
 call_within i (Settles session how) above all = settle_held_within i session how (held_of i session) (at_within i.epoch i.last i.requests session all) all
 call_within i (Answers session) above all = answer_held_within i session (held_of i session) (at_within i.epoch i.last i.requests session all) all
 call_within i (Widens ceiling) above all = all

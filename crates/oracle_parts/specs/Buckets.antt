@@ -106,6 +106,10 @@ unfoldable pub verdict : List Bucket → ℕ → List ℕ → Verdict
 verdict buckets start [] = Free
 verdict buckets start (key ∷ keys) = first_refusal (key_verdict (bucket_of buckets key) start key) (verdict buckets start keys)
 
+-- the same of the keys that a commit wrote and, where they are free, of those that it read
+abbrev pub verdict_both : List Bucket → ℕ → List ℕ → List ℕ → Verdict
+verdict_both buckets start written read = first_refusal (verdict buckets start written) (verdict buckets start read)
+
 -- no commit is below an earlier one
 abbrev pub CommitsRise : List Recorded → Type 0
 CommitsRise pairs = AllPairs (λ earlier later. earlier.commit ≤ later.commit) pairs

@@ -12,13 +12,14 @@ use Rattle.oracle_parts.specs.declared.instance.Decided.{Decided}
 use Rattle.oracle_parts.specs.declared.instance.Decided.TheVariants as decided
 use Rattle.oracle_parts.specs.Buckets.{contents, CommitsRise, last_commit}
 use Rattle.oracle_parts.specs.Instance.{InstanceEntry, session_of, held_of, in_flight, unsettled_commit}
-use Rattle.oracle_parts.specs.InstanceSteps.{pairs_by, instance_ask, instance_accept, instance_decide, instance_settle, instance_answer, instance_widened, instance_renewed, instance_stopped}
+use Rattle.oracle_parts.specs.InstanceSteps.{pairs_by, instance_ask, instance_accept, instance_decide, instance_refuse, instance_settle, instance_answer, instance_widened, instance_renewed, instance_stopped}
 
 -- the calls that change an instance
 pub data InstanceCall : Type 0 where
   Asks : (request : Request) → InstanceCall
   Accepts : (session reading : ℕ) → InstanceCall
   Decides : (session : ℕ) → InstanceCall
+  Refuses : (session : ℕ) → InstanceCall
   Settles : (session : ℕ) (how : How) → InstanceCall
   Answers : (session : ℕ) → InstanceCall
   Widens : (ceiling : ℕ) → InstanceCall
@@ -29,6 +30,7 @@ abbrev pub after_call : InstanceEntry → InstanceCall → InstanceEntry
 after_call i (Asks request) = (instance_ask i request).left
 after_call i (Accepts session reading) = (instance_accept i session reading).left
 after_call i (Decides session) = (instance_decide i session).left
+after_call i (Refuses session) = (instance_refuse i session).left
 after_call i (Settles session how) = (instance_settle i session how).left
 after_call i (Answers session) = (instance_answer i session).left
 after_call i (Widens ceiling) = instance_widened i ceiling
@@ -46,6 +48,7 @@ abbrev pub call_session : InstanceCall → Option ℕ
 call_session (Asks request) = Some (session_of request)
 call_session (Accepts session reading) = Some session
 call_session (Decides session) = Some session
+call_session (Refuses session) = Some session
 call_session (Settles session how) = Some session
 call_session (Answers session) = Some session
 call_session _ = None
@@ -58,6 +61,7 @@ ChangesRequestsAlone old new = new ≡ record old { requests = new.requests }
 abbrev pub IsNoDecision : InstanceCall → Type 0
 IsNoDecision (Asks request) = Unit {0}
 IsNoDecision (Accepts session reading) = Unit {0}
+IsNoDecision (Refuses session) = Unit {0}
 IsNoDecision (Settles session how) = Unit {0}
 IsNoDecision (Answers session) = Unit {0}
 IsNoDecision _ = ⊥

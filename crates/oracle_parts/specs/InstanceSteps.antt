@@ -134,6 +134,18 @@ decide_held i session (Some held) = decide_if_accepted i session held held.progr
 abbrev pub instance_decide : InstanceEntry → ℕ → InstanceStep Decided
 instance_decide i session = decide_held i session (held_of i session)
 
+-- ---- refuse: a commit that was accepted ends before its stamp, by what its caller found against it
+abbrev pub refuse_if_accepted : InstanceEntry → ℕ → Request → Progress → InstanceStep (Unit {0})
+refuse_if_accepted i session (Commit s start keys) Accepted = record { left = without_request i session; answer = Ok tt }
+refuse_if_accepted i session request progress = no_request i session
+
+abbrev pub refuse_held : InstanceEntry → ℕ → Option Held → InstanceStep (Unit {0})
+refuse_held i session None = no_request i session
+refuse_held i session (Some held) = refuse_if_accepted i session held.request held.progress
+
+abbrev pub instance_refuse : InstanceEntry → ℕ → InstanceStep (Unit {0})
+instance_refuse i session = refuse_held i session (held_of i session)
+
 -- ---- settle: the put of a commit that was drawn has ended
 abbrev pub settle_if_drawn : InstanceEntry → ℕ → How → Held → Option ℕ → InstanceStep (Unit {0})
 settle_if_drawn i session how held (Some commit) = record { left = moved i session held (Settled commit how); answer = Ok tt }

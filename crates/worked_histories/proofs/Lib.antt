@@ -1,2 +1,3 @@
 mod WorkedHistories
 mod WorkedReads
+mod WorkedSkew

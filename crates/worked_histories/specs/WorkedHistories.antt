@@ -1,5 +1,5 @@
 -- Small histories that are, and that are not, what isolation asks for.
-use Rattle.std.specs.Prelude.{ℕ, List, [], ◌∷◌, Option, Some}
+use Rattle.std.specs.Prelude.{ℕ, List, [], ◌∷◌, Option, None, Some}
 use Rattle.history_book.specs.declared.item.Actor.TheVariants.{Janitor}
 use Rattle.history_book.specs.declared.item.Found.{Found}
 use Rattle.history_book.specs.declared.item.Item.{Item}
@@ -55,3 +55,25 @@ start_as_commit = Begin 0 3 ∷ Placed 1 3 ∷ []
 -- the transaction with the start 3 commits with this stamp
 abbrev pub commit_of_three : ℕ → List Item
 commit_of_three commit = Placed 3 commit ∷ []
+
+-- each of two transactions reads the key that the other writes; the first commits at 3, and then these items follow
+abbrev pub write_skew : List Item → List Item
+write_skew rest = Begin 0 1 ∷ Begin 1 2 ∷ Read 0 1 0 None ∷ Write 0 1 1 p ∷ Read 1 2 1 None ∷ Write 1 2 0 q ∷ Placed 1 3 ∷ rest
+
+-- the second commits at 4
+abbrev pub both_of_skew : List Item
+both_of_skew = write_skew (Placed 2 4 ∷ [])
+
+-- the second does not commit
+abbrev pub one_of_skew : List Item
+one_of_skew = write_skew []
+
+abbrev pub from_second : Found
+from_second = record { from = 2; value = q }
+
+-- the transaction with the start 2 reads a key that another writes, after or before it writes that key itself
+abbrev pub write_then_read : List Item
+write_then_read = Write 0 1 0 p ∷ Write 1 2 0 q ∷ Read 1 2 0 (Some from_second) ∷ Placed 1 3 ∷ Placed 2 4 ∷ []
+
+abbrev pub read_then_write : List Item
+read_then_write = Write 0 1 0 p ∷ Read 1 2 0 None ∷ Write 1 2 0 q ∷ Placed 1 3 ∷ Placed 2 4 ∷ []

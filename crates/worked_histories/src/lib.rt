@@ -1,10 +1,11 @@
-//! Small histories beside the definition of isolation: what it allows, and what it refuses.
+//! Small histories beside the definitions of isolation and of serial order: what each allows, and what it refuses.
 #![tactic(auto)]
 
 ghost use Rattle.std.specs.Prelude.{None, Some};
 ghost use Rattle.history_book.specs.Members.{AtEach};
 ghost use Rattle.history_book.specs.Isolation.{RightRead, Apart, Stamped, Fresh, Isolated};
-ghost use Rattle.worked_histories.specs.WorkedHistories.{both_committed, read_of, from_first, unlisted_read, listed_read, own_write, stale_begin, asked_before, one_commit_of_two, one_start_of_two, start_as_commit, commit_of_three};
+ghost use Rattle.history_book.specs.Serial.{Serial};
+ghost use Rattle.worked_histories.specs.WorkedHistories.{both_committed, read_of, from_first, unlisted_read, listed_read, own_write, stale_begin, asked_before, one_commit_of_two, one_start_of_two, start_as_commit, commit_of_three, both_of_skew, one_of_skew, write_then_read, read_then_write};
 
 /// Where both of two transactions that wrote one key are committed, neither below the other's start, they are not apart.
 pub fn two_writers_are_not_apart()
@@ -37,4 +38,19 @@ pub fn stamps_tell_times_apart()
     ensures above { Stamped (commit_of_three 4) }
     ensures at { Isolated (commit_of_three 3) → ⊥ }
     ensures below { Isolated (commit_of_three 2) → ⊥ }
+{}
+
+/// Where each of two transactions reads what the other writes and both commit, the history is isolated and not serial.
+/// Where one of them does not commit it is serial.
+pub fn write_skew_is_not_serial()
+    ensures isolated { Isolated both_of_skew }
+    ensures both { Serial both_of_skew → ⊥ }
+    ensures one { Serial one_of_skew }
+{}
+
+/// A read of a key that its transaction wrote before is of that write, whatever another commits. One before that write
+/// counts.
+pub fn reads_after_own_writes_stand()
+    ensures after { Serial write_then_read }
+    ensures before { Serial read_then_write → ⊥ }
 {}
