@@ -94,7 +94,7 @@ no_shadow_at : (key txn : ℕ) (at : SettlePoint) (k t commit : ℕ) → Some (a
 no_shadow_at key txn point.FirstLook k t commit is = cc
 no_shadow_at key txn point.Table k t commit is = cc
 no_shadow_at key txn point.Marking k t commit is = cc
-no_shadow_at key txn point.LastLook k t commit is = cc
+no_shadow_at key txn (point.LastLook met) k t commit is = cc
 
 work_shadow : (w : State) (h : List Item) (session : ℕ) (c : Client) → Holds w h → ClientAt w.clients session c → (work : UnderWay) → IsWork c work → (k t commit : ℕ) → next_of work ≡ Some (Shadow k t commit) → Committed h t commit
 work_shadow w h session c holds at Nothing fits k t commit is = absurd (cc)

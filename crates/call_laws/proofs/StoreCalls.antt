@@ -4,6 +4,7 @@ use Rattle.std.proofs.Common.{◌≡◌, ℕ, ◌<◌, ◌≤◌, Bool, true, fa
 use Rattle.std.specs.Prelude.{All, IfSome}
 use Rattle.std.proofs.lemmas.Option.{none-some}
 use Rattle.std.proofs.lemmas.List.Elements.{All-nil, All-cons, All-head, All-tail}
+use Rattle.std.specs.Bool.{IsTrue}
 use Rattle.history_book.specs.Isolation.{Committed, Stamped, last_write}
 use Rattle.history_book.specs.declared.item.Item.{Item}
 use Rattle.store_parts.specs.declared.rows.Cell.{Cell}
@@ -14,7 +15,7 @@ use Rattle.client_parts.specs.declared.resolve.SettlePoint.{SettlePoint}
 use Rattle.client_parts.specs.declared.resolve.SettlePoint.TheVariants.{Marking}
 use Rattle.client_parts.specs.declared.session.State.{State as SessionState}
 use Rattle.client_parts.specs.declared.session.State.TheVariants as phase
-use Rattle.client_parts.specs.KeyRead.{Reading}
+use Rattle.client_parts.specs.KeyRead.{Reading, may_mark}
 use Rattle.client_parts.specs.Sweep.{Sweeping, sweep_ask}
 use Rattle.client_parts.specs.SessionSteps.{work_refusal, key_refusal}
 use Rattle.machine.specs.State.{Client, State}
@@ -97,15 +98,14 @@ all_upto b start (cell ∷ cells) same below =
     let first : cell.version < b = All-head (λ (c : Cell). c.version < b) cell cells below in
     All-cons (λ (c : Cell). c.version ≤ start) cell cells (omega (arith, first, same)) (all_upto b start cells same (All-tail (λ (c : Cell). c.version < b) cell cells below))
 
-marks_old : (w : State) (h : List Item) (k b e t epoch : ℕ) (point : SettlePoint) → e ≡ epoch → IsResolvedTo w.pairs w.rows h k b e t point → point ≡ Marking → t ≤ epoch
-marks_old w h k b e t epoch point same resolved is =
-    let old : t ≤ e = subst (λ (p : SettlePoint). IsResolvedTo w.pairs w.rows h k b e t p) is resolved in
-    omega (arith, old, same)
+marks_old : (w : State) (h : List Item) (k b : ℕ) (every : Bool) (e t epoch : ℕ) (point : SettlePoint) → e ≡ epoch → IsResolvedTo w.pairs w.rows h k b every e t point → point ≡ Marking → IsTrue (may_mark every t epoch)
+marks_old w h k b every e t epoch point same resolved is =
+    subst (λ x. IsTrue (may_mark every t x)) same (subst (λ (p : SettlePoint). IsResolvedTo w.pairs w.rows h k b every e t p) is resolved)
 
-reading_fetched : (w : State) (h : List Item) (b e : ℕ) (r : Reading) → IsReading w.nodes w.rows w.pairs h b e r → ReadsFetched r
+reading_fetched : (w : State) (h : List Item) (b e : ℕ) (r : Reading) → IsReading w.setup w.nodes w.rows w.pairs h b e r → ReadsFetched r
 reading_fetched w h b e r is = record {
   fetched = record { falling = is.sees.falling; upto = all_upto b r.start (r.cell ∷ r.older) (sym is.start_is) is.sees.below };
-  marks = marks_old w h r.key b e r.cell.version r.epoch r.point (sym is.epoch_is) is.resolved;
+  marks = marks_old w h r.key b r.every e r.cell.version r.epoch r.point (sym is.epoch_is) is.resolved;
 }
 
 pub reads_fetched : (w : State) (h : List Item) → Tells w h → ReadMayGoOn w

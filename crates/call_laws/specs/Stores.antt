@@ -1,8 +1,8 @@
 -- What the calls of sessions and of the janitor on the stores ask of the cells, and what is under way with them.
-use Rattle.std.specs.Prelude.{◌≡◌, ℕ, ◌≤◌, List, ◌∷◌, None, IfSome}
+use Rattle.std.specs.Prelude.{◌≡◌, ℕ, IsTrue, List, ◌∷◌, None, IfSome}
 use Rattle.store_parts.specs.Rows.{Row, IsBare, HasOnly}
 use Rattle.client_parts.specs.declared.resolve.SettlePoint.TheVariants.{Marking}
-use Rattle.client_parts.specs.KeyRead.{Reading, AreFetched}
+use Rattle.client_parts.specs.KeyRead.{Reading, may_mark, AreFetched}
 use Rattle.client_parts.specs.Sweep.{sweep_ask}
 use Rattle.machine.specs.State.{Reads, Client, State}
 use Rattle.machine.specs.Events.Step.{work_of, next_of}
@@ -22,7 +22,7 @@ HealMayBeMade w = (session : ℕ) (c : Client) → ClientAt w.clients session c 
 -- a read goes on over cells as a fetch gives them, and marks where it may
 pub record ReadsFetched (r : Reading) : Type 0 where
   pub fetched : AreFetched r.start (r.cell ∷ r.older)
-  pub marks : r.point ≡ Marking → r.cell.version ≤ r.epoch
+  pub marks : r.point ≡ Marking → IsTrue (may_mark r.every r.cell.version r.epoch)
 
 abbrev pub ReadMayGoOn : State → Type 0
 ReadMayGoOn w = (session : ℕ) (c : Client) (r : Reading) → ClientAt w.clients session c → c.under_way ≡ Reads r → ReadsFetched r

@@ -28,7 +28,7 @@ use Rattle.machine.specs.Events.AskCommit.{commit_of, ask_commit_by, ask_commit_
 use Rattle.machine.specs.Events.Abort.{abort_by, abort_on}
 use Rattle.machine.specs.Events.Vanish.{vanish_by, vanish_on}
 use Rattle.machine.specs.Events.Write.{write_refused, write_by, write_open, write_on}
-use Rattle.machine.specs.Events.Fetch.{read_items, fetch_by, fetch_open, fetch_on}
+use Rattle.machine.specs.Events.Fetch.{marks_every, read_items, fetch_by, fetch_open, fetch_on}
 use Rattle.isolation_laws.specs.Words.{InstanceAt, ClientAt}
 use Rattle.isolation_laws.proofs.Inversions.InversionOfAsks.{asked_if}
 use Rattle.cause_laws.specs.Due.{NeedsNoRow, AreDue}
@@ -145,16 +145,16 @@ pub read_free : (w : State) (session start key : ℕ) (turn : ReadTurn) → AllD
 read_free w session start key (Asks r) = none_free w
 read_free w session start key (Answers a) = one_free w _ (λ told. tt)
 
-fetch_fated : (w : State) (session start epoch key : ℕ) (fate : Fate) (c : Client) → AreDue w (fetch_by session start epoch key fate c (fetched w.rows key start)).items
+fetch_fated : (w : State) (session start epoch key : ℕ) (fate : Fate) (c : Client) → AreDue w (fetch_by (marks_every w.setup) session start epoch key fate c (fetched w.rows key start)).items
 fetch_fated w session start epoch key Works c = all_due w _ (All-cons (DueAnyway w) _ (read_items session start key _) (λ told. tt) (read_free w session start key _))
 fetch_fated w session start epoch key FailsUnchanged c = plain_due w _ (λ told. tt)
 fetch_fated w session start epoch key FailsApplied c = plain_due w _ (λ told. tt)
 
-fetch_due : (w : State) (session key : ℕ) (fate : Fate) (c : Client) → ClientAt w.clients session c → (why : Option Cause) → work_refusal c.entry.state (is_reading c) ≡ why → (start epoch : Option ℕ) → AreDue w (fetch_open session key fate c w.rows why start epoch).items
+fetch_due : (w : State) (session key : ℕ) (fate : Fate) (c : Client) → ClientAt w.clients session c → (why : Option Cause) → work_refusal c.entry.state (is_reading c) ≡ why → (start epoch : Option ℕ) → AreDue w (fetch_open (marks_every w.setup) session key fate c w.rows why start epoch).items
 fetch_due w session key fate c at (Some why) is start epoch = own_due w session c why at (work_own c.entry.state (is_reading c) why is)
 fetch_due w session key fate c at None is None epoch = none_due w
 fetch_due w session key fate c at None is (Some start) None = none_due w
 fetch_due w session key fate c at None is (Some start) (Some epoch) = fetch_fated w session start epoch key fate c
 
-pub fetch_on_due : (w : State) (session key : ℕ) (fate : Fate) (c : Client) → ClientAt w.clients session c → AreDue w (fetch_on session key fate c w.rows).items
+pub fetch_on_due : (w : State) (session key : ℕ) (fate : Fate) (c : Client) → ClientAt w.clients session c → AreDue w (fetch_on (marks_every w.setup) session key fate c w.rows).items
 fetch_on_due w session key fate c at = fetch_due w session key fate c at (work_refusal c.entry.state (is_reading c)) refl c.entry.start c.entry.epoch

@@ -31,26 +31,26 @@ unfolding after_passed front_of
 front_passed start [] = refl
 front_passed start (c ∷ cs) = passes_cons start c cs (is_passed start c) refl (front_passed start cs)
 
-turn_shadowed : (key start epoch version commit : ℕ) (value : List ℕ) (cs : List Cell) (own below : Bool) → (version == start) ≡ own → nat_lt commit start ≡ below → let c : Cell = record { version = version; value = value; shadow = Some commit } in IsCutTurn (turn_at key start epoch (front_of start (c ∷ cs))) (turn_at key start epoch (c ∷ cs))
+turn_shadowed : (every : Bool) (key start epoch version commit : ℕ) (value : List ℕ) (cs : List Cell) (own below : Bool) → (version == start) ≡ own → nat_lt commit start ≡ below → let c : Cell = record { version = version; value = value; shadow = Some commit } in IsCutTurn (turn_at every key start epoch (front_of start (c ∷ cs))) (turn_at every key start epoch (c ∷ cs))
 unfolding front_of
-turn_shadowed key start epoch version commit value cs true true e b = rw (b, e) refl
-turn_shadowed key start epoch version commit value cs true false e b = rw (b, e) refl
-turn_shadowed key start epoch version commit value cs false true e b = rw (b, e) refl
-turn_shadowed key start epoch version commit value cs false false e b = rw (b, e) refl
+turn_shadowed every key start epoch version commit value cs true true e b = rw (b, e) refl
+turn_shadowed every key start epoch version commit value cs true false e b = rw (b, e) refl
+turn_shadowed every key start epoch version commit value cs false true e b = rw (b, e) refl
+turn_shadowed every key start epoch version commit value cs false false e b = rw (b, e) refl
 
-turn_cell : (key start epoch version : ℕ) (value : List ℕ) (shadow : Option ℕ) (cs : List Cell) (own : Bool) → (version == start) ≡ own → let c : Cell = record { version = version; value = value; shadow = shadow } in IsCutTurn (turn_at key start epoch (front_of start (c ∷ cs))) (turn_at key start epoch (c ∷ cs))
+turn_cell : (every : Bool) (key start epoch version : ℕ) (value : List ℕ) (shadow : Option ℕ) (cs : List Cell) (own : Bool) → (version == start) ≡ own → let c : Cell = record { version = version; value = value; shadow = shadow } in IsCutTurn (turn_at every key start epoch (front_of start (c ∷ cs))) (turn_at every key start epoch (c ∷ cs))
 unfolding front_of
-turn_cell key start epoch version value None cs true e = rw e refl
-turn_cell key start epoch version value None cs false e = rw e refl
-turn_cell key start epoch version value (Some commit) cs own e = turn_shadowed key start epoch version commit value cs own (nat_lt commit start) e refl
+turn_cell every key start epoch version value None cs true e = rw e refl
+turn_cell every key start epoch version value None cs false e = rw e refl
+turn_cell every key start epoch version value (Some commit) cs own e = turn_shadowed every key start epoch version commit value cs own (nat_lt commit start) e refl
 
-turn_cut : (key start epoch : ℕ) (cells : List Cell) → IsCutTurn (turn_at key start epoch (front_of start cells)) (turn_at key start epoch cells)
+turn_cut : (every : Bool) (key start epoch : ℕ) (cells : List Cell) → IsCutTurn (turn_at every key start epoch (front_of start cells)) (turn_at every key start epoch cells)
 unfolding front_of
-turn_cut key start epoch [] = refl
-turn_cut key start epoch (c ∷ cs) = turn_cell key start epoch c.version c.value c.shadow cs (c.version == start) refl
+turn_cut every key start epoch [] = refl
+turn_cut every key start epoch (c ∷ cs) = turn_cell every key start epoch c.version c.value c.shadow cs (c.version == start) refl
 
-cut_begins : (key start epoch : ℕ) (cells : List Cell) → IsCutTurn (read_over key start epoch (front_of start cells)) (read_over key start epoch cells)
-cut_begins key start epoch cells = rw (front_passed start cells) (turn_cut key start epoch (after_passed start cells))
+cut_begins : (every : Bool) (key start epoch : ℕ) (cells : List Cell) → IsCutTurn (read_over every key start epoch (front_of start cells)) (read_over every key start epoch cells)
+cut_begins every key start epoch cells = rw (front_passed start cells) (turn_cut every key start epoch (after_passed start cells))
 
 -- the read with the front of its older cells
 abbrev cut_of : Reading → Reading
@@ -58,11 +58,11 @@ cut_of whole = record whole { older = front_of whole.start whole.older }
 
 committed_cut : (whole : Reading) (commit : ℕ) (by_table below : Bool) → nat_lt commit whole.start ≡ below → IsCutTurn (read_by (cut_of whole) (Decides (Committed commit by_table))) (read_by whole (Decides (Committed commit by_table)))
 committed_cut whole commit by_table true e = rw e refl
-committed_cut whole commit by_table false e = rw e (cut_begins whole.key whole.start whole.epoch whole.older)
+committed_cut whole commit by_table false e = rw e (cut_begins whole.every whole.key whole.start whole.epoch whole.older)
 
 by_cut : (whole : Reading) (turn : SettleTurn) → IsCutTurn (read_by (cut_of whole) turn) (read_by whole turn)
 by_cut whole (Goes p) = refl
-by_cut whole (Decides Dead) = cut_begins whole.key whole.start whole.epoch whole.older
+by_cut whole (Decides Dead) = cut_begins whole.every whole.key whole.start whole.epoch whole.older
 by_cut whole (Decides (Committed commit by_table)) = committed_cut whole commit by_table (nat_lt commit whole.start) refl
 
 cut_goes_on : (cut whole : Reading) (told : Told) → IsCut cut whole → IsCutTurn (read_told cut told) (read_told whole told)
@@ -88,5 +88,5 @@ cut_reads_are_whole = record {
   goes_on = cut_goes_on;
   asks = λ cut whole h. rw h (refl, refl, refl);
   shows = cut_shows;
-  runs = λ key start epoch cells tolds. cut_shows (read_after tolds (read_over key start epoch (front_of start cells))) (read_after tolds (read_over key start epoch cells)) (cut_runs (read_over key start epoch (front_of start cells)) (read_over key start epoch cells) tolds (cut_begins key start epoch cells));
+  runs = λ every key start epoch cells tolds. cut_shows (read_after tolds (read_over every key start epoch (front_of start cells))) (read_after tolds (read_over every key start epoch cells)) (cut_runs (read_over every key start epoch (front_of start cells)) (read_over every key start epoch cells) tolds (cut_begins every key start epoch cells));
 }

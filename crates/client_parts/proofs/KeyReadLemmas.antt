@@ -65,30 +65,30 @@ answers_cell start c true shadow a r own stop e = (let same : Answers (found_cel
 answers_cell start c false None a r own stop e = absurd cc
 answers_cell start c false (Some commit) a r own stop e = (let same : Answers (found_cell c) ≡ Answers a = e in cc, inr (leb-false start commit stop))
 
-answers_by : (key start epoch : ℕ) (cells : List Cell) (a : Answer) → StopsAt start cells → turn_at key start epoch cells ≡ Answers a → AnswersBy start cells a
-answers_by key start epoch [] a h e = let same : Answers found_none ≡ Answers a = e in cc
-answers_by key start epoch (c ∷ cs) a h e = answers_cell start c (c.version == start) c.shadow a _ refl h e
+answers_by : (every : Bool) (key start epoch : ℕ) (cells : List Cell) (a : Answer) → StopsAt start cells → turn_at every key start epoch cells ≡ Answers a → AnswersBy start cells a
+answers_by every key start epoch [] a h e = let same : Answers found_none ≡ Answers a = e in cc
+answers_by every key start epoch (c ∷ cs) a h e = answers_cell start c (c.version == start) c.shadow a _ refl h e
 
 pub answers_own_or_below : AnswersOwnOrBelow
-answers_own_or_below key start epoch cells a = answers_by key start epoch (after_passed start cells) a (stops start cells)
+answers_own_or_below every key start epoch cells a = answers_by every key start epoch (after_passed start cells) a (stops start cells)
 
 -- the cell that is resolved next, and those behind it, are among these
-resolves_cell : (key start epoch : ℕ) (c : Cell) (cs : List Cell) (at_once : Bool) (r : Reading) → cond at_once (Answers (found_cell c)) (Asks (record { key = key; start = start; epoch = epoch; cell = c; older = cs; point = Table })) ≡ Asks r → read_left r ≤ 3 * length cs + 3
-resolves_cell key start epoch c cs true r e = absurd cc
-resolves_cell key start epoch c cs false r e = let same : (let first : Reading = record { key = key; start = start; epoch = epoch; cell = c; older = cs; point = Table } in first) ≡ r = cc in rw (← same) (omega arith)
+resolves_cell : (every : Bool) (key start epoch : ℕ) (c : Cell) (cs : List Cell) (at_once : Bool) (r : Reading) → cond at_once (Answers (found_cell c)) (Asks (record { key = key; start = start; epoch = epoch; every = every; cell = c; older = cs; point = Table })) ≡ Asks r → read_left r ≤ 3 * length cs + 3
+resolves_cell every key start epoch c cs true r e = absurd cc
+resolves_cell every key start epoch c cs false r e = let same : (let first : Reading = record { key = key; start = start; epoch = epoch; every = every; cell = c; older = cs; point = Table } in first) ≡ r = cc in rw (← same) (omega arith)
 
-read_left_at : (key start epoch : ℕ) (cells : List Cell) (r : Reading) → turn_at key start epoch cells ≡ Asks r → read_left r ≤ 3 * length cells
-read_left_at key start epoch [] r e = absurd cc
-read_left_at key start epoch (c ∷ cs) r e = let few : read_left r ≤ 3 * length cs + 3 = resolves_cell key start epoch c cs _ r e in omega arith
+read_left_at : (every : Bool) (key start epoch : ℕ) (cells : List Cell) (r : Reading) → turn_at every key start epoch cells ≡ Asks r → read_left r ≤ 3 * length cells
+read_left_at every key start epoch [] r e = absurd cc
+read_left_at every key start epoch (c ∷ cs) r e = let few : read_left r ≤ 3 * length cs + 3 = resolves_cell every key start epoch c cs _ r e in omega arith
 
-read_left_over : (key start epoch : ℕ) (cells : List Cell) (r : Reading) → read_over key start epoch cells ≡ Asks r → read_left r ≤ 3 * length cells
-read_left_over key start epoch cells r e = let few : read_left r ≤ 3 * length (after_passed start cells) = read_left_at key start epoch (after_passed start cells) r e in omega (arith, passed_fewer start cells)
+read_left_over : (every : Bool) (key start epoch : ℕ) (cells : List Cell) (r : Reading) → read_over every key start epoch cells ≡ Asks r → read_left r ≤ 3 * length cells
+read_left_over every key start epoch cells r e = let few : read_left r ≤ 3 * length (after_passed start cells) = read_left_at every key start epoch (after_passed start cells) r e in omega (arith, passed_fewer start cells)
 
 left_some : (point : SettlePoint) → 1 ≤ settle_left point
 left_some FirstLook = omega arith
 left_some Table = omega arith
 left_some Marking = omega arith
-left_some LastLook = omega arith
+left_some (LastLook met) = omega arith
 
 settle_falls : SettlesEnd
 settle_falls = search rules
@@ -99,10 +99,10 @@ goes_falls r s told p v e =
     let falls : settle_left p < settle_left r.point = (settle_falls (settling_of r)).1 told p v in
     rw (← same) (omega arith)
 
-over_falls : (r s : Reading) → read_over r.key r.start r.epoch r.older ≡ Asks s → read_left s < read_left r
-over_falls r s e = let few : read_left s ≤ 3 * length r.older = read_left_over r.key r.start r.epoch r.older s e in omega (arith, left_some r.point)
+over_falls : (r s : Reading) → read_over r.every r.key r.start r.epoch r.older ≡ Asks s → read_left s < read_left r
+over_falls r s e = let few : read_left s ≤ 3 * length r.older = read_left_over r.every r.key r.start r.epoch r.older s e in omega (arith, left_some r.point)
 
-late_falls : (r s : Reading) (c : ℕ) (by_table below : Bool) → cond below (Answers (found_by r.key r.cell c by_table)) (read_over r.key r.start r.epoch r.older) ≡ Asks s → read_left s < read_left r
+late_falls : (r s : Reading) (c : ℕ) (by_table below : Bool) → cond below (Answers (found_by r.key r.cell c by_table)) (read_over r.every r.key r.start r.epoch r.older) ≡ Asks s → read_left s < read_left r
 late_falls r s c by_table true e = absurd cc
 late_falls r s c by_table false e = over_falls r s e
 

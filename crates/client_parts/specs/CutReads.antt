@@ -1,5 +1,5 @@
 -- A read that has the front of the fetched cells alone, down to the first that decides by itself, beside one that has them all.
-use Rattle.std.specs.Prelude.{◌≡◌, ℕ, List, [], ◌∷◌}
+use Rattle.std.specs.Prelude.{◌≡◌, ℕ, Bool, List, [], ◌∷◌}
 use Rattle.client_parts.specs.declared.asks.Told.{Told}
 use Rattle.store_parts.specs.declared.rows.Cell.{Cell}
 use Rattle.store_parts.specs.Rows.{front_of}
@@ -23,8 +23,8 @@ read_after (told ∷ tolds) (Answers a) = Answers a
 
 -- a read of the front begins as one of all the cells, goes on as it at each answer, and asks and answers the same
 pub record CutReadsAreWhole : Type 0 where
-  pub begins : (key start epoch : ℕ) (cells : List Cell) → IsCutTurn (read_over key start epoch (front_of start cells)) (read_over key start epoch cells)
+  pub begins : (every : Bool) (key start epoch : ℕ) (cells : List Cell) → IsCutTurn (read_over every key start epoch (front_of start cells)) (read_over every key start epoch cells)
   pub goes_on : (cut whole : Reading) (told : Told) → IsCut cut whole → IsCutTurn (read_told cut told) (read_told whole told)
   pub asks : (cut whole : Reading) → IsCut cut whole → (read_ask cut ≡ read_ask whole) × (cut.cell ≡ whole.cell) × (cut.point ≡ whole.point)
   pub shows : (cut whole : ReadTurn) → IsCutTurn cut whole → next_of cut ≡ next_of whole
-  pub runs : (key start epoch : ℕ) (cells : List Cell) (tolds : List Told) → next_of (read_after tolds (read_over key start epoch (front_of start cells))) ≡ next_of (read_after tolds (read_over key start epoch cells))
+  pub runs : (every : Bool) (key start epoch : ℕ) (cells : List Cell) (tolds : List Told) → next_of (read_after tolds (read_over every key start epoch (front_of start cells))) ≡ next_of (read_after tolds (read_over every key start epoch cells))

@@ -1,5 +1,5 @@
 -- The read of a key over the cells that were fetched, by the resolve of one cell.
-use Rattle.std.specs.Prelude.{◌≡◌, ℕ, ◌+◌, ◌*◌, ◌<◌, ◌≤◌, ◌⊎◌, ◌==◌, nat_lt, nat_le, Bool, false, ◌||◌, is_some, List, [], ◌∷◌, ◌++◌, Option, None, Some, if◌then◌else◌, length, All}
+use Rattle.std.specs.Prelude.{◌≡◌, ℕ, ◌+◌, ◌*◌, ◌<◌, ◌≤◌, ◌⊎◌, ◌==◌, nat_lt, nat_le, Bool, false, IsTrue, ◌||◌, is_some, List, [], ◌∷◌, ◌++◌, Option, None, Some, if◌then◌else◌, length, All}
 use Rattle.std.specs.List.{AllPairs, take_while}
 use Rattle.client_parts.specs.declared.asks.Ask.{Ask}
 use Rattle.client_parts.specs.declared.asks.Told.{Told}
@@ -17,6 +17,7 @@ pub record Reading : Type 0 where
   pub key : ℕ
   pub start : ℕ
   pub epoch : ℕ
+  pub every : Bool
   pub cell : Cell
   pub older : List Cell
   pub point : SettlePoint
@@ -26,9 +27,13 @@ pub record AreFetched (start : ℕ) (cells : List Cell) : Type 0 where
   pub falling : AllPairs (λ (a : Cell) (b : Cell). b.version < a.version) cells
   pub upto : All (λ (c : Cell). c.version ≤ start) cells
 
--- the resolve of the cell: a mark is allowed where the version is at most the epoch
+-- a mark is allowed on every version, or where the version is at most the epoch
+abbrev pub may_mark : Bool → ℕ → ℕ → Bool
+may_mark every version epoch = every || nat_le version epoch
+
+-- the resolve of the cell
 abbrev pub settling_of : Reading → Settling
-settling_of r = record { key = r.key; txn = r.cell.version; may_mark = nat_le r.cell.version r.epoch; point = r.point }
+settling_of r = record { key = r.key; txn = r.cell.version; may_mark = may_mark r.every r.cell.version r.epoch; point = r.point }
 
 -- what a read does: it goes on asking, or it has its answer
 pub data ReadTurn : Type 0 where
@@ -60,20 +65,20 @@ after_passed start [] = []
 after_passed start (c ∷ cs) = if is_passed start c then after_passed start cs else c ∷ cs
 
 -- an own cell and one with a shadow answer, and any other is resolved
-abbrev pub turn_at : ℕ → ℕ → ℕ → List Cell → ReadTurn
-turn_at key start epoch [] = Answers found_none
-turn_at key start epoch (c ∷ cs) =
-    if (c.version == start) || is_some c.shadow then Answers (found_cell c) else Asks (record { key = key; start = start; epoch = epoch; cell = c; older = cs; point = Table })
+abbrev pub turn_at : Bool → ℕ → ℕ → ℕ → List Cell → ReadTurn
+turn_at every key start epoch [] = Answers found_none
+turn_at every key start epoch (c ∷ cs) =
+    if (c.version == start) || is_some c.shadow then Answers (found_cell c) else Asks (record { key = key; start = start; epoch = epoch; every = every; cell = c; older = cs; point = Table })
 
 -- the read of these cells
-abbrev pub read_over : ℕ → ℕ → ℕ → List Cell → ReadTurn
-read_over key start epoch cells = turn_at key start epoch (after_passed start cells)
+abbrev pub read_over : Bool → ℕ → ℕ → ℕ → List Cell → ReadTurn
+read_over every key start epoch cells = turn_at every key start epoch (after_passed start cells)
 
 -- a commit below the start answers, and any other cell is passed over
 abbrev pub read_by : Reading → SettleTurn → ReadTurn
 read_by r (Goes p) = Asks (record r { point = p })
-read_by r (Decides Dead) = read_over r.key r.start r.epoch r.older
-read_by r (Decides (Committed c by_table)) = if nat_lt c r.start then Answers (found_by r.key r.cell c by_table) else read_over r.key r.start r.epoch r.older
+read_by r (Decides Dead) = read_over r.every r.key r.start r.epoch r.older
+read_by r (Decides (Committed c by_table)) = if nat_lt c r.start then Answers (found_by r.key r.cell c by_table) else read_over r.every r.key r.start r.epoch r.older
 
 abbrev pub read_told : Reading → Told → ReadTurn
 read_told r told = read_by r (settle_turn (settling_of r) told)
@@ -114,8 +119,8 @@ IfBelow start (Some commit) = commit < start
 -- a commit below the start answers by its cell, and otherwise the cells behind it answer
 abbrev pub AnsweredBy : Reading → SettleTurn → Answer → Type 0
 AnsweredBy r (Goes p) a = ⊥
-AnsweredBy r (Decides Dead) a = read_over r.key r.start r.epoch r.older ≡ Answers a
-AnsweredBy r (Decides (Committed c by_table)) a = ((c < r.start) × (a ≡ found_by r.key r.cell c by_table)) ⊎ ((r.start ≤ c) × (read_over r.key r.start r.epoch r.older ≡ Answers a))
+AnsweredBy r (Decides Dead) a = read_over r.every r.key r.start r.epoch r.older ≡ Answers a
+AnsweredBy r (Decides (Committed c by_table)) a = ((c < r.start) × (a ≡ found_by r.key r.cell c by_table)) ⊎ ((r.start ≤ c) × (read_over r.every r.key r.start r.epoch r.older ≡ Answers a))
 
 -- the cells in front that are passed over unasked have each a shadow that is not below the start
 abbrev pub PassedAreLate : Type 0
@@ -130,7 +135,7 @@ AnswersBy start (c ∷ cs) a = (a ≡ found_cell c) × ((c.version ≡ start) �
 -- the first cell that is not passed over unasked answers where it is own or its shadow is below the start
 abbrev pub AnswersOwnOrBelow : Type 0
 AnswersOwnOrBelow =
-    (key start epoch : ℕ) (cells : List Cell) (a : Answer) → read_over key start epoch cells ≡ Answers a → AnswersBy start (after_passed start cells) a
+    (every : Bool) (key start epoch : ℕ) (cells : List Cell) (a : Answer) → read_over every key start epoch cells ≡ Answers a → AnswersBy start (after_passed start cells) a
 
 -- a cell that was resolved answers where its commit is below the start, and otherwise those behind it answer unasked
 abbrev pub AnswersResolved : Type 0
@@ -142,9 +147,9 @@ abbrev pub PassesDeadOrLate : Type 0
 PassesDeadOrLate =
     (r s : Reading) (told : Told) → read_told r told ≡ Asks s → (s ≡ record r { point = s.point }) ⊎ (LetsPass r.start (settle_turn (settling_of r) told) × (s.cell ∷ s.older ≡ after_passed r.start r.older))
 
--- a mark is asked only of a version that is at most the epoch
+-- a mark is asked only where one is allowed: of every version, or of one that is at most the epoch
 abbrev pub ReadsMarkOldAlone : Type 0
-ReadsMarkOldAlone = (r s : Reading) (told : Told) → read_told r told ≡ Asks s → s.point ≡ Marking → s.cell.version ≤ s.epoch
+ReadsMarkOldAlone = (r s : Reading) (told : Told) → read_told r told ≡ Asks s → s.point ≡ Marking → IsTrue (may_mark s.every s.cell.version s.epoch)
 
 -- the steps that there may be
 abbrev pub read_left : Reading → ℕ
@@ -153,4 +158,4 @@ read_left r = 3 * length r.older + settle_left r.point
 -- at most three steps for each cell, and each answer that leads on leaves fewer
 abbrev pub ReadsEnd : Type 0
 ReadsEnd =
-    ((key start epoch : ℕ) (cells : List Cell) (r : Reading) → read_over key start epoch cells ≡ Asks r → read_left r ≤ 3 * length cells) × ((r s : Reading) (told : Told) → read_told r told ≡ Asks s → read_left s < read_left r)
+    ((every : Bool) (key start epoch : ℕ) (cells : List Cell) (r : Reading) → read_over every key start epoch cells ≡ Asks r → read_left r ≤ 3 * length cells) × ((r s : Reading) (told : Told) → read_told r told ≡ Asks s → read_left s < read_left r)

@@ -28,7 +28,7 @@ abbrev pub ask_at : ℕ → ℕ → SettlePoint → Ask
 ask_at key txn FirstLook = Look key txn
 ask_at key txn Table = Get txn
 ask_at key txn Marking = Mark txn
-ask_at key txn LastLook = Look key txn
+ask_at key txn (LastLook met) = Look key txn
 
 abbrev pub settle_ask : Settling → Ask
 settle_ask s = ask_at s.key s.txn s.point
@@ -43,16 +43,16 @@ abbrev pub after_first_look : Told → SettleTurn
 after_first_look (Shadowed c) = Decides (CommittedAt c false)
 after_first_look _ = Goes Table
 
--- a commit decides; where there is no entry a mark is placed if one is allowed; an invalid mark does not decide
+-- a commit decides; where there is no entry a mark is placed if one is allowed; an invalid mark is met, and does not decide
 abbrev pub after_table : Bool → Told → SettleTurn
 after_table may_mark (Committed c) = Decides (CommittedAt c true)
-after_table may_mark Absent = Goes (if may_mark then Marking else LastLook)
-after_table may_mark _ = Goes LastLook
+after_table may_mark Absent = Goes (if may_mark then Marking else LastLook false)
+after_table may_mark _ = Goes (LastLook true)
 
--- a commit that was found decides; a mark, placed or found, does not
+-- a commit that was found decides; a mark, placed or found, is met, and does not
 abbrev pub after_marking : Told → SettleTurn
 after_marking (Committed c) = Decides (CommittedAt c true)
-after_marking _ = Goes LastLook
+after_marking _ = Goes (LastLook true)
 
 abbrev pub after_last_look : Told → SettleTurn
 after_last_look (Shadowed c) = Decides (CommittedAt c false)
@@ -62,7 +62,7 @@ abbrev pub settle_turn_at : Bool → SettlePoint → Told → SettleTurn
 settle_turn_at may_mark FirstLook told = after_first_look told
 settle_turn_at may_mark Table told = after_table may_mark told
 settle_turn_at may_mark Marking told = after_marking told
-settle_turn_at may_mark LastLook told = after_last_look told
+settle_turn_at may_mark (LastLook met) told = after_last_look told
 
 abbrev pub settle_turn : Settling → Told → SettleTurn
 settle_turn s told = settle_turn_at s.may_mark s.point told
@@ -81,17 +81,21 @@ abbrev pub settle_left : SettlePoint → ℕ
 settle_left FirstLook = 4
 settle_left Table = 3
 settle_left Marking = 2
-settle_left LastLook = 1
+settle_left (LastLook met) = 1
 
--- a mark, placed or found, leads on to the last look
+abbrev pub IsLastLook : SettlePoint → Type 0
+IsLastLook (LastLook met) = Unit {0}
+IsLastLook _ = ⊥
+
+-- a mark, placed or found, leads on to the last look, which knows of it
 abbrev pub MarkNeverDecides : Type 0
 MarkNeverDecides =
-    (s : Settling) → (s.point ≡ Marking → settle_turn s Marked ≡ Goes LastLook) × (s.point ≡ Marking → settle_turn s Invalid ≡ Goes LastLook) × (s.point ≡ Table → settle_turn s Invalid ≡ Goes LastLook)
+    (s : Settling) → (s.point ≡ Marking → settle_turn s Marked ≡ Goes (LastLook true)) × (s.point ≡ Marking → settle_turn s Invalid ≡ Goes (LastLook true)) × (s.point ≡ Table → settle_turn s Invalid ≡ Goes (LastLook true))
 
 -- the last look showed no shadow
 abbrev pub DeadByLastLook : Type 0
 DeadByLastLook =
-    (s : Settling) (told : Told) → Fits (settle_ask s) told → settle_turn s told ≡ Decides Dead → (s.point ≡ LastLook) × ((told ≡ Bare) ⊎ (told ≡ Gone))
+    (s : Settling) (told : Told) → Fits (settle_ask s) told → settle_turn s told ≡ Decides Dead → IsLastLook s.point × ((told ≡ Bare) ⊎ (told ≡ Gone))
 
 -- the commit was the table's, one that the mark found, or a shadow's
 abbrev pub CommittedIsTold : Type 0

@@ -1,6 +1,3 @@
-ghost use Rattle.std.specs.Prelude.{◌≡◌};
-ghost use Rattle.client_parts.specs.Asks as asks;
-
 use stamp_base::{KeyNo, Stamp, TxnId};
 
 /// The next store step of a step machine.
@@ -41,17 +38,4 @@ pub enum Told {
     Shadowed(Stamp),
     /// The step was done.
     Done,
-}
-
-/// Whether the answer is one that the step may have. A step `Keys` has none of these: it is answered by a list.
-pub fn fits(ask: Ask, told: Told) -> bool
-    ensures { result ≡ asks.fits ask told }
-{
-    match ask {
-        Ask::Get(_) => matches!(told, Told::Absent | Told::Invalid | Told::Committed(_)),
-        Ask::Mark(_) => matches!(told, Told::Marked | Told::Invalid | Told::Committed(_)),
-        Ask::Look(..) => matches!(told, Told::Bare | Told::Gone | Told::Shadowed(_)),
-        Ask::Shadow(..) | Ask::Remove(_) | Ask::Erase(..) => matches!(told, Told::Done),
-        Ask::Keys(_) => false,
-    }
 }

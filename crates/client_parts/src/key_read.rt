@@ -40,7 +40,7 @@ pub fn passes_dead_or_late()
     ensures { PassesDeadOrLate }
 {}
 
-/// A read marks a version only at the epoch or below.
+/// A read marks a version only where it may: at the epoch or below, unless it may mark every one.
 pub fn reads_mark_old_alone()
     ensures { ReadsMarkOldAlone }
 {}

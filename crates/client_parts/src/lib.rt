@@ -9,7 +9,7 @@ mod resolve;
 mod session;
 mod sweep;
 
-pub use asks::{Ask, Told, fits};
+pub use asks::{Ask, Told};
 pub use completion::{
     completions_ask_for_their_keys, completions_end, completions_go_key_by_key, removal_comes_last,
 };

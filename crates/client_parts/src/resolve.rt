@@ -11,8 +11,8 @@ pub enum SettlePoint {
     Table,
     /// A mark is to be placed, unless the commit table has an entry by now.
     Marking,
-    /// The look at the shadow that decides.
-    LastLook,
+    /// The look at the shadow that decides; `met` where a mark was placed or found before it.
+    LastLook { met: bool },
 }
 
 /// What the resolve of one cell comes to.
@@ -24,7 +24,7 @@ pub enum Outcome {
     Dead,
 }
 
-/// A mark alone never decides: one that was placed or found leads on to the last look.
+/// A mark alone never decides: one that was placed or found leads on to the last look, which knows of it.
 pub fn mark_never_decides()
     ensures { MarkNeverDecides }
 {}

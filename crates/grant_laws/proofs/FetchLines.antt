@@ -22,7 +22,7 @@ use Rattle.machine.specs.Effect.{Effect}
 use Rattle.machine.specs.declared.event.Event.{Event}
 use Rattle.machine.specs.declared.event.Event.TheVariants as event
 use Rattle.machine.specs.Machine.{Step, step_by as step_of_effect, with_client, at_client, asks, asks_at_client}
-use Rattle.machine.specs.Events.Fetch.{found_of, fetch_worked, fetch_by, fetch_open, fetch_on, epoch_asks, fetch_asks}
+use Rattle.machine.specs.Events.Fetch.{marks_every, found_of, fetch_worked, fetch_by, fetch_open, fetch_on, epoch_asks, fetch_asks}
 use Rattle.machine.specs.Events.Write.{open_asks}
 use Rattle.script_data.specs.declared.line.Line.{Line}
 use Rattle.script_data.specs.declared.line.Verb.{Verb}
@@ -75,17 +75,17 @@ fetch_asked c start epoch may =
 
 -- the turn that the read begins with
 abbrev pub first_turn : Played → ℕ → ℕ → ℕ → ReadTurn
-first_turn p key start epoch = read_over key start epoch (front_of start (fetched p.state.rows key start))
+first_turn p key start epoch = read_over (marks_every p.state.setup) key start epoch (front_of start (fetched p.state.rows key start))
 
 abbrev pub fetch_turn : ℕ → Played → Client → ℕ → ℕ → ReadTurn → Step
 fetch_turn s p c key start turn = step_of_effect (fetch_worked s start key c (fetched p.state.rows key start) turn) (λ (q : Client). with_client p.state s q)
 
-fetch_effect : (s key start epoch : ℕ) (fate : Fate) (c : Client) (rows : List Row) → MayFetch c start epoch → fate ≡ Works → fetch_on s key fate c rows ≡ fetch_worked s start key c (fetched rows key start) (read_over key start epoch (front_of start (fetched rows key start)))
-fetch_effect s key start epoch fate c rows may works =
-    ap (λ (why : Option Cause). fetch_open s key fate c rows why c.entry.start c.entry.epoch) may.is_free
-    ∙ ap (λ (at : Option ℕ). fetch_open s key fate c rows None at c.entry.epoch) may.start_is
-    ∙ ap (λ (at : Option ℕ). fetch_open s key fate c rows None (Some start) at) may.epoch_is
-    ∙ ap (λ (f : Fate). fetch_by s start epoch key f c (fetched rows key start)) works
+fetch_effect : (every : Bool) (s key start epoch : ℕ) (fate : Fate) (c : Client) (rows : List Row) → MayFetch c start epoch → fate ≡ Works → fetch_on every s key fate c rows ≡ fetch_worked s start key c (fetched rows key start) (read_over every key start epoch (front_of start (fetched rows key start)))
+fetch_effect every s key start epoch fate c rows may works =
+    ap (λ (why : Option Cause). fetch_open every s key fate c rows why c.entry.start c.entry.epoch) may.is_free
+    ∙ ap (λ (at : Option ℕ). fetch_open every s key fate c rows None at c.entry.epoch) may.start_is
+    ∙ ap (λ (at : Option ℕ). fetch_open every s key fate c rows None (Some start) at) may.epoch_is
+    ∙ ap (λ (f : Fate). fetch_by every s start epoch key f c (fetched rows key start)) works
 
 pub record FetchesSo (script : ScriptData) (s key start : ℕ) (p : Played) (c : Client) (turn : ReadTurn) : Type 0 where
   pub session_is : ClientAt p.state.clients s c
@@ -102,7 +102,7 @@ fetches_so script s key start epoch p c at in_work may works =
     record {
       session_is = at;
       in_work = in_work;
-      is = ap (λ (found : Option Client). at_client w found (λ d. step_of_effect (fetch_on s key (fate_of script p e) d w.rows) (λ (q : Client). with_client w s q))) at ∙ ap (λ (effect : Effect Client). step_of_effect effect (λ (q : Client). with_client w s q)) (fetch_effect s key start epoch (fate_of script p e) c w.rows may fate);
+      is = ap (λ (found : Option Client). at_client w found (λ d. step_of_effect (fetch_on (marks_every w.setup) s key (fate_of script p e) d w.rows) (λ (q : Client). with_client w s q))) at ∙ ap (λ (effect : Effect Client). step_of_effect effect (λ (q : Client). with_client w s q)) (fetch_effect (marks_every w.setup) s key start epoch (fate_of script p e) c w.rows may fate);
       calls = ap (λ (store : Option Store). calls_after p.calls store) asked;
     }
 
@@ -151,7 +151,7 @@ by_first : ReadsEnd → (script : ScriptData) (number s key start epoch many : �
 by_first ends script number s key start epoch many p c (Answers a) is all works so = answers_at_once script number s key start many p c a so
 by_first ends script number s key start epoch many p c (Asks r) is all works so =
     let cells : List Cell = front_of start (fetched p.state.rows key start) in
-    answers_later ends script number s key start many p c r (subst (λ (turn : ReadTurn). OfKey key turn) is (over_key key start epoch cells)) (subst (λ (turn : ReadTurn). OfStart start turn) is (over_start key start epoch cells)) (omega (arith, all, ends.0 key start epoch cells r is)) works so
+    answers_later ends script number s key start many p c r (subst (λ (turn : ReadTurn). OfKey key turn) is (over_key (marks_every p.state.setup) key start epoch cells)) (subst (λ (turn : ReadTurn). OfStart start turn) is (over_start (marks_every p.state.setup) key start epoch cells)) (omega (arith, all, ends.0 (marks_every p.state.setup) key start epoch cells r is)) works so
 
 -- ---- the line
 -- the run of the line has room for all steps

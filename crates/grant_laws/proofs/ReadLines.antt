@@ -162,7 +162,7 @@ some_left : (point : SettlePoint) → 1 ≤ settle_left point
 some_left FirstLook = omega arith
 some_left Table = omega arith
 some_left Marking = omega arith
-some_left LastLook = omega arith
+some_left (LastLook met) = omega arith
 
 pub read_answers : ReadsEnd → (most : ℕ) (script : ScriptData) (number s key start : ℕ) (p : Played) (r : Reading) → IsReading s key start p r → read_left r ≤ most → CallsWork script most p.calls → HasAnswer script (line_of number (Session s) (verb.Read key)) s key start most (run_at Reads p)
 read_answers ends zero script number s key start p r k few works = absurd (omega (arith, few, some_left r.point))

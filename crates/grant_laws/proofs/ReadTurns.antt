@@ -22,24 +22,24 @@ abbrev pub OfStart : ℕ → ReadTurn → Type 0
 OfStart start (Asks r) = r.start ≡ start
 OfStart start (Answers a) = Unit {0}
 
-first_start : (key start epoch : ℕ) (c : Cell) (cs : List Cell) (answers : Bool) → OfStart start (cond answers (Answers (found_cell c)) (Asks (record { key = key; start = start; epoch = epoch; cell = c; older = cs; point = AtTable })))
-first_start key start epoch c cs true = tt
-first_start key start epoch c cs false = refl
+first_start : (every : Bool) (key start epoch : ℕ) (c : Cell) (cs : List Cell) (answers : Bool) → OfStart start (cond answers (Answers (found_cell c)) (Asks (record { key = key; start = start; epoch = epoch; every = every; cell = c; older = cs; point = AtTable })))
+first_start every key start epoch c cs true = tt
+first_start every key start epoch c cs false = refl
 
-turn_start : (key start epoch : ℕ) (cells : List Cell) → OfStart start (turn_at key start epoch cells)
-turn_start key start epoch [] = tt
-turn_start key start epoch (c ∷ cs) = first_start key start epoch c cs ((c.version == start) || is_some c.shadow)
+turn_start : (every : Bool) (key start epoch : ℕ) (cells : List Cell) → OfStart start (turn_at every key start epoch cells)
+turn_start every key start epoch [] = tt
+turn_start every key start epoch (c ∷ cs) = first_start every key start epoch c cs ((c.version == start) || is_some c.shadow)
 
-pub over_start : (key start epoch : ℕ) (cells : List Cell) → OfStart start (read_over key start epoch cells)
-over_start key start epoch cells = turn_start key start epoch (after_passed start cells)
+pub over_start : (every : Bool) (key start epoch : ℕ) (cells : List Cell) → OfStart start (read_over every key start epoch cells)
+over_start every key start epoch cells = turn_start every key start epoch (after_passed start cells)
 
-decided_start : (r : Reading) (c : ℕ) (by_table below : Bool) → OfStart r.start (cond below (Answers (found_by r.key r.cell c by_table)) (read_over r.key r.start r.epoch r.older))
+decided_start : (r : Reading) (c : ℕ) (by_table below : Bool) → OfStart r.start (cond below (Answers (found_by r.key r.cell c by_table)) (read_over r.every r.key r.start r.epoch r.older))
 decided_start r c by_table true = tt
-decided_start r c by_table false = over_start r.key r.start r.epoch r.older
+decided_start r c by_table false = over_start r.every r.key r.start r.epoch r.older
 
 settled_start : (r : Reading) (turn : SettleTurn) → OfStart r.start (read_by r turn)
 settled_start r (Goes p) = refl
-settled_start r (Decides Dead) = over_start r.key r.start r.epoch r.older
+settled_start r (Decides Dead) = over_start r.every r.key r.start r.epoch r.older
 settled_start r (Decides (Committed c by_table)) = decided_start r c by_table (nat_lt c r.start)
 
 pub told_start : (r : Reading) (told : Told) → OfStart r.start (read_told r told)

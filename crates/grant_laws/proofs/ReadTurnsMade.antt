@@ -13,7 +13,7 @@ use Rattle.machine.specs.StoreSteps.{store_of}
 use Rattle.machine.specs.declared.event.Event.{Event}
 use Rattle.machine.specs.declared.event.Event.TheVariants as event
 use Rattle.machine.specs.Machine.{Step}
-use Rattle.machine.specs.Events.Fetch.{found_of}
+use Rattle.machine.specs.Events.Fetch.{marks_every, found_of}
 use Rattle.script_data.specs.Data.{ScriptData}
 use Rattle.isolation_laws.specs.Words.{ClientAt}
 use Rattle.isolation_laws.proofs.Lookups.{set_found}
@@ -89,10 +89,10 @@ fetch_by_turn ends script s start key epoch most p c (Asks r) is all so =
         session_is = subst (λ (step : Step). ClientAt step.state.clients s now) (sym so.is) (set_found p.state.clients s now c so.session_is);
         in_work = so.in_work;
         under_way = refl;
-        key_is = subst (λ (turn : ReadTurn). OfKey key turn) is (over_key key start epoch cells);
-        start_is = subst (λ (turn : ReadTurn). OfStart start turn) is (over_start key start epoch cells);
+        key_is = subst (λ (turn : ReadTurn). OfKey key turn) is (over_key (marks_every p.state.setup) key start epoch cells);
+        start_is = subst (λ (turn : ReadTurn). OfStart start turn) is (over_start (marks_every p.state.setup) key start epoch cells);
       };
-      fewer = omega (arith, all, ends.0 key start epoch cells r is);
+      fewer = omega (arith, all, ends.0 (marks_every p.state.setup) key start epoch cells r is);
     })
 
 fetch_carried : ReadsEnd → (script : ScriptData) (turns : List Turn) (s key : ℕ) → AreInRange script.setup → IsPlayable script 0 script.lines → own_ahead script (carried script turns) (Session s) ≡ Makes (event.Fetch s key) → (can : CanFetch script (carried script turns).played s) → AnswersOr (carried script turns).played (turned script (carried script turns) (turn.Own (Session s))).played s can.start key (3 * cells_to_read (carried script turns).played can.start key + 1)

@@ -51,7 +51,7 @@ impl Settle {
         ensures no_listing { IsKeys result → ⊥ }
     {
         match self.point {
-            SettlePoint::FirstLook | SettlePoint::LastLook => Ask::Look(self.key, self.txn),
+            SettlePoint::FirstLook | SettlePoint::LastLook { .. } => Ask::Look(self.key, self.txn),
             SettlePoint::Table => Ask::Get(self.txn),
             SettlePoint::Marking => Ask::Mark(self.txn),
         }
@@ -71,14 +71,15 @@ impl Settle {
             SettlePoint::Table => match answer {
                 Told::Committed(commit) => by_table(commit),
                 Told::Absent if self.may_mark => self.go_to(SettlePoint::Marking),
-                _ => self.go_to(SettlePoint::LastLook),
+                Told::Absent => self.go_to(SettlePoint::LastLook { met: false }),
+                _ => self.go_to(SettlePoint::LastLook { met: true }),
             },
             // A mark alone does not decide: the shadow may have been set before it was placed.
             SettlePoint::Marking => match answer {
                 Told::Committed(commit) => by_table(commit),
-                _ => self.go_to(SettlePoint::LastLook),
+                _ => self.go_to(SettlePoint::LastLook { met: true }),
             },
-            SettlePoint::LastLook => match answer {
+            SettlePoint::LastLook { .. } => match answer {
                 Told::Shadowed(commit) => by_shadow(commit),
                 _ => Some(Outcome::Dead),
             },

@@ -1,8 +1,9 @@
 ghost use Rattle.std.specs.Prelude.{IfOk};
 ghost use Rattle.std.specs.List.Sorted.{IsStrictlyIncreasing};
+ghost use Rattle.client_parts.specs.Asks.{Fits};
 
 use super::*;
-use client_parts::{Ask, Told, fits};
+use client_parts::{Ask, Told};
 use stamp_base::{KeyNo, Stamp};
 use std::alloc::{AllocError, Global};
 use std::test::Fail;
@@ -15,23 +16,23 @@ fn key(n: u64) -> Result<KeyNo, &'static str> {
     KeyNo::new(n).ok_or("no key")
 }
 
-/// Tells each answer, whose ask must be next, and gives what the last one decided.
-fn settled(mut settle: Settle, steps: &[(Ask, Told)]) -> Result<Option<Outcome>, &'static str> {
-    let mut outcome = None;
-    for (ask, told) in steps {
-        if settle.next() != *ask || !fits(*ask, *told) {
-            return Err("another ask");
-        }
-        outcome = settle.told(*told);
+/// Tells an answer, whose ask must be next, and gives what it decides.
+fn settled(settle: &mut Settle, ask: Ask, told: Told) -> Result<Option<Outcome>, &'static str>
+    requires { Fits ask told }
+{
+    if settle.next() != ask {
+        return Err("another ask");
     }
-    Ok(outcome)
+    Ok(settle.told(told))
 }
 
 /// Tells an answer, whose ask must be next.
-fn tell(sweep: &mut Sweep, ask: Ask, told: Told) -> Result<(), &'static str> {
+fn tell(sweep: &mut Sweep, ask: Ask, told: Told) -> Result<(), &'static str>
+    requires { Fits ask told }
+{
     let answer = told;
     let next = sweep.next().ok_or("the end")?;
-    if next != ask || !fits(next, told) {
+    if next != ask {
         return Err("another ask");
     }
     sweep.told(answer);
@@ -59,14 +60,12 @@ fn one(alloc: Global, key: KeyNo) -> Result<Vec<KeyNo>, AllocError>
 #[test]
 fn faulted_put(rt: HostRuntime) -> Result<(), Fail> {
     let (k0, start) = (key(0)?, stamp(1)?);
-    let unchanged = [
-        (Ask::Look(k0, start), Told::Bare),
-        (Ask::Get(start), Told::Absent),
-        (Ask::Mark(start), Told::Marked),
-        (Ask::Look(k0, start), Told::Bare),
-    ];
-    let own = Settle::open(k0, start, true, true);
-    assert_eq!(rt; settled(own, &unchanged)?, Some(Outcome::Dead));
+    let mut own = Settle::open(k0, start, true, true);
+    settled(&mut own, Ask::Look(k0, start), Told::Bare)?;
+    settled(&mut own, Ask::Get(start), Told::Absent)?;
+    settled(&mut own, Ask::Mark(start), Told::Marked)?;
+    let last = settled(&mut own, Ask::Look(k0, start), Told::Bare)?;
+    assert_eq!(rt; last, Some(Outcome::Dead));
     Ok(())
 }
 

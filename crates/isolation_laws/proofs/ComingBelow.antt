@@ -1,8 +1,11 @@
 -- What can come below a start: where a commit in flight began, and that a reader that is open may mark it.
-use Rattle.std.proofs.Common.{◌≡◌, ℕ, ◌<◌, ◌≤◌, List, Option, Some, ◌⊎◌, inl, inr, refl, sym, arith}
+use Rattle.std.proofs.Common.{◌≡◌, ℕ, ◌<◌, ◌≤◌, Bool, true, false, List, Option, Some, ◌⊎◌, inl, inr, refl, sym, arith}
+use Rattle.std.specs.Bool.{IsTrue}
+use Rattle.std.proofs.lemmas.Bool.{le-leb}
 use Rattle.history_book.specs.Isolation.{Committed, Wrote, Apart, Stamped}
 use Rattle.history_book.specs.declared.item.Item.{Item}
 use Rattle.store_parts.specs.Record.{MasterRecord}
+use Rattle.client_parts.specs.KeyRead.{may_mark}
 use Rattle.oracle_parts.specs.Instance.{InstanceEntry}
 use Rattle.machine.specs.State.{Client}
 use Rattle.isolation_laws.specs.Words.{OpenAt}
@@ -28,9 +31,9 @@ coming_is_below nodes h b t news accepted pending c = elim (below_stage b c.comi
       omega (arith, commit_above_start h c.coming.session c.coming.node c.coming.term c.coming.start x news drew.0, below, c.start_is)
 ]
 
--- and a reader that is open may mark it
-pub coming_is_markable : (nodes : List (Option InstanceEntry)) (clients : List Client) (master : MasterRecord) (h : List Item) (s b e t : ℕ) → AreRanges nodes master → AreDrawn nodes master h → AreNewDraws h → AreAccepted nodes → ArePending nodes h → AreSettledBelow clients nodes → OpenAt clients s b e → ComesBelow nodes b t → t ≤ e
-coming_is_markable nodes clients master h s b e t ranges drawn news accepted pending settled o c =
+-- and a reader that is open has an epoch that is not below it
+coming_is_within : (nodes : List (Option InstanceEntry)) (clients : List Client) (master : MasterRecord) (h : List Item) (s b e t : ℕ) → AreRanges nodes master → AreDrawn nodes master h → AreNewDraws h → AreAccepted nodes → ArePending nodes h → AreSettledBelow clients nodes → OpenAt clients s b e → ComesBelow nodes b t → t ≤ e
+coming_is_within nodes clients master h s b e t ranges drawn news accepted pending settled o c =
     let q = c.coming in
     let i = c.pending.instance_of in
     elim (below_stage b q.stage c.below) [
@@ -48,6 +51,11 @@ coming_is_markable nodes clients master h s b e t ranges drawn news accepted pen
             | inr past ↦ absurd (omega (arith, past.settled q.session q.start x q.keys (has_held nodes q x c.pending is), below))
           ]
     ]
+
+-- so it may mark it, by its epoch if not in any case
+pub coming_is_markable : (every : Bool) (nodes : List (Option InstanceEntry)) (clients : List Client) (master : MasterRecord) (h : List Item) (s b e t : ℕ) → AreRanges nodes master → AreDrawn nodes master h → AreNewDraws h → AreAccepted nodes → ArePending nodes h → AreSettledBelow clients nodes → OpenAt clients s b e → ComesBelow nodes b t → IsTrue (may_mark every t e)
+coming_is_markable true nodes clients master h s b e t ranges drawn news accepted pending settled o c = refl
+coming_is_markable false nodes clients master h s b e t ranges drawn news accepted pending settled o c = le-leb t e (coming_is_within nodes clients master h s b e t ranges drawn news accepted pending settled o c)
 
 -- of two committed versions of a key the later one has the later commit
 pub later_version : (h : List Item) (v u c d k : ℕ) (x y : List ℕ) → Apart h → Stamped h → Committed h v c → Committed h u d → Wrote h v k x → Wrote h u k y → u < v → d < c

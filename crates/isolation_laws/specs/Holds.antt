@@ -20,5 +20,5 @@ pub record Holds (w : State) (h : List Item) : Type 0 where
   pub cells : CellFacts w.clients w.nodes w.rows w.pairs h
   pub under_way : UnderWayFacts w.clients w.sweep w.rows w.pairs h
   pub begins : BeginFacts w.clients w.nodes h
-  pub reads : ReadFacts w.clients w.nodes w.rows w.pairs h
+  pub reads : ReadFacts w.setup w.clients w.nodes w.rows w.pairs h
   pub isolated : Isolated h

@@ -1,6 +1,7 @@
 -- Reads under way, and reads of the past, against commits that can still arrive.
-use Rattle.std.specs.Prelude.{◌≡◌, ℕ, ◌<◌, ◌≤◌, ◌⊎◌, if◌then◌else◌, All, List, [], ◌∷◌, Option, None, Some}
+use Rattle.std.specs.Prelude.{◌≡◌, ℕ, ◌<◌, ◌⊎◌, Bool, true, false, IsTrue, if◌then◌else◌, All, List, [], ◌∷◌, Option, None, Some}
 use Rattle.std.specs.List.{Any}
+use Rattle.stamp_base.specs.SetupNumbers.{SetupNumbers}
 use Rattle.history_book.specs.Members.{◌∈◌}
 use Rattle.history_book.specs.Isolation.{Committed, Wrote, last_write, WasListed}
 use Rattle.history_book.specs.declared.item.Found.{Found}
@@ -11,9 +12,10 @@ use Rattle.store_parts.specs.Rows.{Row, AreFalling, is_below}
 use Rattle.store_parts.specs.Pairs.{Pairs}
 use Rattle.client_parts.specs.declared.resolve.SettlePoint.{SettlePoint}
 use Rattle.client_parts.specs.declared.resolve.SettlePoint.TheVariants.{FirstLook, Table, Marking, LastLook}
-use Rattle.client_parts.specs.KeyRead.{Reading}
+use Rattle.client_parts.specs.KeyRead.{Reading, may_mark}
 use Rattle.oracle_parts.specs.Instance.{InstanceEntry}
 use Rattle.machine.specs.State.{Reads, Client}
+use Rattle.machine.specs.Events.Fetch.{marks_every}
 use Rattle.isolation_laws.specs.Words.{ClientAt, OpenAt, Marked}
 use Rattle.isolation_laws.specs.Pending.{ComesBelow}
 use Rattle.isolation_laws.specs.UnderWay.{HasShadow}
@@ -50,23 +52,26 @@ pub record SeesAll (nodes : List (Option InstanceEntry)) (pairs : Pairs) (h : Li
   pub coming : (u : ℕ) (value : List ℕ) → ComesBelow nodes b u → (Marked pairs u → ⊥) → Wrote h u k value → IsCovered b u cells
   pub coming_values : All (λ (c : Cell). ComesBelow nodes b c.version → (Marked pairs c.version → ⊥) → HasLastWrite h k c) cells
 
--- what is known at each point of the resolve of a version t by a reader with the start b and the epoch e
-abbrev pub IsResolvedTo : Pairs → List Row → List Item → ℕ → ℕ → ℕ → ℕ → SettlePoint → Type 0
-IsResolvedTo pairs rows h k b e t FirstLook = ⊥
-IsResolvedTo pairs rows h k b e t Table = Unit {0}
-IsResolvedTo pairs rows h k b e t Marking = t ≤ e
-IsResolvedTo pairs rows h k b e t LastLook = (t ≤ e → Marked pairs t) × ((c : ℕ) → Committed h t c → c < b → HasShadow rows k t c)
+-- what is known at each point of the resolve of a version t by a reader with the start b and the epoch e, which may mark every
+-- version or not: at the last look a mark that was met stands, and where none was met none may be placed
+abbrev pub IsResolvedTo : Pairs → List Row → List Item → ℕ → ℕ → Bool → ℕ → ℕ → SettlePoint → Type 0
+IsResolvedTo pairs rows h k b every e t FirstLook = ⊥
+IsResolvedTo pairs rows h k b every e t Table = Unit {0}
+IsResolvedTo pairs rows h k b every e t Marking = IsTrue (may_mark every t e)
+IsResolvedTo pairs rows h k b every e t (LastLook met) = (met ≡ true → Marked pairs t) × (met ≡ false → IsTrue (may_mark every t e) → ⊥) × ((c : ℕ) → Committed h t c → c < b → HasShadow rows k t c)
 
--- a read under way is that of an open transaction, by its start and its epoch, and sees all that it may answer with
-pub record IsReading (nodes : List (Option InstanceEntry)) (rows : List Row) (pairs : Pairs) (h : List Item) (b e : ℕ) (r : Reading) : Type 0 where
+-- a read under way is that of an open transaction, by its start and its epoch, marks what the setup lets it mark, and sees all
+-- that it may answer with
+pub record IsReading (setup : SetupNumbers) (nodes : List (Option InstanceEntry)) (rows : List Row) (pairs : Pairs) (h : List Item) (b e : ℕ) (r : Reading) : Type 0 where
   pub start_is : r.start ≡ b
   pub epoch_is : r.epoch ≡ e
+  pub every_is : r.every ≡ marks_every setup
   pub own : (value : List ℕ) → Wrote h b r.key value → WasListed h b
   pub sees : SeesAll nodes pairs h b r.key (r.cell ∷ r.older)
-  pub resolved : IsResolvedTo pairs rows h r.key b e r.cell.version r.point
+  pub resolved : IsResolvedTo pairs rows h r.key b r.every e r.cell.version r.point
 
-pub record AreReading (clients : List Client) (nodes : List (Option InstanceEntry)) (rows : List Row) (pairs : Pairs) (h : List Item) : Type 0 where
-  pub reads : (s : ℕ) (c : Client) (r : Reading) → ClientAt clients s c → c.under_way ≡ Reads r → (b : ℕ) × (e : ℕ) × OpenAt clients s b e × IsReading nodes rows pairs h b e r
+pub record AreReading (setup : SetupNumbers) (clients : List Client) (nodes : List (Option InstanceEntry)) (rows : List Row) (pairs : Pairs) (h : List Item) : Type 0 where
+  pub reads : (s : ℕ) (c : Client) (r : Reading) → ClientAt clients s c → c.under_way ≡ Reads r → (b : ℕ) × (e : ℕ) × OpenAt clients s b e × IsReading setup nodes rows pairs h b e r
 
 -- a commit u that can still arrive below the start b does not change the answer: it is an own one, or u is marked, or the
 -- answer's version is above u
@@ -77,6 +82,6 @@ Outlasts pairs b u (Some found) = (found.from ≡ b) ⊎ Marked pairs u ⊎ (u <
 pub record AreLastingReads (nodes : List (Option InstanceEntry)) (pairs : Pairs) (h : List Item) : Type 0 where
   pub lasts : (s b k u : ℕ) (answer : Option Found) (value : List ℕ) → Read s b k answer ∈ h → ComesBelow nodes b u → Wrote h u k value → Outlasts pairs b u answer
 
-pub record ReadFacts (clients : List Client) (nodes : List (Option InstanceEntry)) (rows : List Row) (pairs : Pairs) (h : List Item) : Type 0 where
-  pub reading : AreReading clients nodes rows pairs h
+pub record ReadFacts (setup : SetupNumbers) (clients : List Client) (nodes : List (Option InstanceEntry)) (rows : List Row) (pairs : Pairs) (h : List Item) : Type 0 where
+  pub reading : AreReading setup clients nodes rows pairs h
   pub lasting : AreLastingReads nodes pairs h

@@ -47,7 +47,7 @@ pub record AreUndoing (clients : List Client) (h : List Item) : Type 0 where
 
 -- at the last look, a placed commit shows in the row
 abbrev pub IsShownAt : List Row → List Item → ℕ → ℕ → SettlePoint → Type 0
-IsShownAt rows h k t LastLook = (c : ℕ) → Committed h t c → HasShadow rows k t c
+IsShownAt rows h k t (LastLook met) = (c : ℕ) → Committed h t c → HasShadow rows k t c
 IsShownAt rows h k t _ = Unit {0}
 
 -- the resolve of an own commit is of the transaction's first key, may mark, and decides rightly

@@ -17,7 +17,7 @@ use Rattle.machine.specs.declared.event.Event.TheVariants as event
 use Rattle.machine.specs.State.{Client, State}
 use Rattle.machine.specs.Clients.{is_reading}
 use Rattle.machine.specs.Machine.{Step, step_by, with_client, at_client, stepped}
-use Rattle.machine.specs.Events.Fetch.{found_of, client_read, read_items, fetch_open, fetch_on}
+use Rattle.machine.specs.Events.Fetch.{marks_every, found_of, client_read, read_items, fetch_open, fetch_on}
 use Rattle.script_data.specs.declared.line.Verb.TheVariants as verb
 use Rattle.isolation_laws.specs.Words.{ClientAt}
 use Rattle.isolation_laws.specs.Sound.{Stands}
@@ -73,14 +73,14 @@ turn_done w s key start cells c (Answers a) at is_open same = inl (record {
   behind = read_pays s start key key a.found refl;
 })
 
-open_done : (w : State) (s key : ℕ) (fate : Fate) (c : Client) (start epoch : Option ℕ) → ClientAt w.clients s c → c.entry.state ≡ phase.Open → HasNumber phase.Open start → HasNumber phase.Open epoch → FetchDone s key (step_by (fetch_open s key fate c w.rows None start epoch) (λ (p : Client). with_client w s p))
+open_done : (w : State) (s key : ℕ) (fate : Fate) (c : Client) (start epoch : Option ℕ) → ClientAt w.clients s c → c.entry.state ≡ phase.Open → HasNumber phase.Open start → HasNumber phase.Open epoch → FetchDone s key (step_by (fetch_open (marks_every w.setup) s key fate c w.rows None start epoch) (λ (p : Client). with_client w s p))
 open_done w s key fate c None epoch at is_open has sees = absurd has
 open_done w s key fate c (Some start) None at is_open has sees = absurd sees
-open_done w s key Works c (Some start) (Some epoch) at is_open has sees = turn_done w s key start (length (fetched w.rows key start)) c (read_over key start epoch (front_of start (fetched w.rows key start))) at is_open (over_key key start epoch (front_of start (fetched w.rows key start)))
+open_done w s key Works c (Some start) (Some epoch) at is_open has sees = turn_done w s key start (length (fetched w.rows key start)) c (read_over (marks_every w.setup) key start epoch (front_of start (fetched w.rows key start))) at is_open (over_key (marks_every w.setup) key start epoch (front_of start (fetched w.rows key start)))
 open_done w s key FailsUnchanged c (Some start) (Some epoch) at is_open has sees = inl (fault_line s key _)
 open_done w s key FailsApplied c (Some start) (Some epoch) at is_open has sees = inl (fault_line s key _)
 
-done_by : (w : State) (s key : ℕ) (fate : Fate) (c : Client) (state : SessionState) (reading : Bool) (start epoch : Option ℕ) → ClientAt w.clients s c → c.entry.state ≡ state → HasNumber state start → HasNumber state epoch → FetchDone s key (step_by (fetch_open s key fate c w.rows (work_refusal state reading) start epoch) (λ (p : Client). with_client w s p))
+done_by : (w : State) (s key : ℕ) (fate : Fate) (c : Client) (state : SessionState) (reading : Bool) (start epoch : Option ℕ) → ClientAt w.clients s c → c.entry.state ≡ state → HasNumber state start → HasNumber state epoch → FetchDone s key (step_by (fetch_open (marks_every w.setup) s key fate c w.rows (work_refusal state reading) start epoch) (λ (p : Client). with_client w s p))
 done_by w s key fate c phase.Open true start epoch at is has sees = inl (refusal_line s key _ tt)
 done_by w s key fate c phase.Open false start epoch at is has sees = open_done w s key fate c start epoch at is has sees
 done_by w s key fate c phase.Free reading start epoch at is has sees = inl (refusal_line s key _ tt)
@@ -92,4 +92,4 @@ done_by w s key fate c phase.Gone reading start epoch at is has sees = inl (refu
 
 pub fetch_done : (w : State) (h : List Item) (s key : ℕ) (fate : Fate) (c : Client) → Stands w h → Fit w → ClientAt w.clients s c → FetchDone s key (stepped w (event.Fetch s key) fate)
 fetch_done w h s key fate c stands fit at =
-    subst (λ (there : Option Client). FetchDone s key (at_client w there (λ d. step_by (fetch_on s key fate d w.rows) (λ (p : Client). with_client w s p)))) (sym at) (done_by w s key fate c c.entry.state (is_reading c) c.entry.start c.entry.epoch at refl (starts w h s c stands at) (fit_at w.clients s c fit.epochs at))
+    subst (λ (there : Option Client). FetchDone s key (at_client w there (λ d. step_by (fetch_on (marks_every w.setup) s key fate d w.rows) (λ (p : Client). with_client w s p)))) (sym at) (done_by w s key fate c c.entry.state (is_reading c) c.entry.start c.entry.epoch at refl (starts w h s c stands at) (fit_at w.clients s c fit.epochs at))

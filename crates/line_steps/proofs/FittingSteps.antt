@@ -1,5 +1,5 @@
 -- A session's own events keep that an open transaction has an epoch.
-use Rattle.std.proofs.Common.{ℕ, List, [], ◌∷◌, Option, Some, None}
+use Rattle.std.proofs.Common.{Bool, ℕ, List, [], ◌∷◌, Option, Some, None}
 use Rattle.port_io.specs.declared.weather.Fate.{Fate}
 use Rattle.port_io.specs.declared.weather.Fate.TheVariants.{Works, FailsUnchanged, FailsApplied}
 use Rattle.history_book.specs.declared.cause.Cause.{Cause}
@@ -29,13 +29,13 @@ turn_fits : (c : Client) (turn : ReadTurn) → ClientFits c → ClientFits (clie
 turn_fits c (Asks r) fit = fit
 turn_fits c (Answers a) fit = fit
 
-pub fetch_fits : (s key : ℕ) (fate : Fate) (c : Client) (rows : List Row) (why : Option Cause) (start epoch : Option ℕ) → ClientFits c → ClientFits (fetch_open s key fate c rows why start epoch).parts
-fetch_fits s key fate c rows (Some why) start epoch fit = fit
-fetch_fits s key fate c rows None None epoch fit = fit
-fetch_fits s key fate c rows None (Some start) None fit = fit
-fetch_fits s key Works c rows None (Some start) (Some epoch) fit = turn_fits c (read_over key start epoch (front_of start (fetched rows key start))) fit
-fetch_fits s key FailsUnchanged c rows None (Some start) (Some epoch) fit = fit
-fetch_fits s key FailsApplied c rows None (Some start) (Some epoch) fit = fit
+pub fetch_fits : (every : Bool) (s key : ℕ) (fate : Fate) (c : Client) (rows : List Row) (why : Option Cause) (start epoch : Option ℕ) → ClientFits c → ClientFits (fetch_open every s key fate c rows why start epoch).parts
+fetch_fits every s key fate c rows (Some why) start epoch fit = fit
+fetch_fits every s key fate c rows None None epoch fit = fit
+fetch_fits every s key fate c rows None (Some start) None fit = fit
+fetch_fits every s key Works c rows None (Some start) (Some epoch) fit = turn_fits c (read_over every key start epoch (front_of start (fetched rows key start))) fit
+fetch_fits every s key FailsUnchanged c rows None (Some start) (Some epoch) fit = fit
+fetch_fits every s key FailsApplied c rows None (Some start) (Some epoch) fit = fit
 
 settle_fits : (c : Client) (x : Settling) (turn : SettleTurn) → ClientFits c → ClientFits (client_settled c x turn)
 settle_fits c x (Goes point) fit = fit

@@ -21,24 +21,24 @@ abbrev pub OfKey : ℕ → ReadTurn → Type 0
 OfKey key (Asks r) = r.key ≡ key
 OfKey key (Answers a) = Unit {0}
 
-first_key : (key start epoch : ℕ) (c : Cell) (cs : List Cell) (answers : Bool) → OfKey key (cond answers (Answers (found_cell c)) (Asks (record { key = key; start = start; epoch = epoch; cell = c; older = cs; point = Rattle.client_parts.specs.declared.resolve.SettlePoint.TheVariants.Table })))
-first_key key start epoch c cs true = tt
-first_key key start epoch c cs false = refl
+first_key : (every : Bool) (key start epoch : ℕ) (c : Cell) (cs : List Cell) (answers : Bool) → OfKey key (cond answers (Answers (found_cell c)) (Asks (record { key = key; start = start; epoch = epoch; every = every; cell = c; older = cs; point = Rattle.client_parts.specs.declared.resolve.SettlePoint.TheVariants.Table })))
+first_key every key start epoch c cs true = tt
+first_key every key start epoch c cs false = refl
 
-turn_key : (key start epoch : ℕ) (cells : List Cell) → OfKey key (turn_at key start epoch cells)
-turn_key key start epoch [] = tt
-turn_key key start epoch (c ∷ cs) = first_key key start epoch c cs ((c.version == start) || is_some c.shadow)
+turn_key : (every : Bool) (key start epoch : ℕ) (cells : List Cell) → OfKey key (turn_at every key start epoch cells)
+turn_key every key start epoch [] = tt
+turn_key every key start epoch (c ∷ cs) = first_key every key start epoch c cs ((c.version == start) || is_some c.shadow)
 
-pub over_key : (key start epoch : ℕ) (cells : List Cell) → OfKey key (read_over key start epoch cells)
-over_key key start epoch cells = turn_key key start epoch (after_passed start cells)
+pub over_key : (every : Bool) (key start epoch : ℕ) (cells : List Cell) → OfKey key (read_over every key start epoch cells)
+over_key every key start epoch cells = turn_key every key start epoch (after_passed start cells)
 
-decided_key : (r : Reading) (c : ℕ) (by_table below : Bool) → OfKey r.key (cond below (Answers (found_by r.key r.cell c by_table)) (read_over r.key r.start r.epoch r.older))
+decided_key : (r : Reading) (c : ℕ) (by_table below : Bool) → OfKey r.key (cond below (Answers (found_by r.key r.cell c by_table)) (read_over r.every r.key r.start r.epoch r.older))
 decided_key r c by_table true = tt
-decided_key r c by_table false = over_key r.key r.start r.epoch r.older
+decided_key r c by_table false = over_key r.every r.key r.start r.epoch r.older
 
 settled_key : (r : Reading) (turn : SettleTurn) → OfKey r.key (read_by r turn)
 settled_key r (Goes p) = refl
-settled_key r (Decides Dead) = over_key r.key r.start r.epoch r.older
+settled_key r (Decides Dead) = over_key r.every r.key r.start r.epoch r.older
 settled_key r (Decides (Committed c by_table)) = decided_key r c by_table (nat_lt c r.start)
 
 pub told_key : (r : Reading) (told : Told) → OfKey r.key (read_told r told)

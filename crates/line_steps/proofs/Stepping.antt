@@ -60,7 +60,7 @@ read_some r = point_some r.point where
   point_some FirstLook = omega arith
   point_some Table = omega arith
   point_some Marking = omega arith
-  point_some LastLook = omega arith
+  point_some (LastLook met) = omega arith
 
 read_work : (c : Client) (k : ReadWork c) → work_of c ≡ Reads k.r
 read_work c k = ap (λ (state : SessionState). work_by state c.entry c.under_way) k.is_open ∙ k.under_way
@@ -79,7 +79,7 @@ settle_some : (p : SettlePoint) → 1 ≤ settle_left p
 settle_some FirstLook = omega arith
 settle_some Table = omega arith
 settle_some Marking = omega arith
-settle_some LastLook = omega arith
+settle_some (LastLook met) = omega arith
 
 -- an aborted client has its keys to undo, and one whose commit is known those and the removal
 undo_steps : (e : SessionEntry) (start : Option ℕ) (keys : List ℕ) → steps_left (length (aborted_by e keys).keys) (work_by (aborted_by e keys).state (aborted_by e keys) (undo_of start keys)) ≤ length keys

@@ -99,22 +99,22 @@ turn_plain : (s start key : ℕ) (turn : ReadTurn) → AllPlain (read_items s st
 turn_plain s start key (Asks r) = no_plain
 turn_plain s start key (Answers a) = one_plain _ refl
 
-fetch_begins_open : (s key : ℕ) (fate : Fate) (c : Client) (rows : List Row) (start epoch : Option ℕ) → HasNumber phase.Open start → HasNumber phase.Open epoch → Begins (FetchAnswer s key) (fetch_open s key fate c rows None start epoch).items
-fetch_begins_open s key fate c rows None epoch has sees = absurd has
-fetch_begins_open s key fate c rows (Some start) None has sees = absurd sees
-fetch_begins_open s key Works c rows (Some start) (Some epoch) has sees = behind _ _ _ (inl (refl, refl)) (turn_plain s start key (read_over key start epoch (front_of start (fetched rows key start))))
-fetch_begins_open s key FailsUnchanged c rows (Some start) (Some epoch) has sees = alone _ _ (inr refl)
-fetch_begins_open s key FailsApplied c rows (Some start) (Some epoch) has sees = alone _ _ (inr refl)
+fetch_begins_open : (every : Bool) (s key : ℕ) (fate : Fate) (c : Client) (rows : List Row) (start epoch : Option ℕ) → HasNumber phase.Open start → HasNumber phase.Open epoch → Begins (FetchAnswer s key) (fetch_open every s key fate c rows None start epoch).items
+fetch_begins_open every s key fate c rows None epoch has sees = absurd has
+fetch_begins_open every s key fate c rows (Some start) None has sees = absurd sees
+fetch_begins_open every s key Works c rows (Some start) (Some epoch) has sees = behind _ _ _ (inl (refl, refl)) (turn_plain s start key (read_over every key start epoch (front_of start (fetched rows key start))))
+fetch_begins_open every s key FailsUnchanged c rows (Some start) (Some epoch) has sees = alone _ _ (inr refl)
+fetch_begins_open every s key FailsApplied c rows (Some start) (Some epoch) has sees = alone _ _ (inr refl)
 
-fetch_begins_by : (s key : ℕ) (fate : Fate) (c : Client) (rows : List Row) (state : SessionState) (reading : Bool) (start epoch : Option ℕ) → HasNumber state start → HasNumber state epoch → Begins (FetchAnswer s key) (fetch_open s key fate c rows (work_refusal state reading) start epoch).items
-fetch_begins_by s key fate c rows phase.Open true start epoch has sees = alone _ _ (inr (refl, tt))
-fetch_begins_by s key fate c rows phase.Open false start epoch has sees = fetch_begins_open s key fate c rows start epoch has sees
-fetch_begins_by s key fate c rows phase.Free reading start epoch has sees = alone _ _ (inr (refl, tt))
-fetch_begins_by s key fate c rows phase.Asking reading start epoch has sees = alone _ _ (inr (refl, tt))
-fetch_begins_by s key fate c rows phase.Committing reading start epoch has sees = alone _ _ (inr (refl, tt))
-fetch_begins_by s key fate c rows phase.OpenOutcome reading start epoch has sees = alone _ _ (inr (refl, tt))
-fetch_begins_by s key fate c rows (phase.Completing undo) reading start epoch has sees = alone _ _ (inr (refl, tt))
-fetch_begins_by s key fate c rows phase.Gone reading start epoch has sees = alone _ _ (inr (refl, tt))
+fetch_begins_by : (every : Bool) (s key : ℕ) (fate : Fate) (c : Client) (rows : List Row) (state : SessionState) (reading : Bool) (start epoch : Option ℕ) → HasNumber state start → HasNumber state epoch → Begins (FetchAnswer s key) (fetch_open every s key fate c rows (work_refusal state reading) start epoch).items
+fetch_begins_by every s key fate c rows phase.Open true start epoch has sees = alone _ _ (inr (refl, tt))
+fetch_begins_by every s key fate c rows phase.Open false start epoch has sees = fetch_begins_open every s key fate c rows start epoch has sees
+fetch_begins_by every s key fate c rows phase.Free reading start epoch has sees = alone _ _ (inr (refl, tt))
+fetch_begins_by every s key fate c rows phase.Asking reading start epoch has sees = alone _ _ (inr (refl, tt))
+fetch_begins_by every s key fate c rows phase.Committing reading start epoch has sees = alone _ _ (inr (refl, tt))
+fetch_begins_by every s key fate c rows phase.OpenOutcome reading start epoch has sees = alone _ _ (inr (refl, tt))
+fetch_begins_by every s key fate c rows (phase.Completing undo) reading start epoch has sees = alone _ _ (inr (refl, tt))
+fetch_begins_by every s key fate c rows phase.Gone reading start epoch has sees = alone _ _ (inr (refl, tt))
 
-pub fetch_begins : (s key : ℕ) (fate : Fate) (c : Client) (rows : List Row) → HasNumber c.entry.state c.entry.start → HasNumber c.entry.state c.entry.epoch → Begins (FetchAnswer s key) (fetch_on s key fate c rows).items
-fetch_begins s key fate c rows has sees = fetch_begins_by s key fate c rows c.entry.state (is_reading c) c.entry.start c.entry.epoch has sees
+pub fetch_begins : (every : Bool) (s key : ℕ) (fate : Fate) (c : Client) (rows : List Row) → HasNumber c.entry.state c.entry.start → HasNumber c.entry.state c.entry.epoch → Begins (FetchAnswer s key) (fetch_on every s key fate c rows).items
+fetch_begins every s key fate c rows has sees = fetch_begins_by every s key fate c rows c.entry.state (is_reading c) c.entry.start c.entry.epoch has sees

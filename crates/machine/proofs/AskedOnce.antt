@@ -21,7 +21,7 @@ use Rattle.machine.specs.Events.Extend.{extend_on, extend_asks}
 use Rattle.machine.specs.Events.Decide.{decide_by, decide_request, decide_on}
 use Rattle.machine.specs.Events.Put.{put_on, put_asks}
 use Rattle.machine.specs.Events.Write.{write_on, write_asks}
-use Rattle.machine.specs.Events.Fetch.{fetch_on, fetch_asks}
+use Rattle.machine.specs.Events.Fetch.{marks_every, fetch_on, fetch_asks}
 use Rattle.machine.specs.Events.Step.{step_on, step_asks}
 use Rattle.machine.specs.Events.Heal.{heal_on, heal_asks}
 use Rattle.machine.specs.Events.SweepStep.{sweep_step_on, sweep_step_asks}
@@ -105,7 +105,7 @@ exactly w (event.Put node s) =
 exactly w (event.Write s key value) =
     client_asked w (write_asks key) (λ fate c. step_by (write_on s key value fate c w.rows) (λ p. record (with_client w s p.0) { rows = p.1 })) (slice_get w.clients s) (λ c. put_asked (c, w.rows) (write_asks key c) (λ fate. write_on s key value fate c w.rows) (λ p. record (with_client w s p.0) { rows = p.1 }) (asked_write s key value c w.rows))
 exactly w (event.Fetch s key) =
-    client_asked w fetch_asks (λ fate c. step_by (fetch_on s key fate c w.rows) (λ p. with_client w s p)) (slice_get w.clients s) (λ c. put_asked c (fetch_asks c) (λ fate. fetch_on s key fate c w.rows) (λ p. with_client w s p) (asked_fetch s key c w.rows))
+    client_asked w fetch_asks (λ fate c. step_by (fetch_on (marks_every w.setup) s key fate c w.rows) (λ p. with_client w s p)) (slice_get w.clients s) (λ c. put_asked c (fetch_asks c) (λ fate. fetch_on (marks_every w.setup) s key fate c w.rows) (λ p. with_client w s p) (asked_fetch (marks_every w.setup) s key c w.rows))
 exactly w (event.Step s) =
     client_asked w step_asks (λ fate c. step_by (step_on s fate c w.rows w.pairs) (λ p. record (with_client w s p.0) { rows = p.1; pairs = p.2 })) (slice_get w.clients s) (λ c. put_asked (c, w.rows, w.pairs) (step_asks c) (λ fate. step_on s fate c w.rows w.pairs) (λ p. record (with_client w s p.0) { rows = p.1; pairs = p.2 }) (asked_step s c w.rows w.pairs))
 exactly w (event.Heal s) =

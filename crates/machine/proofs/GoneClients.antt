@@ -1,5 +1,5 @@
 -- A client that has vanished stays so, whatever an event makes of it.
-use Rattle.std.proofs.Common.{[], ◌≡◌, ℕ, zero, suc, List, ◌∷◌, Option, Some, None, Result, Ok, Err, refl, sym, ◌∙◌, ap, subst}
+use Rattle.std.proofs.Common.{[], ◌≡◌, ℕ, zero, suc, Bool, List, ◌∷◌, Option, Some, None, Result, Ok, Err, refl, sym, ◌∙◌, ap, subst}
 use Rattle.std.specs.Prelude.{slice_get, slice_set, IfSome}
 use Rattle.std.specs.Option.{option_or}
 use Rattle.std.proofs.lemmas.Option.{same_Some}
@@ -103,9 +103,9 @@ pub write_gone : (session key : ℕ) (value : List ℕ) (fate : Fate) (rows : Li
 write_gone session key value fate rows c gone =
     subst (λ (p : Phase). IsGone (write_open session key value fate c rows (option_or (work_refusal p (is_reading c)) (key_refusal c.entry.keys key)) c.entry.start).parts.0) (sym gone) gone
 
-pub fetch_gone : (session key : ℕ) (fate : Fate) (rows : List Row) (c : Client) → StaysGone c (fetch_on session key fate c rows).parts
-fetch_gone session key fate rows c gone =
-    subst (λ (p : Phase). IsGone (fetch_open session key fate c rows (work_refusal p (is_reading c)) c.entry.start c.entry.epoch).parts) (sym gone) gone
+pub fetch_gone : (every : Bool) (session key : ℕ) (fate : Fate) (rows : List Row) (c : Client) → StaysGone c (fetch_on every session key fate c rows).parts
+fetch_gone every session key fate rows c gone =
+    subst (λ (p : Phase). IsGone (fetch_open every session key fate c rows (work_refusal p (is_reading c)) c.entry.start c.entry.epoch).parts) (sym gone) gone
 
 pub step_gone : (session : ℕ) (fate : Fate) (rows : List Row) (pairs : Pairs) (c : Client) → StaysGone c (step_on session fate c rows pairs).parts.0
 step_gone session fate rows pairs c gone =

@@ -59,17 +59,17 @@ asked_write_by session key value c rows None (Some start) =
 pub asked_write : (session key : ℕ) (value : List ℕ) (c : Client) (rows : List Row) → AskedOnce (c, rows) (write_asks key c) (λ fate. write_on session key value fate c rows)
 asked_write session key value c rows = asked_write_by session key value c rows (write_refused c key) c.entry.start
 
-asked_fetch_by : (session key : ℕ) (c : Client) (rows : List Row) (why : Option Cause) (start epoch : Option ℕ) → AskedOnce c (epoch_asks epoch (open_asks why start)) (λ fate. fetch_open session key fate c rows why start epoch)
-asked_fetch_by session key c rows (Some why) start None = refuses c (Session session) why
-asked_fetch_by session key c rows (Some why) start (Some epoch) = refuses c (Session session) why
-asked_fetch_by session key c rows None None None = goes c (done c []) refl
-asked_fetch_by session key c rows None None (Some epoch) = goes c (done c []) refl
-asked_fetch_by session key c rows None (Some start) None = goes c (done c []) refl
-asked_fetch_by session key c rows None (Some start) (Some epoch) =
-    asked c Cells (λ fate. fetch_open session key fate c rows None (Some start) (Some epoch)) (going_leaves c (fetch_open session key Works c rows None (Some start) (Some epoch)) refl) refl refl (λ store stop. absurd (cc))
+asked_fetch_by : (every : Bool) (session key : ℕ) (c : Client) (rows : List Row) (why : Option Cause) (start epoch : Option ℕ) → AskedOnce c (epoch_asks epoch (open_asks why start)) (λ fate. fetch_open every session key fate c rows why start epoch)
+asked_fetch_by every session key c rows (Some why) start None = refuses c (Session session) why
+asked_fetch_by every session key c rows (Some why) start (Some epoch) = refuses c (Session session) why
+asked_fetch_by every session key c rows None None None = goes c (done c []) refl
+asked_fetch_by every session key c rows None None (Some epoch) = goes c (done c []) refl
+asked_fetch_by every session key c rows None (Some start) None = goes c (done c []) refl
+asked_fetch_by every session key c rows None (Some start) (Some epoch) =
+    asked c Cells (λ fate. fetch_open every session key fate c rows None (Some start) (Some epoch)) (going_leaves c (fetch_open every session key Works c rows None (Some start) (Some epoch)) refl) refl refl (λ store stop. absurd (cc))
 
-pub asked_fetch : (session key : ℕ) (c : Client) (rows : List Row) → AskedOnce c (fetch_asks c) (λ fate. fetch_on session key fate c rows)
-asked_fetch session key c rows = asked_fetch_by session key c rows (work_refusal c.entry.state (is_reading c)) c.entry.start c.entry.epoch
+pub asked_fetch : (every : Bool) (session key : ℕ) (c : Client) (rows : List Row) → AskedOnce c (fetch_asks c) (λ fate. fetch_on every session key fate c rows)
+asked_fetch every session key c rows = asked_fetch_by every session key c rows (work_refusal c.entry.state (is_reading c)) c.entry.start c.entry.epoch
 
 asked_offer : (session : ℕ) (c : Client) (rows : List Row) (pairs : Pairs) (offer : Option (ℕ × ℕ × ℕ)) → AskedOnce (c, rows) (offer_asks offer) (λ fate. heal_at session fate c rows pairs offer)
 asked_offer session c rows pairs None = refuses (c, rows) (Session session) (no_offer_cause c.entry.state)

@@ -25,29 +25,33 @@ abbrev pub finish_of : Option ℕ → ℕ → List ℕ → UnderWay
 finish_of None commit keys = Nothing
 finish_of (Some start) commit keys = Completes (finish_asks start commit keys)
 
+-- nothing is under way, and no shadow is offered; what else a client keeps stays
+abbrev pub emptied : Client → Client
+emptied c = record c { under_way = Nothing; heal = None }
+
 abbrev pub client_begun : Client → ℕ → ℕ → Client
-client_begun c start epoch = record { entry = session_begun c.entry start epoch; under_way = Nothing; heal = None }
+client_begun c start epoch = record (emptied c) { entry = session_begun c.entry start epoch }
 
 abbrev pub client_asked : Client → Client
-client_asked c = record { entry = session_asked c.entry; under_way = Nothing; heal = None }
+client_asked c = record (emptied c) { entry = session_asked c.entry }
 
 abbrev pub client_freed : Client → Client
-client_freed c = record { entry = session_freed c.entry; under_way = Nothing; heal = None }
+client_freed c = record (emptied c) { entry = session_freed c.entry }
 
 -- the transaction ends without a commit
 abbrev pub client_aborted : Client → Client
-client_aborted c = record { entry = session_aborted c.entry; under_way = undo_of c.entry.start c.entry.keys; heal = None }
+client_aborted c = record (emptied c) { entry = session_aborted c.entry; under_way = undo_of c.entry.start c.entry.keys }
 
 -- the transaction has its commit
 abbrev pub client_committed : Client → ℕ → Client
-client_committed c commit = record { entry = session_committed c.entry commit; under_way = finish_of c.entry.start commit c.entry.keys; heal = None }
+client_committed c commit = record (emptied c) { entry = session_committed c.entry commit; under_way = finish_of c.entry.start commit c.entry.keys }
 
 -- it is not known whether the commit was placed
 abbrev pub client_opened : Client → Client
-client_opened c = record { entry = session_opened c.entry; under_way = Nothing; heal = None }
+client_opened c = record (emptied c) { entry = session_opened c.entry }
 
 abbrev pub client_vanished : Client → Client
-client_vanished c = record { entry = session_vanished c.entry; under_way = Nothing; heal = None }
+client_vanished c = record (emptied c) { entry = session_vanished c.entry }
 
 -- nobody hears an answer to a session that has vanished
 abbrev pub unless_gone_by : state.State → Client → Client → Client

@@ -164,18 +164,18 @@ pub read_turn_read : (clocks : Clocks) (session start key : ℕ) (turn : ReadTur
 read_turn_read clocks session start key (Asks r) = none_read clocks
 read_turn_read clocks session start key (Answers a) = one_read clocks _ tt
 
-fetch_fated : (clocks : Clocks) (session start epoch key : ℕ) (fate : Fate) (c : Client) (cells : List Cell) → Made clocks (Some Cells) fate (fetch_by session start epoch key fate c cells).items
-fetch_fated clocks session start epoch key Works c cells = inl (All-cons (IsRead clocks) _ (read_items session start key (read_over key start epoch (front_of start cells))) tt (read_turn_read clocks session start key (read_over key start epoch (front_of start cells))))
-fetch_fated clocks session start epoch key FailsUnchanged c cells = made_fault clocks Cells FailsUnchanged [] (Session session) unchanged_fails (none_read clocks)
-fetch_fated clocks session start epoch key FailsApplied c cells = made_fault clocks Cells FailsApplied [] (Session session) applied_fails (none_read clocks)
+fetch_fated : (clocks : Clocks) (every : Bool) (session start epoch key : ℕ) (fate : Fate) (c : Client) (cells : List Cell) → Made clocks (Some Cells) fate (fetch_by every session start epoch key fate c cells).items
+fetch_fated clocks every session start epoch key Works c cells = inl (All-cons (IsRead clocks) _ (read_items session start key (read_over every key start epoch (front_of start cells))) tt (read_turn_read clocks session start key (read_over every key start epoch (front_of start cells))))
+fetch_fated clocks every session start epoch key FailsUnchanged c cells = made_fault clocks Cells FailsUnchanged [] (Session session) unchanged_fails (none_read clocks)
+fetch_fated clocks every session start epoch key FailsApplied c cells = made_fault clocks Cells FailsApplied [] (Session session) applied_fails (none_read clocks)
 
-fetch_made : (clocks : Clocks) (session key : ℕ) (fate : Fate) (c : Client) (rows : List Row) (why : Option Cause) (start epoch : Option ℕ) → IfUntimed why → Made clocks (epoch_asks epoch (open_asks why start)) fate (fetch_open session key fate c rows why start epoch).items
-fetch_made clocks session key fate c rows (Some why) start None untimed = made_refused clocks None fate (Session session) why untimed
-fetch_made clocks session key fate c rows (Some why) start (Some epoch) untimed = made_refused clocks None fate (Session session) why untimed
-fetch_made clocks session key fate c rows None None None untimed = made_none clocks None fate
-fetch_made clocks session key fate c rows None None (Some epoch) untimed = made_none clocks None fate
-fetch_made clocks session key fate c rows None (Some start) None untimed = made_none clocks None fate
-fetch_made clocks session key fate c rows None (Some start) (Some epoch) untimed = fetch_fated clocks session start epoch key fate c (fetched rows key start)
+fetch_made : (clocks : Clocks) (every : Bool) (session key : ℕ) (fate : Fate) (c : Client) (rows : List Row) (why : Option Cause) (start epoch : Option ℕ) → IfUntimed why → Made clocks (epoch_asks epoch (open_asks why start)) fate (fetch_open every session key fate c rows why start epoch).items
+fetch_made clocks every session key fate c rows (Some why) start None untimed = made_refused clocks None fate (Session session) why untimed
+fetch_made clocks every session key fate c rows (Some why) start (Some epoch) untimed = made_refused clocks None fate (Session session) why untimed
+fetch_made clocks every session key fate c rows None None None untimed = made_none clocks None fate
+fetch_made clocks every session key fate c rows None None (Some epoch) untimed = made_none clocks None fate
+fetch_made clocks every session key fate c rows None (Some start) None untimed = made_none clocks None fate
+fetch_made clocks every session key fate c rows None (Some start) (Some epoch) untimed = fetch_fated clocks every session start epoch key fate c (fetched rows key start)
 
-pub fetch_on_made : (clocks : Clocks) (session key : ℕ) (fate : Fate) (c : Client) (rows : List Row) → Made clocks (fetch_asks c) fate (fetch_on session key fate c rows).items
-fetch_on_made clocks session key fate c rows = fetch_made clocks session key fate c rows (work_refusal c.entry.state (is_reading c)) c.entry.start c.entry.epoch (work_untimed c.entry.state (is_reading c))
+pub fetch_on_made : (clocks : Clocks) (every : Bool) (session key : ℕ) (fate : Fate) (c : Client) (rows : List Row) → Made clocks (fetch_asks c) fate (fetch_on every session key fate c rows).items
+fetch_on_made clocks every session key fate c rows = fetch_made clocks every session key fate c rows (work_refusal c.entry.state (is_reading c)) c.entry.start c.entry.epoch (work_untimed c.entry.state (is_reading c))

@@ -1,18 +1,19 @@
 -- A turn of the code as the definitions see it.
-use Rattle.std.specs.Prelude.{◌≡◌, ◌<◌, nat_le, List, [], ◌∷◌, Option, None, Some, length, drop}
+use Rattle.std.specs.Prelude.{◌≡◌, ◌<◌, false, List, [], ◌∷◌, Option, None, Some, length, drop}
 use Rattle.client_parts.specs.declared.asks.Told.{Told}
 use Rattle.store_parts.specs.declared.rows.Cell.{Cell}
 use Rattle.client_parts.specs.declared.resolve.SettlePoint.{SettlePoint}
-use Rattle.client_parts.specs.declared.resolve.SettlePoint.TheVariants.{LastLook}
+use Rattle.client_parts.specs.declared.resolve.SettlePoint.TheVariants.{Table}
 use Rattle.client_parts.specs.declared.resolve.Outcome.{Outcome}
 use Rattle.client_parts.specs.Resolve.{Settling, Decides}
-use Rattle.client_parts.specs.KeyRead.{Reading, ReadTurn, Asks, Answers, found_none, read_by, read_told}
+use Rattle.client_parts.specs.KeyRead.{Reading, ReadTurn, Asks, Answers, may_mark, found_none, read_by, read_told}
 use Rattle.reader_resolve.specs.declared.turn.Reader.{Reader}
 use Rattle.reader_resolve.specs.declared.turn.Turn.{Turn}
 use Rattle.reader_resolve.specs.declared.turn.Turn.TheVariants.{Resolves as TurnResolves, Answers as TurnAnswers}
 
+-- the code marks no version above the epoch
 abbrev pub resolving : Reader → Cell → List Cell → SettlePoint → Reading
-resolving r c cs point = record { key = r.key; start = r.start; epoch = r.epoch; cell = c; older = cs; point = point }
+resolving r c cs point = record { key = r.key; start = r.start; epoch = r.epoch; every = false; cell = c; older = cs; point = point }
 
 -- the read that resolves the first of these cells; none where no cell is left
 abbrev pub reading_at : Reader → List Cell → SettlePoint → Option Reading
@@ -22,7 +23,7 @@ reading_at r (c ∷ cs) point = Some (resolving r c cs point)
 -- the resolve is that of the first of these cells
 abbrev pub Resolves : Reader → List Cell → Settling → Type 0
 Resolves r [] s = Unit {0}
-Resolves r (c ∷ cs) s = (s.key ≡ r.key) × (s.txn ≡ c.version) × (s.may_mark ≡ nat_le c.version r.epoch)
+Resolves r (c ∷ cs) s = (s.key ≡ r.key) × (s.txn ≡ c.version) × (s.may_mark ≡ may_mark false c.version r.epoch)
 
 abbrev pub asks_at : Reader → List Cell → SettlePoint → ReadTurn
 asks_at r [] point = Answers found_none
@@ -43,7 +44,7 @@ abbrev pub told_of : Reader → List Cell → Settling → Told → ReadTurn
 told_of r [] s told = Answers found_none
 told_of r (c ∷ cs) s told = read_told (resolving r c cs s.point) told
 
--- what a decision makes of it
+-- what a decision makes of it, at whichever point it came
 abbrev pub decided_of : Reader → List Cell → Outcome → ReadTurn
 decided_of r [] outcome = Answers found_none
-decided_of r (c ∷ cs) outcome = read_by (resolving r c cs LastLook) (Decides outcome)
+decided_of r (c ∷ cs) outcome = read_by (resolving r c cs Table) (Decides outcome)

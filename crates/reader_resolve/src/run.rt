@@ -1,4 +1,4 @@
-ghost use Rattle.std.specs.Prelude.{◌≡◌, IfSome};
+ghost use Rattle.std.specs.Prelude.{◌≡◌, false, IfSome};
 ghost use Rattle.client_parts.specs.Asks.{FitsNext};
 ghost use Rattle.client_parts.specs.Sweep.{IsKeys};
 ghost use Rattle.client_parts.specs.KeyRead.{AreFetched, read_over, read_told, reading_left, next_of, next_ask};
@@ -41,8 +41,8 @@ impl ReadRun {
     #[tactic(auto, using(crate::proofs::RunLemmas::asks_next))]
     pub fn start(key: KeyNo, start: Stamp, epoch: u64, cells: Vec<Cell>) -> (ReadRun, Next)
         requires { AreFetched start cells.items }
-        ensures run { result.0 ≡ reading_left (read_over key start epoch cells.items) }
-        ensures next { result.1 ≡ next_of (read_over key start epoch cells.items) }
+        ensures run { result.0 ≡ reading_left (read_over false key start epoch cells.items) }
+        ensures next { result.1 ≡ next_of (read_over false key start epoch cells.items) }
     {
         let reader = Reader { key, start, epoch };
         match reader.turn_from(cells.as_slice(), 0) {

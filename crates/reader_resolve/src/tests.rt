@@ -1,8 +1,9 @@
 ghost use Rattle.std.specs.Prelude.{IfOk};
+ghost use Rattle.client_parts.specs.Asks.{Fits};
 ghost use Rattle.client_parts.specs.KeyRead.{AreFetched};
 
 use super::*;
-use client_parts::{Ask, Told, fits};
+use client_parts::{Ask, Told};
 use stamp_base::{KeyNo, Stamp, Value};
 use std::alloc::Global;
 use std::test::Fail;
@@ -51,10 +52,12 @@ fn two(alloc: Global, start: Stamp, newer: Cell, older: Cell) -> Result<Vec<Cell
 }
 
 /// Tells an answer, whose ask must be next.
-fn tell(run: &mut ReadRun, ask: Ask, told: Told) -> Result<Next, &'static str> {
+fn tell(run: &mut ReadRun, ask: Ask, told: Told) -> Result<Next, &'static str>
+    requires { Fits ask told }
+{
     let answer = told;
     let next = run.next().ok_or("the end")?;
-    if next != ask || !fits(next, told) {
+    if next != ask {
         return Err("another ask");
     }
     Ok(run.step(answer))

@@ -1,4 +1,4 @@
-ghost use Rattle.std.specs.Prelude.{◌≡◌, ◌<◌, ◌≤◌, drop, length};
+ghost use Rattle.std.specs.Prelude.{◌≡◌, ◌<◌, ◌≤◌, false, drop, length};
 ghost use Rattle.client_parts.specs.Asks.{Fits};
 ghost use Rattle.client_parts.specs.Resolve.{settle_ask};
 ghost use Rattle.client_parts.specs.KeyRead.{is_passed, after_passed, read_over, found_cell, found_by};
@@ -30,7 +30,7 @@ impl Reader {
     /// The read of the cells from a place on.
     pub fn turn_from(&self, cells: &[Cell], from: usize) -> Turn
         requires { from ≤ length cells.now }
-        ensures turn { turn_of self.now cells.now result ≡ read_over self.now.key self.now.start self.now.epoch (drop from cells.now) }
+        ensures turn { turn_of self.now cells.now result ≡ read_over false self.now.key self.now.start self.now.epoch (drop from cells.now) }
         ensures placed { IsPlaced self.now cells.now result }
     {
         let passed = first_left(self.start, cells, from);

@@ -1,4 +1,5 @@
 // A session begins a read.
+ghost use Rattle.std.specs.Prelude.{false};
 ghost use Rattle.store_parts.specs.Rows.{fetched};
 ghost use Rattle.machine.specs.Events.Fetch.{fetch_on, fetch_by, fetch_asks};
 ghost use Rattle.event_parts.specs.Made.{Makes, Asks};
@@ -20,7 +21,7 @@ pub fn fetch<W: Weather>(
     session: SessionNo,
     key: KeyNo,
 ) -> Result<(), Stopped>
-    ensures made { Makes (fetch_on session key (W.ahead weather.old Store.Cells 0) client.old cells.now.rows)
+    ensures made { Makes (fetch_on false session key (W.ahead weather.old Store.Cells 0) client.old cells.now.rows)
         client.old client.new book.old.items book.new.items result }
     ensures asked { Asks result (fetch_asks client.old) (W.ahead weather.old) (W.ahead weather.new)
         (W.faults weather.old) (W.faults weather.new) }
@@ -46,7 +47,7 @@ fn fetch_open<W: Weather>(
     epoch: u64,
     key: KeyNo,
 ) -> Result<(), Stopped>
-    ensures made { Makes (fetch_by session start epoch key (W.ahead weather.old Store.Cells 0) client.old (fetched cells.now.rows key start))
+    ensures made { Makes (fetch_by false session start epoch key (W.ahead weather.old Store.Cells 0) client.old (fetched cells.now.rows key start))
         client.old client.new book.old.items book.new.items result }
     ensures asked { Asks result (Some Store.Cells) (W.ahead weather.old) (W.ahead weather.new)
         (W.faults weather.old) (W.faults weather.new) }

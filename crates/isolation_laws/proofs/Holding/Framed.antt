@@ -65,13 +65,13 @@ ask_fits : (w : State) (h : List Item) (key txn : ℕ) (at : SettlePoint) → As
 ask_fits w h key txn point.FirstLook = tt
 ask_fits w h key txn point.Table = tt
 ask_fits w h key txn point.Marking = tt
-ask_fits w h key txn point.LastLook = tt
+ask_fits w h key txn (point.LastLook met) = tt
 
 ask_rows : (rows : List Row) (key txn : ℕ) (at : SettlePoint) → rows_after (ask_at key txn at) rows ≡ rows
 ask_rows rows key txn point.FirstLook = refl
 ask_rows rows key txn point.Table = refl
 ask_rows rows key txn point.Marking = refl
-ask_rows rows key txn point.LastLook = refl
+ask_rows rows key txn (point.LastLook met) = refl
 
 pub settle_cells : (w : State) (h : List Item) (x : Settling) → Holds w h → CellFacts w.clients w.nodes w.rows (pairs_after (settle_ask x) w.pairs) h
 settle_cells w h x holds = subst (λ (rows : List Row). CellFacts w.clients w.nodes rows (pairs_after (settle_ask x) w.pairs) h) (ask_rows w.rows x.key x.txn x.point) (cells_stepped w h (settle_ask x) holds (ask_fits w h x.key x.txn x.point))

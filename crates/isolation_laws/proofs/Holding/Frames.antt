@@ -164,7 +164,7 @@ begins_on w h items nodes clients kept opens none holds = record {
 pub begins_framed : (w : State) (h : List Item) (left : State) (items : List Item) → Frame w h left items → Holds w h → BeginFacts left.clients left.nodes (h ++ items)
 begins_framed w h left items f holds = begins_on w h items left.nodes left.clients f.nodes f.clients.opened (λ s. quiet_no_ask s items f.quiet) holds
 
-pub reads_framed : (w : State) (h : List Item) (left : State) (items : List Item) → Frame w h left items → Holds w h → ReadsRight left.clients left.nodes left.rows left.pairs (h ++ items)
+pub reads_framed : (w : State) (h : List Item) (left : State) (items : List Item) → Frame w h left items → Holds w h → ReadsRight w.setup left.clients left.nodes left.rows left.pairs (h ++ items)
 reads_framed w h left items f holds =
     reads_stay w h items left.nodes left.rows left.pairs left.clients (quiet_no_reads items f.quiet)
     (rely_calm w h (h ++ items) left.nodes left.rows left.pairs (calm_quiet h items f.quiet) (none_comes w h left.nodes f.nodes.pending) f.shadows f.marks) f.clients.reading holds

@@ -69,7 +69,7 @@ opening_under_way setup = record {
   sweeping = record { knows = λ s is. absurd (cc) };
 }
 
-opening_reads : (setup : SetupNumbers) → ReadFacts (opening setup).clients (opening setup).nodes (opening setup).rows (opening setup).pairs []
+opening_reads : (setup : SetupNumbers) → ReadFacts setup (opening setup).clients (opening setup).nodes (opening setup).rows (opening setup).pairs []
 opening_reads setup = record {
   reading = record { reads = λ s c r at is. let clash : Nothing ≡ Reads r = not_under_way s c (Reads r) at is in absurd (cc) };
   lasting = record { lasts = λ s b k u answer value m. absurd (in_none _ m) };

@@ -55,16 +55,16 @@ pub resolve_no_list : (key txn : ℕ) (at : SettlePoint) → NoList (ask_at key 
 resolve_no_list key txn point.FirstLook t is = cc
 resolve_no_list key txn point.Table t is = cc
 resolve_no_list key txn point.Marking t is = cc
-resolve_no_list key txn point.LastLook t is = cc
+resolve_no_list key txn (point.LastLook met) t is = cc
 
 pub resolve_rows : (key txn : ℕ) (at : SettlePoint) (rows : List Row) → rows_after (ask_at key txn at) rows ≡ rows
 resolve_rows key txn point.FirstLook rows = refl
 resolve_rows key txn point.Table rows = refl
 resolve_rows key txn point.Marking rows = refl
-resolve_rows key txn point.LastLook rows = refl
+resolve_rows key txn (point.LastLook met) rows = refl
 
 pub resolve_marks : (key txn : ℕ) (at : SettlePoint) (pairs : Pairs) → MayHaveMarked pairs (pairs_after (ask_at key txn at) pairs)
 resolve_marks key txn point.FirstLook pairs = inl refl
 resolve_marks key txn point.Table pairs = inl refl
 resolve_marks key txn point.Marking pairs = inr (txn, refl)
-resolve_marks key txn point.LastLook pairs = inl refl
+resolve_marks key txn (point.LastLook met) pairs = inl refl

@@ -13,7 +13,7 @@ use Rattle.client_parts.specs.KeyRead.{Reading, ReadTurn, read_over, read_ask, r
 use Rattle.machine.specs.State.{UnderWay, Nothing, Reads, Settles, Completes, Client, State}
 use Rattle.machine.specs.Clients.{is_reading, client_freed}
 use Rattle.machine.specs.StoreSteps.{rows_after, pairs_after, told_by}
-use Rattle.machine.specs.Events.Fetch.{client_read, read_items}
+use Rattle.machine.specs.Events.Fetch.{marks_every, client_read, read_items}
 use Rattle.machine.specs.Events.Step.{client_settled, settle_items, own_resolve, after_asks}
 use Rattle.isolation_laws.specs.Words.{ClientAt}
 use Rattle.isolation_laws.specs.Quiet.{Quiet, AllQuiet}
@@ -23,7 +23,7 @@ use Rattle.isolation_laws.proofs.Outcome.OutcomesOfSessions.{AtOpen}
 -- ---- reads
 -- a read over the cells that were fetched
 abbrev pub fetched_turn : (w : State) → ℕ → ℕ → ℕ → ReadTurn
-fetched_turn w key b e = read_over key b e (front_of b (fetched w.rows key b))
+fetched_turn w key b e = read_over (marks_every w.setup) key b e (front_of b (fetched w.rows key b))
 
 pub record Fetched (w : State) : Type 0 where
   pub it : AtOpen w

@@ -1,6 +1,7 @@
 -- Who reads: after each outcome but those of a read, each client that reads read before, and is as it was.
 use Rattle.std.proofs.Common.{◌≡◌, ℕ, true, false, List, [], ◌∷◌, Option, Some, None, ◌⊎◌, inl, inr, sym, ◌∙◌, ap, subst}
 use Rattle.std.specs.Prelude.{slice_set, slice_index_or}
+use Rattle.stamp_base.specs.SetupNumbers.{SetupNumbers}
 use Rattle.history_book.specs.declared.item.Item.{Item}
 use Rattle.store_parts.specs.Rows.{Row}
 use Rattle.store_parts.specs.Pairs.{Pairs}
@@ -41,8 +42,8 @@ still_open old new s b e c at now o =
     let same : o.client ≡ c = one_client old s o.client c o.at at in
     record { client = o.client; at = subst (λ (d : Client). ClientAt new s d) (sym same) now; state_is = o.state_is; start_is = o.start_is; epoch_is = o.epoch_is }
 
-pub reading_fewer : (old new : List Client) (nodes : List (Option InstanceEntry)) (rows : List Row) (pairs : Pairs) (h : List Item) → FewerReading old new → AreReading old nodes rows pairs h → AreReading new nodes rows pairs h
-reading_fewer old new nodes rows pairs h fewer reading = record {
+pub reading_fewer : (setup : SetupNumbers) (old new : List Client) (nodes : List (Option InstanceEntry)) (rows : List Row) (pairs : Pairs) (h : List Item) → FewerReading old new → AreReading setup old nodes rows pairs h → AreReading setup new nodes rows pairs h
+reading_fewer setup old new nodes rows pairs h fewer reading = record {
   reads = λ s c r at reads.
       let was : ClientAt old s c = fewer s c r at reads in
       let is = reading.reads s c r was reads in

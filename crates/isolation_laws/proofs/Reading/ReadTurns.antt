@@ -1,9 +1,9 @@
 -- What a store call decides for a read is true, and so the read goes on rightly, or answers rightly.
-use Rattle.std.proofs.Common.{◌≡◌, ℕ, ◌<◌, ◌≤◌, nat_lt, nat_le, Bool, true, false, cond, List, ◌∷◌, Option, Some, None, ◌⊎◌, inl, inr, refl, sym, ◌∙◌, ap, arith}
+use Rattle.std.proofs.Common.{◌≡◌, ℕ, ◌<◌, ◌≤◌, nat_lt, Bool, true, false, cond, List, ◌∷◌, Option, Some, None, ◌⊎◌, inl, inr, refl, sym, ◌∙◌, ap, arith}
 use Rattle.std.specs.Ordering.{nat_cmp, eq_by_cmp}
 use Rattle.std.specs.FinMap.{get-insert}
 use Rattle.std.specs.Cmp.{nat_cmp_total}
-use Rattle.std.proofs.lemmas.Bool.{cases_Bool, ltb-true, ltb-false, leb-true, leb-false}
+use Rattle.std.proofs.lemmas.Bool.{cases_Bool, ltb-true, ltb-false}
 use Rattle.std.proofs.lemmas.Bool.Decides.{nat_tests}
 use Rattle.std.proofs.lemmas.Option.{same_Some, none-some}
 use Rattle.stamp_base.specs.declared.stores.Mark.{Mark}
@@ -17,15 +17,16 @@ use Rattle.client_parts.specs.declared.resolve.Outcome.TheVariants.{Committed as
 use Rattle.client_parts.specs.declared.resolve.SettlePoint.{SettlePoint}
 use Rattle.client_parts.specs.declared.resolve.SettlePoint.TheVariants.{FirstLook, Table, Marking, LastLook}
 use Rattle.client_parts.specs.Resolve.{SettleTurn, Goes, Decides, settle_turn, settle_turn_at, ask_at, after_table, after_marking, after_last_look}
-use Rattle.client_parts.specs.KeyRead.{Reading, settling_of, read_over, read_by, read_ask, read_told}
+use Rattle.client_parts.specs.KeyRead.{Reading, may_mark, settling_of, read_over, read_by, read_ask, read_told}
 use Rattle.machine.specs.State.{State}
+use Rattle.machine.specs.Events.Fetch.{marks_every}
 use Rattle.machine.specs.StoreSteps.{pairs_after, told_by, told_entry, told_mark, told_shadow, told_cell}
 use Rattle.isolation_laws.specs.Words.{OpenAt, Marked, HasRecord, cell_with}
 use Rattle.isolation_laws.specs.UnderWay.{HasShadow}
 use Rattle.isolation_laws.specs.Reads.{SeesAll, IsResolvedTo, IsReading}
 use Rattle.isolation_laws.specs.Holds.{Holds}
 use Rattle.isolation_laws.proofs.Stores.StoresStay.{MarksStay, marks_put, marks_after, shadows_same}
-use Rattle.isolation_laws.proofs.Reading.ReadersRely.{RelyOn, sees_on, markable, open_now_begun}
+use Rattle.isolation_laws.proofs.Reading.ReadersRely.{RelyOn, sees_on, marked_before, open_now_begun}
 use Rattle.isolation_laws.proofs.Stores.Calm.{calm_same}
 use Rattle.isolation_laws.proofs.Reading.ReadsStay.{same_comes}
 use Rattle.isolation_laws.proofs.Reading.SeesPassed.{LetsGo, goes_late, sees_rest, answer_first, TurnRight, OwnListed, over_right}
@@ -33,10 +34,10 @@ use Rattle.isolation_laws.proofs.Reading.ReadsLonger.{rely_calm}
 use Rattle.isolation_laws.proofs.Stores.CellsStay.{no_record_marked}
 
 -- what a turn of the resolve says of the version is true
-abbrev pub Tells : State → Pairs → List Item → ℕ → ℕ → ℕ → ℕ → SettleTurn → Type 0
-Tells w pairs h k b e v (Goes point) = IsResolvedTo pairs w.rows h k b e v point
-Tells w pairs h k b e v (Decides (CommittedAt c by_table)) = Committed h v c
-Tells w pairs h k b e v (Decides Dead) = LetsGo w.nodes pairs h b v
+abbrev pub Tells : State → Pairs → List Item → ℕ → ℕ → Bool → ℕ → ℕ → SettleTurn → Type 0
+Tells w pairs h k b every e v (Goes point) = IsResolvedTo pairs w.rows h k b every e v point
+Tells w pairs h k b every e v (Decides (CommittedAt c by_table)) = Committed h v c
+Tells w pairs h k b every e v (Decides Dead) = LetsGo w.nodes pairs h b v
 
 -- a commit below the start that has no record has its shadow
 abbrev pub IsShown : State → List Item → ℕ → ℕ → ℕ → Type 0
@@ -50,15 +51,18 @@ shown_unrecorded w h k b cell cs holds sees none c placed below = elim (holds.ce
       (record { version = cell.version; value = cell.value; shadow = Some c }, shadowed k ∙ ap (cell_with cell.version (Some c)) wrote, refl)
 ]
 
+not_both : false ≡ true → ⊥
+not_both same = cc
+
 none_committed : (c : ℕ) → None ≡ Some (CommittedMark c) → ⊥
 none_committed c same = cc
 
 -- ---- the table
-tells_table : (w : State) (h : List Item) (k b e : ℕ) (cell : Cell) (cs : List Cell) (may : Bool) (entry : Option Mark) → Holds w h → SeesAll w.nodes w.pairs h b k (cell ∷ cs) → nat_le cell.version e ≡ may → mark_of w.pairs cell.version ≡ entry → Tells w w.pairs h k b e cell.version (after_table may (told_entry entry))
-tells_table w h k b e cell cs may (Some (CommittedMark c)) holds sees allowed is = holds.cells.pairs_are.placed cell.version c is
-tells_table w h k b e cell cs may (Some InvalidMark) holds sees allowed is = ((λ below. is), shown_unrecorded w h k b cell cs holds sees (λ c has. no_record_marked c (sym is ∙ has)))
-tells_table w h k b e cell cs true None holds sees allowed is = leb-true cell.version e allowed
-tells_table w h k b e cell cs false None holds sees allowed is = ((λ below. absurd (omega (arith, leb-false cell.version e allowed, below))), shown_unrecorded w h k b cell cs holds sees (λ c has. none_committed c (sym is ∙ has)))
+tells_table : (w : State) (h : List Item) (k b : ℕ) (every : Bool) (e : ℕ) (cell : Cell) (cs : List Cell) (may : Bool) (entry : Option Mark) → Holds w h → SeesAll w.nodes w.pairs h b k (cell ∷ cs) → may_mark every cell.version e ≡ may → mark_of w.pairs cell.version ≡ entry → Tells w w.pairs h k b every e cell.version (after_table may (told_entry entry))
+tells_table w h k b every e cell cs may (Some (CommittedMark c)) holds sees allowed is = holds.cells.pairs_are.placed cell.version c is
+tells_table w h k b every e cell cs may (Some InvalidMark) holds sees allowed is = ((λ met. is), (λ unmet may_so. not_both (sym unmet)), shown_unrecorded w h k b cell cs holds sees (λ c has. no_record_marked c (sym is ∙ has)))
+tells_table w h k b every e cell cs true None holds sees allowed is = allowed
+tells_table w h k b every e cell cs false None holds sees allowed is = ((λ met. absurd (not_both met)), (λ unmet may_so. not_both (sym allowed ∙ may_so)), shown_unrecorded w h k b cell cs holds sees (λ c has. none_committed c (sym is ∙ has)))
 
 -- ---- a mark
 eq_same : (t : ℕ) → eq_by_cmp nat_cmp t t ≡ true
@@ -68,38 +72,38 @@ marked_over : (pairs : Pairs) (t : ℕ) (there : Option Mark) → there ≡ None
 marked_over pairs t (Some mark) is = absurd (none-some mark (sym is))
 marked_over pairs t None is = get-insert nat_cmp_total pairs t InvalidMark t ∙ ap (λ b. cond b (Some InvalidMark) (mark_of pairs t)) (eq_same t)
 
-tells_marking : (w : State) (h : List Item) (k b e : ℕ) (cell : Cell) (cs : List Cell) (entry : Option Mark) → Holds w h → SeesAll w.nodes w.pairs h b k (cell ∷ cs) → mark_of w.pairs cell.version ≡ entry → Tells w (put_pair w.pairs cell.version InvalidMark) h k b e cell.version (after_marking (told_mark entry))
-tells_marking w h k b e cell cs None holds sees is = ((λ below. marked_over w.pairs cell.version (mark_of w.pairs cell.version) is), shown_unrecorded w h k b cell cs holds sees (λ c has. none_committed c (sym is ∙ has)))
-tells_marking w h k b e cell cs (Some InvalidMark) holds sees is = ((λ below. marks_put w.pairs cell.version InvalidMark cell.version is), shown_unrecorded w h k b cell cs holds sees (λ c has. no_record_marked c (sym is ∙ has)))
-tells_marking w h k b e cell cs (Some (CommittedMark c)) holds sees is = holds.cells.pairs_are.placed cell.version c is
+tells_marking : (w : State) (h : List Item) (k b : ℕ) (every : Bool) (e : ℕ) (cell : Cell) (cs : List Cell) (entry : Option Mark) → Holds w h → SeesAll w.nodes w.pairs h b k (cell ∷ cs) → mark_of w.pairs cell.version ≡ entry → Tells w (put_pair w.pairs cell.version InvalidMark) h k b every e cell.version (after_marking (told_mark entry))
+tells_marking w h k b every e cell cs None holds sees is = ((λ met. marked_over w.pairs cell.version (mark_of w.pairs cell.version) is), (λ unmet may_so. not_both (sym unmet)), shown_unrecorded w h k b cell cs holds sees (λ c has. none_committed c (sym is ∙ has)))
+tells_marking w h k b every e cell cs (Some InvalidMark) holds sees is = ((λ met. marks_put w.pairs cell.version InvalidMark cell.version is), (λ unmet may_so. not_both (sym unmet)), shown_unrecorded w h k b cell cs holds sees (λ c has. no_record_marked c (sym is ∙ has)))
+tells_marking w h k b every e cell cs (Some (CommittedMark c)) holds sees is = holds.cells.pairs_are.placed cell.version c is
 
 -- ---- the last look
 low_or_high : (a b : ℕ) → (a < b) ⊎ (b ≤ a)
 low_or_high a b = grind arith
 
-dead_goes : (w : State) (h : List Item) (s k b e v : ℕ) → Holds w h → OpenAt w.clients s b e → IsResolvedTo w.pairs w.rows h k b e v LastLook → ((c : ℕ) → HasShadow w.rows k v c → ⊥) → LetsGo w.nodes w.pairs h b v
-dead_goes w h s k b e v holds o resolved none = record {
+dead_goes : (w : State) (h : List Item) (s k b : ℕ) (every : Bool) (e v : ℕ) (met : Bool) → Holds w h → OpenAt w.clients s b e → IsResolvedTo w.pairs w.rows h k b every e v (LastLook met) → ((c : ℕ) → HasShadow w.rows k v c → ⊥) → LetsGo w.nodes w.pairs h b v
+dead_goes w h s k b every e v met holds o resolved none = record {
   late = λ d placed. elim (low_or_high d b) [
-    | inl below ↦ absurd (none d (resolved.1 d placed below))
+    | inl below ↦ absurd (none d (resolved.2 d placed below))
     | inr late ↦ late
   ];
-  marked = λ comes. resolved.0 (markable w h s b e v holds o comes);
+  marked = λ comes. marked_before w h every s b e v met holds o resolved.0 resolved.1 comes;
 }
 
-tells_shadow : (w : State) (h : List Item) (s k b e v : ℕ) (cell : Cell) (shadow : Option ℕ) → Holds w h → OpenAt w.clients s b e → IsResolvedTo w.pairs w.rows h k b e v LastLook → looked w.rows k v ≡ Some cell → cell.shadow ≡ shadow → Tells w w.pairs h k b e v (after_last_look (told_shadow shadow))
-tells_shadow w h s k b e v cell (Some c) holds o resolved there is = holds.cells.rows_are.placed k v c cell there is
-tells_shadow w h s k b e v cell None holds o resolved there is = dead_goes w h s k b e v holds o resolved (λ c has. none-some c (sym is ∙ (ap (λ (x : Cell). x.shadow) (same_Some cell has.0 (sym there ∙ has.1)) ∙ has.2)))
+tells_shadow : (w : State) (h : List Item) (s k b : ℕ) (every : Bool) (e v : ℕ) (met : Bool) (cell : Cell) (shadow : Option ℕ) → Holds w h → OpenAt w.clients s b e → IsResolvedTo w.pairs w.rows h k b every e v (LastLook met) → looked w.rows k v ≡ Some cell → cell.shadow ≡ shadow → Tells w w.pairs h k b every e v (after_last_look (told_shadow shadow))
+tells_shadow w h s k b every e v met cell (Some c) holds o resolved there is = holds.cells.rows_are.placed k v c cell there is
+tells_shadow w h s k b every e v met cell None holds o resolved there is = dead_goes w h s k b every e v met holds o resolved (λ c has. none-some c (sym is ∙ (ap (λ (x : Cell). x.shadow) (same_Some cell has.0 (sym there ∙ has.1)) ∙ has.2)))
 
-tells_look : (w : State) (h : List Item) (s k b e v : ℕ) (found : Option Cell) → Holds w h → OpenAt w.clients s b e → IsResolvedTo w.pairs w.rows h k b e v LastLook → looked w.rows k v ≡ found → Tells w w.pairs h k b e v (after_last_look (told_cell found))
-tells_look w h s k b e v None holds o resolved is = dead_goes w h s k b e v holds o resolved (λ c has. none-some has.0 (sym is ∙ has.1))
-tells_look w h s k b e v (Some cell) holds o resolved is = tells_shadow w h s k b e v cell cell.shadow holds o resolved is refl
+tells_look : (w : State) (h : List Item) (s k b : ℕ) (every : Bool) (e v : ℕ) (met : Bool) (found : Option Cell) → Holds w h → OpenAt w.clients s b e → IsResolvedTo w.pairs w.rows h k b every e v (LastLook met) → looked w.rows k v ≡ found → Tells w w.pairs h k b every e v (after_last_look (told_cell found))
+tells_look w h s k b every e v met None holds o resolved is = dead_goes w h s k b every e v met holds o resolved (λ c has. none-some has.0 (sym is ∙ has.1))
+tells_look w h s k b every e v met (Some cell) holds o resolved is = tells_shadow w h s k b every e v met cell cell.shadow holds o resolved is refl
 
 -- ---- each point
-tells_at : (w : State) (h : List Item) (s k b e : ℕ) (cell : Cell) (cs : List Cell) (point : SettlePoint) → Holds w h → OpenAt w.clients s b e → SeesAll w.nodes w.pairs h b k (cell ∷ cs) → IsResolvedTo w.pairs w.rows h k b e cell.version point → Tells w (pairs_after (ask_at k cell.version point) w.pairs) h k b e cell.version (settle_turn_at (nat_le cell.version e) point (told_by (ask_at k cell.version point) w.rows w.pairs))
-tells_at w h s k b e cell cs FirstLook holds o sees resolved = absurd resolved
-tells_at w h s k b e cell cs Table holds o sees resolved = tells_table w h k b e cell cs (nat_le cell.version e) (mark_of w.pairs cell.version) holds sees refl refl
-tells_at w h s k b e cell cs Marking holds o sees resolved = tells_marking w h k b e cell cs (mark_of w.pairs cell.version) holds sees refl
-tells_at w h s k b e cell cs LastLook holds o sees resolved = tells_look w h s k b e cell.version (looked w.rows k cell.version) holds o resolved refl
+tells_at : (w : State) (h : List Item) (s k b : ℕ) (every : Bool) (e : ℕ) (cell : Cell) (cs : List Cell) (point : SettlePoint) → Holds w h → OpenAt w.clients s b e → SeesAll w.nodes w.pairs h b k (cell ∷ cs) → IsResolvedTo w.pairs w.rows h k b every e cell.version point → Tells w (pairs_after (ask_at k cell.version point) w.pairs) h k b every e cell.version (settle_turn_at (may_mark every cell.version e) point (told_by (ask_at k cell.version point) w.rows w.pairs))
+tells_at w h s k b every e cell cs FirstLook holds o sees resolved = absurd resolved
+tells_at w h s k b every e cell cs Table holds o sees resolved = tells_table w h k b every e cell cs (may_mark every cell.version e) (mark_of w.pairs cell.version) holds sees refl refl
+tells_at w h s k b every e cell cs Marking holds o sees resolved = tells_marking w h k b every e cell cs (mark_of w.pairs cell.version) holds sees refl
+tells_at w h s k b every e cell cs (LastLook met) holds o sees resolved = tells_look w h s k b every e cell.version met (looked w.rows k cell.version) holds o resolved refl
 
 -- ---- the read goes on, or answers
 -- with more marks it sees the same
@@ -108,20 +112,20 @@ sees_marked w h pairs s b e k cells holds o marks sees =
     let rely : RelyOn w h w.nodes w.rows pairs h = rely_calm w h h w.nodes w.rows pairs (calm_same h) (same_comes w h) (shadows_same h w.rows) marks in
     sees_on w h w.nodes w.rows pairs h s b k cells rely (open_now_begun w h s b e holds o) sees
 
-passes_on : (w : State) (h : List Item) (pairs : Pairs) (r : Reading) → Holds w h → OwnListed h r.start r.key → LetsGo w.nodes pairs h r.start r.cell.version → SeesAll w.nodes pairs h r.start r.key (r.cell ∷ r.older) → TurnRight w h pairs r.start r.epoch r.key (read_over r.key r.start r.epoch r.older)
-passes_on w h pairs r holds own goes sees = over_right w h pairs r.start r.epoch r.key r.older holds own (sees_rest w.nodes pairs h r.start r.key r.cell r.older goes sees)
+passes_on : (w : State) (h : List Item) (pairs : Pairs) (r : Reading) → r.every ≡ marks_every w.setup → Holds w h → OwnListed h r.start r.key → LetsGo w.nodes pairs h r.start r.cell.version → SeesAll w.nodes pairs h r.start r.key (r.cell ∷ r.older) → TurnRight w h pairs r.start r.epoch r.key (read_over r.every r.key r.start r.epoch r.older)
+passes_on w h pairs r every_is holds own goes sees = over_right w h pairs r.every r.start r.epoch r.key r.older every_is holds own (sees_rest w.nodes pairs h r.start r.key r.cell r.older goes sees)
 
-turn_right : (w : State) (h : List Item) (pairs : Pairs) (r : Reading) (turn : SettleTurn) → Holds w h → OwnListed h r.start r.key → SeesAll w.nodes pairs h r.start r.key (r.cell ∷ r.older) → Tells w pairs h r.key r.start r.epoch r.cell.version turn → TurnRight w h pairs r.start r.epoch r.key (read_by r turn)
-turn_right w h pairs r (Goes point) holds own sees tells = (record { start_is = refl; epoch_is = refl; own = own; sees = sees; resolved = tells }, refl)
-turn_right w h pairs r (Decides Dead) holds own sees tells = passes_on w h pairs r holds own tells sees
-turn_right w h pairs r (Decides (CommittedAt c by_table)) holds own sees tells = elim (cases_Bool (nat_lt c r.start)) [
+turn_right : (w : State) (h : List Item) (pairs : Pairs) (r : Reading) (turn : SettleTurn) → r.every ≡ marks_every w.setup → Holds w h → OwnListed h r.start r.key → SeesAll w.nodes pairs h r.start r.key (r.cell ∷ r.older) → Tells w pairs h r.key r.start r.every r.epoch r.cell.version turn → TurnRight w h pairs r.start r.epoch r.key (read_by r turn)
+turn_right w h pairs r (Goes point) every_is holds own sees tells = (record { start_is = refl; epoch_is = refl; every_is = every_is; own = own; sees = sees; resolved = tells }, refl)
+turn_right w h pairs r (Decides Dead) every_is holds own sees tells = passes_on w h pairs r every_is holds own tells sees
+turn_right w h pairs r (Decides (CommittedAt c by_table)) every_is holds own sees tells = elim (cases_Bool (nat_lt c r.start)) [
   | inl below ↦ rw below (answer_first w h pairs r.start r.key c r.cell r.older holds sees tells (ltb-true c r.start below))
-  | inr late ↦ rw late (passes_on w h pairs r holds own (goes_late w h pairs r.start r.cell.version c holds tells (ltb-false c r.start late)) sees)
+  | inr late ↦ rw late (passes_on w h pairs r every_is holds own (goes_late w h pairs r.start r.cell.version c holds tells (ltb-false c r.start late)) sees)
 ]
 
 -- the step of a read, by its own start and epoch
-pub step_right : (w : State) (h : List Item) (s : ℕ) (r : Reading) → Holds w h → OpenAt w.clients s r.start r.epoch → IsReading w.nodes w.rows w.pairs h r.start r.epoch r → TurnRight w h (pairs_after (read_ask r) w.pairs) r.start r.epoch r.key (read_told r (told_by (read_ask r) w.rows w.pairs))
+pub step_right : (w : State) (h : List Item) (s : ℕ) (r : Reading) → Holds w h → OpenAt w.clients s r.start r.epoch → IsReading w.setup w.nodes w.rows w.pairs h r.start r.epoch r → TurnRight w h (pairs_after (read_ask r) w.pairs) r.start r.epoch r.key (read_told r (told_by (read_ask r) w.rows w.pairs))
 step_right w h s r holds o is =
-    turn_right w h (pairs_after (read_ask r) w.pairs) r (settle_turn (settling_of r) (told_by (read_ask r) w.rows w.pairs)) holds is.own
+    turn_right w h (pairs_after (read_ask r) w.pairs) r (settle_turn (settling_of r) (told_by (read_ask r) w.rows w.pairs)) is.every_is holds is.own
     (sees_marked w h (pairs_after (read_ask r) w.pairs) s r.start r.epoch r.key (r.cell ∷ r.older) holds o (marks_after (read_ask r) w.pairs) is.sees)
-    (tells_at w h s r.key r.start r.epoch r.cell r.older r.point holds o is.sees is.resolved)
+    (tells_at w h s r.key r.start r.every r.epoch r.cell r.older r.point holds o is.sees is.resolved)

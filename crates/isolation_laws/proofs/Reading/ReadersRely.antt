@@ -1,6 +1,7 @@
 -- What readers rely on: commits and values stay, marks and shadows stay, and nothing more comes below a begun start but what
 -- came before. Then reads under way see all that they saw, and past reads stay right.
-use Rattle.std.proofs.Common.{◌≡◌, ℕ, ◌<◌, ◌≤◌, List, ◌∷◌, Option, Some, None, ◌⊎◌, inl, inr, sym, ◌∙◌, arith}
+use Rattle.std.proofs.Common.{◌≡◌, ℕ, ◌<◌, ◌≤◌, Bool, true, false, List, ◌∷◌, Option, Some, None, ◌⊎◌, inl, inr, refl, sym, ◌∙◌, arith}
+use Rattle.std.specs.Bool.{IsTrue}
 use Rattle.history_book.specs.Members.{◌∈◌, AtEach}
 use Rattle.history_book.specs.Isolation.{Committed, Wrote, last_write, Candidate, Newest, Visible, RightAnswer, RightRead}
 use Rattle.history_book.specs.declared.item.Found.{Found}
@@ -12,7 +13,7 @@ use Rattle.store_parts.specs.Rows.{Row}
 use Rattle.store_parts.specs.Pairs.{Pairs}
 use Rattle.client_parts.specs.declared.resolve.SettlePoint.{SettlePoint}
 use Rattle.client_parts.specs.declared.resolve.SettlePoint.TheVariants.{FirstLook, Table, Marking, LastLook}
-use Rattle.client_parts.specs.KeyRead.{Reading}
+use Rattle.client_parts.specs.KeyRead.{Reading, may_mark}
 use Rattle.oracle_parts.specs.Instance.{InstanceEntry}
 use Rattle.machine.specs.State.{Reads, Client, State}
 use Rattle.isolation_laws.specs.Words.{ClientAt, OpenAt, Begun, DrewCommit, Marked}
@@ -90,34 +91,41 @@ sees_on w h nodes rows pairs g r b k cells rely begun sees = record {
 }
 
 -- what comes below the start of an open transaction may be marked by it
-pub markable : (w : State) (h : List Item) (s b e u : ℕ) → Holds w h → OpenAt w.clients s b e → ComesBelow w.nodes b u → u ≤ e
-markable w h s b e u holds o c = coming_is_markable w.nodes w.clients w.master h s b e u holds.numbers.ranges holds.numbers.drawn holds.numbers.new holds.requests.accepted holds.requests.pending holds.begins.below o c
+pub markable : (w : State) (h : List Item) (every : Bool) (s b e u : ℕ) → Holds w h → OpenAt w.clients s b e → ComesBelow w.nodes b u → IsTrue (may_mark every u e)
+markable w h every s b e u holds o c = coming_is_markable every w.nodes w.clients w.master h s b e u holds.numbers.ranges holds.numbers.drawn holds.numbers.new holds.requests.accepted holds.requests.pending holds.begins.below o c
 
-resolved_on : (w : State) (h : List Item) (nodes : List (Option InstanceEntry)) (rows : List Row) (pairs : Pairs) (g : List Item) (s k b e t : ℕ) (point : SettlePoint) → RelyOn w h nodes rows pairs g → Holds w h → OpenAt w.clients s b e → IsResolvedTo w.pairs w.rows h k b e t point → IsResolvedTo pairs rows g k b e t point
-resolved_on w h nodes rows pairs g s k b e t FirstLook rely holds o is = is
-resolved_on w h nodes rows pairs g s k b e t Table rely holds o is = tt
-resolved_on w h nodes rows pairs g s k b e t Marking rely holds o is = is
-resolved_on w h nodes rows pairs g s k b e t LastLook rely holds o is = (
-  (λ below. rely.marks t (is.0 below)),
+-- so at a last look, what still comes was marked
+pub marked_before : (w : State) (h : List Item) (every : Bool) (s b e t : ℕ) (met : Bool) → Holds w h → OpenAt w.clients s b e → (met ≡ true → Marked w.pairs t) → (met ≡ false → IsTrue (may_mark every t e) → ⊥) → ComesBelow w.nodes b t → Marked w.pairs t
+marked_before w h every s b e t true holds o marked none comes = marked refl
+marked_before w h every s b e t false holds o marked none comes = absurd (none refl (markable w h every s b e t holds o comes))
+
+resolved_on : (w : State) (h : List Item) (nodes : List (Option InstanceEntry)) (rows : List Row) (pairs : Pairs) (g : List Item) (s k b : ℕ) (every : Bool) (e t : ℕ) (point : SettlePoint) → RelyOn w h nodes rows pairs g → Holds w h → OpenAt w.clients s b e → IsResolvedTo w.pairs w.rows h k b every e t point → IsResolvedTo pairs rows g k b every e t point
+resolved_on w h nodes rows pairs g s k b every e t FirstLook rely holds o is = is
+resolved_on w h nodes rows pairs g s k b every e t Table rely holds o is = tt
+resolved_on w h nodes rows pairs g s k b every e t Marking rely holds o is = is
+resolved_on w h nodes rows pairs g s k b every e t (LastLook met) rely holds o is = (
+  (λ was. rely.marks t (is.0 was)),
+  is.1,
   (λ c placed less. elim (rely.placed b t c placed less) [
-    | inl old ↦ rely.shadows k t c old (is.1 c old less)
-    | inr new ↦ absurd (new.unmarked (is.0 (markable w h s b e t holds o new.comes)))
+    | inl old ↦ rely.shadows k t c old (is.2 c old less)
+    | inr new ↦ absurd (new.unmarked (marked_before w h every s b e t met holds o is.0 is.1 new.comes))
   ]),
 )
 
 pub open_now_begun : (w : State) (h : List Item) (s b e : ℕ) → Holds w h → OpenAt w.clients s b e → Begun h s b
 open_now_begun w h s b e holds o = open_begun w.clients h s b o.client holds.requests.have_begun o.at o.state_is o.start_is
 
-pub reading_on : (w : State) (h : List Item) (nodes : List (Option InstanceEntry)) (rows : List Row) (pairs : Pairs) (g : List Item) (s b e : ℕ) (r : Reading) → RelyOn w h nodes rows pairs g → ((k : ℕ) → last_write g b k ≡ last_write h b k) → Holds w h → OpenAt w.clients s b e → IsReading w.nodes w.rows w.pairs h b e r → IsReading nodes rows pairs g b e r
+pub reading_on : (w : State) (h : List Item) (nodes : List (Option InstanceEntry)) (rows : List Row) (pairs : Pairs) (g : List Item) (s b e : ℕ) (r : Reading) → RelyOn w h nodes rows pairs g → ((k : ℕ) → last_write g b k ≡ last_write h b k) → Holds w h → OpenAt w.clients s b e → IsReading w.setup w.nodes w.rows w.pairs h b e r → IsReading w.setup nodes rows pairs g b e r
 reading_on w h nodes rows pairs g s b e r rely own holds o is = record {
   start_is = is.start_is;
   epoch_is = is.epoch_is;
+  every_is = is.every_is;
   own = λ value wrote. listed_goes_on h g b rely.on (is.own value (sym (own r.key) ∙ wrote));
   sees = sees_on w h nodes rows pairs g s b r.key (r.cell ∷ r.older) rely (open_now_begun w h s b e holds o) is.sees;
-  resolved = resolved_on w h nodes rows pairs g s r.key b e r.cell.version r.point rely holds o is.resolved;
+  resolved = resolved_on w h nodes rows pairs g s r.key b r.every e r.cell.version r.point rely holds o is.resolved;
 }
 
-pub reading_kept : (w : State) (h : List Item) (nodes : List (Option InstanceEntry)) (rows : List Row) (pairs : Pairs) (g : List Item) → RelyOn w h nodes rows pairs g → Holds w h → AreReading w.clients nodes rows pairs g
+pub reading_kept : (w : State) (h : List Item) (nodes : List (Option InstanceEntry)) (rows : List Row) (pairs : Pairs) (g : List Item) → RelyOn w h nodes rows pairs g → Holds w h → AreReading w.setup w.clients nodes rows pairs g
 reading_kept w h nodes rows pairs g rely holds = record {
   reads = λ s c r at reads.
       let is = holds.reads.reading.reads s c r at reads in

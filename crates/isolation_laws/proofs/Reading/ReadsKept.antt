@@ -24,11 +24,11 @@ use Rattle.isolation_laws.proofs.Reading.ReadsOfReads.{reads_stepped, reads_fetc
 use Rattle.isolation_laws.proofs.Reading.ReadsLonger.{rely_calm}
 
 -- quiet items, and the stores stay
-calmly : (w : State) (h items : List Item) (clients : List Client) (nodes : List (Option InstanceEntry)) → AllQuiet items → FewerReading w.clients clients → NoneComes w h nodes → Holds w h → ReadsRight clients nodes w.rows w.pairs (h ++ items)
+calmly : (w : State) (h items : List Item) (clients : List Client) (nodes : List (Option InstanceEntry)) → AllQuiet items → FewerReading w.clients clients → NoneComes w h nodes → Holds w h → ReadsRight w.setup clients nodes w.rows w.pairs (h ++ items)
 calmly w h items clients nodes quiet fewer comes holds = reads_stay w h items nodes w.rows w.pairs clients (quiet_no_reads items quiet) (rely_calm w h (h ++ items) nodes w.rows w.pairs (calm_quiet h items quiet) comes (shadows_same h w.rows) (marks_same w.pairs)) fewer holds
 
 -- one item that writes, places and answers nothing, and the stores stay
-with_one : (w : State) (h : List Item) (x : Item) (clients : List Client) (nodes : List (Option InstanceEntry)) → WritesNone x → NoReads (x ∷ []) → FewerReading w.clients clients → NoneComes w h nodes → Holds w h → ReadsRight clients nodes w.rows w.pairs (h ++ x ∷ [])
+with_one : (w : State) (h : List Item) (x : Item) (clients : List Client) (nodes : List (Option InstanceEntry)) → WritesNone x → NoReads (x ∷ []) → FewerReading w.clients clients → NoneComes w h nodes → Holds w h → ReadsRight w.setup clients nodes w.rows w.pairs (h ++ x ∷ [])
 with_one w h x clients nodes none reads fewer comes holds = reads_stay w h (x ∷ []) nodes w.rows w.pairs clients reads (rely_calm w h (h ++ x ∷ []) nodes w.rows w.pairs (calm_push h x none) comes (shadows_same h w.rows) (marks_same w.pairs)) fewer holds
 
 ask_none : (s n : ℕ) → WritesNone (AskBegin s n)
@@ -40,7 +40,7 @@ begin_none s b = record { writes = λ t k. refl; placed = λ t c is. cc }
 listing_none : (t count : ℕ) → WritesNone (Step Janitor (KeysStep t count))
 listing_none t count = record { writes = λ u k. refl; placed = λ u c is. cc }
 
-pub all_reads_kept : (w : State) (h : List Item) (o : Outcome w) → Holds w h → ReadsRight (left_by w o).clients (left_by w o).nodes (left_by w o).rows (left_by w o).pairs (h ++ told_by_outcome w o)
+pub all_reads_kept : (w : State) (h : List Item) (o : Outcome w) → Holds w h → ReadsRight (left_by w o).setup (left_by w o).clients (left_by w o).nodes (left_by w o).rows (left_by w o).pairs (h ++ told_by_outcome w o)
 all_reads_kept w h (OfGranted k) holds = calmly w h k.items w.clients _ k.quiet (same_reading w.clients) (none_comes w h _ (fewer_granted w k)) holds
 all_reads_kept w h (OfRenewed k) holds = calmly w h k.items w.clients _ k.quiet (same_reading w.clients) (none_comes w h _ (fewer_renewed w k)) holds
 all_reads_kept w h (OfExtended k) holds = calmly w h k.items w.clients _ k.quiet (same_reading w.clients) (none_comes w h _ (fewer_extended w k)) holds
@@ -56,7 +56,7 @@ all_reads_kept w h (OfReadStepped k) holds = reads_stepped w h k holds
 all_reads_kept w h (OfSweepListed k) holds = with_one w h (Step Janitor (KeysStep k.txn k.count)) w.clients w.nodes (listing_none k.txn k.count) (one_no_reads (Step Janitor (KeysStep k.txn k.count)) (λ s b key answer is. cc)) (same_reading w.clients) (same_comes w h) holds
 all_reads_kept w h o holds = reads_framed w h (left_by w o) (told_by_outcome w o) (framed w h o holds refl) holds
 
-pub reads_kept : (w : State) (h : List Item) (o : Outcome w) → Holds w h → ReadFacts (left_by w o).clients (left_by w o).nodes (left_by w o).rows (left_by w o).pairs (h ++ told_by_outcome w o)
+pub reads_kept : (w : State) (h : List Item) (o : Outcome w) → Holds w h → ReadFacts (left_by w o).setup (left_by w o).clients (left_by w o).nodes (left_by w o).rows (left_by w o).pairs (h ++ told_by_outcome w o)
 reads_kept w h o holds = (all_reads_kept w h o holds).facts
 
 pub right_reads_kept : (w : State) (h : List Item) (o : Outcome w) → Holds w h → AtEach (RightRead (h ++ told_by_outcome w o)) (h ++ told_by_outcome w o)

@@ -1,6 +1,7 @@
 -- Reads and answers over a longer history without writes and placed commits, and a client that reads.
-use Rattle.std.proofs.Common.{◌≡◌, ◌≢◌, ℕ, List, ◌∷◌, Option, Some, None, inl, inr, sym, ◌∙◌, ap, subst}
+use Rattle.std.proofs.Common.{◌≡◌, ◌≢◌, ℕ, Bool, List, ◌∷◌, Option, Some, None, inl, inr, sym, ◌∙◌, ap, subst}
 use Rattle.std.specs.Prelude.{slice_set}
+use Rattle.stamp_base.specs.SetupNumbers.{SetupNumbers}
 use Rattle.history_book.specs.Isolation.{Candidate, Visible, RightAnswer}
 use Rattle.history_book.specs.declared.item.Found.{Found}
 use Rattle.history_book.specs.declared.item.Item.{Item}
@@ -53,19 +54,20 @@ sees_longer nodes pairs h g b k cells un sees = record {
   coming_values = λ i x lt comes unmarked. un.writes _ k ∙ sees.coming_values i x lt comes unmarked;
 }
 
-resolved_longer : (pairs : Pairs) (rows : List Row) (h g : List Item) (k b e t : ℕ) (point : SettlePoint) → Calm h g → IsResolvedTo pairs rows h k b e t point → IsResolvedTo pairs rows g k b e t point
-resolved_longer pairs rows h g k b e t FirstLook un is = is
-resolved_longer pairs rows h g k b e t Table un is = tt
-resolved_longer pairs rows h g k b e t Marking un is = is
-resolved_longer pairs rows h g k b e t LastLook un is = (is.0, λ c placed less. is.1 c (un.placed t c placed) less)
+resolved_longer : (pairs : Pairs) (rows : List Row) (h g : List Item) (k b : ℕ) (every : Bool) (e t : ℕ) (point : SettlePoint) → Calm h g → IsResolvedTo pairs rows h k b every e t point → IsResolvedTo pairs rows g k b every e t point
+resolved_longer pairs rows h g k b every e t FirstLook un is = is
+resolved_longer pairs rows h g k b every e t Table un is = tt
+resolved_longer pairs rows h g k b every e t Marking un is = is
+resolved_longer pairs rows h g k b every e t (LastLook met) un is = (is.0, is.1, λ c placed less. is.2 c (un.placed t c placed) less)
 
-pub reading_longer : (nodes : List (Option InstanceEntry)) (rows : List Row) (pairs : Pairs) (h g : List Item) (b e : ℕ) (r : Reading) → Calm h g → IsReading nodes rows pairs h b e r → IsReading nodes rows pairs g b e r
-reading_longer nodes rows pairs h g b e r un is = record {
+pub reading_longer : (setup : SetupNumbers) (nodes : List (Option InstanceEntry)) (rows : List Row) (pairs : Pairs) (h g : List Item) (b e : ℕ) (r : Reading) → Calm h g → IsReading setup nodes rows pairs h b e r → IsReading setup nodes rows pairs g b e r
+reading_longer setup nodes rows pairs h g b e r un is = record {
   start_is = is.start_is;
   epoch_is = is.epoch_is;
+  every_is = is.every_is;
   own = λ value wrote. listed_goes_on h g b un.on (is.own value (sym (un.writes b r.key) ∙ wrote));
   sees = sees_longer nodes pairs h g b r.key (r.cell ∷ r.older) un is.sees;
-  resolved = resolved_longer pairs rows h g r.key b e r.cell.version r.point un is.resolved;
+  resolved = resolved_longer pairs rows h g r.key b r.every e r.cell.version r.point un is.resolved;
 }
 
 -- ---- what readers rely on
@@ -95,11 +97,11 @@ other_open : (clients : List Client) (s r b e : ℕ) (c : Client) → r ≢ s �
 other_open clients s r b e c other o = record { client = o.client; at = set_other clients s r c other ∙ o.at; state_is = o.state_is; start_is = o.start_is; epoch_is = o.epoch_is }
 
 -- what the client reads now
-abbrev pub ReadsNow : List (Option InstanceEntry) → List Row → Pairs → List Item → ℕ → ℕ → Client → Type 0
-ReadsNow nodes rows pairs g b e c = (r : Reading) → c.under_way ≡ Reads r → IsReading nodes rows pairs g b e r
+abbrev pub ReadsNow : SetupNumbers → List (Option InstanceEntry) → List Row → Pairs → List Item → ℕ → ℕ → Client → Type 0
+ReadsNow setup nodes rows pairs g b e c = (r : Reading) → c.under_way ≡ Reads r → IsReading setup nodes rows pairs g b e r
 
-pub reading_set : (clients : List Client) (nodes : List (Option InstanceEntry)) (rows : List Row) (pairs : Pairs) (g : List Item) (s b e : ℕ) (old c : Client) → ClientAt clients s old → c.entry ≡ old.entry → OpenAt clients s b e → ReadsNow nodes rows pairs g b e c → AreReading clients nodes rows pairs g → AreReading (slice_set clients s c) nodes rows pairs g
-reading_set clients nodes rows pairs g s b e old c at same o now reading = record {
+pub reading_set : (setup : SetupNumbers) (clients : List Client) (nodes : List (Option InstanceEntry)) (rows : List Row) (pairs : Pairs) (g : List Item) (s b e : ℕ) (old c : Client) → ClientAt clients s old → c.entry ≡ old.entry → OpenAt clients s b e → ReadsNow setup nodes rows pairs g b e c → AreReading setup clients nodes rows pairs g → AreReading setup (slice_set clients s c) nodes rows pairs g
+reading_set setup clients nodes rows pairs g s b e old c at same o now reading = record {
   reads = λ q d r there reads. elim (client_set clients s q c d there) [
     | inl here ↦ (b, e, subst (λ p. OpenAt (slice_set clients s c) p b e) (sym here.0) (same_open clients s b e old c at same o), now r (sym (ap (λ (x : Client). x.under_way) here.1) ∙ reads))
     | inr other ↦

@@ -1,5 +1,5 @@
 -- A fetch, and a step of a read: the session reads on and sees all, or has an answer that is right and lasts.
-use Rattle.std.proofs.Common.{◌≡◌, ℕ, ◌<◌, ◌==◌, true, List, [], ◌∷◌, ◌++◌, append_assoc, Option, Some, None, inl, inr, refl, sym, ◌∙◌, ap, subst, arith, All}
+use Rattle.std.proofs.Common.{◌≡◌, ℕ, ◌<◌, ◌==◌, Bool, true, List, [], ◌∷◌, ◌++◌, append_assoc, Option, Some, None, inl, inr, refl, sym, ◌∙◌, ap, subst, arith, All}
 use Rattle.std.specs.Prelude.{slice_set}
 use Rattle.std.proofs.lemmas.Bool.{cases_Bool, cases_eq, eq-eqb}
 use Rattle.std.proofs.lemmas.List.{append-nil}
@@ -17,7 +17,7 @@ use Rattle.client_parts.specs.declared.key_read.Answer.{Answer}
 use Rattle.client_parts.specs.KeyRead.{Reading, ReadTurn, Asks, Answers, found_cell, after_passed, read_over, read_ask}
 use Rattle.machine.specs.State.{Client, State}
 use Rattle.machine.specs.StoreSteps.{pairs_after}
-use Rattle.machine.specs.Events.Fetch.{found_of, client_read, read_items}
+use Rattle.machine.specs.Events.Fetch.{marks_every, found_of, client_read, read_items}
 use Rattle.isolation_laws.specs.Words.{ClientAt, epoch_or_none, OpenAt}
 use Rattle.isolation_laws.specs.Pending.{ComesBelow}
 use Rattle.isolation_laws.specs.Quiet.{Quiet}
@@ -42,7 +42,7 @@ pub record GoodAnswer (w : State) (h : List Item) (pairs : Pairs) (b k : ℕ) (a
   pub lasts : (u : ℕ) (value : List ℕ) → ComesBelow w.nodes b u → Wrote h u k value → Outlasts pairs b u answer
 
 abbrev pub GoodTurn : State → List Item → Pairs → ℕ → ℕ → ℕ → ReadTurn → Type 0
-GoodTurn w h pairs b e k (Asks r) = IsReading w.nodes w.rows pairs h b e r
+GoodTurn w h pairs b e k (Asks r) = IsReading w.setup w.nodes w.rows pairs h b e r
 GoodTurn w h pairs b e k (Answers a) = GoodAnswer w h pairs b k (found_of a.found)
 
 right_by : (h : List Item) (b k : ℕ) (answer : Option Found) (own : Option (List ℕ)) → last_write h b k ≡ own → OwnListed h b k → Visible h b k answer → RightAnswer h h b k answer own
@@ -54,8 +54,8 @@ good_turn w h pairs b e k (Asks r) own right = right.0
 good_turn w h pairs b e k (Answers a) own right = record { right = right_by h b k (found_of a.found) (last_write h b k) refl own right.visible; lasts = right.lasts }
 
 -- what the client reads after a turn
-turn_reads : (w : State) (h g : List Item) (pairs : Pairs) (b e k : ℕ) (c : Client) (turn : ReadTurn) → Calm h g → GoodTurn w h pairs b e k turn → ReadsNow w.nodes w.rows pairs g b e (client_read c turn)
-turn_reads w h g pairs b e k c (Asks x) un good r is = subst (λ (y : Reading). IsReading w.nodes w.rows pairs g b e y) (reads_same x r is) (reading_longer w.nodes w.rows pairs h g b e x un good)
+turn_reads : (w : State) (h g : List Item) (pairs : Pairs) (b e k : ℕ) (c : Client) (turn : ReadTurn) → Calm h g → GoodTurn w h pairs b e k turn → ReadsNow w.setup w.nodes w.rows pairs g b e (client_read c turn)
+turn_reads w h g pairs b e k c (Asks x) un good r is = subst (λ (y : Reading). IsReading w.setup w.nodes w.rows pairs g b e y) (reads_same x r is) (reading_longer w.setup w.nodes w.rows pairs h g b e x un good)
 turn_reads w h g pairs b e k c (Answers a) un good r is = absurd (nothing_reads r is)
 
 -- ---- the answer stands in the history
@@ -104,14 +104,14 @@ turn_rights w h g pairs before s b e k (Answers a) un prior good rights =
     (subst (RightAnswer g before b k (found_of a.found)) (sym (prior.writes b k)) (right_longer h g before b k (found_of a.found) (last_write h b k) un prior.on good.right))
 
 -- ---- a turn of a read, whatever it comes to
-pub reads_turn : (w : State) (h : List Item) (pairs : Pairs) (x : Item) (s b e k : ℕ) (c : Client) (turn : ReadTurn) → Quiet x → ClientAt w.clients s c → OpenAt w.clients s b e → MarksStay w.pairs pairs → GoodTurn w h pairs b e k turn → Holds w h → ReadsRight (slice_set w.clients s (client_read c turn)) w.nodes w.rows pairs (h ++ x ∷ read_items s b k turn)
+pub reads_turn : (w : State) (h : List Item) (pairs : Pairs) (x : Item) (s b e k : ℕ) (c : Client) (turn : ReadTurn) → Quiet x → ClientAt w.clients s c → OpenAt w.clients s b e → MarksStay w.pairs pairs → GoodTurn w h pairs b e k turn → Holds w h → ReadsRight w.setup (slice_set w.clients s (client_read c turn)) w.nodes w.rows pairs (h ++ x ∷ read_items s b k turn)
 reads_turn w h pairs x s b e k c turn quiet at o marks good holds =
     let g : List Item = h ++ x ∷ read_items s b k turn in
     let un : Calm h g = calm_turn h x s b k turn quiet in
     let rely : RelyOn w h w.nodes w.rows pairs g = rely_calm w h g w.nodes w.rows pairs un (same_comes w h) (shadows_same h w.rows) marks in
     record {
       facts = record {
-        reading = reading_set w.clients w.nodes w.rows pairs g s b e c (client_read c turn) at (read_keeps_entry c turn) o (turn_reads w h g pairs b e k c turn un good) (reading_kept w h w.nodes w.rows pairs g rely holds);
+        reading = reading_set w.setup w.clients w.nodes w.rows pairs g s b e c (client_read c turn) at (read_keeps_entry c turn) o (turn_reads w h g pairs b e k c turn un good) (reading_kept w h w.nodes w.rows pairs g rely holds);
         lasting = turn_lasting w h pairs x s b e k turn quiet rely un good holds;
       };
       rights = subst (AtEach (RightRead g)) (append_assoc h (x ∷ []) (read_items s b k turn))
@@ -123,14 +123,14 @@ reads_turn w h pairs x s b e k c turn quiet at o marks good holds =
 open_by : (w : State) (s b e c d : ℕ) → b ≡ c → e ≡ d → OpenAt w.clients s b e → OpenAt w.clients s c d
 open_by w s b e c d start epoch o = subst (λ x. OpenAt w.clients s x d) start (subst (λ y. OpenAt w.clients s b y) epoch o)
 
-reading_by : (w : State) (h : List Item) (b e c d : ℕ) (r : Reading) → b ≡ c → e ≡ d → IsReading w.nodes w.rows w.pairs h b e r → IsReading w.nodes w.rows w.pairs h c d r
-reading_by w h b e c d r start epoch is = subst (λ x. IsReading w.nodes w.rows w.pairs h x d r) start (subst (λ y. IsReading w.nodes w.rows w.pairs h b y r) epoch is)
+reading_by : (w : State) (h : List Item) (b e c d : ℕ) (r : Reading) → b ≡ c → e ≡ d → IsReading w.setup w.nodes w.rows w.pairs h b e r → IsReading w.setup w.nodes w.rows w.pairs h c d r
+reading_by w h b e c d r start epoch is = subst (λ x. IsReading w.setup w.nodes w.rows w.pairs h x d r) start (subst (λ y. IsReading w.setup w.nodes w.rows w.pairs h b y r) epoch is)
 
-pub reads_stepped : (w : State) (h : List Item) (k : ReadStepped w) → Holds w h → ReadsRight (read_stepped_state w k).clients w.nodes w.rows (read_stepped_state w k).pairs (h ++ read_stepped_items w k)
+pub reads_stepped : (w : State) (h : List Item) (k : ReadStepped w) → Holds w h → ReadsRight w.setup (read_stepped_state w k).clients w.nodes w.rows (read_stepped_state w k).pairs (h ++ read_stepped_items w k)
 reads_stepped w h k holds =
     let was = holds.reads.reading.reads k.session k.c k.r k.client_at k.under_way in
     let o : OpenAt w.clients k.session k.r.start k.r.epoch = open_by w k.session was.0 was.1 k.r.start k.r.epoch (sym was.3.start_is) (sym was.3.epoch_is) was.2 in
-    let is : IsReading w.nodes w.rows w.pairs h k.r.start k.r.epoch k.r = reading_by w h was.0 was.1 k.r.start k.r.epoch k.r (sym was.3.start_is) (sym was.3.epoch_is) was.3 in
+    let is : IsReading w.setup w.nodes w.rows w.pairs h k.r.start k.r.epoch k.r = reading_by w h was.0 was.1 k.r.start k.r.epoch k.r (sym was.3.start_is) (sym was.3.epoch_is) was.3 in
     reads_turn w h (pairs_after (read_ask k.r) w.pairs) k.first k.session k.r.start k.r.epoch k.r.key k.c (read_turn w k.r) k.quiet k.client_at o (marks_after (read_ask k.r) w.pairs)
     (good_turn w h (pairs_after (read_ask k.r) w.pairs) k.r.start k.r.epoch k.r.key (read_turn w k.r) is.own (step_right w h k.session k.r holds o is)) holds
 
@@ -139,42 +139,42 @@ fetched_open : (w : State) (k : Fetched w) → OpenAt w.clients k.it.session k.s
 fetched_open w k = record { client = k.it.c; at = k.it.client_at; state_is = k.it.is_open; start_is = k.start_is; epoch_is = ap epoch_or_none k.epoch_is }
 
 -- the reader's own cell comes first, and answers
-own_first : (key b e : ℕ) (c : Cell) (cs : List Cell) → c.version ≡ b → read_over key b e (c ∷ cs) ≡ Answers (found_cell c)
+own_first : (every : Bool) (key b e : ℕ) (c : Cell) (cs : List Cell) → c.version ≡ b → read_over every key b e (c ∷ cs) ≡ Answers (found_cell c)
 unfolding after_passed
-own_first key b e c cs mine =
+own_first every key b e c cs mine =
     let own : (c.version == b) ≡ true = eq-eqb c.version b mine in
     rw (own, own) refl
 
-own_front : (key b e : ℕ) (c : Cell) (cs : List Cell) → c.version ≡ b → read_over key b e (front_of b (c ∷ cs)) ≡ Answers (found_cell c)
+own_front : (every : Bool) (key b e : ℕ) (c : Cell) (cs : List Cell) → c.version ≡ b → read_over every key b e (front_of b (c ∷ cs)) ≡ Answers (found_cell c)
 unfolding front_of
-own_front key b e c cs mine = elim (cases_Bool (is_below b c.shadow)) [
-  | inl some ↦ rw some (own_first key b e c [] mine)
-  | inr none ↦ rw none (own_first key b e c (front_of b cs) mine)
+own_front every key b e c cs mine = elim (cases_Bool (is_below b c.shadow)) [
+  | inl some ↦ rw some (own_first every key b e c [] mine)
+  | inr none ↦ rw none (own_first every key b e c (front_of b cs) mine)
 ]
 
-own_good : (w : State) (h : List Item) (s k b e : ℕ) (c : Cell) (cs : List Cell) → Holds w h → OpenAt w.clients s b e → AreCellsOf w.rows k b (c ∷ cs) → c.version ≡ b → GoodTurn w h w.pairs b e k (read_over k b e (front_of b (c ∷ cs)))
+own_good : (w : State) (h : List Item) (s k b e : ℕ) (c : Cell) (cs : List Cell) → Holds w h → OpenAt w.clients s b e → AreCellsOf w.rows k b (c ∷ cs) → c.version ≡ b → GoodTurn w h w.pairs b e k (read_over (marks_every w.setup) k b e (front_of b (c ∷ cs)))
 own_good w h s k b e c cs holds o are mine =
     let value : last_write h b k ≡ Some c.value = own_value w h s k b e c holds o (are.found 0 c (omega arith)) mine in
     let right : RightAnswer h h b k (Some (record { from = c.version; value = c.value })) (Some c.value) = inl (ap (λ (v : ℕ). Some (record { from = v; value = c.value })) mine) in
-    subst (GoodTurn w h w.pairs b e k) (sym (own_front k b e c cs mine)) (record {
+    subst (GoodTurn w h w.pairs b e k) (sym (own_front (marks_every w.setup) k b e c cs mine)) (record {
       right = subst (RightAnswer h h b k (Some (record { from = c.version; value = c.value }))) (sym value) right;
       lasts = λ u written comes wrote. inl mine;
     })
 
-other_good : (w : State) (h : List Item) (s k b e : ℕ) (cells : List Cell) → Holds w h → OpenAt w.clients s b e → AreCellsOf w.rows k b cells → All (λ (c : Cell). c.version < b) cells → GoodTurn w h w.pairs b e k (read_over k b e (front_of b cells))
+other_good : (w : State) (h : List Item) (s k b e : ℕ) (cells : List Cell) → Holds w h → OpenAt w.clients s b e → AreCellsOf w.rows k b cells → All (λ (c : Cell). c.version < b) cells → GoodTurn w h w.pairs b e k (read_over (marks_every w.setup) k b e (front_of b cells))
 other_good w h s k b e cells holds o are below =
     let own : OwnListed h b k = λ value wrote. own_or_listed w h s k b e cells value holds o are below wrote in
-    good_turn w h w.pairs b e k (read_over k b e (front_of b cells)) own
-    (over_right w h w.pairs b e k (front_of b cells) holds own (sees_front w.nodes w.pairs h b k cells (sees_fetched w h k b cells holds are below)))
+    good_turn w h w.pairs b e k (read_over (marks_every w.setup) k b e (front_of b cells)) own
+    (over_right w h w.pairs (marks_every w.setup) b e k (front_of b cells) refl holds own (sees_front w.nodes w.pairs h b k cells (sees_fetched w h k b cells holds are below)))
 
-cells_good : (w : State) (h : List Item) (s k b e : ℕ) (cells : List Cell) → Holds w h → OpenAt w.clients s b e → AreCellsOf w.rows k b cells → GoodTurn w h w.pairs b e k (read_over k b e (front_of b cells))
+cells_good : (w : State) (h : List Item) (s k b e : ℕ) (cells : List Cell) → Holds w h → OpenAt w.clients s b e → AreCellsOf w.rows k b cells → GoodTurn w h w.pairs b e k (read_over (marks_every w.setup) k b e (front_of b cells))
 cells_good w h s k b e [] holds o are = other_good w h s k b e [] holds o are (All-nil (λ (c : Cell). c.version < b))
 cells_good w h s k b e (c ∷ cs) holds o are = elim (cases_eq c.version b) [
   | inl mine ↦ own_good w h s k b e c cs holds o are mine
   | inr other ↦ other_good w h s k b e (c ∷ cs) holds o are (none_own b c cs are.falling are.upto other)
 ]
 
-pub reads_fetched : (w : State) (h : List Item) (k : Fetched w) → Holds w h → ReadsRight (fetched_state w k).clients w.nodes w.rows w.pairs (h ++ fetched_items w k)
+pub reads_fetched : (w : State) (h : List Item) (k : Fetched w) → Holds w h → ReadsRight w.setup (fetched_state w k).clients w.nodes w.rows w.pairs (h ++ fetched_items w k)
 reads_fetched w h k holds =
     reads_turn w h w.pairs k.first k.it.session k.start k.epoch k.key k.it.c (fetched_turn w k.key k.start k.epoch) k.quiet k.it.client_at (fetched_open w k) (marks_same w.pairs)
     (cells_good w h k.it.session k.key k.start k.epoch (fetched w.rows k.key k.start) holds (fetched_open w k) (are_fetched w h k.key k.start holds)) holds

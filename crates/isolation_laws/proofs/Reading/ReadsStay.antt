@@ -6,6 +6,7 @@ use Rattle.std.proofs.lemmas.Bool.{ne_eqb}
 use Rattle.std.proofs.lemmas.Option.{none-some}
 use Rattle.std.proofs.lemmas.List.{append-nil}
 use Rattle.stamp_base.specs.declared.stores.Mark.TheVariants.{Committed as CommittedMark, Invalid as InvalidMark}
+use Rattle.stamp_base.specs.SetupNumbers.{SetupNumbers}
 use Rattle.history_book.specs.Members.{◌∈◌, AtEach}
 use Rattle.history_book.specs.Isolation.{Committed, last_write, written_by, RightRead}
 use Rattle.history_book.specs.declared.item.Found.{Found}
@@ -82,14 +83,14 @@ rights_more g h (x ∷ items) none rights = subst (AtEach (RightRead g)) (append
     (rights_more g (h ++ x ∷ []) items (λ s b k answer m. none s b k answer (inr m)) (AtEach-push (RightRead g) h x rights (right_none g h x (λ s b k answer is. none s b k answer (inl is)))))
 
 -- ---- what an outcome leaves of reads
-pub record ReadsRight (clients : List Client) (nodes : List (Option InstanceEntry)) (rows : List Row) (pairs : Pairs) (g : List Item) : Type 0 where
-  pub facts : ReadFacts clients nodes rows pairs g
+pub record ReadsRight (setup : SetupNumbers) (clients : List Client) (nodes : List (Option InstanceEntry)) (rows : List Row) (pairs : Pairs) (g : List Item) : Type 0 where
+  pub facts : ReadFacts setup clients nodes rows pairs g
   pub rights : AtEach (RightRead g) g
 
-pub reads_stay : (w : State) (h items : List Item) (nodes : List (Option InstanceEntry)) (rows : List Row) (pairs : Pairs) (clients : List Client) → NoReads items → RelyOn w h nodes rows pairs (h ++ items) → FewerReading w.clients clients → Holds w h → ReadsRight clients nodes rows pairs (h ++ items)
+pub reads_stay : (w : State) (h items : List Item) (nodes : List (Option InstanceEntry)) (rows : List Row) (pairs : Pairs) (clients : List Client) → NoReads items → RelyOn w h nodes rows pairs (h ++ items) → FewerReading w.clients clients → Holds w h → ReadsRight w.setup clients nodes rows pairs (h ++ items)
 reads_stay w h items nodes rows pairs clients none rely fewer holds = record {
   facts = record {
-    reading = reading_fewer w.clients clients nodes rows pairs (h ++ items) fewer (reading_kept w h nodes rows pairs (h ++ items) rely holds);
+    reading = reading_fewer w.setup w.clients clients nodes rows pairs (h ++ items) fewer (reading_kept w h nodes rows pairs (h ++ items) rely holds);
     lasting = record {
       lasts = λ s b k u answer value m comes wrote. elim (in_append (Read s b k answer) h items m) [
         | inl old ↦ lasts_on w h nodes rows pairs (h ++ items) s b k u answer value rely holds old comes wrote

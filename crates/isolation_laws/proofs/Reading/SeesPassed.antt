@@ -14,7 +14,7 @@ use Rattle.client_parts.specs.declared.resolve.SettlePoint.TheVariants.{Table}
 use Rattle.client_parts.specs.KeyRead.{Reading, ReadTurn, Asks, Answers, found_cell, is_late, is_passed, after_passed, turn_at, read_over}
 use Rattle.oracle_parts.specs.Instance.{InstanceEntry}
 use Rattle.machine.specs.State.{State}
-use Rattle.machine.specs.Events.Fetch.{found_of}
+use Rattle.machine.specs.Events.Fetch.{marks_every, found_of}
 use Rattle.isolation_laws.specs.Words.{Marked}
 use Rattle.isolation_laws.specs.Pending.{ComesBelow}
 use Rattle.isolation_laws.specs.Reads.{floor_at, IsCovered, SeesAll, IsReading, Outlasts}
@@ -140,23 +140,23 @@ answer_first w h pairs b k d cell cs holds sees placed below =
 -- ---- the read over cells
 -- a read that goes on sees all, and an answer is right
 abbrev pub TurnRight : State → List Item → Pairs → ℕ → ℕ → ℕ → ReadTurn → Type 0
-TurnRight w h pairs b e k (Asks r) = IsReading w.nodes w.rows pairs h b e r × (r.key ≡ k)
+TurnRight w h pairs b e k (Asks r) = IsReading w.setup w.nodes w.rows pairs h b e r × (r.key ≡ k)
 TurnRight w h pairs b e k (Answers a) = IsAnswer w.nodes pairs h b k (found_of a.found)
 
 -- what a transaction wrote before it reads was listed
 abbrev pub OwnListed : List Item → ℕ → ℕ → Type 0
 OwnListed h b k = (value : List ℕ) → Wrote h b k value → WasListed h b
 
-abbrev pub read_first : ℕ → ℕ → ℕ → Cell → List Cell → Reading
-read_first key b e c cs = record { key = key; start = b; epoch = e; cell = c; older = cs; point = Table }
+abbrev pub read_first : Bool → ℕ → ℕ → ℕ → Cell → List Cell → Reading
+read_first every key b e c cs = record { key = key; start = b; epoch = e; every = every; cell = c; older = cs; point = Table }
 
-abbrev turn_first : ℕ → ℕ → ℕ → Cell → List Cell → Bool → ReadTurn
-turn_first key b e c cs at_once = if at_once then Answers (found_cell c) else Asks (read_first key b e c cs)
+abbrev turn_first : Bool → ℕ → ℕ → ℕ → Cell → List Cell → Bool → ReadTurn
+turn_first every key b e c cs at_once = if at_once then Answers (found_cell c) else Asks (read_first every key b e c cs)
 
 -- a first cell that is not passed over: a shadow is below the start, and a bare cell is resolved
-first_right : (w : State) (h : List Item) (pairs : Pairs) (b e k : ℕ) (c : Cell) (cs : List Cell) (shadow : Option ℕ) → Holds w h → OwnListed h b k → SeesAll w.nodes pairs h b k (c ∷ cs) → c.shadow ≡ shadow → is_late b shadow ≡ false → TurnRight w h pairs b e k (turn_first k b e c cs (is_some shadow))
-first_right w h pairs b e k c cs None holds own sees is stays = (record { start_is = refl; epoch_is = refl; own = own; sees = sees; resolved = tt }, refl)
-first_right w h pairs b e k c cs (Some commit) holds own sees is stays = answer_first w h pairs b k commit c cs holds sees (sees.shadows 0 c (omega arith) commit is) (leb-false b commit stays)
+first_right : (w : State) (h : List Item) (pairs : Pairs) (every : Bool) (b e k : ℕ) (c : Cell) (cs : List Cell) (shadow : Option ℕ) → every ≡ marks_every w.setup → Holds w h → OwnListed h b k → SeesAll w.nodes pairs h b k (c ∷ cs) → c.shadow ≡ shadow → is_late b shadow ≡ false → TurnRight w h pairs b e k (turn_first every k b e c cs (is_some shadow))
+first_right w h pairs every b e k c cs None every_is holds own sees is stays = (record { start_is = refl; epoch_is = refl; every_is = every_is; own = own; sees = sees; resolved = tt }, refl)
+first_right w h pairs every b e k c cs (Some commit) every_is holds own sees is stays = answer_first w h pairs b k commit c cs holds sees (sees.shadows 0 c (omega arith) commit is) (leb-false b commit stays)
 
 other_version : (b v : ℕ) → v < b → (v == b) ≡ false
 other_version b v below = ne_eqb v b (λ same. omega (arith, same, below))
@@ -165,16 +165,16 @@ not_late : (own late : Bool) → own ≡ false → (if own then false else late)
 not_late true late is stays = absurd (cc)
 not_late false late is stays = stays
 
-stops_right : (w : State) (h : List Item) (pairs : Pairs) (b e k : ℕ) (c : Cell) (cs : List Cell) → Holds w h → OwnListed h b k → SeesAll w.nodes pairs h b k (c ∷ cs) → is_passed b c ≡ false → TurnRight w h pairs b e k (turn_at k b e (c ∷ cs))
-stops_right w h pairs b e k c cs holds own sees stays =
+stops_right : (w : State) (h : List Item) (pairs : Pairs) (every : Bool) (b e k : ℕ) (c : Cell) (cs : List Cell) → every ≡ marks_every w.setup → Holds w h → OwnListed h b k → SeesAll w.nodes pairs h b k (c ∷ cs) → is_passed b c ≡ false → TurnRight w h pairs b e k (turn_at every k b e (c ∷ cs))
+stops_right w h pairs every b e k c cs every_is holds own sees stays =
     let other : (c.version == b) ≡ false = other_version b c.version (sees.below 0 c (omega arith)) in
-    subst (λ (mine : Bool). TurnRight w h pairs b e k (turn_first k b e c cs (mine || is_some c.shadow))) (sym other)
-    (first_right w h pairs b e k c cs c.shadow holds own sees refl (not_late (c.version == b) (is_late b c.shadow) other stays))
+    subst (λ (mine : Bool). TurnRight w h pairs b e k (turn_first every k b e c cs (mine || is_some c.shadow))) (sym other)
+    (first_right w h pairs every b e k c cs c.shadow every_is holds own sees refl (not_late (c.version == b) (is_late b c.shadow) other stays))
 
-pub over_right : (w : State) (h : List Item) (pairs : Pairs) (b e k : ℕ) (cells : List Cell) → Holds w h → OwnListed h b k → SeesAll w.nodes pairs h b k cells → TurnRight w h pairs b e k (read_over k b e cells)
+pub over_right : (w : State) (h : List Item) (pairs : Pairs) (every : Bool) (b e k : ℕ) (cells : List Cell) → every ≡ marks_every w.setup → Holds w h → OwnListed h b k → SeesAll w.nodes pairs h b k cells → TurnRight w h pairs b e k (read_over every k b e cells)
 unfolding after_passed
-over_right w h pairs b e k [] holds own sees = answer_none w.nodes pairs h b k sees
-over_right w h pairs b e k (c ∷ cs) holds own sees = elim (cases_Bool (is_passed b c)) [
-  | inl passed ↦ rw passed (over_right w h pairs b e k cs holds own (sees_rest w.nodes pairs h b k c cs (passed_goes w h pairs b k c cs holds passed sees) sees))
-  | inr stays ↦ rw stays (stops_right w h pairs b e k c cs holds own sees stays)
+over_right w h pairs every b e k [] every_is holds own sees = answer_none w.nodes pairs h b k sees
+over_right w h pairs every b e k (c ∷ cs) every_is holds own sees = elim (cases_Bool (is_passed b c)) [
+  | inl passed ↦ rw passed (over_right w h pairs every b e k cs every_is holds own (sees_rest w.nodes pairs h b k c cs (passed_goes w h pairs b k c cs holds passed sees) sees))
+  | inr stays ↦ rw stays (stops_right w h pairs every b e k c cs every_is holds own sees stays)
 ]

@@ -149,15 +149,15 @@ abbrev pub TurnHeals : List Item → ReadTurn → Type 0
 TurnHeals h (Asks r) = Unit {0}
 TurnHeals h (Answers a) = (k t d : ℕ) → a.heal ≡ Some (k, t, d) → Committed h t d
 
-turn_at_heals : (h : List Item) (key start epoch : ℕ) (cells : List Cell) → TurnHeals h (turn_at key start epoch cells)
-turn_at_heals h key start epoch [] = λ k t d offer. absurd (none-some (k, t, d) offer)
-turn_at_heals h key start epoch (c ∷ cs) = elim (cases_Bool ((c.version == start) || is_some c.shadow)) [
+turn_at_heals : (h : List Item) (every : Bool) (key start epoch : ℕ) (cells : List Cell) → TurnHeals h (turn_at every key start epoch cells)
+turn_at_heals h every key start epoch [] = λ k t d offer. absurd (none-some (k, t, d) offer)
+turn_at_heals h every key start epoch (c ∷ cs) = elim (cases_Bool ((c.version == start) || is_some c.shadow)) [
   | inl answers ↦ rw answers (λ k t d offer. absurd (none-some (k, t, d) offer))
   | inr asks ↦ rw asks tt
 ]
 
-pub read_over_heals : (h : List Item) (key start epoch : ℕ) (cells : List Cell) → TurnHeals h (read_over key start epoch cells)
-read_over_heals h key start epoch cells = turn_at_heals h key start epoch (after_passed start cells)
+pub read_over_heals : (h : List Item) (every : Bool) (key start epoch : ℕ) (cells : List Cell) → TurnHeals h (read_over every key start epoch cells)
+read_over_heals h every key start epoch cells = turn_at_heals h every key start epoch (after_passed start cells)
 
 reads_is_settles : (r : Reading) (x : Settling) → Reads r ≡ Settles x → ⊥
 reads_is_settles r x same = cc

@@ -63,7 +63,7 @@ decided_at : (w : State) (h : List Item) (key txn c : ℕ) (may_mark by_table : 
 decided_at w h key txn c may_mark by_table point.FirstLook holds is = let has = first_decides (looked w.rows key txn) c by_table is in holds.cells.rows_are.placed key txn c has.0 has.1 has.2
 decided_at w h key txn c may_mark by_table point.Table holds is = holds.cells.pairs_are.placed txn c (entry_decides (mark_of w.pairs txn) c may_mark by_table is)
 decided_at w h key txn c may_mark by_table point.Marking holds is = holds.cells.pairs_are.placed txn c (mark_decides (mark_of w.pairs txn) c by_table is)
-decided_at w h key txn c may_mark by_table point.LastLook holds is = let has = last_decides (looked w.rows key txn) c by_table is in holds.cells.rows_are.placed key txn c has.0 has.1 has.2
+decided_at w h key txn c may_mark by_table (point.LastLook met) holds is = let has = last_decides (looked w.rows key txn) c by_table is in holds.cells.rows_are.placed key txn c has.0 has.1 has.2
 
 pub decided_placed : (w : State) (h : List Item) (x : Settling) (c : ℕ) (by_table : Bool) → Holds w h → settle_turn x (told_by (settle_ask x) w.rows w.pairs) ≡ Decides (CommittedAt c by_table) → Committed h x.txn c
 decided_placed w h x c by_table holds is = decided_at w h x.key x.txn c x.may_mark by_table x.point holds is
@@ -73,7 +73,7 @@ shown_any : (rows : List Row) (h : List Item) (k t : ℕ) (p : SettlePoint) → 
 shown_any rows h k t point.FirstLook shown = tt
 shown_any rows h k t point.Table shown = tt
 shown_any rows h k t point.Marking shown = tt
-shown_any rows h k t point.LastLook shown = shown
+shown_any rows h k t (point.LastLook met) shown = shown
 
 shadow_of_write : (rows : List Row) (h : List Item) (k t c : ℕ) (value : List ℕ) → looked rows k t ≡ cell_with t (Some c) (last_write h t k) → Wrote h t k value → HasShadow rows k t c
 shadow_of_write rows h k t c value is wrote = (record { version = t; value = value; shadow = Some c }, is ∙ ap (cell_with t (Some c)) wrote, refl)
@@ -121,7 +121,7 @@ goes_shown_at : (w : State) (h : List Item) (key txn : ℕ) (value : List ℕ) (
 goes_shown_at w h key txn value may_mark point.FirstLook p holds wrote is = subst (λ (q : SettlePoint). IsShownAt w.rows h key txn q) (first_goes (looked w.rows key txn) p is) tt
 goes_shown_at w h key txn value may_mark point.Table p holds wrote is = shown_any w.rows h key txn p (shows_without_record w h key txn value holds (entry_goes (mark_of w.pairs txn) may_mark p is) wrote)
 goes_shown_at w h key txn value may_mark point.Marking p holds wrote is = shown_any w.rows h key txn p (shows_without_record w h key txn value holds (mark_goes (mark_of w.pairs txn) p is) wrote)
-goes_shown_at w h key txn value may_mark point.LastLook p holds wrote is = absurd (last_goes (looked w.rows key txn) p is)
+goes_shown_at w h key txn value may_mark (point.LastLook met) p holds wrote is = absurd (last_goes (looked w.rows key txn) p is)
 
 pub goes_shown : (w : State) (h : List Item) (x : Settling) (p : SettlePoint) (value : List ℕ) → Holds w h → Wrote h x.txn x.key value → settle_turn x (told_by (settle_ask x) w.rows w.pairs) ≡ Goes p → IsShownAt w.rows h x.key x.txn p
 goes_shown w h x p value holds wrote is = goes_shown_at w h x.key x.txn value x.may_mark x.point p holds wrote is
@@ -152,7 +152,7 @@ dead_at : (rows : List Row) (pairs : Pairs) (h : List Item) (key txn : ℕ) (may
 dead_at rows pairs h key txn may_mark point.FirstLook shown is c placed = first_no_dead (looked rows key txn) is
 dead_at rows pairs h key txn may_mark point.Table shown is c placed = entry_no_dead (mark_of pairs txn) may_mark is
 dead_at rows pairs h key txn may_mark point.Marking shown is c placed = mark_no_dead (mark_of pairs txn) is
-dead_at rows pairs h key txn may_mark point.LastLook shown is c placed = let has = shown c placed in last_dead (looked rows key txn) has.0 c is has.1 has.2
+dead_at rows pairs h key txn may_mark (point.LastLook met) shown is c placed = let has = shown c placed in last_dead (looked rows key txn) has.0 c is has.1 has.2
 
 pub dead_unplaced : (w : State) (h : List Item) (x : Settling) → IsShownAt w.rows h x.key x.txn x.point → settle_turn x (told_by (settle_ask x) w.rows w.pairs) ≡ Decides Dead → (c : ℕ) → Committed h x.txn c → ⊥
 dead_unplaced w h x shown is c placed = dead_at w.rows w.pairs h x.key x.txn x.may_mark x.point shown is c placed

@@ -12,7 +12,7 @@ use Rattle.client_parts.specs.KeyRead.{Reading, ReadTurn, Answers, settling_of, 
 use Rattle.machine.specs.State.{UnderWay, Nothing, Client, State}
 use Rattle.machine.specs.Clients.{client_freed, client_aborted, client_vanished}
 use Rattle.machine.specs.StoreSteps.{told_by}
-use Rattle.machine.specs.Events.Fetch.{client_read}
+use Rattle.machine.specs.Events.Fetch.{marks_every, client_read}
 use Rattle.isolation_laws.specs.UnderWay.{UnderWayFacts}
 use Rattle.isolation_laws.specs.Holds.{Holds}
 use Rattle.isolation_laws.proofs.Outcome.OutcomesOfSessions.{EndedReadOnly, read_only_state, Aborted, aborted_state, Vanished, vanished_state, Healed, healed_state}
@@ -62,7 +62,7 @@ pub under_way_fetched : (w : State) (h : List Item) (k : Fetched w) → Holds w 
 under_way_fetched w h k holds =
     let turn : ReadTurn = fetched_turn w k.key k.start k.epoch in
     under_way_client w h (h ++ fetched_items w k) k.it.session (client_read k.it.c turn) holds (calm_turn h k.first k.it.session k.start k.key turn k.quiet)
-    (works_read w.rows h k.it.c turn (plain_open k.it.c k.it.is_open) (read_over_heals h k.key k.start k.epoch _))
+    (works_read w.rows h k.it.c turn (plain_open k.it.c k.it.is_open) (read_over_heals h (marks_every w.setup) k.key k.start k.epoch _))
 
 works_heal : (rows : List Row) (h : List Item) (c : Client) (heal : Option (ℕ × ℕ × ℕ)) → (heal ≡ c.heal) ⊎ (heal ≡ None) → Works rows h c → Works rows h (record c { heal = heal })
 works_heal rows h c heal is work = record {
@@ -105,10 +105,10 @@ found_heals h r c false placed = λ k t d offer. heals_none k t d h None refl of
 
 turn_heals : (w : State) (h : List Item) (r : Reading) (turn : SettleTurn) → Holds w h → settle_turn (settling_of r) (told_by (read_ask r) w.rows w.pairs) ≡ turn → TurnHeals h (read_by r turn)
 turn_heals w h r (Goes p) holds is = tt
-turn_heals w h r (Decides outcome.Dead) holds is = read_over_heals h r.key r.start r.epoch r.older
+turn_heals w h r (Decides outcome.Dead) holds is = read_over_heals h r.every r.key r.start r.epoch r.older
 turn_heals w h r (Decides (outcome.Committed c by_table)) holds is = elim (cases_Bool (nat_lt c r.start)) [
   | inl below ↦ rw below (found_heals h r c by_table (λ so. decided_placed w h (settling_of r) c by_table holds is))
-  | inr late ↦ rw late (read_over_heals h r.key r.start r.epoch r.older)
+  | inr late ↦ rw late (read_over_heals h r.every r.key r.start r.epoch r.older)
 ]
 
 pub under_way_read : (w : State) (h : List Item) (k : ReadStepped w) → Holds w h → UnderWayFacts (read_stepped_state w k).clients w.sweep w.rows (read_stepped_state w k).pairs (h ++ read_stepped_items w k)

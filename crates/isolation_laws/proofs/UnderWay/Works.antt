@@ -106,7 +106,7 @@ shown_on : (rows new : List Row) (h g : List Item) (k t : ℕ) (at : SettlePoint
 shown_on rows new h g k t point.FirstLook keeps placed shown = tt
 shown_on rows new h g k t point.Table keeps placed shown = tt
 shown_on rows new h g k t point.Marking keeps placed shown = tt
-shown_on rows new h g k t point.LastLook keeps placed shown = λ c is. keeps.shadows t c k (placed c is) (shown c (placed c is))
+shown_on rows new h g k t (point.LastLook met) keeps placed shown = λ c is. keeps.shadows t c k (placed c is) (shown c (placed c is))
 
 pub own_resolve_on : (rows new : List Row) (h g : List Item) (t : ℕ) (keys : List ℕ) (x : Settling) → KeepsPlaced rows new h g → ((d : ℕ) → Committed g t d → Committed h t d) → IsOwnResolve rows h t keys x → IsOwnResolve new g t keys x
 own_resolve_on rows new h g t keys x keeps placed own = record {

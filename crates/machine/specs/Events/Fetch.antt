@@ -1,9 +1,10 @@
 -- A session begins a read by a fetch of the key's cells up to its start. The read goes over these cells, down to the first
 -- that decides by itself; where no step on the stores is needed, it has its answer at once. A failed fetch ends the read
 -- without an answer.
-use Rattle.std.specs.Prelude.{ℕ, List, [], ◌∷◌, Option, None, Some, length}
+use Rattle.std.specs.Prelude.{ℕ, Bool, false, List, [], ◌∷◌, Option, None, Some, length}
 use Rattle.stamp_base.specs.declared.stores.Store.{Store}
 use Rattle.stamp_base.specs.declared.stores.Store.TheVariants.{Cells}
+use Rattle.stamp_base.specs.SetupNumbers.{SetupNumbers}
 use Rattle.port_io.specs.declared.weather.Fate.{Fate}
 use Rattle.port_io.specs.declared.weather.Fate.TheVariants.{Works}
 use Rattle.history_book.specs.declared.cause.Cause.{Cause}
@@ -34,21 +35,25 @@ abbrev pub read_items : ℕ → ℕ → ℕ → ReadTurn → List Item
 read_items session start key (Asks r) = []
 read_items session start key (Answers a) = item.Read session start key (found_of a.found) ∷ []
 
+-- whether a read may mark every version that it resolves: it marks those alone that are at most the epoch
+abbrev pub marks_every : SetupNumbers → Bool
+marks_every setup = false
+
 -- the fetch, and the read over its cells as far as it goes
 abbrev pub fetch_worked : ℕ → ℕ → ℕ → Client → List Cell → ReadTurn → Effect Client
 fetch_worked session start key c cells turn = done (client_read c turn) (item.Step (Session session) (step.Fetch key (length cells)) ∷ read_items session start key turn)
 
-abbrev pub fetch_by : ℕ → ℕ → ℕ → ℕ → Fate → Client → List Cell → Effect Client
-fetch_by session start epoch key Works c cells = fetch_worked session start key c cells (read_over key start epoch (front_of start cells))
-fetch_by session start epoch key fate c cells = faulted (record c { heal = None }) (Session session) Cells []
+abbrev pub fetch_by : Bool → ℕ → ℕ → ℕ → ℕ → Fate → Client → List Cell → Effect Client
+fetch_by every session start epoch key Works c cells = fetch_worked session start key c cells (read_over every key start epoch (front_of start cells))
+fetch_by every session start epoch key fate c cells = faulted (record c { heal = None }) (Session session) Cells []
 
-abbrev pub fetch_open : ℕ → ℕ → Fate → Client → List Row → Option Cause → Option ℕ → Option ℕ → Effect Client
-fetch_open session key fate c rows (Some why) start epoch = refused c (Session session) why
-fetch_open session key fate c rows None (Some start) (Some epoch) = fetch_by session start epoch key fate c (fetched rows key start)
-fetch_open session key fate c rows None _ _ = done c []
+abbrev pub fetch_open : Bool → ℕ → ℕ → Fate → Client → List Row → Option Cause → Option ℕ → Option ℕ → Effect Client
+fetch_open every session key fate c rows (Some why) start epoch = refused c (Session session) why
+fetch_open every session key fate c rows None (Some start) (Some epoch) = fetch_by every session start epoch key fate c (fetched rows key start)
+fetch_open every session key fate c rows None _ _ = done c []
 
-abbrev pub fetch_on : ℕ → ℕ → Fate → Client → List Row → Effect Client
-fetch_on session key fate c rows = fetch_open session key fate c rows (work_refusal c.entry.state (is_reading c)) c.entry.start c.entry.epoch
+abbrev pub fetch_on : Bool → ℕ → ℕ → Fate → Client → List Row → Effect Client
+fetch_on every session key fate c rows = fetch_open every session key fate c rows (work_refusal c.entry.state (is_reading c)) c.entry.start c.entry.epoch
 
 abbrev pub epoch_asks : Option ℕ → Option Store → Option Store
 epoch_asks None asks = None
