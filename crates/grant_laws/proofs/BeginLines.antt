@@ -66,27 +66,27 @@ pub begins_are_granted : EventsLowerWhatIsLeft → BeginsAreGranted
 begins_are_granted lowers script p number s node before can =
     let v : Verb = verb.Begin (target.Node node) in
     let line : Line = line_of number (Session s) v in
-    let i : InstanceEntry = can.oracle in
+    let i : InstanceEntry = can.serving.oracle in
     let c : Client = can.client in
     let request : Request = Begin s in
     let stamp : ℕ = i.last + 1 in
     let known : Known script p = known_before lowers script line p before in
     let x : Spot = first_spot p i c in
-    let k : IsAt script node s p x = is_first script node s p i c known can.node_has can.session_is (inr can.is_free) in
-    let within : s < length i.requests = has_place script node s p i c known can.node_has can.session_is in
+    let k : IsAt script node s p x = is_first script node s p i c known can.serving.node_has can.session_is (inr can.is_free) in
+    let within : s < length i.requests = has_place script node s p i c known can.serving.node_has can.session_is in
     let e : Event = event.AskBegin s node in
     let items : List Item = item.AskBegin s node ∷ [] in
     let y : Spot = with_both x (asked_of i request) (client_asked c) items in
-    let made : Makes script node s p e y None = on_ask_made script node s p x e (ask_begin_on s node) (asked_of i request) (client_asked c) items k refl (begin_taken s node c i can.is_free can.slot) refl refl in
+    let made : Makes script node s p e y None = on_ask_made script node s p x e (ask_begin_on s node) (asked_of i request) (client_asked c) items k refl (begin_taken s node c i can.is_free can.serving.slot) refl refl in
     let q : Played = played script p e in
     let there : IsAt script node s q y = leads_there script node s p x e y None k made in
     let stops : (step_of script p e).stop ≡ None = ap (λ (step : Step). step.stop) made.is ∙ made.stops in
     let first : Leads script line 1 (opened p) (run_at Drives q) = leads_to script line Opens Drives p e refl (ap (λ (how : Option Stop). follows v Opens (halt_of how)) stops) in
-    let draw : CanDraw script s x = can_draw script node s p i c known can.node_has can.session_is can.in_term can.goes_on can.stamp in
+    let draw : CanDraw script s x = can_draw script node s p i c known can.serving.node_has can.session_is can.serving.in_term can.serving.goes_on can.serving.stamp in
     let within_now : s < length y.oracle.requests = omega (arith, within, length-set i.requests s (Some (just_asked request))) in
     let can_now : CanDraw script s y = record { within = within_now; in_term = draw.in_term; goes_on = draw.goes_on; last = draw.last; covered = draw.covered; range = draw.range; more = draw.more } in
     let has : held_of y.oracle s ≡ Some (just_asked request) = held_of-with_request_same i s (Some (just_asked request)) within in
-    let drew : Drew script line node s 4 q y request = asked_is_drawn script number node s v q y request (λ at. refl) there has (begin_accepted i (reading_of script p node) s can.leased) refl can_now in
+    let drew : Drew script line node s 4 q y request = asked_is_drawn script number node s v q y request (λ at. refl) there has (begin_accepted i (reading_of script p node) s can.serving.leased) refl can_now in
     let d : Played = drew.next in
     let z : Spot = drew.spot in
     let now : Held = with_stamp request drew.told stamp in
@@ -95,7 +95,7 @@ begins_are_granted lowers script p number s node before can =
     let answers : Leads script line 1 (run_at Drives d) last = leads_one script line (run_at Drives d) (event.Answer node s) (serves_next script number node s v d z now (λ at. refl) drew.at has_now) in
     let least : least_unsettled z.oracle.requests stamp ≡ least_unsettled i.requests stamp =
     ap (λ (requests : List (Option Held)). least_unsettled requests stamp) (drew.requests ∙ set-set i.requests s (Some (just_asked request)) (Some now))
-    ∙ same_least i.requests s stamp now (none_held p.state p.items s c known.reached.stands can.session_is (inr can.is_free) node i can.node_has) refl in
+    ∙ same_least i.requests s stamp now (none_held p.state p.items s c known.reached.stands can.session_is (inr can.is_free) node i can.serving.node_has) refl in
     let tells : (step_of script d (event.Answer node s)).items ≡ begin_items s stamp (least_unsettled i.requests stamp) =
     ap (λ (step : Step). step.items) (on_both d.state node s z.oracle z.client (answer_on node s) drew.at.node_has drew.at.session_is)
     ∙ begin_answered node s stamp drew.told z.oracle z.client has_now

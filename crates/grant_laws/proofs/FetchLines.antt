@@ -34,7 +34,7 @@ use Rattle.line_steps.specs.declared.point.Point.TheVariants.{Opens, Reads}
 use Rattle.line_steps.specs.Halts.{halt_of, follows}
 use Rattle.line_steps.specs.Laws.{EventsLowerWhatIsLeft}
 use Rattle.line_steps.specs.Runs.{Calls, Played, one_more, calls_after, fate_by, fate_of, step_of, played, run_after, left_in, opened}
-use Rattle.line_steps.proofs.ReadLines.{OfKey, over_key}
+use Rattle.line_steps.proofs.ReadLines.{OfRead, over_read}
 use Rattle.grant_laws.specs.Granted.{line_of, next_fate}
 use Rattle.grant_laws.proofs.LongerRuns.{in_one, in_last, appended_before, Leads, leads_on, leads_one, leads_to, line_appends, run_at}
 use Rattle.grant_laws.proofs.ReadLines.{IsReading, HasAnswer, read_answers}
@@ -43,7 +43,7 @@ use Rattle.grant_laws.specs.Laws.{ReadsAreGranted}
 use Rattle.line_steps.specs.Left.{of_client, cells_by, client_reads, client_fetches}
 use Rattle.line_steps.proofs.AlwaysFit.{Fit}
 use Rattle.line_steps.proofs.Fitting.{EpochFits, fit_at}
-use Rattle.grant_laws.proofs.ReadTurns.{OfStart, over_start, CallsWork, works_on, works_now}
+use Rattle.grant_laws.proofs.ReadTurns.{CallsWork, works_on, works_now}
 
 -- ---- the fetch
 -- an open transaction has an epoch
@@ -151,7 +151,7 @@ by_first : ReadsEnd → (script : ScriptData) (number s key start epoch many : �
 by_first ends script number s key start epoch many p c (Answers a) is all works so = answers_at_once script number s key start many p c a so
 by_first ends script number s key start epoch many p c (Asks r) is all works so =
     let cells : List Cell = front_of start (fetched p.state.rows key start) in
-    answers_later ends script number s key start many p c r (subst (λ (turn : ReadTurn). OfKey key turn) is (over_key (marks_every p.state.setup) key start epoch cells)) (subst (λ (turn : ReadTurn). OfStart start turn) is (over_start (marks_every p.state.setup) key start epoch cells)) (omega (arith, all, ends.0 (marks_every p.state.setup) key start epoch cells r is)) works so
+    answers_later ends script number s key start many p c r (subst (λ (turn : ReadTurn). OfRead key start turn) is (over_read (marks_every p.state.setup) key start epoch cells)).0 (subst (λ (turn : ReadTurn). OfRead key start turn) is (over_read (marks_every p.state.setup) key start epoch cells)).1 (omega (arith, all, ends.0 (marks_every p.state.setup) key start epoch cells r is)) works so
 
 -- ---- the line
 -- the run of the line has room for all steps
@@ -164,13 +164,13 @@ room_left number s key start p c at begun =
 pub reads_are_granted : EventsLowerWhatIsLeft → ReadsEnd → ReadsAreGranted
 reads_are_granted lowers ends script p number s key before can =
     let line : Line = line_of number (Session s) (verb.Read key) in
-    let c : Client = can.client in
-    let start : ℕ = can.start in
+    let c : Client = can.work.client in
+    let start : ℕ = can.work.start in
     let many : ℕ = 3 * length (front_of start (fetched p.state.rows key start)) in
     let known : Known script p = known_before lowers script line p before in
-    let epoch : (e : ℕ) × (c.entry.epoch ≡ Some e) = has_epoch p s c known.fit can.session_is can.in_work in
+    let epoch : (e : ℕ) × (c.entry.epoch ≡ Some e) = has_epoch p s c known.fit can.work.session_is can.work.in_work in
     let works : CallsWork script (many + 1) p.calls = λ store n from less. can.reading store n from (omega (arith, less)) in
-    let so : FetchesSo script s key start p c (first_turn p key start epoch.0) = fetches_so script s key start epoch.0 p c can.session_is can.in_work (may_fetch c start epoch.0 can.in_work can.at_rest can.begun epoch.1) (works_now script many p.calls Cells tt works) in
+    let so : FetchesSo script s key start p c (first_turn p key start epoch.0) = fetches_so script s key start epoch.0 p c can.work.session_is can.work.in_work (may_fetch c start epoch.0 can.work.in_work can.work.at_rest can.work.begun epoch.1) (works_now script many p.calls Cells tt works) in
     let all : HasAnswer script line s key start (many + 1) (opened p) = by_first ends script number s key start epoch.0 many p c (first_turn p key start epoch.0) refl refl works so in
     let x : Item = item.Read s start key all.answer in
-    (all.answer, granted script line p x before (line_appends script line p all.steps all.next x (omega (arith, all.few, room_left number s key start p c can.session_is can.begun)) all.leads all.appends))
+    (all.answer, granted script line p x before (line_appends script line p all.steps all.next x (omega (arith, all.few, room_left number s key start p c can.work.session_is can.work.begun)) all.leads all.appends))

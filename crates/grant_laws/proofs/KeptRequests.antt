@@ -230,7 +230,7 @@ keeps w (event.SweepOpen n txn) fate node s held none k = post_has w node s held
 keeps w event.SweepStep fate node s held none k = k
 
 -- ---- turns
-stays_by : (script : ScriptData) (c : Carried) (t : Turn) (node s : ℕ) (request : Request) (p : Progress) (found : Option Event) → IfSome found (λ e. touches node s e ≡ false) → IsServed c.played node s request p → IsServed (turned_by script c t found).played node s request p
+pub stays_by : (script : ScriptData) (c : Carried) (t : Turn) (node s : ℕ) (request : Request) (p : Progress) (found : Option Event) → IfSome found (λ e. touches node s e ≡ false) → IsServed c.played node s request p → IsServed (turned_by script c t found).played node s request p
 stays_by script c t node s request p None none k = k
 stays_by script c t node s request p (Some e) none k =
     let after : Has (step_of script c.played e).state.nodes node s k.held.held = keeps c.played.state e (fate_of script c.played e) node s k.held.held none (record { i = k.oracle; at = k.node_has; has = k.held.has }) in

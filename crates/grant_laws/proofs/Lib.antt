@@ -14,6 +14,8 @@ pub mod ReadTurns
 pub mod ReadLines
 pub mod FetchLines
 mod WorkedScripts
+mod WorkedTurns
+mod WorkedWaits
 pub mod StoppedSeats
 pub mod SettledCommits
 pub mod StoodBefore
@@ -24,3 +26,12 @@ pub mod ServedTurns
 pub mod StageTurns
 pub mod KeptRequests
 pub mod ReadTurnsMade
+pub mod LongerTurns
+pub mod KnownTurns
+pub mod OwnLines
+pub mod AskTurns
+pub mod LeftRequests
+pub mod ServedLines
+pub mod OtherTurns
+pub mod ReadSeats
+pub mod WholeReads

@@ -57,25 +57,25 @@ written s key value fate c rows start is_free begun works =
     ∙ ap (λ (f : Fate). (write_open s key value f c rows None (Some start)).items) works
 
 -- the event that the line makes
-pub write_tells : (script : ScriptData) (p : Played) (s key : ℕ) (value : List ℕ) (can : CanWrite script p s key) → (step_of script p (event.Write s key value)).items ≡ item.Write s can.start key value ∷ []
+pub write_tells : (script : ScriptData) (p : Played) (s key : ℕ) (value : List ℕ) (can : CanWrite script p s key) → (step_of script p (event.Write s key value)).items ≡ item.Write s can.work.start key value ∷ []
 write_tells script p s key value can =
     let w : State = p.state in
-    let c : Client = can.client in
+    let c : Client = can.work.client in
     let e : Event = event.Write s key value in
-    let is_free : write_refused c key ≡ None = write_free c key can.in_work can.at_rest can.room in
+    let is_free : write_refused c key ≡ None = write_free c key can.work.in_work can.work.at_rest can.room in
     let asked : asks w e ≡ Some Cells =
-    ap (λ (found : Option Client). asks_at_client found (write_asks key)) can.session_is
+    ap (λ (found : Option Client). asks_at_client found (write_asks key)) can.work.session_is
     ∙ ap (λ (why : Option Cause). open_asks why c.entry.start) is_free
-    ∙ ap (λ (start : Option ℕ). open_asks None start) can.begun in
+    ∙ ap (λ (start : Option ℕ). open_asks None start) can.work.begun in
     let fate : fate_of script p e ≡ Works = ap (λ (store : Option Store). fate_by script p.calls store) asked ∙ can.writing in
-    ap (λ (found : Option Client). (at_client w found (λ d. step_by (write_on s key value (fate_of script p e) d w.rows) (λ q. record (with_client w s q.0) { rows = q.1 }))).items) can.session_is
-    ∙ written s key value (fate_of script p e) c w.rows can.start is_free can.begun fate
+    ap (λ (found : Option Client). (at_client w found (λ d. step_by (write_on s key value (fate_of script p e) d w.rows) (λ q. record (with_client w s q.0) { rows = q.1 }))).items) can.work.session_is
+    ∙ written s key value (fate_of script p e) c w.rows can.work.start is_free can.work.begun fate
 
 pub writes_are_granted : WritesAreGranted
 writes_are_granted script p number s key value before can =
     let line : Line = line_of number (Session s) (verb.Write key value) in
     let e : Event = event.Write s key value in
-    let x : Item = item.Write s can.start key value in
+    let x : Item = item.Write s can.work.start key value in
     granted script line p x before (line_appends script line p 1 (run_after script line (opened p) e) x (omega arith) (leads_one script line (opened p) e refl) (first_appends script line p e x (omega arith) refl (write_tells script p s key value can)))
 
 -- ---- a take

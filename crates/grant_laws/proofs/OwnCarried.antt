@@ -1,15 +1,16 @@
 -- Own turns that write and take, and what a turn appends.
-use Rattle.std.proofs.Common.{◌≡◌, List, [], ◌∷◌, ◌++◌, Option, Some, ◌∙◌, ap}
+use Rattle.std.proofs.Common.{◌≡◌, ℕ, List, [], ◌∷◌, ◌++◌, Option, Some, ◌∙◌, ap}
 use Rattle.history_book.specs.declared.item.Actor.TheVariants.{Node, Session}
 use Rattle.history_book.specs.declared.item.Item.{Item}
 use Rattle.history_book.specs.declared.item.Item.TheVariants as item
 use Rattle.machine.specs.declared.event.Event.{Event}
 use Rattle.machine.specs.declared.event.Event.TheVariants as event
 use Rattle.script_data.specs.Data.{ScriptData}
-use Rattle.line_steps.specs.Runs.{step_of}
+use Rattle.line_steps.specs.Runs.{step_of, played}
 use Rattle.turn_rules.specs.declared.turn.Turn.{Turn}
 use Rattle.turn_rules.specs.declared.turn.Turn.TheVariants as turn
-use Rattle.turn_rules.specs.Carried.{Carried, made_by, event_of, turned_by, carried}
+use Rattle.turn_rules.specs.declared.ahead.Ahead.TheVariants.{Makes}
+use Rattle.turn_rules.specs.Carried.{Carried, own_ahead, made_by, event_of, turned_by, turned, carried}
 use Rattle.turn_rules.specs.Laws.{TurnsKeepFacts}
 use Rattle.grant_laws.specs.Granted.{reading_of}
 use Rattle.grant_laws.specs.Turns.{Adds, WritesAreCarried, TakesAreCarried}
@@ -19,10 +20,14 @@ use Rattle.grant_laws.proofs.OneEvent.{write_tells, next_take, take_tells}
 pub turn_adds : (script : ScriptData) (c : Carried) (t : Turn) (e : Event) (x : Item) → event_of script c t ≡ Some e → (step_of script c.played e).items ≡ x ∷ [] → Adds script c t x
 turn_adds script c t e x made tells = ap (λ (found : Option Event). (turned_by script c t found).played.items) made ∙ ap (λ (xs : List Item). c.played.items ++ xs) tells
 
+-- an own turn that makes the event comes to what the event plays
+pub own_plays : (script : ScriptData) (c : Carried) (s : ℕ) (e : Event) → own_ahead script c (Session s) ≡ Makes e → (turned script c (turn.Own (Session s))).played ≡ played script c.played e
+own_plays script c s e ahead = ap (λ (found : Option Event). (turned_by script c (turn.Own (Session s)) found).played) (ap made_by ahead)
+
 pub writes_are_carried : WritesAreCarried
 writes_are_carried script turns s key value ahead can =
     let c : Carried = carried script turns in
-    turn_adds script c (turn.Own (Session s)) (event.Write s key value) (item.Write s can.start key value) (ap made_by ahead) (write_tells script c.played s key value can)
+    turn_adds script c (turn.Own (Session s)) (event.Write s key value) (item.Write s can.work.start key value) (ap made_by ahead) (write_tells script c.played s key value can)
 
 pub takes_are_carried : TurnsKeepFacts → TakesAreCarried
 takes_are_carried facts script turns node in_range playable ahead can =

@@ -38,10 +38,10 @@ use Rattle.line_steps.specs.declared.point.Point.TheVariants.{Reads}
 use Rattle.line_steps.specs.Halts.{halt_of, follows}
 use Rattle.line_steps.specs.Next.{read_next}
 use Rattle.line_steps.specs.Runs.{Calls, Played, one_more, calls_after, fate_by, fate_of, step_of, played, Run, run_after, next_in}
-use Rattle.line_steps.proofs.ReadLines.{OfKey, told_key}
+use Rattle.line_steps.proofs.ReadLines.{OfRead, told_read}
 use Rattle.grant_laws.specs.Granted.{line_of, Appends, next_fate}
 use Rattle.grant_laws.proofs.LongerRuns.{in_one, in_last, appended_before, Leads, leads_on, leads_one, leads_to, run_at}
-use Rattle.grant_laws.proofs.ReadTurns.{OfStart, told_start, CallsWork, works_on, works_now, read_from}
+use Rattle.grant_laws.proofs.ReadTurns.{CallsWork, works_on, works_now, read_from}
 
 -- ---- a read under way
 pub record IsReading (s key start : ℕ) (p : Played) (r : Reading) : Type 0 where
@@ -156,9 +156,9 @@ goes_on script number s key start many p r later k key_is start_is so rest =
 by_told : (script : ScriptData) (number s key start many : ℕ) (p : Played) (r : Reading) (told : Told) (k : IsReading s key start p r) (turn : ReadTurn) → read_told r told ≡ turn → StepsSo script s p k.client r turn → ((later : Reading) → read_told r told ≡ Asks later → IsReading s key start (played script p (event.Step s)) later → HasAnswer script (line_of number (Session s) (verb.Read key)) s key start many (run_at Reads (played script p (event.Step s)))) → HasAnswer script (line_of number (Session s) (verb.Read key)) s key start (many + 1) (run_at Reads p)
 by_told script number s key start many p r told k (Answers a) is so rest = answers_now script number s key start (many + 1) p r k a (omega arith) so
 by_told script number s key start many p r told k (Asks later) is so rest =
-    goes_on script number s key start many p r later k (subst (λ (turn : ReadTurn). OfKey r.key turn) is (told_key r told)) (subst (λ (turn : ReadTurn). OfStart r.start turn) is (told_start r told)) so (rest later is)
+    goes_on script number s key start many p r later k (subst (λ (turn : ReadTurn). OfRead r.key r.start turn) is (told_read r told)).0 (subst (λ (turn : ReadTurn). OfRead r.key r.start turn) is (told_read r told)).1 so (rest later is)
 
-some_left : (point : SettlePoint) → 1 ≤ settle_left point
+pub some_left : (point : SettlePoint) → 1 ≤ settle_left point
 some_left FirstLook = omega arith
 some_left Table = omega arith
 some_left Marking = omega arith

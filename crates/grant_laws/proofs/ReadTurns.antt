@@ -1,49 +1,15 @@
--- A read keeps its start, and the calls that are ahead of it work one after the other.
-use Rattle.std.proofs.Common.{◌≡◌, ℕ, ◌+◌, ◌<◌, ◌==◌, ◌||◌, nat_lt, Bool, true, false, cond, is_some, List, [], ◌∷◌, ◌⊎◌, inl, inr, refl, ◌∙◌, ap, arith}
+-- The calls that are ahead of a read work one after the other.
+use Rattle.std.proofs.Common.{◌≡◌, ℕ, ◌+◌, ◌<◌, ◌⊎◌, inl, inr, refl, ◌∙◌, ap, arith}
 use Rattle.stamp_base.specs.declared.stores.Store.{Store}
 use Rattle.stamp_base.specs.declared.stores.Store.TheVariants.{Cells, Table, Master}
 use Rattle.port_io.specs.declared.weather.Fate.TheVariants as fate
 use Rattle.port_io.specs.Planned.{planned_fate}
-use Rattle.store_parts.specs.declared.rows.Cell.{Cell}
 use Rattle.client_parts.specs.declared.asks.Ask.{Ask}
 use Rattle.client_parts.specs.declared.asks.Ask.TheVariants as ask
-use Rattle.client_parts.specs.declared.asks.Told.{Told}
 use Rattle.machine.specs.StoreSteps.{store_of}
 use Rattle.grant_laws.specs.Premises.{IsReadFrom}
-use Rattle.client_parts.specs.declared.resolve.Outcome.TheVariants.{Committed, Dead}
-use Rattle.client_parts.specs.declared.resolve.SettlePoint.TheVariants.{Table as AtTable}
-use Rattle.client_parts.specs.Resolve.{SettleTurn, Goes, Decides, settle_turn}
-use Rattle.client_parts.specs.KeyRead.{Reading, ReadTurn, Asks, Answers, found_cell, found_by, settling_of, after_passed, turn_at, read_over, read_by, read_told}
 use Rattle.script_data.specs.Data.{ScriptData}
 use Rattle.line_steps.specs.Runs.{Calls, calls_on, one_more}
-
--- ---- a read keeps its start
-abbrev pub OfStart : ℕ → ReadTurn → Type 0
-OfStart start (Asks r) = r.start ≡ start
-OfStart start (Answers a) = Unit {0}
-
-first_start : (every : Bool) (key start epoch : ℕ) (c : Cell) (cs : List Cell) (answers : Bool) → OfStart start (cond answers (Answers (found_cell c)) (Asks (record { key = key; start = start; epoch = epoch; every = every; cell = c; older = cs; point = AtTable })))
-first_start every key start epoch c cs true = tt
-first_start every key start epoch c cs false = refl
-
-turn_start : (every : Bool) (key start epoch : ℕ) (cells : List Cell) → OfStart start (turn_at every key start epoch cells)
-turn_start every key start epoch [] = tt
-turn_start every key start epoch (c ∷ cs) = first_start every key start epoch c cs ((c.version == start) || is_some c.shadow)
-
-pub over_start : (every : Bool) (key start epoch : ℕ) (cells : List Cell) → OfStart start (read_over every key start epoch cells)
-over_start every key start epoch cells = turn_start every key start epoch (after_passed start cells)
-
-decided_start : (r : Reading) (c : ℕ) (by_table below : Bool) → OfStart r.start (cond below (Answers (found_by r.key r.cell c by_table)) (read_over r.every r.key r.start r.epoch r.older))
-decided_start r c by_table true = tt
-decided_start r c by_table false = over_start r.every r.key r.start r.epoch r.older
-
-settled_start : (r : Reading) (turn : SettleTurn) → OfStart r.start (read_by r turn)
-settled_start r (Goes p) = refl
-settled_start r (Decides Dead) = over_start r.every r.key r.start r.epoch r.older
-settled_start r (Decides (Committed c by_table)) = decided_start r c by_table (nat_lt c r.start)
-
-pub told_start : (r : Reading) (told : Told) → OfStart r.start (read_told r told)
-told_start r told = settled_start r (settle_turn (settling_of r) told)
 
 -- ---- calls that work
 -- on each store the next so many calls work

@@ -1,5 +1,5 @@
 -- Own turns of a read: its fetch, and its steps.
-use Rattle.std.proofs.Common.{◌≡◌, ℕ, ◌+◌, ◌*◌, List, [], ◌∷◌, ◌++◌, length, Option, Some, None, refl, sym, ◌∙◌, ap, subst, arith, inl, inr}
+use Rattle.std.proofs.Common.{◌≡◌, ℕ, ◌+◌, ◌*◌, List, [], ◌∷◌, ◌++◌, length, Some, None, refl, sym, ◌∙◌, ap, subst, arith, inl, inr}
 use Rattle.port_io.specs.declared.weather.Fate.TheVariants.{Works}
 use Rattle.history_book.specs.declared.item.Actor.TheVariants.{Session}
 use Rattle.history_book.specs.declared.item.StoreStep.TheVariants as store_step
@@ -10,7 +10,6 @@ use Rattle.store_parts.specs.Rows.{fetched, front_of}
 use Rattle.client_parts.specs.KeyRead.{Reading, ReadTurn, Asks, Answers, read_left, ReadsEnd, read_told, read_ask}
 use Rattle.machine.specs.State.{Reads as UnderRead, Client}
 use Rattle.machine.specs.StoreSteps.{store_of}
-use Rattle.machine.specs.declared.event.Event.{Event}
 use Rattle.machine.specs.declared.event.Event.TheVariants as event
 use Rattle.machine.specs.Machine.{Step}
 use Rattle.machine.specs.Events.Fetch.{marks_every, found_of}
@@ -19,32 +18,28 @@ use Rattle.isolation_laws.specs.Words.{ClientAt}
 use Rattle.isolation_laws.proofs.Lookups.{set_found}
 use Rattle.line_steps.specs.Laws.{IsPlayable}
 use Rattle.line_steps.specs.Runs.{Played, step_of, played}
-use Rattle.line_steps.proofs.ReadLines.{OfKey, over_key, told_key}
+use Rattle.line_steps.proofs.ReadLines.{OfRead, over_read, told_read}
 use Rattle.grant_laws.specs.Granted.{next_fate}
 use Rattle.grant_laws.proofs.LongerRuns.{in_one, in_last}
+use Rattle.grant_laws.proofs.OwnCarried.{own_plays}
 use Rattle.grant_laws.proofs.ReadLines.{IsReading, told_now, StepsSo, steps_so}
 use Rattle.grant_laws.specs.Turns.{ReadsKey, AnswersOr, ReadsAreCarried}
-use Rattle.grant_laws.proofs.ReadTurns.{OfStart, over_start, told_start}
 use Rattle.stamp_base.specs.SetupNumbers.{AreInRange}
 use Rattle.turn_rules.specs.declared.ahead.Ahead.TheVariants.{Makes}
 use Rattle.turn_rules.specs.declared.turn.Turn.{Turn}
 use Rattle.turn_rules.specs.declared.turn.Turn.TheVariants as turn
-use Rattle.turn_rules.specs.Carried.{Carried, own_ahead, made_by, turned_by, turned, carried, all_passed, at_first}
+use Rattle.turn_rules.specs.Carried.{Carried, own_ahead, turned, carried, all_passed, at_first}
 use Rattle.turn_rules.proofs.Facts.{Facts, facts_all, facts_at_first}
 use Rattle.grant_laws.specs.Premises.{cells_to_read, CanFetch}
 use Rattle.grant_laws.proofs.FetchLines.{has_epoch, may_fetch, first_turn, FetchesSo, fetches_so}
 use Rattle.client_parts.specs.declared.asks.Told.{Told}
 use Rattle.machine.specs.StoreSteps.{met}
 
--- an own turn that makes the event comes to what the event plays
-own_plays : (script : ScriptData) (c : Carried) (s : ℕ) (e : Event) → own_ahead script c (Session s) ≡ Makes e → (turned script c (turn.Own (Session s))).played ≡ played script c.played e
-own_plays script c s e ahead = ap (λ (found : Option Event). (turned_by script c (turn.Own (Session s)) found).played) (ap made_by ahead)
-
 -- ---- a step
-as_reading : (p : Played) (s start key : ℕ) (r : Reading) → ReadsKey p s start key r → IsReading s key start p r
+abbrev pub as_reading : (p : Played) (s start key : ℕ) (r : Reading) → ReadsKey p s start key r → IsReading s key start p r
 as_reading p s start key r k = record { client = k.client; session_is = k.session_is; in_work = k.in_work; under_way = k.under_way; key_is = k.key_is; start_is = k.start_is }
 
-step_by_turn : ReadsEnd → (script : ScriptData) (s start key : ℕ) (p : Played) (r : Reading) (told : Told) (k : IsReading s key start p r) (turn : ReadTurn) → read_told r told ≡ turn → StepsSo script s p k.client r turn → AnswersOr p (played script p (event.Step s)) s start key (read_left r)
+pub step_by_turn : ReadsEnd → (script : ScriptData) (s start key : ℕ) (p : Played) (r : Reading) (told : Told) (k : IsReading s key start p r) (turn : ReadTurn) → read_told r told ≡ turn → StepsSo script s p k.client r turn → AnswersOr p (played script p (event.Step s)) s start key (read_left r)
 step_by_turn ends script s start key p r told k (Answers a) is so =
     let before : List Item = (met (Session s) (read_ask r) Works p.state.rows p.state.pairs).items in
     let x : Item = item.Read s start key (found_of a.found) in
@@ -60,8 +55,8 @@ step_by_turn ends script s start key p r told k (Asks later) is so =
         session_is = subst (λ (step : Step). ClientAt step.state.clients s now) (sym so.is) (set_found p.state.clients s now k.client k.session_is);
         in_work = k.in_work;
         under_way = refl;
-        key_is = subst (λ (turn : ReadTurn). OfKey r.key turn) is (told_key r told) ∙ k.key_is;
-        start_is = subst (λ (turn : ReadTurn). OfStart r.start turn) is (told_start r told) ∙ k.start_is;
+        key_is = (subst (λ (turn : ReadTurn). OfRead r.key r.start turn) is (told_read r told)).0 ∙ k.key_is;
+        start_is = (subst (λ (turn : ReadTurn). OfRead r.key r.start turn) is (told_read r told)).1 ∙ k.start_is;
       };
       fewer = ends.1 r later told is;
     })
@@ -74,7 +69,7 @@ step_carried ends script turns s start key r ahead reads works =
     subst (λ (after : Played). AnswersOr c.played after s start key (read_left r)) (sym (own_plays script c s (event.Step s) ahead)) (step_by_turn ends script s start key c.played r (told_now c.played r) k (read_told r (told_now c.played r)) refl so)
 
 -- ---- the fetch
-fetch_by_turn : ReadsEnd → (script : ScriptData) (s start key epoch most : ℕ) (p : Played) (c : Client) (turn : ReadTurn) → first_turn p key start epoch ≡ turn → most ≡ 3 * cells_to_read p start key → FetchesSo script s key start p c turn → AnswersOr p (played script p (event.Fetch s key)) s start key (most + 1)
+pub fetch_by_turn : ReadsEnd → (script : ScriptData) (s start key epoch most : ℕ) (p : Played) (c : Client) (turn : ReadTurn) → first_turn p key start epoch ≡ turn → most ≡ 3 * cells_to_read p start key → FetchesSo script s key start p c turn → AnswersOr p (played script p (event.Fetch s key)) s start key (most + 1)
 fetch_by_turn ends script s start key epoch most p c (Answers a) is all so =
     let fetch : Item = item.Step (Session s) (store_step.Fetch key (length (fetched p.state.rows key start))) in
     let x : Item = item.Read s start key (found_of a.found) in
@@ -89,20 +84,20 @@ fetch_by_turn ends script s start key epoch most p c (Asks r) is all so =
         session_is = subst (λ (step : Step). ClientAt step.state.clients s now) (sym so.is) (set_found p.state.clients s now c so.session_is);
         in_work = so.in_work;
         under_way = refl;
-        key_is = subst (λ (turn : ReadTurn). OfKey key turn) is (over_key (marks_every p.state.setup) key start epoch cells);
-        start_is = subst (λ (turn : ReadTurn). OfStart start turn) is (over_start (marks_every p.state.setup) key start epoch cells);
+        key_is = (subst (λ (turn : ReadTurn). OfRead key start turn) is (over_read (marks_every p.state.setup) key start epoch cells)).0;
+        start_is = (subst (λ (turn : ReadTurn). OfRead key start turn) is (over_read (marks_every p.state.setup) key start epoch cells)).1;
       };
       fewer = omega (arith, all, ends.0 (marks_every p.state.setup) key start epoch cells r is);
     })
 
-fetch_carried : ReadsEnd → (script : ScriptData) (turns : List Turn) (s key : ℕ) → AreInRange script.setup → IsPlayable script 0 script.lines → own_ahead script (carried script turns) (Session s) ≡ Makes (event.Fetch s key) → (can : CanFetch script (carried script turns).played s) → AnswersOr (carried script turns).played (turned script (carried script turns) (turn.Own (Session s))).played s can.start key (3 * cells_to_read (carried script turns).played can.start key + 1)
+fetch_carried : ReadsEnd → (script : ScriptData) (turns : List Turn) (s key : ℕ) → AreInRange script.setup → IsPlayable script 0 script.lines → own_ahead script (carried script turns) (Session s) ≡ Makes (event.Fetch s key) → (can : CanFetch script (carried script turns).played s) → AnswersOr (carried script turns).played (turned script (carried script turns) (turn.Own (Session s))).played s can.work.start key (3 * cells_to_read (carried script turns).played can.work.start key + 1)
 fetch_carried ends script turns s key in_range playable ahead can =
     let c : Carried = carried script turns in
     let facts : Facts script c = facts_all script playable turns (all_passed script (at_first script)) (facts_at_first script in_range) in
-    let most : ℕ = 3 * cells_to_read c.played can.start key in
-    let epoch : (e : ℕ) × (can.client.entry.epoch ≡ Some e) = has_epoch c.played s can.client facts.fit can.session_is can.in_work in
-    let so : FetchesSo script s key can.start c.played can.client (first_turn c.played key can.start epoch.0) = fetches_so script s key can.start epoch.0 c.played can.client can.session_is can.in_work (may_fetch can.client can.start epoch.0 can.in_work can.at_rest can.begun epoch.1) can.fetching in
-    subst (λ (after : Played). AnswersOr c.played after s can.start key (most + 1)) (sym (own_plays script c s (event.Fetch s key) ahead)) (fetch_by_turn ends script s can.start key epoch.0 most c.played can.client (first_turn c.played key can.start epoch.0) refl refl so)
+    let most : ℕ = 3 * cells_to_read c.played can.work.start key in
+    let epoch : (e : ℕ) × (can.work.client.entry.epoch ≡ Some e) = has_epoch c.played s can.work.client facts.fit can.work.session_is can.work.in_work in
+    let so : FetchesSo script s key can.work.start c.played can.work.client (first_turn c.played key can.work.start epoch.0) = fetches_so script s key can.work.start epoch.0 c.played can.work.client can.work.session_is can.work.in_work (may_fetch can.work.client can.work.start epoch.0 can.work.in_work can.work.at_rest can.work.begun epoch.1) can.fetching in
+    subst (λ (after : Played). AnswersOr c.played after s can.work.start key (most + 1)) (sym (own_plays script c s (event.Fetch s key) ahead)) (fetch_by_turn ends script s can.work.start key epoch.0 most c.played can.work.client (first_turn c.played key can.work.start epoch.0) refl refl so)
 
 pub reads_are_carried : ReadsEnd → ReadsAreCarried
 reads_are_carried ends = record {

@@ -8,7 +8,7 @@ use Rattle.oracle_parts.specs.declared.instance.Progress.{Progress}
 use Rattle.oracle_parts.specs.declared.instance.Progress.TheVariants as progress
 use Rattle.oracle_parts.specs.declared.instance.Request.{Request}
 use Rattle.oracle_parts.specs.declared.instance.Request.TheVariants.{Begin, Commit}
-use Rattle.oracle_parts.specs.Instance.{InstanceEntry, held_of, with_request, session_of}
+use Rattle.oracle_parts.specs.Instance.{InstanceEntry, held_of, with_request}
 use Rattle.oracle_parts.specs.InstanceSteps.{just_asked}
 use Rattle.oracle_parts.proofs.InstanceRequests.{held_of-instance_new}
 use Rattle.machine.specs.State.{State}
@@ -150,7 +150,7 @@ own_steady : (script : ScriptData) (c : Carried) (actor : Actor) (e : Event) →
 own_steady script c actor e playable k own =
     steady_at script c e (own_tick own.line.actor (tick_ahead own.seat.point own.line.verb)) playable k (own_timed (clocks_of script c.played) own.line.actor own.line.verb own.seat.point (view_of c.played.state own.line.actor) e own.next)
 
-turn_steady : (script : ScriptData) (c : Carried) (t : Turn) (e : Event) → IsPlayable script 0 script.lines → Facts script c → event_of script c t ≡ Some e → IsSteadyAt c.played.state.setup.skew c.played.state.seen (reading_of e)
+pub turn_steady : (script : ScriptData) (c : Carried) (t : Turn) (e : Event) → IsPlayable script 0 script.lines → Facts script c → event_of script c t ≡ Some e → IsSteadyAt c.played.state.setup.skew c.played.state.seen (reading_of e)
 turn_steady script c (turn.Own actor) e playable k is = own_steady script c actor e playable k (own_turn script c actor e is)
 turn_steady script c (turn.Accept node session) e playable k is = steady_at script c e 0 playable k (stage_turn script c (turn.Accept node session) e (λ own. own) is).timed
 turn_steady script c (turn.Decide node session) e playable k is = steady_at script c e 0 playable k (stage_turn script c (turn.Decide node session) e (λ own. own) is).timed

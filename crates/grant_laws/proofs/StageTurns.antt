@@ -40,7 +40,7 @@ use Rattle.turn_rules.specs.declared.turn.Turn.TheVariants as turn
 use Rattle.turn_rules.specs.Carried.{Carried, carried}
 use Rattle.turn_rules.specs.Laws.{TurnsKeepFacts}
 use Rattle.grant_laws.specs.Granted.{reading_of, next_fate}
-use Rattle.grant_laws.specs.Turns.{Adds, IsServed, Serves, ServedTurnsAreGranted, ExtensionsAreCarried}
+use Rattle.grant_laws.specs.Turns.{Adds, IsServed, Serves, ServedAreGranted, ServedTurnsAreGranted, ExtensionsAreCarried}
 use Rattle.grant_laws.proofs.Effects.{widens}
 use Rattle.grant_laws.proofs.OwnCarried.{turn_adds}
 use Rattle.grant_laws.proofs.ServedTurns.{Parts, parts_of, served_so, by_request, tells_by, accepts_so, draws_so, commit_answers, begin_answers, unplaced_by, places_so}
@@ -123,17 +123,17 @@ answers script c node s request at x k stands tells =
     let parts : Parts c.played node s request at k = parts_of c.played node s request at k stands in
     turn_adds script c (turn.Answer node s) e x refl (tells_by script c e node s c.played.state.seen request at (answer_on node s) (x ∷ []) k parts refl (tells parts.client))
 
+pub served_by : (script : ScriptData) (c : Carried) (node s : ℕ) (request : Request) → Stands c.played.state c.played.items → ServedAreGranted script c node s request
+served_by script c node s request stands = record {
+  accepts = λ k leased above. accepts script c node s request stands k leased above;
+  draws = λ k no_conflict left. draws script c node s request stands k no_conflict left;
+  places = λ start commit keys is k unmarked works. as_commit script c node s start commit keys request is stands k unmarked works;
+  commits = λ start commit keys is k. answers script c node s request (progress.Settled commit how.Placed) (item.Committed s start commit) k stands (λ client. commit_answers node s start commit keys k.oracle client k.held.held k.held.has (k.held.asks ∙ is) k.held.stands);
+  begins = λ start is k settled. answers script c node s request (progress.Drawn start) (item.Begin s start) k stands (λ client. begin_answers node s start k.oracle client k.held.held k.held.has (k.held.asks ∙ is) k.held.stands settled);
+}
+
 pub served_turns_are_granted : TurnsKeepFacts → ServedTurnsAreGranted
-served_turns_are_granted facts script turns node s request in_range playable =
-    let c : Carried = carried script turns in
-    let stands : Stands c.played.state c.played.items = (facts script turns in_range playable).stands in
-    record {
-      accepts = λ k leased above. accepts script c node s request stands k leased above;
-      draws = λ k no_conflict left. draws script c node s request stands k no_conflict left;
-      places = λ start commit keys is k unmarked works. as_commit script c node s start commit keys request is stands k unmarked works;
-      commits = λ start commit keys is k. answers script c node s request (progress.Settled commit how.Placed) (item.Committed s start commit) k stands (λ client. commit_answers node s start commit keys k.oracle client k.held.held k.held.has (k.held.asks ∙ is) k.held.stands);
-      begins = λ start is k settled. answers script c node s request (progress.Drawn start) (item.Begin s start) k stands (λ client. begin_answers node s start k.oracle client k.held.held k.held.has (k.held.asks ∙ is) k.held.stands settled);
-    }
+served_turns_are_granted facts script turns node s request in_range playable = served_by script (carried script turns) node s request (facts script turns in_range playable).stands
 
 -- ---- the extension
 pub extensions_are_carried : TurnsKeepFacts → ExtensionsAreCarried

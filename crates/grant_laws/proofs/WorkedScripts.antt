@@ -21,11 +21,11 @@ use Rattle.history_book.specs.declared.item.Item.TheVariants as item
 use Rattle.script_data.specs.Ticks.{ticks_of}
 use Rattle.grant_laws.specs.Granted.{reading_of, IsBefore, Grants}
 use Rattle.grant_laws.specs.Laws.{CommitsAreGranted}
-use Rattle.grant_laws.specs.Premises.{CanTake, CanBegin, CanWrite, CanRead, CanCommit}
+use Rattle.grant_laws.specs.Premises.{IsAtWork, CanServe, CanTake, CanBegin, CanWrite, CanRead, CanCommit}
 use Rattle.grant_laws.specs.Worked as worked
 
 -- the client of a session, and the instance of a node, where they are known to be there
-abbrev client_of : Played → Client
+abbrev pub client_of : Played → Client
 client_of p = slice_index_or p.state.clients 0 client_new
 
 pub take_history : replayed worked.taking ≡ worked.taking_items
@@ -72,7 +72,7 @@ abbrev oracle_in : Option InstanceEntry → InstanceEntry
 oracle_in None = none_here
 oracle_in (Some i) = i
 
-abbrev oracle_of : Played → InstanceEntry
+abbrev pub oracle_of : Played → InstanceEntry
 oracle_of p = oracle_in (slice_index_or p.state.nodes 0 None)
 
 pub take_can : CanTake worked.taking (worked.after worked.taking []) 0
@@ -96,7 +96,8 @@ begin_can =
     let until : i.until ≡ 10 = refl in
     let last : i.last ≡ 0 = refl in
     let ceiling : i.ceiling ≡ 100 = refl in
-    record { client = client_of p; oracle = i; session_is = refl; is_free = refl; node_has = refl; in_term = refl; slot = omega (arith, held, slots); leased = omega (arith, reading, until); stamp = inl (omega (arith, last, ceiling)); goes_on = refl }
+    let serving : CanServe worked.beginning p 0 = record { oracle = i; node_has = refl; in_term = refl; slot = omega (arith, held, slots); leased = omega (arith, reading, until); stamp = inl (omega (arith, last, ceiling)); goes_on = refl } in
+    record { client = client_of p; session_is = refl; is_free = refl; serving = serving }
 
 pub begin_can_earlier : CanBegin worked.beginning_late (worked.at_time 0 worked.before_beginning_late) 0 0
 unfolding lines_played run_for planned_fate holder_from record_pairs kept_commit verdict least_unsettled put_row without_bare fetched front_of after_passed
@@ -109,12 +110,14 @@ begin_can_earlier =
     let until : i.until ≡ 10 = refl in
     let last : i.last ≡ 0 = refl in
     let ceiling : i.ceiling ≡ 100 = refl in
-    record { client = client_of p; oracle = i; session_is = refl; is_free = refl; node_has = refl; in_term = refl; slot = omega (arith, held, slots); leased = omega (arith, reading, until); stamp = inl (omega (arith, last, ceiling)); goes_on = refl }
+    let serving : CanServe worked.beginning_late p 0 = record { oracle = i; node_has = refl; in_term = refl; slot = omega (arith, held, slots); leased = omega (arith, reading, until); stamp = inl (omega (arith, last, ceiling)); goes_on = refl } in
+    record { client = client_of p; session_is = refl; is_free = refl; serving = serving }
 
 pub write_can : CanWrite worked.writing worked.before_writing 0 0
 unfolding lines_played run_for planned_fate holder_from record_pairs kept_commit verdict least_unsettled put_row without_bare fetched front_of after_passed
 write_can =
-    record { client = client_of worked.before_writing; start = 1; session_is = refl; begun = refl; in_work = refl; at_rest = refl; room = refl; writing = refl }
+    let work : IsAtWork worked.before_writing 0 = record { client = client_of worked.before_writing; start = 1; session_is = refl; begun = refl; in_work = refl; at_rest = refl } in
+    record { work = work; room = refl; writing = refl }
 
 quiet : (calls : Calls) (store : Store) (n : ℕ) → planned_fate [] store (calls_on calls store + n + 1) ≡ Works
 unfolding planned_fate
@@ -123,7 +126,8 @@ quiet calls store n = refl
 pub read_can : CanRead worked.reading worked.before_reading 0 0
 unfolding lines_played run_for planned_fate holder_from record_pairs kept_commit verdict least_unsettled put_row without_bare fetched front_of after_passed
 read_can =
-    record { client = client_of worked.before_reading; start = 1; session_is = refl; begun = refl; in_work = refl; at_rest = refl; reading = λ store n from few. quiet worked.before_reading.calls store n }
+    let work : IsAtWork worked.before_reading 0 = record { client = client_of worked.before_reading; start = 1; session_is = refl; begun = refl; in_work = refl; at_rest = refl } in
+    record { work = work; reading = λ store n from few. quiet worked.before_reading.calls store n }
 
 pub commit_can : CanCommit worked.committing worked.before_committing 0 0
 unfolding lines_played run_for planned_fate holder_from record_pairs kept_commit verdict least_unsettled put_row without_bare fetched front_of after_passed
@@ -139,34 +143,25 @@ commit_can =
     let epoch : i.epoch ≡ 0 = refl in
     let last : i.last ≡ 1 = refl in
     let ceiling : i.ceiling ≡ 100 = refl in
+    let work : IsAtWork p 0 = record { client = c; start = 1; session_is = refl; begun = refl; in_work = refl; at_rest = refl } in
+    let serving : CanServe worked.committing p 0 = record { oracle = i; node_has = refl; in_term = refl; slot = omega (arith, held, slots); leased = omega (arith, reading, until); stamp = inl (omega (arith, last, ceiling)); goes_on = refl } in
     record {
-      client = c;
-      oracle = i;
-      start = 1;
-      session_is = refl;
-      begun = refl;
-      in_work = refl;
-      at_rest = refl;
+      work = work;
       wrote = λ none. cc (keys, none);
-      node_has = refl;
-      in_term = refl;
-      slot = omega (arith, held, slots);
-      leased = omega (arith, reading, until);
+      serving = serving;
       in_epoch = omega (arith, epoch);
       no_conflict = refl;
-      stamp = inl (omega (arith, last, ceiling));
-      goes_on = refl;
       unmarked = λ marked. none-some InvalidMark (sym (mark_of-empty 1) ∙ marked);
       placing = refl;
     }
 
 -- ---- the commit, by the law
-no_lead : (node : ℕ) → slice_index_or (0 ∷ 0 ∷ []) node 0 ≤ default_numbers.skew
+pub no_lead : (node : ℕ) → slice_index_or (0 ∷ 0 ∷ []) node 0 ≤ default_numbers.skew
 no_lead zero = omega arith
 no_lead (suc zero) = omega arith
 no_lead (suc (suc node)) = omega arith
 
-in_range : AreInRange default_numbers
+pub in_range : AreInRange default_numbers
 in_range = record {
   nodes = (omega arith, omega arith);
   lease = (omega arith, omega arith);
@@ -191,12 +186,12 @@ is_before = record {
   played = refl;
 }
 
-pub commit_item : item.Committed 0 commit_can.start (commit_can.oracle.last + 1) ≡ item.Committed 0 1 2
+pub commit_item : item.Committed 0 commit_can.work.start (commit_can.serving.oracle.last + 1) ≡ item.Committed 0 1 2
 unfolding commit_can lines_played run_for planned_fate holder_from record_pairs kept_commit verdict least_unsettled put_row
 commit_item = refl
 
 pub commit_granted : CommitsAreGranted → Grants worked.committing worked.commit worked.before_committing (item.Committed 0 1 2)
 commit_granted law =
     let can : CanCommit worked.committing worked.before_committing 0 0 = commit_can in
-    let granted : Grants worked.committing worked.commit worked.before_committing (item.Committed 0 can.start (can.oracle.last + 1)) = law worked.committing worked.before_committing 0 0 0 is_before can in
+    let granted : Grants worked.committing worked.commit worked.before_committing (item.Committed 0 can.work.start (can.serving.oracle.last + 1)) = law worked.committing worked.before_committing 0 0 0 is_before can in
     subst (λ (x : Item). Grants worked.committing worked.commit worked.before_committing x) commit_item granted

@@ -16,7 +16,7 @@ use Rattle.grant_laws.specs.Premises.{CanWrite, CanTake, CanBegin, CanCommit, Ca
 abbrev pub WritesAreGranted : Type 0
 WritesAreGranted =
     (script : ScriptData) (p : Played) (number session key : ℕ) (value : List ℕ) → let line = line_of number (Session session) (verb.Write key value) in IsBefore script line p → (can : CanWrite script p session key) →
-    Grants script line p (item.Write session can.start key value)
+    Grants script line p (item.Write session can.work.start key value)
 
 -- a take line appends the take of the next term: its epoch is the record's ceiling, its lease begins at the reading, and its
 -- range is a whole one
@@ -30,16 +30,16 @@ TakesAreGranted =
 abbrev pub BeginsAreGranted : Type 0
 BeginsAreGranted =
     (script : ScriptData) (p : Played) (number session node : ℕ) → let line = line_of number (Session session) (verb.Begin (target.Node node)) in IsBefore script line p → (can : CanBegin script p session node) →
-    MatchOption (least_unsettled can.oracle.requests (can.oracle.last + 1)) (Grants script line p (item.Begin session (can.oracle.last + 1))) (λ commit. Grants script line p (item.Refused (Session session) (cause.NotYet commit)))
+    MatchOption (least_unsettled can.serving.oracle.requests (can.serving.oracle.last + 1)) (Grants script line p (item.Begin session (can.serving.oracle.last + 1))) (λ commit. Grants script line p (item.Refused (Session session) (cause.NotYet commit)))
 
 -- a commit line appends the commit, by the next stamp
 abbrev pub CommitsAreGranted : Type 0
 CommitsAreGranted =
     (script : ScriptData) (p : Played) (number session node : ℕ) → let line = line_of number (Session session) (verb.Commit (target.Node node)) in IsBefore script line p → (can : CanCommit script p session node) →
-    Grants script line p (item.Committed session can.start (can.oracle.last + 1))
+    Grants script line p (item.Committed session can.work.start (can.serving.oracle.last + 1))
 
 -- a read line appends its answer; which one, the isolation of the history tells
 abbrev pub ReadsAreGranted : Type 0
 ReadsAreGranted =
     (script : ScriptData) (p : Played) (number session key : ℕ) → let line = line_of number (Session session) (verb.Read key) in IsBefore script line p → (can : CanRead script p session key) →
-    (answer : Option Found) × Grants script line p (item.Read session can.start key answer)
+    (answer : Option Found) × Grants script line p (item.Read session can.work.start key answer)

@@ -4,3 +4,6 @@ pub mod Laws
 pub mod Worked
 pub mod Stuck
 pub mod Turns
+pub mod Lines
+pub mod Between
+pub mod WorkedRuns

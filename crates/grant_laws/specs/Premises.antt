@@ -18,18 +18,35 @@ use Rattle.line_steps.specs.Runs.{Played, calls_on}
 use Rattle.isolation_laws.specs.Words.{InstanceAt, ClientAt, Marked}
 use Rattle.grant_laws.specs.Granted.{reading_of, next_fate, HasStamp}
 
--- ---- a write
-pub record CanWrite (script : ScriptData) (p : Played) (session key : ℕ) : Type 0 where
+-- ---- what several lines need
+-- the session's transaction has this start and is open, and no read is under way
+pub record IsAtWork (p : Played) (session : ℕ) : Type 0 where
   pub client : Client
   pub start : ℕ
-  -- the session's transaction has this start, and is open
   pub session_is : ClientAt p.state.clients session client
   pub begun : client.entry.start ≡ Some start
   pub in_work : client.entry.state ≡ phase.Open
-  -- no read is under way
   pub at_rest : is_reading client ≡ false
+
+-- the node takes a request in, and serves it as far as to its stamp
+pub record CanServe (script : ScriptData) (p : Played) (node : ℕ) : Type 0 where
+  pub oracle : InstanceEntry
+  -- the node has the instance of the record's term
+  pub node_has : InstanceAt p.state.nodes node oracle
+  pub in_term : oracle.term ≡ p.state.master.term
+  -- a slot is free
+  pub slot : in_flight oracle < oracle.slots
+  -- the lease stands
+  pub leased : reading_of script p node < oracle.until
+  -- a stamp is left, or the range can be extended, and the instance keeps no refusal of the record
+  pub stamp : HasStamp script p oracle
+  pub goes_on : oracle.stop ≡ None
+
+-- ---- a write
+pub record CanWrite (script : ScriptData) (p : Played) (session key : ℕ) : Type 0 where
+  pub work : IsAtWork p session
   -- the key is among those that it wrote, or there is room for it
-  pub room : key_refusal client.entry.keys key ≡ None
+  pub room : key_refusal work.client.entry.keys key ≡ None
   -- the next call on the cells works
   pub writing : next_fate script p Cells ≡ Works
 
@@ -47,50 +64,25 @@ pub record CanTake (script : ScriptData) (p : Played) (node : ℕ) : Type 0 wher
 -- ---- a begin
 pub record CanBegin (script : ScriptData) (p : Played) (session node : ℕ) : Type 0 where
   pub client : Client
-  pub oracle : InstanceEntry
   -- the session is free
   pub session_is : ClientAt p.state.clients session client
   pub is_free : client.entry.state ≡ phase.Free
-  -- the node has the instance of the record's term
-  pub node_has : InstanceAt p.state.nodes node oracle
-  pub in_term : oracle.term ≡ p.state.master.term
-  -- a slot is free
-  pub slot : in_flight oracle < oracle.slots
-  -- the lease stands
-  pub leased : reading_of script p node < oracle.until
-  -- a stamp is left, or the range can be extended, and the instance keeps no refusal of the record
-  pub stamp : HasStamp script p oracle
-  pub goes_on : oracle.stop ≡ None
+  -- the node serves its request as far as to its stamp
+  pub serving : CanServe script p node
 
 -- ---- a commit
 pub record CanCommit (script : ScriptData) (p : Played) (session node : ℕ) : Type 0 where
-  pub client : Client
-  pub oracle : InstanceEntry
-  pub start : ℕ
-  -- the session's transaction has this start, and is open
-  pub session_is : ClientAt p.state.clients session client
-  pub begun : client.entry.start ≡ Some start
-  pub in_work : client.entry.state ≡ phase.Open
-  -- no read is under way
-  pub at_rest : is_reading client ≡ false
+  pub work : IsAtWork p session
   -- it has written
-  pub wrote : client.entry.keys ≢ []
-  -- the node has the instance of the record's term
-  pub node_has : InstanceAt p.state.nodes node oracle
-  pub in_term : oracle.term ≡ p.state.master.term
-  -- a slot is free
-  pub slot : in_flight oracle < oracle.slots
-  -- the lease stands
-  pub leased : reading_of script p node < oracle.until
+  pub wrote : work.client.entry.keys ≢ []
+  -- the node serves its request as far as to its stamp
+  pub serving : CanServe script p node
   -- the transaction began above the instance's epoch
-  pub in_epoch : oracle.epoch < start
+  pub in_epoch : serving.oracle.epoch < work.start
   -- the conflict memory has nothing against its keys
-  pub no_conflict : verdict oracle.buckets start client.entry.keys ≡ Free
-  -- a stamp is left, or the range can be extended, and the instance keeps no refusal of the record
-  pub stamp : HasStamp script p oracle
-  pub goes_on : oracle.stop ≡ None
+  pub no_conflict : verdict serving.oracle.buckets work.start work.client.entry.keys ≡ Free
   -- nobody has marked the transaction
-  pub unmarked : Marked p.state.pairs start → ⊥
+  pub unmarked : Marked p.state.pairs work.start → ⊥
   -- the next call on the commit table works
   pub placing : next_fate script p Table ≡ Works
 
@@ -106,26 +98,12 @@ abbrev pub cells_to_read : Played → ℕ → ℕ → ℕ
 cells_to_read p start key = length (front_of start (fetched p.state.rows key start))
 
 pub record CanRead (script : ScriptData) (p : Played) (session key : ℕ) : Type 0 where
-  pub client : Client
-  pub start : ℕ
-  -- the session's transaction has this start, and is open
-  pub session_is : ClientAt p.state.clients session client
-  pub begun : client.entry.start ≡ Some start
-  pub in_work : client.entry.state ≡ phase.Open
-  -- no read is under way
-  pub at_rest : is_reading client ≡ false
+  pub work : IsAtWork p session
   -- on both stores the next calls work, as many as the read can make: the fetch, and three for each cell
-  pub reading : (store : Store) (n : ℕ) → IsReadFrom store → n ≤ 3 * cells_to_read p start key → planned_fate script.faults store (calls_on p.calls store + n + 1) ≡ Works
+  pub reading : (store : Store) (n : ℕ) → IsReadFrom store → n ≤ 3 * cells_to_read p work.start key → planned_fate script.faults store (calls_on p.calls store + n + 1) ≡ Works
 
 -- ---- the fetch of a read alone
 pub record CanFetch (script : ScriptData) (p : Played) (session : ℕ) : Type 0 where
-  pub client : Client
-  pub start : ℕ
-  -- the session's transaction has this start, and is open
-  pub session_is : ClientAt p.state.clients session client
-  pub begun : client.entry.start ≡ Some start
-  pub in_work : client.entry.state ≡ phase.Open
-  -- no read is under way
-  pub at_rest : is_reading client ≡ false
+  pub work : IsAtWork p session
   -- the next call on the cells works
   pub fetching : next_fate script p Cells ≡ Works

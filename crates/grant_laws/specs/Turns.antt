@@ -43,7 +43,7 @@ Adds script c t x = (turned script c t).played.items ≡ c.played.items ++ x ∷
 abbrev pub WritesAreCarried : Type 0
 WritesAreCarried =
     (script : ScriptData) (turns : List Turn) (session key : ℕ) (value : List ℕ) → let c = carried script turns in own_ahead script c (Session session) ≡ Makes (event.Write session key value) → (can : CanWrite script c.played session key) →
-    Adds script c (turn.Own (Session session)) (item.Write session can.start key value)
+    Adds script c (turn.Own (Session session)) (item.Write session can.work.start key value)
 
 -- an own turn that takes the record appends the take
 abbrev pub TakesAreCarried : Type 0
@@ -128,4 +128,4 @@ pub record ReadsAreCarried : Type 0 where
   pub steps : (script : ScriptData) (turns : List Turn) (session start key : ℕ) (r : Reading) → let c = carried script turns in own_ahead script c (Session session) ≡ Makes (event.Step session) → ReadsKey c.played session start key r → next_fate script c.played (store_of (read_ask r)) ≡ Works →
       AnswersOr c.played (turned script c (turn.Own (Session session))).played session start key (read_left r)
   pub fetches : (script : ScriptData) (turns : List Turn) (session key : ℕ) → let c = carried script turns in AreInRange script.setup → IsPlayable script 0 script.lines → own_ahead script c (Session session) ≡ Makes (event.Fetch session key) → (can : CanFetch script c.played session) →
-      AnswersOr c.played (turned script c (turn.Own (Session session))).played session can.start key (3 * cells_to_read c.played can.start key + 1)
+      AnswersOr c.played (turned script c (turn.Own (Session session))).played session can.work.start key (3 * cells_to_read c.played can.work.start key + 1)

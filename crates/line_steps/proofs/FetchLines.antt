@@ -27,7 +27,7 @@ use Rattle.line_steps.proofs.Fitting.{fit_at}
 use Rattle.line_steps.proofs.AlwaysFit.{Fit}
 use Rattle.line_steps.proofs.WorkItems.{HasNumber, starts}
 use Rattle.line_steps.proofs.Walks.{AllNot, LineItems}
-use Rattle.line_steps.proofs.ReadLines.{OfKey, over_key, ReadsKey, read_pays}
+use Rattle.line_steps.proofs.ReadLines.{OfRead, over_read, ReadsKey, read_pays}
 
 -- the items so far: the first has begun a read of the key, which is under way
 pub record ReadBegun (w : State) (s key : ℕ) (xs : List Item) : Type 0 where
@@ -51,7 +51,7 @@ fault_line : (s key : ℕ) (store : Store) → LineItems (Session s) (Session s)
 unfolding AllNot
 fault_line s key store = record { first = item.Fault (Session s) store; rest = []; is = refl; answers = inr (inl refl); behind = tt }
 
-turn_done : (w : State) (s key start cells : ℕ) (c : Client) (turn : ReadTurn) → ClientAt w.clients s c → c.entry.state ≡ phase.Open → OfKey key turn → FetchDone s key (record { state = with_client w s (client_read c turn); items = item.Step (Session s) (step.Fetch key cells) ∷ read_items s start key turn; stop = None })
+turn_done : (w : State) (s key start cells : ℕ) (c : Client) (turn : ReadTurn) → ClientAt w.clients s c → c.entry.state ≡ phase.Open → OfRead key start turn → FetchDone s key (record { state = with_client w s (client_read c turn); items = item.Step (Session s) (step.Fetch key cells) ∷ read_items s start key turn; stop = None })
 unfolding AllNot
 turn_done w s key start cells c (Asks r) at is_open same = inr (
   record {
@@ -61,7 +61,7 @@ turn_done w s key start cells c (Asks r) at is_open same = inr (
     answers = inl (refl, refl);
     begun = refl;
     none = tt;
-    reads = record { c = client_read c (Asks r); at = set_found w.clients s (client_read c (Asks r)) c at; work = record { r = r; is_open = is_open; under_way = refl }; key_is = same };
+    reads = record { c = client_read c (Asks r); at = set_found w.clients s (client_read c (Asks r)) c at; work = record { r = r; is_open = is_open; under_way = refl }; key_is = same.0 };
   },
   refl,
 )
@@ -76,7 +76,7 @@ turn_done w s key start cells c (Answers a) at is_open same = inl (record {
 open_done : (w : State) (s key : ℕ) (fate : Fate) (c : Client) (start epoch : Option ℕ) → ClientAt w.clients s c → c.entry.state ≡ phase.Open → HasNumber phase.Open start → HasNumber phase.Open epoch → FetchDone s key (step_by (fetch_open (marks_every w.setup) s key fate c w.rows None start epoch) (λ (p : Client). with_client w s p))
 open_done w s key fate c None epoch at is_open has sees = absurd has
 open_done w s key fate c (Some start) None at is_open has sees = absurd sees
-open_done w s key Works c (Some start) (Some epoch) at is_open has sees = turn_done w s key start (length (fetched w.rows key start)) c (read_over (marks_every w.setup) key start epoch (front_of start (fetched w.rows key start))) at is_open (over_key (marks_every w.setup) key start epoch (front_of start (fetched w.rows key start)))
+open_done w s key Works c (Some start) (Some epoch) at is_open has sees = turn_done w s key start (length (fetched w.rows key start)) c (read_over (marks_every w.setup) key start epoch (front_of start (fetched w.rows key start))) at is_open (over_read (marks_every w.setup) key start epoch (front_of start (fetched w.rows key start)))
 open_done w s key FailsUnchanged c (Some start) (Some epoch) at is_open has sees = inl (fault_line s key _)
 open_done w s key FailsApplied c (Some start) (Some epoch) at is_open has sees = inl (fault_line s key _)
 

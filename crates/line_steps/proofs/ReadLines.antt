@@ -1,4 +1,4 @@
--- A read that a line has begun ends with its value or with a fault: its fetch, and each of its steps.
+-- For grant_laws too. A read that a line has begun ends with its value or with a fault: its fetch, and each of its steps.
 use Rattle.std.proofs.Common.{◌≡◌, ℕ, Bool, true, false, cond, nat_lt, ◌==◌, ◌||◌, is_some, List, [], ◌∷◌, ◌++◌, Option, None, ◌⊎◌, inl, refl}
 use Rattle.history_book.specs.declared.item.Actor.TheVariants.{Session}
 use Rattle.history_book.specs.declared.item.Item.{Item}
@@ -15,34 +15,34 @@ use Rattle.line_steps.proofs.Plain.{AllPlain}
 use Rattle.line_steps.proofs.Working.{ReadWork}
 use Rattle.line_steps.proofs.Walks.{AllNot, plain_not, Paid, paid_before}
 
--- ---- a read keeps its key
--- the reads of a turn are of this key
-abbrev pub OfKey : ℕ → ReadTurn → Type 0
-OfKey key (Asks r) = r.key ≡ key
-OfKey key (Answers a) = Unit {0}
+-- ---- a read keeps its key and its start
+-- the reads of a turn are of this key and this start
+abbrev pub OfRead : ℕ → ℕ → ReadTurn → Type 0
+OfRead key start (Asks r) = (r.key ≡ key) × (r.start ≡ start)
+OfRead key start (Answers a) = Unit {0}
 
-first_key : (every : Bool) (key start epoch : ℕ) (c : Cell) (cs : List Cell) (answers : Bool) → OfKey key (cond answers (Answers (found_cell c)) (Asks (record { key = key; start = start; epoch = epoch; every = every; cell = c; older = cs; point = Rattle.client_parts.specs.declared.resolve.SettlePoint.TheVariants.Table })))
-first_key every key start epoch c cs true = tt
-first_key every key start epoch c cs false = refl
+first_read : (every : Bool) (key start epoch : ℕ) (c : Cell) (cs : List Cell) (answers : Bool) → OfRead key start (cond answers (Answers (found_cell c)) (Asks (record { key = key; start = start; epoch = epoch; every = every; cell = c; older = cs; point = Rattle.client_parts.specs.declared.resolve.SettlePoint.TheVariants.Table })))
+first_read every key start epoch c cs true = tt
+first_read every key start epoch c cs false = (refl, refl)
 
-turn_key : (every : Bool) (key start epoch : ℕ) (cells : List Cell) → OfKey key (turn_at every key start epoch cells)
-turn_key every key start epoch [] = tt
-turn_key every key start epoch (c ∷ cs) = first_key every key start epoch c cs ((c.version == start) || is_some c.shadow)
+turn_read : (every : Bool) (key start epoch : ℕ) (cells : List Cell) → OfRead key start (turn_at every key start epoch cells)
+turn_read every key start epoch [] = tt
+turn_read every key start epoch (c ∷ cs) = first_read every key start epoch c cs ((c.version == start) || is_some c.shadow)
 
-pub over_key : (every : Bool) (key start epoch : ℕ) (cells : List Cell) → OfKey key (read_over every key start epoch cells)
-over_key every key start epoch cells = turn_key every key start epoch (after_passed start cells)
+pub over_read : (every : Bool) (key start epoch : ℕ) (cells : List Cell) → OfRead key start (read_over every key start epoch cells)
+over_read every key start epoch cells = turn_read every key start epoch (after_passed start cells)
 
-decided_key : (r : Reading) (c : ℕ) (by_table below : Bool) → OfKey r.key (cond below (Answers (found_by r.key r.cell c by_table)) (read_over r.every r.key r.start r.epoch r.older))
-decided_key r c by_table true = tt
-decided_key r c by_table false = over_key r.every r.key r.start r.epoch r.older
+decided_read : (r : Reading) (c : ℕ) (by_table below : Bool) → OfRead r.key r.start (cond below (Answers (found_by r.key r.cell c by_table)) (read_over r.every r.key r.start r.epoch r.older))
+decided_read r c by_table true = tt
+decided_read r c by_table false = over_read r.every r.key r.start r.epoch r.older
 
-settled_key : (r : Reading) (turn : SettleTurn) → OfKey r.key (read_by r turn)
-settled_key r (Goes p) = refl
-settled_key r (Decides Dead) = over_key r.every r.key r.start r.epoch r.older
-settled_key r (Decides (Committed c by_table)) = decided_key r c by_table (nat_lt c r.start)
+settled_read : (r : Reading) (turn : SettleTurn) → OfRead r.key r.start (read_by r turn)
+settled_read r (Goes p) = (refl, refl)
+settled_read r (Decides Dead) = over_read r.every r.key r.start r.epoch r.older
+settled_read r (Decides (Committed c by_table)) = decided_read r c by_table (nat_lt c r.start)
 
-pub told_key : (r : Reading) (told : Told) → OfKey r.key (read_told r told)
-told_key r told = settled_key r (settle_turn (settling_of r) told)
+pub told_read : (r : Reading) (told : Told) → OfRead r.key r.start (read_told r told)
+told_read r told = settled_read r (settle_turn (settling_of r) told)
 
 -- ---- a read under way
 -- the session reads the key

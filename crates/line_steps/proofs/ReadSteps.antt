@@ -25,14 +25,14 @@ use Rattle.line_steps.proofs.Plain.{plain_append, no_plain}
 use Rattle.line_steps.proofs.Working.{ReadWork}
 use Rattle.line_steps.proofs.Stepping.{stores_step, step_is}
 use Rattle.line_steps.proofs.Walks.{AllNot, plain_not, Paid}
-use Rattle.line_steps.proofs.ReadLines.{OfKey, told_key, ReadsKey, EndsOrReads, ends_with, read_pays}
+use Rattle.line_steps.proofs.ReadLines.{OfRead, told_read, ReadsKey, EndsOrReads, ends_with, read_pays}
 
 fault_pays : (s key : ℕ) (store : Store) → Paid (Session s) key (item.Fault (Session s) store ∷ [])
 unfolding Paid AllNot
 fault_pays s key store = inl (refl, tt)
 
 -- ---- the step, by what the read does next
-read_turns : (w : State) (s key : ℕ) (k : ReadsKey w s key) (told : Told) (turn : ReadTurn) → OfKey k.work.r.key turn →
+read_turns : (w : State) (s key : ℕ) (k : ReadsKey w s key) (told : Told) (turn : ReadTurn) → OfRead k.work.r.key k.work.r.start turn →
     EndsOrReads s key (record {
       state = record (with_client w s (client_read k.c turn)) { rows = rows_after (read_ask k.work.r) w.rows; pairs = pairs_after (read_ask k.work.r) w.pairs };
       items = items_met (Session s) (read_ask k.work.r) told Works ++ read_items s k.work.r.start k.work.r.key turn;
@@ -44,7 +44,7 @@ read_turns w s key k told (Asks next) same = inr (
     c = client_read k.c (Asks next);
     at = set_found w.clients s (client_read k.c (Asks next)) k.c k.at;
     work = record { r = next; is_open = k.work.is_open; under_way = refl };
-    key_is = same ∙ k.key_is;
+    key_is = same.0 ∙ k.key_is;
   },
   refl,
 )
@@ -53,7 +53,7 @@ read_turns w s key k told (Answers a) same = inl (ends_with s key (items_met (Se
 read_steps : (w : State) (s key : ℕ) (k : ReadsKey w s key) (fate : Fate) → let step : Step = stores_step w s (read_step s k.c k.work.r (met (Session s) (read_ask k.work.r) fate w.rows w.pairs)) in EndsOrReads s key step
 read_steps w s key k Works =
     let told : Told = told_by (read_ask k.work.r) w.rows w.pairs in
-    read_turns w s key k told (read_told k.work.r told) (told_key k.work.r told)
+    read_turns w s key k told (read_told k.work.r told) (told_read k.work.r told)
 read_steps w s key k FailsUnchanged = inl (fault_pays s key (store_of (read_ask k.work.r)))
 read_steps w s key k FailsApplied =
     let told : Told = told_by (read_ask k.work.r) w.rows w.pairs in

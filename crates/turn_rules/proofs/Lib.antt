@@ -1,7 +1,7 @@
 mod OwnEvents
 pub mod SeatLists
-mod StillReading
-mod OwnSessions
+pub mod StillReading
+pub mod OwnSessions
 mod WalksOn
 mod OwnWalks
 pub mod OwnTimes

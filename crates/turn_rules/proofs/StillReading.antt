@@ -1,5 +1,5 @@
--- A session whose transaction is open has no request in flight. So an event that is not its own leaves its client as it was,
--- and a read under way goes on.
+-- For grant_laws too. A session whose transaction is open has no request in flight. So an event that is not its own leaves its
+-- client as it was, and a read under way goes on.
 use Rattle.std.proofs.Common.{◌≡◌, ℕ, zero, suc, false, List, [], ◌∷◌, Option, Some, None, inl, inr, refl, sym, ◌∙◌, ap, subst}
 use Rattle.std.specs.Prelude.{slice_get, slice_set, slice_index_or}
 use Rattle.std.proofs.lemmas.Bool.Decides.{eqb_tells}

@@ -1,0 +1,78 @@
+-- A turn that is not a session's own leaves its client as it was, where its transaction is open, and its seat where it was.
+use Rattle.std.proofs.Common.{◌≡◌, ℕ, Bool, true, false, Option, Some, None, refl, sym, ◌∙◌, ap}
+use Rattle.history_book.specs.declared.item.Actor.{Actor}
+use Rattle.history_book.specs.declared.item.Actor.TheVariants.{Session}
+use Rattle.client_parts.specs.KeyRead.{Reading}
+use Rattle.machine.specs.declared.event.Event.{Event}
+use Rattle.machine.specs.Machine.{Step}
+use Rattle.script_data.specs.Data.{ScriptData}
+use Rattle.line_steps.specs.Answers.{same_actor}
+use Rattle.line_steps.specs.Runs.{clocks_of, fate_of, played}
+use Rattle.line_steps.specs.Views.{view_of}
+use Rattle.line_steps.proofs.ScriptWalks.{actor_same, same_itself}
+use Rattle.turn_rules.specs.declared.seat.Seat.{Seat}
+use Rattle.turn_rules.specs.declared.turn.Turn.{Turn}
+use Rattle.turn_rules.specs.declared.turn.Turn.TheVariants as turn
+use Rattle.turn_rules.specs.Carried.{Carried, event_of, moved, turned_by, carried}
+use Rattle.turn_rules.proofs.OwnSessions.{not_of}
+use Rattle.turn_rules.proofs.OwnTurns.{OwnTurn, own_turn, stage_turn}
+use Rattle.turn_rules.proofs.SeatsOn.{other_stays}
+use Rattle.turn_rules.proofs.StillReading.{IsNotOf, client_stays}
+use Rattle.grant_laws.specs.Turns.{ReadsKey}
+use Rattle.grant_laws.specs.Lines.{is_own}
+use Rattle.grant_laws.specs.Between.{ReadsStay}
+use Rattle.grant_laws.proofs.KnownTurns.{KnownTurns, known_stands, known_carried}
+
+-- ---- its event is of no session but its own
+not_same : (who : Actor) (s : ℕ) → same_actor who (Session s) ≡ false → who ≡ Session s → ⊥
+not_same who s other same =
+    let clash : true ≡ false = sym (same_itself (Session s)) ∙ ap (λ (a : Actor). same_actor a (Session s)) (sym same) ∙ other in
+    cc
+
+owned_not : (script : ScriptData) (c : Carried) (who : Actor) (s : ℕ) (e : Event) → OwnTurn script c who e → same_actor who (Session s) ≡ false → IsNotOf s e
+owned_not script c who s e own other = not_of s (clocks_of script c.played) own.line.actor own.line.verb own.seat.point (view_of c.played.state own.line.actor) e (λ same. not_same who s other (sym own.own ∙ same)) own.next
+
+other_event : (script : ScriptData) (c : Carried) (t : Turn) (s : ℕ) (e : Event) → event_of script c t ≡ Some e → is_own s t ≡ false → IsNotOf s e
+other_event script c (turn.Own who) s e is other = owned_not script c who s e (own_turn script c who e is) other
+other_event script c (turn.Accept node session) s e is other = (stage_turn script c (turn.Accept node session) e (λ own. own) is).of_none s
+other_event script c (turn.Decide node session) s e is other = (stage_turn script c (turn.Decide node session) e (λ own. own) is).of_none s
+other_event script c (turn.Put node session) s e is other = (stage_turn script c (turn.Put node session) e (λ own. own) is).of_none s
+other_event script c (turn.Answer node session) s e is other = (stage_turn script c (turn.Answer node session) e (λ own. own) is).of_none s
+other_event script c (turn.Extend node) s e is other = (stage_turn script c (turn.Extend node) e (λ own. own) is).of_none s
+
+-- ---- a read under way stays
+pub read_left_by_event : (script : ScriptData) (c : Carried) (t : Turn) (s start key : ℕ) (r : Reading) (e : Event) → KnownTurns script c → event_of script c t ≡ Some e → is_own s t ≡ false → ReadsKey c.played s start key r → ReadsKey (played script c.played e) s start key r
+read_left_by_event script c t s start key r e known is other k =
+    record {
+      client = k.client;
+      session_is = client_stays c.played.state c.played.items s k.client (known_stands script c known) k.session_is k.in_work e (fate_of script c.played e) (other_event script c t s e is other) ∙ k.session_is;
+      in_work = k.in_work;
+      under_way = k.under_way;
+      key_is = k.key_is;
+      start_is = k.start_is;
+    }
+
+stays_with : (script : ScriptData) (c : Carried) (t : Turn) (s start key : ℕ) (r : Reading) (found : Option Event) → KnownTurns script c → event_of script c t ≡ found → is_own s t ≡ false → ReadsKey c.played s start key r → ReadsKey (turned_by script c t found).played s start key r
+stays_with script c t s start key r None known is other k = k
+stays_with script c t s start key r (Some e) known is other k = read_left_by_event script c t s start key r e known is other k
+
+pub reads_stay : ReadsStay
+reads_stay script turns t s start key r in_range playable other k =
+    let c : Carried = carried script turns in
+    stays_with script c t s start key r (event_of script c t) (known_carried script turns in_range playable) refl other k
+
+-- ---- the seat stays
+by_same : (who : Actor) (s : ℕ) (same : Bool) → same_actor (Session s) who ≡ same → same_actor who (Session s) ≡ false → same_actor (Session s) who ≡ false
+by_same who s false is other = is
+by_same who s true is other = absurd (not_same who s other (sym (actor_same (Session s) who is)))
+
+other_seat : (script : ScriptData) (step : Step) (who : Actor) (s : ℕ) (seat : Seat) → seat.actor ≡ Session s → same_actor who (Session s) ≡ false → moved script (turn.Own who) step seat ≡ seat
+other_seat script step who s seat mine other = other_stays script step who seat (ap (λ (a : Actor). same_actor a who) mine ∙ by_same who s (same_actor (Session s) who) refl other)
+
+pub seat_left : (script : ScriptData) (t : Turn) (step : Step) (s : ℕ) (seat : Seat) → seat.actor ≡ Session s → is_own s t ≡ false → moved script t step seat ≡ seat
+seat_left script (turn.Own who) step s seat mine other = other_seat script step who s seat mine other
+seat_left script (turn.Accept node session) step s seat mine other = refl
+seat_left script (turn.Decide node session) step s seat mine other = refl
+seat_left script (turn.Put node session) step s seat mine other = refl
+seat_left script (turn.Answer node session) step s seat mine other = refl
+seat_left script (turn.Extend node) step s seat mine other = refl

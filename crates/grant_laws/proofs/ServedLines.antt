@@ -1,0 +1,130 @@
+-- Lines whose request is served through to its answer, by the turns that serve it with any of others in between.
+use Rattle.std.proofs.Common.{◌≡◌, ℕ, ◌+◌, ◌<◌, Bool, cond, List, [], ◌∷◌, ◌++◌, Some, None, refl, ◌∙◌, ap, subst}
+use Rattle.std.specs.Prelude.{fold}
+use Rattle.std.proofs.lemmas.Bool.{lt-leb}
+use Rattle.history_book.specs.Members.{◌∈◌}
+use Rattle.history_book.specs.declared.cause.Cause.TheVariants as cause
+use Rattle.history_book.specs.declared.item.Actor.TheVariants.{Session}
+use Rattle.history_book.specs.declared.item.Item.{Item}
+use Rattle.history_book.specs.declared.item.Item.TheVariants as item
+use Rattle.oracle_parts.specs.declared.buckets.Verdict.TheVariants.{Free}
+use Rattle.oracle_parts.specs.declared.instance.Progress.TheVariants as progress
+use Rattle.oracle_parts.specs.declared.instance.Request.{Request}
+use Rattle.oracle_parts.specs.declared.instance.Request.TheVariants.{Begin, Commit}
+use Rattle.oracle_parts.specs.declared.instance.Settled.TheVariants as how
+use Rattle.oracle_parts.specs.Instance.{InstanceEntry, least_unsettled}
+use Rattle.oracle_parts.specs.InstanceSteps.{epoch_refusal, request_verdict}
+use Rattle.machine.specs.declared.event.Event.TheVariants as event
+use Rattle.machine.specs.Events.Decide.{draw_item}
+use Rattle.script_data.specs.declared.line.Target.TheVariants as target
+use Rattle.script_data.specs.declared.line.Verb.TheVariants as verb
+use Rattle.script_data.specs.Data.{ScriptData}
+use Rattle.isolation_laws.proofs.Lookups.{one_instance}
+use Rattle.line_steps.specs.Laws.{IsPlayable}
+use Rattle.turn_rules.specs.declared.ahead.Ahead.TheVariants.{Makes}
+use Rattle.turn_rules.specs.declared.turn.Turn.{Turn}
+use Rattle.turn_rules.specs.declared.turn.Turn.TheVariants as turn
+use Rattle.turn_rules.specs.Carried.{Carried, own_ahead, turned, carried}
+use Rattle.grant_laws.specs.Granted.{reading_of}
+use Rattle.grant_laws.specs.Turns.{IsServed, Serves}
+use Rattle.grant_laws.specs.Lines.{AtNode, UpToDraw, all_up_to_draw, at_ask, at_accept, at_draw, CanServeBy, stamp_drawn, at_begin_answer, at_place, RunsGrantBegins, RunsGrantCommits}
+use Rattle.grant_laws.proofs.AskTurns.{begin_asks, commit_asks}
+use Rattle.grant_laws.proofs.KnownTurns.{KnownTurns, known_stands, known_turned, known_on, known_carried}
+use Rattle.grant_laws.proofs.LeftRequests.{of_holder, left_served, left_waiting}
+use Rattle.grant_laws.proofs.LongerTurns.{turns_on, carries, still_has, has_added}
+use Rattle.grant_laws.proofs.OwnLines.{line_makes}
+use Rattle.grant_laws.proofs.StageTurns.{served_by}
+
+-- ---- up to the stamp
+-- after the turn and those of others
+known_after : (script : ScriptData) (c : Carried) (t : Turn) (others : List Turn) → IsPlayable script 0 script.lines → KnownTurns script c → KnownTurns script (fold (turned script) (turned script c t) others)
+known_after script c t others playable known = known_on script playable others (turned script c t) (known_turned script c t playable known)
+
+-- the request has its stamp
+record HasDrawn (script : ScriptData) (s node : ℕ) (u : UpToDraw) (request : Request) (stamp : ℕ) : Type 0 where
+  known : KnownTurns script (at_draw script s node u)
+  served : IsServed (turned script (at_draw script s node u) (turn.Decide node s)).played node s request (progress.Drawn stamp)
+
+draws_through : (script : ScriptData) (s node : ℕ) (u : UpToDraw) (request : Request) → IsPlayable script 0 script.lines → KnownTurns script (at_ask script u) → IsServed (turned script (at_ask script u) (turn.Own (Session s))).played node s request progress.Asked → (serving : CanServeBy script s node u) → AtNode (at_accept script s u).played node (λ i. epoch_refusal i request ≡ None) → AtNode (at_draw script s node u).played node (λ i. request_verdict i.buckets request ≡ Free) → HasDrawn script s node u request (stamp_drawn serving)
+draws_through script s node u request playable known asked serving above no_conflict =
+    let c : Carried = at_accept script s u in
+    let d : Carried = at_draw script s node u in
+    let known_c : KnownTurns script c = known_after script (at_ask script u) (turn.Own (Session s)) u.asked playable known in
+    let held : IsServed c.played node s request progress.Asked = left_served script node s request progress.Asked u.asked (turned script (at_ask script u) (turn.Own (Session s))) serving.until_accepted asked in
+    let leased : reading_of script c.played node < held.oracle.until = of_holder c.played node s request progress.Asked (λ i. reading_of script c.played node < i.until) held serving.leased in
+    let free : epoch_refusal held.oracle request ≡ None = of_holder c.played node s request progress.Asked (λ i. epoch_refusal i request ≡ None) held above in
+    let accepted : Serves script c (turn.Accept node s) (item.Accept s node held.oracle.term (reading_of script c.played node)) node s request progress.Accepted = (served_by script c node s request (known_stands script c known_c)).accepts held leased free in
+    let known_d : KnownTurns script d = known_after script c (turn.Accept node s) u.accepted playable known_c in
+    let waits : IsServed d.played node s request progress.Accepted = left_served script node s request progress.Accepted u.accepted (turned script c (turn.Accept node s)) serving.until_drawn accepted.comes in
+    let clear : request_verdict waits.oracle.buckets request ≡ Free = of_holder d.played node s request progress.Accepted (λ i. request_verdict i.buckets request ≡ Free) waits no_conflict in
+    let more : waits.oracle.last < waits.oracle.ceiling = of_holder d.played node s request progress.Accepted (λ i. i.last < i.ceiling) waits serving.stamp in
+    let drew : Serves script d (turn.Decide node s) (draw_item node waits.oracle.term request (waits.oracle.last + 1)) node s request (progress.Drawn (waits.oracle.last + 1)) = (served_by script d node s request (known_stands script d known_d)).draws waits clear more in
+    let same : waits.oracle ≡ serving.stamp.oracle = one_instance d.played.state.nodes node waits.oracle serving.stamp.oracle waits.node_has serving.stamp.node_has in
+    record {
+      known = known_d;
+      served = subst (λ (i : InstanceEntry). IsServed (turned script d (turn.Decide node s)).played node s request (progress.Drawn (i.last + 1))) same drew.comes;
+    }
+
+-- the turns up to the draw, and the rest
+turns_to_draw : (script : ScriptData) (s node : ℕ) (u : UpToDraw) (rest : List Turn) → carried script (all_up_to_draw s node u rest) ≡ fold (turned script) (turned script (at_draw script s node u) (turn.Decide node s)) rest
+turns_to_draw script s node u rest =
+    turns_on script (carried script []) u.before (turn.Own (Session s) ∷ (u.asked ++ turn.Accept node s ∷ (u.accepted ++ turn.Decide node s ∷ rest)))
+    ∙ turns_on script (turned script (at_ask script u) (turn.Own (Session s))) u.asked (turn.Accept node s ∷ (u.accepted ++ turn.Decide node s ∷ rest))
+    ∙ turns_on script (turned script (at_accept script s u) (turn.Accept node s)) u.accepted (turn.Decide node s ∷ rest)
+
+-- ---- a begin
+pub runs_grant_begins : RunsGrantBegins
+runs_grant_begins script s node u drawn later in_range playable ahead can =
+    let c : Carried = at_ask script u in
+    let request : Request = Begin s in
+    let start : ℕ = stamp_drawn can.serving in
+    let known : KnownTurns script c = known_carried script u.before in_range playable in
+    let makes : own_ahead script c (Session s) ≡ Makes (event.AskBegin s node) = line_makes script c (Session s) (verb.Begin (target.Node node)) ahead in
+    let asked : Serves script c (turn.Own (Session s)) (item.AskBegin s node) node s request progress.Asked = begin_asks script c s node can.client known makes can.session_is can.is_free can.serving.slot in
+    let above : AtNode (at_accept script s u).played node (λ i. epoch_refusal i request ≡ None) = record { oracle = can.serving.leased.oracle; node_has = can.serving.leased.node_has; so = refl } in
+    let clear : AtNode (at_draw script s node u).played node (λ i. request_verdict i.buckets request ≡ Free) = record { oracle = can.serving.stamp.oracle; node_has = can.serving.stamp.node_has; so = refl } in
+    let drew : HasDrawn script s node u request start = draws_through script s node u request playable known asked.comes can.serving above clear in
+    let d : Carried = turned script (at_draw script s node u) (turn.Decide node s) in
+    let known_d : KnownTurns script d = known_turned script (at_draw script s node u) (turn.Decide node s) playable drew.known in
+    let f : Carried = at_begin_answer script s node u drawn in
+    let known_f : KnownTurns script f = known_on script playable drawn d known_d in
+    let waits : IsServed f.played node s request (progress.Drawn start) = left_waiting script playable node s start drawn d known_d can.until_answered drew.served in
+    let settled : least_unsettled waits.oracle.requests start ≡ None = of_holder f.played node s request (progress.Drawn start) (λ i. least_unsettled i.requests start ≡ None) waits can.settled in
+    let x : Item = item.Begin s start in
+    let has : x ∈ (turned script f (turn.Answer node s)).played.items = has_added script f (turn.Answer node s) x ((served_by script f node s request (known_stands script f known_f)).begins start refl waits settled) in
+    carries script (all_up_to_draw s node u (drawn ++ turn.Answer node s ∷ later)) (fold (turned script) (turned script f (turn.Answer node s)) later) x
+    (turns_to_draw script s node u (drawn ++ turn.Answer node s ∷ later) ∙ turns_on script d drawn (turn.Answer node s ∷ later))
+    (still_has script later (turned script f (turn.Answer node s)) x has)
+
+-- ---- a commit
+above_epoch : (i : InstanceEntry) (s start : ℕ) (keys : List ℕ) → i.epoch < start → epoch_refusal i (Commit s start keys) ≡ None
+above_epoch i s start keys in_epoch = ap (λ (old : Bool). cond old (Some (cause.OldEpoch start i.epoch)) None) (lt-leb start i.epoch in_epoch)
+
+pub runs_grant_commits : RunsGrantCommits
+runs_grant_commits script s node u drawn placed later in_range playable ahead can =
+    let c : Carried = at_ask script u in
+    let start : ℕ = can.work.start in
+    let keys : List ℕ = can.work.client.entry.keys in
+    let request : Request = Commit s start keys in
+    let commit : ℕ = stamp_drawn can.serving in
+    let known : KnownTurns script c = known_carried script u.before in_range playable in
+    let makes : own_ahead script c (Session s) ≡ Makes (event.AskCommit s node) = line_makes script c (Session s) (verb.Commit (target.Node node)) ahead in
+    let asked : Serves script c (turn.Own (Session s)) (item.AskCommit s node start) node s request progress.Asked = commit_asks script c s node known makes can.work can.wrote can.serving.slot in
+    let above : AtNode (at_accept script s u).played node (λ i. epoch_refusal i request ≡ None) = record { oracle = can.in_epoch.oracle; node_has = can.in_epoch.node_has; so = above_epoch can.in_epoch.oracle s start keys can.in_epoch.so } in
+    let drew : HasDrawn script s node u request commit = draws_through script s node u request playable known asked.comes can.serving above (record { oracle = can.no_conflict.oracle; node_has = can.no_conflict.node_has; so = can.no_conflict.so }) in
+    let d : Carried = turned script (at_draw script s node u) (turn.Decide node s) in
+    let known_d : KnownTurns script d = known_turned script (at_draw script s node u) (turn.Decide node s) playable drew.known in
+    let f : Carried = at_place script s node u drawn in
+    let known_f : KnownTurns script f = known_on script playable drawn d known_d in
+    let waits : IsServed f.played node s request (progress.Drawn commit) = left_served script node s request (progress.Drawn commit) drawn d can.until_placed drew.served in
+    let places : Serves script f (turn.Put node s) (item.Placed start commit) node s request (progress.Settled commit how.Placed) = (served_by script f node s request (known_stands script f known_f)).places start commit keys refl waits can.unmarked can.placing in
+    let g : Carried = turned script f (turn.Put node s) in
+    let known_g : KnownTurns script g = known_turned script f (turn.Put node s) playable known_f in
+    let h : Carried = fold (turned script) g placed in
+    let stays : IsServed h.played node s request (progress.Settled commit how.Placed) = left_served script node s request (progress.Settled commit how.Placed) placed g can.until_answered places.comes in
+    let x : Item = item.Committed s start commit in
+    let has : x ∈ (turned script h (turn.Answer node s)).played.items = has_added script h (turn.Answer node s) x ((served_by script h node s request (known_stands script h (known_on script playable placed g known_g))).commits start commit keys refl stays) in
+    let rest : List Turn = placed ++ turn.Answer node s ∷ later in
+    carries script (all_up_to_draw s node u (drawn ++ turn.Put node s ∷ rest)) (fold (turned script) (turned script h (turn.Answer node s)) later) x
+    (turns_to_draw script s node u (drawn ++ turn.Put node s ∷ rest) ∙ turns_on script d drawn (turn.Put node s ∷ rest) ∙ turns_on script g placed (turn.Answer node s ∷ later))
+    (still_has script later (turned script h (turn.Answer node s)) x has)

@@ -1,0 +1,76 @@
+-- A script whose only line awaits a name that nobody posts: no turn can be made.
+use Rattle.std.proofs.Common.{◌≡◌, ℕ, zero, suc, Bool, true, false, cond, List, [], ◌∷◌, Option, Some, None, refl, sym}
+use Rattle.std.specs.Prelude.{IsSomeAnd}
+use Rattle.std.proofs.lemmas.Option.{none-some}
+use Rattle.history_book.specs.declared.item.Actor.{Actor}
+use Rattle.history_book.specs.declared.item.Actor.TheVariants.{Session}
+use Rattle.history_book.specs.declared.item.Item.{Item}
+use Rattle.oracle_parts.specs.declared.instance.Place.{Place}
+use Rattle.oracle_parts.specs.declared.instance.Place.TheVariants as place
+use Rattle.machine.specs.Readers.{holder_from}
+use Rattle.machine.specs.declared.event.Event.{Event}
+use Rattle.script_data.specs.Data.{ScriptData}
+use Rattle.line_steps.specs.Answers.{same_actor}
+use Rattle.turn_rules.specs.declared.seat.Seat.{Seat}
+use Rattle.turn_rules.specs.declared.turn.Turn.TheVariants as turn
+use Rattle.turn_rules.specs.Seats.{seats_of, passed}
+use Rattle.turn_rules.specs.Carried.{Carried, seat_of, seat_ahead, ahead_in, made_by, event_of, carried}
+use Rattle.turn_rules.specs.Lawful.{session_view, answered_from, IsLawful, IsTold}
+use Rattle.grant_laws.specs.Stuck.{IsStuck, AwaitsName}
+use Rattle.grant_laws.specs.WorkedRuns as runs
+
+-- ---- own turns
+-- none of these seats makes an event
+unfoldable Quiet : ScriptData → Carried → List Seat → Type 0
+Quiet script c [] = Unit {0}
+Quiet script c (seat ∷ seats) = (made_by (seat_ahead script c seat) ≡ None) × Quiet script c seats
+
+first_quiet : (script : ScriptData) (c : Carried) (seat : Seat) (rest : Option Seat) (here : Bool) → made_by (seat_ahead script c seat) ≡ None → made_by (ahead_in script c rest) ≡ None → made_by (ahead_in script c (cond here (Some seat) rest)) ≡ None
+first_quiet script c seat rest true first later = first
+first_quiet script c seat rest false first later = later
+
+found_quiet : (script : ScriptData) (c : Carried) (actor : Actor) (seats : List Seat) → Quiet script c seats → made_by (ahead_in script c (seat_of seats actor)) ≡ None
+unfolding Quiet
+found_quiet script c actor [] quiet = refl
+found_quiet script c actor (seat ∷ seats) quiet = first_quiet script c seat (seat_of seats actor) (same_actor seat.actor actor) quiet.0 (found_quiet script c actor seats quiet.1)
+
+abbrev start : Carried
+start = carried runs.awaiting []
+
+all_quiet : Quiet runs.awaiting start start.seats
+unfolding Quiet seats_of passed holder_from
+all_quiet = (refl, (refl, (refl, (refl, (refl, (refl, (refl, (refl, (refl, (refl, (refl, (refl, (refl, (refl, (refl, (refl, (refl, (refl, (refl, (refl, tt))))))))))))))))))))
+
+none_told : (script : ScriptData) (c : Carried) (found : Option Event) → found ≡ None → IsSomeAnd found (λ e. IsTold script c.played e) → ⊥
+none_told script c None is told = told
+none_told script c (Some e) is told = none-some e (sym is)
+
+-- ---- turns of stages
+-- no session has a request
+none_asked : (s node : ℕ) (at : Place) → (session_view start.played.state s).request ≡ Some (node, at) → ⊥
+unfolding holder_from
+none_asked s node at is = none-some (node, at) is
+
+none_extends : (node : ℕ) → IsLawful runs.awaiting start (turn.Extend node) → ⊥
+none_extends zero k = k.in_place
+none_extends (suc zero) k = k.in_place
+none_extends (suc (suc node)) k = k.in_place
+
+pub none_lawful : IsStuck runs.awaiting []
+none_lawful (turn.Own actor) k = none_told runs.awaiting start (event_of runs.awaiting start (turn.Own actor)) (found_quiet runs.awaiting start actor start.seats all_quiet) k.told
+none_lawful (turn.Accept node s) k = none_asked s node place.Asked k.in_place
+none_lawful (turn.Decide node s) k = none_asked s node place.Accepted k.in_place
+none_lawful (turn.Put node s) k = none_asked s node place.Drawn k.in_place.0
+none_lawful (turn.Answer node s) k = none_asked s node (answered_from (session_view start.played.state s).commit) k.in_place
+none_lawful (turn.Extend node) k = none_extends node k
+
+-- ---- what it waits for, and that it goes on where another line posts the name
+pub name_awaited : AwaitsName runs.awaiting start runs.first_seat
+name_awaited = record { line = runs.await_line; name = runs.p; present = refl; awaits = refl; unposted = refl }
+
+some_item : (x : Item) → x ∷ [] ≡ [] → ⊥
+some_item x none = cc
+
+pub posts : IsLawful runs.posting (carried runs.posting []) (turn.Own (Session 1))
+unfolding seats_of passed holder_from
+posts = record { free = tt; in_place = tt; told = λ none. some_item _ none }

@@ -1,0 +1,5 @@
+use Rattle.grant_laws.proofs.WholeReads.{runs_grant_reads}
+use Rattle.grant_laws.proofs.runs.runs_grant_reads.Goals as goal
+
+pub returns : goal.returns
+returns c = runs_grant_reads c.reads_end.ensures

@@ -1,0 +1,184 @@
+-- What the lines of a script are granted where they are carried out by turns: one law for each kind of line, over the turns that
+-- serve it, whatever turns of others were made before, between and after them.
+use Rattle.std.specs.Prelude.{◌≡◌, ◌≢◌, ℕ, ◌+◌, ◌*◌, ◌<◌, ◌≤◌, ◌⊎◌, Bool, true, false, List, [], ◌∷◌, ◌++◌, filter, fold, length, Option, None, Some, IfSome}
+use Rattle.stamp_base.specs.SetupNumbers.{AreInRange}
+use Rattle.stamp_base.specs.declared.stores.Store.TheVariants.{Table}
+use Rattle.port_io.specs.declared.weather.Fate.TheVariants.{Works}
+use Rattle.history_book.specs.Members.{◌∈◌}
+use Rattle.history_book.specs.declared.item.Actor.{Actor}
+use Rattle.history_book.specs.declared.item.Actor.TheVariants.{Node, Session}
+use Rattle.history_book.specs.declared.item.Found.{Found}
+use Rattle.history_book.specs.declared.item.Item.TheVariants as item
+use Rattle.client_parts.specs.declared.session.State.TheVariants as phase
+use Rattle.client_parts.specs.KeyRead.{Reading, read_ask}
+use Rattle.oracle_parts.specs.declared.buckets.Verdict.TheVariants.{Free}
+use Rattle.oracle_parts.specs.Buckets.{verdict}
+use Rattle.oracle_parts.specs.Instance.{InstanceEntry, in_flight, least_unsettled}
+use Rattle.machine.specs.State.{Client}
+use Rattle.machine.specs.StoreSteps.{store_of}
+use Rattle.script_data.specs.declared.line.Line.{Line}
+use Rattle.script_data.specs.declared.line.Target.TheVariants as target
+use Rattle.script_data.specs.declared.line.Verb.{Verb}
+use Rattle.script_data.specs.declared.line.Verb.TheVariants as verb
+use Rattle.script_data.specs.Data.{ScriptData}
+use Rattle.isolation_laws.specs.Words.{InstanceAt, ClientAt, Marked}
+use Rattle.line_steps.specs.declared.point.Point.TheVariants.{Opens}
+use Rattle.line_steps.specs.Answers.{same_actor}
+use Rattle.line_steps.specs.Laws.{IsPlayable}
+use Rattle.line_steps.specs.Runs.{Played}
+use Rattle.turn_rules.specs.declared.seat.Seat.{Seat}
+use Rattle.turn_rules.specs.declared.turn.Turn.{Turn}
+use Rattle.turn_rules.specs.declared.turn.Turn.TheVariants as turn
+use Rattle.turn_rules.specs.Seats.{present_line}
+use Rattle.turn_rules.specs.Carried.{Carried, seat_of, event_of, turned, carried, carried_items}
+use Rattle.grant_laws.specs.Granted.{reading_of, next_fate}
+use Rattle.grant_laws.specs.Premises.{IsAtWork, CanWrite, CanTake, CanFetch, cells_to_read}
+use Rattle.grant_laws.specs.Turns.{touches, ReadsKey}
+
+-- ---- a line
+-- the actor's present line has this form, and has made no event yet
+pub record IsAhead (script : ScriptData) (c : Carried) (actor : Actor) (verb : Verb) : Type 0 where
+  pub seat : Seat
+  pub sits : seat_of c.seats actor ≡ Some seat
+  pub line : Line
+  pub present : present_line script seat ≡ Some line
+  pub verb_is : line.verb ≡ verb
+  pub unopened : seat.point ≡ Opens
+
+-- the node has an instance, of which this holds
+pub record AtNode (p : Played) (node : ℕ) (P : InstanceEntry → Type 0) : Type 0 where
+  pub oracle : InstanceEntry
+  pub node_has : InstanceAt p.state.nodes node oracle
+  pub so : P oracle
+
+-- ---- a write and a take: one turn of their own
+abbrev pub RunsGrantWrites : Type 0
+RunsGrantWrites =
+    (script : ScriptData) (before later : List Turn) (session key : ℕ) (value : List ℕ) → let c = carried script before in IsAhead script c (Session session) (verb.Write key value) → (can : CanWrite script c.played session key) →
+    item.Write session can.work.start key value ∈ carried_items script (before ++ turn.Own (Session session) ∷ later)
+
+abbrev pub RunsGrantTakes : Type 0
+RunsGrantTakes =
+    (script : ScriptData) (before later : List Turn) (node : ℕ) → let c = carried script before in AreInRange script.setup → IsPlayable script 0 script.lines → IsAhead script c (Node node) verb.Take → CanTake script c.played node →
+    item.Take node (reading_of script c.played node) (c.played.state.master.term + 1) c.played.state.master.ceiling (reading_of script c.played node + script.setup.lease) (c.played.state.master.ceiling + script.setup.range) ∈ carried_items script (before ++ turn.Own (Node node) ∷ later)
+
+-- ---- turns in between
+-- what the turn comes to, and then these of others
+abbrev pub with_others : ScriptData → Carried → Turn → List Turn → Carried
+with_others script c t others = fold (turned script) (turned script c t) others
+
+-- none of these turns serves the session's request at the node, asks for the session there, or ends the node's instance
+unfoldable pub Leave : ScriptData → ℕ → ℕ → Carried → List Turn → Type 0
+Leave script node session c [] = Unit {0}
+Leave script node session c (t ∷ turns) = IfSome (event_of script c t) (λ e. touches node session e ≡ false) × Leave script node session (turned script c t) turns
+
+-- the turn answers the begin while a commit that was drawn below its start is not settled
+pub record AnswersEarly (c : Carried) (node session start : ℕ) (t : Turn) : Type 0 where
+  pub answers : t ≡ turn.Answer node session
+  pub unsettled : AtNode c.played node (λ i. least_unsettled i.requests start ≢ None)
+
+-- each of these turns leaves the begin, or answers it too early
+unfoldable pub LeaveWaiting : ScriptData → ℕ → ℕ → ℕ → Carried → List Turn → Type 0
+LeaveWaiting script node session start c [] = Unit {0}
+LeaveWaiting script node session start c (t ∷ turns) = (IfSome (event_of script c t) (λ e. touches node session e ≡ false) ⊎ AnswersEarly c node session start t) × LeaveWaiting script node session start (turned script c t) turns
+
+-- ---- a request up to its stamp
+-- the turns before the session asks, and those of others before the acceptance and before the draw
+pub record UpToDraw : Type 0 where
+  pub before : List Turn
+  pub asked : List Turn
+  pub accepted : List Turn
+
+-- all of them, with the three that serve the request, and the rest
+abbrev pub all_up_to_draw : ℕ → ℕ → UpToDraw → List Turn → List Turn
+all_up_to_draw session node u rest = u.before ++ turn.Own (Session session) ∷ (u.asked ++ turn.Accept node session ∷ (u.accepted ++ turn.Decide node session ∷ rest))
+
+-- what was carried out when the session asks, when the request is accepted, and when its stamp is drawn
+abbrev pub at_ask : ScriptData → UpToDraw → Carried
+at_ask script u = carried script u.before
+
+abbrev pub at_accept : ScriptData → ℕ → UpToDraw → Carried
+at_accept script session u = with_others script (at_ask script u) (turn.Own (Session session)) u.asked
+
+abbrev pub at_draw : ScriptData → ℕ → ℕ → UpToDraw → Carried
+at_draw script session node u = with_others script (at_accept script session u) (turn.Accept node session) u.accepted
+
+-- what begins and commits need of the node: a slot at the ask, the lease at the acceptance, a stamp at the draw
+pub record CanServeBy (script : ScriptData) (session node : ℕ) (u : UpToDraw) : Type 0 where
+  pub slot : AtNode (at_ask script u).played node (λ i. in_flight i < i.slots)
+  pub leased : AtNode (at_accept script session u).played node (λ i. reading_of script (at_accept script session u).played node < i.until)
+  pub stamp : AtNode (at_draw script session node u).played node (λ i. i.last < i.ceiling)
+  -- the turns of others leave the request
+  pub until_accepted : Leave script node session (turned script (at_ask script u) (turn.Own (Session session))) u.asked
+  pub until_drawn : Leave script node session (turned script (at_accept script session u) (turn.Accept node session)) u.accepted
+
+-- the stamp that it draws
+abbrev pub stamp_drawn : {script : ScriptData} {session node : ℕ} {u : UpToDraw} → CanServeBy script session node u → ℕ
+stamp_drawn serving = serving.stamp.oracle.last + 1
+
+-- ---- a begin
+abbrev pub at_begin_answer : ScriptData → ℕ → ℕ → UpToDraw → List Turn → Carried
+at_begin_answer script session node u drawn = with_others script (at_draw script session node u) (turn.Decide node session) drawn
+
+-- `drawn` are the turns of others between the draw and the answer
+pub record CanBeginBy (script : ScriptData) (session node : ℕ) (u : UpToDraw) (drawn : List Turn) : Type 0 where
+  pub client : Client
+  -- the session is free when it asks
+  pub session_is : ClientAt (at_ask script u).played.state.clients session client
+  pub is_free : client.entry.state ≡ phase.Free
+  -- the node serves its request as far as to its stamp
+  pub serving : CanServeBy script session node u
+  -- it waits for the commits that were drawn below it, which are settled when it is answered
+  pub until_answered : LeaveWaiting script node session (stamp_drawn serving) (turned script (at_draw script session node u) (turn.Decide node session)) drawn
+  pub settled : AtNode (at_begin_answer script session node u drawn).played node (λ i. least_unsettled i.requests (stamp_drawn serving) ≡ None)
+
+abbrev pub RunsGrantBegins : Type 0
+RunsGrantBegins =
+    (script : ScriptData) (session node : ℕ) (u : UpToDraw) (drawn later : List Turn) → AreInRange script.setup → IsPlayable script 0 script.lines → IsAhead script (at_ask script u) (Session session) (verb.Begin (target.Node node)) → (can : CanBeginBy script session node u drawn) →
+    item.Begin session (stamp_drawn can.serving) ∈ carried_items script (all_up_to_draw session node u (drawn ++ turn.Answer node session ∷ later))
+
+-- ---- a commit
+abbrev pub at_place : ScriptData → ℕ → ℕ → UpToDraw → List Turn → Carried
+at_place script session node u drawn = with_others script (at_draw script session node u) (turn.Decide node session) drawn
+
+-- `drawn` are the turns of others between the draw and the placing, `placed` those between the placing and the answer
+pub record CanCommitBy (script : ScriptData) (session node : ℕ) (u : UpToDraw) (drawn placed : List Turn) : Type 0 where
+  -- when the session asks
+  pub work : IsAtWork (at_ask script u).played session
+  -- it has written
+  pub wrote : work.client.entry.keys ≢ []
+  -- the node serves its request as far as to its stamp
+  pub serving : CanServeBy script session node u
+  -- at the acceptance the transaction began above the instance's epoch
+  pub in_epoch : AtNode (at_accept script session u).played node (λ i. i.epoch < work.start)
+  -- at the draw the conflict memory has nothing against its keys
+  pub no_conflict : AtNode (at_draw script session node u).played node (λ i. verdict i.buckets work.start work.client.entry.keys ≡ Free)
+  -- at the placing nobody has marked the transaction
+  pub unmarked : Marked (at_place script session node u drawn).played.state.pairs work.start → ⊥
+  -- and the next call on the commit table works
+  pub placing : next_fate script (at_place script session node u drawn).played Table ≡ Works
+  -- the turns of others leave the request
+  pub until_placed : Leave script node session (turned script (at_draw script session node u) (turn.Decide node session)) drawn
+  pub until_answered : Leave script node session (turned script (at_place script session node u drawn) (turn.Put node session)) placed
+
+abbrev pub RunsGrantCommits : Type 0
+RunsGrantCommits =
+    (script : ScriptData) (session node : ℕ) (u : UpToDraw) (drawn placed later : List Turn) → AreInRange script.setup → IsPlayable script 0 script.lines → IsAhead script (at_ask script u) (Session session) (verb.Commit (target.Node node)) → (can : CanCommitBy script session node u drawn placed) →
+    item.Committed session can.work.start (stamp_drawn can.serving) ∈ carried_items script (all_up_to_draw session node u (drawn ++ turn.Put node session ∷ (placed ++ turn.Answer node session ∷ later)))
+
+-- ---- a read
+-- the turn is the session's own
+abbrev pub is_own : ℕ → Turn → Bool
+is_own session (turn.Own actor) = same_actor actor (Session session)
+is_own session _ = false
+
+-- on each own turn while a read is under way, the call that the read makes works
+unfoldable pub StepsWork : ScriptData → ℕ → Carried → List Turn → Type 0
+StepsWork script session c [] = Unit {0}
+StepsWork script session c (t ∷ turns) = (is_own session t ≡ true → (start key : ℕ) (r : Reading) → ReadsKey c.played session start key r → next_fate script c.played (store_of (read_ask r)) ≡ Works) × StepsWork script session (turned script c t) turns
+
+-- a read line has its answer once as many own turns are made as three for each cell, whatever turns of others are made in between
+abbrev pub RunsGrantReads : Type 0
+RunsGrantReads =
+    (script : ScriptData) (before turns later : List Turn) (session key : ℕ) → let c = carried script before in let fetched = turned script c (turn.Own (Session session)) in AreInRange script.setup → IsPlayable script 0 script.lines → IsAhead script c (Session session) (verb.Read key) → (can : CanFetch script c.played session) → StepsWork script session fetched turns → 3 * cells_to_read c.played can.work.start key ≤ length (filter (is_own session) turns) →
+    (answer : Option Found) × (item.Read session can.work.start key answer ∈ carried_items script (before ++ turn.Own (Session session) ∷ (turns ++ later)))

@@ -1,0 +1,38 @@
+// The same five on threads: a line that was served through to its answer ends with what it asked for, whatever turns of others
+// came before, between and after.
+ghost use Rattle.grant_laws.specs.Lines.{RunsGrantWrites, RunsGrantTakes, RunsGrantBegins, RunsGrantCommits, RunsGrantReads};
+
+use client_parts::reads_end;
+
+/// A write line appends its write by its one turn, under the premises of a write line in file order.
+pub fn runs_grant_writes()
+    ensures { RunsGrantWrites }
+{}
+
+/// A take line appends its take by its one turn, under the premises of a take line in file order.
+pub fn runs_grant_takes()
+    ensures { RunsGrantTakes }
+{}
+
+/// A begin line whose request is asked, accepted, drawn and answered appends its begin: with the session free and a slot free at
+/// the ask, the lease standing at the acceptance, a stamp left at the draw, and each commit drawn below it settled at the
+/// answer. An answer before that leaves it waiting.
+pub fn runs_grant_begins()
+    ensures { RunsGrantBegins }
+{}
+
+/// A commit line whose request is asked, accepted, drawn, placed and answered appends its commit: with the transaction open,
+/// written and not reading and a slot free at the ask, the lease standing and the epoch below its start at the acceptance, the
+/// conflict memory free of its keys and a stamp left at the draw, and the transaction unmarked and the table's next call
+/// working at the placing. What the completion meets then takes nothing back.
+pub fn runs_grant_commits()
+    ensures { RunsGrantCommits }
+{}
+
+/// A read line appends its answer once its session has made as many own turns as three for each cell down to the first that
+/// decides by itself, where each call of the read works.
+pub fn runs_grant_reads()
+    ensures { RunsGrantReads }
+{
+    reads_end();
+}
