@@ -69,5 +69,5 @@ bounds_stay w h e fate tells bounded steady =
     let setup : left.setup ≡ w.setup = (leaves_parts w e fate).setup in
     record {
       numbers = subst (λ (s : SetupNumbers). IsBounded s left.seen left.master) (sym setup) (record_bounded w h e fate tells.stands bounded.numbers steady);
-      posts = posts_stay w e fate ∙ (bounded.posts ∙ ap (λ (s : SetupNumbers). s.nodes) (sym setup));
+      posts = posts_stay w h e fate tells.stands steady ∙ (bounded.posts ∙ ap (λ (s : SetupNumbers). s.nodes) (sym setup));
     }

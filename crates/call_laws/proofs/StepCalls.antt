@@ -24,6 +24,7 @@ use Rattle.isolation_laws.proofs.Outcome.PlainItems.{none_silent}
 use Rattle.isolation_laws.proofs.Inversions.InversionParts.{none_quiet}
 use Rattle.isolation_laws.proofs.Inversions.InversionOfWork.{IsWork, work_fits}
 use Rattle.isolation_laws.proofs.Stores.StoresStay.{completed_fills}
+use Rattle.isolation_laws.proofs.Stores.MarksTold.{marks_same}
 use Rattle.cause_laws.specs.Shows.{Tells}
 use Rattle.call_laws.specs.Stores.{StepMayBeMade}
 use Rattle.call_laws.proofs.StoreCalls.{only_shadow, keeps_next}
@@ -114,6 +115,7 @@ work_shadow w h session c holds at (Completes (asked ∷ asks)) fits k t commit 
   left = client_freed c;
   left_is = inr refl;
   items = [];
+  marks = marks_same w.pairs [];
   quiet = none_quiet;
   silent = none_silent;
 }) holds k t commit (same_Some asked (Shadow k t commit) is)

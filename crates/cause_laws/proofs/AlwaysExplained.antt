@@ -53,7 +53,7 @@ shows_stay w h e fate stands steady shows =
       stops = subst (λ s. AreShownStops s step.state.nodes (h ++ step.items)) (sym setup) (after_deed w h (AreShownStops w.setup) step.state.nodes step.items by (stops_kept w h by.deed stands shows));
       lasts = after_deed w h AreLasts step.state.nodes step.items by (lasts_kept w h by.deed stands shows);
       master = record_kept w h e fate stands steady shows.master;
-      marked = marked_kept w h e fate stands shows.marked;
+      marked = marked_kept w h e fate stands steady shows.marked;
       gone = gone_kept w h e fate stands steady shows.gone;
     }
 

@@ -1,4 +1,4 @@
-mod Deeds
+pub mod Deeds
 mod RecordedDraws
 mod HiddenWaters
 pub mod ShownOfRequests
@@ -23,7 +23,7 @@ mod LastsKept
 mod ShownAtFirst
 pub mod LongerHistories
 mod HeldAsks
-mod DeedsDone
+pub mod DeedsDone
 mod DueItems
 mod DueOfRecord
 mod DueOfRequests
@@ -37,7 +37,6 @@ mod RecordShown
 mod HeldCounts
 mod OpenAsksKept
 mod MarksShown
-mod MarksTold
 mod GoneOnly
 mod ClientsMoved
 mod ClientsStay

@@ -20,6 +20,7 @@ use Rattle.isolation_laws.proofs.Outcome.PlainItems.{none_plain, one_silent, ses
 use Rattle.isolation_laws.proofs.Inversions.InversionParts.{ComesTo, ComesBy, still_client}
 use Rattle.isolation_laws.proofs.Inversions.InversionOfSessions.{for_client, work_open, work_mild, open_by_work}
 use Rattle.isolation_laws.proofs.Pushed.{one_quiet}
+use Rattle.isolation_laws.proofs.Stores.MarksTold.{marks_same}
 
 -- ---- fetch
 fetch_failed : (w : State) (session : ℕ) (c : Client) → ClientAt w.clients session c → work_refusal c.entry.state (is_reading c) ≡ None → ComesTo w (with_client w session (record c { heal = None })) (item.Fault (Session session) Cells ∷ [])
@@ -35,6 +36,7 @@ fetch_failed w session c at go = (
     pairs = w.pairs;
     pairs_are = inl refl;
     items = item.Fault (Session session) Cells ∷ [];
+    marks = marks_same w.pairs (item.Fault (Session session) Cells ∷ []);
     quiet = one_quiet (item.Fault (Session session) Cells) refl;
     silent = one_silent (item.Fault (Session session) Cells) refl;
   }),

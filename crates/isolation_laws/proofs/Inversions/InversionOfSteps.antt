@@ -30,6 +30,7 @@ use Rattle.isolation_laws.proofs.Outcome.Outcomes.{OfReadStepped, OfReadDropped,
 use Rattle.isolation_laws.proofs.Inversions.InversionParts.{ComesTo, ComesBy, none_quiet}
 use Rattle.isolation_laws.proofs.Inversions.InversionOfCalls.{NoList, step_plain, failed_plain, resolve_no_list, resolve_rows, resolve_marks}
 use Rattle.isolation_laws.proofs.Pushed.{one_quiet}
+use Rattle.isolation_laws.proofs.Stores.MarksTold.{MarksTold, marks_behind, met_marks}
 
 -- the effect on a client and the stores
 abbrev pub for_stores : State → ℕ → Effect StepParts → Step
@@ -40,8 +41,8 @@ same_rows : (w : State) (session : ℕ) (c : Client) (rows : List Row) (pairs : 
 same_rows w session c rows pairs same = ap (λ (r : List Row). record (with_client w session c) { rows = r; pairs = pairs }) same
 
 -- ---- a read
-read_failed : (w : State) (session : ℕ) (c : Client) (r : Reading) (fate : Fate) (rows : List Row) (pairs : Pairs) → ClientAt w.clients session c → c.under_way ≡ Reads r → rows ≡ w.rows → MayHaveMarked w.pairs pairs → ComesTo w (record (with_client w session (record c { under_way = Nothing })) { rows = rows; pairs = pairs }) (effect_items (Session session) (read_ask r) (told_by (read_ask r) w.rows w.pairs) fate ++ item.Fault (Session session) (store_of (read_ask r)) ∷ [])
-read_failed w session c r fate rows pairs at under_way same marked = (
+read_failed : (w : State) (session : ℕ) (c : Client) (r : Reading) (fate : Fate) (rows : List Row) (pairs : Pairs) → ClientAt w.clients session c → c.under_way ≡ Reads r → rows ≡ w.rows → MayHaveMarked w.pairs pairs → let items : List Item = effect_items (Session session) (read_ask r) (told_by (read_ask r) w.rows w.pairs) fate ++ item.Fault (Session session) (store_of (read_ask r)) ∷ [] in MarksTold w.pairs pairs items → ComesTo w (record (with_client w session (record c { under_way = Nothing })) { rows = rows; pairs = pairs }) items
+read_failed w session c r fate rows pairs at under_way same marked told = (
   OfReadDropped (record {
     session = session;
     c = c;
@@ -53,6 +54,7 @@ read_failed w session c r fate rows pairs at under_way same marked = (
     pairs = pairs;
     pairs_are = marked;
     items = _;
+    marks = told;
     quiet = all_quiet _ (failed_plain (Session session) (read_ask r) (told_by (read_ask r) w.rows w.pairs) fate (store_of (read_ask r)));
     silent = all_silent _ (failed_plain (Session session) (read_ask r) (told_by (read_ask r) w.rows w.pairs) fate (store_of (read_ask r)));
   }),
@@ -69,14 +71,15 @@ read_comes w session Works c r at under_way = (
     client_at = at;
     under_way = under_way;
     first = step_item (Session session) (read_ask r) (told_by (read_ask r) w.rows w.pairs);
+    marks = met_marks (Session session) (read_ask r) Works w.rows w.pairs;
     quiet = (step_plain (Session session) (read_ask r) (told_by (read_ask r) w.rows w.pairs) (resolve_no_list r.key r.cell.version r.point)).0;
     silent = (step_plain (Session session) (read_ask r) (told_by (read_ask r) w.rows w.pairs) (resolve_no_list r.key r.cell.version r.point)).1;
   }),
   same_rows w session (client_read c (read_turn w r)) (rows_after (read_ask r) w.rows) (pairs_after (read_ask r) w.pairs) (resolve_rows r.key r.cell.version r.point w.rows),
   refl,
 )
-read_comes w session FailsUnchanged c r at under_way = read_failed w session c r FailsUnchanged w.rows w.pairs at under_way refl (inl refl)
-read_comes w session FailsApplied c r at under_way = read_failed w session c r FailsApplied (rows_after (read_ask r) w.rows) (pairs_after (read_ask r) w.pairs) at under_way (resolve_rows r.key r.cell.version r.point w.rows) (resolve_marks r.key r.cell.version r.point w.pairs)
+read_comes w session FailsUnchanged c r at under_way = read_failed w session c r FailsUnchanged w.rows w.pairs at under_way refl (inl refl) (met_marks (Session session) (read_ask r) FailsUnchanged w.rows w.pairs)
+read_comes w session FailsApplied c r at under_way = read_failed w session c r FailsApplied (rows_after (read_ask r) w.rows) (pairs_after (read_ask r) w.pairs) at under_way (resolve_rows r.key r.cell.version r.point w.rows) (resolve_marks r.key r.cell.version r.point w.pairs) (met_marks (Session session) (read_ask r) FailsApplied w.rows w.pairs)
 
 -- ---- the resolve of an own commit
 settle_quiet : (session : ℕ) (start : Option ℕ) (turn : SettleTurn) → AllQuiet (settle_items session start turn)
@@ -89,13 +92,14 @@ settle_quiet session None turn = none_quiet
 abbrev pub IsResolve : Client → Settling → Type 0
 IsResolve c x = (c.under_way ≡ Settles x) ⊎ ((c.under_way ≡ Nothing) × (own_resolve c.entry.start c.entry.keys ≡ Settles x))
 
-settle_failed : (w : State) (session : ℕ) (c : Client) (x : Settling) (fate : Fate) (rows : List Row) (pairs : Pairs) → ClientAt w.clients session c → c.entry.state ≡ phase.OpenOutcome → rows ≡ w.rows → MayHaveMarked w.pairs pairs → ComesTo w (record (with_client w session (record c { under_way = Nothing })) { rows = rows; pairs = pairs }) (effect_items (Session session) (settle_ask x) (told_by (settle_ask x) w.rows w.pairs) fate ++ item.Fault (Session session) (store_of (settle_ask x)) ∷ [])
-settle_failed w session c x fate rows pairs at is_open same marked = (
+settle_failed : (w : State) (session : ℕ) (c : Client) (x : Settling) (fate : Fate) (rows : List Row) (pairs : Pairs) → ClientAt w.clients session c → c.entry.state ≡ phase.OpenOutcome → rows ≡ w.rows → MayHaveMarked w.pairs pairs → let items : List Item = effect_items (Session session) (settle_ask x) (told_by (settle_ask x) w.rows w.pairs) fate ++ item.Fault (Session session) (store_of (settle_ask x)) ∷ [] in MarksTold w.pairs pairs items → ComesTo w (record (with_client w session (record c { under_way = Nothing })) { rows = rows; pairs = pairs }) items
+settle_failed w session c x fate rows pairs at is_open same marked told = (
   OfOutcomeFailed (record {
     it = record { session = session; c = c; client_at = at; is_open = is_open };
     pairs = pairs;
     pairs_are = marked;
     items = _;
+    marks = told;
     quiet = all_quiet _ (failed_plain (Session session) (settle_ask x) (told_by (settle_ask x) w.rows w.pairs) fate (store_of (settle_ask x)));
     silent = all_silent _ (failed_plain (Session session) (settle_ask x) (told_by (settle_ask x) w.rows w.pairs) fate (store_of (settle_ask x)));
   }),
@@ -117,13 +121,14 @@ settle_comes w session Works c x at is_open work =
         silent = plain.1;
         items = first ∷ rest;
         tells = refl;
+        marks = marks_behind w.pairs (pairs_after (settle_ask x) w.pairs) (first ∷ []) rest (met_marks (Session session) (settle_ask x) Works w.rows w.pairs);
         quiet = All-cons Quiet first rest plain.0 (settle_quiet session c.entry.start (settle_turn x answer));
       }),
       same_rows w session (client_settled c x (settle_turn x answer)) (rows_after (settle_ask x) w.rows) (pairs_after (settle_ask x) w.pairs) (resolve_rows x.key x.txn x.point w.rows),
       refl,
     )
-settle_comes w session FailsUnchanged c x at is_open work = settle_failed w session c x FailsUnchanged w.rows w.pairs at is_open refl (inl refl)
-settle_comes w session FailsApplied c x at is_open work = settle_failed w session c x FailsApplied (rows_after (settle_ask x) w.rows) (pairs_after (settle_ask x) w.pairs) at is_open (resolve_rows x.key x.txn x.point w.rows) (resolve_marks x.key x.txn x.point w.pairs)
+settle_comes w session FailsUnchanged c x at is_open work = settle_failed w session c x FailsUnchanged w.rows w.pairs at is_open refl (inl refl) (met_marks (Session session) (settle_ask x) FailsUnchanged w.rows w.pairs)
+settle_comes w session FailsApplied c x at is_open work = settle_failed w session c x FailsApplied (rows_after (settle_ask x) w.rows) (pairs_after (settle_ask x) w.pairs) at is_open (resolve_rows x.key x.txn x.point w.rows) (resolve_marks x.key x.txn x.point w.pairs) (met_marks (Session session) (settle_ask x) FailsApplied w.rows w.pairs)
 
 -- ---- a completion
 -- these asks are under way, and the first lists no keys
@@ -134,8 +139,8 @@ pub record IsCompletion (c : Client) (asked : Ask) (asks : List Ask) : Type 0 wh
   pub no_list : NoList asked
 
 -- the outcome of a step of a completion
-abbrev completed : (w : State) (session : ℕ) (c : Client) (asked : Ask) (asks : List Ask) (applied : Bool) (left : Client) (items : List Item) → ClientAt w.clients session c → IsCompletion c asked asks → ((left ≡ after_asks c asks) × (applied ≡ true)) ⊎ (left ≡ client_freed c) → AllPlain items → CompletedOne w
-completed w session c asked asks applied left items at is left_is plain = record {
+abbrev completed : (w : State) (session : ℕ) (c : Client) (asked : Ask) (asks : List Ask) (applied : Bool) (left : Client) (items : List Item) → ClientAt w.clients session c → IsCompletion c asked asks → ((left ≡ after_asks c asks) × (applied ≡ true)) ⊎ (left ≡ client_freed c) → MarksTold w.pairs (if applied then pairs_after asked w.pairs else w.pairs) items → AllPlain items → CompletedOne w
+completed w session c asked asks applied left items at is left_is told plain = record {
   session = session;
   undo = is.undo;
   c = c;
@@ -148,22 +153,23 @@ completed w session c asked asks applied left items at is left_is plain = record
   left = left;
   left_is = left_is;
   items = items;
+  marks = told;
   quiet = all_quiet items plain;
   silent = all_silent items plain;
 }
 
-complete_failed : (w : State) (session : ℕ) (c : Client) (asked : Ask) (asks : List Ask) (applied : Bool) (items : List Item) → ClientAt w.clients session c → IsCompletion c asked asks → AllPlain items → ComesTo w (record (with_client w session (client_freed c)) { rows = if applied then rows_after asked w.rows else w.rows; pairs = if applied then pairs_after asked w.pairs else w.pairs }) items
-complete_failed w session c asked asks applied items at is plain = (
-  OfCompleted (completed w session c asked asks applied (client_freed c) items at is (inr refl) plain),
+complete_failed : (w : State) (session : ℕ) (c : Client) (asked : Ask) (asks : List Ask) (applied : Bool) (items : List Item) → ClientAt w.clients session c → IsCompletion c asked asks → MarksTold w.pairs (if applied then pairs_after asked w.pairs else w.pairs) items → AllPlain items → ComesTo w (record (with_client w session (client_freed c)) { rows = if applied then rows_after asked w.rows else w.rows; pairs = if applied then pairs_after asked w.pairs else w.pairs }) items
+complete_failed w session c asked asks applied items at is told plain = (
+  OfCompleted (completed w session c asked asks applied (client_freed c) items at is (inr refl) told plain),
   refl,
   refl,
 )
 
 pub complete_comes : (w : State) (session : ℕ) (fate : Fate) (c : Client) (asked : Ask) (asks : List Ask) → ClientAt w.clients session c → IsCompletion c asked asks → ComesBy w (for_stores w session (complete_step c asked asks (met (Session session) asked fate w.rows w.pairs)))
 complete_comes w session Works c asked asks at is = (
-  OfCompleted (completed w session c asked asks true (after_asks c asks) (step_item (Session session) asked (told_by asked w.rows w.pairs) ∷ []) at is (inl (refl, refl)) (All-cons Plain (step_item (Session session) asked (told_by asked w.rows w.pairs)) [] (step_plain (Session session) asked (told_by asked w.rows w.pairs) is.no_list) none_plain)),
+  OfCompleted (completed w session c asked asks true (after_asks c asks) (step_item (Session session) asked (told_by asked w.rows w.pairs) ∷ []) at is (inl (refl, refl)) (met_marks (Session session) asked Works w.rows w.pairs) (All-cons Plain (step_item (Session session) asked (told_by asked w.rows w.pairs)) [] (step_plain (Session session) asked (told_by asked w.rows w.pairs) is.no_list) none_plain)),
   refl,
   refl,
 )
-complete_comes w session FailsUnchanged c asked asks at is = complete_failed w session c asked asks false _ at is (failed_plain (Session session) asked (told_by asked w.rows w.pairs) FailsUnchanged (store_of asked))
-complete_comes w session FailsApplied c asked asks at is = complete_failed w session c asked asks true _ at is (failed_plain (Session session) asked (told_by asked w.rows w.pairs) FailsApplied (store_of asked))
+complete_comes w session FailsUnchanged c asked asks at is = complete_failed w session c asked asks false _ at is (met_marks (Session session) asked FailsUnchanged w.rows w.pairs) (failed_plain (Session session) asked (told_by asked w.rows w.pairs) FailsUnchanged (store_of asked))
+complete_comes w session FailsApplied c asked asks at is = complete_failed w session c asked asks true _ at is (met_marks (Session session) asked FailsApplied w.rows w.pairs) (failed_plain (Session session) asked (told_by asked w.rows w.pairs) FailsApplied (store_of asked))

@@ -16,7 +16,7 @@ use Rattle.client_parts.specs.Sweep.{Sweeping, sweep_ask, sweep_told, is_undecid
 use Rattle.oracle_parts.specs.Instance.{InstanceEntry}
 use Rattle.machine.specs.State.{State}
 use Rattle.machine.specs.Effect.{Effect}
-use Rattle.machine.specs.StoreSteps.{met, store_of, told_by, step_item}
+use Rattle.machine.specs.StoreSteps.{met, store_of, told_by, pairs_after, step_item}
 use Rattle.machine.specs.Machine.{Step, step_by, on_swept}
 use Rattle.machine.specs.Events.SweepOpen.{sweep_open_on}
 use Rattle.machine.specs.Events.SweepStep.{undecided_items, sweep_met, sweep_at, sweep_lists, sweep_step_on}
@@ -26,6 +26,7 @@ use Rattle.isolation_laws.proofs.Outcome.Outcomes.{OfSweepOpened, OfSwept, OfSwe
 use Rattle.isolation_laws.proofs.Inversions.InversionParts.{ComesTo, ComesBy, still_all}
 use Rattle.isolation_laws.proofs.Inversions.InversionOfCalls.{NoList, step_plain, failed_plain}
 use Rattle.isolation_laws.proofs.Pushed.{one_quiet}
+use Rattle.isolation_laws.proofs.Stores.MarksTold.{marks_same, marks_behind, met_marks}
 
 -- the sweep was put back
 still_sweep : (w : State) (sweep : Option Sweeping) (items : List Item) → w.sweep ≡ sweep → AllPlain items → ComesTo w (record w { sweep = sweep }) items
@@ -68,6 +69,7 @@ swept w s asked is_open asks no_list Works =
         asks = asks;
         no_list = no_list;
         items = items;
+        marks = marks_behind w.pairs (pairs_after asked w.pairs) (step_item Janitor asked (told_by asked w.rows w.pairs) ∷ []) (undecided_items s (is_undecided (sweep_told s (told_by asked w.rows w.pairs)))) (met_marks Janitor asked Works w.rows w.pairs);
         quiet = all_quiet items (swept_plain w s asked no_list);
         silent = all_silent items (swept_plain w s asked no_list);
       }),
@@ -82,6 +84,7 @@ swept w s asked is_open asks no_list FailsUnchanged = (
     asks = asks;
     applied = false;
     items = item.Fault Janitor (store_of asked) ∷ [];
+    marks = marks_same w.pairs (item.Fault Janitor (store_of asked) ∷ []);
     quiet = one_quiet (item.Fault Janitor (store_of asked)) refl;
     silent = one_silent (item.Fault Janitor (store_of asked)) refl;
   }),
@@ -96,6 +99,7 @@ swept w s asked is_open asks no_list FailsApplied = (
     asks = asks;
     applied = true;
     items = _;
+    marks = met_marks Janitor asked FailsApplied w.rows w.pairs;
     quiet = all_quiet _ (failed_plain Janitor asked (told_by asked w.rows w.pairs) FailsApplied (store_of asked));
     silent = all_silent _ (failed_plain Janitor asked (told_by asked w.rows w.pairs) FailsApplied (store_of asked));
   }),
@@ -112,6 +116,7 @@ listing_failed w s txn is_open asks = (
     asks = asks;
     applied = false;
     items = item.Fault Janitor Cells ∷ [];
+    marks = marks_same w.pairs (item.Fault Janitor Cells ∷ []);
     quiet = one_quiet (item.Fault Janitor Cells) refl;
     silent = one_silent (item.Fault Janitor Cells) refl;
   }),

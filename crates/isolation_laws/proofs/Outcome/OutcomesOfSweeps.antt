@@ -13,6 +13,7 @@ use Rattle.machine.specs.StoreSteps.{rows_after, pairs_after, told_by}
 use Rattle.machine.specs.Events.SweepStep.{sweep_left}
 use Rattle.isolation_laws.specs.Quiet.{AllQuiet}
 use Rattle.isolation_laws.proofs.Outcome.PlainItems.{AllSilent}
+use Rattle.isolation_laws.proofs.Stores.MarksTold.{MarksTold}
 
 -- ---- sweeps
 pub record SweepOpened (w : State) : Type 0 where
@@ -30,6 +31,7 @@ pub record SweptOne (w : State) : Type 0 where
   pub asks : sweep_ask s ≡ Some asked
   pub no_list : (txn : ℕ) → asked ≡ KeysAsk txn → ⊥
   pub items : List Item
+  pub marks : MarksTold w.pairs (pairs_after asked w.pairs) items
   pub quiet : AllQuiet items
   pub silent : AllSilent items
 
@@ -61,6 +63,7 @@ pub record SweepFailed (w : State) : Type 0 where
   pub asks : sweep_ask s ≡ Some asked
   pub applied : Bool
   pub items : List Item
+  pub marks : MarksTold w.pairs (if applied then pairs_after asked w.pairs else w.pairs) items
   pub quiet : AllQuiet items
   pub silent : AllSilent items
 

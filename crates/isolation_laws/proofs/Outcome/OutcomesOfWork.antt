@@ -1,6 +1,6 @@
 -- For cause_laws too.
 -- What an event comes to for the work of sessions: reads, outcomes that are open, completions.
-use Rattle.std.proofs.Common.{◌≡◌, ℕ, Bool, true, false, if◌then◌else◌, List, ◌∷◌, Option, None, Some, ◌⊎◌}
+use Rattle.std.proofs.Common.{[], ◌≡◌, ℕ, Bool, true, false, if◌then◌else◌, List, ◌∷◌, Option, None, Some, ◌⊎◌}
 use Rattle.std.specs.Prelude.{slice_set}
 use Rattle.stamp_base.specs.declared.stores.Mark.TheVariants.{Invalid as InvalidMark}
 use Rattle.history_book.specs.declared.item.Item.{Item}
@@ -19,6 +19,7 @@ use Rattle.isolation_laws.specs.Words.{ClientAt}
 use Rattle.isolation_laws.specs.Quiet.{Quiet, AllQuiet}
 use Rattle.isolation_laws.proofs.Outcome.PlainItems.{Silent, AllSilent}
 use Rattle.isolation_laws.proofs.Outcome.OutcomesOfSessions.{AtOpen}
+use Rattle.isolation_laws.proofs.Stores.MarksTold.{MarksTold}
 
 -- ---- reads
 -- a read over the cells that were fetched
@@ -58,6 +59,7 @@ pub record ReadDropped (w : State) : Type 0 where
   pub pairs : Pairs
   pub pairs_are : MayHaveMarked w.pairs pairs
   pub items : List Item
+  pub marks : MarksTold w.pairs pairs items
   pub quiet : AllQuiet items
   pub silent : AllSilent items
 
@@ -75,6 +77,7 @@ pub record ReadStepped (w : State) : Type 0 where
   pub client_at : ClientAt w.clients session c
   pub under_way : c.under_way ≡ Reads r
   pub first : Item
+  pub marks : MarksTold w.pairs (pairs_after (read_ask r) w.pairs) (first ∷ [])
   pub quiet : Quiet first
   pub silent : Silent first
 
@@ -99,6 +102,7 @@ pub record OutcomeStepped (w : State) : Type 0 where
   pub silent : Silent first
   pub items : List Item
   pub tells : items ≡ first ∷ settle_items it.session it.c.entry.start (settle_turn x (told_by (settle_ask x) w.rows w.pairs))
+  pub marks : MarksTold w.pairs (pairs_after (settle_ask x) w.pairs) items
   pub quiet : AllQuiet items
 
 abbrev pub outcome_state : (w : State) → OutcomeStepped w → State
@@ -109,6 +113,7 @@ pub record OutcomeFailed (w : State) : Type 0 where
   pub pairs : Pairs
   pub pairs_are : MayHaveMarked w.pairs pairs
   pub items : List Item
+  pub marks : MarksTold w.pairs pairs items
   pub quiet : AllQuiet items
   pub silent : AllSilent items
 
@@ -129,6 +134,7 @@ pub record CompletedOne (w : State) : Type 0 where
   pub left : Client
   pub left_is : ((left ≡ after_asks c asks) × (applied ≡ true)) ⊎ (left ≡ client_freed c)
   pub items : List Item
+  pub marks : MarksTold w.pairs (if applied then pairs_after asked w.pairs else w.pairs) items
   pub quiet : AllQuiet items
   pub silent : AllSilent items
 

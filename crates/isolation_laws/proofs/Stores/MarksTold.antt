@@ -1,5 +1,5 @@
--- What a call on the stores leaves of the marks of the commit table, with what it tells: a mark is placed with its item, also where
--- the call failed.
+-- Also for the proofs of cause_laws and call_laws: what a call on the stores leaves of the marks of the commit table, with what it
+-- tells. A mark is placed with its item, also where the call failed.
 use Rattle.std.proofs.Common.{◌≡◌, ℕ, List, [], ◌∷◌, ◌++◌, Option, Some, None, ◌⊎◌, inl, inr, refl, sym, ◌∙◌, subst}
 use Rattle.std.proofs.lemmas.Bool.{cases_eq}
 use Rattle.stamp_base.specs.declared.stores.Mark.{Mark}
@@ -10,7 +10,7 @@ use Rattle.history_book.specs.Members.{◌∈◌}
 use Rattle.history_book.specs.declared.item.Actor.{Actor}
 use Rattle.history_book.specs.declared.item.Item.{Item}
 use Rattle.history_book.specs.declared.item.Item.TheVariants as item
-use Rattle.history_book.proofs.MemberLemmas.{in_front, in_back, in_last}
+use Rattle.history_book.proofs.MemberLemmas.{in_front, in_last}
 use Rattle.store_parts.specs.Rows.{Row}
 use Rattle.store_parts.specs.Pairs.{Pairs, mark_of, put_pair, without_committed}
 use Rattle.store_parts.proofs.PairLaws.{entry_or, mark_of-put_pair, mark_of-put_pair_other, unless_committed, mark_of-without_committed, mark_of-without_committed_other}
@@ -19,8 +19,6 @@ use Rattle.client_parts.specs.declared.asks.Ask.TheVariants as ask
 use Rattle.client_parts.specs.declared.asks.Told.{Told}
 use Rattle.machine.specs.StoreSteps.{Met, met, told_mark, pairs_after, told_by, items_met}
 use Rattle.isolation_laws.specs.Words.{Marked}
-use Rattle.isolation_laws.proofs.Stores.StoresStay.{committed_not_invalid}
-use Rattle.cause_laws.specs.Stores.{AreMarked}
 
 -- each mark of the table was there, or is told
 abbrev pub MarksTold : Pairs → Pairs → List Item → Type 0
@@ -34,14 +32,6 @@ marks_behind old new items more told t marked = elim (told t marked) [
   | inl was ↦ inl was
   | inr (actor, m) ↦ inr (actor, in_front (item.Mark actor t) items more m)
 ]
-
-pub marked_on : (old new : Pairs) (h items : List Item) → MarksTold old new items → AreMarked old h → AreMarked new (h ++ items)
-marked_on old new h items told are = record {
-  marked = λ t marked. elim (told t marked) [
-    | inl was ↦ let placed = are.marked t was in (placed.0, in_front (item.Mark placed.0 t) h items placed.1)
-    | inr (actor, m) ↦ (actor, in_back (item.Mark actor t) h items m)
-  ];
-}
 
 -- ---- what a call leaves of the table
 put_same : (found : Option Mark) (mark : Mark) → Some (entry_or found mark) ≡ Some InvalidMark → (found ≡ Some InvalidMark) ⊎ ((found ≡ None) × (Some mark ≡ Some InvalidMark))
@@ -61,7 +51,7 @@ put_marked pairs txn t mark marked = elim (cases_eq t txn) [
 pub placed_marks : (pairs : Pairs) (txn commit : ℕ) (items : List Item) → MarksTold pairs (put_pair pairs txn (CommittedMark commit)) items
 placed_marks pairs txn commit items t marked = elim (put_marked pairs txn t (CommittedMark commit) marked) [
   | inl was ↦ inl was
-  | inr new ↦ absurd (committed_not_invalid commit new.2)
+  | inr new ↦ let clash : Some (CommittedMark commit) ≡ Some InvalidMark = new.2 in absurd cc
 ]
 
 left_marked : (found : Option Mark) → unless_committed found ≡ Some InvalidMark → found ≡ Some InvalidMark
