@@ -17,17 +17,24 @@ use Rattle.oracle_parts.specs.InstanceSteps.{epoch_refusal, request_verdict}
 use Rattle.machine.specs.declared.event.Event.TheVariants as event
 use Rattle.machine.specs.Events.Decide.{draw_item}
 use Rattle.script_data.specs.declared.line.Target.TheVariants as target
+use Rattle.script_data.specs.declared.line.Verb.{Verb}
 use Rattle.script_data.specs.declared.line.Verb.TheVariants as verb
 use Rattle.script_data.specs.Data.{ScriptData}
 use Rattle.isolation_laws.proofs.Lookups.{one_instance}
+use Rattle.line_steps.specs.declared.point.Point.TheVariants.{Opens}
+use Rattle.line_steps.specs.declared.point.View.{View}
 use Rattle.line_steps.specs.Laws.{IsPlayable}
+use Rattle.line_steps.specs.Next.{Clocks}
+use Rattle.line_steps.specs.Runs.{clocks_of}
+use Rattle.line_steps.specs.Views.{view_of}
 use Rattle.turn_rules.specs.declared.ahead.Ahead.TheVariants.{Makes}
 use Rattle.turn_rules.specs.declared.turn.Turn.{Turn}
 use Rattle.turn_rules.specs.declared.turn.Turn.TheVariants as turn
-use Rattle.turn_rules.specs.Carried.{Carried, own_ahead, turned, carried}
+use Rattle.turn_rules.specs.Waiting.{own_next}
+use Rattle.turn_rules.specs.Carried.{Carried, name_posted, own_ahead, turned, carried}
 use Rattle.grant_laws.specs.Granted.{reading_of}
 use Rattle.grant_laws.specs.Turns.{IsServed, Serves}
-use Rattle.grant_laws.specs.Lines.{AtNode, UpToDraw, all_up_to_draw, at_ask, at_accept, at_draw, CanServeBy, stamp_drawn, at_begin_answer, at_place, RunsGrantBegins, RunsGrantCommits}
+use Rattle.grant_laws.specs.Lines.{AtNode, UpToDraw, all_up_to_draw, at_ask, at_accept, at_draw, CanServeBy, stamp_drawn, at_begin_answer, at_place, RunsGrantBegins, AsksCommit, RunsGrantCommits}
 use Rattle.grant_laws.proofs.AskTurns.{begin_asks, commit_asks}
 use Rattle.grant_laws.proofs.KnownTurns.{KnownTurns, known_stands, known_turned, known_on, known_carried}
 use Rattle.grant_laws.proofs.LeftRequests.{of_holder, left_served, left_waiting}
@@ -100,15 +107,20 @@ runs_grant_begins script s node u drawn later in_range playable ahead can =
 above_epoch : (i : InstanceEntry) (s start : ℕ) (keys : List ℕ) → i.epoch < start → epoch_refusal i (Commit s start keys) ≡ None
 above_epoch i s start keys in_epoch = ap (λ (old : Bool). cond old (Some (cause.OldEpoch start i.epoch)) None) (lt-leb start i.epoch in_epoch)
 
+asks_commit : (clocks : Clocks) (posted unawaited : Bool) (view : View) (s node : ℕ) (line : Verb) → AsksCommit node line → own_next clocks posted (Session s) line Opens view unawaited ≡ Makes (event.AskCommit s node)
+asks_commit clocks posted unawaited view s node (verb.Commit to) asks = ap (λ (n : ℕ). Makes (event.AskCommit s n)) asks
+asks_commit clocks posted unawaited view s node (verb.Submit to) asks = ap (λ (n : ℕ). Makes (event.AskCommit s n)) asks
+asks_commit clocks posted unawaited view s node _ asks = absurd asks
+
 pub runs_grant_commits : RunsGrantCommits
-runs_grant_commits script s node u drawn placed later in_range playable ahead can =
+runs_grant_commits script s node line u drawn placed later in_range playable ahead asks can =
     let c : Carried = at_ask script u in
     let start : ℕ = can.work.start in
     let keys : List ℕ = can.work.client.entry.keys in
     let request : Request = Commit s start keys in
     let commit : ℕ = stamp_drawn can.serving in
     let known : KnownTurns script c = known_carried script u.before in_range playable in
-    let makes : own_ahead script c (Session s) ≡ Makes (event.AskCommit s node) = line_makes script c (Session s) (verb.Commit (target.Node node)) ahead in
+    let makes : own_ahead script c (Session s) ≡ Makes (event.AskCommit s node) = line_makes script c (Session s) line ahead ∙ asks_commit (clocks_of script c.played) (name_posted c.names line) ahead.seat.unawaited (view_of c.played.state (Session s)) s node line asks in
     let asked : Serves script c (turn.Own (Session s)) (item.AskCommit s node start) node s request progress.Asked = commit_asks script c s node known makes can.work can.wrote can.serving.slot in
     let above : AtNode (at_accept script s u).played node (λ i. epoch_refusal i request ≡ None) = record { oracle = can.in_epoch.oracle; node_has = can.in_epoch.node_has; so = above_epoch can.in_epoch.oracle s start keys can.in_epoch.so } in
     let drew : HasDrawn script s node u request commit = draws_through script s node u request playable known asked.comes can.serving above (record { oracle = can.no_conflict.oracle; node_has = can.no_conflict.node_has; so = can.no_conflict.so }) in

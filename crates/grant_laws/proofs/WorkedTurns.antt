@@ -1,5 +1,6 @@
 -- The worked scripts with turns, computed.
-use Rattle.std.proofs.Common.{◌≡◌, [], ◌∷◌, inl, refl, sym, ◌∙◌, subst, arith}
+use Rattle.std.proofs.Common.{◌≡◌, [], ◌∷◌, Some, None, inl, inr, refl, sym, ◌∙◌, subst, arith}
+use Rattle.std.specs.Prelude.{slice_index_or}
 use Rattle.std.proofs.lemmas.Option.{none-some}
 use Rattle.stamp_base.specs.declared.stores.Mark.TheVariants.{Invalid as InvalidMark}
 use Rattle.stamp_base.specs.declared.stores.Store.TheVariants.{Cells, Table}
@@ -12,18 +13,19 @@ use Rattle.history_book.specs.declared.item.Item.{Item}
 use Rattle.history_book.specs.declared.item.Item.TheVariants as item
 use Rattle.client_parts.specs.KeyRead.{after_passed}
 use Rattle.oracle_parts.specs.Buckets.{record_pairs, kept_commit, verdict}
-use Rattle.oracle_parts.specs.Instance.{in_flight, least_unsettled}
-use Rattle.machine.specs.State.{Client}
+use Rattle.oracle_parts.specs.Instance.{InstanceEntry, in_flight, least_unsettled}
+use Rattle.machine.specs.State.{Client, client_new}
+use Rattle.isolation_laws.specs.Words.{InstanceAt}
 use Rattle.machine.specs.Readers.{holder_from}
 use Rattle.script_data.specs.Ticks.{ticks_of}
 use Rattle.line_steps.specs.Laws.{IsPlayable}
 use Rattle.line_steps.specs.Runs.{Played}
 use Rattle.turn_rules.specs.declared.turn.Turn.TheVariants as turn
 use Rattle.turn_rules.specs.Seats.{seats_of, passed}
-use Rattle.turn_rules.specs.Carried.{carried, carried_items}
+use Rattle.turn_rules.specs.Carried.{Carried, turned, carried, carried_items}
 use Rattle.grant_laws.specs.Granted.{reading_of}
 use Rattle.grant_laws.specs.Premises.{IsAtWork, CanWrite, CanTake, CanFetch}
-use Rattle.grant_laws.specs.Lines.{IsAhead, Leave, LeaveWaiting, at_ask, at_accept, at_draw, CanServeBy, stamp_drawn, CanBeginBy, CanCommitBy, RunsGrantCommits}
+use Rattle.grant_laws.specs.Lines.{IsAhead, Leave, AnswersEarly, LeaveWaiting, at_ask, at_accept, at_draw, CanServeBy, stamp_drawn, CanBeginBy, CanCommitBy, RunsGrantCommits}
 use Rattle.grant_laws.specs.Worked as worked
 use Rattle.grant_laws.specs.WorkedRuns as runs
 use Rattle.grant_laws.proofs.WorkedScripts.{client_of, oracle_of, in_range, no_lead}
@@ -56,6 +58,10 @@ begin_refused = refl
 pub commit_refused : carried_items (worked.failing Table runs.committing) runs.commit_turns ≡ runs.failed_commit_items
 unfolding seats_of passed holder_from planned_fate record_pairs least_unsettled kept_commit verdict put_row without_bare fetched front_of after_passed
 commit_refused = refl
+
+pub wait_history : carried_items runs.waiting runs.wait_turns ≡ runs.wait_items
+unfolding seats_of passed holder_from planned_fate record_pairs least_unsettled kept_commit verdict put_row without_bare fetched front_of after_passed
+wait_history = refl
 
 pub read_history : carried_items worked.reading runs.one_more ≡ worked.reading_items
 unfolding seats_of passed holder_from planned_fate record_pairs least_unsettled kept_commit verdict put_row without_bare fetched front_of after_passed
@@ -117,6 +123,45 @@ begin_can =
       settled = record { oracle = oracle_of (carried runs.beginning runs.before_answer).played; node_has = refl; so = refl };
     }
 
+-- the begin that is answered too early
+wait_serving : CanServeBy runs.waiting 1 0 runs.to_wait
+unfolding seats_of passed holder_from planned_fate record_pairs least_unsettled kept_commit verdict put_row without_bare fetched front_of after_passed Leave
+wait_serving =
+    let p : Played = (at_ask runs.waiting runs.to_wait).played in
+    let q : Played = (at_accept runs.waiting 1 runs.to_wait).played in
+    let r : Played = (at_draw runs.waiting 1 0 runs.to_wait).played in
+    let held : in_flight (oracle_of p) ≡ 1 = refl in
+    let slots : (oracle_of p).slots ≡ 64 = refl in
+    let reading : reading_of runs.waiting q 0 ≡ 0 = refl in
+    let until : (oracle_of q).until ≡ 10 = refl in
+    let last : (oracle_of r).last ≡ 2 = refl in
+    let ceiling : (oracle_of r).ceiling ≡ 100 = refl in
+    record {
+      slot = record { oracle = oracle_of p; node_has = refl; so = omega (arith, held, slots) };
+      leased = record { oracle = oracle_of q; node_has = refl; so = omega (arith, reading, until) };
+      stamp = record { oracle = oracle_of r; node_has = refl; so = omega (arith, last, ceiling) };
+      until_accepted = tt;
+      until_drawn = tt;
+    }
+
+too_early : (c : Carried) → (i : InstanceEntry) → InstanceAt c.played.state.nodes 0 i → least_unsettled i.requests 3 ≡ Some 2 → AnswersEarly c 0 1 3 (turn.Answer 0 1)
+too_early c i node_has least = record { answers = refl; unsettled = record { oracle = i; node_has = node_has; so = λ none. none-some 2 (sym none ∙ least) } }
+
+pub wait_can : CanBeginBy runs.waiting 1 0 runs.to_wait runs.early
+unfolding seats_of passed holder_from planned_fate record_pairs least_unsettled kept_commit verdict put_row without_bare fetched front_of after_passed Leave LeaveWaiting wait_serving
+wait_can =
+    let p : Played = (at_ask runs.waiting runs.to_wait).played in
+    let c : Carried = turned runs.waiting (at_draw runs.waiting 1 0 runs.to_wait) (turn.Decide 0 1) in
+    let d : Carried = turned runs.waiting c (turn.Answer 0 1) in
+    record {
+      client = slice_index_or p.state.clients 1 client_new;
+      session_is = refl;
+      is_free = refl;
+      serving = wait_serving;
+      until_answered = (inr (too_early c (oracle_of c.played) refl refl), (inr (too_early d (oracle_of d.played) refl refl), (inl refl, tt)));
+      settled = record { oracle = oracle_of (carried runs.waiting runs.before_settled).played; node_has = refl; so = refl };
+    }
+
 commit_serving : CanServeBy runs.committing 0 0 runs.to_commit
 unfolding seats_of passed holder_from planned_fate record_pairs least_unsettled kept_commit verdict put_row without_bare fetched front_of after_passed Leave
 commit_serving =
@@ -174,5 +219,5 @@ playable = record { leads = no_lead; ticks = omega arith }
 
 pub commit_granted : RunsGrantCommits → item.Committed 0 1 2 ∈ carried_items runs.committing runs.commit_turns
 commit_granted law =
-    let has : item.Committed 0 commit_can.work.start (stamp_drawn commit_can.serving) ∈ carried_items runs.committing runs.commit_turns = law runs.committing 0 0 runs.to_commit (turn.Accept 0 1 ∷ []) (turn.Decide 0 1 ∷ []) [] in_range playable commit_ahead commit_can in
+    let has : item.Committed 0 commit_can.work.start (stamp_drawn commit_can.serving) ∈ carried_items runs.committing runs.commit_turns = law runs.committing 0 0 (worked.commit).verb runs.to_commit (turn.Accept 0 1 ∷ []) (turn.Decide 0 1 ∷ []) [] in_range playable commit_ahead refl commit_can in
     subst (λ (x : Item). x ∈ carried_items runs.committing runs.commit_turns) commit_item has

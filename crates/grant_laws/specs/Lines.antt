@@ -25,6 +25,7 @@ use Rattle.isolation_laws.specs.Words.{InstanceAt, ClientAt, Marked}
 use Rattle.line_steps.specs.declared.point.Point.TheVariants.{Opens}
 use Rattle.line_steps.specs.Answers.{same_actor}
 use Rattle.line_steps.specs.Laws.{IsPlayable}
+use Rattle.line_steps.specs.Next.{target_node}
 use Rattle.line_steps.specs.Runs.{Played}
 use Rattle.turn_rules.specs.declared.seat.Seat.{Seat}
 use Rattle.turn_rules.specs.declared.turn.Turn.{Turn}
@@ -161,9 +162,15 @@ pub record CanCommitBy (script : ScriptData) (session node : ℕ) (u : UpToDraw)
   pub until_placed : Leave script node session (turned script (at_draw script session node u) (turn.Decide node session)) drawn
   pub until_answered : Leave script node session (turned script (at_place script session node u drawn) (turn.Put node session)) placed
 
+-- the line asks the node for a commit: it waits for the answer, or leaves that to a later line
+abbrev pub AsksCommit : ℕ → Verb → Type 0
+AsksCommit node (verb.Commit to) = target_node to ≡ node
+AsksCommit node (verb.Submit to) = target_node to ≡ node
+AsksCommit node _ = ⊥
+
 abbrev pub RunsGrantCommits : Type 0
 RunsGrantCommits =
-    (script : ScriptData) (session node : ℕ) (u : UpToDraw) (drawn placed later : List Turn) → AreInRange script.setup → IsPlayable script 0 script.lines → IsAhead script (at_ask script u) (Session session) (verb.Commit (target.Node node)) → (can : CanCommitBy script session node u drawn placed) →
+    (script : ScriptData) (session node : ℕ) (line : Verb) (u : UpToDraw) (drawn placed later : List Turn) → AreInRange script.setup → IsPlayable script 0 script.lines → IsAhead script (at_ask script u) (Session session) line → AsksCommit node line → (can : CanCommitBy script session node u drawn placed) →
     item.Committed session can.work.start (stamp_drawn can.serving) ∈ carried_items script (all_up_to_draw session node u (drawn ++ turn.Put node session ∷ (placed ++ turn.Answer node session ∷ later)))
 
 -- ---- a read

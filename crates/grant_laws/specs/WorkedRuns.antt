@@ -17,7 +17,7 @@ use Rattle.turn_rules.specs.declared.turn.Turn.{Turn}
 use Rattle.turn_rules.specs.declared.turn.Turn.TheVariants as turn
 use Rattle.grant_laws.specs.Granted.{line_of}
 use Rattle.grant_laws.specs.Lines.{UpToDraw, all_up_to_draw}
-use Rattle.grant_laws.specs.Worked.{take, begin, write, commit, of_lines, taking_items, beginning_items as worked_begun, writing_items}
+use Rattle.grant_laws.specs.Worked.{take, begin, write, commit, of_lines, failing, taking_items, beginning_items as worked_begun, writing_items}
 
 -- ---- a begin, between the turns of another that begins
 abbrev other_begin : Line
@@ -67,6 +67,27 @@ commit_seat = record { actor = Session 0; place = 2; point = Opens; unawaited = 
 
 abbrev pub failed_commit_items : List Item
 failed_commit_items = writing_items ++ item.AskCommit 0 0 1 ∷ item.AskBegin 1 0 ∷ item.Accept 0 0 1 0 ∷ item.Draw 0 0 1 1 (Some 2) ∷ item.Accept 1 0 1 0 ∷ item.Fault (Node 0) Table ∷ item.Draw 1 0 1 3 None ∷ item.Refused (Session 0) (cause.Open 1) ∷ []
+
+-- ---- a begin that is answered too early
+-- its commit drawn and its put to come, the first session is in the other's way; the put fails, and so it is in it no more
+abbrev pub waiting : ScriptData
+waiting = failing Table committing
+
+abbrev pub to_wait : UpToDraw
+to_wait = record { before = begun ++ turn.Own (Session 0) ∷ turn.Own (Session 0) ∷ turn.Accept 0 0 ∷ turn.Decide 0 0 ∷ []; asked = []; accepted = [] }
+
+-- answered too early, and again, and then the put
+abbrev pub early : List Turn
+early = turn.Answer 0 1 ∷ turn.Answer 0 1 ∷ turn.Put 0 0 ∷ []
+
+abbrev pub before_settled : List Turn
+before_settled = all_up_to_draw 1 0 to_wait early
+
+abbrev pub wait_turns : List Turn
+wait_turns = all_up_to_draw 1 0 to_wait (early ++ turn.Answer 0 1 ∷ [])
+
+abbrev pub wait_items : List Item
+wait_items = writing_items ++ item.AskCommit 0 0 1 ∷ item.Accept 0 0 1 0 ∷ item.Draw 0 0 1 1 (Some 2) ∷ item.AskBegin 1 0 ∷ item.Accept 1 0 1 0 ∷ item.Draw 1 0 1 3 None ∷ item.Refused (Session 1) (cause.NotYet 2) ∷ item.Fault (Node 0) Table ∷ item.Begin 1 3 ∷ []
 
 -- ---- lines of one turn
 -- the session's line after the begin makes its first turn

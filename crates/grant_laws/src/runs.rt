@@ -21,7 +21,7 @@ pub fn runs_grant_begins()
     ensures { RunsGrantBegins }
 {}
 
-/// A commit line whose request is asked, accepted, drawn, placed and answered appends its commit: with the transaction open,
+/// A commit or submit line whose request is asked, accepted, drawn, placed and answered appends its commit: with the transaction open,
 /// written and not reading and a slot free at the ask, the lease standing and the epoch below its start at the acceptance, the
 /// conflict memory free of its keys and a stamp left at the draw, and the transaction unmarked and the table's next call
 /// working at the placing. What the completion meets then takes nothing back.

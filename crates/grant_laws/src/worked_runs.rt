@@ -37,6 +37,13 @@ pub fn a_begin_on_threads()
     ensures refused { carried_items runs.beginning_late runs.late_turns ≡ runs.late_items }
 {}
 
+/// A begin that is answered while a commit drawn below it is not settled is told to wait, once, and has its start when the commit is
+/// settled, here by a put that failed.
+pub fn an_early_answer_on_threads()
+    ensures can { CanBeginBy runs.waiting 1 0 runs.to_wait runs.early }
+    ensures granted { carried_items runs.waiting runs.wait_turns ≡ runs.wait_items }
+{}
+
 /// A commit is granted, by the law, while another session begins. Where its put fails, all else being the same, its outcome is
 /// open.
 pub fn a_commit_on_threads()
