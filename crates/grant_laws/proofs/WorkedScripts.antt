@@ -170,14 +170,14 @@ in_range : AreInRange default_numbers
 in_range = record {
   nodes = (omega arith, omega arith);
   lease = (omega arith, omega arith);
-  skew = omega arith;
+  skew = (omega arith, omega arith);
   range = (omega arith, omega arith);
   buckets = (omega arith, omega arith);
   width = (omega arith, omega arith);
   slots = (omega arith, omega arith);
   batch = (omega arith, omega arith);
   workers = (omega arith, omega arith);
-  cache = omega arith;
+  cache = (omega arith, omega arith);
 }
 
 is_before : IsBefore worked.committing worked.commit worked.before_committing

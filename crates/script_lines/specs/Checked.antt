@@ -1,12 +1,16 @@
 -- The arguments of a line, each with the cause where it is wrong.
 use Rattle.std.specs.Prelude.{ℕ, ◌^◌, nat_le, ◌&&◌, if◌then◌else◌, List, Option, None, Some, Result, Ok, Err}
+use Rattle.std.specs.Str.{bytes_eq}
+use Rattle.stamp_base.specs.SetupNumbers.{bounds_of}
+use Rattle.stamp_base.specs.declared.setup_number.SetupFlag.{SetupFlag}
+use Rattle.stamp_base.specs.declared.setup_number.SetupNumber.{SetupNumber}
 use Rattle.stamp_base.specs.declared.stage.Stage.{Stage}
 use Rattle.stamp_base.specs.declared.stores.Store.{Store}
 use Rattle.port_io.specs.declared.weather.Fate.{Fate}
 use Rattle.script_lines.specs.declared.cause.ScriptCause.{ScriptCause}
 use Rattle.script_lines.specs.declared.cause.ScriptCause.TheVariants.{BadNumber, OutOfRange, UnknownNode, BadSession, BadKey, BadValue, UnknownStage, UnknownStore, UnknownKind, BadName}
 use Rattle.script_lines.specs.Arguments.{number_of, node_of, session_of, key_of, value_of, name_of}
-use Rattle.script_lines.specs.Grammar.{named, stages, stores, kinds}
+use Rattle.script_lines.specs.Grammar.{named, stages, stores, kinds, flag_word}
 use Rattle.script_lines.specs.Results.{or_cause}
 
 abbrev pub number_within : ℕ → ℕ → Option ℕ → Result ℕ ScriptCause
@@ -16,6 +20,14 @@ number_within least most (Some n) = if nat_le least n && nat_le n most then Ok n
 -- a number from the least to the most
 unfoldable pub number_at : ℕ → ℕ → List ℕ → Result ℕ ScriptCause
 number_at least most word = number_within least most (number_of word)
+
+-- a number of a setup, within its bounds
+abbrev pub setup_number_at : SetupNumber → List ℕ → Result ℕ ScriptCause
+setup_number_at number word = number_at (bounds_of number).least (bounds_of number).most word
+
+-- a flag of a setup, by the word that turns it on
+unfoldable pub flag_at : SetupFlag → List ℕ → Result SetupFlag ScriptCause
+flag_at flag word = if bytes_eq word (flag_word flag) then Ok flag else Err UnknownKind
 
 -- the start of a transaction
 unfoldable pub start_at : List ℕ → Result ℕ ScriptCause

@@ -1,6 +1,9 @@
 -- The tables of the grammar: which words name a form, how many words each form has, and what words stand for.
 use Rattle.std.specs.Prelude.{ℕ, Bool, true, false, if◌then◌else◌, List, [], ◌∷◌, Option, Some, None, codes}
 use Rattle.std.specs.Str.{bytes_eq}
+use Rattle.stamp_base.specs.declared.setup_number.SetupFlag.{SetupFlag}
+use Rattle.stamp_base.specs.declared.setup_number.SetupFlag.TheVariants.{Direct, Strict}
+use Rattle.stamp_base.specs.declared.setup_number.SetupNumber.TheVariants as numbers
 use Rattle.stamp_base.specs.declared.stage.Stage.{Stage}
 use Rattle.stamp_base.specs.declared.stage.Stage.TheVariants.{Request, Persist, Reply}
 use Rattle.stamp_base.specs.declared.stores.Store.{Store}
@@ -10,7 +13,7 @@ use Rattle.port_io.specs.declared.weather.Fate.TheVariants.{FailsUnchanged, Fail
 use Rattle.history_book.specs.declared.item.Actor.{Actor}
 use Rattle.history_book.specs.declared.item.Actor.TheVariants.{Clock, Node, Session, Janitor}
 use Rattle.script_lines.specs.declared.form.SetupForm.{SetupForm}
-use Rattle.script_lines.specs.declared.form.SetupForm.TheVariants.{Nodes, Lease, Skew, Range, Buckets, Slots, Batch, Workers, Lead, Fault, Cache, Commits, Reads}
+use Rattle.script_lines.specs.declared.form.SetupForm.TheVariants.{Number, Flag, Buckets, Lead, Fault}
 use Rattle.script_lines.specs.declared.form.VerbForm.{VerbForm}
 use Rattle.script_lines.specs.declared.form.VerbForm.TheVariants.{Tick, Take, Renew, Crash, Extend, Hold, Free, Accept, Decide, Put, Answer, Begin, Commit, Submit, AskBegin, AskCommit, Write, Read, Fetch, Collect, Abort, Heal, Vanish, Step, Finish, Sweep, OpenSweep, SweepStep, SweepFinish, Post, Await}
 
@@ -33,9 +36,15 @@ kinds = (codes "unchanged", FailsUnchanged) ∷ (codes "applied", FailsApplied) 
 
 -- the words that begin a setup line
 abbrev pub setup_forms : List (List ℕ × SetupForm)
-setup_forms = (codes "nodes", Nodes) ∷ (codes "lease", Lease) ∷ (codes "skew", Skew) ∷ (codes "range", Range)
-    ∷ (codes "buckets", Buckets) ∷ (codes "slots", Slots) ∷ (codes "batch", Batch) ∷ (codes "workers", Workers)
-    ∷ (codes "lead", Lead) ∷ (codes "fault", Fault) ∷ (codes "cache", Cache) ∷ (codes "commits", Commits) ∷ (codes "reads", Reads) ∷ []
+setup_forms = (codes "nodes", Number numbers.Nodes) ∷ (codes "lease", Number numbers.Lease) ∷ (codes "skew", Number numbers.Skew)
+    ∷ (codes "range", Number numbers.Range) ∷ (codes "buckets", Buckets) ∷ (codes "slots", Number numbers.Slots)
+    ∷ (codes "batch", Number numbers.Batch) ∷ (codes "workers", Number numbers.Workers) ∷ (codes "lead", Lead) ∷ (codes "fault", Fault)
+    ∷ (codes "cache", Number numbers.Cache) ∷ (codes "commits", Flag Direct) ∷ (codes "reads", Flag Strict) ∷ []
+
+-- the second word of the line that turns the flag on
+abbrev pub flag_word : SetupFlag → List ℕ
+flag_word Direct = codes "direct"
+flag_word Strict = codes "strict"
 
 -- the verbs of the clock
 abbrev pub clock_forms : List (List ℕ × VerbForm)
@@ -68,19 +77,18 @@ verb_forms Janitor = janitor_forms
 
 -- how many words a setup line of the form has, the setup word included
 abbrev pub setup_words : SetupForm → ℕ
-setup_words Nodes = 2
-setup_words Lease = 2
-setup_words Skew = 2
-setup_words Range = 2
+setup_words (Number number) = 2
+setup_words (Flag flag) = 2
 setup_words Buckets = 3
-setup_words Slots = 2
-setup_words Batch = 2
-setup_words Workers = 2
 setup_words Lead = 3
 setup_words Fault = 4
-setup_words Cache = 2
-setup_words Commits = 2
-setup_words Reads = 2
+
+-- lines of the form can be carried out
+abbrev pub is_built : SetupForm → Bool
+is_built (Number numbers.Cache) = false
+is_built (Flag Direct) = false
+is_built (Flag Strict) = false
+is_built _ = true
 
 -- how many words a line of the form has, the actor included
 abbrev pub verb_words : VerbForm → ℕ

@@ -1,13 +1,17 @@
 // The arguments of a line, each with the cause where it is wrong.
 ghost use Rattle.std.specs.Prelude.{◌≡◌, ◌<◌, IfOk};
 ghost use Rattle.stamp_base.specs.Ranges.{IsWithin};
-ghost use Rattle.script_lines.specs.Checked.{number_at, number_within, start_at, node_at, session_at, key_at, value_at, stage_at, store_at, kind_at, name_at};
+ghost use Rattle.stamp_base.specs.SetupNumbers.{MayBe};
+ghost use Rattle.script_lines.specs.Checked.{number_at, number_within, setup_number_at, flag_at, start_at, node_at, session_at, key_at, value_at, stage_at, store_at, kind_at, name_at};
 
 use crate::arguments::{key_of, name_of, node_of, number_of, session_of, value_of};
 use crate::cause::ScriptCause;
-use crate::tables::{kind_of, stage_of, store_of};
+use crate::tables::{kind_of, stage_of, store_of, turns_on};
 use port_io::Fate;
-use stamp_base::{KeyNo, Name, NodeNo, SessionNo, Setup, Stage, Stamp, Store, TxnId, Value};
+use stamp_base::{
+    KeyNo, Name, NodeNo, SessionNo, Setup, SetupFlag, SetupNumber, Stage, Stamp, Store, TxnId,
+    Value,
+};
 
 /// A number from the least to the most.
 #[tactic(auto, unfolding(crate::specs::Checked::number_at))]
@@ -18,6 +22,27 @@ pub fn number_at(least: u64, most: u64, word: &[u8]) -> Result<u64, ScriptCause>
     match number_of(word) {
         Some(number) => within(least, most, number),
         None => Err(ScriptCause::BadNumber),
+    }
+}
+
+/// A number of a setup, within its bounds.
+pub fn setup_number_at(number: SetupNumber, word: &[u8]) -> Result<u64, ScriptCause>
+    ensures number { result ≡ setup_number_at number word.now }
+    ensures within { IfOk result (MayBe number) }
+{
+    let bounds = number.bounds();
+    number_at(bounds.least, bounds.most, word)
+}
+
+/// A flag of a setup, by the word that turns it on.
+#[tactic(auto, unfolding(crate::specs::Checked::flag_at))]
+pub fn flag_at(flag: SetupFlag, word: &[u8]) -> Result<SetupFlag, ScriptCause>
+    ensures { result ≡ flag_at flag word.now }
+{
+    if turns_on(flag, word) {
+        Ok(flag)
+    } else {
+        Err(ScriptCause::UnknownKind)
     }
 }
 

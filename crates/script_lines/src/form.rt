@@ -1,23 +1,19 @@
 // The forms of lines: how many words each has, and which only a replay takes.
 ghost use Rattle.std.specs.Prelude.{◌≡◌};
-ghost use Rattle.script_lines.specs.Grammar.{setup_words, verb_words, is_replay_only};
+ghost use Rattle.script_lines.specs.Grammar.{setup_words, is_built, verb_words, is_replay_only};
+
+use stamp_base::{SetupFlag, SetupNumber};
 
 /// The form of a setup line, whatever its arguments are.
 #[derive(Clone, Copy, Debug, PartialEq, Eq)]
 pub enum SetupForm {
-    Nodes,
-    Lease,
-    Skew,
-    Range,
+    /// One number.
+    Number(SetupNumber),
+    /// A word that turns something on.
+    Flag(SetupFlag),
     Buckets,
-    Slots,
-    Batch,
-    Workers,
     Lead,
     Fault,
-    Cache,
-    Commits,
-    Reads,
 }
 
 /// The form of an actor's line, whatever its arguments are.
@@ -62,11 +58,20 @@ impl SetupForm {
         ensures { result ≡ setup_words self }
     {
         match self {
-            SetupForm::Nodes | SetupForm::Lease | SetupForm::Skew | SetupForm::Range => 2,
-            SetupForm::Slots | SetupForm::Batch | SetupForm::Workers | SetupForm::Cache => 2,
-            SetupForm::Commits | SetupForm::Reads => 2,
+            SetupForm::Number(_) | SetupForm::Flag(_) => 2,
             SetupForm::Buckets | SetupForm::Lead => 3,
             SetupForm::Fault => 4,
+        }
+    }
+
+    /// Whether lines of the form can be carried out yet.
+    pub fn is_built(self) -> bool
+        ensures { result ≡ is_built self }
+    {
+        match self {
+            SetupForm::Number(SetupNumber::Cache) => false,
+            SetupForm::Flag(SetupFlag::Direct | SetupFlag::Strict) => false,
+            _ => true,
         }
     }
 }

@@ -13,7 +13,7 @@ mod words;
 
 pub use arguments::actor_of;
 pub use cause::ScriptCause;
-pub use checked::{kind_at, node_at, number_at, store_at};
+pub use checked::{flag_at, kind_at, node_at, number_at, setup_number_at, store_at};
 pub use cutting::{cut_line, is_silent};
 pub use form::SetupForm;
 pub use line::verb_at;

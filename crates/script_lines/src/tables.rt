@@ -1,27 +1,27 @@
 // The words that name a form, a stage, a store or how a call fails.
 ghost use Rattle.std.specs.Prelude.{◌≡◌, map};
 ghost use Rattle.std.specs.Str.{bytes_eq};
-ghost use Rattle.script_lines.specs.Grammar.{named, stages, stores, kinds, setup_forms, verb_forms};
+ghost use Rattle.script_lines.specs.Grammar.{named, stages, stores, kinds, setup_forms, flag_word, verb_forms};
 
 use crate::form::{SetupForm, VerbForm};
 use history_book::Actor;
 use port_io::Fate;
-use stamp_base::{Stage, Store};
+use stamp_base::{SetupFlag, SetupNumber, Stage, Store};
 
 const SETUP_FORMS: [(&str, SetupForm); 13] = [
-    ("nodes", SetupForm::Nodes),
-    ("lease", SetupForm::Lease),
-    ("skew", SetupForm::Skew),
-    ("range", SetupForm::Range),
+    ("nodes", SetupForm::Number(SetupNumber::Nodes)),
+    ("lease", SetupForm::Number(SetupNumber::Lease)),
+    ("skew", SetupForm::Number(SetupNumber::Skew)),
+    ("range", SetupForm::Number(SetupNumber::Range)),
     ("buckets", SetupForm::Buckets),
-    ("slots", SetupForm::Slots),
-    ("batch", SetupForm::Batch),
-    ("workers", SetupForm::Workers),
+    ("slots", SetupForm::Number(SetupNumber::Slots)),
+    ("batch", SetupForm::Number(SetupNumber::Batch)),
+    ("workers", SetupForm::Number(SetupNumber::Workers)),
     ("lead", SetupForm::Lead),
     ("fault", SetupForm::Fault),
-    ("cache", SetupForm::Cache),
-    ("commits", SetupForm::Commits),
-    ("reads", SetupForm::Reads),
+    ("cache", SetupForm::Number(SetupNumber::Cache)),
+    ("commits", SetupForm::Flag(SetupFlag::Direct)),
+    ("reads", SetupForm::Flag(SetupFlag::Strict)),
 ];
 
 const CLOCK_FORMS: [(&str, VerbForm); 3] = [
@@ -90,6 +90,16 @@ const KINDS: [(&str, Fate); 2] = [
     ("applied", Fate::FailsApplied),
 ];
 
+/// The word that turns the flag on.
+fn flag_word(flag: SetupFlag) -> &'static [u8]
+    ensures { result.now ≡ flag_word flag }
+{
+    match flag {
+        SetupFlag::Direct => b"direct",
+        SetupFlag::Strict => b"strict",
+    }
+}
+
 /// The form that a setup word names.
 pub fn setup_form(word: &[u8]) -> Option<SetupForm>
     ensures { result ≡ named setup_forms word.now }
@@ -128,6 +138,13 @@ pub fn kind_of(word: &[u8]) -> Option<Fate>
     ensures { result ≡ named kinds word.now }
 {
     look_up(&KINDS, word)
+}
+
+/// Whether the word turns the flag on.
+pub fn turns_on(flag: SetupFlag, word: &[u8]) -> bool
+    ensures { result ≡ bytes_eq word.now (flag_word flag) }
+{
+    is_same(word, flag_word(flag))
 }
 
 /// What the word stands for: what the first row of the table that has the word holds beside it.

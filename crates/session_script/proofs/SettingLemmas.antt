@@ -5,12 +5,13 @@ use Rattle.std.proofs.lemmas.Bool.{true≢false, eqb-true, eq-eqb}
 use Rattle.std.proofs.lemmas.List.Elements.{All-replicate, All-push}
 use Rattle.std.proofs.lemmas.Bool.Decides.{nat_tests}
 use Rattle.std.proofs.lemmas.List.Folds.{list_any-append}
+use Rattle.stamp_base.specs.declared.setup_number.SetupNumber.TheVariants as numbers
 use Rattle.stamp_base.specs.declared.stores.Store.{Store}
 use Rattle.stamp_base.specs.declared.stores.Store.TheVariants.{Cells, Table, Master}
 use Rattle.port_io.specs.Planned.{PlannedFault, same_store}
 use Rattle.script_data.specs.declared.limits.TheConstants.{FAULT_LIMIT}
 use Rattle.session_script.specs.declared.setting.Setting.{Setting}
-use Rattle.session_script.specs.declared.setting.Setting.TheVariants.{Nodes, Lease, Skew, Range, Buckets, Slots, Batch, Workers, Lead, Fault}
+use Rattle.session_script.specs.declared.setting.Setting.TheVariants.{Number, Lead, Fault}
 use Rattle.port_io.specs.declared.weather.Fate.{Fate}
 use Rattle.script_lines.specs.declared.cause.ScriptCause.TheVariants.{SetupOrder, SetupTwice, TooManyFaults}
 use Rattle.script_data.specs.Data.{ScriptData, AreWithinSkew}
@@ -85,16 +86,9 @@ pub fewer_settings : (settings : List Setting) (setting : Setting) (leads : List
 fewer_settings settings setting leads none e = none (not_before is_lead settings setting e)
 
 pub no_leads_after : (settings : List Setting) (script : ScriptData) (setting : Setting) → NoLeads settings script.leads → NoLeads (settings ++ setting ∷ []) (with_setting script setting).leads
-no_leads_after settings script (Nodes n) none e = All-replicate (λ lead. lead ≤ 0) n 0 (omega arith)
+no_leads_after settings script (Number numbers.Nodes n) none e = All-replicate (λ lead. lead ≤ 0) n 0 (omega arith)
 no_leads_after settings script (Lead node lead) none e = absurd (true≢false (not_last is_lead settings (Lead node lead) e))
-no_leads_after settings script (Lease n) none e = none (not_before is_lead settings (Lease n) e)
-no_leads_after settings script (Skew n) none e = none (not_before is_lead settings (Skew n) e)
-no_leads_after settings script (Range n) none e = none (not_before is_lead settings (Range n) e)
-no_leads_after settings script (Buckets buckets width) none e = none (not_before is_lead settings (Buckets buckets width) e)
-no_leads_after settings script (Slots n) none e = none (not_before is_lead settings (Slots n) e)
-no_leads_after settings script (Batch n) none e = none (not_before is_lead settings (Batch n) e)
-no_leads_after settings script (Workers n) none e = none (not_before is_lead settings (Workers n) e)
-no_leads_after settings script (Fault store number kind) none e = none (not_before is_lead settings (Fault store number kind) e)
+no_leads_after settings script setting none e = none (not_before is_lead settings setting e)
 
 same_store-self : (store : Store) → same_store store store ≡ true
 same_store-self Cells = refl
@@ -114,12 +108,4 @@ sets_after settings script (Fault store number kind) all =
     or_true : (b : Bool) → (b || true) ≡ true
     or_true true = refl
     or_true false = refl
-sets_after settings script (Nodes n) all = more_settings settings (Nodes n) script.faults all
-sets_after settings script (Lease n) all = more_settings settings (Lease n) script.faults all
-sets_after settings script (Skew n) all = more_settings settings (Skew n) script.faults all
-sets_after settings script (Range n) all = more_settings settings (Range n) script.faults all
-sets_after settings script (Buckets buckets width) all = more_settings settings (Buckets buckets width) script.faults all
-sets_after settings script (Slots n) all = more_settings settings (Slots n) script.faults all
-sets_after settings script (Batch n) all = more_settings settings (Batch n) script.faults all
-sets_after settings script (Workers n) all = more_settings settings (Workers n) script.faults all
-sets_after settings script (Lead node lead) all = more_settings settings (Lead node lead) script.faults all
+sets_after settings script setting all = more_settings settings setting script.faults all

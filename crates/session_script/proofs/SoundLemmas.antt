@@ -5,13 +5,15 @@ use Rattle.std.proofs.lemmas.Bool.{true≢false}
 use Rattle.std.proofs.lemmas.List.{length-set, length-append, length-replicate}
 use Rattle.std.proofs.lemmas.List.Elements.{All-replicate, All-set, All-weaker}
 use Rattle.std.proofs.lemmas.List.Quantifiers.{all_pairs_push}
-use Rattle.stamp_base.specs.SetupNumbers.{SetupNumbers, AreInRange}
+use Rattle.stamp_base.specs.SetupNumbers.{SetupNumbers, AreInRange, MayBe, set_number}
+use Rattle.stamp_base.specs.declared.setup_number.SetupNumber.{SetupNumber}
+use Rattle.stamp_base.specs.declared.setup_number.SetupNumber.TheVariants as numbers
 use Rattle.port_io.specs.declared.weather.Fate.{Fate}
 use Rattle.stamp_base.specs.declared.stores.Store.{Store}
 use Rattle.port_io.specs.Planned.{PlannedFault, OneEach}
 use Rattle.script_data.specs.declared.line.Line.{Line}
 use Rattle.session_script.specs.declared.setting.Setting.{Setting}
-use Rattle.session_script.specs.declared.setting.Setting.TheVariants.{Nodes, Lease, Skew, Range, Buckets, Slots, Batch, Workers, Lead, Fault}
+use Rattle.session_script.specs.declared.setting.Setting.TheVariants.{Number, Flag, Buckets, Lead, Fault}
 use Rattle.script_data.specs.Data.{ScriptData, AreWithinSkew, IsSound}
 use Rattle.session_script.specs.Settings.{IsInBounds, with_number, with_setting, sets_same, AreSet, objection}
 use Rattle.script_data.specs.Sound.{LineIsSound}
@@ -29,16 +31,15 @@ one_fault_more settings faults store number kind set first each =
     true≢false (sym there ∙ ap (λ (a : Store). list_any (sets_same (Fault a (get_or faults k d).1 (get_or faults k d).2)) settings) same_store
     ∙ ap (λ (n : ℕ). list_any (sets_same (Fault store n (get_or faults k d).2)) settings) same_number ∙ first))
 
+-- a number within its bounds keeps the setup in range
+in_range_set : (setup : SetupNumbers) (number : SetupNumber) (n : ℕ) → AreInRange setup → MayBe number n → AreInRange (set_number setup number n)
+in_range_set setup number n r b = grind (arith, r, b)
+
 -- a setting in its bounds keeps the setup in range
 in_range_with : (setup : SetupNumbers) (setting : Setting) → AreInRange setup → IsInBounds setup setting → AreInRange (with_number setup setting)
-in_range_with setup (Nodes n) r b = record { nodes = b; lease = r.lease; skew = r.skew; range = r.range; buckets = r.buckets; width = r.width; slots = r.slots; batch = r.batch; workers = r.workers; cache = r.cache }
-in_range_with setup (Lease n) r b = record { nodes = r.nodes; lease = b; skew = r.skew; range = r.range; buckets = r.buckets; width = r.width; slots = r.slots; batch = r.batch; workers = r.workers; cache = r.cache }
-in_range_with setup (Skew n) r b = record { nodes = r.nodes; lease = r.lease; skew = b; range = r.range; buckets = r.buckets; width = r.width; slots = r.slots; batch = r.batch; workers = r.workers; cache = r.cache }
-in_range_with setup (Range n) r b = record { nodes = r.nodes; lease = r.lease; skew = r.skew; range = b; buckets = r.buckets; width = r.width; slots = r.slots; batch = r.batch; workers = r.workers; cache = r.cache }
-in_range_with setup (Buckets buckets width) r b = record { nodes = r.nodes; lease = r.lease; skew = r.skew; range = r.range; buckets = b.0; width = b.1; slots = r.slots; batch = r.batch; workers = r.workers; cache = r.cache }
-in_range_with setup (Slots n) r b = record { nodes = r.nodes; lease = r.lease; skew = r.skew; range = r.range; buckets = r.buckets; width = r.width; slots = b; batch = r.batch; workers = r.workers; cache = r.cache }
-in_range_with setup (Batch n) r b = record { nodes = r.nodes; lease = r.lease; skew = r.skew; range = r.range; buckets = r.buckets; width = r.width; slots = r.slots; batch = b; workers = r.workers; cache = r.cache }
-in_range_with setup (Workers n) r b = record { nodes = r.nodes; lease = r.lease; skew = r.skew; range = r.range; buckets = r.buckets; width = r.width; slots = r.slots; batch = r.batch; workers = b; cache = r.cache }
+in_range_with setup (Number number n) r b = in_range_set setup number n r b
+in_range_with setup (Flag flag) r b = grind (arith, r)
+in_range_with setup (Buckets buckets width) r b = in_range_set (set_number setup numbers.Buckets buckets) numbers.Width width (in_range_set setup numbers.Buckets buckets r b.0) b.1
 in_range_with setup (Lead node lead) r b = r
 in_range_with setup (Fault store number kind) r b = r
 
@@ -57,16 +58,16 @@ pub sound_with : (settings : List Setting) (script : ScriptData) (setting : Sett
 sound_with settings script setting sound none set bounds fits = by setting bounds (may_stand settings script setting fits)
   where
     by : (setting : Setting) → IsInBounds script.setup setting → MayStand settings script setting → IsSound (with_setting script setting)
-    by (Nodes n) bounds may = record {
-      setup = in_range_with script.setup (Nodes n) sound.setup bounds;
+    by (Number numbers.Nodes n) bounds may = record {
+      setup = in_range_with script.setup (Number numbers.Nodes n) sound.setup bounds;
       one_lead_each = length-replicate n 0;
       leads_within_skew = All-replicate (λ lead. lead ≤ script.setup.skew) n 0 (omega arith);
       few_faults = sound.few_faults;
       one_fault_each = sound.one_fault_each;
       lines = no_line n script.lines may.no_lines;
     }
-    by (Skew n) bounds may = record {
-      setup = in_range_with script.setup (Skew n) sound.setup bounds;
+    by (Number numbers.Skew n) bounds may = record {
+      setup = in_range_with script.setup (Number numbers.Skew n) sound.setup bounds;
       one_lead_each = sound.one_lead_each;
       leads_within_skew = All-weaker (λ lead. lead ≤ 0) (λ lead. lead ≤ n) (λ lead h. omega (arith, h)) script.leads (none (may.no_leads refl));
       few_faults = sound.few_faults;
@@ -89,9 +90,4 @@ sound_with settings script setting sound none set bounds fits = by setting bound
       one_fault_each = one_fault_more settings script.faults store number kind set may.first sound.one_fault_each;
       lines = sound.lines;
     }
-    by (Lease n) bounds may = sound_setup script (with_number script.setup (Lease n)) sound (in_range_with script.setup (Lease n) sound.setup bounds) refl refl
-    by (Range n) bounds may = sound_setup script (with_number script.setup (Range n)) sound (in_range_with script.setup (Range n) sound.setup bounds) refl refl
-    by (Buckets buckets width) bounds may = sound_setup script (with_number script.setup (Buckets buckets width)) sound (in_range_with script.setup (Buckets buckets width) sound.setup bounds) refl refl
-    by (Slots n) bounds may = sound_setup script (with_number script.setup (Slots n)) sound (in_range_with script.setup (Slots n) sound.setup bounds) refl refl
-    by (Batch n) bounds may = sound_setup script (with_number script.setup (Batch n)) sound (in_range_with script.setup (Batch n) sound.setup bounds) refl refl
-    by (Workers n) bounds may = sound_setup script (with_number script.setup (Workers n)) sound (in_range_with script.setup (Workers n) sound.setup bounds) refl refl
+    by setting bounds may = sound_setup script (with_number script.setup setting) sound (in_range_with script.setup setting sound.setup bounds) (grind arith) (grind arith)

@@ -4,7 +4,7 @@ ghost use Rattle.script_data.specs.Data.{IsSound};
 use crate::setting::Setting;
 use port_io::Fate;
 use script_data::Line;
-use stamp_base::{NodeNo, Setup, Store};
+use stamp_base::{NodeNo, Setup, SetupNumber, Store};
 use std::alloc::{AllocError, Global};
 
 /// A script that was read: what it sets, and its actors' lines in file order. The numbers of the setup are in their
@@ -22,7 +22,8 @@ pub struct Script {
 
 impl Script {
     ghost use Rattle.std.specs.Prelude.{◌≡◌, ◌<◌, OnOk, OnErr};
-    ghost use Rattle.session_script.specs.declared.setting.Setting.TheVariants.{Nodes, Lead, Fault};
+    ghost use Rattle.session_script.specs.declared.setting.Setting.TheVariants.{Number, Lead, Fault};
+    ghost use Rattle.stamp_base.specs.declared.setup_number.SetupNumber.TheVariants.{Nodes};
     ghost use Rattle.session_script.specs.Script.{data_of};
     ghost use Rattle.session_script.specs.Settings.{IsInBounds, with_setting};
 
@@ -34,7 +35,10 @@ impl Script {
         ensures memory { OnErr result (data_of self.new ≡ data_of self.old) }
     {
         match setting {
-            Setting::Nodes(nodes) => self.set_nodes(alloc, *nodes),
+            Setting::Number {
+                number: SetupNumber::Nodes,
+                value,
+            } => self.set_nodes(alloc, *value),
             Setting::Lead { node, lead } => {
                 self.set_lead(*node, *lead);
                 Ok(())
@@ -44,13 +48,7 @@ impl Script {
                 number,
                 fate,
             } => self.plan_fault(*store, *number, *fate),
-            Setting::Lease(_)
-            | Setting::Skew(_)
-            | Setting::Range(_)
-            | Setting::Buckets { .. }
-            | Setting::Slots(_)
-            | Setting::Batch(_)
-            | Setting::Workers(_) => {
+            Setting::Number { .. } | Setting::Flag(_) | Setting::Buckets { .. } => {
                 setting.apply_to(&mut self.setup);
                 Ok(())
             }
@@ -58,8 +56,8 @@ impl Script {
     }
 
     fn set_nodes(&mut self, alloc: Global, nodes: u64) -> Result<(), AllocError>
-        requires { IsSound (with_setting (data_of self.old) (Nodes nodes)) }
-        ensures set { OnOk result (data_of self.new ≡ with_setting (data_of self.old) (Nodes nodes)) }
+        requires { IsSound (with_setting (data_of self.old) (Number Nodes nodes)) }
+        ensures set { OnOk result (data_of self.new ≡ with_setting (data_of self.old) (Number Nodes nodes)) }
         ensures memory { OnErr result (data_of self.new ≡ data_of self.old) }
     {
         self.leads = vec![in alloc; 0; nodes as usize]?;

@@ -2,27 +2,27 @@
 ghost use Rattle.std.specs.Prelude.{◌≡◌, IfOk};
 ghost use Rattle.std.specs.List.{list_any};
 ghost use Rattle.stamp_base.specs.Setups.{numbers_of};
-ghost use Rattle.session_script.specs.Settings.{arguments_of, setting_of, IsInBounds, with_number, sets_same, is_lead, bounds_leads, is_fault};
+ghost use Rattle.session_script.specs.Settings.{arguments_of, setting_of, IsInBounds, with_number, same_number, same_flag, sets_same, is_lead, bounds_leads, is_fault};
 ghost use Rattle.script_lines.specs.Words.{seen};
 
 use port_io::Fate;
-use script_lines::{ScriptCause, SetupForm, Words, kind_at, node_at, number_at, store_at};
-use stamp_base::{NodeNo, Setup, Stamp, Store};
+use script_lines::{
+    ScriptCause, SetupForm, Words, flag_at, kind_at, node_at, number_at, setup_number_at, store_at,
+};
+use stamp_base::{NodeNo, Setup, SetupFlag, SetupNumber, Store};
 
 /// What a setup line sets.
 #[derive(Clone, Copy, Debug, PartialEq, Eq)]
 pub enum Setting {
-    Nodes(u64),
-    Lease(u64),
-    Skew(u64),
-    Range(u64),
+    Number {
+        number: SetupNumber,
+        value: u64,
+    },
+    Flag(SetupFlag),
     Buckets {
         buckets: u64,
         width: u64,
     },
-    Slots(u64),
-    Batch(u64),
-    Workers(u64),
     Lead {
         node: NodeNo,
         lead: u64,
@@ -40,14 +40,11 @@ impl Setting {
         ensures { result ≡ sets_same self.now other.now }
     {
         match (self, other) {
-            (Setting::Nodes(_), Setting::Nodes(_)) => true,
-            (Setting::Lease(_), Setting::Lease(_)) => true,
-            (Setting::Skew(_), Setting::Skew(_)) => true,
-            (Setting::Range(_), Setting::Range(_)) => true,
+            (Setting::Number { number, .. }, Setting::Number { number: other, .. }) => {
+                is_same_number(*number, *other)
+            }
+            (Setting::Flag(flag), Setting::Flag(other)) => is_same_flag(*flag, *other),
             (Setting::Buckets { .. }, Setting::Buckets { .. }) => true,
-            (Setting::Slots(_), Setting::Slots(_)) => true,
-            (Setting::Batch(_), Setting::Batch(_)) => true,
-            (Setting::Workers(_), Setting::Workers(_)) => true,
             (Setting::Lead { node, .. }, Setting::Lead { node: other, .. }) => node == other,
             (
                 Setting::Fault { store, number, .. },
@@ -71,7 +68,13 @@ impl Setting {
     pub fn bounds_leads(&self) -> bool
         ensures { result ≡ bounds_leads self.now }
     {
-        matches!(self, Setting::Nodes(_) | Setting::Skew(_))
+        matches!(
+            self,
+            Setting::Number {
+                number: SetupNumber::Nodes | SetupNumber::Skew,
+                ..
+            }
+        )
     }
 
     pub fn is_fault(&self) -> bool
@@ -86,20 +89,27 @@ impl Setting {
         ensures { numbers_of setup.new ≡ with_number (numbers_of setup.old) self.now }
     {
         match self {
-            Setting::Nodes(nodes) => setup.nodes = *nodes,
-            Setting::Lease(lease) => setup.lease = *lease,
-            Setting::Skew(skew) => setup.skew = *skew,
-            Setting::Range(range) => setup.range = *range,
+            Setting::Number { number, value } => setup.set_number(*number, *value),
+            Setting::Flag(flag) => setup.turn_on(*flag),
             Setting::Buckets { buckets, width } => {
-                setup.buckets = *buckets;
-                setup.width = *width;
+                setup.set_number(SetupNumber::Buckets, *buckets);
+                setup.set_number(SetupNumber::Width, *width);
             }
-            Setting::Slots(slots) => setup.slots = *slots,
-            Setting::Batch(batch) => setup.batch = *batch,
-            Setting::Workers(workers) => setup.workers = *workers,
             Setting::Lead { .. } | Setting::Fault { .. } => {}
         }
     }
+}
+
+fn is_same_number(number: SetupNumber, other: SetupNumber) -> bool
+    ensures { result ≡ same_number number other }
+{
+    number == other
+}
+
+fn is_same_flag(flag: SetupFlag, other: SetupFlag) -> bool
+    ensures { result ≡ same_flag flag other }
+{
+    flag == other
 }
 
 /// Whether any of the settings is a lead.
@@ -122,10 +132,12 @@ pub fn setting_of(setup: &Setup, form: SetupForm, words: &Words) -> Result<Setti
     ensures setting { result ≡ setting_of (numbers_of setup.now) form (seen words.now) }
     ensures bounds { IfOk result (IsInBounds (numbers_of setup.now)) }
 {
-    if words.count == form.words() {
-        arguments_of(setup, form, words)
-    } else {
+    if words.count != form.words() {
         Err(ScriptCause::WrongNumberOfWords)
+    } else if !form.is_built() {
+        Err(ScriptCause::NotYet)
+    } else {
+        arguments_of(setup, form, words)
     }
 }
 
@@ -135,17 +147,15 @@ fn arguments_of(setup: &Setup, form: SetupForm, words: &Words) -> Result<Setting
     ensures bounds { IfOk result (IsInBounds (numbers_of setup.now)) }
 {
     match form {
-        SetupForm::Nodes => Ok(Setting::Nodes(number_at(1, 8, words.second)?)),
-        SetupForm::Lease => Ok(Setting::Lease(number_at(1, 1_000_000, words.second)?)),
-        SetupForm::Skew => Ok(Setting::Skew(number_at(0, 1_000_000, words.second)?)),
-        SetupForm::Range => Ok(Setting::Range(number_at(1, Stamp::GREATEST, words.second)?)),
-        SetupForm::Buckets => Ok(Setting::Buckets {
-            buckets: number_at(1, 4096, words.second)?,
-            width: number_at(1, 64, words.third)?,
+        SetupForm::Number(number) => Ok(Setting::Number {
+            number,
+            value: setup_number_at(number, words.second)?,
         }),
-        SetupForm::Slots => Ok(Setting::Slots(number_at(1, 1024, words.second)?)),
-        SetupForm::Batch => Ok(Setting::Batch(number_at(1, 256, words.second)?)),
-        SetupForm::Workers => Ok(Setting::Workers(number_at(1, 8, words.second)?)),
+        SetupForm::Flag(flag) => Ok(Setting::Flag(flag_at(flag, words.second)?)),
+        SetupForm::Buckets => Ok(Setting::Buckets {
+            buckets: setup_number_at(SetupNumber::Buckets, words.second)?,
+            width: setup_number_at(SetupNumber::Width, words.third)?,
+        }),
         SetupForm::Lead => Ok(Setting::Lead {
             node: node_at(setup, words.second)?,
             lead: number_at(0, setup.skew, words.third)?,
@@ -155,6 +165,5 @@ fn arguments_of(setup: &Setup, form: SetupForm, words: &Words) -> Result<Setting
             number: number_at(1, 1_000_000, words.third)?,
             fate: kind_at(words.fourth)?,
         }),
-        SetupForm::Cache | SetupForm::Commits | SetupForm::Reads => Err(ScriptCause::NotYet),
     }
 }
