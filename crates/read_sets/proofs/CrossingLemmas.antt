@@ -1,9 +1,9 @@
 -- What crosses a read, from the walk over placed commits, and when no read is crossed.
-use Rattle.std.proofs.Common.{◌≡◌, ◌≢◌, ◌<◌, ◌≤◌, ◌+◌, ◌-◌, ◌⊎◌, ℕ, suc, true, false, List, [], ◌∷◌, ◌++◌, Option, None, Some, is_some, length, take, get_or, slice_get, IfSome, IsSomeAnd, MatchOption, inl, inr, refl, sym, ap, subst, ◌∙◌, arith}
+use Rattle.std.proofs.Common.{◌≡◌, ◌<◌, ◌≤◌, ◌+◌, ◌-◌, ℕ, suc, true, false, List, [], ◌∷◌, ◌++◌, Option, None, Some, is_some, length, take, get_or, slice_get, IfSome, IsSomeAnd, MatchOption, inl, inr, refl, sym, ap, subst, ◌∙◌, arith}
 use Rattle.std.specs.List.{list_any}
 use Rattle.std.proofs.Math.Seq.{take-suc}
-use Rattle.std.proofs.lemmas.Option.{same_Some, slice_get_within}
-use Rattle.history_book.specs.Members.{◌∈◌, AtEach}
+use Rattle.std.proofs.lemmas.Option.{slice_get_within}
+use Rattle.history_book.specs.Members.{◌∈◌}
 use Rattle.history_book.specs.Isolation.{Committed, Wrote, last_write}
 use Rattle.history_book.specs.Serial.{StoodAtCommit, Serial}
 use Rattle.history_book.specs.declared.item.Found.{Found}
@@ -15,7 +15,7 @@ use Rattle.isolation_rules.proofs.KeyLemmas.{any_writes}
 use Rattle.isolation_rules.proofs.PlaceLemmas.{some_and, and_some, place_of}
 use Rattle.read_sets.specs.declared.judge.SerialVerdict.{SerialVerdict}
 use Rattle.read_sets.specs.declared.judge.SerialVerdict.TheVariants as verdict
-use Rattle.read_sets.specs.Crossings.{CrossedBy, CrossesKey, CrossedAt, CrossesRead, Crosses, IsLeastCrossing, IsJudged, StoodFor, Stands, IsSecond, IsSecondOf, IsLastOf, IsGreater, CrossesUpTo, CrossesAt}
+use Rattle.read_sets.specs.Crossings.{CrossesKey, CrossesRead, Crosses, IsLeastCrossing, IsJudged, StoodFor, Stands, IsSecond, IsSecondOf, IsLastOf, IsGreater, CrossesUpTo, CrossesAt}
 
 -- the items passed so far, and the next one
 pub one_more : (xs : List Item) (i : ℕ) (x : Item) → i < length xs → x ≡ get_or xs i x → take i xs ++ x ∷ [] ≡ take (i + 1) xs

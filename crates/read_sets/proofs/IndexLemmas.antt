@@ -7,7 +7,6 @@ use Rattle.std.specs.List.{list_any}
 use Rattle.std.proofs.lemmas.Bool.{or_cases, eqb-true}
 use Rattle.std.proofs.lemmas.List.Folds.{list_any-append}
 use Rattle.history_book.specs.Members.{◌∈◌}
-use Rattle.history_book.specs.Isolation.{Committed}
 use Rattle.history_book.specs.declared.item.Item.{Item}
 use Rattle.history_book.specs.declared.item.Item.TheVariants.{Write, Placed}
 use Rattle.history_book.proofs.MemberLemmas.{in_push}
@@ -15,7 +14,7 @@ use Rattle.isolation_rules.specs.ApartPairs.{writes}
 use Rattle.isolation_rules.proofs.KeyLemmas.{any_writes, and_parts}
 use Rattle.read_sets.specs.declared.index.Index.{Index}
 use Rattle.read_sets.specs.Crossings.{StoodFor}
-use Rattle.read_sets.specs.Index.{Pairs, Triples, HasPair, HasTriple, HasPlaced, HasWritten, AreEntered, IsIndexBut, IsIndexOf, EntersKey, KeepsTriples, pair_cmp, triple_cmp}
+use Rattle.read_sets.specs.Index.{Pairs, Triples, HasPair, HasTriple, HasPlaced, AreEntered, IsIndexBut, IsIndexOf, EntersKey, KeepsTriples, pair_cmp, triple_cmp}
 use Rattle.read_sets.proofs.CrossingLemmas.{placed_same}
 use Rattle.read_sets.proofs.SetLemmas.{exact_pair, exact_triple, in_between, own_within, crossing_within, set_kept, pair_gained, come_or_gone, none_left}
 

@@ -15,7 +15,7 @@ use Rattle.std.proofs.lemmas.Bool.Decides.{nat_tests}
 use Rattle.std.proofs.lemmas.Map.Lookups.{CmpEqualImpliesEq, exact_pairs, exact_unsigned}
 use Rattle.std.proofs.lemmas.Map.Views.{tells_apart}
 use Rattle.history_book.specs.Members.{◌∈◌}
-use Rattle.read_sets.specs.Index.{Pairs, Triples, HasPair, HasTriple, MayGain, KeepsTriples, pair_cmp, triple_cmp}
+use Rattle.read_sets.specs.Index.{Pairs, Triples, HasPair, MayGain, KeepsTriples, pair_cmp, triple_cmp}
 
 -- ---- keys that are equal are one
 pub exact_pair : CmpEqualImpliesEq pair_cmp

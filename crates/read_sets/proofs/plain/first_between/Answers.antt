@@ -1,4 +1,4 @@
-use Rattle.std.proofs.Common.{◌≡◌, ◌<◌, ℕ, Some, length, slice_get, refl, arith}
+use Rattle.std.proofs.Common.{◌≡◌, ◌<◌, Some, length, slice_get, refl, arith}
 use Rattle.std.proofs.lemmas.Option.{slice_get_read}
 use Rattle.read_sets.proofs.WalkLemmas.{crossed_here, uncrossed_more, uncrossed_all}
 use Rattle.read_sets.proofs.plain.first_between.Goals as goal

@@ -2,7 +2,7 @@ use Rattle.std.proofs.Common.{◌≡◌, Bool, true, false, not, refl}
 use Rattle.read_sets.specs.declared.index.Index.{Index}
 use Rattle.read_sets.specs.Index.{pair_cmp}
 use Rattle.read_sets.proofs.SetLemmas.{set_kept}
-use Rattle.read_sets.proofs.IndexLemmas.{enters_at, entered_new, entered_again, keeps_none}
+use Rattle.read_sets.proofs.IndexLemmas.{enters_at, entered_new, entered_again}
 use Rattle.read_sets.proofs.index.Index.enter.Goals as goal
 
 pub returns-in_ok-enter_commits : goal.returns-in_ok-enter_commits
