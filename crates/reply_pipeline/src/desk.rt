@@ -1,12 +1,14 @@
 use crate::ending::StageEnd;
 use crate::gate::{Gate, GatePlace};
-use history_book::Actor;
+use batch_pool::Entry;
+use history_book::{Actor, Cause};
 use stage_queues::{Queues, Waiter};
 use stamp_base::{NodeNo, SessionNo, Stage, Term};
 use std::sync::Wait;
+use std::thread;
 use thread_steps::{StageStep, Steps};
 
-/// Where a stage of a node works.
+/// Where a stage of a node works, and what its three stages do alike.
 #[derive(Drop)]
 pub struct Desk<'a, B: Steps, G: Gate> {
     pub node: NodeNo,
@@ -26,14 +28,55 @@ impl<B: Steps, G: Gate> Desk<'_, B, G> {
         self.board.stage_step(rt, self.node, term, stage, session)
     }
 
+    /// Makes the stage's step for an entry's request, again and again while the stage is held or a commit below the request's start
+    /// is not settled. A request that is not there any more is passed over.
+    pub fn step_in_turn<R: Wait>(
+        &self,
+        rt: &R,
+        stage: Stage,
+        worker: u64,
+        entry: &Entry,
+    ) -> Result<(), StageEnd> {
+        for _ in rt.forever() {
+            match self.step(rt, stage, entry.session, entry.term) {
+                StageStep::Held | StageStep::Refused(Cause::NotYet { .. }) => {
+                    self.wait(rt, stage, worker)?
+                }
+                StageStep::NoMemory => return Err(StageEnd::NoMemory),
+                _ => return Ok(()),
+            }
+        }
+        unreachable!()
+    }
+
     /// Waits until the stage is woken, and ends it where the queues are closed.
     pub fn wait<R: Wait>(&self, rt: &R, stage: Stage, worker: u64) -> Result<(), StageEnd> {
-        if self.queues.closed() {
-            return Err(StageEnd::Closed);
-        }
+        self.go_on()?;
         self.queues
             .wait(rt, Waiter::Stage(self.node, stage, worker));
         Ok(())
+    }
+
+    /// Lets others run before a full queue is tried again, and ends the stage where the queues are closed.
+    pub fn make_way(&self) -> Result<(), StageEnd> {
+        self.go_on()?;
+        thread::yield_now();
+        Ok(())
+    }
+
+    fn go_on(&self) -> Result<(), StageEnd> {
+        if self.queues.closed() {
+            return Err(StageEnd::Closed);
+        }
+        Ok(())
+    }
+
+    /// A stage that memory is refused closes the queues, so that no other waits for it.
+    pub fn ended(&self, end: StageEnd) -> StageEnd {
+        if end == StageEnd::NoMemory {
+            self.queues.close();
+        }
+        end
     }
 
     /// Wakes the session's thread.

@@ -10,8 +10,7 @@ use persist_batches::Numbered;
 use stage_queues::{Queues, StagePass};
 use stamp_base::{NodeNo, Stage};
 use std::sync::Wait;
-use std::thread;
-use thread_steps::{StageStep, Steps};
+use thread_steps::Steps;
 
 /// Serves as one of the node's persist workers, until the queues are closed or memory is refused.
 pub fn persist_worker<R: Wait, B: Steps, G: Gate>(
@@ -34,10 +33,7 @@ pub fn persist_worker<R: Wait, B: Steps, G: Gate>(
         gate,
     };
     let end = serve(rt, &desk, pass);
-    if end == StageEnd::NoMemory {
-        queues.close();
-    }
-    end
+    desk.ended(end)
 }
 
 fn serve<R: Wait, B: Steps, G: Gate>(
@@ -101,27 +97,10 @@ fn put_all<R: Wait, B: Steps, G: Gate>(
 ) -> Result<(), StageEnd> {
     for entry in entries {
         if entry.commit.is_some() {
-            put(rt, desk, worker, entry)?;
+            desk.step_in_turn(rt, Stage::Persist, worker, entry)?;
         }
     }
     Ok(())
-}
-
-// Puts a commit, again and again while the stage is held. A request that is not there any more is passed over.
-fn put<R: Wait, B: Steps, G: Gate>(
-    rt: &R,
-    desk: &Desk<'_, B, G>,
-    worker: u64,
-    entry: &Entry,
-) -> Result<(), StageEnd> {
-    for _ in rt.forever() {
-        match desk.step(rt, Stage::Persist, entry.session, entry.term) {
-            StageStep::Held => desk.wait(rt, Stage::Persist, worker)?,
-            StageStep::NoMemory => return Err(StageEnd::NoMemory),
-            _ => return Ok(()),
-        }
-    }
-    unreachable!()
 }
 
 // Sends a batch on as settled, again and again while the queue is full, or gives it back where the queues are closed.
@@ -140,11 +119,10 @@ fn send_on<R: Wait, B: Steps, G: Gate>(
             Ok(()) => return Ok(()),
             Err(back) => batch = back,
         }
-        if desk.queues.closed() {
+        if let Err(end) = desk.make_way() {
             give_back(rt, desk, pass, batch);
-            return Err(StageEnd::Closed);
+            return Err(end);
         }
-        thread::yield_now();
     }
     unreachable!()
 }

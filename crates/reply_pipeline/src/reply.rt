@@ -6,13 +6,12 @@ use crate::desk::Desk;
 use crate::ending::StageEnd;
 use crate::gate::Gate;
 use batch_pool::{Batch, Entry};
-use history_book::Cause;
 use persist_batches::{Numbered, Reorder};
 use stage_queues::{Queues, StagePass};
 use stamp_base::{NodeNo, Stage};
 use std::alloc::Global;
 use std::sync::Wait;
-use thread_steps::{StageStep, Steps};
+use thread_steps::Steps;
 
 /// Serves as the node's reply stage, until the queues are closed or memory is refused.
 pub fn reply_stage<R: Wait, B: Steps, G: Gate>(
@@ -40,10 +39,7 @@ pub fn reply_stage<R: Wait, B: Steps, G: Gate>(
         Ok(order) => serve(rt, &desk, pass, order),
         Err(_) => StageEnd::NoMemory,
     };
-    if end == StageEnd::NoMemory {
-        queues.close();
-    }
-    end
+    desk.ended(end)
 }
 
 // Serves until the stage ends, and gives back what then waits for its turn.
@@ -149,34 +145,16 @@ fn answer_batch<R: Wait, B: Steps, G: Gate>(
     answered
 }
 
+// Answers each request when its turn comes, and wakes its session.
 fn answer_entries<R: Wait, B: Steps, G: Gate>(
     rt: &R,
     desk: &Desk<'_, B, G>,
     entries: &[Entry],
 ) -> Result<(), StageEnd> {
     for entry in entries {
-        answer(rt, desk, entry)?;
+        desk.step_in_turn(rt, Stage::Reply, 0, entry)?;
+        desk.wake_session(entry.session);
     }
-    Ok(())
-}
-
-// Answers a request, again and again while the stage is held or a commit below the request's start is not settled, and wakes its
-// session. A request that is not there any more is passed over.
-fn answer<R: Wait, B: Steps, G: Gate>(
-    rt: &R,
-    desk: &Desk<'_, B, G>,
-    entry: &Entry,
-) -> Result<(), StageEnd> {
-    for _ in rt.forever() {
-        match desk.step(rt, Stage::Reply, entry.session, entry.term) {
-            StageStep::Held | StageStep::Refused(Cause::NotYet { .. }) => {
-                desk.wait(rt, Stage::Reply, 0)?
-            }
-            StageStep::NoMemory => return Err(StageEnd::NoMemory),
-            _ => break,
-        }
-    }
-    desk.wake_session(entry.session);
     Ok(())
 }
 

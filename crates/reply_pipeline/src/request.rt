@@ -12,7 +12,6 @@ use persist_batches::Numbered;
 use stage_queues::{Queues, StagePass, Ticket};
 use stamp_base::{NodeNo, Stage};
 use std::sync::Wait;
-use std::thread;
 use thread_steps::{StageStep, Steps};
 
 /// What became of a ticket that was taken.
@@ -48,10 +47,7 @@ pub fn request_stage<R: Wait, B: Steps, G: Gate>(
         gate,
     };
     let end = serve(rt, &desk, pass);
-    if end == StageEnd::NoMemory {
-        queues.close();
-    }
-    end
+    desk.ended(end)
 }
 
 fn serve<R: Wait, B: Steps, G: Gate>(
@@ -300,11 +296,10 @@ fn send<R: Wait, B: Steps, G: Gate>(
             Ok(()) => return Ok(()),
             Err(back) => batch = back,
         }
-        if desk.queues.closed() {
+        if let Err(end) = desk.make_way() {
             give_back(rt, desk, pass, batch);
-            return Err(StageEnd::Closed);
+            return Err(end);
         }
-        thread::yield_now();
     }
     unreachable!()
 }
