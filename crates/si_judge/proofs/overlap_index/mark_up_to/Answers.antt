@@ -1,5 +1,5 @@
 use Rattle.std.proofs.Common.{refl}
-use Rattle.si_judge.proofs.OverlapIndexLemmas.{one_marked, reaches_further, keeps_both, keeps_none, between}
+use Rattle.si_judge.proofs.OverlapIndexLemmas.{one_marked, reaches_further, keeps_both, between}
 use Rattle.si_judge.proofs.overlap_index.mark_up_to.Goals as goal
 
 pub loop-other-preserved : goal.loop-other-preserved
