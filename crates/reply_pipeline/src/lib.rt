@@ -9,6 +9,7 @@ mod persist;
 mod reply;
 mod request;
 mod tickets;
+mod turns;
 
 pub use ending::StageEnd;
 pub use gate::{Gate, GatePlace, OpenGate};
@@ -16,7 +17,7 @@ pub use persist::persist_worker;
 pub use reply::reply_stage;
 pub use request::request_stage;
 pub use thread_steps::{StageStep, Steps};
-pub use tickets::{offer_ticket, send_ticket};
+pub use tickets::offer_ticket;
 
 #[cfg(test)]
 mod tests;

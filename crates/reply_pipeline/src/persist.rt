@@ -5,13 +5,13 @@ ghost use Rattle.reply_pipeline.specs.Persisting.{IsPersistPass, IsPersisting};
 use crate::desk::Desk;
 use crate::ending::StageEnd;
 use crate::gate::Gate;
+use crate::turns::{Turns, serve};
 use batch_pool::Entry;
 use persist_batches::Numbered;
 use stage_queues::{Queues, StagePass};
 use stamp_base::{NodeNo, Stage};
 use std::sync::Wait;
-use std::thread;
-use thread_steps::{StageStep, Steps};
+use thread_steps::Steps;
 
 /// Serves as one of the node's persist workers, until the queues are closed or memory is refused.
 pub fn persist_worker<R: Wait, B: Steps, G: Gate>(
@@ -29,61 +29,47 @@ pub fn persist_worker<R: Wait, B: Steps, G: Gate>(
 {
     let desk = Desk {
         node,
+        stage: Stage::Persist,
+        worker: pass.worker(),
         board,
         queues,
         gate,
     };
-    let end = serve(rt, &desk, pass);
-    if end == StageEnd::NoMemory {
-        queues.close();
-    }
-    end
+    serve(rt, &desk, pass, &mut Worker {})
 }
 
-fn serve<R: Wait, B: Steps, G: Gate>(
-    rt: &R,
-    desk: &Desk<'_, B, G>,
-    pass: &mut StagePass,
-) -> StageEnd
-    requires { IsPersisting desk.now.queues.now desk.now.node [] pass.old }
-    ensures { IsPersisting desk.now.queues.now desk.now.node [] pass.new }
-{
-    let worker = pass.worker();
-    for _ in rt.forever() {
-        if let Err(end) = turn(rt, desk, worker, pass) {
-            return end;
+/// A persist worker keeps nothing from turn to turn.
+#[derive(Drop)]
+struct Worker {}
+
+impl Turns for Worker {
+    ghost goes_on = { λ queues node _ pass. IsPersisting queues node [] pass };
+    ghost has_ended = { λ queues node _ pass. IsPersisting queues node [] pass };
+
+    /// Serves one batch, or waits where there is none.
+    fn turn<R: Wait, B: Steps, G: Gate>(
+        &mut self,
+        rt: &R,
+        desk: &Desk<'_, B, G>,
+        pass: &mut StagePass,
+    ) -> Result<(), StageEnd> {
+        match receive(rt, desk, pass) {
+            Some(batch) => settle(rt, desk, pass, batch),
+            None => desk.wait(rt),
         }
-    }
-    unreachable!()
-}
-
-// Serves one batch, or waits where there is none.
-fn turn<R: Wait, B: Steps, G: Gate>(
-    rt: &R,
-    desk: &Desk<'_, B, G>,
-    worker: u64,
-    pass: &mut StagePass,
-) -> Result<(), StageEnd>
-    requires { IsPersisting desk.now.queues.now desk.now.node [] pass.old }
-    ensures { IsPersisting desk.now.queues.now desk.now.node [] pass.new }
-{
-    match receive(rt, desk, pass) {
-        Some(batch) => settle(rt, desk, worker, pass, batch),
-        None => desk.wait(rt, Stage::Persist, worker),
     }
 }
 
 fn settle<R: Wait, B: Steps, G: Gate>(
     rt: &R,
     desk: &Desk<'_, B, G>,
-    worker: u64,
     pass: &mut StagePass,
     batch: Numbered,
 ) -> Result<(), StageEnd>
     requires { IsPersisting desk.now.queues.now desk.now.node (batch ∷ []) pass.old }
     ensures { IsPersisting desk.now.queues.now desk.now.node [] pass.new }
 {
-    match put_all(rt, desk, worker, batch.batch.entries()) {
+    match put_all(rt, desk, batch.batch.entries()) {
         Ok(()) => send_on(rt, desk, pass, batch),
         Err(end) => {
             give_back(rt, desk, pass, batch);
@@ -92,39 +78,21 @@ fn settle<R: Wait, B: Steps, G: Gate>(
     }
 }
 
-// Makes each commit among the entries durable.
+// Makes each commit among the entries durable. A request that is not there any more is passed over.
 fn put_all<R: Wait, B: Steps, G: Gate>(
     rt: &R,
     desk: &Desk<'_, B, G>,
-    worker: u64,
     entries: &[Entry],
 ) -> Result<(), StageEnd> {
     for entry in entries {
         if entry.commit.is_some() {
-            put(rt, desk, worker, entry)?;
+            desk.step_once_free(rt, entry.session, entry.term)?;
         }
     }
     Ok(())
 }
 
-// Puts a commit, again and again while the stage is held. A request that is not there any more is passed over.
-fn put<R: Wait, B: Steps, G: Gate>(
-    rt: &R,
-    desk: &Desk<'_, B, G>,
-    worker: u64,
-    entry: &Entry,
-) -> Result<(), StageEnd> {
-    for _ in rt.forever() {
-        match desk.step(rt, Stage::Persist, entry.session, entry.term) {
-            StageStep::Held => desk.wait(rt, Stage::Persist, worker)?,
-            StageStep::NoMemory => return Err(StageEnd::NoMemory),
-            _ => return Ok(()),
-        }
-    }
-    unreachable!()
-}
-
-// Sends a batch on as settled, again and again while the queue is full, or gives it back where the queues are closed.
+// Sends a batch on as settled, and waits while the queue is full, or gives it back where the queues are closed.
 fn send_on<R: Wait, B: Steps, G: Gate>(
     rt: &R,
     desk: &Desk<'_, B, G>,
@@ -140,11 +108,10 @@ fn send_on<R: Wait, B: Steps, G: Gate>(
             Ok(()) => return Ok(()),
             Err(back) => batch = back,
         }
-        if desk.queues.closed() {
+        if let Err(end) = desk.wait_for_room(rt, Stage::Reply) {
             give_back(rt, desk, pass, batch);
-            return Err(StageEnd::Closed);
+            return Err(end);
         }
-        thread::yield_now();
     }
     unreachable!()
 }
@@ -157,7 +124,9 @@ fn receive<R: Wait, B: Steps, G: Gate>(
     requires { IsPersisting desk.now.queues.now desk.now.node [] pass.old }
     ensures { MatchOption result (pass.new ≡ pass.old) (λ batch. IsPersisting desk.now.queues.now desk.now.node (batch ∷ []) pass.new) }
 {
-    desk.queues.batches(desk.node).receive(rt, pass)
+    let batch = desk.queues.batches(desk.node).receive(rt, pass)?;
+    desk.tell_room();
+    Some(batch)
 }
 
 fn send<R: Wait, B: Steps, G: Gate>(

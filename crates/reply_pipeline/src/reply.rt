@@ -5,6 +5,7 @@ ghost use Rattle.reply_pipeline.specs.Replying.{IsReplyPass, IsReplying};
 use crate::desk::Desk;
 use crate::ending::StageEnd;
 use crate::gate::Gate;
+use crate::turns::{Turns, serve};
 use batch_pool::{Batch, Entry};
 use history_book::Cause;
 use persist_batches::{Numbered, Reorder};
@@ -32,70 +33,59 @@ pub fn reply_stage<R: Wait, B: Steps, G: Gate>(
 {
     let desk = Desk {
         node,
+        stage: Stage::Reply,
+        worker: 0,
         board,
         queues,
         gate,
     };
-    let end = match Reorder::open(alloc, 0, queues.buffers()) {
-        Ok(order) => serve(rt, &desk, pass, order),
-        Err(_) => StageEnd::NoMemory,
-    };
-    if end == StageEnd::NoMemory {
-        queues.close();
+    match Reorder::open(alloc, 0, queues.buffers()) {
+        Ok(order) => serve_all(rt, &desk, pass, Replies { order }),
+        Err(_) => desk.end(StageEnd::NoMemory),
     }
-    end
 }
 
 // Serves until the stage ends, and gives back what then waits for its turn.
-fn serve<R: Wait, B: Steps, G: Gate>(
+fn serve_all<R: Wait, B: Steps, G: Gate>(
     rt: &R,
     desk: &Desk<'_, B, G>,
     pass: &mut StagePass,
-    order: Reorder,
+    replies: Replies,
 ) -> StageEnd
-    requires { IsReplying desk.now.queues.now desk.now.node 0 order pass.old }
+    requires { IsReplying desk.now.queues.now desk.now.node 0 replies.order pass.old }
     ensures pass { IsReplyPass desk.now.queues.now desk.now.node pass.new }
     ensures held { pass.new.held ≡ 0 }
 {
-    let mut order = order;
-    let end = answer_all(rt, desk, pass, &mut order);
-    while let Some(batch) = order.take_out() {
+    let mut replies = replies;
+    let end = serve(rt, desk, pass, &mut replies);
+    while let Some(batch) = replies.order.take_out() {
         give_back(rt, desk, pass, batch.batch);
     }
     end
 }
 
-fn answer_all<R: Wait, B: Steps, G: Gate>(
-    rt: &R,
-    desk: &Desk<'_, B, G>,
-    pass: &mut StagePass,
-    order: &mut Reorder,
-) -> StageEnd
-    requires { IsReplying desk.now.queues.now desk.now.node 0 order.old pass.old }
-    ensures { IsReplying desk.now.queues.now desk.now.node 0 order.new pass.new }
-{
-    for _ in rt.forever() {
-        if let Err(end) = turn(rt, desk, pass, order) {
-            return end;
-        }
-    }
-    unreachable!()
+/// The reply stage keeps the batches whose turn has not come.
+#[derive(Drop)]
+struct Replies {
+    order: Reorder,
 }
 
-// Takes in what is settled, and answers the batch whose turn it is, or waits where it has not come.
-fn turn<R: Wait, B: Steps, G: Gate>(
-    rt: &R,
-    desk: &Desk<'_, B, G>,
-    pass: &mut StagePass,
-    order: &mut Reorder,
-) -> Result<(), StageEnd>
-    requires { IsReplying desk.now.queues.now desk.now.node 0 order.old pass.old }
-    ensures { IsReplying desk.now.queues.now desk.now.node 0 order.new pass.new }
-{
-    take_in(rt, desk, pass, order);
-    match order.next() {
-        Some(batch) => answer_batch(rt, desk, pass, batch.batch),
-        None => desk.wait(rt, Stage::Reply, 0),
+impl Turns for Replies {
+    ghost goes_on = { λ queues node replies pass. IsReplying queues node 0 replies.order pass };
+    ghost has_ended = { λ queues node replies pass. IsReplying queues node 0 replies.order pass };
+
+    /// Takes in what is settled, and answers the batch whose turn it is, or waits where it has not come.
+    fn turn<R: Wait, B: Steps, G: Gate>(
+        &mut self,
+        rt: &R,
+        desk: &Desk<'_, B, G>,
+        pass: &mut StagePass,
+    ) -> Result<(), StageEnd> {
+        take_in(rt, desk, pass, &mut self.order);
+        match self.order.next() {
+            Some(batch) => answer_batch(rt, desk, pass, batch.batch),
+            None => desk.wait(rt),
+        }
     }
 }
 
@@ -160,19 +150,16 @@ fn answer_entries<R: Wait, B: Steps, G: Gate>(
     Ok(())
 }
 
-// Answers a request, again and again while the stage is held or a commit below the request's start is not settled, and wakes its
-// session. A request that is not there any more is passed over.
+// Answers a request, again and again while a commit below the request's start is not settled, and wakes its session. A request that
+// is not there any more is passed over.
 fn answer<R: Wait, B: Steps, G: Gate>(
     rt: &R,
     desk: &Desk<'_, B, G>,
     entry: &Entry,
 ) -> Result<(), StageEnd> {
     for _ in rt.forever() {
-        match desk.step(rt, Stage::Reply, entry.session, entry.term) {
-            StageStep::Held | StageStep::Refused(Cause::NotYet { .. }) => {
-                desk.wait(rt, Stage::Reply, 0)?
-            }
-            StageStep::NoMemory => return Err(StageEnd::NoMemory),
+        match desk.step_once_free(rt, entry.session, entry.term)? {
+            StageStep::Refused(Cause::NotYet { .. }) => desk.wait(rt)?,
             _ => break,
         }
     }
@@ -190,7 +177,9 @@ fn receive<R: Wait, B: Steps, G: Gate>(
     ensures pass { IsReplyPass desk.now.queues.now desk.now.node pass.new }
     ensures held { MatchOption result (pass.new.held ≡ pass.old.held) (λ _. pass.new.held ≡ pass.old.held + 1) }
 {
-    desk.queues.settled(desk.node).receive(rt, pass)
+    let batch = desk.queues.settled(desk.node).receive(rt, pass)?;
+    desk.tell_room();
+    Some(batch)
 }
 
 fn give_back<R: Wait, B: Steps, G: Gate>(

@@ -6,13 +6,13 @@ ghost use Rattle.reply_pipeline.specs.Requesting.{IsRequestPass, IsUnused, Enter
 use crate::desk::Desk;
 use crate::ending::StageEnd;
 use crate::gate::Gate;
+use crate::turns::{Turns, serve};
 use batch_pool::{Batch, Entry};
 use history_book::Cause;
 use persist_batches::Numbered;
 use stage_queues::{Queues, StagePass, Ticket};
 use stamp_base::{NodeNo, Stage};
 use std::sync::Wait;
-use std::thread;
 use thread_steps::{StageStep, Steps};
 
 /// What became of a ticket that was taken.
@@ -43,35 +43,45 @@ pub fn request_stage<R: Wait, B: Steps, G: Gate>(
 {
     let desk = Desk {
         node,
+        stage: Stage::Request,
+        worker: 0,
         board,
         queues,
         gate,
     };
-    let end = serve(rt, &desk, pass);
-    if end == StageEnd::NoMemory {
-        queues.close();
-    }
-    end
+    let mut requests = Requests {
+        number: 0,
+        left: None,
+    };
+    serve(rt, &desk, pass, &mut requests)
 }
 
-fn serve<R: Wait, B: Steps, G: Gate>(
-    rt: &R,
-    desk: &Desk<'_, B, G>,
-    pass: &mut StagePass,
-) -> StageEnd
-    requires { IsRequesting desk.now.queues.now desk.now.node 0 0 [] pass.old }
-    ensures { HasRequested desk.now.queues.now desk.now.node pass.new }
-{
-    let mut left = None;
-    for number in 0..u64::MAX {
-        match make_batch(rt, desk, number, left, pass) {
-            Ok(next) => left = next,
-            Err(end) => return end,
+/// The request stage keeps the number of the next batch, and a ticket that was left from the one before.
+#[derive(Drop)]
+struct Requests {
+    number: u64,
+    left: Option<Ticket>,
+}
+
+impl Turns for Requests {
+    ghost goes_on = { λ queues node requests pass. GoesOnWith queues node requests.number requests.left pass };
+    ghost has_ended = { λ queues node _ pass. HasRequested queues node pass };
+
+    /// Makes one batch and sends it. Once no number is left, the stage closes the queues.
+    fn turn<R: Wait, B: Steps, G: Gate>(
+        &mut self,
+        rt: &R,
+        desk: &Desk<'_, B, G>,
+        pass: &mut StagePass,
+    ) -> Result<(), StageEnd> {
+        if self.number == u64::MAX {
+            desk.queues.close();
+            return Err(StageEnd::Closed);
         }
+        self.left = make_batch(rt, desk, self.number, self.left, pass)?;
+        self.number += 1;
+        Ok(())
     }
-    // No number is left.
-    desk.queues.close();
-    StageEnd::Closed
 }
 
 // Gathers what is drawn next in a batch of this number, and sends it. A ticket may be left from the batch before, and from this one,
@@ -133,7 +143,7 @@ fn first_entry<R: Wait, B: Steps, G: Gate>(
     for _ in rt.forever() {
         match next_entry(rt, desk, pass)? {
             Some(entry) => return Ok(entry),
-            None => desk.wait(rt, Stage::Request, 0)?,
+            None => desk.wait(rt)?,
         }
     }
     unreachable!()
@@ -212,7 +222,7 @@ fn serve_ticket<R: Wait, B: Steps, G: Gate>(
         match try_ticket(rt, desk, ticket)? {
             Served::Drawn(entry) => return Ok(Some(entry)),
             Served::Ended => return Ok(None),
-            Served::Held => desk.wait(rt, Stage::Request, 0)?,
+            Served::Held => desk.wait(rt)?,
         }
     }
     unreachable!()
@@ -227,7 +237,7 @@ fn try_ticket<R: Wait, B: Steps, G: Gate>(
     ensures { IfOk result (IsServed ticket.now) }
 {
     for _ in rt.forever() {
-        match desk.step(rt, Stage::Request, ticket.session, ticket.term) {
+        match desk.step(rt, ticket.session, ticket.term) {
             StageStep::Did { start, commit } => {
                 desk.wake_session(ticket.session);
                 return Ok(Served::Drawn(Entry {
@@ -278,12 +288,12 @@ fn empty_batch<R: Wait, B: Steps, G: Gate>(
         if let Some(batch) = desk.queues.take_batch(rt, desk.node, pass) {
             return Ok(batch);
         }
-        desk.wait(rt, Stage::Request, 0)?;
+        desk.wait(rt)?;
     }
     unreachable!()
 }
 
-// Sends a batch, again and again while the queue is full, or gives it back where the queues are closed.
+// Sends a batch, and waits while the queue is full, or gives it back where the queues are closed.
 fn send<R: Wait, B: Steps, G: Gate>(
     rt: &R,
     desk: &Desk<'_, B, G>,
@@ -300,11 +310,10 @@ fn send<R: Wait, B: Steps, G: Gate>(
             Ok(()) => return Ok(()),
             Err(back) => batch = back,
         }
-        if desk.queues.closed() {
+        if let Err(end) = desk.wait_for_room(rt, Stage::Persist) {
             give_back(rt, desk, pass, batch);
-            return Err(StageEnd::Closed);
+            return Err(end);
         }
-        thread::yield_now();
     }
     unreachable!()
 }
@@ -319,7 +328,9 @@ fn receive<R: Wait, B: Steps, G: Gate>(
     ensures passed { Enters desk.now.queues.now desk.now.node None pass.old pass.new }
     ensures may_enter { IfSome result (λ ticket. MayEnter desk.now.queues.now desk.now.node ticket pass.old pass.new) }
 {
-    desk.queues.requests(desk.node).receive(rt, pass)
+    let ticket = desk.queues.requests(desk.node).receive(rt, pass)?;
+    desk.tell_room();
+    Some(ticket)
 }
 
 fn try_send<R: Wait, B: Steps, G: Gate>(

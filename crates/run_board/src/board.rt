@@ -120,4 +120,9 @@ impl<L: Ledger> Steps for Board<L> {
     ) -> StageStep {
         self.play.lock(rt).stage_step(node, term, stage, session)
     }
+
+    /// The term of the node's oracle, if it has one, as `Play::term_of` tells it.
+    fn term_of<R: Wait>(&self, rt: &R, node: NodeNo) -> Option<Term> {
+        self.play.lock(rt).term_of(node)
+    }
 }

@@ -8,16 +8,12 @@ use crate::shared::Shared;
 use crate::waking::wake_for;
 use history_book::Actor;
 use line_shares::ActorShare;
-use reply_pipeline::{Gate, offer_ticket, send_ticket};
+use reply_pipeline::{Gate, offer_ticket};
 use stage_queues::{StagePass, Ticket, Waiter};
-use stamp_base::{NodeNo, Term};
+use stamp_base::{NodeNo, Stage, Term};
 use std::sync::Wait;
 use std::sync::ledger::Ledger;
-use std::thread;
 use thread_steps::{ActorStep, ActorSteps, Steps};
-
-/// So often a ticket is offered to a full queue before the board is asked again.
-const OFFERS: u64 = 64;
 
 /// A ticket for which the queue of the node had no room.
 #[derive(Clone, Copy)]
@@ -46,7 +42,6 @@ pub fn act<L: Ledger, R: Wait, B: Steps + ActorSteps<L> + Sync, G: Gate>(
             break;
         }
     }
-    send_last(rt, shared, &mut pass, unsent);
     mine
 }
 
@@ -69,8 +64,8 @@ fn turn<L: Ledger, R: Wait, B: Steps + ActorSteps<L> + Sync, G: Gate>(
     wake_others(shared, left, mine.done() - before);
     match step {
         ActorStep::Did { asked } => {
-            // A session asks again only once its last request has ended, so a ticket of that one is let go.
-            *unsent = asked_ticket(mine.actor(), asked).or(*unsent);
+            // A session goes on once its request is drawn or has ended, so that nobody waits for a ticket of it that is not sent.
+            *unsent = asked_ticket(mine.actor(), asked);
             offer(rt, shared, pass, unsent);
             true
         }
@@ -130,26 +125,8 @@ fn offer<R: Wait, B: Steps + Sync, G: Gate>(
     }
 }
 
-// Sends the ticket of an actor with no line left, however long the queue is full. Where the queues are closed it is not sent, and
-// nobody serves the request here.
-fn send_last<R: Wait, B: Steps + Sync, G: Gate>(
-    rt: &R,
-    shared: &Shared<'_, B, G>,
-    pass: &mut StagePass,
-    unsent: Option<Unsent>,
-)
-    requires pass { IsSenderPass shared.now.queues.now pass.old }
-    requires nodes { length shared.now.queues.now.nodes ≡ shared.now.setup.nodes }
-{
-    if let Some(Unsent { node, ticket }) = unsent {
-        if node.value() < shared.setup.nodes {
-            let _unsent = send_ticket(rt, node, shared.queues, pass, ticket);
-        }
-    }
-}
-
-// Waits until the actor is woken, or, with a ticket that is not sent, for a while, since nobody wakes who waits for room. A wake since
-// the actor's last step ends the wait at once. False where the queues are closed.
+// Waits until the actor is woken. A wake since the actor's last step ends the wait at once. So does room for a ticket that is not sent,
+// and the board is asked after each wait whether its request is still there. False where the queues are closed.
 fn wait<R: Wait, B: Steps + Sync, G: Gate>(
     rt: &R,
     shared: &Shared<'_, B, G>,
@@ -164,29 +141,14 @@ fn wait<R: Wait, B: Steps + Sync, G: Gate>(
     if shared.queues.closed() {
         return false;
     }
-    offer_for_a_while(rt, shared, pass, unsent);
-    if unsent.is_none() {
-        shared.queues.wait(rt, Waiter::Actor(actor));
+    offer(rt, shared, pass, unsent);
+    match unsent {
+        None => shared.queues.wait(rt, Waiter::Actor(actor)),
+        Some(Unsent { node, .. }) => {
+            shared
+                .queues
+                .wait_for_room(rt, *node, Stage::Request, Waiter::Actor(actor))
+        }
     }
     true
-}
-
-// Offers the ticket again and again, and then lets the board be asked whether its request is still there.
-fn offer_for_a_while<R: Wait, B: Steps + Sync, G: Gate>(
-    rt: &R,
-    shared: &Shared<'_, B, G>,
-    pass: &mut StagePass,
-    unsent: &mut Option<Unsent>,
-)
-    requires pass { IsSenderPass shared.now.queues.now pass.old }
-    requires nodes { length shared.now.queues.now.nodes ≡ shared.now.setup.nodes }
-    ensures { IsSenderPass shared.now.queues.now pass.new }
-{
-    for _ in 0..OFFERS {
-        if unsent.is_none() {
-            return;
-        }
-        thread::yield_now();
-        offer(rt, shared, pass, unsent);
-    }
 }

@@ -36,4 +36,7 @@ pub trait Steps {
         stage: Stage,
         session: SessionNo,
     ) -> StageStep;
+
+    /// The term of the node's oracle, if it has one. A request of another term is not there any more.
+    fn term_of<R: Wait>(&self, rt: &R, node: NodeNo) -> Option<Term>;
 }

@@ -79,7 +79,7 @@ impl ScriptRun {
     }
 
     /// The term of the node's oracle.
-    pub(crate) fn term_of(&self, node: NodeNo) -> Option<Term>
+    pub fn term_of(&self, node: NodeNo) -> Option<Term>
         ensures { result ≡ read.term_of (state_of self.now) node }
     {
         self.planned.cluster.term_of(node)

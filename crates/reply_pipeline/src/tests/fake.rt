@@ -18,6 +18,7 @@ pub struct Fake {
     made: Mutex<Vec<Made>>,
     instead: Option<(Stage, StageStep)>,
     held: Option<SessionNo>,
+    term: Term,
 }
 
 impl Fake {
@@ -27,6 +28,7 @@ impl Fake {
             made: Mutex::new(Vec::with_capacity(alloc, 16)?),
             instead,
             held: None,
+            term: Term::FIRST,
         })
     }
 
@@ -81,6 +83,10 @@ impl Steps for Fake {
             return StageStep::NoMemory;
         }
         answer
+    }
+
+    fn term_of<R: Wait>(&self, _rt: &R, _node: NodeNo) -> Option<Term> {
+        Some(self.term)
     }
 }
 

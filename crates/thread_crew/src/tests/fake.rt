@@ -141,4 +141,8 @@ impl<L: Ledger> Steps for Fake<L> {
         }
         StageStep::Stale { found: None }
     }
+
+    fn term_of<R: Wait>(&self, _rt: &R, _node: NodeNo) -> Option<Term> {
+        None
+    }
 }
