@@ -9,7 +9,7 @@ use Rattle.stage_queues.specs.Passes.{StageAccount, at_node}
 use Rattle.stage_queues.specs.Opening.{request_stage_part, worker_part, reply_stage_part, stage_pass, worker_pass, IsNew}
 use Rattle.reply_pipeline.specs.Reach.{ReachesNode}
 use Rattle.reply_pipeline.specs.Requesting.{IsRequestPass, IsUnused}
-use Rattle.reply_pipeline.specs.Persisting.{IsPersistPass}
+use Rattle.reply_pipeline.specs.Persisting.{IsPersisting}
 use Rattle.reply_pipeline.specs.Replying.{IsReplyPass}
 
 nothing_anywhere : (count i : ℕ) → get_or (replicate count nothing) i nothing ≡ nothing
@@ -38,9 +38,9 @@ module _ (plan : Plan) (rings : NodeRings) (p : StageAccount) (new : IsNew plan 
         (rw here (refl, refl)),
       )
 
-  pub persist_pass : (worker : ℕ) → p ≡ worker_pass (length plan.nodes) rings worker → IsPersistPass plan rings.node p
+  pub persist_pass : (worker : ℕ) → p ≡ worker_pass (length plan.nodes) rings worker → IsPersisting plan rings.node [] p
   persist_pass worker is =
-      let here = part_here worker (worker_part rings) is in record { reaches = reaches_it worker (worker_part rings) is; puts = rw here (λ weight. omega arith) }
+      let here = part_here worker (worker_part rings) is in record { reaches = reaches_it worker (worker_part rings) is; holds = new.holds; puts = rw here (λ weight. omega arith) }
 
   pub reply_pass : (workers : ℕ) → p ≡ stage_pass (length plan.nodes) rings.node 0 (reply_stage_part workers rings) → IsReplyPass plan rings.node p
   reply_pass workers is =

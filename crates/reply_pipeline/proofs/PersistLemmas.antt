@@ -1,5 +1,5 @@
 -- A persist worker's pass after each of its calls.
-use Rattle.std.proofs.Common.{◌≡◌, ℕ, ◌+◌, List, [], ◌∷◌, ◌++◌, sym, ap, ◌∙◌, subst, arith}
+use Rattle.std.proofs.Common.{◌≡◌, ℕ, ◌+◌, List, [], ◌∷◌, ◌++◌, refl, sym, ap, ◌∙◌, subst, arith}
 use Rattle.std.specs.Prelude.{Option, None, Some, Result, Ok, Err, IfSome, IsSomeAnd, MatchOption, MatchResult, sum_by, flat_map, slice_get}
 use Rattle.std.proofs.lemmas.List.Sums.{sum_by-append, sum_by_push}
 use Rattle.persist_batches.specs.declared.numbered.Numbered.{Numbered}
@@ -8,10 +8,11 @@ use Rattle.batch_rule.specs.declared.account.BatchAccount.{BatchAccount}
 use Rattle.batch_rule.specs.Accounts as batch
 use Rattle.settled_rule.specs.declared.account.SettledAccount.{SettledAccount}
 use Rattle.settled_rule.specs.Accounts as settled
+use Rattle.stage_queues.specs.Laws.{PutsWhatItTook}
 use Rattle.stage_queues.specs.Plan.{Plan, NodeRing, node_ring}
 use Rattle.stage_queues.specs.NodePasses.{changed, batch_taken, settled_put, IsOfRing}
 use Rattle.stage_queues.specs.Passes.{StageAccount, at_node, let_go, got, ReceivesBatches, UsesSettled}
-use Rattle.reply_pipeline.specs.Persisting.{SaidOf, PutsWithout, IsPersisting}
+use Rattle.reply_pipeline.specs.Persisting.{SaidOf, PutsAllBut, IsPersistPass, IsPersisting, HasPersisted}
 use Rattle.reply_pipeline.proofs.ReachLemmas.{rings_here, ring_node, changed_of, now_here, still_reaches}
 
 batches_there : (said : BatchAccount → SettledAccount → Type 0) (P : Holds BatchAccount → Type 0) (b : Option (Holds BatchAccount)) (s : Option (Holds SettledAccount)) → SaidOf said b s → IfSome b P → IsSomeAnd b P
@@ -31,41 +32,55 @@ takes_more weight a item =
     let own = sum_by_push weight a.taken item in
     omega arith
 
-in_hand : (item : Numbered) (b : Option (Holds BatchAccount)) (s : Option (Holds SettledAccount)) → SaidOf (PutsWithout []) b s → SaidOf (PutsWithout (item ∷ [])) (changed (λ a. batch.with_taken a item) b) s
+in_hand : (item : Numbered) (b : Option (Holds BatchAccount)) (s : Option (Holds SettledAccount)) → SaidOf (PutsAllBut []) b s → SaidOf (PutsAllBut (item ∷ [])) (changed (λ a. batch.with_taken a item) b) s
 in_hand item None s h = absurd h
 in_hand item (Some b) None h = absurd h
 in_hand item (Some b) (Some s) h = λ weight. let before = h weight in let more = takes_more weight b.account item in omega arith
 
-sent_on : (item : Numbered) (b : Option (Holds BatchAccount)) (s : Option (Holds SettledAccount)) → SaidOf (PutsWithout (item ∷ [])) b s → SaidOf (PutsWithout []) b (changed (λ a. settled.with_put a item) s)
+sent_on : (item : Numbered) (b : Option (Holds BatchAccount)) (s : Option (Holds SettledAccount)) → SaidOf (PutsAllBut (item ∷ [])) b s → SaidOf (PutsAllBut []) b (changed (λ a. settled.with_put a item) s)
 sent_on item None s h = absurd h
 sent_on item (Some b) None h = absurd h
 sent_on item (Some b) (Some s) h = λ weight. let before = h weight in let more = sum_by_push weight s.account.put item in omega arith
 
+no_more : (hand : List Numbered) (b : Option (Holds BatchAccount)) (s : Option (Holds SettledAccount)) → SaidOf (PutsAllBut hand) b s → SaidOf PutsWhatItTook b s
+no_more hand None s h = absurd h
+no_more hand (Some b) None h = absurd h
+no_more hand (Some b) (Some s) h = λ weight. let all = h weight in omega arith
+
 module _ (queues : Plan) (node : ℕ) (p : StageAccount) where
+  pub ends_persisting : IsPersisting queues node [] p → HasPersisted queues node p
+  ends_persisting h = record { pass = record { reaches = h.reaches; puts = no_more [] (at_node p node).batches (at_node p node).settled h.puts }; holds = h.holds }
+
+  pub gave_back : (q : StageAccount) (item : Numbered) → IsPersisting queues node (item ∷ []) p → q ≡ record p { held = p.held - 1 } → HasPersisted queues node q
+  gave_back q item h is = subst (HasPersisted queues node) (sym is) (record {
+    pass = record { reaches = record { there = h.reaches.there; of = h.reaches.of; alone = h.reaches.alone }; puts = no_more (item ∷ []) (at_node p node).batches (at_node p node).settled h.puts };
+    holds = (let e = h.holds in omega arith);
+  })
+
   pub may_receive : (hand : List Numbered) (ring : NodeRing) → IsPersisting queues node hand p → IfSome (slice_get queues.nodes node) (λ rings. ring ≡ node_ring node rings.batches) → ReceivesBatches ring p
   may_receive hand ring h is = rings_here queues node p _ _ h.reaches is (λ rings of e. subst (λ r. ReceivesBatches r p) (sym e) (record {
     there = (let l = h.reaches.there in let f = h.reaches.of.fit in omega arith);
-    receives = batches_there (PutsWithout hand) (IsOfRing rings.batches) (at_node p node).batches (at_node p node).settled h.puts of.batches;
+    receives = batches_there (PutsAllBut hand) (IsOfRing rings.batches) (at_node p node).batches (at_node p node).settled h.puts of.batches;
   }))
 
   pub may_settle : (hand : List Numbered) (ring : NodeRing) → IsPersisting queues node hand p → IfSome (slice_get queues.nodes node) (λ rings. ring ≡ node_ring node rings.settled) → UsesSettled ring p
   may_settle hand ring h is = rings_here queues node p _ _ h.reaches is (λ rings of e. subst (λ r. UsesSettled r p) (sym e) (record {
     there = (let l = h.reaches.there in let f = h.reaches.of.fit in omega arith);
-    uses = settled_there (PutsWithout hand) (IsOfRing rings.settled) (at_node p node).batches (at_node p node).settled h.puts of.settled;
+    uses = settled_there (PutsAllBut hand) (IsOfRing rings.settled) (at_node p node).batches (at_node p node).settled h.puts of.settled;
   }))
 
   pub received : (q : StageAccount) (item : Numbered) → IsPersisting queues node [] p → q ≡ got p node (batch_taken item (at_node p node)) → IsPersisting queues node (item ∷ []) q
   received q item h is = record {
     reaches = still_reaches queues node p q (batch_taken item (at_node p node)) h.reaches (ap (λ x. x.nodes) is) (λ rings of. record { requests = of.requests; batches = changed_of _ rings.batches (at_node p node).batches of.batches; settled = of.settled });
     holds = ap (λ x. x.held) is ∙ (let e = h.holds in omega arith);
-    puts = subst (λ n. SaidOf (PutsWithout (item ∷ [])) n.batches n.settled) (sym (now_here queues node p q (batch_taken item (at_node p node)) h.reaches (ap (λ x. x.nodes) is))) (in_hand item (at_node p node).batches (at_node p node).settled h.puts);
+    puts = subst (λ n. SaidOf (PutsAllBut (item ∷ [])) n.batches n.settled) (sym (now_here queues node p q (batch_taken item (at_node p node)) h.reaches (ap (λ x. x.nodes) is))) (in_hand item (at_node p node).batches (at_node p node).settled h.puts);
   }
 
   pub sent : (q : StageAccount) (item : Numbered) → IsPersisting queues node (item ∷ []) p → q ≡ let_go p node (settled_put item (at_node p node)) → IsPersisting queues node [] q
   sent q item h is = record {
     reaches = still_reaches queues node p q (settled_put item (at_node p node)) h.reaches (ap (λ x. x.nodes) is) (λ rings of. record { requests = of.requests; batches = of.batches; settled = changed_of _ rings.settled (at_node p node).settled of.settled });
     holds = ap (λ x. x.held) is ∙ (let e = h.holds in omega arith);
-    puts = subst (λ n. SaidOf (PutsWithout []) n.batches n.settled) (sym (now_here queues node p q (settled_put item (at_node p node)) h.reaches (ap (λ x. x.nodes) is))) (sent_on item (at_node p node).batches (at_node p node).settled h.puts);
+    puts = subst (λ n. SaidOf (PutsAllBut []) n.batches n.settled) (sym (now_here queues node p q (settled_put item (at_node p node)) h.reaches (ap (λ x. x.nodes) is))) (sent_on item (at_node p node).batches (at_node p node).settled h.puts);
   }
 
 module _ (queues : Plan) (node : ℕ) (p q : StageAccount) (ring : NodeRing) where

@@ -39,10 +39,7 @@ module _ (plan : Plan) (workers senders : ℕ) (rings : NodeRings) (p : StageAcc
       let e : p ≡ stage_pass (length plan.nodes) rings.node 0 (request_stage_part workers senders rings) = is ∙ ap (λ i. get_or (node_passes (length plan.nodes) workers senders rings) i p) first in
       let ready = request_pass plan rings p new within workers senders e in
       (ready.0, ready.1, new.holds))
-      (λ w few turn. (
-        persist_pass plan rings p new within w (is ∙ ap (λ i. get_or (node_passes (length plan.nodes) workers senders rings) i p) turn ∙ worker_place (length plan.nodes) workers senders w rings p few),
-        new.holds,
-      ))
+      (λ w few turn. persist_pass plan rings p new within w (is ∙ ap (λ i. get_or (node_passes (length plan.nodes) workers senders rings) i p) turn ∙ worker_place (length plan.nodes) workers senders w rings p few))
       (λ last. (
         reply_pass plan rings p new within workers (is ∙ ap (λ i. get_or (node_passes (length plan.nodes) workers senders rings) i p) last ∙ reply_place (length plan.nodes) workers senders rings p),
         new.holds,

@@ -1,5 +1,5 @@
 -- What a persist worker did through its pass.
-use Rattle.std.specs.Prelude.{◌≡◌, ℕ, ◌+◌, ◌≤◌, List, length, Option, None, Some, sum_by}
+use Rattle.std.specs.Prelude.{◌≡◌, ℕ, ◌+◌, List, length, Option, None, Some, sum_by}
 use Rattle.persist_batches.specs.declared.numbered.Numbered.{Numbered}
 use Rattle.queue_passes.specs.Holds.{Holds}
 use Rattle.batch_rule.specs.declared.account.BatchAccount.{BatchAccount}
@@ -21,12 +21,17 @@ pub record IsPersistPass (queues : Plan) (node : ℕ) (p : StageAccount) : Type 
   pub reaches : ReachesNode queues node p
   pub puts : SaidOf PutsWhatItTook (at_node p node).batches (at_node p node).settled
 
--- however batches are weighed, what was put as settled and what is in hand weigh no more than what was taken
-abbrev pub PutsWithout : List Numbered → BatchAccount → SettledAccount → Type 0
-PutsWithout hand batches settled = (weight : Numbered → ℕ) → sum_by weight settled.put + sum_by weight hand ≤ sum_by weight (all_taken batches)
+-- however batches are weighed, what was put as settled and what is in hand weigh as much as what was taken
+abbrev pub PutsAllBut : List Numbered → BatchAccount → SettledAccount → Type 0
+PutsAllBut hand batches settled = (weight : Numbered → ℕ) → sum_by weight settled.put + sum_by weight hand ≡ sum_by weight (all_taken batches)
 
--- so while it has these batches in hand
+-- while it works it has these batches in hand, and has put all others that it took
 pub record IsPersisting (queues : Plan) (node : ℕ) (hand : List Numbered) (p : StageAccount) : Type 0 where
   pub reaches : ReachesNode queues node p
   pub holds : p.held ≡ length hand
-  pub puts : SaidOf (PutsWithout hand) (at_node p node).batches (at_node p node).settled
+  pub puts : SaidOf (PutsAllBut hand) (at_node p node).batches (at_node p node).settled
+
+-- it has ended, and holds nothing
+pub record HasPersisted (queues : Plan) (node : ℕ) (p : StageAccount) : Type 0 where
+  pub pass : IsPersistPass queues node p
+  pub holds : p.held ≡ 0

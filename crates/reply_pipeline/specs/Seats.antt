@@ -1,5 +1,5 @@
 -- Which pass is a stage's, and with which it may begin.
-use Rattle.std.specs.Prelude.{◌≡◌, ℕ, ◌+◌, ◌/◌, ◌%◌, ◌==◌, if◌then◌else◌, List, Some, Result, MatchResult, length, slice_get}
+use Rattle.std.specs.Prelude.{◌≡◌, ℕ, ◌+◌, ◌/◌, ◌%◌, ◌==◌, if◌then◌else◌, List, [], Some, Result, MatchResult, length, slice_get}
 use Rattle.request_rule.specs.declared.account.Ticket.{Ticket}
 use Rattle.stamp_base.specs.declared.stage.Stage.{Stage}
 use Rattle.stamp_base.specs.declared.stage.Stage.TheVariants.{Request, Persist, Reply}
@@ -7,13 +7,13 @@ use Rattle.stage_queues.specs.Plan.{Plan, NodeRings}
 use Rattle.stage_queues.specs.NodePasses.{MaySendTicket, ticket_put}
 use Rattle.stage_queues.specs.Passes.{StageAccount, at_node, with_node}
 use Rattle.reply_pipeline.specs.Requesting.{IsRequestPass, IsUnused}
-use Rattle.reply_pipeline.specs.Persisting.{IsPersistPass}
+use Rattle.reply_pipeline.specs.Persisting.{IsPersisting}
 use Rattle.reply_pipeline.specs.Replying.{IsReplyPass}
 
 -- a pass with which this stage of the node may begin
 abbrev pub IsReadyFor : Plan → ℕ → Stage → StageAccount → Type 0
 IsReadyFor plan node Request p = IsRequestPass plan node p × IsUnused node p × (p.held ≡ 0)
-IsReadyFor plan node Persist p = IsPersistPass plan node p × (p.held ≡ 0)
+IsReadyFor plan node Persist p = IsPersisting plan node [] p
 IsReadyFor plan node Reply p = IsReplyPass plan node p × (p.held ≡ 0)
 
 -- of a node's passes the first is the request stage's, then come the workers', and the last is the reply stage's

@@ -1,6 +1,6 @@
 // The persist workers: each makes the commits of the batches that it takes durable, and sends the batches on.
 ghost use Rattle.std.specs.Prelude.{◌≡◌, ◌∷◌, [], MatchOption, MatchResult};
-ghost use Rattle.reply_pipeline.specs.Persisting.{IsPersistPass, IsPersisting};
+ghost use Rattle.reply_pipeline.specs.Persisting.{IsPersistPass, IsPersisting, HasPersisted};
 
 use crate::desk::Desk;
 use crate::ending::StageEnd;
@@ -22,8 +22,7 @@ pub fn persist_worker<R: Wait, B: Steps, G: Gate>(
     pass: &mut StagePass,
     gate: &G,
 ) -> StageEnd
-    requires pass { IsPersistPass queues.now node pass.old }
-    requires held { pass.old.held ≡ 0 }
+    requires { IsPersisting queues.now node [] pass.old }
     ensures pass { IsPersistPass queues.now node pass.new }
     ensures held { pass.new.held ≡ 0 }
 {
@@ -44,7 +43,7 @@ struct Worker {}
 
 impl Turns for Worker {
     ghost goes_on = { λ queues node _ pass. IsPersisting queues node [] pass };
-    ghost has_ended = { λ queues node _ pass. IsPersisting queues node [] pass };
+    ghost has_ended = { λ queues node _ pass. HasPersisted queues node pass };
 
     /// Serves one batch, or waits where there is none.
     fn turn<R: Wait, B: Steps, G: Gate>(
@@ -67,7 +66,7 @@ fn settle<R: Wait, B: Steps, G: Gate>(
     batch: Numbered,
 ) -> Result<(), StageEnd>
     requires { IsPersisting desk.now.queues.now desk.now.node (batch ∷ []) pass.old }
-    ensures { IsPersisting desk.now.queues.now desk.now.node [] pass.new }
+    ensures { MatchResult result (λ _. IsPersisting desk.now.queues.now desk.now.node [] pass.new) (λ _. HasPersisted desk.now.queues.now desk.now.node pass.new) }
 {
     match put_all(rt, desk, batch.batch.entries()) {
         Ok(()) => send_on(rt, desk, pass, batch),
@@ -100,7 +99,7 @@ fn send_on<R: Wait, B: Steps, G: Gate>(
     batch: Numbered,
 ) -> Result<(), StageEnd>
     requires { IsPersisting desk.now.queues.now desk.now.node (batch ∷ []) pass.old }
-    ensures { IsPersisting desk.now.queues.now desk.now.node [] pass.new }
+    ensures { MatchResult result (λ _. IsPersisting desk.now.queues.now desk.now.node [] pass.new) (λ _. HasPersisted desk.now.queues.now desk.now.node pass.new) }
 {
     let mut batch = batch;
     for _ in rt.forever() {
@@ -148,7 +147,7 @@ fn give_back<R: Wait, B: Steps, G: Gate>(
     batch: Numbered,
 )
     requires { IsPersisting desk.now.queues.now desk.now.node (batch ∷ []) pass.old }
-    ensures { IsPersisting desk.now.queues.now desk.now.node [] pass.new }
+    ensures { HasPersisted desk.now.queues.now desk.now.node pass.new }
 {
     desk.queues.give_batch(rt, desk.node, pass, batch.batch);
 }

@@ -52,7 +52,8 @@ fn serve_all<R: Wait, B: Steps, G: Gate>(
     pass: &mut StagePass,
     replies: Replies,
 ) -> StageEnd
-    requires { IsReplying desk.now.queues.now desk.now.node 0 replies.order pass.old }
+    requires first { replies.order.next ≡ 0 }
+    requires replying { IsReplying desk.now.queues.now desk.now.node 0 replies.order pass.old }
     ensures pass { IsReplyPass desk.now.queues.now desk.now.node pass.new }
     ensures held { pass.new.held ≡ 0 }
 {
@@ -83,7 +84,7 @@ impl Turns for Replies {
     ) -> Result<(), StageEnd> {
         take_in(rt, desk, pass, &mut self.order);
         match self.order.next() {
-            Some(batch) => answer_batch(rt, desk, pass, batch.batch),
+            Some(batch) => answer_batch(rt, desk, pass, &self.order, batch),
             None => desk.wait(rt),
         }
     }
@@ -123,19 +124,21 @@ fn place<R: Wait, B: Steps, G: Gate>(
     }
 }
 
-// Answers each entry, and gives the batch back.
+// Answers each entry of the batch whose turn it was last, and gives the batch back.
 fn answer_batch<R: Wait, B: Steps, G: Gate>(
     rt: &R,
     desk: &Desk<'_, B, G>,
     pass: &mut StagePass,
-    batch: Batch,
+    _order: &Reorder,
+    batch: Numbered,
 ) -> Result<(), StageEnd>
+    requires turn { batch.number + 1 ≡ _order.now.next }
     requires node { desk.now.node < length desk.now.queues.now.nodes }
     requires held { 0 < pass.old.held }
     ensures { pass.new ≡ record pass.old { held = pass.old.held - 1 } }
 {
-    let answered = answer_entries(rt, desk, batch.entries());
-    give_back(rt, desk, pass, batch);
+    let answered = answer_entries(rt, desk, batch.batch.entries());
+    give_back(rt, desk, pass, batch.batch);
     answered
 }
 

@@ -1,7 +1,8 @@
 // The request stage: serves tickets until each request is drawn or has ended, and sends what was drawn on in batches. What is drawn
 // does not wait for a stage that is held.
 ghost use Rattle.std.specs.Prelude.{◌≡◌, ◌≢◌, ◌+◌, ◌<◌, ◌∷◌, ◌++◌, [], length, IfOk, IfSome, MatchResult};
-ghost use Rattle.reply_pipeline.specs.Requesting.{IsRequestPass, IsUnused, EntersTickets, IsRequesting, HasRequested, Enters, EntersLeft, MayEnter, MayStill, GoesOnWith, KeepsLeft, IsServed, ticket_of};
+ghost use Rattle.reply_pipeline.specs.Requesting.{IsRequestPass, IsUnused, EntersTickets, IsRequesting, HasRequested, Enters, EntersLeft, MayEnter, MayStill, GoesOnWith, KeepsLeft, IsServed, ticket_of, entry_of};
+ghost use Rattle.reply_pipeline.specs.Serving.{goes_on};
 
 use crate::desk::Desk;
 use crate::ending::StageEnd;
@@ -11,7 +12,7 @@ use batch_pool::{Batch, Entry};
 use history_book::Cause;
 use persist_batches::Numbered;
 use stage_queues::{Queues, StagePass, Ticket};
-use stamp_base::{NodeNo, Stage};
+use stamp_base::{NodeNo, Stage, Stamp};
 use std::sync::Wait;
 use thread_steps::{StageStep, Steps};
 
@@ -240,12 +241,7 @@ fn try_ticket<R: Wait, B: Steps, G: Gate>(
         match desk.step(rt, ticket.session, ticket.term) {
             StageStep::Did { start, commit } => {
                 desk.wake_session(ticket.session);
-                return Ok(Served::Drawn(Entry {
-                    session: ticket.session,
-                    term: ticket.term,
-                    start,
-                    commit,
-                }));
+                return Ok(Served::Drawn(entry_of(ticket, start, commit)));
             }
             StageStep::Held => return Ok(Served::Held),
             StageStep::NoMemory => return Err(StageEnd::NoMemory),
@@ -260,9 +256,22 @@ fn try_ticket<R: Wait, B: Steps, G: Gate>(
     unreachable!()
 }
 
+fn entry_of(ticket: &Ticket, start: Stamp, commit: Option<Stamp>) -> Entry
+    ensures { result ≡ entry_of ticket.now start commit }
+{
+    Entry {
+        session: ticket.session,
+        term: ticket.term,
+        start,
+        commit,
+    }
+}
+
 // Whether the request may be there after this step. A refused or faulted extension leaves it where it was. The causes of a refused
 // extension also end a request, which its next step then does not find.
-fn goes_on(step: &StageStep) -> bool {
+fn goes_on(step: &StageStep) -> bool
+    ensures { result ≡ goes_on step.now }
+{
     match step {
         StageStep::Went | StageStep::Fault => true,
         StageStep::Refused(cause) => matches!(

@@ -10,6 +10,7 @@ mod commits;
 mod listed;
 mod marks;
 mod overlap_index;
+mod reach;
 mod reads;
 mod search;
 mod stamp_index;

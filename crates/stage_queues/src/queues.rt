@@ -50,7 +50,7 @@ impl Queues {
         requires { node < length self.now.nodes }
         ensures { IfSome (slice_get self.now.nodes node) (λ rings. result.now ≡ node_ring node rings.requests) }
     {
-        &self.node(node).requests
+        &self.nodes[node.index()].requests
     }
 
     /// The queue of batches of a node.
@@ -58,7 +58,7 @@ impl Queues {
         requires { node < length self.now.nodes }
         ensures { IfSome (slice_get self.now.nodes node) (λ rings. result.now ≡ node_ring node rings.batches) }
     {
-        &self.node(node).batches
+        &self.nodes[node.index()].batches
     }
 
     /// The queue of settled batches of a node.
@@ -66,7 +66,7 @@ impl Queues {
         requires { node < length self.now.nodes }
         ensures { IfSome (slice_get self.now.nodes node) (λ rings. result.now ≡ node_ring node rings.settled) }
     {
-        &self.node(node).settled
+        &self.nodes[node.index()].settled
     }
 
     /// An empty batch of the node's pool. None only where all its buffers were out at that step.

@@ -1,17 +1,44 @@
 // Who is woken after a line.
+ghost use Rattle.std.specs.Prelude.{◌≡◌};
+ghost use Rattle.thread_crew.specs.Waking.{woken_by};
+
 use history_book::Actor;
 use script_data::Verb;
 use stage_queues::{Queues, Waiter};
 use stamp_base::{NodeNo, Setup, Stage};
 
-/// Wakes those that may wait for what a line does: a name that is posted, the end of requests where an instance is gone, a stage that is
-/// freed. Who waits for a request is woken by the stages.
+/// Who may wait for what a line does.
+#[derive(Clone, Copy, Debug, PartialEq, Eq)]
+pub enum Woken {
+    Nobody,
+    /// Every actor.
+    Actors,
+    /// The sessions and the stages that have requests at the node's instance.
+    UsersOf(NodeNo),
+    /// The threads of the node's stage.
+    ThreadsOf(NodeNo, Stage),
+}
+
+/// Wakes those that may wait for what a line does.
 pub fn wake_for(queues: &Queues, setup: &Setup, actor: Actor, verb: &Verb) {
+    match woken_by(actor, verb) {
+        Woken::Nobody => {}
+        Woken::Actors => wake_actors(queues, setup),
+        Woken::UsersOf(node) => wake_users(queues, node),
+        Woken::ThreadsOf(node, stage) => queues.wake_stage(node, stage),
+    }
+}
+
+// A name that is posted, the end of requests where an instance is gone, a stage that is freed. Who waits for a request is woken by the
+// stages.
+fn woken_by(actor: Actor, verb: &Verb) -> Woken
+    ensures { result ≡ woken_by actor verb.now }
+{
     match (verb, actor) {
-        (Verb::Post { .. }, _) => wake_actors(queues, setup),
-        (Verb::Crash | Verb::Take, Actor::Node(node)) => wake_after_instance(queues, node),
-        (Verb::Free { stage }, Actor::Node(node)) => queues.wake_stage(node, *stage),
-        _ => {}
+        (Verb::Post { .. }, _) => Woken::Actors,
+        (Verb::Crash | Verb::Take, Actor::Node(node)) => Woken::UsersOf(node),
+        (Verb::Free { stage }, Actor::Node(node)) => Woken::ThreadsOf(node, *stage),
+        _ => Woken::Nobody,
     }
 }
 
@@ -26,8 +53,8 @@ fn wake_actors(queues: &Queues, setup: &Setup) {
     queues.wake_sessions();
 }
 
-// The node's sessions go on, and so do its stages, where they are held with what the instance has left.
-fn wake_after_instance(queues: &Queues, node: NodeNo) {
+// Sessions and stages go on, the stages also where they are held, with what the instance has left.
+fn wake_users(queues: &Queues, node: NodeNo) {
     queues.wake_sessions();
     for stage in [Stage::Request, Stage::Persist, Stage::Reply] {
         queues.wake_stage(node, stage);

@@ -23,7 +23,7 @@ fn scripts_with_one_order_are_run_in_it(rt: HostRuntime) -> Result<(), Fail> {
 }
 
 /// Scripts that threads carry out in many orders.
-static FREE: [&str; 6] = [
+static FREE: [&str; 7] = [
     PLAIN_PATH,
     "\
 a take
@@ -116,6 +116,31 @@ s1 read k0
 s1 read k1
 s1 write k1 x
 s1 commit b
+",
+    // A held stage keeps nothing of an instance that is gone: the new one's begin is served before the stage is freed.
+    "\
+a take
+s0 begin a
+s0 write k0 v
+a post begun
+a hold persist
+a post held
+s0 await held
+s0 submit a
+s0 post sent
+a await sent
+a crash
+clock await sent
+clock tick 20
+clock post late
+a await late
+a take
+a post again
+s1 await again
+s1 begin a
+s1 post served
+a await served
+a free persist
 ",
 ];
 
