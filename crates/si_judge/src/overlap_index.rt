@@ -126,7 +126,7 @@ fn mark_overlaps(
     ensures kept { KeepsMarks marks.old marks.new }
     ensures reached { HasReached written.now result marks.new }
 {
-    mark_own(written, key, start, commit, marks);
+    mark_own(written, key, start, &commit, marks);
     let reach = reach.at(key, start);
     mark_up_to(written, reach, commit.stamp, marks)
 }
@@ -136,10 +136,10 @@ fn mark_own(
     written: &BTreeMap<(KeyNo, Stamp), Commit>,
     key: KeyNo,
     start: Stamp,
-    commit: Commit,
+    commit: &Commit,
     marks: &mut Marks,
 )
-    ensures marked { MarksOwn written.now key start commit marks.new }
+    ensures marked { MarksOwn written.now key start commit.now marks.new }
     ensures kept { KeepsMarks marks.old marks.new }
 {
     if start < commit.stamp {
