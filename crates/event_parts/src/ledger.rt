@@ -1,5 +1,5 @@
 // How an event tells what it did: its items in the book, in room that was made for them.
-ghost use Rattle.std.specs.Prelude.{◌≡◌, ◌≤◌, ◌+◌, ◌++◌, ◌∷◌, [], Err, OnOk, if◌then◌else◌};
+ghost use Rattle.std.specs.Prelude.{◌≡◌, ◌≤◌, ◌++◌, ◌∷◌, [], Err, if◌then◌else◌};
 ghost use Rattle.store_parts.specs.StoreCalls.{AsksOnce};
 ghost use Rattle.client_parts.specs.KeyRead.{ReadTurn, next_of};
 ghost use Rattle.machine.specs.Effect as effect;
@@ -11,21 +11,12 @@ use crate::Stopped;
 use history_book::{Actor, Book, Cause, Found, Item};
 use port_io::{Fate, Weather};
 use reader_resolve::Next;
-use stamp_base::{KeyNo, NoMemory, SessionNo, Stamp, Store, TxnId, Value};
-
-/// The book has room for n items more.
-pub fn make_room(book: &mut Book, n: usize) -> Result<(), NoMemory>
-    ensures items { book.new.items ≡ book.old.items }
-    ensures room { OnOk result (n ≤ book.new.spare) }
-{
-    let lacking = n.saturating_sub(book.spare());
-    book.reserve(lacking)?;
-    Ok(())
-}
+use stamp_base::{KeyNo, SessionNo, Stamp, Store, TxnId, Value};
 
 /// The actor is told why the event is refused, which changes nothing else.
 pub fn refuse(book: &mut Book, actor: Actor, cause: Cause) -> Result<(), Stopped>
-    ensures { Makes (effect.refused no_parts actor cause) no_parts no_parts book.old.items book.new.items result }
+    ensures made { Makes (effect.refused no_parts actor cause) no_parts no_parts book.old.items book.new.items result }
+    ensures spare { book.new.spare ≡ book.old.spare }
 {
     let told = cause;
     book.append(Item::Refused { actor, cause: told })?;
@@ -34,19 +25,21 @@ pub fn refuse(book: &mut Book, actor: Actor, cause: Cause) -> Result<(), Stopped
 
 /// The same, in room that was made.
 pub fn tell(book: &mut Book, actor: Actor, cause: Cause) -> Result<(), Stopped>
-    requires { 1 ≤ book.old.spare }
+    requires { 1 ≤ book.old.room }
     ensures items { book.new.items ≡ book.old.items ++ Item.Refused actor cause ∷ [] }
+    ensures spare { book.new.spare ≡ book.old.spare }
     ensures answer { result ≡ Err (Stopped.Refused cause) }
 {
     let told = cause;
-    book.append_reserved(Item::Refused { actor, cause: told });
+    book.append_in_room(Item::Refused { actor, cause: told });
     Err(Stopped::Refused(cause))
 }
 
 /// The same for a refusal that a request is told once: where it was told before, nothing is appended.
 pub fn tell_once(book: &mut Book, told: bool, actor: Actor, cause: Cause) -> Result<(), Stopped>
-    requires { 1 ≤ book.old.spare }
+    requires { 1 ≤ book.old.room }
     ensures items { book.new.items ≡ book.old.items ++ (if told then [] else Item.Refused actor cause ∷ []) }
+    ensures spare { book.new.spare ≡ book.old.spare }
     ensures answer { result ≡ Err (Stopped.Refused cause) }
 {
     if told {
@@ -57,24 +50,26 @@ pub fn tell_once(book: &mut Book, told: bool, actor: Actor, cause: Cause) -> Res
 
 /// The actor's call on the store failed. The change that it made all the same stands before the fault.
 pub fn fail(book: &mut Book, actor: Actor, store: Store, made: Option<Item>) -> Result<(), Stopped>
-    requires { 2 ≤ book.old.spare }
+    requires { 2 ≤ book.old.room }
     ensures items { book.new.items ≡ book.old.items ++ made_items made ++ Item.Fault actor store ∷ [] }
+    ensures spare { book.new.spare ≡ book.old.spare }
     ensures answer { result ≡ Err (Stopped.StoreFault store) }
 {
     if let Some(item) = made {
-        book.append_reserved(item);
+        book.append_in_room(item);
     }
-    book.append_reserved(Item::Fault { actor, store });
+    book.append_in_room(Item::Fault { actor, store });
     Err(Stopped::StoreFault(store))
 }
 
 /// A read that has its answer is told.
 pub fn tell_read(book: &mut Book, session: SessionNo, start: Stamp, key: KeyNo, next: &Next)
-    requires { 1 ≤ book.old.spare }
-    ensures { (turn : ReadTurn) → next.now ≡ next_of turn → book.new.items ≡ book.old.items ++ read_items session start key turn }
+    requires { 1 ≤ book.old.room }
+    ensures items { (turn : ReadTurn) → next.now ≡ next_of turn → book.new.items ≡ book.old.items ++ read_items session start key turn }
+    ensures spare { book.new.spare ≡ book.old.spare }
 {
     if let Next::Done(answer) = next {
-        book.append_reserved(Item::Read {
+        book.append_in_room(Item::Read {
             session,
             start,
             key,

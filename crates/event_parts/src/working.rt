@@ -46,11 +46,12 @@ impl Client {
 
     /// Takes the answer to the next step. What it decides is told.
     pub fn told(&mut self, book: &mut Book, session: SessionNo, answer: Told)
-        requires room { 1 ≤ book.old.spare }
+        requires room { 1 ≤ book.old.room }
         requires answer { FitsNext (next_of (work_of self.old)) answer }
         requires work { CanWork (work_of self.old) self.old.entry }
         ensures client { self.new ≡ client_told self.old (work_of self.old) answer }
         ensures items { book.new.items ≡ book.old.items ++ told_items session self.old (work_of self.old) answer }
+        ensures spare { book.new.spare ≡ book.old.spare }
     {
         self.take_up();
         self.told_at_work(book, session, answer);
@@ -112,11 +113,12 @@ impl Client {
     }
 
     fn told_at_work(&mut self, book: &mut Book, session: SessionNo, answer: Told)
-        requires room { 1 ≤ book.old.spare }
+        requires room { 1 ≤ book.old.room }
         requires answer { FitsNext (next_of self.old.under_way) answer }
         requires work { CanWork self.old.under_way self.old.entry }
         ensures client { self.new ≡ client_told self.old self.old.under_way answer }
         ensures items { book.new.items ≡ book.old.items ++ told_items session self.old self.old.under_way answer }
+        ensures spare { book.new.spare ≡ book.old.spare }
     {
         match &mut self.under_way {
             UnderWay::Nothing => {}
@@ -136,12 +138,13 @@ impl Client {
 
     /// The resolve of its own commit goes on, or has decided, which is told.
     fn settled(&mut self, book: &mut Book, session: SessionNo, outcome: &Option<Outcome>)
-        requires room { 1 ≤ book.old.spare }
+        requires room { 1 ≤ book.old.room }
         requires work { CanCommit self.old.entry }
         ensures client { (x : Settling) (turn : SettleTurn) → self.old.under_way ≡ state.Settles (settle_by x turn) →
             outcome.now ≡ outcome_of turn → self.new ≡ client_settled self.old x turn }
         ensures items { (turn : SettleTurn) → outcome.now ≡ outcome_of turn →
             book.new.items ≡ book.old.items ++ settle_items session self.old.entry.start turn }
+        ensures spare { book.new.spare ≡ book.old.spare }
     {
         let start = self.session.start();
         match outcome {
@@ -166,11 +169,12 @@ fn read_on(
     session: SessionNo,
     answer: Told,
 )
-    requires room { 1 ≤ book.old.spare }
+    requires room { 1 ≤ book.old.room }
     requires answer { FitsNext (next_ask run.old) answer }
     ensures run { IfSome run.old (λ r. run.new ≡ reading_left (read_told r answer)) }
     ensures heal { IfSome run.old (λ r. heal.new ≡ offered_by (read_told r answer)) }
     ensures items { IfSome run.old (λ r. book.new.items ≡ book.old.items ++ read_items session r.start r.key (read_told r answer)) }
+    ensures spare { book.new.spare ≡ book.old.spare }
 {
     let key = run.key();
     let start = run.reader();
@@ -201,11 +205,12 @@ fn own_settle(start: Stamp, keys: &[KeyNo]) -> Option<Settle>
 }
 
 fn tell_committed(book: &mut Book, session: SessionNo, start: Option<Stamp>, commit: Stamp)
-    requires { 1 ≤ book.old.spare }
-    ensures { (by_table : Bool) → book.new.items ≡ book.old.items ++ settle_items session start (Decides (Outcome.Committed commit by_table)) }
+    requires { 1 ≤ book.old.room }
+    ensures items { (by_table : Bool) → book.new.items ≡ book.old.items ++ settle_items session start (Decides (Outcome.Committed commit by_table)) }
+    ensures spare { book.new.spare ≡ book.old.spare }
 {
     if let Some(start) = start {
-        book.append_reserved(Item::Committed {
+        book.append_in_room(Item::Committed {
             session,
             start,
             commit,
@@ -214,11 +219,12 @@ fn tell_committed(book: &mut Book, session: SessionNo, start: Option<Stamp>, com
 }
 
 fn tell_dead(book: &mut Book, session: SessionNo, start: Option<Stamp>)
-    requires { 1 ≤ book.old.spare }
-    ensures { book.new.items ≡ book.old.items ++ settle_items session start (Decides Outcome.Dead) }
+    requires { 1 ≤ book.old.room }
+    ensures items { book.new.items ≡ book.old.items ++ settle_items session start (Decides Outcome.Dead) }
+    ensures spare { book.new.spare ≡ book.old.spare }
 {
     if let Some(start) = start {
-        book.append_reserved(Item::End {
+        book.append_in_room(Item::End {
             session,
             start,
             how: Ending::Dead,

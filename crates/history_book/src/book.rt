@@ -6,10 +6,12 @@ use stamp_base::NoMemory;
 use std::alloc::Global;
 use std::marker::Model;
 
-/// A history under way: the items so far, and room that was reserved for further ones.
+/// A history under way: the items so far, and two rooms for further ones. One is of the event under way, which makes it before
+/// it changes anything. The other was reserved for requests, and no event takes it for anything else.
 #[derive(Drop)]
 pub struct Book {
     items: Vec<Item>,
+    room: usize,
     spare: usize,
 }
 
@@ -20,19 +22,21 @@ impl Model for Book {
 
     ghost Value = { BookContent };
 
-    ghost view = { λ b. record { items = b.items.items; spare = b.spare } };
+    ghost view = { λ b. record { items = b.items.items; room = b.room; spare = b.spare } };
 
-    ghost invariant = { λ b. vec_len b.items + b.spare ≤ vec_capacity b.items };
+    ghost invariant = { λ b. vec_len b.items + b.room + b.spare ≤ vec_capacity b.items };
 }
 
 impl Book {
     /// No items. It takes no memory.
     pub fn new(alloc: Global) -> Book
         ensures items { result.items ≡ [] }
+        ensures room { result.room ≡ 0 }
         ensures spare { result.spare ≡ 0 }
     {
         Book {
             items: Vec::new(alloc),
+            room: 0,
             spare: 0,
         }
     }
@@ -40,22 +44,51 @@ impl Book {
     /// Appends the item in room of its own: what was reserved stays so.
     pub fn append(&mut self, item: Item) -> Result<(), NoMemory>
         ensures ok { OnOk result (self.new.items ≡ self.old.items ++ item ∷ []) }
-        ensures kept { OnOk result (self.new.spare ≡ self.old.spare) }
+        ensures kept { self.new.spare ≡ self.old.spare }
         ensures err { OnErr result (self.new ≡ self.old) }
     {
-        self.reserve(1)?;
-        self.append_reserved(item);
+        self.make_room(1)?;
+        self.append_in_room(item);
         Ok(())
+    }
+
+    /// There is room for n items more, beside what is reserved.
+    pub fn make_room(&mut self, n: usize) -> Result<(), NoMemory>
+        ensures ok { OnOk result (n ≤ self.new.room) }
+        ensures items { self.new.items ≡ self.old.items }
+        ensures kept { self.new.spare ≡ self.old.spare }
+        ensures err { OnErr result (self.new ≡ self.old) }
+    {
+        if self.room < n {
+            let both = self.spare.checked_add(n).ok_or(NoMemory)?;
+            self.items.reserve(both)?;
+            self.room = n;
+        }
+        Ok(())
+    }
+
+    /// Appends the item in room that was made. It takes no memory and cannot fail, and what was reserved stays so.
+    pub fn append_in_room(&mut self, item: Item)
+        requires { 1 ≤ self.old.room }
+        ensures items { self.new.items ≡ self.old.items ++ item ∷ [] }
+        ensures room { self.new.room ≡ self.old.room - 1 }
+        ensures kept { self.new.spare ≡ self.old.spare }
+    {
+        // What was made is within the capacity.
+        push_copy(&mut self.items, &item);
+        self.room -= 1;
     }
 
     /// Reserves room for n items more.
     pub fn reserve(&mut self, n: usize) -> Result<(), NoMemory>
         ensures ok { OnOk result (self.new.spare ≡ self.old.spare + n) }
         ensures kept { self.new.items ≡ self.old.items }
+        ensures room { self.new.room ≡ self.old.room }
         ensures err { OnErr result (self.new ≡ self.old) }
     {
         let spare = self.spare.checked_add(n).ok_or(NoMemory)?;
-        self.items.reserve(spare)?;
+        let both = self.room.checked_add(spare).ok_or(NoMemory)?;
+        self.items.reserve(both)?;
         self.spare = spare;
         Ok(())
     }
@@ -65,13 +98,14 @@ impl Book {
         requires { 1 ≤ self.old.spare }
         ensures items { self.new.items ≡ self.old.items ++ item ∷ [] }
         ensures spare { self.new.spare ≡ self.old.spare - 1 }
+        ensures room { self.new.room ≡ self.old.room }
     {
         // What is reserved is within the capacity.
         push_copy(&mut self.items, &item);
         self.spare -= 1;
     }
 
-    /// How many items can be appended without asking for memory.
+    /// How many items can be appended in room that was reserved.
     pub fn spare(&self) -> usize
         ensures { result ≡ self.now.spare }
     {

@@ -86,6 +86,11 @@ pub enum StoreStep {
     PutFound {
         txn: TxnId,
     },
+    /// The oracle handed the transaction's commit to its session, which places it itself.
+    Handed {
+        txn: TxnId,
+        commit: Stamp,
+    },
 }
 
 /// How a transaction ended without a commit.

@@ -6,7 +6,7 @@ use std::alloc::Global;
 use std::test::Fail;
 
 /// Lines of text, and the same items in JSON.
-static LINES: [(&str, &str); 40] = [
+static LINES: [(&str, &str); 41] = [
     ("tick 12", "{\"kind\":\"tick\",\"to\":12}"),
     (
         "note s1 post p",
@@ -119,6 +119,10 @@ static LINES: [(&str, &str); 40] = [
     (
         "step f put 1 invalid",
         "{\"actor\":\"f\",\"kind\":\"step\",\"text\":\"put 1 invalid\"}",
+    ),
+    (
+        "step s0 handed 1 2",
+        "{\"actor\":\"s0\",\"kind\":\"step\",\"text\":\"handed 1 2\"}",
     ),
     (
         "end s1 start=1 read-only",

@@ -5,13 +5,13 @@ use Rattle.history_text.specs.StepText.{mark_text, entry_text, seen_text, step_t
 use Rattle.stamp_base.specs.Ranges.{IsNumber, IsStamp, IsKey}
 use Rattle.history_text.specs.Fits.{FitsMark, FitsEntry, FitsSeen, FitsStep}
 use Rattle.history_reading.specs.ReadWords.{word_len, first_word, after_word, after_text}
-use Rattle.history_reading.specs.ReadSteps.{mark_at, entry_at, seen_at, fetch_at, get_at, mark_found_at, look_at, shadow_at, erase_at, keys_at, put_found_at, cell_step_at, table_step_at, step_at}
+use Rattle.history_reading.specs.ReadSteps.{mark_at, entry_at, seen_at, fetch_at, get_at, mark_found_at, look_at, shadow_at, erase_at, keys_at, put_found_at, handed_at, cell_step_at, table_step_at, step_at}
 use Rattle.stamp_base.specs.declared.stores.Mark.{Mark}
 use Rattle.stamp_base.specs.declared.stores.Mark.TheVariants.{Committed, Invalid}
 use Rattle.history_book.specs.declared.item.Seen.{Seen}
 use Rattle.history_book.specs.declared.item.Seen.TheVariants.{Bare, Gone, Commit}
 use Rattle.history_book.specs.declared.item.StoreStep.{StoreStep}
-use Rattle.history_book.specs.declared.item.StoreStep.TheVariants.{Fetch, Get, MarkFound, Look, Shadow, Remove, Erase, Keys, PutFound}
+use Rattle.history_book.specs.declared.item.StoreStep.TheVariants.{Fetch, Get, MarkFound, Look, Shadow, Remove, Erase, Keys, PutFound, Handed}
 use Rattle.history_reading.proofs.NumberLemmas.{number-blank, last-stamp, two-blank, two-end, key-in, stamp-in}
 
 mark_again : (mark : Mark) → FitsMark mark → mark_at (mark_text mark) ≡ Some mark
@@ -67,6 +67,10 @@ put_found_again : (txn : ℕ) → IsStamp txn → put_found_at (decimal txn ++ c
 unfolding put_found_at
 put_found_again txn a = rw (number-blank txn (codes "invalid") (omega arith), stamp-in txn a) refl
 
+handed_again : (txn commit : ℕ) → IsStamp txn → IsStamp commit → handed_at (decimal txn ++ codes " " ++ decimal commit) ≡ Some (Handed txn commit)
+unfolding handed_at
+handed_again txn commit a b = rw (two-end [] [] txn commit (omega arith) (omega arith), stamp-in txn a, stamp-in commit b) refl
+
 pub step_again : (what : StoreStep) → FitsStep what → step_at (step_text what) ≡ Some what
 unfolding cell_step_at table_step_at first_word after_word word_len
 step_again (Fetch key cells) h = rw (fetch_again key cells h.0 h.1) refl
@@ -78,3 +82,4 @@ step_again (Remove txn) h = rw (last-stamp [] txn h) refl
 step_again (Erase key txn) h = rw (erase_again key txn h.0 h.1) refl
 step_again (Keys txn count) h = rw (keys_again txn count h.0 h.1) refl
 step_again (PutFound txn) h = rw (put_found_again txn h) refl
+step_again (Handed txn commit) h = rw (handed_again txn commit h.0 h.1) refl

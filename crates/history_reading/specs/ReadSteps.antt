@@ -7,7 +7,7 @@ use Rattle.stamp_base.specs.declared.stores.Mark.TheVariants.{Committed, Invalid
 use Rattle.history_book.specs.declared.item.Seen.{Seen}
 use Rattle.history_book.specs.declared.item.Seen.TheVariants.{Bare, Gone, Commit}
 use Rattle.history_book.specs.declared.item.StoreStep.{StoreStep}
-use Rattle.history_book.specs.declared.item.StoreStep.TheVariants.{Fetch, Get, MarkFound, Look, Shadow, Remove, Erase, Keys, PutFound}
+use Rattle.history_book.specs.declared.item.StoreStep.TheVariants.{Fetch, Get, MarkFound, Look, Shadow, Remove, Erase, Keys, PutFound, Handed}
 
 unfoldable pub mark_at : List ℕ → Option Mark
 mark_at bs = if is_word (codes "invalid") bs then Some Invalid else option_map Committed (last_stamp_at (codes "committed=") bs)
@@ -76,6 +76,13 @@ put_found_at bs = do
   txn_no ← stamp_of txn.0
   Some (PutFound txn_no)
 
+unfoldable pub handed_at : List ℕ → Option StoreStep
+handed_at bs = do
+  found ← two_fields_at (codes "") (codes " ") bs
+  txn ← stamp_of found.0
+  commit ← stamp_of found.1
+  Some (Handed txn commit)
+
 -- by the step's word
 unfoldable pub cell_step_at : List ℕ → List ℕ → Option StoreStep
 cell_step_at word bs =
@@ -90,7 +97,8 @@ table_step_at word bs =
     (if is_word (codes "mark") word then mark_found_at bs else
     (if is_word (codes "remove") word then option_map Remove (last_stamp_at (codes "") bs) else
     (if is_word (codes "keys") word then keys_at bs else
-    (if is_word (codes "put") word then put_found_at bs else None))))
+    (if is_word (codes "put") word then put_found_at bs else
+    (if is_word (codes "handed") word then handed_at bs else None)))))
 
 abbrev pub step_at : List ℕ → Option StoreStep
 step_at bs = option_or (cell_step_at (first_word bs) (after_word bs)) (table_step_at (first_word bs) (after_word bs))

@@ -6,7 +6,7 @@ use stamp_base::{NodeNo, SessionNo, Stamp, Term};
 use std::test::Fail;
 
 /// A line of each kind, of each step and of each cause.
-static LINES: [&str; 66] = [
+static LINES: [&str; 67] = [
     "take a reading=0 term=1 epoch=0 until=10 ceiling=100",
     "renew a reading=5 term=1 until=15",
     "extend a term=1 ceiling=200",
@@ -51,6 +51,7 @@ static LINES: [&str; 66] = [
     "step janitor erase k0 1",
     "step janitor keys 1 count=2",
     "step janitor put 1 invalid",
+    "step s0 handed 1 2",
     "refused s1 conflict key=k0 by=3",
     "refused s1 hidden key=k0 water=3",
     "refused s1 old-epoch start=1 epoch=100",
@@ -126,7 +127,7 @@ fn numbers_stand_where_they_belong(rt: HostRuntime) {
     assert!(rt; is_line(Item::Tick { to: u64::MAX }, "tick 18446744073709551615"));
 }
 
-static ALMOST: [&str; 24] = [
+static ALMOST: [&str; 25] = [
     "",
     "tick",
     "tick ",
@@ -151,6 +152,7 @@ static ALMOST: [&str; 24] = [
     "note s1 post p_1",
     "refused s1 conflict key=0 by=3",
     "step s1 put 1 committed=2",
+    "step s1 handed 1 commit=2",
 ];
 
 fn almost() -> &'static [&'static str] {

@@ -61,6 +61,7 @@ FitsStep (step.Remove txn) = IsStamp txn
 FitsStep (step.Erase key txn) = IsKey key × IsStamp txn
 FitsStep (step.Keys txn count) = IsStamp txn × IsNumber count
 FitsStep (step.PutFound txn) = IsStamp txn
+FitsStep (step.Handed txn commit) = IsStamp txn × IsStamp commit
 
 abbrev pub FitsCause : Cause → Type 0
 FitsCause (cause.Conflict key by) = IsKey key × IsStamp by

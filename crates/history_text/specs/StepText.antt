@@ -6,7 +6,7 @@ use Rattle.stamp_base.specs.declared.stores.Mark.TheVariants.{Committed, Invalid
 use Rattle.history_book.specs.declared.item.Seen.{Seen}
 use Rattle.history_book.specs.declared.item.Seen.TheVariants.{Bare, Gone, Commit}
 use Rattle.history_book.specs.declared.item.StoreStep.{StoreStep}
-use Rattle.history_book.specs.declared.item.StoreStep.TheVariants.{Fetch, Get, MarkFound, Look, Shadow, Remove, Erase, Keys, PutFound}
+use Rattle.history_book.specs.declared.item.StoreStep.TheVariants.{Fetch, Get, MarkFound, Look, Shadow, Remove, Erase, Keys, PutFound, Handed}
 
 abbrev pub mark_text : Mark → List ℕ
 mark_text (Committed commit) = codes "committed=" ++ decimal commit
@@ -31,3 +31,4 @@ step_text (Remove txn) = codes "remove " ++ decimal txn
 step_text (Erase key txn) = codes "erase " ++ key_text key ++ codes " " ++ decimal txn
 step_text (Keys txn count) = codes "keys " ++ decimal txn ++ codes " count=" ++ decimal count
 step_text (PutFound txn) = codes "put " ++ decimal txn ++ codes " invalid"
+step_text (Handed txn commit) = codes "handed " ++ decimal txn ++ codes " " ++ decimal commit

@@ -84,6 +84,7 @@ step_utf8 (step.Remove txn) h = field (codes "remove ") txn refl (stamp_small tx
 step_utf8 (step.Erase key txn) h = two_fields (codes "erase k") key (codes " ") txn refl (key_small key h.0) refl (stamp_small txn h.1)
 step_utf8 (step.Keys txn count) h = two_fields (codes "keys ") txn (codes " count=") count refl (stamp_small txn h.0) refl h.1
 step_utf8 (step.PutFound txn) h = IsUtf8-append (codes "put " ++ decimal txn) (codes " invalid") (field (codes "put ") txn refl (stamp_small txn h)) (words (codes " invalid") refl)
+step_utf8 (step.Handed txn commit) h = two_fields (codes "handed ") txn (codes " ") commit refl (stamp_small txn h.0) refl (stamp_small commit h.1)
 
 pub cause_utf8 : (cause : Cause) → FitsCause cause → IsUtf8 (cause_text cause)
 cause_utf8 (cause.Conflict key by) h = two_fields (codes "conflict key=k") key (codes " by=") by refl (key_small key h.0) refl (stamp_small by h.1)

@@ -1,5 +1,5 @@
 // A node accepts a session's request.
-ghost use Rattle.std.specs.Prelude.{Some};
+ghost use Rattle.std.specs.Prelude.{◌≡◌, Some};
 ghost use Rattle.oracle_parts.specs.Instance.{held_of};
 ghost use Rattle.oracle_parts.specs.InstanceSteps.{instance_accept};
 ghost use Rattle.machine.specs.Events.Accept.{accept_on, accept_request, accept_by};
@@ -24,8 +24,9 @@ pub fn accept(
     reading: u64,
 ) -> Result<(), Stopped>
     requires { WaitsAt post.old session client.old.entry }
-    ensures { Makes (accept_on node session reading post.old client.old) (post.old, client.old) (post.new, client.new)
+    ensures made { Makes (accept_on node session reading post.old client.old) (post.old, client.old) (post.new, client.new)
         book.old.items book.new.items result }
+    ensures spare { book.new.spare ≡ book.old.spare }
 {
     match &mut post.instance {
         None => ledger::refuse(book, Actor::Node(node), Cause::NoOracle { node }),
@@ -42,8 +43,9 @@ fn accept_at(
     reading: u64,
 ) -> Result<(), Stopped>
     requires { WaitsFor (held_of instance.old session) client.old.entry }
-    ensures { Makes (accept_request node session reading instance.old client.old (held_of instance.old session))
+    ensures made { Makes (accept_request node session reading instance.old client.old (held_of instance.old session))
         (Some instance.old, client.old) (Some instance.new, client.new) book.old.items book.new.items result }
+    ensures spare { book.new.spare ≡ book.old.spare }
 {
     match instance.held(session) {
         None => ledger::refuse(book, Actor::Node(node), Cause::NoRequest { session }),
@@ -69,14 +71,15 @@ fn accept_held(
     request: &Request,
 ) -> Result<(), Stopped>
     requires { Waits request.now client.old.entry }
-    ensures { Makes (accept_by node session reading request.now (instance_accept instance.old session reading).left client.old (instance_accept instance.old session reading).answer)
+    ensures made { Makes (accept_by node session reading request.now (instance_accept instance.old session reading).left client.old (instance_accept instance.old session reading).answer)
         (Some instance.old, client.old) (Some instance.new, client.new) book.old.items book.new.items result }
+    ensures spare { book.new.spare ≡ book.old.spare }
 {
-    ledger::make_room(book, 1)?;
+    book.make_room(1)?;
     let accepted = instance.accept(session, reading);
     match &accepted {
         Ok(()) => {
-            book.append_reserved(Item::Accept {
+            book.append_in_room(Item::Accept {
                 session,
                 node,
                 term: instance.term(),

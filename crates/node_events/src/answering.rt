@@ -25,8 +25,9 @@ pub fn answer(
     session: SessionNo,
 ) -> Result<(), Stopped>
     requires { WaitsAt post.old session client.old.entry }
-    ensures { Makes (answer_on node session post.old client.old) (post.old, client.old) (post.new, client.new)
+    ensures made { Makes (answer_on node session post.old client.old) (post.old, client.old) (post.new, client.new)
         book.old.items book.new.items result }
+    ensures spare { book.new.spare ≡ book.old.spare }
 {
     match &mut post.instance {
         None => ledger::refuse(book, Actor::Node(node), Cause::NoOracle { node }),
@@ -42,8 +43,9 @@ fn answer_at(
     session: SessionNo,
 ) -> Result<(), Stopped>
     requires { WaitsFor (held_of instance.old session) client.old.entry }
-    ensures { Makes (answer_request node session instance.old client.old (stamps_at instance.old session))
+    ensures made { Makes (answer_request node session instance.old client.old (stamps_at instance.old session))
         (Some instance.old, client.old) (Some instance.new, client.new) book.old.items book.new.items result }
+    ensures spare { book.new.spare ≡ book.old.spare }
 {
     match instance.drawn(session) {
         None => ledger::refuse(book, Actor::Node(node), Cause::NoRequest { session }),
@@ -62,10 +64,11 @@ fn answer_drawn(
     start: Stamp,
 ) -> Result<(), Stopped>
     requires { WaitsFor (held_of instance.old session) client.old.entry }
-    ensures { Makes (answer_by node session start client.old instance.old (instance_answer instance.old session).left (instance_answer instance.old session).answer)
+    ensures made { Makes (answer_by node session start client.old instance.old (instance_answer instance.old session).left (instance_answer instance.old session).answer)
         (Some instance.old, client.old) (Some instance.new, client.new) book.old.items book.new.items result }
+    ensures spare { book.new.spare ≡ book.old.spare }
 {
-    ledger::make_room(book, 1)?;
+    book.make_room(1)?;
     let told = instance.told_not_yet(session);
     let answer = instance.answer(session);
     match &answer {
@@ -87,20 +90,21 @@ fn tell_reply(
     start: Stamp,
     reply: &Reply,
 ) -> Result<(), Stopped>
-    requires { 1 ≤ book.old.spare }
+    requires { 1 ≤ book.old.room }
     ensures items { book.new.items ≡ book.old.items ++ (reply_told session start reply.now).items }
+    ensures spare { book.new.spare ≡ book.old.spare }
     ensures answer { result ≡ ended (reply_told session start reply.now).stop }
 {
     match reply {
         Reply::Begun { start, .. } => {
-            book.append_reserved(Item::Begin {
+            book.append_in_room(Item::Begin {
                 session,
                 start: *start,
             });
             Ok(())
         }
         Reply::Committed { commit } => {
-            book.append_reserved(Item::Committed {
+            book.append_in_room(Item::Committed {
                 session,
                 start,
                 commit: *commit,

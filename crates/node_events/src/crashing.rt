@@ -23,14 +23,15 @@ pub fn crash(
     node: NodeNo,
 ) -> Result<(), Stopped>
     requires { (n : ℕ) (c : state.Client) → slice_get clients.old n ≡ Some c → WaitsAt post.old n c.entry }
-    ensures { Makes (crash_on node post.old clients.old) (post.old, clients.old) (post.new, clients.new)
+    ensures made { Makes (crash_on node post.old clients.old) (post.old, clients.old) (post.new, clients.new)
         book.old.items book.new.items result }
+    ensures spare { book.new.spare ≡ book.old.spare }
 {
     match &post.instance {
         None => ledger::refuse(book, Actor::Node(node), Cause::NoOracle { node }),
         Some(instance) => {
             // The crash, and at most one refusal for each session.
-            ledger::make_room(book, SessionNo::COUNT + 1)?;
+            book.make_room(SessionNo::COUNT + 1)?;
             lose_all(book, instance, clients, node);
             post.crashed();
             Ok(())
@@ -40,13 +41,14 @@ pub fn crash(
 
 /// All requests of the instance are lost.
 fn lose_all(book: &mut Book, instance: &Instance, clients: &mut [Client], node: NodeNo)
-    requires room { 17 ≤ book.old.spare }
+    requires room { 17 ≤ book.old.room }
     requires waits { (n : ℕ) (c : state.Client) → slice_get clients.old n ≡ Some c → WaitsFor (held_of instance.now n) c.entry }
     ensures clients { clients.new ≡ crashed_clients instance.now.requests clients.old }
     ensures items { book.new.items ≡ book.old.items ++ (Item.Crash node instance.now.term ∷ all_crashed_items node instance.now.term instance.now.requests clients.old) }
+    ensures spare { book.new.spare ≡ book.old.spare }
 {
     let term = instance.term();
-    book.append_reserved(Item::Crash { node, term });
+    book.append_in_room(Item::Crash { node, term });
     let requests = instance.requests();
     for i in 0..clients.len().min(requests.len()) {
         let client = &mut clients[i];
@@ -56,11 +58,12 @@ fn lose_all(book: &mut Book, instance: &Instance, clients: &mut [Client], node: 
 
 /// The client loses its request, where one was held.
 fn lose(book: &mut Book, client: &mut Client, node: NodeNo, term: Term, held: &Option<Held>)
-    requires room { 1 ≤ book.old.spare }
+    requires room { 1 ≤ book.old.room }
     requires waits { WaitsFor held.now client.old.entry }
     ensures client { client.new ≡ crashed_client held.now client.old }
     ensures items { book.new.items ≡ book.old.items ++ crashed_items node term held.now client.old }
-    ensures room { book.old.spare ≤ book.new.spare + 1 }
+    ensures spare { book.new.spare ≡ book.old.spare }
+    ensures room { book.old.room ≤ book.new.room + 1 }
 {
     match held {
         None => {}
@@ -69,11 +72,12 @@ fn lose(book: &mut Book, client: &mut Client, node: NodeNo, term: Term, held: &O
 }
 
 fn lose_request(book: &mut Book, client: &mut Client, node: NodeNo, term: Term, request: &Request)
-    requires room { 1 ≤ book.old.spare }
+    requires room { 1 ≤ book.old.room }
     requires waits { Waits request.now client.old.entry }
     ensures client { client.new ≡ after_loss request.now client.old }
     ensures items { book.new.items ≡ book.old.items ++ loss_items node term request.now client.old }
-    ensures room { book.old.spare ≤ book.new.spare + 1 }
+    ensures spare { book.new.spare ≡ book.old.spare }
+    ensures room { book.old.room ≤ book.new.room + 1 }
 {
     if client.state() == State::Gone {
         return;
@@ -81,14 +85,14 @@ fn lose_request(book: &mut Book, client: &mut Client, node: NodeNo, term: Term, 
     match request {
         Request::Begin { session } => {
             client.freed();
-            book.append_reserved(Item::Refused {
+            book.append_in_room(Item::Refused {
                 actor: Actor::Session(*session),
                 cause: Cause::Crashed { node, term },
             });
         }
         Request::Commit { session, start, .. } => {
             client.opened();
-            book.append_reserved(Item::Refused {
+            book.append_in_room(Item::Refused {
                 actor: Actor::Session(*session),
                 cause: Cause::Open { start: *start },
             });

@@ -25,8 +25,9 @@ pub fn decide(
     session: SessionNo,
 ) -> Result<(), Stopped>
     requires { WaitsAt post.old session client.old.entry }
-    ensures { Makes (decide_on node session post.old client.old) (post.old, client.old) (post.new, client.new)
+    ensures made { Makes (decide_on node session post.old client.old) (post.old, client.old) (post.new, client.new)
         book.old.items book.new.items result }
+    ensures spare { book.new.spare ≡ book.old.spare }
 {
     match &mut post.instance {
         None => ledger::refuse(book, Actor::Node(node), Cause::NoOracle { node }),
@@ -42,8 +43,9 @@ fn decide_at(
     session: SessionNo,
 ) -> Result<(), Stopped>
     requires { WaitsFor (held_of instance.old session) client.old.entry }
-    ensures { Makes (decide_request node session instance.old client.old (held_of instance.old session))
+    ensures made { Makes (decide_request node session instance.old client.old (held_of instance.old session))
         (Some instance.old, client.old) (Some instance.new, client.new) book.old.items book.new.items result }
+    ensures spare { book.new.spare ≡ book.old.spare }
 {
     match instance.held(session) {
         None => ledger::refuse(book, Actor::Node(node), Cause::NoRequest { session }),
@@ -60,15 +62,16 @@ fn decide_held(
     held: &Held,
 ) -> Result<(), Stopped>
     requires { Waits held.now.request client.old.entry }
-    ensures { Makes (decide_by node session held.now (instance_decide instance.old session).left client.old (instance_decide instance.old session).answer)
+    ensures made { Makes (decide_by node session held.now (instance_decide instance.old session).left client.old (instance_decide instance.old session).answer)
         (Some instance.old, client.old) (Some instance.new, client.new) book.old.items book.new.items result }
+    ensures spare { book.new.spare ≡ book.old.spare }
 {
-    ledger::make_room(book, 1)?;
+    book.make_room(1)?;
     let decided = instance.decide(session);
     match &decided {
         Ok(drawn) => {
             let stamp = stamp_drawn(drawn);
-            book.append_reserved(draw_item(node, instance.term(), &held.request, stamp));
+            book.append_in_room(draw_item(node, instance.term(), &held.request, stamp));
             Ok(())
         }
         Err(cause @ Cause::NoRequest { .. }) => ledger::tell(book, Actor::Node(node), *cause),

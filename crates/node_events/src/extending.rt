@@ -29,6 +29,7 @@ pub fn extend<W: Weather>(
     ensures made { (setup : SetupNumbers) → master.old.rules ≡ rules_of setup →
         Makes (extend_on setup node (W.ahead weather.old Store.Master 0) post.old master.old.state)
         (post.old, master.old.state) (post.new, master.new.state) book.old.items book.new.items result }
+    ensures spare { book.new.spare ≡ book.old.spare }
     ensures rules { master.new.rules ≡ master.old.rules }
     ensures asked { Asks result (extend_asks post.old) (W.ahead weather.old) (W.ahead weather.new)
         (W.faults weather.old) (W.faults weather.new) }
@@ -50,18 +51,19 @@ fn extend_held<W: Weather>(
     ensures made { (setup : SetupNumbers) → master.old.rules ≡ rules_of setup →
         Makes (extend_at setup node (W.ahead weather.old Store.Master 0) instance.old master.old.state)
         (Some instance.old, master.old.state) (Some instance.new, master.new.state) book.old.items book.new.items result }
+    ensures spare { book.new.spare ≡ book.old.spare }
     ensures rules { master.new.rules ≡ master.old.rules }
     ensures asked { Asks result (Some Store.Master) (W.ahead weather.old) (W.ahead weather.new)
         (W.faults weather.old) (W.faults weather.new) }
 {
-    ledger::make_room(book, 2)?;
+    book.make_room(2)?;
     let term = instance.term();
     let extension = master.extension_of(term);
     let fate = ledger::fate_of(weather, Store::Master);
     match master.extend(&mut OneFate::new(fate), term) {
         Ok(ceiling) => {
             instance.widened(ceiling);
-            book.append_reserved(extend_item(node, term, ceiling));
+            book.append_in_room(extend_item(node, term, ceiling));
             Ok(())
         }
         Err(ExtendRefused::StoreFault) => {

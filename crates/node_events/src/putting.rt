@@ -27,6 +27,7 @@ pub fn put<W: Weather>(
 ) -> Result<(), Stopped>
     ensures made { Makes (put_on node session (W.ahead weather.old Store.Table 0) post.old table.old.pairs)
         (post.old, table.old.pairs) (post.new, table.new.pairs) book.old.items book.new.items result }
+    ensures spare { book.new.spare ≡ book.old.spare }
     ensures places { table.new.places ≡ table.old.places }
     ensures asked { Asks result (put_asks session post.old) (W.ahead weather.old) (W.ahead weather.new)
         (W.faults weather.old) (W.faults weather.new) }
@@ -47,6 +48,7 @@ fn put_at<W: Weather>(
 ) -> Result<(), Stopped>
     ensures made { Makes (put_commit node session (W.ahead weather.old Store.Table 0) instance.old table.old.pairs (to_place_of (held_of instance.old session)))
         (Some instance.old, table.old.pairs) (Some instance.new, table.new.pairs) book.old.items book.new.items result }
+    ensures spare { book.new.spare ≡ book.old.spare }
     ensures places { table.new.places ≡ table.old.places }
     ensures asked { Asks result (commit_asks (to_place_of (held_of instance.old session))) (W.ahead weather.old) (W.ahead weather.new)
         (W.faults weather.old) (W.faults weather.new) }
@@ -71,21 +73,22 @@ fn put_drawn<W: Weather>(
 ) -> Result<(), Stopped>
     ensures made { Makes (put_commit node session (W.ahead weather.old Store.Table 0) instance.old table.old.pairs (Some (start, commit)))
         (Some instance.old, table.old.pairs) (Some instance.new, table.new.pairs) book.old.items book.new.items result }
+    ensures spare { book.new.spare ≡ book.old.spare }
     ensures places { table.new.places ≡ table.old.places }
     ensures asked { Asks result (Some Store.Table) (W.ahead weather.old) (W.ahead weather.new)
         (W.faults weather.old) (W.faults weather.new) }
 {
-    ledger::make_room(book, 2)?;
+    book.make_room(2)?;
     let before = table.mark_of(start);
     match table.put_if_absent(weather, start, Mark::Committed(commit)) {
         Ok(Put::Placed) => {
             settle(instance, session, Settled::Placed);
-            book.append_reserved(Item::Placed { start, commit });
+            book.append_in_room(Item::Placed { start, commit });
             Ok(())
         }
         Ok(Put::Found(_)) => {
             settle(instance, session, Settled::Invalid);
-            book.append_reserved(Item::Step {
+            book.append_in_room(Item::Step {
                 actor: Actor::Node(node),
                 what: StoreStep::PutFound { txn: start },
             });

@@ -30,6 +30,7 @@ pub fn renew<W: Weather>(
     ensures made { (setup : SetupNumbers) → master.old.rules ≡ rules_of setup →
         Makes (renew_on setup node reading (W.ahead weather.old Store.Master 0) post.old master.old.state)
         (post.old, master.old.state) (post.new, master.new.state) book.old.items book.new.items result }
+    ensures spare { book.new.spare ≡ book.old.spare }
     ensures rules { master.new.rules ≡ master.old.rules }
     ensures asked { Asks result (renew_asks post.old) (W.ahead weather.old) (W.ahead weather.new)
         (W.faults weather.old) (W.faults weather.new) }
@@ -52,18 +53,19 @@ fn renew_held<W: Weather>(
     ensures made { (setup : SetupNumbers) → master.old.rules ≡ rules_of setup →
         Makes (renew_at setup node reading (W.ahead weather.old Store.Master 0) instance.old master.old.state)
         (Some instance.old, master.old.state) (Some instance.new, master.new.state) book.old.items book.new.items result }
+    ensures spare { book.new.spare ≡ book.old.spare }
     ensures rules { master.new.rules ≡ master.old.rules }
     ensures asked { Asks result (Some Store.Master) (W.ahead weather.old) (W.ahead weather.new)
         (W.faults weather.old) (W.faults weather.new) }
 {
-    ledger::make_room(book, 2)?;
+    book.make_room(2)?;
     let term = instance.term();
     let renewal = master.renewal_at(term, reading);
     let fate = ledger::fate_of(weather, Store::Master);
     match master.renew(&mut OneFate::new(fate), term, reading) {
         Ok(until) => {
             instance.renewed(until);
-            book.append_reserved(renew_item(node, reading, term, until));
+            book.append_in_room(renew_item(node, reading, term, until));
             Ok(())
         }
         Err(RenewRefused::StoreFault) => {
@@ -83,10 +85,11 @@ pub(crate) fn stop(
     node: NodeNo,
     cause: Cause,
 ) -> Result<(), Stopped>
-    requires room { 1 ≤ book.old.spare }
+    requires room { 1 ≤ book.old.room }
     requires cause { IsStop cause }
     ensures instance { instance.new ≡ instance_stopped instance.old cause }
     ensures items { book.new.items ≡ book.old.items ++ Item.Refused (Actor.Node node) cause ∷ [] }
+    ensures spare { book.new.spare ≡ book.old.spare }
     ensures answer { result ≡ Err (Stopped.Refused cause) }
 {
     let kept = cause;

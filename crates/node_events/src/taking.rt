@@ -32,6 +32,7 @@ pub fn take<W: Weather>(
     requires rules { master.old.rules ≡ rules_of (numbers_of setup.now) }
     ensures made { Makes (take_on (numbers_of setup.now) node reading (W.ahead weather.old Store.Master 0) post.old master.old.state)
         (post.old, master.old.state) (post.new, master.new.state) book.old.items book.new.items result }
+    ensures spare { book.new.spare ≡ book.old.spare }
     ensures rules { master.new.rules ≡ master.old.rules }
     ensures asked { Asks result (take_asks post.old) (W.ahead weather.old) (W.ahead weather.new)
         (W.faults weather.old) (W.faults weather.new) }
@@ -58,18 +59,19 @@ fn take_vacant<W: Weather>(
     requires vacant { post.old ≡ None }
     ensures made { Makes (take_vacant_on (numbers_of setup.now) node reading (W.ahead weather.old Store.Master 0) master.old.state)
         (None, master.old.state) (post.new, master.new.state) book.old.items book.new.items result }
+    ensures spare { book.new.spare ≡ book.old.spare }
     ensures rules { master.new.rules ≡ master.old.rules }
     ensures asked { Asks result (Some Store.Master) (W.ahead weather.old) (W.ahead weather.new)
         (W.faults weather.old) (W.faults weather.new) }
 {
-    ledger::make_room(book, 2)?;
+    book.make_room(2)?;
     let granted = master.grant_at(reading);
     let opened = open_granted(alloc, setup, node, &granted)?;
     let fate = ledger::fate_of(weather, Store::Master);
     match master.take(&mut OneFate::new(fate), node, reading) {
         Ok(grant) => {
             serve(post, opened);
-            book.append_reserved(take_item(node, reading, &grant));
+            book.append_in_room(take_item(node, reading, &grant));
             Ok(())
         }
         Err(TakeRefused::StoreFault) => {

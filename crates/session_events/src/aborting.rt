@@ -1,4 +1,5 @@
 // A session ends its transaction without a commit.
+ghost use Rattle.std.specs.Prelude.{◌≡◌};
 ghost use Rattle.machine.specs.Events.Abort.{abort_on};
 ghost use Rattle.event_parts.specs.Made.{Makes};
 
@@ -8,7 +9,8 @@ use stamp_base::SessionNo;
 
 /// The session ends its transaction: refused as gone, without a transaction or busy. What it wrote is to be undone.
 pub fn abort(book: &mut Book, client: &mut Client, session: SessionNo) -> Result<(), Stopped>
-    ensures { Makes (abort_on session client.old) client.old client.new book.old.items book.new.items result }
+    ensures made { Makes (abort_on session client.old) client.old client.new book.old.items book.new.items result }
+    ensures spare { book.new.spare ≡ book.old.spare }
 {
     if let Err(cause) = client.check_work() {
         return ledger::refuse(book, Actor::Session(session), cause);

@@ -22,8 +22,9 @@ pub fn ask_begin(
     node: NodeNo,
 ) -> Result<(), Stopped>
     requires { begin_refusal client.old.entry.state ≡ None → HoldsNone post.old session }
-    ensures { Makes (ask_begin_on session node client.old post.old) (client.old, post.old) (client.new, post.new)
+    ensures made { Makes (ask_begin_on session node client.old post.old) (client.old, post.old) (client.new, post.new)
         book.old.items book.new.items result }
+    ensures spare { book.new.spare ≡ book.old.spare }
 {
     if let Err(cause) = client.check_begin() {
         return ledger::refuse(book, Actor::Session(session), cause);
@@ -49,14 +50,15 @@ pub(crate) fn ask(
 ) -> Result<(), Stopped>
     requires client { CanAsk client.old.entry }
     requires instance { CanAskOf instance.old request }
-    ensures { Makes (asked_by session client.old asked (instance_ask instance.old request) (instance_ask instance.old request).answer)
+    ensures made { Makes (asked_by session client.old asked (instance_ask instance.old request) (instance_ask instance.old request).answer)
         (client.old, Some instance.old) (client.new, Some instance.new) book.old.items book.new.items result }
+    ensures spare { book.new.spare ≡ book.old.spare }
 {
-    ledger::make_room(book, 1)?;
+    book.make_room(1)?;
     match instance.ask(request) {
         Ok(()) => {
             client.asked();
-            book.append_reserved(asked);
+            book.append_in_room(asked);
             Ok(())
         }
         Err(cause) => ledger::tell(book, Actor::Session(session), cause),

@@ -25,8 +25,9 @@ pub fn ask_commit(
     node: NodeNo,
 ) -> Result<(), Stopped>
     requires { work_refusal client.old.entry.state (is_reading client.old) ≡ None → HoldsNone post.old session }
-    ensures { Makes (ask_commit_on session node client.old post.old) (client.old, post.old) (client.new, post.new)
+    ensures made { Makes (ask_commit_on session node client.old post.old) (client.old, post.old) (client.new, post.new)
         book.old.items book.new.items result }
+    ensures spare { book.new.spare ≡ book.old.spare }
 {
     if let Err(cause) = client.check_work() {
         return ledger::refuse(book, Actor::Session(session), cause);
@@ -47,8 +48,9 @@ fn commit_open(
 ) -> Result<(), Stopped>
     requires open { client.old.entry.state ≡ Open }
     requires free { HoldsNone post.old session }
-    ensures { Makes (commit_of session node client.old start client.old.entry.keys post.old) (client.old, post.old) (client.new, post.new)
+    ensures made { Makes (commit_of session node client.old start client.old.entry.keys post.old) (client.old, post.old) (client.new, post.new)
         book.old.items book.new.items result }
+    ensures spare { book.new.spare ≡ book.old.spare }
 {
     if client.keys().as_slice().is_empty() {
         let how = Ending::ReadOnly;
@@ -77,8 +79,9 @@ fn commit_written(
     requires open { client.old.entry.state ≡ Open }
     requires written { client.old.entry.keys ≢ [] }
     requires free { HoldsNone (Some instance.old) session }
-    ensures { Makes (commit_asked session node client.old start (Some instance.old)) (client.old, Some instance.old) (client.new, Some instance.new)
+    ensures made { Makes (commit_asked session node client.old start (Some instance.old)) (client.old, Some instance.old) (client.new, Some instance.new)
         book.old.items book.new.items result }
+    ensures spare { book.new.spare ≡ book.old.spare }
 {
     let request = Request::Commit {
         session,

@@ -1,5 +1,5 @@
 // A session begins a read.
-ghost use Rattle.std.specs.Prelude.{false};
+ghost use Rattle.std.specs.Prelude.{◌≡◌, false};
 ghost use Rattle.store_parts.specs.Rows.{fetched};
 ghost use Rattle.machine.specs.Events.Fetch.{fetch_on, fetch_by, fetch_asks};
 ghost use Rattle.event_parts.specs.Made.{Makes, Asks};
@@ -23,6 +23,7 @@ pub fn fetch<W: Weather>(
 ) -> Result<(), Stopped>
     ensures made { Makes (fetch_on false session key (W.ahead weather.old Store.Cells 0) client.old cells.now.rows)
         client.old client.new book.old.items book.new.items result }
+    ensures spare { book.new.spare ≡ book.old.spare }
     ensures asked { Asks result (fetch_asks client.old) (W.ahead weather.old) (W.ahead weather.new)
         (W.faults weather.old) (W.faults weather.new) }
 {
@@ -49,10 +50,11 @@ fn fetch_open<W: Weather>(
 ) -> Result<(), Stopped>
     ensures made { Makes (fetch_by false session start epoch key (W.ahead weather.old Store.Cells 0) client.old (fetched cells.now.rows key start))
         client.old client.new book.old.items book.new.items result }
+    ensures spare { book.new.spare ≡ book.old.spare }
     ensures asked { Asks result (Some Store.Cells) (W.ahead weather.old) (W.ahead weather.new)
         (W.faults weather.old) (W.faults weather.new) }
 {
-    ledger::make_room(book, 2)?;
+    book.make_room(2)?;
     match cells.fetch_front(weather, key, start) {
         Ok(front) => {
             let what = StoreStep::Fetch {
@@ -60,7 +62,7 @@ fn fetch_open<W: Weather>(
                 cells: front.versions,
             };
             let (run, next) = ReadRun::start(key, start, epoch, front.cells);
-            book.append_reserved(Item::Step {
+            book.append_in_room(Item::Step {
                 actor: Actor::Session(session),
                 what,
             });

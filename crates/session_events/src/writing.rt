@@ -24,6 +24,7 @@ pub fn write<W: Weather>(
     requires { write_refused client.old key ≡ None → IfSome client.old.entry.start (λ start. IsBare cells.old.rows key start) }
     ensures made { Makes (write_on session key value (W.ahead weather.old Store.Cells 0) client.old cells.old.rows)
         (client.old, cells.old.rows) (client.new, cells.new.rows) book.old.items book.new.items result }
+    ensures spare { book.new.spare ≡ book.old.spare }
     ensures asked { Asks result (write_asks key client.old) (W.ahead weather.old) (W.ahead weather.new)
         (W.faults weather.old) (W.faults weather.new) }
 {
@@ -50,14 +51,15 @@ fn write_open<W: Weather>(
     requires bare { IsBare cells.old.rows key start }
     ensures made { Makes (write_open_on session key value (W.ahead weather.old Store.Cells 0) client.old cells.old.rows None (Some start))
         (client.old, cells.old.rows) (client.new, cells.new.rows) book.old.items book.new.items result }
+    ensures spare { book.new.spare ≡ book.old.spare }
     ensures asked { Asks result (Some Store.Cells) (W.ahead weather.old) (W.ahead weather.new)
         (W.faults weather.old) (W.faults weather.new) }
 {
-    ledger::make_room(book, 2)?;
+    book.make_room(2)?;
     match cells.put(weather, key, start, value) {
         Ok(()) => {
             client.wrote(key);
-            book.append_reserved(Item::Write {
+            book.append_in_room(Item::Write {
                 session,
                 start,
                 key,
@@ -76,15 +78,16 @@ fn write_open<W: Weather>(
 
 /// The write failed, and its transaction has ended.
 fn tell_failed(book: &mut Book, session: SessionNo, start: Stamp) -> Result<(), Stopped>
-    requires { 2 ≤ book.old.spare }
+    requires { 2 ≤ book.old.room }
     ensures items { book.new.items ≡ book.old.items ++ Item.Fault (Actor.Session session) Store.Cells ∷ Item.End session start Ending.Aborted ∷ [] }
+    ensures spare { book.new.spare ≡ book.old.spare }
     ensures answer { result ≡ Err (Stopped.StoreFault Store.Cells) }
 {
     let actor = Actor::Session(session);
     let store = Store::Cells;
-    book.append_reserved(Item::Fault { actor, store });
+    book.append_in_room(Item::Fault { actor, store });
     let how = Ending::Aborted;
-    book.append_reserved(Item::End {
+    book.append_in_room(Item::End {
         session,
         start,
         how,

@@ -27,13 +27,14 @@ pub(crate) fn meet<W: Weather>(
     cells: &mut Cells,
     table: &mut Table,
 ) -> Result<Told, StoreError>
-    requires room { 2 ≤ book.old.spare }
+    requires room { 2 ≤ book.old.room }
     requires shadow { KeepsShadow ask.now cells.old.rows }
     requires no_listing { IsKeys ask.now → ⊥ }
     ensures met { UnlessNoMemory result (IsMet (steps.met actor ask.now (W.ahead weather.old (steps.store_of ask.now) 0)
         cells.old.rows table.old.pairs) cells.new.rows table.new.pairs book.old.items book.new.items (answer_of result)) }
+    ensures spare { book.new.spare ≡ book.old.spare }
     ensures fits { IfOk result (λ answer. Fits ask.now answer) }
-    ensures room { OnOk result (1 ≤ book.new.spare) }
+    ensures room { OnOk result (1 ≤ book.new.room) }
     ensures places { table.new.places ≡ table.old.places }
     ensures call { UnlessNoMemory result (AsksOnce (steps.store_of ask.now) (W.ahead weather.old) (W.ahead weather.new)
         (W.faults weather.old) (W.faults weather.new)) }
@@ -44,7 +45,7 @@ pub(crate) fn meet<W: Weather>(
     match call(weather, ask, cells, table) {
         Ok(answer) => {
             let item = step_item(actor, ask, &answer);
-            book.append_reserved(item);
+            book.append_in_room(item);
             Ok(answer)
         }
         Err(StoreError::StoreFault) => {

@@ -24,6 +24,7 @@ pub fn heal<W: Weather>(
     requires { IfSome (offer_of client.old) (λ offer. HasOnly cells.old.rows offer.0 offer.1 offer.2) }
     ensures made { (pairs : Pairs) → Makes (heal_on session (W.ahead weather.old Store.Cells 0) client.old cells.old.rows pairs)
         (client.old, cells.old.rows) (client.new, cells.new.rows) book.old.items book.new.items result }
+    ensures spare { book.new.spare ≡ book.old.spare }
     ensures asked { Asks result (heal_asks client.old) (W.ahead weather.old) (W.ahead weather.new)
         (W.faults weather.old) (W.faults weather.new) }
 {
@@ -52,17 +53,18 @@ fn heal_offered<W: Weather>(
     requires { HasOnly cells.old.rows key txn commit }
     ensures made { (pairs : Pairs) → Makes (heal_at session (W.ahead weather.old Store.Cells 0) client.old cells.old.rows pairs (Some (key, txn, commit)))
         (client.old, cells.old.rows) (client.new, cells.new.rows) book.old.items book.new.items result }
+    ensures spare { book.new.spare ≡ book.old.spare }
     ensures asked { Asks result (Some Store.Cells) (W.ahead weather.old) (W.ahead weather.new)
         (W.faults weather.old) (W.faults weather.new) }
 {
-    ledger::make_room(book, 2)?;
+    book.make_room(2)?;
     let set = cells.set_shadow(weather, key, txn, commit);
     client.offers_none();
     let actor = Actor::Session(session);
     match set {
         Ok(()) => {
             let what = StoreStep::Shadow { key, txn, commit };
-            book.append_reserved(Item::Step { actor, what });
+            book.append_in_room(Item::Step { actor, what });
             Ok(())
         }
         Err(StoreFault) => ledger::fail(book, actor, Store::Cells, None),

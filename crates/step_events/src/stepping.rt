@@ -30,6 +30,7 @@ pub fn step<W: Weather>(
     requires shadow { MayStep client.old → KeepsShadowNext (next_of (work_of client.old)) cells.old.rows }
     ensures made { Makes (step_on session (fate_ahead (step_asks client.old) (W.ahead weather.old)) client.old cells.old.rows table.old.pairs)
         (client.old, cells.old.rows, table.old.pairs) (client.new, cells.new.rows, table.new.pairs) book.old.items book.new.items result }
+    ensures spare { book.new.spare ≡ book.old.spare }
     ensures places { table.new.places ≡ table.old.places }
     ensures asked { Asks result (step_asks client.old) (W.ahead weather.old) (W.ahead weather.new)
         (W.faults weather.old) (W.faults weather.new) }
@@ -37,7 +38,7 @@ pub fn step<W: Weather>(
     if let Err(cause) = client.check_step() {
         return ledger::refuse(book, Actor::Session(session), cause);
     }
-    ledger::make_room(book, 2)?;
+    book.make_room(2)?;
     match client.next() {
         None => Ok(()),
         Some(ask) => step_asked(weather, book, client, cells, table, session, &ask),
@@ -54,13 +55,14 @@ fn step_asked<W: Weather>(
     session: SessionNo,
     ask: &Ask,
 ) -> Result<(), Stopped>
-    requires room { 2 ≤ book.old.spare }
+    requires room { 2 ≤ book.old.room }
     requires next { next_of (work_of client.old) ≡ Some ask.now }
     requires no_listing { IsKeys ask.now → ⊥ }
     requires work { CanWork (work_of client.old) client.old.entry }
     requires shadow { KeepsShadow ask.now cells.old.rows }
     ensures made { Makes (step_at session (W.ahead weather.old (steps.store_of ask.now) 0) client.old cells.old.rows table.old.pairs (work_of client.old))
         (client.old, cells.old.rows, table.old.pairs) (client.new, cells.new.rows, table.new.pairs) book.old.items book.new.items result }
+    ensures spare { book.new.spare ≡ book.old.spare }
     ensures places { table.new.places ≡ table.old.places }
     ensures asked { Asks result (Some (steps.store_of ask.now)) (W.ahead weather.old) (W.ahead weather.new)
         (W.faults weather.old) (W.faults weather.new) }

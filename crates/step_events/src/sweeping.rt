@@ -30,7 +30,8 @@ pub fn sweep_open(
     node: NodeNo,
     txn: TxnId,
 ) -> Result<(), Stopped>
-    ensures { Makes (sweep_open_on node txn post.now sweep.old) sweep.old sweep.new book.old.items book.new.items result }
+    ensures made { Makes (sweep_open_on node txn post.now sweep.old) sweep.old sweep.new book.old.items book.new.items result }
+    ensures spare { book.new.spare ≡ book.old.spare }
 {
     if sweep.is_some() {
         return ledger::refuse(book, Actor::Janitor, Cause::Busy);
@@ -56,6 +57,7 @@ pub fn sweep_step<W: Weather>(
     requires { IfSome sweep.old (λ s. KeepsShadowNext (sweep_ask s) cells.old.rows) }
     ensures made { Makes (sweep_step_on (fate_ahead (sweep_step_asks sweep.old) (W.ahead weather.old)) sweep.old cells.old.rows table.old.pairs)
         (sweep.old, cells.old.rows, table.old.pairs) (sweep.new, cells.new.rows, table.new.pairs) book.old.items book.new.items result }
+    ensures spare { book.new.spare ≡ book.old.spare }
     ensures places { table.new.places ≡ table.old.places }
     ensures asked { Asks result (sweep_step_asks sweep.old) (W.ahead weather.old) (W.ahead weather.new)
         (W.faults weather.old) (W.faults weather.new) }
@@ -84,6 +86,7 @@ fn sweep_asked<W: Weather>(
     requires shadow { KeepsShadow ask.now cells.old.rows }
     ensures made { IfSome sweep.old (λ s. Makes (sweep_at s (W.ahead weather.old (steps.store_of ask.now) 0) cells.old.rows table.old.pairs (Some ask.now))
         (sweep.old, cells.old.rows, table.old.pairs) (sweep.new, cells.new.rows, table.new.pairs) book.old.items book.new.items result) }
+    ensures spare { book.new.spare ≡ book.old.spare }
     ensures places { table.new.places ≡ table.old.places }
     ensures asked { Asks result (Some (steps.store_of ask.now)) (W.ahead weather.old) (W.ahead weather.new)
         (W.faults weather.old) (W.faults weather.new) }
@@ -105,15 +108,16 @@ fn list_keys<W: Weather>(
     requires next { IsSomeAnd sweep.old (λ s. sweep_ask s ≡ Some (Ask.Keys txn)) }
     ensures made { (pairs : Pairs) → IfSome sweep.old (λ s. Makes (sweep_lists s txn (W.ahead weather.old Store.Cells 0) cells.now.rows pairs)
         (sweep.old, cells.now.rows, pairs) (sweep.new, cells.now.rows, pairs) book.old.items book.new.items result) }
+    ensures spare { book.new.spare ≡ book.old.spare }
     ensures asked { Asks result (Some Store.Cells) (W.ahead weather.old) (W.ahead weather.new)
         (W.faults weather.old) (W.faults weather.new) }
 {
-    ledger::make_room(book, 2)?;
+    book.make_room(2)?;
     match cells.keys_of(weather, txn) {
         Ok(keys) => {
             let count = keys.len() as u64;
             take_keys(sweep, keys);
-            book.append_reserved(Item::Step {
+            book.append_in_room(Item::Step {
                 actor: Actor::Janitor,
                 what: StoreStep::Keys { txn, count },
             });
@@ -141,11 +145,12 @@ fn meet_asked<W: Weather>(
     requires no_listing { IsKeys ask.now → ⊥ }
     ensures made { IfSome sweep.old (λ s. Makes (sweep_met s ask.now (steps.met Actor.Janitor ask.now (W.ahead weather.old (steps.store_of ask.now) 0) cells.old.rows table.old.pairs))
         (sweep.old, cells.old.rows, table.old.pairs) (sweep.new, cells.new.rows, table.new.pairs) book.old.items book.new.items result) }
+    ensures spare { book.new.spare ≡ book.old.spare }
     ensures places { table.new.places ≡ table.old.places }
     ensures asked { Asks result (Some (steps.store_of ask.now)) (W.ahead weather.old) (W.ahead weather.new)
         (W.faults weather.old) (W.faults weather.new) }
 {
-    ledger::make_room(book, 2)?;
+    book.make_room(2)?;
     match asks::meet(weather, book, Actor::Janitor, ask, cells, table) {
         Ok(answer) => take_answer(book, sweep, answer),
         Err(StoreError::StoreFault) => {
@@ -170,10 +175,11 @@ fn take_keys(sweep: &mut Option<Sweep>, keys: Vec<KeyNo>)
 
 /// The sweep goes on by the answer, or ends, and is told where it stays undecided.
 fn take_answer(book: &mut Book, sweep: &mut Option<Sweep>, answer: Told) -> Result<(), Stopped>
-    requires room { 1 ≤ book.old.spare }
+    requires room { 1 ≤ book.old.room }
     requires answer { IsSomeAnd sweep.old (λ s. FitsNext (sweep_ask s) answer) }
     ensures sweep { IfSome sweep.old (λ s. sweep.new ≡ sweep_left (sweep_told s answer)) }
     ensures items { IfSome sweep.old (λ s. book.new.items ≡ book.old.items ++ undecided_items s (is_undecided (sweep_told s answer))) }
+    ensures spare { book.new.spare ≡ book.old.spare }
     ensures answer { IfSome sweep.old (λ s. result ≡ ended (undecided_stop s (is_undecided (sweep_told s answer)))) }
 {
     let undecided = told_undecided(sweep, answer);

@@ -1,6 +1,6 @@
 // The steps on the stores, as reading finds them.
 ghost use Rattle.std.specs.Prelude.{◌≡◌};
-ghost use Rattle.history_reading.specs.ReadSteps.{step_at, cell_step_at, table_step_at, fetch_at, get_at, mark_found_at, look_at, shadow_at, erase_at, keys_at, put_found_at, entry_at, mark_at, seen_at};
+ghost use Rattle.history_reading.specs.ReadSteps.{step_at, cell_step_at, table_step_at, fetch_at, get_at, mark_found_at, look_at, shadow_at, erase_at, keys_at, put_found_at, handed_at, entry_at, mark_at, seen_at};
 
 use super::words::{after, is_word, key_of, last_stamp, number, split_word, stamp_of, two_fields};
 use history_book::{Seen, StoreStep};
@@ -57,6 +57,9 @@ fn table_step(word: &[u8], bytes: &[u8]) -> Option<StoreStep>
     }
     if is_word(word, b"put") {
         return put_found(bytes);
+    }
+    if is_word(word, b"handed") {
+        return handed(bytes);
     }
     None
 }
@@ -141,6 +144,16 @@ fn put_found(bytes: &[u8]) -> Option<StoreStep>
     let (txn, _) = number(bytes);
     let txn = stamp_of(txn)?;
     Some(StoreStep::PutFound { txn })
+}
+
+#[tactic(auto, unfolding(crate::specs::ReadSteps::handed_at))]
+fn handed(bytes: &[u8]) -> Option<StoreStep>
+    ensures { result ≡ handed_at bytes.now }
+{
+    let (txn, commit, _) = two_fields(b"", b" ", bytes)?;
+    let txn = stamp_of(txn)?;
+    let commit = stamp_of(commit)?;
+    Some(StoreStep::Handed { txn, commit })
 }
 
 #[tactic(auto, unfolding(crate::specs::ReadSteps::entry_at))]

@@ -44,6 +44,9 @@ fn print_what(what: StoreStep, line: &mut LineBuf)
             print_two(b"keys ", txn.value(), b" count=", count, line)
         }
         StoreStep::PutFound { txn } => print_put_found(txn, line),
+        StoreStep::Handed { txn, commit } => {
+            print_two(b"handed ", txn.value(), b" ", commit.value(), line)
+        }
     }
 }
 

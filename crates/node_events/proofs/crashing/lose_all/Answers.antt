@@ -8,6 +8,7 @@ use Rattle.node_events.proofs.crashing.lose_all.Goals as goal
 pub loop-i-init : goal.loop-i-init
 loop-i-init c = record {
   room = grind arith;
+  spare = grind arith;
   clients = none_crashed c.args.clients.now;
   items = rw (none_told c.args.node c.args.instance.now.term c.args.clients.now) (grind arith);
 }
@@ -33,6 +34,7 @@ loop-i-preserved c =
     let next = told_next c.args.node c.args.instance.now.term c.args.instance.now.requests c.args.clients.now c.loop-i.i c.index-requests-i.result r short long is at in
     record {
       room = grind arith;
+      spare = grind arith;
       clients = rw made (rw c.loop-i.invariant.clients (crashed_next c.args.instance.now.requests c.args.clients.now c.loop-i.i c.index-requests-i.result r short long is at));
       items = behind (Crash c.args.node c.args.instance.now.term) c.args.book.now.items (all_crashed_items c.args.node c.args.instance.now.term (take c.loop-i.i c.args.instance.now.requests) c.args.clients.now) (crashed_items c.args.node c.args.instance.now.term c.index-requests-i.result r) (all_crashed_items c.args.node c.args.instance.now.term (take (c.loop-i.i + 1) c.args.instance.now.requests) c.args.clients.now) c.loop-i.book.items c.lose.new.book.items c.loop-i.invariant.items told next;
     }

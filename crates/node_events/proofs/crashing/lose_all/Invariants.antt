@@ -5,7 +5,8 @@ use Rattle.node_events.proofs.crashing.lose_all.Given as goal
 
 abbrev pub invariant-loop-i : goal.invariant-loop-i
 invariant-loop-i l = record {
-  room : 16 ≤ l.book.spare + l.i;
+  room : 16 ≤ l.book.room + l.i;
+  spare : l.book.spare ≡ l.fn.book.spare;
   clients : l.clients ≡ crashed_clients (take l.i l.instance.requests) l.fn.clients;
   items : l.book.items ≡ l.fn.book.items ++ (Crash l.node l.instance.term ∷ all_crashed_items l.node l.instance.term (take l.i l.instance.requests) l.fn.clients);
 }

@@ -19,4 +19,4 @@ pub returns : goal.returns
 returns c =
     let at = found c.self.inside.posts.items c.args.node c.index-2.result c.index_mut-post.result.now c.index-2.ensures.value (grind arith) c.index_mut-post.ensures.value in
     let there = found c.self.inside.clients.items c.args.session c.index-3.result c.index_mut-client.result.now c.index-3.ensures.value (grind arith) c.index_mut-client.ensures.value in
-    rw (← c.self.view_is) (accept_made _ _ c.args.node c.args.session c.args.reading c.index_mut-post.result.now c.accept-made.new.post c.index_mut-client.result.now c.accept-made.new.client _ _ _ _ at there (rw (c.index-2.ensures.value, c.index-3.ensures.value, c.seen_after-self-inside.ensures) refl) c.accept-made.ensures)
+    rw (← c.self.view_is) (accept_made _ _ c.args.node c.args.session c.args.reading c.index_mut-post.result.now c.accept-made.new.post c.index_mut-client.result.now c.accept-made.new.client _ _ _ _ at there (rw (c.index-2.ensures.value, c.index-3.ensures.value, c.seen_after-self-inside.ensures) refl) c.accept-made.ensures.made)

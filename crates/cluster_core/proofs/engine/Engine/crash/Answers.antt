@@ -19,5 +19,5 @@ pub returns : goal.returns
 returns c =
     let at = found c.self.inside.posts.items c.args.node c.index-2.result c.index_mut-post.result.now c.index-2.ensures.value (grind arith) c.index_mut-post.ensures.value in
     let kept : length c.crash.new.clients ≡ c.self.inside.clients.len = grind arith in
-    let made = rw c.deref_mut.ensures.value at c.crash.ensures in
+    let made = rw c.deref_mut.ensures.value at c.crash.ensures.made in
     rw (← c.self.view_is) (clients_made _ _ c.args.node c.index_mut-post.result.now c.crash.new.post c.crash.new.clients _ _ _ _ at (rw (c.index-2.ensures.value, with_items_is c.self.inside.clients c.crash.new.clients kept) refl) made)

@@ -11,4 +11,4 @@ returns-then-index-len c =
 pub returns : goal.returns
 returns c =
     let at = found c.self.inside.posts.items c.args.node c.index-2.result c.index-post.result.now c.index-2.ensures.value (grind arith) c.index-post.ensures in
-    rw (← c.self.view_is) (sweep_made _ _ c.args.node c.index-post.result.now c.sweep_open.new.sweep _ _ _ _ at refl c.sweep_open.ensures)
+    rw (← c.self.view_is) (sweep_made _ _ c.args.node c.index-post.result.now c.sweep_open.new.sweep _ _ _ _ at refl c.sweep_open.ensures.made)
