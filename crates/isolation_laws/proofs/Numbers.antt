@@ -9,4 +9,5 @@ pub mod NewStamps
 pub mod NewDraws
 pub mod NumbersOfItems
 pub mod NumbersKept
+pub mod Placings
 pub mod NumbersOfAll

@@ -20,9 +20,10 @@ use Rattle.isolation_laws.specs.Quiet.{Quiet, AllQuiet}
 use Rattle.isolation_laws.specs.Holds.{Holds}
 use Rattle.isolation_laws.proofs.Holding.Framed.{framed}
 use Rattle.isolation_laws.proofs.Pushed.{in_append}
-use Rattle.isolation_laws.proofs.Outcome.OutcomesOfStamps.{PlacedOne, placed_items, AnsweredBegin, answered_begin_items}
+use Rattle.isolation_laws.proofs.Outcome.OutcomesOfStamps.{AnsweredBegin, answered_begin_items}
 use Rattle.isolation_laws.proofs.Outcome.OutcomesOfWork.{fetched_turn, read_turn}
 use Rattle.isolation_laws.proofs.Outcome.Outcomes.{Outcome, OfGranted, OfRenewed, OfExtended, OfAskedBegin, OfAskedCommit, OfAccepted, OfDrew, OfPlaced, OfAnsweredBegin, OfWrote, OfFetched, OfReadStepped, OfSweepListed, told_by_outcome}
+use Rattle.isolation_laws.proofs.Numbers.Placings.{PlacedPending, placed_item, by_its_node}
 
 -- the item is a begin or a placed commit
 abbrev pub is_stamp : Item → Bool
@@ -63,7 +64,7 @@ first_no_stamps x items quiet none = All-cons NoStamp x items (quiet_no_stamp x 
 -- ---- the items of an outcome
 pub data Stamping (w : State) (items : List Item) : Type 0 where
   StampsNone : NoStamps items → Stamping w items
-  StampsPlaced : (k : PlacedOne w) → items ≡ placed_items w k → Stamping w items
+  StampsPlaced : (p : PlacedPending w) (rest : List Item) → AllQuiet rest → items ≡ placed_item w p ∷ rest → Stamping w items
   StampsBegin : (k : AnsweredBegin w) → items ≡ answered_begin_items w k → Stamping w items
 
 quietly : (w : State) (items : List Item) → AllQuiet items → Stamping w items
@@ -77,7 +78,7 @@ stamping w h (OfAskedBegin k) holds = StampsNone (one_no_stamp (item.AskBegin k.
 stamping w h (OfAskedCommit k) holds = quietly w k.items k.quiet
 stamping w h (OfAccepted k) holds = quietly w k.items k.quiet
 stamping w h (OfDrew k) holds = StampsNone (one_no_stamp (draw_item k.node k.i.term k.held.request (k.i.last + 1)) (draw_no_stamp k.node k.i.term (k.i.last + 1) k.held.request))
-stamping w h (OfPlaced k) holds = StampsPlaced k refl
+stamping w h (OfPlaced k) holds = StampsPlaced (by_its_node w h k holds) k.items k.quiet refl
 stamping w h (OfAnsweredBegin k) holds = StampsBegin k refl
 stamping w h (OfWrote k) holds = StampsNone (one_no_stamp (item.Write k.it.session k.start k.key k.value) refl)
 stamping w h (OfFetched k) holds = StampsNone (first_no_stamps k.first (read_items k.it.session k.start k.key (fetched_turn w k.key k.start k.epoch)) k.quiet (turn_no_stamps k.it.session k.start k.key (fetched_turn w k.key k.start k.epoch)))

@@ -10,14 +10,14 @@ use Rattle.isolation_laws.specs.Numbers.{AreNewDraws, AreBegun, ArePlaced}
 use Rattle.isolation_laws.specs.Memory.{DrawnApart}
 use Rattle.isolation_laws.specs.Holds.{Holds}
 use Rattle.isolation_laws.proofs.OnceEach.{drawn_once, commit_above_start}
-use Rattle.isolation_laws.proofs.Owners.{has_drew}
-use Rattle.isolation_laws.proofs.Outcome.OutcomesOfStamps.{PlacedOne, AnsweredBegin, answered_begin_items}
+use Rattle.isolation_laws.proofs.Outcome.OutcomesOfStamps.{AnsweredBegin, answered_begin_items}
 use Rattle.isolation_laws.proofs.Outcome.Outcomes.{Outcome, told_by_outcome}
-use Rattle.isolation_laws.proofs.Numbers.NumbersKept.{drew_start, in_flight_of, drawn_pending, drew_commit}
+use Rattle.isolation_laws.proofs.Numbers.NumbersKept.{drew_start}
 use Rattle.isolation_laws.proofs.Numbers.NumbersOfAll.{numbers_kept}
 use Rattle.isolation_laws.proofs.Memory.MemoryKept.{memory_kept}
 use Rattle.isolation_laws.proofs.Requests.RequestsOfBegins.{begin_held}
 use Rattle.isolation_laws.proofs.Holding.IsolatedItems.{NoStamp, NoStamps, quiet_no_stamps, Stamping, StampsNone, StampsPlaced, StampsBegin, stamping, each_on, begin_old, placed_old}
+use Rattle.isolation_laws.proofs.Numbers.Placings.{PlacedPending, placed_drew}
 
 -- ---- items without a stamp
 no_new_stamp : (before : List Item) (x : Item) → NoStamp x → NewStamps before x
@@ -54,31 +54,31 @@ placed_is : (t u c d : ℕ) → item.Placed t c ≡ item.Placed u d → (t ≡ u
 placed_is t u c d same = (cc, cc)
 
 -- the transaction of a commit that was placed earlier is another, and so is its commit
-placed_new : (w : State) (h : List Item) (k : PlacedOne w) → Holds w h → (u d : ℕ) → Committed h u d → (u ≢ k.it.start) × (d ≢ k.it.commit)
-placed_new w h k holds u d placed =
-    let drew = has_drew w.nodes h (in_flight_of w k.it) k.it.commit holds.requests.pending (drawn_pending w k.it holds.requests.requests) refl in
-    let other : u ≢ k.it.start = λ same. drew.1 d (subst (λ t. Committed h t d) same placed) in
+placed_new : (w : State) (h : List Item) (p : PlacedPending w) → Holds w h → (u d : ℕ) → Committed h u d → (u ≢ p.coming.start) × (d ≢ p.commit)
+placed_new w h p holds u d placed =
+    let drew = placed_drew w h p holds in
+    let other : u ≢ p.coming.start = λ same. drew.1 d (subst (λ t. Committed h t d) same placed) in
     let was = holds.numbers.placed.drawn u d placed in
-    (other, λ same. other (draws_differ was.0 k.it.session was.1 k.it.node was.2 k.it.i.term u k.it.start d k.it.commit (drawn_once h was.0 k.it.session was.1 k.it.node was.2 k.it.i.term u k.it.start (Some d) (Some k.it.commit) holds.numbers.new was.3 drew.0 same)))
+    (other, λ same. other (draws_differ was.0 p.coming.session was.1 p.coming.node was.2 p.coming.term u p.coming.start d p.commit (drawn_once h was.0 p.coming.session was.1 p.coming.node was.2 p.coming.term u p.coming.start (Some d) (Some p.commit) holds.numbers.new was.3 drew.0 same)))
 
-stamped_placed_one : (w : State) (h : List Item) (k : PlacedOne w) → Holds w h → Stamped (h ++ item.Placed k.it.start k.it.commit ∷ [])
-stamped_placed_one w h k holds =
+stamped_placed_one : (w : State) (h : List Item) (p : PlacedPending w) → Holds w h → Stamped (h ++ item.Placed p.coming.start p.commit ∷ [])
+stamped_placed_one w h p holds =
     let stamped : Stamped h = holds.isolated.stamped in
-    let drew : DrewCommit h k.it.session k.it.node k.it.i.term k.it.start k.it.commit = drew_commit w h k.it holds in
-    let x : Item = item.Placed k.it.start k.it.commit in
-    let commits : (t c : ℕ) → Committed (h ++ x ∷ []) t c → Committed h t c ⊎ ((t ≡ k.it.start) × (c ≡ k.it.commit)) = λ t c m. elim (in_push (item.Placed t c) x h m) [
+    let drew : DrewCommit h p.coming.session p.coming.node p.coming.term p.coming.start p.commit = (placed_drew w h p holds).0 in
+    let x : Item = item.Placed p.coming.start p.commit in
+    let commits : (t c : ℕ) → Committed (h ++ x ∷ []) t c → Committed h t c ⊎ ((t ≡ p.coming.start) × (c ≡ p.commit)) = λ t c m. elim (in_push (item.Placed t c) x h m) [
       | inl old ↦ inl old
-      | inr now ↦ inr (placed_is t k.it.start c k.it.commit now)
+      | inr now ↦ inr (placed_is t p.coming.start c p.commit now)
     ] in
     record {
-      distinct = AtEach-push NewStamps h x stamped.distinct (placed_new w h k holds);
+      distinct = AtEach-push NewStamps h x stamped.distinct (placed_new w h p holds);
       no_start_commits = λ s t u begun placed. let was : Begun h s t = in_old (item.Begin s t) x h (λ is. cc) begun in elim (commits u t placed) [
         | inl old ↦ stamped.no_start_commits s t u was old
-        | inr now ↦ commit_no_start h s k.it.session k.it.node k.it.i.term k.it.start k.it.commit holds.numbers.new holds.numbers.begun drew (subst (λ c. Begun h s c) now.1 was)
+        | inr now ↦ commit_no_start h s p.coming.session p.coming.node p.coming.term p.coming.start p.commit holds.numbers.new holds.numbers.begun drew (subst (λ c. Begun h s c) now.1 was)
       ];
       start_below_commit = λ t c placed. elim (commits t c placed) [
         | inl old ↦ stamped.start_below_commit t c old
-        | inr now ↦ subst (λ u. u < c) (sym now.0) (subst (λ d. k.it.start < d) (sym now.1) (commit_above_start h k.it.session k.it.node k.it.i.term k.it.start k.it.commit holds.numbers.new drew))
+        | inr now ↦ subst (λ u. u < c) (sym now.0) (subst (λ d. p.coming.start < d) (sym now.1) (commit_above_start h p.coming.session p.coming.node p.coming.term p.coming.start p.commit holds.numbers.new drew))
       ];
     }
 
@@ -112,7 +112,7 @@ fresh_begin w h k holds = AtEach-push StartsAbove h (item.Begin k.session k.star
 -- ---- every outcome
 stamped_by : (w : State) (h items : List Item) → Holds w h → Stamping w items → Stamped (h ++ items)
 stamped_by w h items holds (StampsNone none) = stamped_on h items none holds.isolated.stamped
-stamped_by w h items holds (StampsPlaced k is) = subst (λ xs. Stamped (h ++ xs)) (sym is) (subst (λ xs. Stamped xs) (append_assoc h (item.Placed k.it.start k.it.commit ∷ []) k.items) (stamped_on (h ++ item.Placed k.it.start k.it.commit ∷ []) k.items (quiet_no_stamps k.items k.quiet) (stamped_placed_one w h k holds)))
+stamped_by w h items holds (StampsPlaced p rest quiet is) = subst (λ xs. Stamped (h ++ xs)) (sym is) (subst (λ xs. Stamped xs) (append_assoc h (item.Placed p.coming.start p.commit ∷ []) rest) (stamped_on (h ++ item.Placed p.coming.start p.commit ∷ []) rest (quiet_no_stamps rest quiet) (stamped_placed_one w h p holds)))
 stamped_by w h items holds (StampsBegin k is) = subst (λ xs. Stamped (h ++ xs)) (sym is) (stamped_begin w h k holds)
 
 pub stamped_kept : (w : State) (h : List Item) (o : Outcome w) → Holds w h → Stamped (h ++ told_by_outcome w o)
@@ -123,7 +123,7 @@ fresh_on h items none fresh = each_on StartsAbove h items no_start none fresh
 
 fresh_by : (w : State) (h items : List Item) → Holds w h → Stamping w items → Fresh (h ++ items)
 fresh_by w h items holds (StampsNone none) = fresh_on h items none holds.isolated.fresh
-fresh_by w h items holds (StampsPlaced k is) = subst (λ xs. Fresh (h ++ xs)) (sym is) (subst (λ xs. Fresh xs) (append_assoc h (item.Placed k.it.start k.it.commit ∷ []) k.items) (fresh_on (h ++ item.Placed k.it.start k.it.commit ∷ []) k.items (quiet_no_stamps k.items k.quiet) (AtEach-push StartsAbove h (item.Placed k.it.start k.it.commit) holds.isolated.fresh tt)))
+fresh_by w h items holds (StampsPlaced p rest quiet is) = subst (λ xs. Fresh (h ++ xs)) (sym is) (subst (λ xs. Fresh xs) (append_assoc h (item.Placed p.coming.start p.commit ∷ []) rest) (fresh_on (h ++ item.Placed p.coming.start p.commit ∷ []) rest (quiet_no_stamps rest quiet) (AtEach-push StartsAbove h (item.Placed p.coming.start p.commit) holds.isolated.fresh tt)))
 fresh_by w h items holds (StampsBegin k is) = subst (λ xs. Fresh (h ++ xs)) (sym is) (fresh_begin w h k holds)
 
 pub fresh_kept : (w : State) (h : List Item) (o : Outcome w) → Holds w h → Fresh (h ++ told_by_outcome w o)

@@ -18,26 +18,27 @@ use Rattle.isolation_laws.proofs.Holding.Frames.{live_framed}
 use Rattle.isolation_laws.proofs.Holding.Framed.{framed}
 use Rattle.isolation_laws.specs.Laws.{IsMarkedFirst, IsLost}
 use Rattle.isolation_laws.proofs.Pushed.{old_placed}
-use Rattle.isolation_laws.proofs.Outcome.OutcomesOfStamps.{PlacedOne, placed_items}
 use Rattle.isolation_laws.proofs.Outcome.Outcomes.{Outcome, OfGranted, OfRenewed, OfExtended, OfAskedBegin, OfAskedCommit, OfAccepted, OfDrew, OfPlaced, OfAnsweredBegin, OfWrote, OfFetched, OfReadDropped, OfReadStepped, OfOutcome, OfOutcomeFailed, OfCompleted, OfSwept, OfSweepListed, OfSweepFailed, left_by, told_by_outcome}
 use Rattle.isolation_laws.proofs.Holding.IsolatedItems.{Stamping, StampsNone, StampsPlaced, StampsBegin, stamping, placed_old}
 use Rattle.isolation_laws.proofs.Stores.StoresStay.{MarksStay, marks_put, marks_after, marks_may, marks_if}
 use Rattle.isolation_laws.proofs.Requests.PendingFewer.{fewer_granted, fewer_renewed, fewer_extended, fewer_asked_begin, fewer_settled}
 use Rattle.isolation_laws.proofs.Requests.OpenAfter.{fewer_open_asked_begin, fewer_open_wrote, fewer_open_fetched, fewer_open_read}
 use Rattle.isolation_laws.proofs.Stores.LiveAfter.{fewer_live, live_by_clients, live_by_nodes, live_asked_commit, live_accepted, live_drew, live_answered_begin}
-use Rattle.isolation_laws.proofs.Numbers.NumbersKept.{in_flight_of, drawn_pending}
+use Rattle.isolation_laws.proofs.Numbers.Placings.{PlacedPending, placed_item, placed_live}
+use Rattle.isolation_laws.specs.Quiet.{AllQuiet}
 use Rattle.isolation_laws.proofs.Requests.RequestsOfBegins.{start_unbegun}
 
 -- ---- what an outcome places
 placed_same : (t c u d : ℕ) → Placed t c ≡ Placed u d → t ≡ u
 placed_same t c u d same = cc
 
-placed_first : (w : State) (h : List Item) (k : PlacedOne w) (t c : ℕ) → Committed (h ++ placed_items w k) t c → Committed h t c ⊎ (t ≡ k.it.start)
-placed_first w h k t c m =
-    let split : Committed ((h ++ Placed k.it.start k.it.commit ∷ []) ++ k.items) t c = subst (λ (all : List Item). Committed all t c) (sym (append_assoc h (Placed k.it.start k.it.commit ∷ []) k.items)) m in
-    elim (in_push (Placed t c) (Placed k.it.start k.it.commit) h (old_placed (h ++ Placed k.it.start k.it.commit ∷ []) k.items t c k.quiet split)) [
+placed_first : (w : State) (h : List Item) (p : PlacedPending w) (rest : List Item) (t c : ℕ) → AllQuiet rest → Committed (h ++ placed_item w p ∷ rest) t c → Committed h t c ⊎ (t ≡ p.coming.start)
+placed_first w h p rest t c quiet m =
+    let x : Item = placed_item w p in
+    let split : Committed ((h ++ x ∷ []) ++ rest) t c = subst (λ (all : List Item). Committed all t c) (sym (append_assoc h (x ∷ []) rest)) m in
+    elim (in_push (Placed t c) x h (old_placed (h ++ x ∷ []) rest t c quiet split)) [
       | inl old ↦ inl old
-      | inr now ↦ inr (placed_same t c k.it.start k.it.commit now)
+      | inr now ↦ inr (placed_same t c p.coming.start p.commit now)
     ]
 
 begin_places : (h : List Item) (s b t c : ℕ) → Committed (h ++ Begin s b ∷ []) t c → Committed h t c
@@ -46,11 +47,11 @@ begin_places h s b t c m = elim (in_push (Placed t c) (Begin s b) h m) [
   | inr now ↦ absurd (cc)
 ]
 
-placed_by : (w : State) (h items : List Item) (t c : ℕ) → Stamping w items → Committed (h ++ items) t c → Committed h t c ⊎ ((k : PlacedOne w) × (t ≡ k.it.start))
+placed_by : (w : State) (h items : List Item) (t c : ℕ) → Stamping w items → Committed (h ++ items) t c → Committed h t c ⊎ ((p : PlacedPending w) × (t ≡ p.coming.start))
 placed_by w h items t c (StampsNone none) m = inl (placed_old h items t c none m)
-placed_by w h items t c (StampsPlaced k is) m = elim (placed_first w h k t c (subst (λ (xs : List Item). Committed (h ++ xs) t c) is m)) [
+placed_by w h items t c (StampsPlaced p rest quiet is) m = elim (placed_first w h p rest t c quiet (subst (λ (xs : List Item). Committed (h ++ xs) t c) is m)) [
   | inl old ↦ inl old
-  | inr now ↦ inr (k, now)
+  | inr now ↦ inr (p, now)
 ]
 placed_by w h items t c (StampsBegin k is) m = inl (begin_places h k.session k.start t c (subst (λ (xs : List Item). Committed (h ++ xs) t c) is m))
 
@@ -87,8 +88,8 @@ live_kept w h (OfSweepListed k) s t holds begun live = live
 live_kept w h o s t holds begun live = live_framed w h (left_by w o) (told_by_outcome w o) (framed w h o holds refl) t live
 
 -- ---- one outcome
-no_mark : (w : State) (k : PlacedOne w) (t : ℕ) → Marked w.pairs t → t ≡ k.it.start → ⊥
-no_mark w k t marked same = none-some InvalidMark (sym k.free ∙ (ap (mark_of w.pairs) (sym same) ∙ marked))
+no_mark : (w : State) (p : PlacedPending w) (t : ℕ) → Marked w.pairs t → t ≡ p.coming.start → ⊥
+no_mark w p t marked same = none-some InvalidMark (sym p.free ∙ (ap (mark_of w.pairs) (sym same) ∙ marked))
 
 pub marked_outcome : (w : State) (h : List Item) (o : Outcome w) (t : ℕ) → Holds w h → IsMarkedFirst w h t → IsMarkedFirst (left_by w o) (h ++ told_by_outcome w o) t
 marked_outcome w h o t holds first = record {
@@ -99,9 +100,6 @@ marked_outcome w h o t holds first = record {
   ];
 }
 
-in_flight_live : (w : State) (h : List Item) (k : PlacedOne w) (t : ℕ) → Holds w h → t ≡ k.it.start → Live w.clients w.nodes t
-in_flight_live w h k t holds same = inr (record { coming = in_flight_of w k.it; pending = drawn_pending w k.it holds.requests.requests; start_is = sym same })
-
 pub lost_outcome : (w : State) (h : List Item) (o : Outcome w) (t : ℕ) → Holds w h → IsLost w h t → IsLost (left_by w o) (h ++ told_by_outcome w o) t
 lost_outcome w h o t holds lost = record {
   session = lost.session;
@@ -109,6 +107,6 @@ lost_outcome w h o t holds lost = record {
   dead = λ live. lost.dead (live_kept w h o lost.session t holds lost.begun live);
   unplaced = λ c m. elim (placed_by w h (told_by_outcome w o) t c (stamping w h o holds) m) [
     | inl old ↦ lost.unplaced c old
-    | inr now ↦ lost.dead (in_flight_live w h now.0 t holds now.1)
+    | inr now ↦ lost.dead (subst (λ u. Live w.clients w.nodes u) (sym now.1) (placed_live w now.0))
   ];
 }

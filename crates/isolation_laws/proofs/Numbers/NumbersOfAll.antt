@@ -1,31 +1,33 @@
 -- Every outcome keeps the facts on stamps, terms and leases.
-use Rattle.std.proofs.Common.{[], max, List, ◌++◌, refl, sym, subst, arith}
+use Rattle.std.proofs.Common.{◌∷◌, Option, [], max, List, ◌++◌, refl, sym, subst, arith}
 use Rattle.std.proofs.lemmas.List.Elements.{All-nil}
 use Rattle.history_book.specs.declared.item.Item.{Item}
 use Rattle.history_book.specs.declared.item.Actor.TheVariants.{Janitor}
 use Rattle.history_book.specs.declared.item.StoreStep.TheVariants.{Keys}
-use Rattle.history_book.specs.declared.item.Item.TheVariants.{AskBegin, Begin, Write, Placed, Step}
+use Rattle.history_book.specs.declared.item.Item.TheVariants.{AskBegin, Begin, Write, Step}
+use Rattle.oracle_parts.specs.Instance.{InstanceEntry}
 use Rattle.machine.specs.State.{State}
 use Rattle.isolation_laws.specs.Words.{Begun}
-use Rattle.isolation_laws.specs.Quiet.{Quiet}
+use Rattle.isolation_laws.specs.Quiet.{AllQuiet, Quiet}
 use Rattle.isolation_laws.specs.Numbers.{NumberFacts}
 use Rattle.isolation_laws.specs.Holds.{Holds}
 use Rattle.isolation_laws.proofs.Holding.Framed.{framed}
 use Rattle.isolation_laws.proofs.Holding.Frames.{numbers_framed}
 use Rattle.isolation_laws.proofs.Outcome.OutcomesOfRequests.{AskedBegin, asked_begin_items, asked_begin_state}
-use Rattle.isolation_laws.proofs.Outcome.OutcomesOfStamps.{PlacedOne, AnsweredBegin, placed_items, answered_begin_items, placed_state, answered_begin_state}
+use Rattle.isolation_laws.proofs.Outcome.OutcomesOfStamps.{AnsweredBegin, answered_begin_items, answered_begin_state}
 use Rattle.isolation_laws.proofs.Outcome.OutcomesOfSessions.{WroteOne, wrote_items}
 use Rattle.isolation_laws.proofs.Outcome.OutcomesOfWork.{Fetched, ReadStepped, fetched_turn, read_turn, fetched_items, read_stepped_items}
 use Rattle.isolation_laws.proofs.Outcome.OutcomesOfSweeps.{SweepListed, sweep_listed_items}
 use Rattle.isolation_laws.proofs.Outcome.Outcomes.{Outcome, OfGranted, OfRenewed, OfExtended, OfAskedBegin, OfAskedCommit, OfAccepted, OfDrew, OfPlaced, OfAnsweredBegin, OfWrote, OfFetched, OfReadStepped, OfSweepListed, left_by, told_by_outcome}
-use Rattle.isolation_laws.proofs.Numbers.NumbersStay.{numbered_same, numbered}
+use Rattle.isolation_laws.proofs.Numbers.NumbersStay.{SameNumbers, numbered_same, numbered}
 use Rattle.isolation_laws.proofs.Numbers.NumbersOfTakes.{numbers_granted}
 use Rattle.isolation_laws.proofs.Numbers.NumbersOfRenewals.{numbers_renewed}
 use Rattle.isolation_laws.proofs.Numbers.NumbersOfRanges.{numbers_extended}
 use Rattle.isolation_laws.proofs.Numbers.NewDraws.{numbers_drew}
 use Rattle.isolation_laws.proofs.Numbers.NumbersOfItems.{begin_is_no_draw, write_is_no_draw, placed_is_no_draw, fits_begin, fits_write, fits_placed, placed_fits}
-use Rattle.isolation_laws.proofs.Numbers.NumbersKept.{loud_numbers, open_begun, drew_start, drew_commit, first_then, quiet_one, at_node}
+use Rattle.isolation_laws.proofs.Numbers.NumbersKept.{loud_numbers, open_begun, drew_start, first_then, quiet_one, at_node}
 use Rattle.isolation_laws.proofs.Orders.{max_left}
+use Rattle.isolation_laws.proofs.Numbers.Placings.{PlacedPending, placed_item, placed_drew, by_its_node}
 
 -- ---- every outcome
 numbers_asked_begin : (w : State) (h : List Item) (k : AskedBegin w) → Holds w h → NumberFacts w.setup w.seen (asked_begin_state w k).nodes w.master (h ++ asked_begin_items w k)
@@ -36,10 +38,11 @@ numbers_asked_begin w h k holds =
       reads = λ s t key answer is. absurd (cc);
     }) (λ t c is. absurd (cc)) (All-nil Quiet) holds.numbers
 
-numbers_placed : (w : State) (h : List Item) (k : PlacedOne w) → Holds w h → NumberFacts w.setup w.seen (placed_state w k).nodes w.master (h ++ placed_items w k)
-numbers_placed w h k holds =
-    loud_numbers w.setup w.seen w.nodes (placed_state w k).nodes w.master h (Placed k.it.start k.it.commit) k.items (at_node w k.it.node k.it.i _ k.it.at (numbered k.it.i _ refl refl refl refl refl)) (placed_is_no_draw k.it.start k.it.commit) (fits_placed h k.it.start k.it.commit)
-    (λ t c is. placed_fits h k.it.start k.it.commit t c k.it.session k.it.node k.it.i.term (drew_commit w h k.it holds) is) k.quiet holds.numbers
+numbers_placed : (w : State) (h : List Item) (p : PlacedPending w) (nodes : List (Option InstanceEntry)) (items : List Item) → AllQuiet items → SameNumbers w.nodes nodes → Holds w h → NumberFacts w.setup w.seen nodes w.master (h ++ placed_item w p ∷ items)
+numbers_placed w h p nodes items quiet same holds =
+    let q = p.coming in
+    loud_numbers w.setup w.seen w.nodes nodes w.master h (placed_item w p) items same (placed_is_no_draw q.start p.commit) (fits_placed h q.start p.commit)
+    (λ t c is. placed_fits h q.start p.commit t c q.session q.node q.term (placed_drew w h p holds).0 is) quiet holds.numbers
 
 numbers_answered_begin : (w : State) (h : List Item) (k : AnsweredBegin w) → Holds w h → NumberFacts w.setup w.seen (answered_begin_state w k).nodes w.master (h ++ answered_begin_items w k)
 numbers_answered_begin w h k holds =
@@ -80,7 +83,7 @@ numbers_kept w h (OfAskedBegin k) holds = numbers_asked_begin w h k holds
 numbers_kept w h (OfAskedCommit k) holds = quiet_one w h _ w.seen k.items (at_node w k.node k.i _ k.at (numbered k.i _ refl refl refl refl refl)) (omega arith) k.quiet holds
 numbers_kept w h (OfAccepted k) holds = quiet_one w h _ (max w.seen k.reading) k.items (at_node w k.node k.i _ k.at (numbered k.i _ refl refl refl refl refl)) (max_left w.seen k.reading) k.quiet holds
 numbers_kept w h (OfDrew k) holds = numbers_drew w h k holds
-numbers_kept w h (OfPlaced k) holds = numbers_placed w h k holds
+numbers_kept w h (OfPlaced k) holds = numbers_placed w h (by_its_node w h k holds) _ k.items k.quiet (at_node w k.it.node k.it.i _ k.it.at (numbered k.it.i _ refl refl refl refl refl)) holds
 numbers_kept w h (OfAnsweredBegin k) holds = numbers_answered_begin w h k holds
 numbers_kept w h (OfWrote k) holds = numbers_wrote w h k holds
 numbers_kept w h (OfFetched k) holds = numbers_fetched w h k holds

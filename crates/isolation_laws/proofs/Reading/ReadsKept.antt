@@ -14,7 +14,7 @@ use Rattle.isolation_laws.specs.Holds.{Holds}
 use Rattle.isolation_laws.proofs.Holding.Framed.{framed}
 use Rattle.isolation_laws.proofs.Holding.Frames.{reads_framed}
 use Rattle.isolation_laws.proofs.Outcome.Outcomes.{Outcome, OfGranted, OfRenewed, OfExtended, OfAskedBegin, OfAskedCommit, OfAccepted, OfDrew, OfPlaced, OfAnsweredBegin, OfWrote, OfFetched, OfReadStepped, OfSweepListed, left_by, told_by_outcome}
-use Rattle.isolation_laws.proofs.Requests.PendingFewer.{fewer_granted, fewer_renewed, fewer_extended, fewer_asked_begin, fewer_answered_begin}
+use Rattle.isolation_laws.proofs.Requests.PendingFewer.{fewer_settled, fewer_granted, fewer_renewed, fewer_extended, fewer_asked_begin, fewer_answered_begin}
 use Rattle.isolation_laws.proofs.Requests.PendingMoved.{comes_asked_commit, comes_drew}
 use Rattle.isolation_laws.proofs.Stores.StoresStay.{marks_same, shadows_same}
 use Rattle.isolation_laws.proofs.Stores.Calm.{WritesNone, calm_quiet, calm_push, calm_draw}
@@ -22,6 +22,7 @@ use Rattle.isolation_laws.proofs.Reading.ClientsReading.{FewerReading, same_read
 use Rattle.isolation_laws.proofs.Reading.ReadsStay.{NoReads, quiet_no_reads, then_no_reads, one_no_reads, draw_no_reads, ReadsRight, reads_stay, NoneComes, none_comes, same_comes, none_comes_accepted, rely_placed, rely_wrote}
 use Rattle.isolation_laws.proofs.Reading.ReadsOfReads.{reads_stepped, reads_fetched}
 use Rattle.isolation_laws.proofs.Reading.ReadsLonger.{rely_calm}
+use Rattle.isolation_laws.proofs.Numbers.Placings.{by_its_node}
 
 -- quiet items, and the stores stay
 calmly : (w : State) (h items : List Item) (clients : List Client) (nodes : List (Option InstanceEntry)) → AllQuiet items → FewerReading w.clients clients → NoneComes w h nodes → Holds w h → ReadsRight w.setup clients nodes w.rows w.pairs (h ++ items)
@@ -48,7 +49,7 @@ all_reads_kept w h (OfAskedBegin k) holds = with_one w h (AskBegin k.session k.n
 all_reads_kept w h (OfAskedCommit k) holds = calmly w h k.items _ _ k.quiet (reading_asked_commit w k) (λ r b u begun c. comes_asked_commit w k b u c) holds
 all_reads_kept w h (OfAccepted k) holds = calmly w h k.items w.clients _ k.quiet (same_reading w.clients) (none_comes_accepted w h k holds) holds
 all_reads_kept w h (OfDrew k) holds = reads_stay w h _ _ w.rows w.pairs w.clients (draw_no_reads k.node k.i.term k.held.request (k.i.last + 1)) (rely_calm w h _ _ w.rows w.pairs (calm_draw h k.node k.i.term k.held.request (k.i.last + 1)) (λ r b u begun c. comes_drew w k b u c) (shadows_same h w.rows) (marks_same w.pairs)) (same_reading w.clients) holds
-all_reads_kept w h (OfPlaced k) holds = reads_stay w h _ _ w.rows _ w.clients (then_no_reads (Placed k.it.start k.it.commit) k.items (λ s b key answer is. cc) (quiet_no_reads k.items k.quiet)) (rely_placed w h k holds) (same_reading w.clients) holds
+all_reads_kept w h (OfPlaced k) holds = reads_stay w h _ _ w.rows _ w.clients (then_no_reads (Placed k.it.start k.it.commit) k.items (λ s b key answer is. cc) (quiet_no_reads k.items k.quiet)) (rely_placed w h (by_its_node w h k holds) _ k.items k.quiet (fewer_settled w k.it k.by) holds) (same_reading w.clients) holds
 all_reads_kept w h (OfAnsweredBegin k) holds = with_one w h (Begin k.session k.start) _ _ (begin_none k.session k.start) (one_no_reads (Begin k.session k.start) (λ s b key answer is. cc)) (reading_answered_begin w k) (none_comes w h _ (fewer_answered_begin w k)) holds
 all_reads_kept w h (OfWrote k) holds = reads_stay w h _ w.nodes _ w.pairs _ (one_no_reads (Write k.it.session k.start k.key k.value) (λ s b key answer is. cc)) (rely_wrote w h k holds) (reading_wrote w k) holds
 all_reads_kept w h (OfFetched k) holds = reads_fetched w h k holds

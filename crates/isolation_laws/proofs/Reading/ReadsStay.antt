@@ -22,28 +22,27 @@ use Rattle.oracle_parts.specs.Instance.{InstanceEntry}
 use Rattle.machine.specs.State.{Client, State}
 use Rattle.machine.specs.Events.Decide.{draw_item}
 use Rattle.isolation_laws.specs.Words.{epoch_or_none, OpenAt, Begun}
-use Rattle.isolation_laws.specs.Pending.{ComesBelow, IsPending}
+use Rattle.isolation_laws.specs.Pending.{IsStageBelow, ComesBelow, IsPending}
 use Rattle.isolation_laws.specs.Quiet.{AllQuiet}
 use Rattle.isolation_laws.specs.Reads.{ReadFacts}
 use Rattle.isolation_laws.specs.Holds.{Holds}
 use Rattle.isolation_laws.proofs.Lookups.{one_client}
 use Rattle.isolation_laws.proofs.Outcome.OutcomesOfRequests.{Accepted, accepted_state}
-use Rattle.isolation_laws.proofs.Outcome.OutcomesOfStamps.{PlacedOne, placed_state, placed_items}
 use Rattle.isolation_laws.proofs.Outcome.OutcomesOfSessions.{AtOpen, WroteOne, wrote_state, wrote_items, WriteFailed}
 use Rattle.isolation_laws.proofs.OnceEach.{begun_once}
 use Rattle.isolation_laws.proofs.Owners.{open_unplaced, accepts_now, begun_below_last}
 use Rattle.isolation_laws.proofs.Pushed.{not_true, in_append, quiet_in, last_write-quiet}
 use Rattle.isolation_laws.proofs.Requests.PendingAfter.{FewerPending}
-use Rattle.isolation_laws.proofs.Requests.PendingFewer.{fewer_comes, fewer_settled}
+use Rattle.isolation_laws.proofs.Requests.PendingFewer.{fewer_comes}
 use Rattle.isolation_laws.proofs.Requests.PendingMoved.{comes_accepted}
 use Rattle.isolation_laws.proofs.Requests.CommitsInFlight.{goes_on}
-use Rattle.isolation_laws.proofs.Numbers.NumbersKept.{in_flight_of, drawn_pending, drew_commit}
 use Rattle.isolation_laws.proofs.Requests.SettledNow.{Places, places}
 use Rattle.isolation_laws.proofs.Requests.RequestsOfWrites.{wrote_open, wrote_not_pending}
 use Rattle.isolation_laws.proofs.Stores.StoresStay.{ShadowsStay, marks_put, shadows_same, shadows_put}
 use Rattle.isolation_laws.proofs.Reading.ReadersRely.{WasComing, IsReader, IsWritten, RelyOn, open_now_begun, reading_kept, lasts_on, right_kept}
 use Rattle.isolation_laws.proofs.Reading.ClientsReading.{FewerReading, reading_fewer, idle_reads}
 use Rattle.isolation_laws.proofs.Stores.Calm.{write_places_none}
+use Rattle.isolation_laws.proofs.Numbers.Placings.{PlacedPending, placed_item, placed_pairs, placed_drew}
 
 -- ---- items that answer no read
 abbrev pub NoReads : List Item → Type 0
@@ -126,30 +125,33 @@ placed_writes h items t c u k quiet =
     let one : last_write (h ++ Placed t c ∷ []) u k ≡ last_write h u k = last_write-push h (Placed t c) u k in
     ap (λ xs. last_write xs u k) (sym (append_assoc h (Placed t c ∷ []) items)) ∙ (last_write-quiet (h ++ Placed t c ∷ []) items u k quiet ∙ one)
 
-placed_comes : (w : State) (h : List Item) (k : PlacedOne w) (b u d : ℕ) → Holds w h → u ≡ k.it.start → d ≡ k.it.commit → d < b → WasComing w h b u d
-placed_comes w h k b u d holds start commit below = record {
-  comes = record {
-    coming = in_flight_of w k.it;
-    pending = drawn_pending w k.it holds.requests.requests;
-    start_is = sym start;
-    below = subst (λ x. x < b) commit below;
-  };
-  unmarked = λ marked. none-some InvalidMark (sym k.free ∙ (ap (mark_of w.pairs) (sym start) ∙ marked));
-  drew = (k.it.session, k.it.node, k.it.i.term, subst (λ x. Draw k.it.session k.it.node k.it.i.term x (Some d) ∈ h) (sym start) (subst (λ y. Draw k.it.session k.it.node k.it.i.term k.it.start (Some y) ∈ h) (sym commit) (drew_commit w h k.it holds)));
-}
+placed_comes : (w : State) (h : List Item) (p : PlacedPending w) (b u d : ℕ) → Holds w h → u ≡ p.coming.start → d ≡ p.commit → d < b → WasComing w h b u d
+placed_comes w h p b u d holds start commit below =
+    let q = p.coming in
+    record {
+      comes = record {
+        coming = q;
+        pending = p.pending;
+        start_is = sym start;
+        below = subst (IsStageBelow b) (sym p.has) (subst (λ x. x < b) commit below);
+      };
+      unmarked = λ marked. none-some InvalidMark (sym p.free ∙ (ap (mark_of w.pairs) (sym start) ∙ marked));
+      drew = (q.session, q.node, q.term, subst (λ x. Draw q.session q.node q.term x (Some d) ∈ h) (sym start) (subst (λ y. Draw q.session q.node q.term q.start (Some y) ∈ h) (sym commit) (placed_drew w h p holds).0));
+    }
 
-pub rely_placed : (w : State) (h : List Item) (k : PlacedOne w) → Holds w h → RelyOn w h (placed_state w k).nodes w.rows (placed_state w k).pairs (h ++ placed_items w k)
-rely_placed w h k holds =
-    let now : Places h (h ++ placed_items w k) k.it.start k.it.commit = places h k.items k.it.start k.it.commit k.quiet in
+pub rely_placed : (w : State) (h : List Item) (p : PlacedPending w) (nodes : List (Option InstanceEntry)) (items : List Item) → AllQuiet items → FewerPending w.nodes nodes → Holds w h → RelyOn w h nodes w.rows (placed_pairs w p) (h ++ placed_item w p ∷ items)
+rely_placed w h p nodes items quiet fewer holds =
+    let t = p.coming.start in
+    let now : Places h (h ++ placed_item w p ∷ items) t p.commit = places h items t p.commit quiet in
     record {
       on = now.on;
       placed = λ b u d placed less. elim (now.placed u d placed) [
         | inl old ↦ inl old
-        | inr new ↦ inr (placed_comes w h k b u d holds new.0 new.1 less)
+        | inr new ↦ inr (placed_comes w h p b u d holds new.0 new.1 less)
       ];
-      comes = none_comes w h (placed_state w k).nodes (fewer_settled w k.it k.by);
-      marks = marks_put w.pairs k.it.start (CommittedMark k.it.commit);
-      writes = λ u key written. placed_writes h k.items k.it.start k.it.commit u key k.quiet;
+      comes = none_comes w h nodes fewer;
+      marks = marks_put w.pairs t (CommittedMark p.commit);
+      writes = λ u key written. placed_writes h items t p.commit u key quiet;
       shadows = shadows_same h w.rows;
     }
 

@@ -1,5 +1,5 @@
 -- Every outcome keeps the facts on the cells and the commit table.
-use Rattle.std.proofs.Common.{◌≡◌, ℕ, ◌+◌, List, ◌++◌, Option, Some, None, inl, inr, refl, ◌∙◌, ap}
+use Rattle.std.proofs.Common.{◌∷◌, ◌≡◌, ℕ, ◌+◌, List, ◌++◌, Option, Some, None, inl, inr, refl, ◌∙◌, ap}
 use Rattle.history_book.specs.Isolation.{last_write}
 use Rattle.history_book.specs.declared.item.Item.{Item}
 use Rattle.store_parts.specs.declared.rows.Cell.{Cell}
@@ -12,8 +12,8 @@ use Rattle.isolation_laws.specs.Quiet.{AllQuiet}
 use Rattle.isolation_laws.specs.Cells.{CellFacts}
 use Rattle.isolation_laws.specs.Holds.{Holds}
 use Rattle.isolation_laws.proofs.Holding.Framed.{settle_cells, framed}
-use Rattle.isolation_laws.proofs.Numbers.NumbersKept.{in_flight_of, drawn_pending}
-use Rattle.isolation_laws.proofs.Outcome.OutcomesOfStamps.{Drew, drew_items, PlacedOne, placed_state, placed_items, AnsweredBegin, answered_begin_state, answered_begin_items}
+use Rattle.isolation_laws.proofs.Numbers.Placings.{PlacedPending, placed_item, placed_pairs, placed_live, by_its_node}
+use Rattle.isolation_laws.proofs.Outcome.OutcomesOfStamps.{Drew, drew_items, AnsweredBegin, answered_begin_state, answered_begin_items}
 use Rattle.isolation_laws.proofs.Outcome.OutcomesOfWork.{read_turn, fetched_turn}
 use Rattle.isolation_laws.proofs.Outcome.Outcomes.{Outcome, OfGranted, OfRenewed, OfExtended, OfAskedBegin, OfAskedCommit, OfAccepted, OfDrew, OfPlaced, OfAnsweredBegin, OfWrote, OfFetched, OfReadStepped, OfSweepListed, left_by, told_by_outcome}
 use Rattle.isolation_laws.proofs.Requests.PendingFewer.{fewer_granted, fewer_renewed, fewer_extended, fewer_asked_begin, fewer_settled}
@@ -58,12 +58,9 @@ cells_answered_begin w h k holds = cells_calm w.clients (answered_begin_state w 
     ]) (calm_begin h k.session k.start) holds.cells
 
 -- ---- a commit is placed
-cells_placed_one : (w : State) (h : List Item) (k : PlacedOne w) → Holds w h → CellFacts w.clients (placed_state w k).nodes w.rows (placed_state w k).pairs (h ++ placed_items w k)
-cells_placed_one w h k holds = cells_placed w.clients w.nodes (placed_state w k).nodes w.rows w.pairs h (h ++ placed_items w k) k.it.start k.it.commit
-    (live_by_nodes w.clients w.nodes (placed_state w k).nodes (fewer_settled w k.it k.by))
-    (is_placing h k.items k.it.start k.it.commit k.quiet)
-    (inr (record { coming = in_flight_of w k.it; pending = drawn_pending w k.it holds.requests.requests; start_is = refl }))
-    k.free holds.cells
+cells_placed_one : (w : State) (h : List Item) (p : PlacedPending w) (clients : List Client) (nodes : List (Option InstanceEntry)) (items : List Item) → AllQuiet items → FewerLive w.clients w.nodes clients nodes → Holds w h → CellFacts clients nodes w.rows (placed_pairs w p) (h ++ placed_item w p ∷ items)
+cells_placed_one w h p clients nodes items quiet fewer holds =
+    cells_placed w.clients clients w.nodes nodes w.rows w.pairs h (h ++ placed_item w p ∷ items) p.coming.start p.commit fewer (is_placing h items p.coming.start p.commit quiet) (placed_live w p) p.free holds.cells
 
 -- ---- every outcome
 pub cells_kept : (w : State) (h : List Item) (o : Outcome w) → Holds w h → CellFacts (left_by w o).clients (left_by w o).nodes (left_by w o).rows (left_by w o).pairs (h ++ told_by_outcome w o)
@@ -74,7 +71,7 @@ cells_kept w h (OfAskedBegin k) holds = goes w h _ _ _ w.rows w.pairs (fewer_liv
 cells_kept w h (OfAskedCommit k) holds = quietly w h k.items _ _ k.quiet (live_asked_commit w k) holds
 cells_kept w h (OfAccepted k) holds = quietly w h k.items _ _ k.quiet (live_accepted w k) holds
 cells_kept w h (OfDrew k) holds = goes w h _ _ _ w.rows w.pairs (live_drew w k) (calm_drew w h k) holds.cells
-cells_kept w h (OfPlaced k) holds = cells_placed_one w h k holds
+cells_kept w h (OfPlaced k) holds = cells_placed_one w h (by_its_node w h k holds) w.clients _ k.items k.quiet (live_by_nodes w.clients w.nodes _ (fewer_settled w k.it k.by)) holds
 cells_kept w h (OfAnsweredBegin k) holds = cells_answered_begin w h k holds
 cells_kept w h (OfWrote k) holds = cells_wrote w h k holds
 cells_kept w h (OfFetched k) holds = goes w h _ _ _ w.rows w.pairs (live_by_clients w.clients _ w.nodes (fewer_open_fetched w k)) (calm_turn h k.first k.it.session k.start k.key (fetched_turn w k.key k.start k.epoch) k.quiet) holds.cells

@@ -159,8 +159,8 @@ placed_record pairs t c u d free has = elim (cases_eq u t) [
   | inr other ↦ inr (sym (mark_of-put_pair_other pairs t u (CommittedMark c) other) ∙ has)
 ]
 
-pub cells_placed : (clients : List Client) (nodes new_nodes : List (Option InstanceEntry)) (rows : List Row) (pairs : Pairs) (h g : List Item) (t c : ℕ) → FewerLive clients nodes clients new_nodes → IsPlacing h g t c → Live clients nodes t → mark_of pairs t ≡ None → CellFacts clients nodes rows pairs h → CellFacts clients new_nodes rows (put_pair pairs t (CommittedMark c)) g
-cells_placed clients nodes new_nodes rows pairs h g t c fewer places live free facts = record {
+pub cells_placed : (clients new_clients : List Client) (nodes new_nodes : List (Option InstanceEntry)) (rows : List Row) (pairs : Pairs) (h g : List Item) (t c : ℕ) → FewerLive clients nodes new_clients new_nodes → IsPlacing h g t c → Live clients nodes t → mark_of pairs t ≡ None → CellFacts clients nodes rows pairs h → CellFacts new_clients new_nodes rows (put_pair pairs t (CommittedMark c)) g
+cells_placed clients new_clients nodes new_nodes rows pairs h g t c fewer places live free facts = record {
   rows_are = record {
     ordered = facts.rows_are.ordered;
     begun = λ k u cell found. let was = facts.rows_are.begun k u cell found in (was.0, places.on (Begin was.0 u) was.1);

@@ -14,6 +14,7 @@ use Rattle.isolation_laws.proofs.UnderWay.UnderWayOfRequests.{under_way_asked_be
 use Rattle.isolation_laws.proofs.UnderWay.UnderWayOfSessions.{under_way_fetched, under_way_read}
 use Rattle.isolation_laws.proofs.UnderWay.UnderWayOfSweeps.{under_way_sweep_listed}
 use Rattle.isolation_laws.proofs.UnderWay.WritesKept.{under_way_wrote}
+use Rattle.isolation_laws.proofs.Numbers.Placings.{by_its_node}
 
 -- no client and no store changed
 quietly : (w : State) (h items : List Item) → AllQuiet items → Holds w h → UnderWayFacts w.clients w.sweep w.rows w.pairs (h ++ items)
@@ -27,7 +28,7 @@ under_way_kept w h (OfAskedBegin k) holds = under_way_asked_begin w h k holds
 under_way_kept w h (OfAskedCommit k) holds = under_way_asked_commit w h k holds
 under_way_kept w h (OfAccepted k) holds = quietly w h k.items k.quiet holds
 under_way_kept w h (OfDrew k) holds = under_way_same w h _ holds (calm_drew w h k)
-under_way_kept w h (OfPlaced k) holds = under_way_placed w h k holds
+under_way_kept w h (OfPlaced k) holds = under_way_placed w h (by_its_node w h k holds) k.items k.quiet holds
 under_way_kept w h (OfAnsweredBegin k) holds = under_way_answered_begin w h k holds
 under_way_kept w h (OfWrote k) holds = under_way_wrote w h k holds
 under_way_kept w h (OfFetched k) holds = under_way_fetched w h k holds

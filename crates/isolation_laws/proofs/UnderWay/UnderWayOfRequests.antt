@@ -31,8 +31,7 @@ use Rattle.isolation_laws.proofs.Pushed.{last_write-quiet}
 use Rattle.isolation_laws.proofs.Owners.{not_in_flight, pending_unplaced}
 use Rattle.isolation_laws.proofs.Requests.OpenAfter.{crashed_at}
 use Rattle.isolation_laws.proofs.Outcome.OutcomesOfRequests.{Crashed, crashed_state, AskedBegin, asked_begin_state, asked_begin_items, AskedCommit, asked_commit_state, Ended, ended_state}
-use Rattle.isolation_laws.proofs.Outcome.OutcomesOfStamps.{AtDrawn, PlacedOne, placed_state, placed_items, AnsweredBegin, answered_begin_state, answered_begin_items, answered_client, AnsweredCommit, answered_commit_state}
-use Rattle.isolation_laws.proofs.Numbers.NumbersKept.{in_flight_of, drawn_pending}
+use Rattle.isolation_laws.proofs.Outcome.OutcomesOfStamps.{AnsweredBegin, answered_begin_state, answered_begin_items, answered_client, AnsweredCommit, answered_commit_state}
 use Rattle.isolation_laws.proofs.Requests.SettledNow.{Places, places}
 use Rattle.isolation_laws.proofs.Stores.Calm.{Calm, calm_same, calm_quiet, calm_push, last_write-other}
 use Rattle.isolation_laws.proofs.Stores.CellsMove.{IsPlacing}
@@ -41,6 +40,7 @@ use Rattle.isolation_laws.proofs.UnderWay.ClientWorks.{works_freed, works_opened
 use Rattle.isolation_laws.proofs.Stores.StoreMoves.{keeps_same}
 use Rattle.isolation_laws.proofs.UnderWay.SessionMoves.{work_of, start_of, under_way_calm, under_way_client}
 use Rattle.isolation_laws.proofs.Requests.RequestsOfNodes.{waits_for}
+use Rattle.isolation_laws.proofs.Numbers.Placings.{PlacedPending, placed_item, placed_pairs}
 
 -- ---- a crash
 loss_works : (rows : List Row) (h : List Item) (request : Request) (c : Client) → Works rows h c → Works rows h (after_loss request c)
@@ -146,24 +146,24 @@ is_placing h items t c quiet =
     }
 
 -- the transaction in flight is no session's that completes, or whose outcome is open
-placed_elsewhere : (w : State) (h : List Item) (k : AtDrawn w) (s u : ℕ) (c : Client) (state : SessionState) → Holds w h → ClientAt w.clients s c → c.entry.state ≡ state → IsTrue (has_transaction state) → (state ≡ phase.Gone → ⊥) → (state ≡ phase.Committing → ⊥) → c.entry.start ≡ Some u → u ≡ k.start → ⊥
-placed_elsewhere w h k s u c state holds at is has gone asked start same =
+placed_elsewhere : (w : State) (h : List Item) (p : PlacedPending w) (s u : ℕ) (c : Client) (state : SessionState) → Holds w h → ClientAt w.clients s c → c.entry.state ≡ state → IsTrue (has_transaction state) → (state ≡ phase.Gone → ⊥) → (state ≡ phase.Committing → ⊥) → c.entry.start ≡ Some u → u ≡ p.coming.start → ⊥
+placed_elsewhere w h p s u c state holds at is has gone asked start same =
     let begun = start_of w h s c state holds at is has in
-    let own : begun.0 ≡ k.start = same_Some begun.0 u (sym begun.1 ∙ start) ∙ same in
-    not_in_flight w.nodes w.clients h state s k.start c holds.isolated.stamped holds.requests.requests holds.requests.pending at is gone asked (subst (λ q. Begun h s q) own begun.2)
-    (record { coming = in_flight_of w k; pending = drawn_pending w k holds.requests.requests; start_is = refl })
+    let own : begun.0 ≡ p.coming.start = same_Some begun.0 u (sym begun.1 ∙ start) ∙ same in
+    not_in_flight w.nodes w.clients h state s p.coming.start c holds.isolated.stamped holds.requests.requests holds.requests.pending at is gone asked (subst (λ q. Begun h s q) own begun.2)
+    (record { coming = p.coming; pending = p.pending; start_is = refl })
 
-pub under_way_placed : (w : State) (h : List Item) (k : PlacedOne w) → Holds w h → UnderWayFacts w.clients w.sweep w.rows (placed_state w k).pairs (h ++ placed_items w k)
-under_way_placed w h k holds =
-    let g : List Item = h ++ placed_items w k in
-    let places_it : IsPlacing h g k.it.start k.it.commit = is_placing h k.items k.it.start k.it.commit k.quiet in
+pub under_way_placed : (w : State) (h : List Item) (p : PlacedPending w) (items : List Item) → AllQuiet items → Holds w h → UnderWayFacts w.clients w.sweep w.rows (placed_pairs w p) (h ++ placed_item w p ∷ items)
+under_way_placed w h p items quiet holds =
+    let g : List Item = h ++ placed_item w p ∷ items in
+    let places_it : IsPlacing h g p.coming.start p.commit = is_placing h items p.coming.start p.commit quiet in
     let keeps : KeepsPlaced w.rows w.rows h g = record { on = places_it.on; writes = λ t c j is. places_it.writes t j; shadows = λ t c j is has. has } in
-    under_way w.clients w.sweep w.rows (placed_state w k).pairs g
+    under_way w.clients w.sweep w.rows (placed_pairs w p) g
     (λ s c at. works_on w.rows w.rows h g c keeps (λ t d start is placed. elim (places_it.placed t d placed) [
       | inl old ↦ old
       | inr now ↦ elim is [
-        | inl undoes ↦ absurd (placed_elsewhere w h k.it s t c (phase.Completing true) holds at undoes refl (λ q. cc) (λ q. cc) start now.0)
-        | inr resolves ↦ absurd (placed_elsewhere w h k.it s t c phase.OpenOutcome holds at resolves refl (λ q. cc) (λ q. cc) start now.0)
+        | inl undoes ↦ absurd (placed_elsewhere w h p s t c (phase.Completing true) holds at undoes refl (λ q. cc) (λ q. cc) start now.0)
+        | inr resolves ↦ absurd (placed_elsewhere w h p s t c phase.OpenOutcome holds at resolves refl (λ q. cc) (λ q. cc) start now.0)
       ]
     ]) (work_of w h s c holds at))
-    (sweeping_on w.sweep w.rows w.rows w.pairs (placed_state w k).pairs h g keeps (λ t marked. entry_stays-put_pair w.pairs k.it.start t (CommittedMark k.it.commit) InvalidMark marked) holds.under_way.sweeping)
+    (sweeping_on w.sweep w.rows w.rows w.pairs (placed_pairs w p) h g keeps (λ t marked. entry_stays-put_pair w.pairs p.coming.start t (CommittedMark p.commit) InvalidMark marked) holds.under_way.sweeping)

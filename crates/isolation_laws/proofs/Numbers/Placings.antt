@@ -1,0 +1,44 @@
+-- A commit that is pending and has no mark is placed. Who places it does not matter here.
+use Rattle.std.proofs.Common.{◌≡◌, ℕ, List, None, inr, refl}
+use Rattle.history_book.specs.Isolation.{Committed}
+use Rattle.history_book.specs.declared.item.Item.{Item}
+use Rattle.history_book.specs.declared.item.Item.TheVariants.{Placed}
+use Rattle.stamp_base.specs.declared.stores.Mark.TheVariants.{Committed as CommittedMark}
+use Rattle.store_parts.specs.Pairs.{Pairs, mark_of, put_pair}
+use Rattle.machine.specs.State.{State}
+use Rattle.isolation_laws.specs.Words.{DrewCommit}
+use Rattle.isolation_laws.specs.Pending.{InFlight, Has, Pending, Live}
+use Rattle.isolation_laws.specs.Holds.{Holds}
+use Rattle.isolation_laws.proofs.Owners.{has_drew}
+use Rattle.isolation_laws.proofs.Outcome.OutcomesOfStamps.{PlacedOne}
+use Rattle.isolation_laws.proofs.Numbers.NumbersKept.{in_flight_of, drawn_pending}
+
+pub record PlacedPending (w : State) : Type 0 where
+  pub coming : InFlight
+  pub pending : Pending w.nodes coming
+  pub commit : ℕ
+  pub has : coming.stage ≡ Has commit
+  pub free : mark_of w.pairs coming.start ≡ None
+
+abbrev pub placed_item : (w : State) → PlacedPending w → Item
+placed_item w p = Placed p.coming.start p.commit
+
+abbrev pub placed_pairs : (w : State) → PlacedPending w → Pairs
+placed_pairs w p = put_pair w.pairs p.coming.start (CommittedMark p.commit)
+
+-- a node places what it has drawn
+abbrev pub by_its_node : (w : State) (h : List Item) (k : PlacedOne w) → Holds w h → PlacedPending w
+by_its_node w h k holds = record {
+  coming = in_flight_of w k.it;
+  pending = drawn_pending w k.it holds.requests.requests;
+  commit = k.it.commit;
+  has = refl;
+  free = k.free;
+}
+
+-- it was drawn, and was not placed
+pub placed_drew : (w : State) (h : List Item) (p : PlacedPending w) → Holds w h → DrewCommit h p.coming.session p.coming.node p.coming.term p.coming.start p.commit × ((c : ℕ) → Committed h p.coming.start c → ⊥)
+placed_drew w h p holds = has_drew w.nodes h p.coming p.commit holds.requests.pending p.pending p.has
+
+pub placed_live : (w : State) (p : PlacedPending w) → Live w.clients w.nodes p.coming.start
+placed_live w p = inr (record { coming = p.coming; pending = p.pending; start_is = refl })
