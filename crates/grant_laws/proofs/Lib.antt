@@ -16,6 +16,7 @@ pub mod FetchLines
 mod WorkedScripts
 mod WorkedTurns
 mod WorkedWaits
+mod WorkedHolds
 pub mod StoppedSeats
 pub mod SettledCommits
 pub mod StoodBefore

@@ -21,7 +21,7 @@ use Rattle.grant_laws.specs.WorkedRuns as runs
 
 -- ---- own turns
 -- none of these seats makes an event
-unfoldable Quiet : ScriptData → Carried → List Seat → Type 0
+unfoldable pub Quiet : ScriptData → Carried → List Seat → Type 0
 Quiet script c [] = Unit {0}
 Quiet script c (seat ∷ seats) = (made_by (seat_ahead script c seat) ≡ None) × Quiet script c seats
 
@@ -29,7 +29,7 @@ first_quiet : (script : ScriptData) (c : Carried) (seat : Seat) (rest : Option S
 first_quiet script c seat rest true first later = first
 first_quiet script c seat rest false first later = later
 
-found_quiet : (script : ScriptData) (c : Carried) (actor : Actor) (seats : List Seat) → Quiet script c seats → made_by (ahead_in script c (seat_of seats actor)) ≡ None
+pub found_quiet : (script : ScriptData) (c : Carried) (actor : Actor) (seats : List Seat) → Quiet script c seats → made_by (ahead_in script c (seat_of seats actor)) ≡ None
 unfolding Quiet
 found_quiet script c actor [] quiet = refl
 found_quiet script c actor (seat ∷ seats) quiet = first_quiet script c seat (seat_of seats actor) (same_actor seat.actor actor) quiet.0 (found_quiet script c actor seats quiet.1)
@@ -41,7 +41,7 @@ all_quiet : Quiet runs.awaiting start start.seats
 unfolding Quiet seats_of passed holder_from
 all_quiet = (refl, (refl, (refl, (refl, (refl, (refl, (refl, (refl, (refl, (refl, (refl, (refl, (refl, (refl, (refl, (refl, (refl, (refl, (refl, (refl, tt))))))))))))))))))))
 
-none_told : (script : ScriptData) (c : Carried) (found : Option Event) → found ≡ None → IsSomeAnd found (λ e. IsTold script c.played e) → ⊥
+pub none_told : (script : ScriptData) (c : Carried) (found : Option Event) → found ≡ None → IsSomeAnd found (λ e. IsTold script c.played e) → ⊥
 none_told script c None is told = told
 none_told script c (Some e) is told = none-some e (sym is)
 
@@ -68,7 +68,7 @@ none_lawful (turn.Extend node) k = none_extends node k
 pub name_awaited : AwaitsName runs.awaiting start runs.first_seat
 name_awaited = record { line = runs.await_line; name = runs.p; present = refl; awaits = refl; unposted = refl }
 
-some_item : (x : Item) → x ∷ [] ≡ [] → ⊥
+pub some_item : (x : Item) → x ∷ [] ≡ [] → ⊥
 some_item x none = cc
 
 pub posts : IsLawful runs.posting (carried runs.posting []) (turn.Own (Session 1))

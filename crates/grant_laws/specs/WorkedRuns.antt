@@ -1,6 +1,7 @@
 -- Short scripts with turns: each asks for one thing, once with all premises and once without one of them. Another session's turns
 -- come in between.
 use Rattle.std.specs.Prelude.{ℕ, true, false, List, [], ◌∷◌, ◌++◌, None, Some}
+use Rattle.stamp_base.specs.declared.stage.Stage.TheVariants.{Persist}
 use Rattle.stamp_base.specs.declared.stores.Store.TheVariants.{Cells, Table}
 use Rattle.history_book.specs.declared.cause.Cause.TheVariants as cause
 use Rattle.history_book.specs.declared.item.Actor.TheVariants.{Clock, Node, Session}
@@ -120,3 +121,18 @@ posting = of_lines (await_line ∷ line_of 0 (Session 1) (verb.Post p) ∷ [])
 
 abbrev pub first_seat : Seat
 first_seat = record { actor = Session 0; place = 0; point = Opens; unawaited = false }
+
+-- ---- a commit behind a stage that is held
+abbrev hold : Line
+hold = line_of 0 (Node 0) (verb.Hold Persist)
+
+abbrev pub holding : ScriptData
+holding = failing Table (of_lines (take 0 ∷ begin ∷ write ∷ commit ∷ hold ∷ []))
+
+-- up to the draw of the commit
+abbrev pub drawn_turns : List Turn
+drawn_turns = begun ++ turn.Own (Session 0) ∷ turn.Own (Session 0) ∷ turn.Accept 0 0 ∷ turn.Decide 0 0 ∷ []
+
+-- and then the node holds its persist stage
+abbrev pub held_turns : List Turn
+held_turns = drawn_turns ++ turn.Own (Node 0) ∷ []

@@ -7,10 +7,10 @@ ghost use Rattle.history_book.specs.declared.item.Actor.TheVariants.{Session};
 ghost use Rattle.history_book.specs.declared.item.Item.TheVariants.{Committed};
 ghost use Rattle.turn_rules.specs.Carried.{carried, carried_items};
 ghost use Rattle.turn_rules.specs.Lawful.{IsLawful};
-ghost use Rattle.turn_rules.specs.declared.turn.Turn.TheVariants.{Own, Accept, Decide};
+ghost use Rattle.turn_rules.specs.declared.turn.Turn.TheVariants.{Own, Accept, Decide, Put};
 ghost use Rattle.grant_laws.specs.Premises.{CanWrite, CanTake, CanFetch};
 ghost use Rattle.grant_laws.specs.Lines.{CanBeginBy, CanCommitBy};
-ghost use Rattle.grant_laws.specs.Stuck.{IsStuck, AwaitsName};
+ghost use Rattle.grant_laws.specs.Stuck.{IsStuck, AwaitsName, StandsBefore};
 ghost use Rattle.grant_laws.specs.Worked as worked;
 ghost use Rattle.grant_laws.specs.WorkedRuns as runs;
 
@@ -66,4 +66,11 @@ pub fn a_name_on_threads()
     ensures stuck { IsStuck runs.awaiting [] }
     ensures waits { AwaitsName runs.awaiting (carried runs.awaiting []) runs.first_seat }
     ensures goes_on { IsLawful runs.posting (carried runs.posting []) (Own (Session 1)) }
+{}
+
+/// A commit that is drawn waits behind a persist stage that is held, and no turn can be made. Before the hold its put can.
+pub fn a_hold_on_threads()
+    ensures stuck { IsStuck runs.holding runs.held_turns }
+    ensures waits { StandsBefore (carried runs.holding runs.held_turns) 0 }
+    ensures goes_on { IsLawful runs.holding (carried runs.holding runs.drawn_turns) (Put 0 0) }
 {}
