@@ -16,6 +16,8 @@ mod hostile;
 #[cfg(test)]
 mod json;
 #[cfg(test)]
+mod laws;
+#[cfg(test)]
 mod progress;
 #[cfg(test)]
 mod rows;

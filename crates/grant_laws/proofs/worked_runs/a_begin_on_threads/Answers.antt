@@ -1,4 +1,5 @@
-use Rattle.grant_laws.proofs.WorkedTurns.{begin_can, begin_history, begin_refused}
+use Rattle.grant_laws.proofs.WorkedPremises.{begin_can}
+use Rattle.grant_laws.proofs.WorkedTurns.{begin_history, begin_refused}
 use Rattle.grant_laws.proofs.worked_runs.a_begin_on_threads.Goals as goal
 
 pub returns-clause-can : goal.returns-clause-can

@@ -1,4 +1,5 @@
-use Rattle.grant_laws.proofs.WorkedTurns.{commit_can, commit_granted, commit_refused}
+use Rattle.grant_laws.proofs.WorkedPremises.{commit_can}
+use Rattle.grant_laws.proofs.WorkedTurns.{commit_granted, commit_refused}
 use Rattle.grant_laws.proofs.worked_runs.a_commit_on_threads.Goals as goal
 
 pub returns-clause-can : goal.returns-clause-can

@@ -1,4 +1,5 @@
-use Rattle.grant_laws.proofs.WorkedTurns.{read_can, read_history, read_refused}
+use Rattle.grant_laws.proofs.WorkedPremises.{read_can}
+use Rattle.grant_laws.proofs.WorkedTurns.{read_history, read_refused}
 use Rattle.grant_laws.proofs.worked_runs.a_read_on_threads.Goals as goal
 
 pub returns-clause-can : goal.returns-clause-can

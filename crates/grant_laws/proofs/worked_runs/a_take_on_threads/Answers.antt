@@ -1,4 +1,5 @@
-use Rattle.grant_laws.proofs.WorkedTurns.{take_can, take_history, take_refused}
+use Rattle.grant_laws.proofs.WorkedPremises.{take_can}
+use Rattle.grant_laws.proofs.WorkedTurns.{take_history, take_refused}
 use Rattle.grant_laws.proofs.worked_runs.a_take_on_threads.Goals as goal
 
 pub returns-clause-can : goal.returns-clause-can

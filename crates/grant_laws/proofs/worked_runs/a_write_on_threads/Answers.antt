@@ -1,4 +1,5 @@
-use Rattle.grant_laws.proofs.WorkedTurns.{write_can, write_history, write_refused}
+use Rattle.grant_laws.proofs.WorkedPremises.{write_can}
+use Rattle.grant_laws.proofs.WorkedTurns.{write_history, write_refused}
 use Rattle.grant_laws.proofs.worked_runs.a_write_on_threads.Goals as goal
 
 pub returns-clause-can : goal.returns-clause-can

@@ -1,0 +1,164 @@
+-- What an event makes of a node leaves the request of any session but that which it serves.
+use Rattle.std.proofs.Common.{◌≡◌, ◌≢◌, ℕ, List, [], ◌∷◌, Option, Some, None, Result, Ok, Err, ◌⊎◌, inl, inr, refl, sym, ◌∙◌, ap, subst}
+use Rattle.std.specs.Prelude.{slice_get, slice_set}
+use Rattle.std.proofs.lemmas.Bool.{cases_eq}
+use Rattle.std.proofs.lemmas.Option.{same_Some}
+use Rattle.stamp_base.specs.declared.stores.Mark.{Mark}
+use Rattle.port_io.specs.declared.weather.Fate.{Fate}
+use Rattle.port_io.specs.declared.weather.Fate.TheVariants.{Works, FailsUnchanged, FailsApplied}
+use Rattle.history_book.specs.declared.cause.Cause.{Cause}
+use Rattle.history_book.specs.declared.cause.Cause.TheVariants as cause
+use Rattle.history_book.specs.declared.item.Item.{Item}
+use Rattle.history_book.specs.declared.item.Item.TheVariants as item
+use Rattle.store_parts.specs.declared.record.RenewRefused.{RenewRefused}
+use Rattle.store_parts.specs.declared.record.RenewRefused.TheVariants as not_renewed
+use Rattle.store_parts.specs.declared.record.ExtendRefused.{ExtendRefused}
+use Rattle.store_parts.specs.declared.record.ExtendRefused.TheVariants as not_extended
+use Rattle.store_parts.specs.Pairs.{Pairs, mark_of}
+use Rattle.store_parts.specs.Record.{MasterRecord}
+use Rattle.oracle_parts.specs.declared.instance.Decided.{Decided}
+use Rattle.oracle_parts.specs.declared.instance.Held.{Held}
+use Rattle.oracle_parts.specs.declared.instance.Reply.{Reply}
+use Rattle.oracle_parts.specs.declared.instance.Reply.TheVariants as reply
+use Rattle.oracle_parts.specs.declared.instance.Request.{Request}
+use Rattle.oracle_parts.specs.declared.instance.Request.TheVariants.{Begin, Commit}
+use Rattle.oracle_parts.specs.declared.instance.Settled.TheVariants as how
+use Rattle.oracle_parts.specs.Instance.{InstanceEntry, held_of, session_of}
+use Rattle.oracle_parts.specs.InstanceSteps.{instance_ask, instance_accept, instance_decide, instance_answer}
+use Rattle.oracle_parts.specs.InstanceLaws.{InstanceCall, Asks, Accepts, Decides, Settles, Answers, after_call, call_session}
+use Rattle.oracle_parts.proofs.InstanceRequests.{held_of-after_call_other}
+use Rattle.machine.specs.State.{Client}
+use Rattle.machine.specs.Events.Renew.{renew_by}
+use Rattle.machine.specs.Events.Extend.{extend_by}
+use Rattle.machine.specs.Events.AskBegin.{asked_by, ask_begin_by}
+use Rattle.machine.specs.Events.AskCommit.{commit_of, ask_commit_by}
+use Rattle.machine.specs.Events.Accept.{accept_by, accept_request}
+use Rattle.machine.specs.Events.Decide.{decide_by, decide_request}
+use Rattle.machine.specs.Events.Put.{put_by, put_commit}
+use Rattle.machine.specs.Events.Answer.{answer_by, answer_request}
+use Rattle.isolation_laws.specs.Words.{InstanceAt}
+use Rattle.isolation_laws.proofs.Lookups.{set_found, set_other}
+
+-- ---- a request at a node
+pub record Has (nodes : List (Option InstanceEntry)) (node s : ℕ) (held : Held) : Type 0 where
+  pub i : InstanceEntry
+  pub at : InstanceAt nodes node i
+  pub has : held_of i s ≡ Some held
+
+pub record PostHas (post : Option InstanceEntry) (s : ℕ) (held : Held) : Type 0 where
+  pub i : InstanceEntry
+  pub is : post ≡ Some i
+  pub has : held_of i s ≡ Some held
+
+-- one node is changed: another, or this one, which still has the request
+pub set_has : (nodes : List (Option InstanceEntry)) (node n s : ℕ) (held : Held) (post : Option InstanceEntry) → (k : Has nodes node s held) → (n ≡ node → PostHas post s held) → Has (slice_set nodes n post) node s held
+set_has nodes node n s held post k here = by_place (cases_eq n node)
+  where
+    by_place : (n ≡ node) ⊎ (n ≡ node → ⊥) → Has (slice_set nodes n post) node s held
+    by_place (inl same) =
+        let now : PostHas post s held = here same in
+        record { i = now.i; at = subst (λ (m : ℕ). slice_get (slice_set nodes m post) node ≡ Some (Some now.i)) (sym same) (set_found nodes node post (Some k.i) k.at ∙ ap (λ (x : Option InstanceEntry). Some x) now.is); has = now.has }
+    by_place (inr other) = record { i = k.i; at = set_other nodes n node post (λ same. other (sym same)) ∙ k.at; has = k.has }
+
+-- what the node had
+pub the_post : (nodes : List (Option InstanceEntry)) (node n s : ℕ) (held : Held) (post : Option InstanceEntry) (k : Has nodes node s held) → slice_get nodes n ≡ Some post → n ≡ node → post ≡ Some k.i
+the_post nodes node n s held post k at same = same_Some post (Some k.i) (sym at ∙ ap (λ (m : ℕ). slice_get nodes m) same ∙ k.at)
+
+-- ---- a call on another session's request
+-- the node's instance stays, or is what a call on the session r leaves
+pub Called : InstanceEntry → ℕ → Option InstanceEntry → Type 0
+Called i r post = (post ≡ Some i) ⊎ ((call : InstanceCall) × (call_session call ≡ Some r) × (post ≡ Some (after_call i call)))
+
+pub called_has : (i : InstanceEntry) (r s : ℕ) (held : Held) (post : Option InstanceEntry) → r ≢ s → held_of i s ≡ Some held → Called i r post → PostHas post s held
+unfolding Called
+called_has i r s held post other has (inl same) = record { i = i; is = same; has = has }
+called_has i r s held post other has (inr made) = record {
+  i = after_call i made.0;
+  is = made.2;
+  has = held_of-after_call_other i made.0 s (λ same. other (same_Some r s (sym made.1 ∙ same))) ∙ has;
+}
+
+-- ---- the events
+asked_called : (r : ℕ) (c : Client) (x : Item) (i : InstanceEntry) (request : Request) (answer : Result (Unit {0}) Cause) → session_of request ≡ r → Called i r (asked_by r c x (instance_ask i request) answer).parts.1
+unfolding Called
+asked_called r c x i request (Ok done) own = inr (Asks request, ap (λ (n : ℕ). Some n) own, refl)
+asked_called r c x i request (Err why) own = inr (Asks request, ap (λ (n : ℕ). Some n) own, refl)
+
+pub begin_called : (r n : ℕ) (c : Client) (i : InstanceEntry) (why : Option Cause) → Called i r (ask_begin_by r n c (Some i) why).parts.1
+unfolding Called
+begin_called r n c i (Some why) = inl refl
+begin_called r n c i None = asked_called r c (item.AskBegin r n) i (Begin r) (instance_ask i (Begin r)).answer refl
+
+commit_called : (r n : ℕ) (c : Client) (i : InstanceEntry) (start : ℕ) (keys : List ℕ) → Called i r (commit_of r n c start keys (Some i)).parts.1
+unfolding Called
+commit_called r n c i start [] = inl refl
+commit_called r n c i start (key ∷ keys) = asked_called r c (item.AskCommit r n start) i (Commit r start c.entry.keys) (instance_ask i (Commit r start c.entry.keys)).answer refl
+
+pub commits_called : (r n : ℕ) (c : Client) (i : InstanceEntry) (why : Option Cause) (start : Option ℕ) → Called i r (ask_commit_by r n c (Some i) why start).parts.1
+unfolding Called
+commits_called r n c i (Some why) start = inl refl
+commits_called r n c i None None = inl refl
+commits_called r n c i None (Some start) = commit_called r n c i start c.entry.keys
+
+accept_called : (n r reading : ℕ) (request : Request) (i : InstanceEntry) (c : Client) (answer : Result (Unit {0}) Cause) → Called i r (accept_by n r reading request (instance_accept i r reading).left c answer).parts.0
+unfolding Called
+accept_called n r reading request i c (Ok done) = inr (Accepts r reading, refl, refl)
+accept_called n r reading request i c (Err (cause.NoRequest s)) = inr (Accepts r reading, refl, refl)
+accept_called n r reading request i c (Err _) = inr (Accepts r reading, refl, refl)
+
+pub accepts_called : (n r reading : ℕ) (i : InstanceEntry) (c : Client) (held : Option Held) → Called i r (accept_request n r reading i c held).parts.0
+unfolding Called
+accepts_called n r reading i c None = inl refl
+accepts_called n r reading i c (Some held) = accept_called n r reading held.request i c (instance_accept i r reading).answer
+
+decide_called : (n r : ℕ) (held : Held) (i : InstanceEntry) (c : Client) (answer : Result Decided Cause) → Called i r (decide_by n r held (instance_decide i r).left c answer).parts.0
+unfolding Called
+decide_called n r held i c (Ok drawn) = inr (Decides r, refl, refl)
+decide_called n r held i c (Err (cause.NoRequest s)) = inr (Decides r, refl, refl)
+decide_called n r held i c (Err (cause.NoStamp last)) = inr (Decides r, refl, refl)
+decide_called n r held i c (Err _) = inr (Decides r, refl, refl)
+
+pub decides_called : (n r : ℕ) (i : InstanceEntry) (c : Client) (held : Option Held) → Called i r (decide_request n r i c held).parts.0
+unfolding Called
+decides_called n r i c None = inl refl
+decides_called n r i c (Some held) = decide_called n r held i c (instance_decide i r).answer
+
+put_called : (n r start commit : ℕ) (fate : Fate) (found : Option Mark) (i : InstanceEntry) (pairs : Pairs) → Called i r (put_by n r start commit fate found i pairs).parts.0
+unfolding Called
+put_called n r start commit Works None i pairs = inr (Settles r how.Placed, refl, refl)
+put_called n r start commit Works (Some mark) i pairs = inr (Settles r how.Invalid, refl, refl)
+put_called n r start commit FailsUnchanged None i pairs = inr (Settles r how.Faulted, refl, refl)
+put_called n r start commit FailsUnchanged (Some mark) i pairs = inr (Settles r how.Faulted, refl, refl)
+put_called n r start commit FailsApplied None i pairs = inr (Settles r how.Faulted, refl, refl)
+put_called n r start commit FailsApplied (Some mark) i pairs = inr (Settles r how.Faulted, refl, refl)
+
+pub puts_called : (n r : ℕ) (fate : Fate) (i : InstanceEntry) (pairs : Pairs) (stamps : Option (ℕ × ℕ)) → Called i r (put_commit n r fate i pairs stamps).parts.0
+unfolding Called
+puts_called n r fate i pairs None = inl refl
+puts_called n r fate i pairs (Some stamps) = put_called n r stamps.0 stamps.1 fate (mark_of pairs stamps.0) i _
+
+answer_called : (n r start : ℕ) (c : Client) (i : InstanceEntry) (answer : Result Reply Cause) → Called i r (answer_by n r start c i (instance_answer i r).left answer).parts.0
+unfolding Called
+answer_called n r start c i (Ok (reply.Begun begun epoch)) = inr (Answers r, refl, refl)
+answer_called n r start c i (Ok (reply.Committed commit)) = inr (Answers r, refl, refl)
+answer_called n r start c i (Ok reply.Invalid) = inr (Answers r, refl, refl)
+answer_called n r start c i (Ok reply.Open) = inr (Answers r, refl, refl)
+answer_called n r start c i (Err (cause.NotYet commit)) = inr (Answers r, refl, refl)
+answer_called n r start c i (Err _) = inr (Answers r, refl, refl)
+
+pub answers_called : (n r : ℕ) (i : InstanceEntry) (c : Client) (stamps : Option (ℕ × Option ℕ)) → Called i r (answer_request n r i c stamps).parts.0
+unfolding Called
+answers_called n r i c None = inl refl
+answers_called n r i c (Some stamps) = answer_called n r stamps.0 c i (instance_answer i r).answer
+
+-- ---- the record's events
+pub renew_has : (n reading s : ℕ) (held : Held) (i : InstanceEntry) (r : MasterRecord) (kept : List Item) (answer : Result ℕ RenewRefused) → held_of i s ≡ Some held → PostHas (renew_by n reading i r kept answer).parts.0 s held
+renew_has n reading s held i r kept (Ok until) has = record { i = _; is = refl; has = has }
+renew_has n reading s held i r kept (Err not_renewed.StoreFault) has = record { i = _; is = refl; has = has }
+renew_has n reading s held i r kept (Err (not_renewed.Replaced found)) has = record { i = _; is = refl; has = has }
+
+pub extend_has : (n s : ℕ) (held : Held) (i : InstanceEntry) (r : MasterRecord) (kept : List Item) (answer : Result ℕ ExtendRefused) → held_of i s ≡ Some held → PostHas (extend_by n i r kept answer).parts.0 s held
+extend_has n s held i r kept (Ok ceiling) has = record { i = _; is = refl; has = has }
+extend_has n s held i r kept (Err not_extended.StoreFault) has = record { i = _; is = refl; has = has }
+extend_has n s held i r kept (Err (not_extended.Replaced found)) has = record { i = _; is = refl; has = has }
+extend_has n s held i r kept (Err (not_extended.Spent ceiling)) has = record { i = _; is = refl; has = has }
