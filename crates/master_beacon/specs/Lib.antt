@@ -1,0 +1,7 @@
+pub mod Announcements
+pub mod Seen
+pub mod Views
+pub mod Rule
+pub mod Steps
+pub mod Holds
+pub mod WorkedLooks
