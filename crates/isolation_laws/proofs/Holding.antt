@@ -1,6 +1,7 @@
 -- What outcomes leave alone, what histories have, and what follows.
 pub mod Frames
 pub mod Framed
+pub mod Calmed
 pub mod IsolatedItems
 pub mod IsolatedStamps
 pub mod OpeningSessions

@@ -37,8 +37,6 @@ use Rattle.isolation_laws.proofs.Requests.AsksBefore.{AsksNothing, quiet_no_ask}
 use Rattle.isolation_laws.proofs.Requests.FreshBegins.{begins_of, fresh_fewer}
 use Rattle.isolation_laws.proofs.Requests.SettledBelow.{numbers_keep, below_fewer}
 use Rattle.isolation_laws.proofs.Stores.StoresStay.{ShadowsStay, shadows_same, MarksStay, marks_same}
-use Rattle.isolation_laws.proofs.Reading.ReadsLonger.{rely_calm}
-use Rattle.isolation_laws.proofs.Reading.ReadsStay.{quiet_no_reads, ReadsRight, reads_stay, none_comes}
 
 -- ---- nodes: no instance is new or has other numbers, and no request is new or has gone on to a stamp
 pub record NodesFrame (old new : List (Option InstanceEntry)) : Type 0 where
@@ -163,11 +161,6 @@ begins_on w h items nodes clients kept opens none holds = record {
 
 pub begins_framed : (w : State) (h : List Item) (left : State) (items : List Item) → Frame w h left items → Holds w h → BeginFacts left.clients left.nodes (h ++ items)
 begins_framed w h left items f holds = begins_on w h items left.nodes left.clients f.nodes f.clients.opened (λ s. quiet_no_ask s items f.quiet) holds
-
-pub reads_framed : (w : State) (h : List Item) (left : State) (items : List Item) → Frame w h left items → Holds w h → ReadsRight w.setup left.clients left.nodes left.rows left.pairs (h ++ items)
-reads_framed w h left items f holds =
-    reads_stay w h items left.nodes left.rows left.pairs left.clients (quiet_no_reads items f.quiet)
-    (rely_calm w h (h ++ items) left.nodes left.rows left.pairs (calm_quiet h items f.quiet) (none_comes w h left.nodes f.nodes.pending) f.shadows f.marks) f.clients.reading holds
 
 pub live_framed : (w : State) (h : List Item) (left : State) (items : List Item) → Frame w h left items → FewerLive w.clients w.nodes left.clients left.nodes
 live_framed w h left items f = live_by w.clients left.clients w.nodes left.nodes f.clients f.nodes

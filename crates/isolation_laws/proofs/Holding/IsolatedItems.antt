@@ -18,12 +18,12 @@ use Rattle.machine.specs.Events.Fetch.{read_items, found_of}
 use Rattle.isolation_laws.specs.Words.{Begun}
 use Rattle.isolation_laws.specs.Quiet.{Quiet, AllQuiet}
 use Rattle.isolation_laws.specs.Holds.{Holds}
-use Rattle.isolation_laws.proofs.Holding.Framed.{framed}
 use Rattle.isolation_laws.proofs.Pushed.{in_append}
 use Rattle.isolation_laws.proofs.Outcome.OutcomesOfStamps.{AnsweredBegin, answered_begin_items}
 use Rattle.isolation_laws.proofs.Outcome.OutcomesOfWork.{fetched_turn, read_turn}
-use Rattle.isolation_laws.proofs.Outcome.Outcomes.{Outcome, OfGranted, OfRenewed, OfExtended, OfAskedBegin, OfAskedCommit, OfAccepted, OfDrew, OfPlaced, OfAnsweredBegin, OfWrote, OfFetched, OfReadStepped, OfSweepListed, told_by_outcome}
+use Rattle.isolation_laws.proofs.Outcome.Outcomes.{Outcome, OfAskedBegin, OfDrew, OfPlaced, OfAnsweredBegin, OfWrote, OfFetched, OfReadStepped, OfSweepListed, told_by_outcome}
 use Rattle.isolation_laws.proofs.Numbers.Placings.{PlacedPending, placed_item, by_its_node}
+use Rattle.isolation_laws.proofs.Holding.Calmed.{calmed}
 
 -- the item is a begin or a placed commit
 abbrev pub is_stamp : Item → Bool
@@ -67,16 +67,8 @@ pub data Stamping (w : State) (items : List Item) : Type 0 where
   StampsPlaced : (p : PlacedPending w) (rest : List Item) → AllQuiet rest → items ≡ placed_item w p ∷ rest → Stamping w items
   StampsBegin : (k : AnsweredBegin w) → items ≡ answered_begin_items w k → Stamping w items
 
-quietly : (w : State) (items : List Item) → AllQuiet items → Stamping w items
-quietly w items quiet = StampsNone (quiet_no_stamps items quiet)
-
 pub stamping : (w : State) (h : List Item) (o : Outcome w) → Holds w h → Stamping w (told_by_outcome w o)
-stamping w h (OfGranted k) holds = quietly w k.items k.quiet
-stamping w h (OfRenewed k) holds = quietly w k.items k.quiet
-stamping w h (OfExtended k) holds = quietly w k.items k.quiet
 stamping w h (OfAskedBegin k) holds = StampsNone (one_no_stamp (item.AskBegin k.session k.node) refl)
-stamping w h (OfAskedCommit k) holds = quietly w k.items k.quiet
-stamping w h (OfAccepted k) holds = quietly w k.items k.quiet
 stamping w h (OfDrew k) holds = StampsNone (one_no_stamp (draw_item k.node k.i.term k.held.request (k.i.last + 1)) (draw_no_stamp k.node k.i.term (k.i.last + 1) k.held.request))
 stamping w h (OfPlaced k) holds = StampsPlaced (by_its_node w h k holds) k.items k.quiet refl
 stamping w h (OfAnsweredBegin k) holds = StampsBegin k refl
@@ -84,7 +76,7 @@ stamping w h (OfWrote k) holds = StampsNone (one_no_stamp (item.Write k.it.sessi
 stamping w h (OfFetched k) holds = StampsNone (first_no_stamps k.first (read_items k.it.session k.start k.key (fetched_turn w k.key k.start k.epoch)) k.quiet (turn_no_stamps k.it.session k.start k.key (fetched_turn w k.key k.start k.epoch)))
 stamping w h (OfReadStepped k) holds = StampsNone (first_no_stamps k.first (read_items k.session k.r.start k.r.key (read_turn w k.r)) k.quiet (turn_no_stamps k.session k.r.start k.r.key (read_turn w k.r)))
 stamping w h (OfSweepListed k) holds = StampsNone (one_no_stamp (item.Step Janitor (Keys k.txn k.count)) refl)
-stamping w h o holds = quietly w (told_by_outcome w o) (framed w h o holds refl).quiet
+stamping w h o holds = StampsNone (quiet_no_stamps (told_by_outcome w o) (calmed w h o holds refl).quiet)
 
 -- ---- what stands at each place stays, where each item that has no stamp fits
 pub each_on : (P : List Item → Item → Type 0) (h items : List Item) → ((before : List Item) (x : Item) → NoStamp x → P before x) → NoStamps items → AtEach P h → AtEach P (h ++ items)

@@ -14,19 +14,18 @@ use Rattle.machine.specs.StoreSteps.{pairs_after}
 use Rattle.isolation_laws.specs.Words.{Marked, Begun}
 use Rattle.isolation_laws.specs.Pending.{Live}
 use Rattle.isolation_laws.specs.Holds.{Holds}
-use Rattle.isolation_laws.proofs.Holding.Frames.{live_framed}
-use Rattle.isolation_laws.proofs.Holding.Framed.{framed}
 use Rattle.isolation_laws.specs.Laws.{IsMarkedFirst, IsLost}
 use Rattle.isolation_laws.proofs.Pushed.{old_placed}
-use Rattle.isolation_laws.proofs.Outcome.Outcomes.{Outcome, OfGranted, OfRenewed, OfExtended, OfAskedBegin, OfAskedCommit, OfAccepted, OfDrew, OfPlaced, OfAnsweredBegin, OfWrote, OfFetched, OfReadDropped, OfReadStepped, OfOutcome, OfOutcomeFailed, OfCompleted, OfSwept, OfSweepListed, OfSweepFailed, left_by, told_by_outcome}
+use Rattle.isolation_laws.proofs.Outcome.Outcomes.{Outcome, OfAskedBegin, OfDrew, OfPlaced, OfAnsweredBegin, OfWrote, OfFetched, OfReadDropped, OfReadStepped, OfOutcome, OfOutcomeFailed, OfCompleted, OfSwept, OfSweepListed, OfSweepFailed, left_by, told_by_outcome}
 use Rattle.isolation_laws.proofs.Holding.IsolatedItems.{Stamping, StampsNone, StampsPlaced, StampsBegin, stamping, placed_old}
 use Rattle.isolation_laws.proofs.Stores.StoresStay.{MarksStay, marks_put, marks_after, marks_may, marks_if}
-use Rattle.isolation_laws.proofs.Requests.PendingFewer.{fewer_granted, fewer_renewed, fewer_extended, fewer_asked_begin, fewer_settled}
+use Rattle.isolation_laws.proofs.Requests.PendingFewer.{fewer_asked_begin, fewer_settled}
 use Rattle.isolation_laws.proofs.Requests.OpenAfter.{fewer_open_asked_begin, fewer_open_wrote, fewer_open_fetched, fewer_open_read}
-use Rattle.isolation_laws.proofs.Stores.LiveAfter.{fewer_live, live_by_clients, live_by_nodes, live_asked_commit, live_accepted, live_drew, live_answered_begin}
+use Rattle.isolation_laws.proofs.Stores.LiveAfter.{fewer_live, live_by_clients, live_by_nodes, live_drew, live_answered_begin}
 use Rattle.isolation_laws.proofs.Numbers.Placings.{PlacedPending, placed_item, placed_live}
 use Rattle.isolation_laws.specs.Quiet.{AllQuiet}
 use Rattle.isolation_laws.proofs.Requests.RequestsOfBegins.{start_unbegun}
+use Rattle.isolation_laws.proofs.Holding.Calmed.{calmed}
 
 -- ---- what an outcome places
 placed_same : (t c u d : ℕ) → Placed t c ≡ Placed u d → t ≡ u
@@ -69,12 +68,7 @@ marks_kept w _ = λ u marked. marked
 
 -- ---- nothing becomes live again
 live_kept : (w : State) (h : List Item) (o : Outcome w) (s t : ℕ) → Holds w h → Begun h s t → Live (left_by w o).clients (left_by w o).nodes t → Live w.clients w.nodes t
-live_kept w h (OfGranted k) s t holds begun live = live_by_nodes w.clients w.nodes _ (fewer_granted w k) t live
-live_kept w h (OfRenewed k) s t holds begun live = live_by_nodes w.clients w.nodes _ (fewer_renewed w k) t live
-live_kept w h (OfExtended k) s t holds begun live = live_by_nodes w.clients w.nodes _ (fewer_extended w k) t live
 live_kept w h (OfAskedBegin k) s t holds begun live = fewer_live w.clients _ w.nodes _ (fewer_open_asked_begin w k) (fewer_asked_begin w k) t live
-live_kept w h (OfAskedCommit k) s t holds begun live = live_asked_commit w k t live
-live_kept w h (OfAccepted k) s t holds begun live = live_accepted w k t live
 live_kept w h (OfDrew k) s t holds begun live = live_drew w k t live
 live_kept w h (OfPlaced k) s t holds begun live = live_by_nodes w.clients w.nodes _ (fewer_settled w k.it k.by) t live
 live_kept w h (OfAnsweredBegin k) s t holds begun live = elim (live_answered_begin w k t live) [
@@ -85,7 +79,7 @@ live_kept w h (OfWrote k) s t holds begun live = live_by_clients w.clients _ w.n
 live_kept w h (OfFetched k) s t holds begun live = live_by_clients w.clients _ w.nodes (fewer_open_fetched w k) t live
 live_kept w h (OfReadStepped k) s t holds begun live = live_by_clients w.clients _ w.nodes (fewer_open_read w k) t live
 live_kept w h (OfSweepListed k) s t holds begun live = live
-live_kept w h o s t holds begun live = live_framed w h (left_by w o) (told_by_outcome w o) (framed w h o holds refl) t live
+live_kept w h o s t holds begun live = (calmed w h o holds refl).live t live
 
 -- ---- one outcome
 no_mark : (w : State) (p : PlacedPending w) (t : ℕ) → Marked w.pairs t → t ≡ p.coming.start → ⊥

@@ -8,25 +8,19 @@ use Rattle.history_book.specs.declared.item.Item.{Item}
 use Rattle.history_book.specs.declared.item.Item.TheVariants.{AskBegin, Begin, Write, Placed, Step}
 use Rattle.oracle_parts.specs.Instance.{InstanceEntry}
 use Rattle.machine.specs.State.{Client, State}
-use Rattle.isolation_laws.specs.Quiet.{AllQuiet}
 use Rattle.isolation_laws.specs.Reads.{ReadFacts}
 use Rattle.isolation_laws.specs.Holds.{Holds}
-use Rattle.isolation_laws.proofs.Holding.Framed.{framed}
-use Rattle.isolation_laws.proofs.Holding.Frames.{reads_framed}
-use Rattle.isolation_laws.proofs.Outcome.Outcomes.{Outcome, OfGranted, OfRenewed, OfExtended, OfAskedBegin, OfAskedCommit, OfAccepted, OfDrew, OfPlaced, OfAnsweredBegin, OfWrote, OfFetched, OfReadStepped, OfSweepListed, left_by, told_by_outcome}
-use Rattle.isolation_laws.proofs.Requests.PendingFewer.{fewer_settled, fewer_granted, fewer_renewed, fewer_extended, fewer_asked_begin, fewer_answered_begin}
-use Rattle.isolation_laws.proofs.Requests.PendingMoved.{comes_asked_commit, comes_drew}
+use Rattle.isolation_laws.proofs.Outcome.Outcomes.{Outcome, OfAskedBegin, OfDrew, OfPlaced, OfAnsweredBegin, OfWrote, OfFetched, OfReadStepped, OfSweepListed, left_by, told_by_outcome}
+use Rattle.isolation_laws.proofs.Requests.PendingFewer.{fewer_settled, fewer_asked_begin, fewer_answered_begin}
+use Rattle.isolation_laws.proofs.Requests.PendingMoved.{comes_drew}
 use Rattle.isolation_laws.proofs.Stores.StoresStay.{marks_same, shadows_same}
-use Rattle.isolation_laws.proofs.Stores.Calm.{WritesNone, calm_quiet, calm_push, calm_draw}
-use Rattle.isolation_laws.proofs.Reading.ClientsReading.{FewerReading, same_reading, reading_asked_begin, reading_asked_commit, reading_answered_begin, reading_wrote}
-use Rattle.isolation_laws.proofs.Reading.ReadsStay.{NoReads, quiet_no_reads, then_no_reads, one_no_reads, draw_no_reads, ReadsRight, reads_stay, NoneComes, none_comes, same_comes, none_comes_accepted, rely_placed, rely_wrote}
+use Rattle.isolation_laws.proofs.Stores.Calm.{WritesNone, calm_push, calm_draw}
+use Rattle.isolation_laws.proofs.Reading.ClientsReading.{FewerReading, same_reading, reading_asked_begin, reading_answered_begin, reading_wrote}
+use Rattle.isolation_laws.proofs.Reading.ReadsStay.{NoReads, quiet_no_reads, then_no_reads, one_no_reads, draw_no_reads, ReadsRight, reads_stay, NoneComes, none_comes, same_comes, rely_placed, rely_wrote}
 use Rattle.isolation_laws.proofs.Reading.ReadsOfReads.{reads_stepped, reads_fetched}
 use Rattle.isolation_laws.proofs.Reading.ReadsLonger.{rely_calm}
 use Rattle.isolation_laws.proofs.Numbers.Placings.{by_its_node}
-
--- quiet items, and the stores stay
-calmly : (w : State) (h items : List Item) (clients : List Client) (nodes : List (Option InstanceEntry)) → AllQuiet items → FewerReading w.clients clients → NoneComes w h nodes → Holds w h → ReadsRight w.setup clients nodes w.rows w.pairs (h ++ items)
-calmly w h items clients nodes quiet fewer comes holds = reads_stay w h items nodes w.rows w.pairs clients (quiet_no_reads items quiet) (rely_calm w h (h ++ items) nodes w.rows w.pairs (calm_quiet h items quiet) comes (shadows_same h w.rows) (marks_same w.pairs)) fewer holds
+use Rattle.isolation_laws.proofs.Holding.Calmed.{calmed, reads_calmed}
 
 -- one item that writes, places and answers nothing, and the stores stay
 with_one : (w : State) (h : List Item) (x : Item) (clients : List Client) (nodes : List (Option InstanceEntry)) → WritesNone x → NoReads (x ∷ []) → FewerReading w.clients clients → NoneComes w h nodes → Holds w h → ReadsRight w.setup clients nodes w.rows w.pairs (h ++ x ∷ [])
@@ -42,12 +36,7 @@ listing_none : (t count : ℕ) → WritesNone (Step Janitor (KeysStep t count))
 listing_none t count = record { writes = λ u k. refl; placed = λ u c is. cc }
 
 pub all_reads_kept : (w : State) (h : List Item) (o : Outcome w) → Holds w h → ReadsRight (left_by w o).setup (left_by w o).clients (left_by w o).nodes (left_by w o).rows (left_by w o).pairs (h ++ told_by_outcome w o)
-all_reads_kept w h (OfGranted k) holds = calmly w h k.items w.clients _ k.quiet (same_reading w.clients) (none_comes w h _ (fewer_granted w k)) holds
-all_reads_kept w h (OfRenewed k) holds = calmly w h k.items w.clients _ k.quiet (same_reading w.clients) (none_comes w h _ (fewer_renewed w k)) holds
-all_reads_kept w h (OfExtended k) holds = calmly w h k.items w.clients _ k.quiet (same_reading w.clients) (none_comes w h _ (fewer_extended w k)) holds
 all_reads_kept w h (OfAskedBegin k) holds = with_one w h (AskBegin k.session k.node) _ _ (ask_none k.session k.node) (one_no_reads (AskBegin k.session k.node) (λ s b key answer is. cc)) (reading_asked_begin w k) (none_comes w h _ (fewer_asked_begin w k)) holds
-all_reads_kept w h (OfAskedCommit k) holds = calmly w h k.items _ _ k.quiet (reading_asked_commit w k) (λ r b u begun c. comes_asked_commit w k b u c) holds
-all_reads_kept w h (OfAccepted k) holds = calmly w h k.items w.clients _ k.quiet (same_reading w.clients) (none_comes_accepted w h k holds) holds
 all_reads_kept w h (OfDrew k) holds = reads_stay w h _ _ w.rows w.pairs w.clients (draw_no_reads k.node k.i.term k.held.request (k.i.last + 1)) (rely_calm w h _ _ w.rows w.pairs (calm_draw h k.node k.i.term k.held.request (k.i.last + 1)) (λ r b u begun c. comes_drew w k b u c) (shadows_same h w.rows) (marks_same w.pairs)) (same_reading w.clients) holds
 all_reads_kept w h (OfPlaced k) holds = reads_stay w h _ _ w.rows _ w.clients (then_no_reads (Placed k.it.start k.it.commit) k.items (λ s b key answer is. cc) (quiet_no_reads k.items k.quiet)) (rely_placed w h (by_its_node w h k holds) _ k.items k.quiet (fewer_settled w k.it k.by) holds) (same_reading w.clients) holds
 all_reads_kept w h (OfAnsweredBegin k) holds = with_one w h (Begin k.session k.start) _ _ (begin_none k.session k.start) (one_no_reads (Begin k.session k.start) (λ s b key answer is. cc)) (reading_answered_begin w k) (none_comes w h _ (fewer_answered_begin w k)) holds
@@ -55,7 +44,7 @@ all_reads_kept w h (OfWrote k) holds = reads_stay w h _ w.nodes _ w.pairs _ (one
 all_reads_kept w h (OfFetched k) holds = reads_fetched w h k holds
 all_reads_kept w h (OfReadStepped k) holds = reads_stepped w h k holds
 all_reads_kept w h (OfSweepListed k) holds = with_one w h (Step Janitor (KeysStep k.txn k.count)) w.clients w.nodes (listing_none k.txn k.count) (one_no_reads (Step Janitor (KeysStep k.txn k.count)) (λ s b key answer is. cc)) (same_reading w.clients) (same_comes w h) holds
-all_reads_kept w h o holds = reads_framed w h (left_by w o) (told_by_outcome w o) (framed w h o holds refl) holds
+all_reads_kept w h o holds = reads_calmed w h (left_by w o) (told_by_outcome w o) (calmed w h o holds refl) holds
 
 pub reads_kept : (w : State) (h : List Item) (o : Outcome w) → Holds w h → ReadFacts (left_by w o).setup (left_by w o).clients (left_by w o).nodes (left_by w o).rows (left_by w o).pairs (h ++ told_by_outcome w o)
 reads_kept w h o holds = (all_reads_kept w h o holds).facts

@@ -11,29 +11,27 @@ use Rattle.machine.specs.State.{Client, State}
 use Rattle.isolation_laws.specs.Quiet.{AllQuiet}
 use Rattle.isolation_laws.specs.Cells.{CellFacts}
 use Rattle.isolation_laws.specs.Holds.{Holds}
-use Rattle.isolation_laws.proofs.Holding.Framed.{settle_cells, framed}
+use Rattle.isolation_laws.proofs.Holding.Framed.{settle_cells}
 use Rattle.isolation_laws.proofs.Numbers.Placings.{PlacedPending, placed_item, placed_pairs, placed_live, by_its_node}
 use Rattle.isolation_laws.proofs.Outcome.OutcomesOfStamps.{Drew, drew_items, AnsweredBegin, answered_begin_state, answered_begin_items}
 use Rattle.isolation_laws.proofs.Outcome.OutcomesOfWork.{read_turn, fetched_turn}
-use Rattle.isolation_laws.proofs.Outcome.Outcomes.{Outcome, OfGranted, OfRenewed, OfExtended, OfAskedBegin, OfAskedCommit, OfAccepted, OfDrew, OfPlaced, OfAnsweredBegin, OfWrote, OfFetched, OfReadStepped, OfSweepListed, left_by, told_by_outcome}
-use Rattle.isolation_laws.proofs.Requests.PendingFewer.{fewer_granted, fewer_renewed, fewer_extended, fewer_asked_begin, fewer_settled}
+use Rattle.isolation_laws.proofs.Outcome.Outcomes.{Outcome, OfAskedBegin, OfDrew, OfPlaced, OfAnsweredBegin, OfWrote, OfFetched, OfReadStepped, OfSweepListed, left_by, told_by_outcome}
+use Rattle.isolation_laws.proofs.Requests.PendingFewer.{fewer_asked_begin, fewer_settled}
 use Rattle.isolation_laws.proofs.Requests.OpenAfter.{fewer_open_asked_begin, fewer_open_fetched, fewer_open_read}
 use Rattle.isolation_laws.proofs.Requests.RequestsOfBegins.{start_unbegun}
-use Rattle.isolation_laws.proofs.Stores.LiveAfter.{FewerLive, fewer_live, same_live, live_by_clients, live_by_nodes, live_asked_commit, live_accepted, live_drew, live_answered_begin}
-use Rattle.isolation_laws.proofs.Stores.Calm.{Calm, calm_quiet, calm_turn, calm_draw}
+use Rattle.isolation_laws.proofs.Stores.LiveAfter.{FewerLive, fewer_live, same_live, live_by_clients, live_by_nodes, live_drew, live_answered_begin}
+use Rattle.isolation_laws.proofs.Stores.Calm.{Calm, calm_turn, calm_draw}
 use Rattle.isolation_laws.proofs.Requests.WrittenKeys.{last_write-none}
 use Rattle.isolation_laws.proofs.Stores.CellsStay.{cells_calm}
 use Rattle.isolation_laws.proofs.Stores.CellsMove.{cells_placed}
 use Rattle.isolation_laws.proofs.UnderWay.UnderWayOfRequests.{calm_ask, calm_begin, is_placing}
 use Rattle.isolation_laws.proofs.UnderWay.UnderWayOfSweeps.{calm_listing}
 use Rattle.isolation_laws.proofs.UnderWay.WritesKept.{cells_wrote}
+use Rattle.isolation_laws.proofs.Holding.Calmed.{calmed}
 
 -- ---- no more is live, and the history goes on
 goes : (w : State) (h g : List Item) (clients : List Client) (nodes : List (Option InstanceEntry)) (rows : List Row) (pairs : Pairs) → FewerLive w.clients w.nodes clients nodes → Calm h g → CellFacts w.clients w.nodes rows pairs h → CellFacts clients nodes rows pairs g
 goes w h g clients nodes rows pairs fewer calm facts = cells_calm w.clients clients w.nodes nodes rows pairs h g (λ t live. inl (fewer t live)) calm facts
-
-quietly : (w : State) (h items : List Item) (clients : List Client) (nodes : List (Option InstanceEntry)) → AllQuiet items → FewerLive w.clients w.nodes clients nodes → Holds w h → CellFacts clients nodes w.rows w.pairs (h ++ items)
-quietly w h items clients nodes quiet fewer holds = goes w h (h ++ items) clients nodes w.rows w.pairs fewer (calm_quiet h items quiet) holds.cells
 
 -- ---- a stamp is drawn
 pub calm_drew : (w : State) (h : List Item) (k : Drew w) → Calm h (h ++ drew_items w k)
@@ -64,12 +62,7 @@ cells_placed_one w h p clients nodes items quiet fewer holds =
 
 -- ---- every outcome
 pub cells_kept : (w : State) (h : List Item) (o : Outcome w) → Holds w h → CellFacts (left_by w o).clients (left_by w o).nodes (left_by w o).rows (left_by w o).pairs (h ++ told_by_outcome w o)
-cells_kept w h (OfGranted k) holds = quietly w h k.items _ _ k.quiet (live_by_nodes w.clients w.nodes _ (fewer_granted w k)) holds
-cells_kept w h (OfRenewed k) holds = quietly w h k.items _ _ k.quiet (live_by_nodes w.clients w.nodes _ (fewer_renewed w k)) holds
-cells_kept w h (OfExtended k) holds = quietly w h k.items _ _ k.quiet (live_by_nodes w.clients w.nodes _ (fewer_extended w k)) holds
 cells_kept w h (OfAskedBegin k) holds = goes w h _ _ _ w.rows w.pairs (fewer_live w.clients _ w.nodes _ (fewer_open_asked_begin w k) (fewer_asked_begin w k)) (calm_ask h k.session k.node) holds.cells
-cells_kept w h (OfAskedCommit k) holds = quietly w h k.items _ _ k.quiet (live_asked_commit w k) holds
-cells_kept w h (OfAccepted k) holds = quietly w h k.items _ _ k.quiet (live_accepted w k) holds
 cells_kept w h (OfDrew k) holds = goes w h _ _ _ w.rows w.pairs (live_drew w k) (calm_drew w h k) holds.cells
 cells_kept w h (OfPlaced k) holds = cells_placed_one w h (by_its_node w h k holds) w.clients _ k.items k.quiet (live_by_nodes w.clients w.nodes _ (fewer_settled w k.it k.by)) holds
 cells_kept w h (OfAnsweredBegin k) holds = cells_answered_begin w h k holds
@@ -77,4 +70,4 @@ cells_kept w h (OfWrote k) holds = cells_wrote w h k holds
 cells_kept w h (OfFetched k) holds = goes w h _ _ _ w.rows w.pairs (live_by_clients w.clients _ w.nodes (fewer_open_fetched w k)) (calm_turn h k.first k.it.session k.start k.key (fetched_turn w k.key k.start k.epoch) k.quiet) holds.cells
 cells_kept w h (OfReadStepped k) holds = goes w h _ _ _ w.rows _ (live_by_clients w.clients _ w.nodes (fewer_open_read w k)) (calm_turn h k.first k.session k.r.start k.r.key (read_turn w k.r) k.quiet) (settle_cells w h (settling_of k.r) holds)
 cells_kept w h (OfSweepListed k) holds = goes w h _ _ _ w.rows w.pairs (same_live w.clients w.nodes) (calm_listing h k.txn k.count) holds.cells
-cells_kept w h o holds = (framed w h o holds refl).cells
+cells_kept w h o holds = (calmed w h o holds refl).cells
