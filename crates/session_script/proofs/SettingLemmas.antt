@@ -11,7 +11,7 @@ use Rattle.stamp_base.specs.declared.stores.Store.TheVariants.{Cells, Table, Mas
 use Rattle.port_io.specs.Planned.{PlannedFault, same_store}
 use Rattle.script_data.specs.declared.limits.TheConstants.{FAULT_LIMIT}
 use Rattle.session_script.specs.declared.setting.Setting.{Setting}
-use Rattle.session_script.specs.declared.setting.Setting.TheVariants.{Number, Flag, Buckets, Lead, Fault}
+use Rattle.session_script.specs.declared.setting.Setting.TheVariants.{Number, Lead, Fault}
 use Rattle.port_io.specs.declared.weather.Fate.{Fate}
 use Rattle.script_lines.specs.declared.cause.ScriptCause.TheVariants.{SetupOrder, SetupTwice, TooManyFaults}
 use Rattle.script_data.specs.Data.{ScriptData, AreWithinSkew}
