@@ -1,0 +1,5 @@
+mod CrossingLemmas
+mod WalkLemmas
+mod ClearedLemmas
+mod SetLemmas
+mod IndexLemmas

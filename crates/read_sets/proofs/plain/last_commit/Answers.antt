@@ -1,0 +1,20 @@
+use Rattle.std.proofs.Common.{List, take, subst, arith}
+use Rattle.std.proofs.lemmas.List.{take_all}
+use Rattle.history_book.specs.declared.item.Item.{Item}
+use Rattle.read_sets.specs.Crossings.{IsLastOf}
+use Rattle.read_sets.proofs.CrossingLemmas.{one_more, last_none}
+use Rattle.read_sets.proofs.plain.last_commit.Goals as goal
+
+pub loop-item-init : goal.loop-item-init
+loop-item-init c = last_none c.args.start
+
+pub loop-item-preserved : goal.loop-item-preserved
+loop-item-preserved c =
+    let items = c.args.items.now in
+    let i = c.loop-item.item-index in
+    subst (λ (part : List Item). IsLastOf part c.args.start c.later-last.result) (one_more items i c.item-item.result (omega (arith, c.loop-item-test.true)) c.item-item.is) (c.later-last.ensures (take i items) c.loop-item.invariant)
+
+pub returns : goal.returns
+returns c =
+    let items = c.args.items.now in
+    subst (λ (part : List Item). IsLastOf part c.args.start c.loop-item.last) (take_all c.loop-item.item-index items (omega (arith, c.loop-item-test.false))) c.loop-item.invariant
