@@ -11,8 +11,9 @@ use Rattle.store_parts.specs.declared.rows.Cell.{Cell}
 use Rattle.store_parts.specs.Rows.{Row, cell_of, looked}
 use Rattle.store_parts.specs.Pairs.{Pairs, mark_of}
 use Rattle.cell_compaction.specs.declared.latest.Latest.{Latest}
-use Rattle.cell_compaction.specs.Rest.{StandsAtRest, commit_in, commit_of, with_commit, with_commits, latest_in, found_of}
-use Rattle.cell_compaction.specs.Laws.{SnapshotsAreVisible}
+use Rattle.cell_compaction.specs.Rest.{StandsAtRest, commit_in, commit_of, with_commit, with_commits, latest_in, found_of, snapshot}
+use Rattle.isolation_rules.proofs.ReadLemmas.{visible_once}
+use Rattle.cell_compaction.specs.Laws.{SnapshotsAreVisible, NothingElseIsVisible}
 use Rattle.cell_compaction.proofs.LatestRows.{IsSeen, IsLatest, latest_is, below_is, seen_by}
 use Rattle.cell_compaction.proofs.MemberRows.{looked_member, member_looked, filled_member, filled_from}
 
@@ -97,3 +98,7 @@ visible_by h rows pairs s k stands (Some latest) is =
 
 pub snapshots_visible : SnapshotsAreVisible
 snapshots_visible h rows pairs s k stands = visible_by h rows pairs s k stands (latest_in (with_commits pairs rows) s k) (latest_is (with_commits pairs rows) s k)
+
+pub nothing_else_visible : NothingElseIsVisible
+nothing_else_visible h rows pairs s k answer stands stamped visible =
+    visible_once h stamped s k answer (snapshot rows pairs s k) visible (snapshots_visible h rows pairs s k stands)

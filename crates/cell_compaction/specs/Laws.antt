@@ -1,6 +1,7 @@
 -- What stores at rest show, and that a compaction hides nothing of it from a reader at the water or above it.
-use Rattle.std.specs.Prelude.{◌≡◌, ℕ, ◌≤◌, List}
-use Rattle.history_book.specs.Isolation.{Visible}
+use Rattle.std.specs.Prelude.{◌≡◌, ℕ, ◌≤◌, List, Option}
+use Rattle.history_book.specs.Isolation.{Stamped, Visible}
+use Rattle.history_book.specs.declared.item.Found.{Found}
 use Rattle.history_book.specs.declared.item.Item.{Item}
 use Rattle.store_parts.specs.Rows.{Row, AreOrdered}
 use Rattle.store_parts.specs.Pairs.{Pairs}
@@ -9,6 +10,10 @@ use Rattle.cell_compaction.specs.Rest.{StandsAtRest, snapshot, read_from, compac
 -- every reader finds in the stores what it sees in the history
 abbrev pub SnapshotsAreVisible : Type 0
 SnapshotsAreVisible = (h : List Item) (rows : List Row) (pairs : Pairs) (s k : ℕ) → StandsAtRest h rows pairs → Visible h s k (snapshot rows pairs s k)
+
+-- and it sees nothing else there, where starts and commits are all different: what it finds is what is visible
+abbrev pub NothingElseIsVisible : Type 0
+NothingElseIsVisible = (h : List Item) (rows : List Row) (pairs : Pairs) (s k : ℕ) (answer : Option Found) → StandsAtRest h rows pairs → Stamped h → Visible h s k answer → answer ≡ snapshot rows pairs s k
 
 -- a reader at the water or above it finds the same in the rows that stay
 abbrev pub CompactionKeepsSnapshots : Type 0

@@ -8,7 +8,7 @@ use Rattle.script_data.specs.declared.line.Line.{Line}
 use Rattle.script_data.specs.Data.{IsSound}
 use Rattle.script_data.specs.Data.{ScriptData}
 use Rattle.script_data.specs.Ticks.{tick_of, ticks_of}
-use Rattle.line_steps.specs.Runs.{Played, line_run, lines_played, opening_played, replayed}
+use Rattle.line_steps.specs.Runs.{Played, line_run, lines_played, opening_played, script_played, replayed}
 use Rattle.cluster_core.specs.Whole.{Whole}
 use Rattle.planned_cluster.specs.Standing.{StandsAt}
 use Rattle.replay_driver.specs.Playing.{IsPlayedTo, played_to}
@@ -60,3 +60,7 @@ none_played script whole clock ahead sound few at = record {
 pub all_played : (script : ScriptData) (count : ℕ) (whole : Whole) (clock : ℕ) (ahead : Store → ℕ → Fate) → length script.lines ≤ count → IsPlayedTo script count whole clock ahead → whole.history ≡ replayed script
 all_played script count whole clock ahead past at =
     at.stands.history ∙ ap (λ (lines : List Line). (lines_played script lines (opening_played script)).items) (take_all count script.lines past)
+
+pub all_reached : (script : ScriptData) (count : ℕ) (whole : Whole) (clock : ℕ) (ahead : Store → ℕ → Fate) → length script.lines ≤ count → IsPlayedTo script count whole clock ahead → whole.state ≡ (script_played script).state
+all_reached script count whole clock ahead past at =
+    at.stands.state ∙ ap (λ (lines : List Line). (lines_played script lines (opening_played script)).state) (take_all count script.lines past)

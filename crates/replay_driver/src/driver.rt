@@ -5,7 +5,7 @@ ghost use Rattle.stamp_base.specs.Setups.{numbers_of};
 ghost use Rattle.session_script.specs.Script.{data_of};
 ghost use Rattle.line_steps.specs.Answers.{Answers};
 ghost use Rattle.line_steps.specs.Planned.{Planned};
-ghost use Rattle.line_steps.specs.Runs.{replayed};
+ghost use Rattle.line_steps.specs.Runs.{replayed, script_played};
 ghost use Rattle.replay_driver.specs.Playing.{IsPlayedTo};
 
 use crate::play::{make, seen};
@@ -24,6 +24,7 @@ use std::alloc::Global;
 pub fn replay(alloc: Global, script: &Script) -> Result<Cluster, NoMemory>
     requires { vec_len script.now.lines ≤ LINE_LIMIT }
     ensures history { IfOk result (λ cluster. cluster.history ≡ replayed (data_of script.now)) }
+    ensures state { IfOk result (λ cluster. cluster.state ≡ (script_played (data_of script.now)).state) }
     ensures answered { IfOk result (λ cluster. Answers (data_of script.now) cluster.history) }
     ensures planned { IfOk result (λ cluster. Planned (data_of script.now) cluster.history) }
     ensures setup { IfOk result (λ cluster. cluster.state.setup ≡ numbers_of script.now.setup) }
@@ -39,6 +40,7 @@ pub fn replay_told<P: Progress>(
 ) -> Result<Cluster, NoMemory>
     requires { vec_len script.now.lines ≤ LINE_LIMIT }
     ensures history { IfOk result (λ cluster. cluster.history ≡ replayed (data_of script.now)) }
+    ensures state { IfOk result (λ cluster. cluster.state ≡ (script_played (data_of script.now)).state) }
     ensures answered { IfOk result (λ cluster. Answers (data_of script.now) cluster.history) }
     ensures planned { IfOk result (λ cluster. Planned (data_of script.now) cluster.history) }
     ensures setup { IfOk result (λ cluster. cluster.state.setup ≡ numbers_of script.now.setup) }

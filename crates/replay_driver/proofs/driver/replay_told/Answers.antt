@@ -5,7 +5,7 @@ use Rattle.line_steps.specs.Planned.{Planned}
 use Rattle.machine.specs.State.{State}
 use Rattle.session_script.specs.Script.{data_of}
 use Rattle.planned_cluster.proofs.Playable.{playable_at_first}
-use Rattle.replay_driver.proofs.Counting.{none_played, all_played}
+use Rattle.replay_driver.proofs.Counting.{none_played, all_played, all_reached}
 use Rattle.planned_cluster.proofs.Fitting.{one_more_there, lines_fit}
 use Rattle.replay_driver.proofs.driver.replay_told.Goals as goal
 
@@ -39,6 +39,7 @@ returns g c =
     let playable = playable_at_first script c.args.script.now.sound (omega (arith, c.requires, c.args.script.now.lines.ok)) in
     record {
       history = history;
+      state = all_reached script c.loop-place.place _ _ _ (omega (arith, c.loop-place-test.false, c.args.script.now.lines.ok)) at;
       answered = subst (λ (h : List Item). Answers script h) (sym history) (c.lines_are_answered.ensures script c.args.script.now.sound.setup playable (lines_fit script.setup script.lines c.args.script.now.sound.lines (λ k d below here. c.loop-place.invariant.there k d (omega (arith, below, c.loop-place-test.false, c.args.script.now.lines.ok)) here)));
       planned = subst (λ (h : List Item). Planned script h) (sym history) (c.scripts_are_planned.ensures script c.args.script.now.sound.setup playable);
       setup = ap (λ (w : State). w.setup) at.stands.state ∙ at.reached.setup;
