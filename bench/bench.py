@@ -1,5 +1,5 @@
 #!/usr/bin/env python3
-"""Measures the program `omid` beside `sort`, and its threads beside its replay, and prints one table of each.
+"""Measures the program `omid` beside `sort`, and its compactions and its threads beside its replay, and prints one table of each.
 
 usage: bench/bench.py [--program PATH] [--runs N] [--only WORD] [--quick]
 
@@ -123,6 +123,23 @@ def beside_sort(program, work, runs, loads):
               f"{at['json']:8.3f} {at['json'] / at['replay']:8.2f} {at['json audit']:10.3f} {at['json audit'] / at['audit']:8.2f}", flush=True)
 
 
+def compactions(program, work, runs, loads):
+    print(f"{'load of compact':28} {'water':>20} {'rows':>8} {'kept':>8} {'compact':>8} {'replay':>8} {'of replay':>9}")
+    for name, script in loads:
+        given, text, other = (os.path.join(work, it) for it in ("script", "text", "other"))
+        with open(given, "w") as it:
+            it.write("\n".join(script) + "\n")
+        for water in (1, 1 << 62):
+            compact, replay = [], []
+            for _ in range(runs):
+                compact.append(ran([program, "replay", "compact", str(water)], given, text))
+                replay.append(ran([program, "replay"], given, other))
+            with open(text) as it:
+                _, before, after, _ = it.readlines()[-1].split()
+            print(f"{name:28} {water:20} {before.split('=')[1]:>8} {after.split('=')[1]:>8} {median(compact):8.3f} {median(replay):8.3f} "
+                  f"{median(compact) / (median(replay) or 1e-6):9.2f}", flush=True)
+
+
 def storms(program, work, runs):
     for count in (10_000, 20_000):
         costs = [ran([program, "storm", str(count)], None, os.path.join(work, "other")) for _ in range(runs)]
@@ -163,6 +180,7 @@ def main():
     with tempfile.TemporaryDirectory(prefix="omid-bench-") as work:
         if picked[0]:
             beside_sort(said.program, work, said.runs, picked[0])
+            compactions(said.program, work, said.runs, picked[0][:2])
         if not said.only:
             storms(said.program, work, said.runs)
         if picked[1]:

@@ -9,7 +9,7 @@ use Rattle.script_lines.specs.declared.cause.ScriptCause.TheVariants.{TooLong}
 use Rattle.script_lines.specs.declared.mode.Mode.{Mode}
 use Rattle.session_script.specs.Script.{script_of}
 use Rattle.omid_top.specs.Audit.{IsVerdict, IsFairTo}
-use Rattle.omid_top.specs.Commands.{Replays, Runs, Audits, Storms}
+use Rattle.omid_top.specs.Commands.{Replays, Compacts, Runs, Audits, Storms}
 use Rattle.omid_top.proofs.ReportLemmas.{silent_is_fair}
 
 -- ---- statuses
@@ -57,6 +57,15 @@ pub replays_silently : (text : List Item → List ℕ) (code : ℕ) (left rest h
 replays_silently text code left rest held now low high whole = record {
   read = λ e. absurd (omega (arith, e, low));
   replayed = λ e. absurd (omega (arith, e, low));
+  bad_line = λ e. absurd (omega (arith, e, low));
+  cut = λ five. absurd (whole five);
+  codes = inr (omega (arith, low), omega (arith, high));
+}
+
+pub compacts_silently : (water code : ℕ) (left rest held now : Option (List ℕ)) → 3 < code → code < 7 → (code ≡ 5 → ⊥) → Compacts water code left rest held now
+compacts_silently water code left rest held now low high whole = record {
+  read = λ e. absurd (omega (arith, e, low));
+  compacted = λ e. absurd (omega (arith, e, low));
   bad_line = λ e. absurd (omega (arith, e, low));
   cut = λ five. absurd (whole five);
   codes = inr (omega (arith, low), omega (arith, high));

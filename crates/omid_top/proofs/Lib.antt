@@ -1,3 +1,4 @@
+mod ArchiveTexts
 mod CommandLemmas
 mod PrintLemmas
 mod PromiseLemmas

@@ -11,6 +11,7 @@ use Rattle.script_lines.specs.declared.mode.Mode.TheVariants.{Replay, Run}
 use Rattle.line_steps.specs.Runs.{replayed}
 use Rattle.replay_driver.specs.Storm.{storm_data}
 use Rattle.omid_top.specs.Audit.{IsVerdict, Reported, ReportedFront, IsFairTo}
+use Rattle.omid_top.specs.Compaction.{KeepsCompaction, compact_text, compact_told}
 use Rattle.omid_top.specs.Promise.{KeepsPromise, GainsFront, GainsLines, history_of, WritesRun, IsCutRun}
 use Rattle.omid_top.specs.Texts.{usage_text, bad_line_text, replay_text}
 
@@ -28,6 +29,16 @@ pub record Replays (text : List Item → List ℕ) (code : ℕ) (left rest held 
 pub record ReplaysJson (code : ℕ) (left rest held now : Option (List ℕ)) : Type 0 where
   pub replays : Replays json_printed code left rest held now
   pub lines : code ≡ 6 → IfSome left (λ bytes. GainsLines held now (history_of (script_of bytes Replay)))
+
+-- A script was read and carried out in file order, its stores were compacted to the water, and what a reader at the water finds
+-- there was written with the numbers of rows; or the bytes are no script, and the first bad line was named; or a front of either
+-- text went out; or nothing did.
+pub record Compacts (water : ℕ) (code : ℕ) (left rest held now : Option (List ℕ)) : Type 0 where
+  pub read : code ≡ 0 → IsAtEnd rest
+  pub compacted : code ≡ 0 → IfSome left (λ bytes. IsOkAnd (script_of bytes Replay) (λ script. KeepsCompaction script water × Gains held now (compact_text script water)))
+  pub bad_line : code ≡ 3 → IfSome left (λ bytes. IsErrAnd (script_of bytes Replay) (λ bad. Gains held now (bad_line_text bad)))
+  pub cut : code ≡ 5 → IfSome left (λ bytes. GainsFront held now (compact_told water (script_of bytes Replay)))
+  pub codes : (code ≡ 0) ⊎ ((3 ≤ code) × (code ≤ 6))
 
 -- A script was read and carried out on threads, and the history of such a run was written; or the bytes are no script, and the first
 -- bad line was named; or a front of either text went out; or nothing did.

@@ -1,4 +1,5 @@
 pub mod Audit
 pub mod Commands
+pub mod Compaction
 pub mod Promise
 pub mod Texts

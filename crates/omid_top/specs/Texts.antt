@@ -1,6 +1,6 @@
 -- The texts that the program writes besides histories, and the words that it knows.
 use Rattle.std.specs.Prelude.{◌≡◌, ℕ, List, [], ◌∷◌, ◌++◌, ◌⊎◌, Result, Ok, Err, codes, decimal}
-use Rattle.stamp_base.specs.Ranges.{IsWithin}
+use Rattle.stamp_base.specs.Ranges.{IsStamp, IsWithin}
 use Rattle.history_book.specs.declared.item.Item.{Item}
 use Rattle.history_text.specs.Summary.{summarized}
 use Rattle.history_text.specs.Text.{printed}
@@ -24,6 +24,14 @@ IsReplaySummary words = words ≡ codes "replay" ∷ codes "summary" ∷ []
 abbrev pub IsReplayJson : List (List ℕ) → Type 0
 IsReplayJson words = words ≡ codes "replay" ∷ codes "json" ∷ []
 
+-- the replay whose stores are compacted to this water: its number in decimal, with no zero before it
+pub record IsReplayCompact (water : ℕ) (words : List (List ℕ)) : Type 0 where
+  pub named : words ≡ codes "replay" ∷ codes "compact" ∷ decimal water ∷ []
+  pub within : IsStamp water
+
+abbrev pub IsAnyReplayCompact : List (List ℕ) → Type 0
+IsAnyReplayCompact words = (water : ℕ) × IsReplayCompact water words
+
 abbrev pub IsRun : List (List ℕ) → Type 0
 IsRun words = words ≡ codes "run" ∷ []
 
@@ -40,18 +48,19 @@ IsAnyStorm words = (transactions : ℕ) × IsStorm transactions words
 
 -- the words name a command that is built
 abbrev pub IsKnown : List (List ℕ) → Type 0
-IsKnown words = IsReplay words ⊎ IsReplaySummary words ⊎ IsReplayJson words ⊎ IsRun words ⊎ IsAudit words ⊎ IsAnyStorm words
+IsKnown words = IsReplay words ⊎ IsReplaySummary words ⊎ IsReplayJson words ⊎ IsAnyReplayCompact words ⊎ IsRun words ⊎ IsAudit words ⊎ IsAnyStorm words
 
 abbrev pub Names : Command → List (List ℕ) → Type 0
 Names command.Replay words = IsReplay words
 Names command.ReplaySummary words = IsReplaySummary words
 Names command.ReplayJson words = IsReplayJson words
+Names (command.ReplayCompact water) words = IsReplayCompact water words
 Names command.Run words = IsRun words
 Names command.Audit words = IsAudit words
 Names (command.Storm transactions) words = IsStorm transactions words
 
 abbrev pub usage_text : List ℕ
-usage_text = codes "usage: omid replay [summary|json] | run | audit | storm N" ++ 10 ∷ []
+usage_text = codes "usage: omid replay [summary|json|compact N] | run | audit | storm N" ++ 10 ∷ []
 
 -- the first bad line of a script and its first cause
 abbrev pub bad_line_text : BadLine → List ℕ

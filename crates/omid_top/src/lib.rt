@@ -5,13 +5,15 @@ ghost use Rattle.std.specs.Prelude.{◌≡◌, ◌≢◌, ℕ, ◌≤◌, ◌⊎
 ghost use Rattle.port_io.specs.Ports.{Risen};
 ghost use Rattle.history_text.specs.Summary.{summarized};
 ghost use Rattle.history_text.specs.Text.{printed};
-ghost use Rattle.omid_top.specs.Commands.{Replays, ReplaysJson, Runs, Audits, Storms, SaysUsage};
-ghost use Rattle.omid_top.specs.Texts.{IsReplay, IsReplaySummary, IsReplayJson, IsRun, IsAudit, IsStorm, IsAnyStorm, IsKnown};
+ghost use Rattle.omid_top.specs.Commands.{Replays, ReplaysJson, Compacts, Runs, Audits, Storms, SaysUsage};
+ghost use Rattle.omid_top.specs.Texts.{IsReplay, IsReplaySummary, IsReplayJson, IsReplayCompact, IsRun, IsAudit, IsStorm, IsAnyStorm, IsKnown};
 
 pub use session_script as script;
 
+mod archive_text;
 mod audit;
 mod bad_line;
+mod compact;
 mod form;
 mod print;
 mod process;
@@ -38,10 +40,11 @@ use words::Command;
 ///
 /// `replay` reads a script from the source, carries it out in file order, and writes the history to the sink, one
 /// line an item; `replay json` writes each item as an object of JSON on a line of its own, and `replay summary` the
-/// summary of the history in its place. `run` carries the script out on threads, which pass the gate before each step of a
-/// stage, and writes the history that came of it. `storm N` writes the summary for a script of its own, of N transactions, and
-/// reads nothing. `audit` reads a history from the source, as text or as JSON, and writes whether it is snapshot
-/// isolated.
+/// summary of the history in its place. `replay compact N` compacts the stores that the script leaves to the water N,
+/// and writes what a reader at the water finds at each key, and how many rows there were and are. `run` carries the
+/// script out on threads, which pass the gate before each step of a stage, and writes the history that came of it.
+/// `storm N` writes the summary for a script of its own, of N transactions, and reads nothing. `audit` reads a history
+/// from the source, as text or as JSON, and writes whether it is snapshot isolated.
 ///
 /// The status is 0 where all was done, and for `audit` the history is isolated; 2 where the words are no command,
 /// and the usage line is written; 3 where the bytes are no script (no history, for `audit`), and the first bad line
@@ -69,6 +72,8 @@ pub fn omid<R: Threads + Wait + Sync, S: Source, K: Sink, G: Gate>(
         Replays summarized result.code (S.left source.old) (S.left source.new) (K.held sink.old) (K.held sink.new) }
     ensures json { IsReplayJson (map string_bytes words.now) →
         ReplaysJson result.code (S.left source.old) (S.left source.new) (K.held sink.old) (K.held sink.new) }
+    ensures compact { (water : ℕ) → IsReplayCompact water (map string_bytes words.now) →
+        Compacts water result.code (S.left source.old) (S.left source.new) (K.held sink.old) (K.held sink.new) }
     ensures run { IsRun (map string_bytes words.now) →
         Runs result.code (S.left source.old) (S.left source.new) (K.held sink.old) (K.held sink.new) }
     ensures audit { IsAudit (map string_bytes words.now) →
@@ -96,6 +101,9 @@ pub fn omid<R: Threads + Wait + Sync, S: Source, K: Sink, G: Gate>(
             replay::replay_source(alloc, Form::Summary, source, sink, gate)
         }
         Some(Command::ReplayJson) => replay::replay_source(alloc, Form::Json, source, sink, gate),
+        Some(Command::ReplayCompact(water)) => {
+            compact::compact_source(alloc, words::stamp_of(water), source, sink, gate)
+        }
         Some(Command::Run) => run::run_source(rt, alloc, source, sink, gate),
         Some(Command::Audit) => audit::audit_source(alloc, source, sink),
         Some(Command::Storm(transactions)) => replay::storm(alloc, transactions, sink, gate),

@@ -122,7 +122,7 @@ pub fn print_usage<K: Sink>(sink: &mut K) -> Result<(), Failed>
 {
     print_text(
         sink,
-        b"usage: omid replay [summary|json] | run | audit | storm N\n",
+        b"usage: omid replay [summary|json|compact N] | run | audit | storm N\n",
     )
 }
 
@@ -162,7 +162,7 @@ fn set_bad_line(line: &mut LineBuf, number: u64, cause: ScriptCause)
 }
 
 /// Writes the text. Most often the sink takes all of it at once.
-fn print_text<K: Sink>(sink: &mut K, text: &[u8]) -> Result<(), Failed>
+pub fn print_text<K: Sink>(sink: &mut K, text: &[u8]) -> Result<(), Failed>
     ensures all { OnOk result (Gains (K.held sink.old) (K.held sink.new) text.now) }
     ensures front { OnErr result (GainsFront (K.held sink.old) (K.held sink.new) text.now) }
     ensures failed { OnErr result (Risen (K.faults sink.old) (K.faults sink.new)) }

@@ -1,10 +1,11 @@
 // The words behind the program's name.
 ghost use Rattle.std.specs.Prelude.{◌≡◌, ◌≢◌, ◌↔◌, ℕ, decimal, map, string_bytes, IsTrue, MatchOption};
-ghost use Rattle.stamp_base.specs.Ranges.{IsWithin};
+ghost use Rattle.stamp_base.specs.Ranges.{IsNumber, IsStamp, IsWithin};
 ghost use Rattle.omid_top.specs.Texts.{IsKnown, Names};
 
 use history_text::LineBuf;
 use replay_driver::STORM_LIMIT;
+use stamp_base::Stamp;
 
 /// What the program is asked to do.
 #[derive(Clone, Copy, Debug, PartialEq, Eq)]
@@ -15,6 +16,8 @@ pub enum Command {
     ReplaySummary,
     /// Carry out a script in file order, and write its history as JSON.
     ReplayJson,
+    /// Carry out a script in file order, compact its stores to this water, and write what a reader at the water finds there.
+    ReplayCompact(u64),
     /// Carry out a script on threads, and write its history.
     Run,
     /// Judge a history.
@@ -37,6 +40,11 @@ pub fn command_of(words: &[String]) -> Option<Command>
         [word, form] if is_word(word.as_str(), "replay") && is_word(form.as_str(), "json") => {
             Some(Command::ReplayJson)
         }
+        [word, form, number]
+            if is_word(word.as_str(), "replay") && is_word(form.as_str(), "compact") => {
+            let water = water_of(number.as_str())?;
+            Some(Command::ReplayCompact(water))
+        }
         [word, number] if is_word(word.as_str(), "storm") => {
             let transactions = transactions_of(number.as_str())?;
             Some(Command::Storm(transactions))
@@ -49,9 +57,49 @@ pub fn command_of(words: &[String]) -> Option<Command>
 fn transactions_of(word: &str) -> Option<u64>
     ensures { MatchOption result ((n : ℕ) → IsWithin 1 20000 n → word.now ≢ decimal n) (λ n. IsWithin 1 20000 n × (word.now ≡ decimal n)) }
 {
+    let number = number_of(word)?;
+    if is_storm_size(number) {
+        Some(number)
+    } else {
+        None
+    }
+}
+
+fn is_storm_size(number: u64) -> bool
+    ensures { IsTrue result ↔ IsWithin 1 20000 number }
+{
+    1 <= number && number <= STORM_LIMIT
+}
+
+/// The number of a stamp that the word is, in decimal, with no zero before it.
+fn water_of(word: &str) -> Option<u64>
+    ensures { MatchOption result ((n : ℕ) → IsStamp n → word.now ≢ decimal n) (λ n. IsStamp n × (word.now ≡ decimal n)) }
+{
+    let number = number_of(word)?;
+    if is_stamp(number) { Some(number) } else { None }
+}
+
+fn is_stamp(number: u64) -> bool
+    ensures { IsTrue result ↔ IsStamp number }
+{
+    1 <= number && number <= Stamp::GREATEST
+}
+
+/// The stamp of this number.
+pub fn stamp_of(number: u64) -> Stamp
+    requires { IsStamp number }
+    ensures { result ≡ number }
+{
+    Stamp::new(number).unwrap()
+}
+
+/// The number that the word is in decimal, with no zero before it.
+fn number_of(word: &str) -> Option<u64>
+    ensures { MatchOption result ((n : ℕ) → IsNumber n → word.now ≢ decimal n) (λ n. IsNumber n × (word.now ≡ decimal n)) }
+{
     match word.parse::<u64>() {
         Ok(number) => {
-            if is_storm_of(word, number) {
+            if is_decimal(word, number) {
                 Some(number)
             } else {
                 None
@@ -59,13 +107,6 @@ fn transactions_of(word: &str) -> Option<u64>
         }
         Err(_) => None,
     }
-}
-
-/// Whether the word is the number of transactions that a storm may have.
-fn is_storm_of(word: &str, number: u64) -> bool
-    ensures { IsTrue result ↔ (IsWithin 1 20000 number × (word.now ≡ decimal number)) }
-{
-    1 <= number && number <= STORM_LIMIT && is_decimal(word, number)
 }
 
 /// Whether the word is the number in decimal, as it is printed.

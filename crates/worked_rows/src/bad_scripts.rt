@@ -3,10 +3,10 @@ use crate::calls::answers;
 use std::test::Fail;
 use worked_commits::commits::PLAIN_PATH;
 
-pub const USAGE: &str = "usage: omid replay [summary|json] | run | audit | storm N\n";
+pub const USAGE: &str = "usage: omid replay [summary|json|compact N] | run | audit | storm N\n";
 
 /// Words that are no command.
-static NO_COMMANDS: [&[&str]; 22] = [
+static NO_COMMANDS: [&[&str]; 31] = [
     &[],
     &["replay", "now"],
     &["audit", "now"],
@@ -18,6 +18,16 @@ static NO_COMMANDS: [&[&str]; 22] = [
     &["summary"],
     &["replay", "Summary"],
     &["replay", "summary", "summary"],
+    // Nearly a compaction.
+    &["compact", "5"],
+    &["replay", "compact"],
+    &["replay", "compact", "0"],
+    &["replay", "compact", "05"],
+    &["replay", "compact", "+5"],
+    &["replay", "compact", "4611686018427387905"],
+    &["replay", "compact", "18446744073709551621"],
+    &["replay", "compact", "5", "5"],
+    &["replay", "Compact", "5"],
     // Nearly a storm.
     &["storm"],
     &["storm", ""],
@@ -90,7 +100,12 @@ static BAD_IN_A_RUN: [(&str, &str); 2] = [
 ];
 
 /// Words that replay a script.
-static REPLAYS: [&[&str]; 3] = [&["replay"], &["replay", "summary"], &["replay", "json"]];
+static REPLAYS: [&[&str]; 4] = [
+    &["replay"],
+    &["replay", "summary"],
+    &["replay", "json"],
+    &["replay", "compact", "5"],
+];
 
 // Behind functions, a proof that goes over the rows does not look into their texts.
 

@@ -22,10 +22,14 @@ const HISTORY: &str = "placed start=2 commit=1\n";
 
 const REPORT: &str = "not isolated: stamped 1 1\n";
 
+/// What the plain path leaves, compacted to the water 3.
+const COMPACTED: &str = "k0 from=1 v\nrows before=1 after=1 water=3\n";
+
 /// Words that read, and what they read.
-static READING: [(&[&str], &str); 3] = [
+static READING: [(&[&str], &str); 4] = [
     (&["replay"], PLAIN_PATH),
     (&["replay", "json"], PLAIN_PATH),
+    (&["replay", "compact", "3"], PLAIN_PATH),
     (&["audit"], HISTORY),
 ];
 
@@ -158,6 +162,8 @@ fn a_sink_that_fails_keeps_whole_lines(rt: HostRuntime) -> Result<(), Fail> {
         }
     }
     assert!(rt; keeps_lines(&rt, rt.alloc(), &["audit"], HISTORY, REPORT, 0)?);
+    let words = ["replay", "compact", "3"];
+    assert!(rt; keeps_lines(&rt, rt.alloc(), &words, PLAIN_PATH, COMPACTED, 0)?);
     Ok(())
 }
 
@@ -175,5 +181,7 @@ fn a_byte_at_a_time_is_enough(rt: HostRuntime) -> Result<(), Fail> {
         assert!(rt; drips(&rt, rt.alloc(), words, PLAIN_PATH, text, 0)?);
     }
     assert!(rt; drips(&rt, rt.alloc(), &["audit"], HISTORY, REPORT, 7)?);
+    let words = ["replay", "compact", "3"];
+    assert!(rt; drips(&rt, rt.alloc(), &words, PLAIN_PATH, COMPACTED, 0)?);
     Ok(())
 }

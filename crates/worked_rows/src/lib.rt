@@ -8,6 +8,8 @@ mod bad_scripts;
 #[cfg(test)]
 mod calls;
 #[cfg(test)]
+mod compactions;
+#[cfg(test)]
 mod drips;
 #[cfg(test)]
 mod faults;

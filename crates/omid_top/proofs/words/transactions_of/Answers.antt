@@ -1,10 +1,8 @@
 use Rattle.std.proofs.Common.{◌≡◌, true, false}
-use Rattle.omid_top.proofs.WordLemmas.{read_as_none, read_as_another}
+use Rattle.stamp_base.specs.Ranges.{IsWithin}
+use Rattle.omid_top.proofs.WordLemmas.{another_in_range, small_storm}
 use Rattle.omid_top.proofs.words.transactions_of.Goals as goal
 
-pub returns-else-is_storm_of : goal.returns-else-is_storm_of
-returns-else-is_storm_of c = λ n within is.
-    read_as_another _ _ c.parse.result c.in-Ok.number n c.parse.ensures.value.0 c.in-Ok.is (λ both. let e : false ≡ true = c.if-is_storm_of.ensures.1 both in cc) within is
-
-pub returns-in-Err : goal.returns-in-Err
-returns-in-Err c = λ n within is. read_as_none _ _ c.parse.result c.in-Err.field-0 n c.parse.ensures.value.0 c.in-Err.is within is
+pub returns-else-is_storm_size : goal.returns-else-is_storm_size
+returns-else-is_storm_size c =
+    another_in_range (IsWithin 1 20000) c.args.word.now c.in_ok-number.number small_storm c.in_ok-number.ensures (λ within. let e : false ≡ true = c.if-is_storm_size.ensures.1 within in cc)
