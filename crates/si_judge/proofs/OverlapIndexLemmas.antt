@@ -22,10 +22,11 @@ use Rattle.isolation_rules.proofs.KeyLemmas.{any_writes, and_parts}
 use Rattle.isolation_rules.proofs.PlaceLemmas.{both_at}
 use Rattle.si_judge.specs.declared.marks.Marks.{Marks}
 use Rattle.si_judge.specs.declared.commits.Commit.{Commit}
+use Rattle.si_judge.specs.declared.reach.Reach.{Reach}
 use Rattle.si_judge.specs.Commits.{Commits, commit_of, commit_at, HasCommits}
 use Rattle.si_judge.specs.Marks.{IsMarked, KeepsMarks}
 use Rattle.si_judge.specs.Indexed.{pair_cmp}
-use Rattle.si_judge.specs.OverlapIndex.{Written, HasWrite, HasWrites, KeepsWrites, MarksOverlaps, MarksAll}
+use Rattle.si_judge.specs.OverlapIndex.{Written, HasWrite, HasWrites, KeepsWrites, MarksOverlaps, MarksOwn, MarksAll, HasReached}
 
 -- ---- the committed writes
 pub write_noted : (commits : Commits) (old new : Written) (x : Item) (session t k : ℕ) (value : List ℕ) (commit : Commit) → x ≡ Write session t k value → Some commit ≡ commit_of commits t → Updates pair_cmp old new (k, t) (Some commit) → HasWrite commits new x
@@ -73,9 +74,9 @@ writes_more h place x commits old new here has keeps noted = record {
 abbrev pub Entry : Type 0
 Entry = (ℕ × ℕ) × Commit
 
--- each entry of the part is still to come, or it and the commit at the place are marked
-pub record IsMarkedBut (part left : List Entry) (place : ℕ) (marks : Marks) : Type 0 where
-  pub at : (e : Entry) → e ∈ part → (e ∈ left) ⊎ (IsMarked marks place × IsMarked marks e.1.place)
+-- each entry of the part is still to come, or its commit is marked
+pub record IsMarkedBut (part left : List Entry) (marks : Marks) : Type 0 where
+  pub at : (e : Entry) → e ∈ part → (e ∈ left) ⊎ IsMarked marks e.1.place
 
 pub keeps_none : (marks : Marks) → KeepsMarks marks marks
 keeps_none marks = record { each = refl; at = λ i on. on }
@@ -87,14 +88,14 @@ come_or_gone : (e x : Entry) (rest : List Entry) → e ∈ (x ∷ rest) → (e �
 unfolding ◌∈◌
 come_or_gone e x rest m = m
 
-pub one_marked : (part left rest : List Entry) (x : Entry) (place : ℕ) (old new : Marks) → IsMarkedBut part left place old → left ≡ x ∷ rest → KeepsMarks old new → IsMarked new place → IsMarked new x.1.place → IsMarkedBut part rest place new
-one_marked part left rest x place old new but first keeps own other = record {
+pub one_marked : (part left rest : List Entry) (x : Entry) (old new : Marks) → IsMarkedBut part left old → left ≡ x ∷ rest → KeepsMarks old new → IsMarked new x.1.place → IsMarkedBut part rest new
+one_marked part left rest x old new but first keeps other = record {
   at = λ e m. elim (but.at e m) [
     | inl here ↦ elim (come_or_gone e x rest (subst (λ (es : List Entry). e ∈ es) first here)) [
-      | inl same ↦ inr (own, subst (λ (y : Entry). IsMarked new y.1.place) (sym same) other)
+      | inl same ↦ inr (subst (λ (y : Entry). IsMarked new y.1.place) (sym same) other)
       | inr later ↦ inl later
     ]
-    | inr both ↦ inr (keeps.at place both.0, keeps.at e.1.place both.1)
+    | inr on ↦ inr (keeps.at e.1.place on)
   ];
 }
 
@@ -131,11 +132,39 @@ none_left e m = m
 abbrev pub between : Written → ℕ → ℕ → ℕ → List Entry
 between written k t c = entries_between pair_cmp (Excluded (k, t)) (Included (k, c)) written.entries
 
-pub all_marked : (written : Written) (k t : ℕ) (commit : Commit) (left : List Entry) (marks : Marks) → left ≡ [] → IsMarkedBut (between written k t commit.stamp) left commit.place marks → MarksOverlaps written k t commit marks
-all_marked written k t commit left marks end but = λ u other less le found.
-    let e : Entry = ((k, u), other) in
-    let there = in_filter (λ x. range_contains pair_cmp (Excluded (k, t)) (Included (k, commit.stamp)) x.0) e written.entries (lookup_in written.entries k u other found) (is_between k t commit.stamp u less le) in
-    elim (but.at e there) [ inl m ↦ absurd (none_left e (subst (λ (es : List Entry). e ∈ es) end m)) | inr both ↦ both ]
+stands_between : (written : Written) (k t c u : ℕ) (other : Commit) → t < u → u ≤ c → get pair_cmp written (k, u) ≡ Some other → ((k, u), other) ∈ between written k t c
+stands_between written k t c u other less le found =
+    in_filter (λ x. range_contains pair_cmp (Excluded (k, t)) (Included (k, c)) x.0) ((k, u), other) written.entries (lookup_in written.entries k u other found) (is_between k t c u less le)
+
+pub none_between : (written : Written) (k t : ℕ) (commit : Commit) (marks : Marks) → between written k t commit.stamp ≡ [] → MarksOwn written k t commit marks
+none_between written k t commit marks none = λ u other less le found. absurd (none_left ((k, u), other) (subst (λ (es : List Entry). ((k, u), other) ∈ es) none (stands_between written k t commit.stamp u other less le found)))
+
+-- the reach goes further once the part behind it is marked
+pub reaches_further : (written : Written) (reach new : Reach) (old marks : Marks) (left : List Entry) → HasReached written reach old → KeepsMarks old marks → left ≡ [] → IsMarkedBut (between written reach.key reach.upto new.upto) left marks
+    → new.key ≡ reach.key → new.from ≡ reach.from → HasReached written new marks
+reaches_further written reach new old marks left reached keeps end but same_key same_from = λ u other more le found.
+    let there : get pair_cmp written (reach.key, u) ≡ Some other = ap (λ k. get pair_cmp written (k, u)) (sym same_key) ∙ found in
+    elim (cases_lt reach.upto u) [
+      | inl behind ↦ elim (but.at ((reach.key, u), other) (stands_between written reach.key reach.upto new.upto u other behind le there)) [
+        | inl m ↦ absurd (none_left ((reach.key, u), other) (subst (λ (es : List Entry). ((reach.key, u), other) ∈ es) end m))
+        | inr on ↦ on
+      ]
+      | inr within ↦ keeps.at other.place (reached u other (omega (arith, more, same_from)) (omega (arith, within)) there)
+    ]
+
+pub reach_kept : (written : Written) (reach : Reach) (old new : Marks) → HasReached written reach old → KeepsMarks old new → HasReached written reach new
+reach_kept written reach old new reached keeps = λ u other more le found. keeps.at other.place (reached u other more le found)
+
+pub none_reached : (written : Written) (reach : Reach) (marks : Marks) → reach.upto ≡ reach.from → HasReached written reach marks
+none_reached written reach marks same = λ u other more le found. absurd (omega (arith, same, more, le))
+
+-- a write's overlaps are marked where its own commit is, and the reach has the others
+pub both_marked : (written : Written) (k t : ℕ) (commit : Commit) (reach : Reach) (before marks : Marks) → MarksOwn written k t commit before → KeepsMarks before marks → HasReached written reach marks
+    → reach.key ≡ k → reach.from ≤ t → commit.stamp ≤ reach.upto → MarksOverlaps written k t commit marks
+both_marked written k t commit reach before marks own keeps reached key from upto = λ u other less le found. (
+  keeps.at commit.place (own u other less le found),
+  reached u other (omega (arith, from, less)) (omega (arith, le, upto)) (ap (λ n. get pair_cmp written (n, u)) key ∙ found),
+)
 
 -- ---- the whole map, marked
 pub record IsDoneBut (written : Written) (left : List Entry) (marks : Marks) : Type 0 where

@@ -8,6 +8,7 @@ use Rattle.si_judge.specs.Indexed.{pair_cmp}
 use Rattle.si_judge.specs.declared.commits.Commit.{Commit}
 use Rattle.si_judge.specs.Commits.{Commits, commit_of}
 use Rattle.si_judge.specs.declared.marks.Marks.{Marks}
+use Rattle.si_judge.specs.declared.reach.Reach.{Reach}
 
 -- commits, by the keys that they wrote and by their transactions
 abbrev pub Written : Type 0
@@ -24,6 +25,14 @@ pub record HasWrites (h : List Item) (n : ℕ) (commits : Commits) (written : Wr
 -- the commits that the old map has the new one has
 pub record KeepsWrites (commits : Commits) (old new : Written) : Type 0 where
   pub at : (k t : ℕ) (commit : Commit) → commit_of commits t ≡ Some commit → get pair_cmp old (k, t) ≡ Some commit → get pair_cmp new (k, t) ≡ Some commit
+
+-- the key's writes that the reach has are marked
+abbrev pub HasReached : Written → Reach → Marks → Type 0
+HasReached written reach marks = (u : ℕ) (other : Commit) → reach.from < u → u ≤ reach.upto → get pair_cmp written (reach.key, u) ≡ Some other → IsMarked marks other.place
+
+-- where another transaction that wrote the key k started after t and up to its commit, that commit is marked
+abbrev pub MarksOwn : Written → ℕ → ℕ → Commit → Marks → Type 0
+MarksOwn written k t commit marks = (u : ℕ) (other : Commit) → t < u → u ≤ commit.stamp → get pair_cmp written (k, u) ≡ Some other → IsMarked marks commit.place
 
 -- where another transaction that wrote the key k started after t and up to its commit, both are marked
 abbrev pub MarksOverlaps : Written → ℕ → ℕ → Commit → Marks → Type 0

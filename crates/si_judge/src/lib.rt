@@ -10,6 +10,7 @@ mod commits;
 mod listed;
 mod marks;
 mod overlap_index;
+mod reach;
 mod reads;
 mod search;
 mod stamp_index;
@@ -31,7 +32,7 @@ use std::alloc::Global;
 /// numbered from 1.
 ///
 /// Each rule is judged over sets and maps, in about the time of a sort of the items and in memory for each
-/// of them; where many transactions that wrote one key overlap, the time grows with their pairs. Where that
+/// of them; the second item of commits that overlap is found by a walk over the items behind the first. Where that
 /// memory is refused, a walk over all pairs is made in its place, in a time that grows with the square of the
 /// number of items and more, so the answer is never NoMemory.
 pub fn judge(alloc: Global, items: &[Item]) -> Result<Verdict, NoMemory>

@@ -1,14 +1,15 @@
 // An index of the writes of committed transactions, which finds the places where the rule on commits may
 // be broken.
-ghost use Rattle.std.specs.Prelude.{◌≡◌, ℕ, true, length, IfOk, OnOk};
+ghost use Rattle.std.specs.Prelude.{◌≡◌, ◌≤◌, ℕ, true, length, IfOk, OnOk};
 ghost use Rattle.history_book.specs.Isolation as isolation;
 ghost use Rattle.isolation_rules.specs.Judged.{Passes};
 ghost use Rattle.si_judge.specs.Commits.{HasCommits};
-ghost use Rattle.si_judge.specs.OverlapIndex.{HasWrite, HasWrites, KeepsMarks, KeepsWrites, MarksAll, MarksOverlaps};
+ghost use Rattle.si_judge.specs.OverlapIndex.{HasWrite, HasWrites, KeepsMarks, KeepsWrites, MarksAll, MarksOverlaps, MarksOwn, HasReached};
 ghost use Rattle.si_judge.specs.Suspects.{AreSuspects};
 
 use crate::commits::{Commit, Commits, commits_by_start};
 use crate::marks::Marks;
+use crate::reach::Reach;
 use crate::turns::turns_of;
 use history_book::Item;
 use isolation_rules::Rule;
@@ -105,29 +106,73 @@ fn mark_all_overlaps(written: &BTreeMap<(KeyNo, Stamp), Commit>, marks: &mut Mar
     ensures marked { MarksAll written.now marks.new }
     ensures kept { KeepsMarks marks.old marks.new }
 {
+    let mut reach = Reach::from(KeyNo::FIRST, Stamp::FIRST);
     for (version, commit) in written {
-        mark_overlaps(written, version.0, version.1, *commit, marks);
+        reach = mark_overlaps(written, version.0, version.1, *commit, reach, marks);
     }
 }
 
-/// Marks the commit of a write, and those of the key's later writes that started up to it.
+/// Marks the commit of a write, and those of the key's later writes that started up to it. Those that the reach has are marked already.
 fn mark_overlaps(
     written: &BTreeMap<(KeyNo, Stamp), Commit>,
     key: KeyNo,
     start: Stamp,
     commit: Commit,
+    reach: Reach,
     marks: &mut Marks,
-)
+) -> Reach
+    requires reached { HasReached written.now reach marks.old }
     ensures marked { MarksOverlaps written.now key start commit marks.new }
     ensures kept { KeepsMarks marks.old marks.new }
+    ensures reached { HasReached written.now result marks.new }
 {
-    if commit.stamp <= start {
-        return;
+    mark_own(written, key, start, &commit, marks);
+    let reach = reach.at(key, start);
+    mark_up_to(written, reach, commit.stamp, marks)
+}
+
+/// Marks the commit of a write where a later write of the key started up to it.
+fn mark_own(
+    written: &BTreeMap<(KeyNo, Stamp), Commit>,
+    key: KeyNo,
+    start: Stamp,
+    commit: &Commit,
+    marks: &mut Marks,
+)
+    ensures marked { MarksOwn written.now key start commit.now marks.new }
+    ensures kept { KeepsMarks marks.old marks.new }
+{
+    if start < commit.stamp {
+        let after = Bound::Excluded((key, start));
+        let upto = Bound::Included((key, commit.stamp));
+        if written.range((after, upto)).next().is_some() {
+            marks.mark(commit.place);
+        }
     }
-    let after = Bound::Excluded((key, start));
-    let upto = Bound::Included((key, commit.stamp));
+}
+
+/// Marks the commits of the key's writes that started behind the reach and up to the stamp. The reach goes so far then.
+fn mark_up_to(
+    written: &BTreeMap<(KeyNo, Stamp), Commit>,
+    reach: Reach,
+    stamp: Stamp,
+    marks: &mut Marks,
+) -> Reach
+    requires { HasReached written.now reach marks.old }
+    ensures reached { HasReached written.now result marks.new }
+    ensures further { (result.key ≡ reach.key) × (result.from ≡ reach.from) × (stamp ≤ result.upto) }
+    ensures kept { KeepsMarks marks.old marks.new }
+{
+    if stamp <= reach.upto {
+        return reach;
+    }
+    let after = Bound::Excluded((reach.key, reach.upto));
+    let upto = Bound::Included((reach.key, stamp));
     for (_, other) in written.range((after, upto)) {
-        marks.mark(commit.place);
         marks.mark(other.place);
+    }
+    Reach {
+        upto: stamp,
+        ..reach
     }
 }

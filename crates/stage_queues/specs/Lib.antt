@@ -3,6 +3,7 @@ pub mod NodePasses
 pub mod Passes
 pub mod Opening
 pub mod Laws
+pub mod Places
 pub mod Halfway
 pub use Rattle.queue_passes.specs.Holds
 pub use Rattle.request_rule.specs.Rule as RequestRule

@@ -4,6 +4,7 @@ ghost use Rattle.stage_queues.specs.Passes.{at_node, let_go, got, SendsBatches, 
 ghost use Rattle.stage_queues.specs.Plan.{node_ring};
 
 use crate::pass::StagePass;
+use crate::waiting::Crowd;
 use batch_rule::BatchRing;
 use persist_batches::Numbered;
 use std::marker::Model;
@@ -16,6 +17,7 @@ pub struct BatchQueue {
     pub(crate) node: usize,
     pub(crate) ring: BatchRing,
     pub(crate) readers: Vec<Parker>,
+    pub(crate) crowd: Crowd,
 }
 
 impl Model for BatchQueue {
@@ -34,6 +36,7 @@ impl BatchQueue {
             node,
             ring,
             readers,
+            crowd: Crowd::none(),
         }
     }
 

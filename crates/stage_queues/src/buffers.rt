@@ -1,10 +1,24 @@
-ghost use Rattle.std.specs.Prelude.{◌<◌};
+ghost use Rattle.std.specs.Prelude.{◌≡◌, ◌+◌, ◌<◌, true, replicate, IfOk};
 
+use crate::sizes::Sizes;
 use batch_pool::Pool;
+use stamp_base::NoMemory;
+use std::alloc::Global;
 
 /// A pool whose batches have room for an entry.
 #[derive(Drop)]
 pub struct Buffers {
     pub pool: Pool,
     pub ghost have_room: { 0 < pool.room },
+}
+
+impl Buffers {
+    /// A batch more than a node's workers can hold at once waits for them, and one is filled meanwhile.
+    pub fn open(alloc: Global, sizes: &Sizes) -> Result<Buffers, NoMemory>
+        ensures count { IfOk result (λ buffers. buffers.pool.at_home ≡ replicate (sizes.now.workers + 2) true) }
+        ensures room { IfOk result (λ buffers. buffers.pool.room ≡ sizes.now.batch) }
+    {
+        let pool = Pool::open(alloc, sizes.workers + 2, sizes.batch)?;
+        Ok(Buffers { pool })
+    }
 }

@@ -16,7 +16,7 @@ mod sizes;
 mod waiting;
 
 pub use batch_queue::BatchQueue;
-pub use laws::settled_once;
+pub use laws::{actors_wait_apart, settled_once};
 pub use node_pass::NodePass;
 pub use pass::StagePass;
 pub use queues::Queues;

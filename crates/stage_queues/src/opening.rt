@@ -19,7 +19,6 @@ use crate::request_queue::RequestQueue;
 use crate::settled_queue::SettledQueue;
 use crate::sizes::{REQUEST_ROOM, Sizes};
 use crate::waiting::{ACTORS, parkers};
-use batch_pool::Pool;
 use batch_rule::{BatchPass, BatchRing};
 use request_rule::{RequestPass, RequestRing};
 use settled_rule::{SettledPass, SettledRing};
@@ -129,12 +128,12 @@ fn open_node(alloc: Global, node: usize, sizes: &Sizes) -> Result<(NodeQueues, R
     let (requests, first_requests) = RequestRing::open(alloc, REQUEST_ROOM)?;
     let (batches, first_batches) = BatchRing::open(alloc, buffers)?;
     let (settled, first_settled) = SettledRing::open(alloc, buffers)?;
-    let pool = Pool::open(alloc, buffers, sizes.batch)?;
+    let pool = Buffers::open(alloc, sizes)?;
     let queues = NodeQueues {
         requests: RequestQueue::new(node, requests),
         batches: BatchQueue::new(node, batches, parkers(alloc, sizes.workers)?),
         settled: SettledQueue::new(node, settled),
-        buffers: Mutex::new(Buffers { pool }),
+        buffers: Mutex::new(pool),
     };
     let roots = Roots {
         requests: first_requests,

@@ -1,4 +1,4 @@
-ghost use Rattle.std.specs.Prelude.{◌≡◌, ℕ, ◌+◌, ◌-◌, ◌^◌, ◌<◌, [], length, IfSome, MatchOption, slice_get};
+ghost use Rattle.std.specs.Prelude.{◌≡◌, ℕ, ◌+◌, ◌-◌, ◌^◌, ◌<◌, [], length, Some, IfSome, MatchOption, slice_get};
 ghost use Rattle.stage_queues.specs.NodePasses.{joined_node, TellsNode};
 ghost use Rattle.stage_queues.specs.Passes.{AreNodePassesOf, pass_at};
 ghost use Rattle.stage_queues.specs.Plan.{node_ring};
@@ -9,9 +9,10 @@ use crate::node_pass::NodePass;
 use crate::pass::StagePass;
 use crate::request_queue::RequestQueue;
 use crate::settled_queue::SettledQueue;
-use crate::waiting::{Waiter, actor_place};
+use crate::waiting::{Crowd, Waiter, actor_place};
 use batch_pool::Batch;
-use stamp_base::{NodeNo, Stage};
+use history_book::Actor;
+use stamp_base::{NodeNo, SessionNo, Stage};
 use std::marker::Model;
 use std::sync::Wait;
 use std::sync::atomic::{AtomicBool, Ordering};
@@ -75,7 +76,7 @@ impl Queues {
         ensures held { MatchOption result (pass.new ≡ pass.old) (λ _. pass.new ≡ record pass.old { held = pass.old.held + 1 }) }
         ensures empty { IfSome result (λ batch. (batch.entries ≡ []) × (0 < batch.room)) }
     {
-        let batch = self.nodes[node.index()].buffers.lock(rt).pool.take()?;
+        let batch = self.node(node).buffers.lock(rt).pool.take()?;
         pass.held += 1;
         Some(batch)
     }
@@ -86,7 +87,7 @@ impl Queues {
         requires held { 0 < pass.old.held }
         ensures { pass.new ≡ record pass.old { held = pass.old.held - 1 } }
     {
-        let queues = &self.nodes[node.index()];
+        let queues = self.node(node);
         queues.buffers.lock(rt).pool.give(batch);
         pass.held -= 1;
         queues.requests.reader.unpark();
@@ -108,6 +109,62 @@ impl Queues {
         }
     }
 
+    /// Wakes every session.
+    pub fn wake_sessions(&self) {
+        for number in 0..SessionNo::COUNT as u64 {
+            if let Some(session) = SessionNo::new(number) {
+                self.wake(Waiter::Actor(Actor::Session(session)));
+            }
+        }
+    }
+
+    /// Wakes the threads of a node's stage.
+    pub fn wake_stage(&self, node: NodeNo, stage: Stage) {
+        if let Some(queues) = self.nodes.get(node.index()) {
+            match stage {
+                Stage::Request => queues.requests.reader.unpark(),
+                Stage::Persist => queues.batches.wake_readers(),
+                Stage::Reply => queues.settled.reader.unpark(),
+            }
+        }
+    }
+
+    /// For a sender that found the queue from which the node's stage receives full: parks the waiter until it is woken, as where there
+    /// is room. It may not wait at all, and is to try again after each wait.
+    pub fn wait_for_room<R: Wait>(&self, rt: &R, node: NodeNo, stage: Stage, waiter: Waiter) {
+        if let Some(crowd) = self.crowd(node, stage) {
+            if crowd.join() {
+                self.wait(rt, waiter);
+            }
+        }
+    }
+
+    /// There is room in the queue from which the node's stage receives: wakes the senders, if one waits for it.
+    pub fn tell_room(&self, node: NodeNo, stage: Stage) {
+        if let Some(crowd) = self.crowd(node, stage) {
+            if crowd.leave() {
+                self.wake_senders(node, stage);
+            }
+        }
+    }
+
+    fn wake_senders(&self, node: NodeNo, stage: Stage) {
+        match stage {
+            Stage::Request => self.wake_sessions(),
+            Stage::Persist => self.wake_stage(node, Stage::Request),
+            Stage::Reply => self.wake_stage(node, Stage::Persist),
+        }
+    }
+
+    fn crowd(&self, node: NodeNo, stage: Stage) -> Option<&Crowd> {
+        let queues = self.nodes.get(node.index())?;
+        Some(match stage {
+            Stage::Request => &queues.requests.crowd,
+            Stage::Persist => &queues.batches.crowd,
+            Stage::Reply => &queues.settled.crowd,
+        })
+    }
+
     /// Closes the queues, and wakes every waiter.
     pub fn close(&self) {
         self.closed.store(true, Ordering::SeqCst);
@@ -124,6 +181,13 @@ impl Queues {
     /// Whether the queues are closed.
     pub fn closed(&self) -> bool {
         self.closed.load(Ordering::SeqCst)
+    }
+
+    fn node(&self, node: NodeNo) -> &NodeQueues
+        requires { node < length self.now.nodes }
+        ensures { slice_get self.now.nodes node ≡ Some result.now }
+    {
+        &self.nodes[node.index()]
     }
 
     fn parker(&self, waiter: Waiter) -> Option<&Parker> {

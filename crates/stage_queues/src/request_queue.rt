@@ -4,6 +4,7 @@ ghost use Rattle.stage_queues.specs.Passes.{at_node, with_node, SendsTickets, Re
 ghost use Rattle.stage_queues.specs.Plan.{node_ring};
 
 use crate::pass::StagePass;
+use crate::waiting::Crowd;
 use request_rule::{RequestRing, Ticket};
 use std::marker::Model;
 use std::sync::Wait;
@@ -15,6 +16,7 @@ pub struct RequestQueue {
     pub(crate) node: usize,
     pub(crate) ring: RequestRing,
     pub(crate) reader: Parker,
+    pub(crate) crowd: Crowd,
 }
 
 impl Model for RequestQueue {
@@ -33,6 +35,7 @@ impl RequestQueue {
             node,
             ring,
             reader: Parker::new(),
+            crowd: Crowd::none(),
         }
     }
 

@@ -4,6 +4,7 @@ ghost use Rattle.stage_queues.specs.Passes.{at_node, let_go, got, UsesSettled};
 ghost use Rattle.stage_queues.specs.Plan.{node_ring};
 
 use crate::pass::StagePass;
+use crate::waiting::Crowd;
 use persist_batches::Numbered;
 use settled_rule::SettledRing;
 use std::marker::Model;
@@ -16,6 +17,7 @@ pub struct SettledQueue {
     pub(crate) node: usize,
     pub(crate) ring: SettledRing,
     pub(crate) reader: Parker,
+    pub(crate) crowd: Crowd,
 }
 
 impl Model for SettledQueue {
@@ -34,6 +36,7 @@ impl SettledQueue {
             node,
             ring,
             reader: Parker::new(),
+            crowd: Crowd::none(),
         }
     }
 

@@ -21,6 +21,7 @@ impl Sizes {
     pub fn of(setup: &Setup, senders: usize) -> Sizes
         ensures nodes { result.nodes ≡ setup.now.nodes }
         ensures workers { result.workers ≡ setup.now.workers }
+        ensures batch { result.batch ≡ setup.now.batch }
         ensures senders { result.senders ≡ senders }
     {
         Sizes {

@@ -1,6 +1,10 @@
+ghost use Rattle.std.specs.Prelude.{◌≡◌, ◌<◌};
+ghost use Rattle.stage_queues.specs.Places.{place_of};
+
 use history_book::Actor;
 use stamp_base::{NoMemory, NodeNo, SessionNo, Stage};
 use std::alloc::Global;
+use std::sync::atomic::{AtomicBool, Ordering};
 use std::thread::Parker;
 
 /// Who may wait until another thread wakes it.
@@ -15,12 +19,41 @@ pub enum Waiter {
 pub const ACTORS: usize = 2 + NodeNo::COUNT + SessionNo::COUNT;
 
 /// The place of an actor among all.
-pub fn actor_place(actor: Actor) -> usize {
+pub fn actor_place(actor: Actor) -> usize
+    ensures place { result ≡ place_of actor }
+    ensures there { result < ACTORS }
+{
     match actor {
         Actor::Clock => 0,
         Actor::Janitor => 1,
         Actor::Node(node) => 2 + node.index(),
         Actor::Session(session) => 2 + NodeNo::COUNT + session.index(),
+    }
+}
+
+/// Whether senders wait for room in a queue.
+#[derive(Drop)]
+pub struct Crowd {
+    waits: AtomicBool,
+}
+
+impl Crowd {
+    /// Nobody waits.
+    pub fn none() -> Crowd {
+        Crowd {
+            waits: AtomicBool::new(false),
+        }
+    }
+
+    /// A sender found the queue full. Whether one had said so before, since the senders were last woken: who did not have to say it
+    /// tries once more before it waits, since there may be room again that nobody tells.
+    pub fn join(&self) -> bool {
+        self.waits.swap(true, Ordering::SeqCst)
+    }
+
+    /// There is room in the queue. Whether senders wait for it, who are to be woken.
+    pub fn leave(&self) -> bool {
+        self.waits.load(Ordering::SeqCst) && self.waits.swap(false, Ordering::SeqCst)
     }
 }
 

@@ -1,4 +1,5 @@
 use Rattle.si_judge.specs.Marks.{KeepsMarks}
+use Rattle.si_judge.specs.OverlapIndex.{HasReached}
 use Rattle.si_judge.proofs.OverlapIndexLemmas.{IsDoneBut}
 use Rattle.si_judge.proofs.overlap_index.mark_all_overlaps.Given as goal
 
@@ -6,4 +7,5 @@ abbrev pub invariant-loop-version : goal.invariant-loop-version
 invariant-loop-version l = record {
   done : IsDoneBut l.written l.version-iterator l.marks;
   kept : KeepsMarks l.fn.marks l.marks;
+  reached : HasReached l.written l.reach l.marks;
 }

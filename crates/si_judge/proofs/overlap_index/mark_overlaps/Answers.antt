@@ -1,13 +1,16 @@
-use Rattle.si_judge.proofs.OverlapIndexLemmas.{one_marked, all_marked, keeps_both, between}
+use Rattle.std.proofs.Common.{◌≡◌, ◌≤◌, ◌∙◌, sym, subst}
+use Rattle.si_judge.proofs.OverlapIndexLemmas.{both_marked, reach_kept, keeps_both}
 use Rattle.si_judge.proofs.overlap_index.mark_overlaps.Goals as goal
 
-pub loop-other-preserved : goal.loop-other-preserved
-loop-other-preserved c =
-    let turn = keeps_both c.loop-other.marks c.mark.new.self c.mark-in-loop-other.new.self c.mark.ensures.kept c.mark-in-loop-other.ensures.kept in
-    record {
-      marked = one_marked (between c.args.written.now c.args.key c.args.start c.args.commit.stamp) c.loop-other.other-iterator c.next.new.self (c.in-Some.field-0-0.now, c.in-Some.other.now) c.args.commit.place c.loop-other.marks c.mark-in-loop-other.new.self c.loop-other.invariant.marked c.in-Some.ensures.steps turn (c.mark-in-loop-other.ensures.kept.at c.args.commit.place c.mark.ensures.marked) c.mark-in-loop-other.ensures.marked;
-      kept = keeps_both c.args.marks.now c.loop-other.marks c.mark-in-loop-other.new.self c.loop-other.invariant.kept turn;
-    }
+pub mark_up_to-requires : goal.mark_up_to-requires
+mark_up_to-requires c = c.at.ensures.reached c.args.written.now c.mark_own.new.marks (reach_kept c.args.written.now c.args.reach c.args.marks.now c.mark_own.new.marks c.requires c.mark_own.ensures.kept)
 
 pub returns-clause-marked : goal.returns-clause-marked
-returns-clause-marked c = all_marked c.args.written.now c.args.key c.args.start c.args.commit c.loop-other.other-iterator c.loop-other.marks c.in-None.ensures.steps.0 c.loop-other.invariant.marked
+returns-clause-marked c =
+    let further = c.mark_up_to.ensures.further in
+    let there = c.at.ensures.there in
+    both_marked c.args.written.now c.args.key c.args.start c.args.commit c.mark_up_to.result c.mark_own.new.marks c.mark_up_to.new.marks c.mark_own.ensures.marked c.mark_up_to.ensures.kept c.mark_up_to.ensures.reached
+    (further.0 ∙ there.0) (subst (λ n. n ≤ c.args.start) (sym further.1) there.1) further.2
+
+pub returns-clause-kept : goal.returns-clause-kept
+returns-clause-kept c = keeps_both c.args.marks.now c.mark_own.new.marks c.mark_up_to.new.marks c.mark_own.ensures.kept c.mark_up_to.ensures.kept
