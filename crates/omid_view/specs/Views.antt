@@ -27,10 +27,8 @@ pub record IsPictureOf (first : ℕ) (items : List Item) (text : List ℕ) : Typ
   pub is : text ≡ picture_text (lanes_for items) first signs
 
 -- the text explains each refusal among these items
-pub record Explains (items : List Item) (text : List ℕ) : Type 0 where
-  pub signs : List Sign
-  pub are : AreSigns (lanes_for items) items signs
-  pub is : text ≡ explanations items 1 signs
+abbrev pub Explains : List Item → List ℕ → Type 0
+Explains items text = text ≡ explanations items 0 items
 
 -- what a command makes of items
 abbrev pub Makes : Command → List Item → List ℕ → Type 0

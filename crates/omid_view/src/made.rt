@@ -34,9 +34,7 @@ fn picture_of(alloc: Global, items: &[Item], first: u64) -> Result<Text, NoMemor
 fn explained(alloc: Global, items: &[Item]) -> Result<Text, NoMemory>
     ensures { IfOk result (λ text. Explains items.now text) }
 {
-    let lanes = lanes_of(alloc, items)?;
-    let signs = signs_of(alloc, &lanes, items)?;
-    explain_refusals(alloc, items, &signs)
+    explain_refusals(alloc, items)
 }
 
 /// The items from one number to another, of the first 2,000 of them.

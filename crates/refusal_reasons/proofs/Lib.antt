@@ -1,3 +1,10 @@
-mod MemberLemmas
-mod WitnessLemmas
+mod SeekLemmas
+mod PartLemmas
+mod WrittenLemmas
+mod PlaceLemmas
+mod RequestLemmas
 mod WordLemmas
+mod CommitLemmas
+mod NodeLemmas
+mod LossLemmas
+mod DecidedLemmas

@@ -1,2 +1,5 @@
-pub mod Reasons
+pub mod Clues
+pub mod Sought
+pub mod Showing
 pub mod Words
+pub mod Decided

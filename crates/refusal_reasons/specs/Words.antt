@@ -1,12 +1,12 @@
--- The explanation of a refusal: its item, its cause in words, and the earlier item that shows it.
-use Rattle.std.specs.Prelude.{ℕ, ◌+◌, List, [], ◌∷◌, ◌++◌, Option, None, Some, slice_get, codes, decimal}
+-- The explanation of a refusal: its item, its cause in words, and the earlier items that show it.
+use Rattle.std.specs.Prelude.{ℕ, ◌+◌, List, [], ◌∷◌, ◌++◌, Option, None, Some, length, take, slice_get, codes, decimal}
 use Rattle.history_book.specs.declared.cause.Cause.{Cause}
 use Rattle.history_book.specs.declared.cause.Cause.TheVariants as cause
 use Rattle.history_book.specs.declared.item.Item.{Item}
 use Rattle.history_book.specs.declared.item.Item.TheVariants.{Refused}
-use Rattle.history_lanes.specs.declared.sign.Link.{Link}
-use Rattle.history_lanes.specs.declared.sign.Sign.{Sign}
 use Rattle.history_text.specs.Text.{body_of}
+use Rattle.refusal_reasons.specs.declared.shown.Places.{Places}
+use Rattle.refusal_reasons.specs.Showing.{shown_by}
 
 unfoldable pub reason_text : Cause → List ℕ
 reason_text (cause.Conflict key by) = codes "a transaction that ran at the same time wrote the key too, and its commit was drawn first"
@@ -40,17 +40,22 @@ abbrev pub witness_text : ℕ → Option Item → List ℕ
 witness_text number None = []
 witness_text number (Some item) = codes "    shown by " ++ named_text number item
 
--- the item that shows the refusal, where one does
-abbrev pub shown_text : Option Link → (ℕ → Option Item) → List ℕ
-shown_text None item_at = []
-shown_text (Some link) item_at = witness_text (link.place + 1) (item_at link.place)
+-- the item at a place
+abbrev pub place_text : List Item → Option ℕ → List ℕ
+place_text before None = []
+place_text before (Some place) = witness_text (place + 1) (slice_get before place)
 
--- the lines on a sign of this number: none where its item is no refusal
-unfoldable pub explanation : List Item → ℕ → Item → Option Link → List ℕ
-explanation items number (Refused actor why) link = named_text number (Refused actor why) ++ codes "    " ++ reason_text why ++ codes "\n" ++ shown_text link (slice_get items)
-explanation items number _ link = []
+-- the items that show the refusal, where it is shown
+abbrev pub shown_text : List Item → Option Places → List ℕ
+shown_text before None = codes "    nothing that stands before shows it\n"
+shown_text before (Some places) = place_text before places.first ++ place_text before places.second ++ place_text before places.third
 
--- the explanations of all refusals, in order
-unfoldable pub explanations : List Item → ℕ → List Sign → List ℕ
-explanations items number [] = []
-explanations items number (sign ∷ signs) = explanation items number sign.item sign.link ++ explanations items (number + 1) signs
+-- the lines on an item, behind those before it: none where it is no refusal
+unfoldable pub explanation : List Item → Item → List ℕ
+explanation before (Refused actor why) = named_text (length before + 1) (Refused actor why) ++ codes "    " ++ reason_text why ++ codes "\n" ++ shown_text before (shown_by before actor why)
+explanation before _ = []
+
+-- the explanations of all refusals from a place on, in order
+unfoldable pub explanations : List Item → ℕ → List Item → List ℕ
+explanations items place [] = []
+explanations items place (item ∷ rest) = explanation (take place items) item ++ explanations items (place + 1) rest

@@ -1,60 +1,78 @@
 // The explanations of refusals, in words.
-ghost use Rattle.std.specs.Prelude.{◌≡◌, ◌+◌, ◌-◌, ◌^◌, ◌≤◌, ◌<◌, ◌++◌, Some, IfOk, OnOk, length, slice_get};
-ghost use Rattle.refusal_reasons.specs.Words.{explanation, explanations, named_text, reason_text, shown_text, witness_text};
+ghost use Rattle.std.specs.Prelude.{◌≡◌, ◌+◌, ◌<◌, ◌++◌, Some, IfOk, IfSome, OnOk, length, slice_get, take};
+ghost use Rattle.refusal_reasons.specs.Words.{explanation, explanations, named_text, place_text, reason_text, shown_text, witness_text};
 
+use crate::shown::{Places, shown_by};
 use history_book::{Cause, Item};
-use history_lanes::{Link, Sign};
 use history_text::{LineBuf, print_body};
 use history_view::Text;
 use stamp_base::NoMemory;
 use std::alloc::Global;
 
-/// The explanations of all refusals among the items, whose signs these are.
-pub fn explain_refusals(alloc: Global, items: &[Item], signs: &[Sign]) -> Result<Text, NoMemory>
-    ensures { IfOk result (λ text. text ≡ explanations items.now 1 signs.now) }
+/// The explanations of all refusals among the items.
+pub fn explain_refusals(alloc: Global, items: &[Item]) -> Result<Text, NoMemory>
+    ensures { IfOk result (λ text. text ≡ explanations items.now 0 items.now) }
 {
     let mut text = Text::new(alloc);
-    print_all(&mut text, items, signs)?;
+    print_all(&mut text, items)?;
     Ok(text)
 }
 
 #[tactic(auto, unfolding(crate::specs::Words::explanations))]
-fn print_all(text: &mut Text, items: &[Item], signs: &[Sign]) -> Result<(), NoMemory>
-    ensures { OnOk result (text.new ≡ text.old ++ explanations items.now 1 signs.now) }
+fn print_all(text: &mut Text, items: &[Item]) -> Result<(), NoMemory>
+    ensures { OnOk result (text.new ≡ text.old ++ explanations items.now 0 items.now) }
 {
-    for place in 0..signs.len() {
-        print_explanation(text, items, place as u64 + 1, &signs[place])?;
+    for place in 0..items.len() {
+        print_at(text, items, place)?;
     }
     Ok(())
 }
 
-/// Adds the lines on a sign of this number: none where its item is no refusal.
-#[tactic(auto, unfolding(crate::specs::Words::explanation))]
-fn print_explanation(
-    text: &mut Text,
-    items: &[Item],
-    number: u64,
-    sign: &Sign,
-) -> Result<(), NoMemory>
-    ensures { OnOk result (text.new ≡ text.old ++ explanation items.now number sign.now.item sign.now.link) }
+/// Adds the lines on the item at a place.
+fn print_at(text: &mut Text, items: &[Item], place: usize) -> Result<(), NoMemory>
+    requires { place < length items.now }
+    ensures { OnOk result (IfSome (slice_get items.now place) (λ item. text.new ≡ text.old ++ explanation (take place items.now) item)) }
 {
-    match sign.item {
-        Item::Refused { cause, .. } => {
-            print_named(text, number, &sign.item)?;
+    print_explanation(text, &items[..place], &items[place])?;
+    Ok(())
+}
+
+/// Adds the lines on an item behind those before it: none where it is no refusal.
+#[tactic(auto, unfolding(crate::specs::Words::explanation))]
+fn print_explanation(text: &mut Text, before: &[Item], item: &Item) -> Result<(), NoMemory>
+    ensures { OnOk result (text.new ≡ text.old ++ explanation before.now item.now) }
+{
+    match item {
+        Item::Refused { actor, cause } => {
+            print_named(text, before.len() as u64 + 1, item)?;
             text.push_between(b"    ", reason(cause), b"\n")?;
-            print_shown(text, items, sign.link)
+            let places = shown_by(before, actor, cause);
+            print_shown(text, before, &places)
         }
         _ => Ok(()),
     }
 }
 
-/// Adds the item that shows a refusal, where one does.
-fn print_shown(text: &mut Text, items: &[Item], link: Option<Link>) -> Result<(), NoMemory>
-    ensures { OnOk result (text.new ≡ text.old ++ shown_text link (slice_get items.now)) }
+/// Adds the items that show a refusal, or that none does.
+fn print_shown(text: &mut Text, before: &[Item], places: &Option<Places>) -> Result<(), NoMemory>
+    ensures { OnOk result (text.new ≡ text.old ++ shown_text before.now places.now) }
 {
-    match link {
-        Some(link) => match items.get(link.place) {
-            Some(item) => print_witness(text, link.place as u64 + 1, item),
+    match places {
+        Some(places) => {
+            print_place(text, before, places.first)?;
+            print_place(text, before, places.second)?;
+            print_place(text, before, places.third)
+        }
+        None => text.push(b"    nothing that stands before shows it\n"),
+    }
+}
+
+fn print_place(text: &mut Text, before: &[Item], place: Option<usize>) -> Result<(), NoMemory>
+    ensures { OnOk result (text.new ≡ text.old ++ place_text before.now place) }
+{
+    match place {
+        Some(place) => match before.get(place) {
+            Some(item) => print_witness(text, place as u64 + 1, item),
             None => Ok(()),
         },
         None => Ok(()),
@@ -82,10 +100,10 @@ fn print_named(text: &mut Text, number: u64, item: &Item) -> Result<(), NoMemory
 
 /// Why such a refusal comes.
 #[tactic(auto, unfolding(crate::specs::Words::reason_text))]
-fn reason(cause: Cause) -> &'static [u8]
-    ensures { result.now ≡ reason_text cause }
+fn reason(cause: &Cause) -> &'static [u8]
+    ensures { result.now ≡ reason_text cause.now }
 {
-    match cause {
+    match *cause {
         Cause::Conflict { .. } => {
             b"a transaction that ran at the same time wrote the key too, and its commit was drawn first"
         }

@@ -1,8 +1,11 @@
-// What holds of all explained histories.
-ghost use Rattle.refusal_reasons.specs.Reasons.{WitnessesAreFound};
+// What holds of the items that are named.
+ghost use Rattle.refusal_reasons.specs.Decided.{AllDecided, ExplainedAreFound, SoughtFit};
 
-/// In an explained history, the last item before a refusal that shows it is there, for each cause that an item shows.
-#[tactic(auto, using(crate::proofs::WitnessLemmas::witnesses_found))]
-pub fn witnesses_are_found()
-    ensures found { WitnessesAreFound }
+/// A refusal is shown, by the definition of its cause, exactly where its items are found and the numbers of the setup agree; so
+/// in an explained history the items of each refusal are found. Each of them is what its clue asks for.
+#[tactic(auto)]
+pub fn refusals_are_decided()
+    ensures decided { AllDecided }
+    ensures explained { ExplainedAreFound }
+    ensures fit { SoughtFit }
 {}

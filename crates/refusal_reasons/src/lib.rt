@@ -1,8 +1,14 @@
-//! Why refusals came, in words, and that in an explained history the item which shows one is always found.
+//! Why refusals came, in words, with the items that show them: as the definitions of the causes ask for them, and no others.
 #![tactic(auto)]
 
+mod clue;
 mod explain;
 mod laws;
+mod request;
+mod shown;
+mod sought;
 
+pub use clue::Clue;
 pub use explain::explain_refusals;
-pub use laws::witnesses_are_found;
+pub use laws::refusals_are_decided;
+pub use shown::{Places, shown_by};
