@@ -15,3 +15,6 @@ pub use pass::BeaconPass;
 pub use publisher::Publisher;
 pub use rule::{Announced, BeaconView};
 pub use worked::looks_go_on;
+
+#[cfg(test)]
+mod tests;
