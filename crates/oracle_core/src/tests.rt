@@ -40,14 +40,20 @@ fn commit() -> Request {
     }
 }
 
-/// Asks, accepts at reading 9, and decides.
-fn decided(instance: &mut Instance, request: Request) -> Result<Decided, Cause> {
+/// Asks, and accepts at reading 9.
+fn accepted(instance: &mut Instance, request: Request) -> Result<(), Cause> {
     let session = requests::session_of(&request);
     if instance.place(session).is_some() {
         return Err(Cause::Busy);
     }
     instance.ask(request)?;
-    instance.accept(session, 9)?;
+    instance.accept(session, 9)
+}
+
+/// Asks, accepts, and decides.
+fn decided(instance: &mut Instance, request: Request) -> Result<Decided, Cause> {
+    let session = requests::session_of(&request);
+    accepted(instance, request)?;
     instance.decide(session)
 }
 
@@ -82,10 +88,9 @@ fn a_commit_is_refused(rt: HostRuntime) -> Result<(), Fail> {
     let session = SessionNo::LAST;
     let none = Err(Cause::NoRequest { session });
     assert_eq!(rt; instance.refuse(session), none);
-    let _ = instance.ask(commit());
-    assert_eq!(rt; instance.refuse(session), none);
-    let _ = instance.accept(session, 9);
+    assert_eq!(rt; accepted(&mut instance, commit()), Ok(()));
     assert_eq!(rt; instance.refuse(session), Ok(()));
+    assert_eq!(rt; instance.refuse(session), none);
     assert_eq!(rt; instance.place(session), None);
     let mut keys = KeyList::empty();
     let _ = keys.push(KeyNo::FIRST);

@@ -1,4 +1,6 @@
 // Each call once, and histories whose pairs are found by hand.
+ghost use Rattle.std.specs.Prelude.{◌<◌};
+
 use super::*;
 use conflict_buckets::{Buckets, Verdict};
 use history_book::Item;
