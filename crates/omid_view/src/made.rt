@@ -1,24 +1,47 @@
 // What a command makes of items.
-ghost use Rattle.std.specs.Prelude.{◌≡◌, ◌+◌, ◌-◌, ◌≤◌, IfOk, length, take, drop, min};
-ghost use Rattle.omid_view.specs.Views.{Explains, IsInRange, IsPictureOf, Makes, part_of};
+ghost use Rattle.std.specs.Prelude.{◌≡◌, ◌+◌, ◌-◌, ◌≤◌, ◌⊎◌, IfOk, length, take, drop, min};
+ghost use Rattle.omid_view.specs.Views.{Explains, IsInRange, IsPictureOf, IsSound, Makes, part_of};
 
+use crate::breach::{print_breach, status_of};
 use crate::command::Command;
+use crate::status;
 use history_book::Item;
 use history_lanes::{lanes_of, signs_of};
 use history_view::{Text, print_picture};
 use refusal_reasons::explain_refusals;
+use si_judge::judge;
 use stamp_base::NoMemory;
 use std::alloc::Global;
 
-/// The text that the command makes of the items.
-pub fn made_of(alloc: Global, command: Command, items: &[Item]) -> Result<Text, NoMemory>
-    requires { IsInRange command }
-    ensures { IfOk result (λ text. Makes command items.now text) }
+/// A text, and the status that goes with it.
+#[derive(Drop)]
+pub struct Made {
+    pub text: Text,
+    pub code: u8,
+}
+
+/// What the command makes of the items.
+pub fn made_of(alloc: Global, command: Command, items: &[Item]) -> Result<Made, NoMemory>
+    requires { IsSound command }
+    ensures made { IfOk result (λ made. Makes command items.now made.code made.text) }
+    ensures codes { IfOk result (λ made. (made.code ≡ 0) ⊎ (made.code ≡ 7)) }
 {
     match command {
-        Command::Picture { from, to } => { picture_of(alloc, part_of(items, from, to), from) }
+        Command::Picture { from, to } => pictured(alloc, items, from, to),
         Command::Explain => explained(alloc, items),
     }
+}
+
+fn pictured(alloc: Global, items: &[Item], from: u64, to: u64) -> Result<Made, NoMemory>
+    requires { IsInRange from to }
+    ensures made { IfOk result (λ made. IsPictureOf from (part_of from to items.now) made.text) }
+    ensures code { IfOk result (λ made. made.code ≡ 0) }
+{
+    let text = picture_of(alloc, part_of(items, from, to), from)?;
+    Ok(Made {
+        text,
+        code: status::DONE,
+    })
 }
 
 fn picture_of(alloc: Global, items: &[Item], first: u64) -> Result<Text, NoMemory>
@@ -31,16 +54,24 @@ fn picture_of(alloc: Global, items: &[Item], first: u64) -> Result<Text, NoMemor
     print_picture(alloc, &lanes, first, &signs)
 }
 
-fn explained(alloc: Global, items: &[Item]) -> Result<Text, NoMemory>
-    ensures { IfOk result (λ text. Explains items.now text) }
+fn explained(alloc: Global, items: &[Item]) -> Result<Made, NoMemory>
+    ensures made { IfOk result (λ made. Explains items.now made.code made.text) }
+    ensures codes { IfOk result (λ made. (made.code ≡ 0) ⊎ (made.code ≡ 7)) }
 {
-    explain_refusals(alloc, items)
+    let verdict = judge(alloc, items)?;
+    let mut text = Text::new(alloc);
+    print_breach(&mut text, items, &verdict)?;
+    let reasons = explain_refusals(alloc, items)?;
+    text.push(reasons.as_slice())?;
+    Ok(Made {
+        text,
+        code: status_of(&verdict),
+    })
 }
 
 /// The items from one number to another, of the first 2,000 of them.
 fn part_of(items: &[Item], from: u64, to: u64) -> &[Item]
-    requires numbered { (1 ≤ from) × (from ≤ to) }
-    requires few { to ≤ 16777216 }
+    requires { IsInRange from to }
     ensures part { result.now ≡ part_of from to items.now }
     ensures within { length result.now ≤ 2000 }
 {
