@@ -1,5 +1,5 @@
 // What a history that is not isolated breaks, in words.
-ghost use Rattle.std.specs.Prelude.{◌≡◌, ◌<◌, ◌≤◌, ◌^◌, ◌++◌, OnOk, Some, slice_get, length};
+ghost use Rattle.std.specs.Prelude.{◌≡◌, ◌-◌, ◌<◌, ◌≤◌, ◌^◌, ◌++◌, OnOk, Some, slice_get, length};
 ghost use Rattle.isolation_rules.specs.Judged.{IsJudged};
 ghost use Rattle.omid_view.specs.Breaches.{breach_text, broken_text, line_text, right_text, rule_text, rule_word, verdict_status};
 
