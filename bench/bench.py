@@ -12,7 +12,11 @@ from dataclasses import dataclass
 
 ROOT = os.path.dirname(os.path.dirname(os.path.abspath(__file__)))
 LINES = 131_072
+# the longest history that is read back, in bytes
+READ_BACK = 16 * 1024 * 1024
 WIDE = ["range 1000000000", "lease 1000000"]
+# how the scripts of one session or one node begin
+HEAD = [*WIDE, "a take"]
 
 
 @dataclass
@@ -48,15 +52,15 @@ def median(costs, field="user"):
 
 def whole_lines(lines):
     """One session begins, writes one of 50 keys and commits, over and over."""
-    turns = (lines - 1) // 3
-    return [*WIDE, "a take"] + [line for turn in range(turns)
+    turns = (lines - len(HEAD)) // 3
+    return HEAD + [line for turn in range(turns)
                                 for line in ("s0 begin a", f"s0 write k{turn % 50} v{turn}", "s0 commit a")]
 
 
 def hot_key(lines):
     """One session begins, reads, writes, reads again and commits, all on one key."""
-    turns = (lines - 1) // 5
-    return [*WIDE, "a take"] + [line for turn in range(turns)
+    turns = (lines - len(HEAD)) // 5
+    return HEAD + [line for turn in range(turns)
                                 for line in ("s0 begin a", "s0 read k0", f"s0 write k0 v{turn}", "s0 read k0", "s0 commit a")]
 
 
@@ -64,7 +68,7 @@ def single_steps(lines):
     """Each event of a begin, a fetch, a write and a commit by a line of its own."""
     turn = ("s0 ask-begin a", "a accept s0", "a decide s0", "a answer s0", "s0 fetch k1", "s0 write k1 v", "s0 ask-commit a",
             "a accept s0", "a decide s0", "a put s0", "a answer s0", "s0 step", "s0 step")
-    return [*WIDE, "a take"] + [line for _ in range((lines - 1) // len(turn)) for line in turn]
+    return HEAD + [line for _ in range((lines - len(HEAD)) // len(turn)) for line in turn]
 
 
 def at_random(lines, sessions=16, keys=50, seed=7):
@@ -72,7 +76,7 @@ def at_random(lines, sessions=16, keys=50, seed=7):
     draw = random.Random(seed)
     verbs = (lambda: "begin a", lambda: f"read k{draw.randrange(keys)}", lambda: f"write k{draw.randrange(keys)} v{draw.randrange(999)}",
              lambda: "commit a")
-    return [*WIDE, "a take"] + [f"s{draw.randrange(sessions)} {draw.choice(verbs)()}" for _ in range(lines - 1)]
+    return HEAD + [f"s{draw.randrange(sessions)} {draw.choice(verbs)()}" for _ in range(lines - len(HEAD))]
 
 
 def transactions(lines, sessions, nodes=1, takeovers=0):
@@ -80,7 +84,7 @@ def transactions(lines, sessions, nodes=1, takeovers=0):
     script = [f"nodes {max(nodes, 1)}", *WIDE]
     script += ["a take"]
     homes = "abcdefgh"
-    each = lines // sessions // 4
+    each = (lines - 8) // sessions // 4
     chunks = takeovers + 1
     for chunk in range(chunks):
         node = homes[chunk % max(nodes, 1)]
@@ -115,12 +119,14 @@ def beside_sort(program, work, runs, loads):
             took["sort"].append(ran(["sort", "--parallel=1"], text, other))
             took["audit"].append(ran([program, "audit"], text, other))
             took["json"].append(ran([program, "replay", "json"], given, json))
-            took["json audit"].append(ran([program, "audit"], json, other))
+            if os.path.getsize(json) <= READ_BACK:
+                took["json audit"].append(ran([program, "audit"], json, other))
         with open(text, "rb") as it:
             items = sum(1 for _ in it)
-        at = {key: median(costs) or 1e-6 for key, costs in took.items()}
+        at = {key: median(costs) or 1e-6 for key, costs in took.items() if costs}
+        back = f"{at['json audit']:10.3f} {at['json audit'] / at['audit']:8.2f}" if "json audit" in at else f"{'too long':>10}"
         print(f"{name:28} {items:9} {at['replay']:8.3f} {at['replay'] / at['sort']:8.2f} {at['audit']:8.3f} {at['audit'] / at['sort']:8.2f} "
-              f"{at['json']:8.3f} {at['json'] / at['replay']:8.2f} {at['json audit']:10.3f} {at['json audit'] / at['audit']:8.2f}", flush=True)
+              f"{at['json']:8.3f} {at['json'] / at['replay']:8.2f} {back}", flush=True)
 
 
 def compactions(program, work, runs, loads):
