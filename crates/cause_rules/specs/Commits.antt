@@ -1,6 +1,6 @@
 -- What shows the refusals of a request: by its ask, its node, its term and its start. Where the session asked of no node, none
 -- of them is shown.
-use Rattle.std.specs.Prelude.{◌≡◌, ℕ, ◌<◌, ◌≤◌, List, ◌⊎◌, None, Some, Contains}
+use Rattle.std.specs.Prelude.{◌≡◌, ℕ, ◌<◌, ◌≤◌, false, List, ◌⊎◌, None, Some, Contains}
 use Rattle.stamp_base.specs.SetupNumbers.{SetupNumbers}
 use Rattle.stamp_base.specs.declared.stores.Store.TheVariants.{Table}
 use Rattle.history_book.specs.Members.{◌∈◌}
@@ -22,13 +22,13 @@ CommitDrawn h term writer commit = (s : ℕ) × (n : ℕ) × (Draw s n term writ
 abbrev pub StampDrawn : List Item → ℕ → ℕ → Type 0
 StampDrawn h term stamp = ((s : ℕ) × (n : ℕ) × (Draw s n term stamp None ∈ h)) ⊎ ((writer : ℕ) × CommitDrawn h term writer stamp)
 
--- a key that the transaction wrote was committed above its start, in its term
-pub record ShownConflict (h : List Item) (s key by : ℕ) : Type 0 where
+-- a key that the transaction wrote, or with strict reads may only have read, was committed above its start, in its term
+pub record ShownConflict (setup : SetupNumbers) (h : List Item) (s key by : ℕ) : Type 0 where
   pub node : ℕ
   pub node_is : its_node h s ≡ Some node
   pub start : ℕ
   pub start_is : its_start h s ≡ Some start
-  pub own : Contains (written_keys h start) key
+  pub own : setup.strict ≡ false → Contains (written_keys h start) key
   pub term : ℕ
   pub term_is : its_term h s ≡ Some term
   pub above : start < by
@@ -36,14 +36,14 @@ pub record ShownConflict (h : List Item) (s key by : ℕ) : Type 0 where
   pub drawn : CommitDrawn h term writer by
   pub wrote : Contains (written_keys h writer) key
 
--- the bucket of a key that the transaction wrote does not keep the key, and its water is above the start: a commit that was
--- drawn in the term for a key of that bucket
+-- the bucket of a key that the transaction wrote, or with strict reads may only have read, does not keep the key, and its water
+-- is above the start: a commit that was drawn in the term for a key of that bucket
 pub record ShownHidden (setup : SetupNumbers) (h : List Item) (s key water : ℕ) : Type 0 where
   pub node : ℕ
   pub node_is : its_node h s ≡ Some node
   pub start : ℕ
   pub start_is : its_start h s ≡ Some start
-  pub own : Contains (written_keys h start) key
+  pub own : setup.strict ≡ false → Contains (written_keys h start) key
   pub term : ℕ
   pub term_is : its_term h s ≡ Some term
   pub forgotten : kept_commit (bucket_of (contents setup.buckets setup.width (recorded h term)) key).kept key ≡ None

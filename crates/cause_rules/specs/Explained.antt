@@ -16,7 +16,7 @@ use Rattle.cause_rules.specs.Refusals.{ShownFull, ShownGone, ShownEarly, ShownSp
 
 -- ---- what is told to a session: neither Early, Holding, NoRequest nor Undecided
 abbrev pub ShownToSession : SetupNumbers → List Item → ℕ → Cause → Type 0
-ShownToSession setup h s (cause.Conflict key by) = ShownConflict h s key by
+ShownToSession setup h s (cause.Conflict key by) = ShownConflict setup h s key by
 ShownToSession setup h s (cause.Hidden key water) = ShownHidden setup h s key water
 ShownToSession setup h s (cause.OldEpoch start epoch) = ShownOldEpoch h s start epoch
 ShownToSession setup h s (cause.Expired reading until) = ShownExpired h s reading until

@@ -5,6 +5,7 @@ pub mod Posts
 pub mod OpenAsks
 pub mod Commits
 pub mod Refusals
+pub mod Strict
 pub mod Explained
 pub mod WorkedHistories
 pub mod WorkedCommits

@@ -1,5 +1,5 @@
 -- What becomes of a client when its transaction or its request ends, or goes on.
-use Rattle.std.specs.Prelude.{ℕ, Bool, true, false, List, ◌∷◌, Option, None, Some}
+use Rattle.std.specs.Prelude.{ℕ, Bool, true, false, List, [], ◌∷◌, Option, None, Some}
 use Rattle.client_parts.specs.declared.session.State as state
 use Rattle.client_parts.specs.SessionSteps.{session_begun, session_asked, session_freed, session_aborted, session_committed, session_opened, session_vanished}
 use Rattle.client_parts.specs.Completion.{finish_asks, undo_asks}
@@ -29,8 +29,9 @@ finish_of (Some start) commit keys = Completes (finish_asks start commit keys)
 abbrev pub emptied : Client → Client
 emptied c = record c { under_way = Nothing; heal = None }
 
+-- a new transaction has read nothing
 abbrev pub client_begun : Client → ℕ → ℕ → Client
-client_begun c start epoch = record (emptied c) { entry = session_begun c.entry start epoch }
+client_begun c start epoch = record (emptied c) { entry = session_begun c.entry start epoch; reads = [] }
 
 abbrev pub client_asked : Client → Client
 client_asked c = record (emptied c) { entry = session_asked c.entry }

@@ -26,7 +26,7 @@ use Rattle.machine.specs.Events.Decide.{decide_on}
 use Rattle.machine.specs.Events.Put.{put_on, put_asks}
 use Rattle.machine.specs.Events.Answer.{answer_on}
 use Rattle.machine.specs.Events.Write.{write_on, write_asks}
-use Rattle.machine.specs.Events.Fetch.{marks_every, fetch_on, fetch_asks}
+use Rattle.machine.specs.Events.Fetch.{fetch_on, fetch_asks}
 use Rattle.machine.specs.Events.Step.{StepParts, step_on, step_asks}
 use Rattle.machine.specs.Events.Heal.{heal_on, heal_asks}
 use Rattle.machine.specs.Events.Abort.{abort_on}
@@ -129,7 +129,7 @@ stepped w (event.Decide node session) fate = on_request w node session (decide_o
 stepped w (event.Put node session) fate = on_table w node (λ post. put_on node session fate post w.pairs)
 stepped w (event.Answer node session) fate = on_request w node session (answer_on node session)
 stepped w (event.Write session key value) fate = on_cells w session (λ c. write_on session key value fate c w.rows)
-stepped w (event.Fetch session key) fate = on_client w session (λ c. fetch_on (marks_every w.setup) session key fate c w.rows)
+stepped w (event.Fetch session key) fate = on_client w session (λ c. fetch_on w.setup session key fate c w.rows)
 stepped w (event.Step session) fate = on_stores w session (λ c. step_on session fate c w.rows w.pairs)
 stepped w (event.Heal session) fate = on_cells w session (λ c. heal_on session fate c w.rows w.pairs)
 stepped w (event.Abort session) fate = on_client w session (abort_on session)
@@ -152,7 +152,7 @@ asks w (event.Renew node reading) = asks_at_post (slice_get w.nodes node) renew_
 asks w (event.Extend node) = asks_at_post (slice_get w.nodes node) extend_asks
 asks w (event.Put node session) = asks_at_post (slice_get w.nodes node) (put_asks session)
 asks w (event.Write session key value) = asks_at_client (slice_get w.clients session) (write_asks key)
-asks w (event.Fetch session key) = asks_at_client (slice_get w.clients session) fetch_asks
+asks w (event.Fetch session key) = asks_at_client (slice_get w.clients session) (fetch_asks w.setup key)
 asks w (event.Step session) = asks_at_client (slice_get w.clients session) step_asks
 asks w (event.Heal session) = asks_at_client (slice_get w.clients session) heal_asks
 asks w event.SweepStep = sweep_step_asks w.sweep

@@ -22,11 +22,13 @@ pub data UnderWay : Type 0 where
   -- the asks of a completion that are left
   Completes : List Ask → UnderWay
 
--- a client: its session, what it has under way, and the shadow that its last read offers to set: key, version and commit
+-- a client: its session, what it has under way, the shadow that its last read offers to set (key, version and commit), and
+-- the keys that its transaction read and had not written, where the setup has them kept
 pub record Client : Type 0 where
   pub entry : SessionEntry
   pub under_way : UnderWay
   pub heal : Option (ℕ × ℕ × ℕ)
+  pub reads : List ℕ
 
 pub record State : Type 0 where
   -- the numbers of the setup, which no event changes
@@ -45,7 +47,7 @@ pub record State : Type 0 where
   pub master : MasterRecord
 
 abbrev pub client_new : Client
-client_new = record { entry = session_new; under_way = Nothing; heal = None }
+client_new = record { entry = session_new; under_way = Nothing; heal = None; reads = [] }
 
 abbrev pub opening : SetupNumbers → State
 opening setup = record {

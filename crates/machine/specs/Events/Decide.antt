@@ -1,6 +1,6 @@
--- A node decides a request that it accepted: a commit is checked for conflicts, and then a stamp is drawn. A refusal ends
--- the request, but for NoStamp, which it is told once.
-use Rattle.std.specs.Prelude.{ℕ, [], ◌∷◌, Option, None, Some, Result, Ok, Err}
+-- A node decides a request that it accepted: a commit is checked for conflicts, of the keys that it writes and then of those
+-- that its transaction read, and then a stamp is drawn. A refusal ends the request, but for NoStamp, which it is told once.
+use Rattle.std.specs.Prelude.{ℕ, List, [], ◌∷◌, Option, None, Some, Result, Ok, Err}
 use Rattle.history_book.specs.declared.cause.Cause.{Cause}
 use Rattle.history_book.specs.declared.cause.Cause.TheVariants as cause
 use Rattle.history_book.specs.declared.item.Actor.TheVariants.{Node, Session}
@@ -10,12 +10,34 @@ use Rattle.oracle_parts.specs.declared.instance.Decided.{Decided}
 use Rattle.oracle_parts.specs.declared.instance.Held.{Held}
 use Rattle.oracle_parts.specs.declared.instance.Request.{Request}
 use Rattle.oracle_parts.specs.declared.instance.Request.TheVariants.{Begin, Commit}
+use Rattle.oracle_parts.specs.declared.instance.Progress.{Progress}
+use Rattle.oracle_parts.specs.declared.instance.Progress.TheVariants.{Accepted}
+use Rattle.oracle_parts.specs.declared.buckets.Verdict.{Verdict}
+use Rattle.oracle_parts.specs.declared.buckets.Verdict.TheVariants.{Free}
+use Rattle.oracle_parts.specs.Buckets.{Bucket, verdict_both}
 use Rattle.oracle_parts.specs.Instance.{InstanceEntry, held_of}
-use Rattle.oracle_parts.specs.InstanceSteps.{instance_decide}
+use Rattle.oracle_parts.specs.InstanceSteps.{InstanceStep, no_request, decide_by as decided}
 use Rattle.oracle_parts.specs.InstanceLaws.{stamp_of}
 use Rattle.machine.specs.State.{Client}
 use Rattle.machine.specs.Effect.{Effect, done, refused, refused_once}
 use Rattle.machine.specs.Clients.{after_refusal}
+
+-- what the conflict memory says of a request, once its transaction has read these keys
+abbrev pub both_verdict : List Bucket → List ℕ → Request → Verdict
+both_verdict buckets reads (Begin session) = Free
+both_verdict buckets reads (Commit session start keys) = verdict_both buckets start keys reads
+
+abbrev pub both_if_accepted : InstanceEntry → ℕ → List ℕ → Held → Progress → InstanceStep Decided
+both_if_accepted i session reads held Accepted = decided i session held (both_verdict i.buckets reads held.request)
+both_if_accepted i session reads held _ = no_request i session
+
+abbrev pub both_held : InstanceEntry → ℕ → List ℕ → Option Held → InstanceStep Decided
+both_held i session reads None = no_request i session
+both_held i session reads (Some held) = both_if_accepted i session reads held held.progress
+
+-- the instance's decision, in which the keys that were read count too
+abbrev pub decide_both : InstanceEntry → ℕ → List ℕ → InstanceStep Decided
+decide_both i session reads = both_held i session reads (held_of i session)
 
 -- the stamp is a begin's start, or a commit
 abbrev pub draw_item : ℕ → ℕ → Request → ℕ → Item
@@ -30,7 +52,7 @@ decide_by node session held left c (Err why) = refused (Some left, after_refusal
 
 abbrev pub decide_request : ℕ → ℕ → InstanceEntry → Client → Option Held → Effect (Option InstanceEntry × Client)
 decide_request node session i c None = refused (Some i, c) (Node node) (cause.NoRequest session)
-decide_request node session i c (Some held) = decide_by node session held (instance_decide i session).left c (instance_decide i session).answer
+decide_request node session i c (Some held) = decide_by node session held (decide_both i session c.reads).left c (decide_both i session c.reads).answer
 
 abbrev pub decide_on : ℕ → ℕ → Option InstanceEntry → Client → Effect (Option InstanceEntry × Client)
 decide_on node session None c = refused (None, c) (Node node) (cause.NoOracle node)

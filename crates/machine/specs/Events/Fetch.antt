@@ -1,7 +1,8 @@
 -- A session begins a read by a fetch of the key's cells up to its start. The read goes over these cells, down to the first
 -- that decides by itself; where no step on the stores is needed, it has its answer at once. A failed fetch ends the read
 -- without an answer.
-use Rattle.std.specs.Prelude.{ℕ, Bool, false, List, [], ◌∷◌, Option, None, Some, length}
+use Rattle.std.specs.Prelude.{ℕ, Bool, false, not, ◌&&◌, if◌then◌else◌, List, [], ◌∷◌, Option, None, Some, length}
+use Rattle.std.specs.Option.{option_or}
 use Rattle.stamp_base.specs.declared.stores.Store.{Store}
 use Rattle.stamp_base.specs.declared.stores.Store.TheVariants.{Cells}
 use Rattle.stamp_base.specs.SetupNumbers.{SetupNumbers}
@@ -15,7 +16,7 @@ use Rattle.history_book.specs.declared.item.Item.{Item}
 use Rattle.history_book.specs.declared.item.Item.TheVariants as item
 use Rattle.store_parts.specs.declared.rows.Cell.{Cell}
 use Rattle.store_parts.specs.Rows.{Row, fetched, front_of}
-use Rattle.client_parts.specs.SessionSteps.{work_refusal}
+use Rattle.client_parts.specs.SessionSteps.{work_refusal, has_key, key_added, key_refusal}
 use Rattle.client_parts.specs.KeyRead.{ReadTurn, Asks, Answers, read_over}
 use Rattle.machine.specs.State.{Client, Nothing, Reads}
 use Rattle.machine.specs.Effect.{Effect, done, refused, faulted}
@@ -39,25 +40,43 @@ read_items session start key (Answers a) = item.Read session start key (found_of
 abbrev pub marks_every : SetupNumbers → Bool
 marks_every setup = false
 
+-- ---- what the transaction has read: kept in the strict form alone, and of keys alone that it has not written itself
+abbrev pub keeps_read : SetupNumbers → Client → ℕ → Bool
+keeps_read setup c key = setup.strict && not (has_key c.entry.keys key)
+
+abbrev pub reads_after : SetupNumbers → Client → ℕ → List ℕ
+reads_after setup c key = if keeps_read setup c key then key_added c.reads key else c.reads
+
+abbrev pub client_fetched : SetupNumbers → Client → ℕ → Client
+client_fetched setup c key = record c { reads = reads_after setup c key }
+
+-- another key is refused where as many are kept as may be
+abbrev pub reads_refusal : SetupNumbers → Client → ℕ → Option Cause
+reads_refusal setup c key = if keeps_read setup c key then key_refusal c.reads key else None
+
+abbrev pub fetch_refused : SetupNumbers → Client → ℕ → Option Cause
+fetch_refused setup c key = option_or (work_refusal c.entry.state (is_reading c)) (reads_refusal setup c key)
+
 -- the fetch, and the read over its cells as far as it goes
 abbrev pub fetch_worked : ℕ → ℕ → ℕ → Client → List Cell → ReadTurn → Effect Client
 fetch_worked session start key c cells turn = done (client_read c turn) (item.Step (Session session) (step.Fetch key (length cells)) ∷ read_items session start key turn)
 
-abbrev pub fetch_by : Bool → ℕ → ℕ → ℕ → ℕ → Fate → Client → List Cell → Effect Client
-fetch_by every session start epoch key Works c cells = fetch_worked session start key c cells (read_over every key start epoch (front_of start cells))
-fetch_by every session start epoch key fate c cells = faulted (record c { heal = None }) (Session session) Cells []
+abbrev pub fetch_by : SetupNumbers → ℕ → ℕ → ℕ → ℕ → Fate → Client → List Cell → Effect Client
+fetch_by setup session start epoch key Works c cells =
+    fetch_worked session start key (client_fetched setup c key) cells (read_over (marks_every setup) key start epoch (front_of start cells))
+fetch_by setup session start epoch key fate c cells = faulted (record c { heal = None }) (Session session) Cells []
 
-abbrev pub fetch_open : Bool → ℕ → ℕ → Fate → Client → List Row → Option Cause → Option ℕ → Option ℕ → Effect Client
-fetch_open every session key fate c rows (Some why) start epoch = refused c (Session session) why
-fetch_open every session key fate c rows None (Some start) (Some epoch) = fetch_by every session start epoch key fate c (fetched rows key start)
-fetch_open every session key fate c rows None _ _ = done c []
+abbrev pub fetch_open : SetupNumbers → ℕ → ℕ → Fate → Client → List Row → Option Cause → Option ℕ → Option ℕ → Effect Client
+fetch_open setup session key fate c rows (Some why) start epoch = refused c (Session session) why
+fetch_open setup session key fate c rows None (Some start) (Some epoch) = fetch_by setup session start epoch key fate c (fetched rows key start)
+fetch_open setup session key fate c rows None _ _ = done c []
 
-abbrev pub fetch_on : Bool → ℕ → ℕ → Fate → Client → List Row → Effect Client
-fetch_on every session key fate c rows = fetch_open every session key fate c rows (work_refusal c.entry.state (is_reading c)) c.entry.start c.entry.epoch
+abbrev pub fetch_on : SetupNumbers → ℕ → ℕ → Fate → Client → List Row → Effect Client
+fetch_on setup session key fate c rows = fetch_open setup session key fate c rows (fetch_refused setup c key) c.entry.start c.entry.epoch
 
 abbrev pub epoch_asks : Option ℕ → Option Store → Option Store
 epoch_asks None asks = None
 epoch_asks (Some epoch) asks = asks
 
-abbrev pub fetch_asks : Client → Option Store
-fetch_asks c = epoch_asks c.entry.epoch (open_asks (work_refusal c.entry.state (is_reading c)) c.entry.start)
+abbrev pub fetch_asks : SetupNumbers → ℕ → Client → Option Store
+fetch_asks setup key c = epoch_asks c.entry.epoch (open_asks (fetch_refused setup c key) c.entry.start)
