@@ -9,7 +9,6 @@ use Rattle.history_book.specs.declared.cause.Cause.TheVariants as cause
 use Rattle.oracle_parts.specs.declared.instance.Held.{Held}
 use Rattle.oracle_parts.specs.declared.instance.Decided.{Decided}
 use Rattle.oracle_parts.specs.Instance.{InstanceEntry, held_of}
-use Rattle.oracle_parts.specs.InstanceSteps.{instance_decide}
 use Rattle.machine.specs.declared.event.Event.{Event}
 use Rattle.machine.specs.declared.event.Event.TheVariants as event
 use Rattle.machine.specs.State.{Client, State}
@@ -18,10 +17,10 @@ use Rattle.machine.specs.Machine.{Step, step_by, nothing, with_reading, with_pos
 use Rattle.machine.specs.Events.Take.{take_on, take_asks}
 use Rattle.machine.specs.Events.Renew.{renew_on, renew_asks}
 use Rattle.machine.specs.Events.Extend.{extend_on, extend_asks}
-use Rattle.machine.specs.Events.Decide.{decide_by, decide_request, decide_on}
+use Rattle.machine.specs.Events.Decide.{decide_both, decide_by, decide_request, decide_on}
 use Rattle.machine.specs.Events.Put.{put_on, put_asks}
 use Rattle.machine.specs.Events.Write.{write_on, write_asks}
-use Rattle.machine.specs.Events.Fetch.{marks_every, fetch_on, fetch_asks}
+use Rattle.machine.specs.Events.Fetch.{fetch_on, fetch_asks}
 use Rattle.machine.specs.Events.Step.{step_on, step_asks}
 use Rattle.machine.specs.Events.Heal.{heal_on, heal_asks}
 use Rattle.machine.specs.Events.SweepStep.{sweep_step_on, sweep_step_asks}
@@ -82,7 +81,7 @@ decide_works_by node session held left c (Err why) store stop = cc
 
 decide_works_at : (node session : ℕ) (i : InstanceEntry) (c : Client) (held : Option Held) (store : Store) → (decide_request node session i c held).stop ≡ Some (Faults store) → ⊥
 decide_works_at node session i c None store stop = cc
-decide_works_at node session i c (Some held) store stop = decide_works_by node session held (instance_decide i session).left c (instance_decide i session).answer store stop
+decide_works_at node session i c (Some held) store stop = decide_works_by node session held (decide_both i session c.reads).left c (decide_both i session c.reads).answer store stop
 
 decide_works : (node session : ℕ) (post : Option InstanceEntry) (c : Client) (store : Store) → (decide_on node session post c).stop ≡ Some (Faults store) → ⊥
 decide_works node session None c store stop = cc
@@ -105,7 +104,7 @@ exactly w (event.Put node s) =
 exactly w (event.Write s key value) =
     client_asked w (write_asks key) (λ fate c. step_by (write_on s key value fate c w.rows) (λ p. record (with_client w s p.0) { rows = p.1 })) (slice_get w.clients s) (λ c. put_asked (c, w.rows) (write_asks key c) (λ fate. write_on s key value fate c w.rows) (λ p. record (with_client w s p.0) { rows = p.1 }) (asked_write s key value c w.rows))
 exactly w (event.Fetch s key) =
-    client_asked w fetch_asks (λ fate c. step_by (fetch_on (marks_every w.setup) s key fate c w.rows) (λ p. with_client w s p)) (slice_get w.clients s) (λ c. put_asked c (fetch_asks c) (λ fate. fetch_on (marks_every w.setup) s key fate c w.rows) (λ p. with_client w s p) (asked_fetch (marks_every w.setup) s key c w.rows))
+    client_asked w (fetch_asks w.setup key) (λ fate c. step_by (fetch_on w.setup s key fate c w.rows) (λ p. with_client w s p)) (slice_get w.clients s) (λ c. put_asked c (fetch_asks w.setup key c) (λ fate. fetch_on w.setup s key fate c w.rows) (λ p. with_client w s p) (asked_fetch w.setup s key c w.rows))
 exactly w (event.Step s) =
     client_asked w step_asks (λ fate c. step_by (step_on s fate c w.rows w.pairs) (λ p. record (with_client w s p.0) { rows = p.1; pairs = p.2 })) (slice_get w.clients s) (λ c. put_asked (c, w.rows, w.pairs) (step_asks c) (λ fate. step_on s fate c w.rows w.pairs) (λ p. record (with_client w s p.0) { rows = p.1; pairs = p.2 }) (asked_step s c w.rows w.pairs))
 exactly w (event.Heal s) =

@@ -1,8 +1,9 @@
 -- A client that has vanished stays so, whatever an event makes of it.
-use Rattle.std.proofs.Common.{[], ◌≡◌, ℕ, zero, suc, Bool, List, ◌∷◌, Option, Some, None, Result, Ok, Err, refl, sym, ◌∙◌, ap, subst}
+use Rattle.std.proofs.Common.{[], ◌≡◌, ℕ, zero, suc, List, ◌∷◌, Option, Some, None, Result, Ok, Err, refl, sym, ◌∙◌, ap, subst}
 use Rattle.std.specs.Prelude.{slice_get, slice_set, IfSome}
 use Rattle.std.specs.Option.{option_or}
 use Rattle.std.proofs.lemmas.Option.{same_Some}
+use Rattle.stamp_base.specs.SetupNumbers.{SetupNumbers}
 use Rattle.port_io.specs.declared.weather.Fate.{Fate}
 use Rattle.store_parts.specs.Rows.{Row}
 use Rattle.store_parts.specs.Pairs.{Pairs}
@@ -18,17 +19,17 @@ use Rattle.oracle_parts.specs.declared.instance.Reply.TheVariants as reply
 use Rattle.oracle_parts.specs.declared.instance.Request.{Request}
 use Rattle.oracle_parts.specs.declared.instance.Request.TheVariants.{Begin, Commit}
 use Rattle.oracle_parts.specs.Instance.{InstanceEntry, held_of, stamps_at}
-use Rattle.oracle_parts.specs.InstanceSteps.{instance_accept, instance_decide, instance_answer}
+use Rattle.oracle_parts.specs.InstanceSteps.{instance_accept, instance_answer}
 use Rattle.machine.specs.State.{Client}
 use Rattle.machine.specs.Clients.{is_reading, after_refusal, unless_gone_by, unless_gone}
 use Rattle.machine.specs.Events.Crash.{crashed_client, crashed_clients, after_loss, crash_on}
 use Rattle.machine.specs.Events.AskBegin.{ask_begin_by, ask_begin_on}
 use Rattle.machine.specs.Events.AskCommit.{ask_commit_by, ask_commit_on}
 use Rattle.machine.specs.Events.Accept.{accept_by, accept_request, accept_on}
-use Rattle.machine.specs.Events.Decide.{decide_by, decide_request, decide_on}
+use Rattle.machine.specs.Events.Decide.{decide_both, decide_by, decide_request, decide_on}
 use Rattle.machine.specs.Events.Answer.{answer_by, answer_request, answer_on}
 use Rattle.machine.specs.Events.Write.{write_open, write_on}
-use Rattle.machine.specs.Events.Fetch.{fetch_open, fetch_on}
+use Rattle.machine.specs.Events.Fetch.{reads_refusal, fetch_open, fetch_on}
 use Rattle.machine.specs.Events.Step.{step_by as step_made, step_on}
 use Rattle.machine.specs.Events.Heal.{offer_by, heal_at, heal_on}
 use Rattle.machine.specs.Events.Abort.{abort_by, abort_on}
@@ -103,9 +104,9 @@ pub write_gone : (session key : ℕ) (value : List ℕ) (fate : Fate) (rows : Li
 write_gone session key value fate rows c gone =
     subst (λ (p : Phase). IsGone (write_open session key value fate c rows (option_or (work_refusal p (is_reading c)) (key_refusal c.entry.keys key)) c.entry.start).parts.0) (sym gone) gone
 
-pub fetch_gone : (every : Bool) (session key : ℕ) (fate : Fate) (rows : List Row) (c : Client) → StaysGone c (fetch_on every session key fate c rows).parts
-fetch_gone every session key fate rows c gone =
-    subst (λ (p : Phase). IsGone (fetch_open every session key fate c rows (work_refusal p (is_reading c)) c.entry.start c.entry.epoch).parts) (sym gone) gone
+pub fetch_gone : (setup : SetupNumbers) (session key : ℕ) (fate : Fate) (rows : List Row) (c : Client) → StaysGone c (fetch_on setup session key fate c rows).parts
+fetch_gone setup session key fate rows c gone =
+    subst (λ (p : Phase). IsGone (fetch_open setup session key fate c rows (option_or (work_refusal p (is_reading c)) (reads_refusal setup c key)) c.entry.start c.entry.epoch).parts) (sym gone) gone
 
 pub step_gone : (session : ℕ) (fate : Fate) (rows : List Row) (pairs : Pairs) (c : Client) → StaysGone c (step_on session fate c rows pairs).parts.0
 step_gone session fate rows pairs c gone =
@@ -144,7 +145,7 @@ decide_by_gone node session held left c (Err _) gone = refusal_unheard held.requ
 
 decide_request_gone : (node session : ℕ) (i : InstanceEntry) (c : Client) (held : Option Held) → StaysGone c (decide_request node session i c held).parts.1
 decide_request_gone node session i c None gone = gone
-decide_request_gone node session i c (Some held) gone = decide_by_gone node session held (instance_decide i session).left c (instance_decide i session).answer gone
+decide_request_gone node session i c (Some held) gone = decide_by_gone node session held (decide_both i session c.reads).left c (decide_both i session c.reads).answer gone
 
 pub decide_gone : (node session : ℕ) (post : Option InstanceEntry) (c : Client) → StaysGone c (decide_on node session post c).parts.1
 decide_gone node session None c gone = gone

@@ -14,7 +14,7 @@ use Rattle.machine.specs.Events.Accept.{accept_on}
 use Rattle.machine.specs.Events.Decide.{decide_on}
 use Rattle.machine.specs.Events.Answer.{answer_on}
 use Rattle.machine.specs.Events.Write.{write_on}
-use Rattle.machine.specs.Events.Fetch.{marks_every, fetch_on}
+use Rattle.machine.specs.Events.Fetch.{fetch_on}
 use Rattle.machine.specs.Events.Step.{step_on}
 use Rattle.machine.specs.Events.Heal.{heal_on}
 use Rattle.machine.specs.Events.Abort.{abort_on}
@@ -65,7 +65,7 @@ gone_stays w (event.Answer node s) fate session c is gone =
 gone_stays w (event.Write s key value) fate session c is gone =
     on_one w s session c _ (λ d. (write_on s key value fate d w.rows).parts.0) (λ d. refl) (write_gone s key value fate w.rows) is gone
 gone_stays w (event.Fetch s key) fate session c is gone =
-    on_one w s session c _ (λ d. (fetch_on (marks_every w.setup) s key fate d w.rows).parts) (λ d. refl) (fetch_gone (marks_every w.setup) s key fate w.rows) is gone
+    on_one w s session c _ (λ d. (fetch_on w.setup s key fate d w.rows).parts) (λ d. refl) (fetch_gone w.setup s key fate w.rows) is gone
 gone_stays w (event.Step s) fate session c is gone =
     on_one w s session c _ (λ d. (step_on s fate d w.rows w.pairs).parts.0) (λ d. refl) (step_gone s fate w.rows w.pairs) is gone
 gone_stays w (event.Heal s) fate session c is gone =

@@ -18,7 +18,7 @@ use Rattle.machine.specs.Events.Decide.{decide_on}
 use Rattle.machine.specs.Events.Put.{put_on}
 use Rattle.machine.specs.Events.Answer.{answer_on}
 use Rattle.machine.specs.Events.Write.{write_on}
-use Rattle.machine.specs.Events.Fetch.{marks_every, fetch_on}
+use Rattle.machine.specs.Events.Fetch.{fetch_on}
 use Rattle.machine.specs.Events.Step.{step_on}
 use Rattle.machine.specs.Events.Heal.{heal_on}
 use Rattle.machine.specs.Events.Abort.{abort_on}
@@ -64,7 +64,7 @@ left_all w (event.Answer node s) fate keeps =
 left_all w (event.Write s key value) fate keeps =
     client_left w s _ (λ c is. put_left w (c, w.rows) (λ p. record (with_client w s p.0) { rows = p.1 }) (write_on s key value fate c w.rows) (same_client w s c is) ((asked_write s key value c w.rows).leaves fate))
 left_all w (event.Fetch s key) fate keeps =
-    client_left w s _ (λ c is. put_left w c (λ p. with_client w s p) (fetch_on (marks_every w.setup) s key fate c w.rows) (same_client w s c is) ((asked_fetch (marks_every w.setup) s key c w.rows).leaves fate))
+    client_left w s _ (λ c is. put_left w c (λ p. with_client w s p) (fetch_on w.setup s key fate c w.rows) (same_client w s c is) ((asked_fetch w.setup s key c w.rows).leaves fate))
 left_all w (event.Step s) fate keeps =
     client_left w s _ (λ c is. put_left w (c, w.rows, w.pairs) (λ p. record (with_client w s p.0) { rows = p.1; pairs = p.2 }) (step_on s fate c w.rows w.pairs) (same_client w s c is) ((asked_step s c w.rows w.pairs).leaves fate))
 left_all w (event.Heal s) fate keeps =

@@ -26,7 +26,7 @@ use Rattle.machine.specs.Events.Decide.{decide_on}
 use Rattle.machine.specs.Events.Put.{put_on}
 use Rattle.machine.specs.Events.Answer.{answer_on}
 use Rattle.machine.specs.Events.Write.{write_on}
-use Rattle.machine.specs.Events.Fetch.{marks_every, fetch_on}
+use Rattle.machine.specs.Events.Fetch.{fetch_on}
 use Rattle.machine.specs.Events.Step.{step_on}
 use Rattle.machine.specs.Events.Heal.{heal_on}
 use Rattle.machine.specs.Events.Abort.{abort_on}
@@ -166,7 +166,7 @@ kept_by w (event.Decide node session) fate = kept_request w node session (decide
 kept_by w (event.Put node session) fate = kept_table w node (λ post. put_on node session fate post w.pairs)
 kept_by w (event.Answer node session) fate = kept_request w node session (answer_on node session)
 kept_by w (event.Write session key value) fate = kept_cells w session (λ c. write_on session key value fate c w.rows)
-kept_by w (event.Fetch session key) fate = kept_client w session (λ c. fetch_on (marks_every w.setup) session key fate c w.rows)
+kept_by w (event.Fetch session key) fate = kept_client w session (λ c. fetch_on w.setup session key fate c w.rows)
 kept_by w (event.Step session) fate = kept_stores w session (λ c. step_on session fate c w.rows w.pairs)
 kept_by w (event.Heal session) fate = kept_cells w session (λ c. heal_on session fate c w.rows w.pairs)
 kept_by w (event.Abort session) fate = kept_client w session (abort_on session)

@@ -16,14 +16,14 @@ use Rattle.oracle_parts.specs.declared.instance.Reply.TheVariants as reply
 use Rattle.oracle_parts.specs.declared.instance.Request.{Request}
 use Rattle.oracle_parts.specs.declared.instance.Request.TheVariants.{Begin, Commit}
 use Rattle.oracle_parts.specs.Instance.{InstanceEntry, held_of, in_flight, with_request, session_of, stamps_at}
-use Rattle.oracle_parts.specs.InstanceSteps.{InstanceStep, stays, just_asked, instance_ask, instance_accept, instance_decide, instance_answer}
+use Rattle.oracle_parts.specs.InstanceSteps.{InstanceStep, stays, just_asked, instance_ask, instance_accept, instance_answer}
 use Rattle.machine.specs.State.{Client}
 use Rattle.machine.specs.Clients.{is_reading, client_aborted, client_asked, client_freed, client_vanished, unless_gone, client_begun, client_committed}
 use Rattle.machine.specs.Events.Crash.{crashed_clients, all_crashed_items, crash_on}
 use Rattle.machine.specs.Events.AskBegin.{asked_by, begin_asked, ask_begin_by, ask_begin_on}
 use Rattle.machine.specs.Events.AskCommit.{commit_asked, commit_of, ask_commit_by, ask_commit_on}
 use Rattle.machine.specs.Events.Accept.{accept_by, accept_request, accept_on}
-use Rattle.machine.specs.Events.Decide.{decide_by, decide_request, decide_on}
+use Rattle.machine.specs.Events.Decide.{decide_both, decide_by, decide_request, decide_on}
 use Rattle.machine.specs.Events.Answer.{answer_by, answer_request, answer_on}
 use Rattle.machine.specs.Events.Abort.{abort_by, abort_on}
 use Rattle.machine.specs.Events.Vanish.{vanish_by, vanish_on}
@@ -130,7 +130,7 @@ plain_decide_by node session held i left c (Err why) stands =
 plain_decide_request : (node session : ℕ) (i : InstanceEntry) (c : Client) (held : Option Held) → KeepsStop i → Plain (Some i, c) (decide_request node session i c held)
 plain_decide_request node session i c None keeps = plain_refused (Some i, c) (Node node) (cause.NoRequest session)
 plain_decide_request node session i c (Some held) keeps =
-    plain_decide_by node session held i (instance_decide i session).left c (instance_decide i session).answer (stands_decide i session (held_of i session) keeps)
+    plain_decide_by node session held i (decide_both i session c.reads).left c (decide_both i session c.reads).answer (stands_decide i session c.reads (held_of i session) keeps)
 
 pub plain_decide : (node session : ℕ) (post : Option InstanceEntry) (c : Client) → IfSome post KeepsStop → Plain (post, c) (decide_on node session post c)
 plain_decide node session None c keeps = plain_refused (None, c) (Node node) (cause.NoOracle node)

@@ -1,5 +1,5 @@
 -- What an instance answers: a refusal that leaves all is NoRequest, and it does leave all.
-use Rattle.std.proofs.Common.{◌≡◌, ℕ, ◌+◌, ◌==◌, Bool, true, false, IsTrue, if◌then◌else◌, Option, Some, None, Result, Ok, Err, refl}
+use Rattle.std.proofs.Common.{◌≡◌, ℕ, ◌+◌, ◌==◌, Bool, true, false, IsTrue, if◌then◌else◌, List, Option, Some, None, Result, Ok, Err, refl}
 use Rattle.std.specs.Prelude.{nat_lt, nat_le, IfSome}
 use Rattle.history_book.specs.declared.cause.Cause.{Cause}
 use Rattle.history_book.specs.declared.cause.Cause.TheVariants as cause
@@ -12,7 +12,8 @@ use Rattle.oracle_parts.specs.declared.instance.Progress.TheVariants.{Asked, Acc
 use Rattle.oracle_parts.specs.declared.instance.Request.{Request}
 use Rattle.oracle_parts.specs.declared.instance.Request.TheVariants.{Begin, Commit}
 use Rattle.oracle_parts.specs.Instance.{InstanceEntry, least_unsettled}
-use Rattle.oracle_parts.specs.InstanceSteps.{InstanceStep, IsStop, epoch_refusal, accept_unless, accept_if_asked, accept_held, out_of_stamps, decide_drawn, decide_by as verdict_by, decide_if_accepted, decide_held, request_verdict, answer_begin, answer_if_ready, answer_held}
+use Rattle.oracle_parts.specs.InstanceSteps.{InstanceStep, IsStop, epoch_refusal, accept_unless, accept_if_asked, accept_held, out_of_stamps, decide_drawn, decide_by as verdict_by, answer_begin, answer_if_ready, answer_held}
+use Rattle.machine.specs.Events.Decide.{both_verdict, both_if_accepted, both_held}
 use Rattle.machine.specs.Laws.{leaves_all, KeepsStop}
 
 -- ---- what an instance answers: a refusal that leaves all is NoRequest, and it does leave all
@@ -59,13 +60,13 @@ stands_verdict i session held Free keeps = stands_free i session held (i.last ==
 stands_verdict i session held (Conflict key by) keeps = λ is. absurd (cc)
 stands_verdict i session held (Hidden key water) keeps = λ is. absurd (cc)
 
-stands_accepted : (i : InstanceEntry) (session : ℕ) (held : Held) (progress : Progress) → KeepsStop i → Stands i (decide_if_accepted i session held progress).left (decide_if_accepted i session held progress).answer
-stands_accepted i session held Accepted keeps = stands_verdict i session held (request_verdict i.buckets held.request) keeps
-stands_accepted i session held _ keeps = λ is. (refl, tt)
+stands_accepted : (i : InstanceEntry) (session : ℕ) (reads : List ℕ) (held : Held) (progress : Progress) → KeepsStop i → Stands i (both_if_accepted i session reads held progress).left (both_if_accepted i session reads held progress).answer
+stands_accepted i session reads held Accepted keeps = stands_verdict i session held (both_verdict i.buckets reads held.request) keeps
+stands_accepted i session reads held _ keeps = λ is. (refl, tt)
 
-pub stands_decide : (i : InstanceEntry) (session : ℕ) (held : Option Held) → KeepsStop i → Stands i (decide_held i session held).left (decide_held i session held).answer
-stands_decide i session None keeps = λ is. (refl, tt)
-stands_decide i session (Some held) keeps = stands_accepted i session held held.progress keeps
+pub stands_decide : (i : InstanceEntry) (session : ℕ) (reads : List ℕ) (held : Option Held) → KeepsStop i → Stands i (both_held i session reads held).left (both_held i session reads held).answer
+stands_decide i session reads None keeps = λ is. (refl, tt)
+stands_decide i session reads (Some held) keeps = stands_accepted i session reads held held.progress keeps
 
 stands_begin : (i : InstanceEntry) (session : ℕ) (held : Held) (start : ℕ) (wait : Option ℕ) → Stands i (answer_begin i session held start wait).left (answer_begin i session held start wait).answer
 stands_begin i session held start None = tt

@@ -24,7 +24,7 @@ use Rattle.oracle_parts.specs.declared.instance.Request.{Request}
 use Rattle.oracle_parts.specs.declared.instance.Request.TheVariants.{Begin, Commit}
 use Rattle.oracle_parts.specs.declared.instance.Settled as how
 use Rattle.oracle_parts.specs.Instance.{InstanceEntry, held_of, stamps_at}
-use Rattle.oracle_parts.specs.InstanceSteps.{instance_ask, instance_accept, instance_decide, instance_settle, instance_answer}
+use Rattle.oracle_parts.specs.InstanceSteps.{instance_ask, instance_accept, instance_settle, instance_answer}
 use Rattle.oracle_parts.proofs.InstanceMoves.{quiet_ask, quiet_accept, quiet_settle, quiet_answer}
 use Rattle.machine.specs.State.{Client}
 use Rattle.machine.specs.Events.Take.{take_by, rules_of, take_on}
@@ -34,7 +34,7 @@ use Rattle.machine.specs.Events.Crash.{crash_on}
 use Rattle.machine.specs.Events.AskBegin.{asked_by, begin_asked, ask_begin_by}
 use Rattle.machine.specs.Events.AskCommit.{commit_asked, commit_of, ask_commit_by}
 use Rattle.machine.specs.Events.Accept.{accept_by, accept_request, accept_on}
-use Rattle.machine.specs.Events.Decide.{decide_by, decide_request, decide_on}
+use Rattle.machine.specs.Events.Decide.{decide_both, decide_by, decide_request, decide_on}
 use Rattle.machine.specs.Events.Put.{to_place, put_by, put_commit, put_on}
 use Rattle.machine.specs.Events.Answer.{answer_by, answer_request, answer_on}
 use Rattle.machine.specs.Laws.{KeepsStop}
@@ -127,7 +127,7 @@ decide_keeps_by node session held left c (Err why) keeps = keeps
 decide_keeps_at : (node session : ℕ) (i : InstanceEntry) (c : Client) (held : Option Held) → Keeps (Some i) (decide_request node session i c held).parts.0
 decide_keeps_at node session i c None keeps = keeps
 decide_keeps_at node session i c (Some held) keeps =
-    decide_keeps_by node session held (instance_decide i session).left c (instance_decide i session).answer (decided_keeps i session (held_of i session) keeps)
+    decide_keeps_by node session held (decide_both i session c.reads).left c (decide_both i session c.reads).answer (decided_keeps i session c.reads (held_of i session) keeps)
 
 pub decide_keeps : (node session : ℕ) (post : Option InstanceEntry) (c : Client) → Keeps post (decide_on node session post c).parts.0
 decide_keeps node session None c keeps = tt

@@ -11,8 +11,9 @@ use Rattle.oracle_parts.specs.declared.instance.Decided.{Decided}
 use Rattle.oracle_parts.specs.declared.instance.Progress.{Progress}
 use Rattle.oracle_parts.specs.declared.instance.Progress.TheVariants.{Accepted}
 use Rattle.oracle_parts.specs.Instance.{InstanceEntry}
-use Rattle.oracle_parts.specs.InstanceSteps.{InstanceStep, IsStop, out_of_stamps, decide_drawn, decide_by as verdict_by, decide_if_accepted, decide_held, request_verdict}
+use Rattle.oracle_parts.specs.InstanceSteps.{InstanceStep, IsStop, out_of_stamps, decide_drawn, decide_by as verdict_by}
 use Rattle.oracle_parts.specs.InstanceLaws.{ChangesRequestsAlone}
+use Rattle.machine.specs.Events.Decide.{both_verdict, both_if_accepted, both_held}
 use Rattle.machine.specs.Laws.{KeepsStop}
 
 abbrev pub AllKeep : List (Option InstanceEntry) → Type 0
@@ -64,10 +65,10 @@ verdict_keeps i session held Free keeps = free_keeps i session held (i.last == i
 verdict_keeps i session held (Conflict key by) keeps = keeps
 verdict_keeps i session held (Hidden key water) keeps = keeps
 
-accepted_keeps : (i : InstanceEntry) (session : ℕ) (held : Held) (progress : Progress) → KeepsStop i → KeepsStop (decide_if_accepted i session held progress).left
-accepted_keeps i session held Accepted keeps = verdict_keeps i session held (request_verdict i.buckets held.request) keeps
-accepted_keeps i session held _ keeps = keeps
+accepted_keeps : (i : InstanceEntry) (session : ℕ) (reads : List ℕ) (held : Held) (progress : Progress) → KeepsStop i → KeepsStop (both_if_accepted i session reads held progress).left
+accepted_keeps i session reads held Accepted keeps = verdict_keeps i session held (both_verdict i.buckets reads held.request) keeps
+accepted_keeps i session reads held _ keeps = keeps
 
-pub decided_keeps : (i : InstanceEntry) (session : ℕ) (held : Option Held) → KeepsStop i → KeepsStop (decide_held i session held).left
-decided_keeps i session None keeps = keeps
-decided_keeps i session (Some held) keeps = accepted_keeps i session held held.progress keeps
+pub decided_keeps : (i : InstanceEntry) (session : ℕ) (reads : List ℕ) (held : Option Held) → KeepsStop i → KeepsStop (both_held i session reads held).left
+decided_keeps i session reads None keeps = keeps
+decided_keeps i session reads (Some held) keeps = accepted_keeps i session reads held held.progress keeps

@@ -4,6 +4,7 @@ use Rattle.stamp_base.specs.declared.stores.Mark.{Mark}
 use Rattle.stamp_base.specs.declared.stores.Mark.TheVariants.{Committed}
 use Rattle.stamp_base.specs.declared.stores.Store.{Store}
 use Rattle.stamp_base.specs.declared.stores.Store.TheVariants.{Cells, Table}
+use Rattle.stamp_base.specs.SetupNumbers.{SetupNumbers}
 use Rattle.port_io.specs.declared.weather.Fate.TheVariants.{Works}
 use Rattle.history_book.specs.declared.cause.Cause.{Cause}
 use Rattle.history_book.specs.declared.cause.Cause.TheVariants as cause
@@ -13,7 +14,7 @@ use Rattle.store_parts.specs.Pairs.{Pairs, mark_of, put_pair}
 use Rattle.client_parts.specs.declared.asks.Ask.{Ask}
 use Rattle.client_parts.specs.declared.asks.Ask.TheVariants as ask
 use Rattle.client_parts.specs.declared.asks.Told.{Told}
-use Rattle.client_parts.specs.SessionSteps.{work_refusal, step_refusal}
+use Rattle.client_parts.specs.SessionSteps.{step_refusal}
 use Rattle.client_parts.specs.Resolve.{settle_ask}
 use Rattle.client_parts.specs.KeyRead.{read_ask}
 use Rattle.client_parts.specs.Sweep.{Sweeping, sweep_ask, sweep_told, is_undecided}
@@ -24,7 +25,7 @@ use Rattle.machine.specs.StoreSteps.{Met, met, store_of, told_by}
 use Rattle.machine.specs.Clients.{is_reading}
 use Rattle.machine.specs.Events.Put.{to_place, put_by, put_commit, put_on, commit_asks, put_asks}
 use Rattle.machine.specs.Events.Write.{write_refused, write_open, write_on, open_asks, write_asks}
-use Rattle.machine.specs.Events.Fetch.{fetch_open, fetch_on, epoch_asks, fetch_asks}
+use Rattle.machine.specs.Events.Fetch.{fetch_refused, fetch_open, fetch_on, epoch_asks, fetch_asks}
 use Rattle.machine.specs.Events.Step.{StepParts, work_of, next_of, step_at, step_by, step_on, store_asked, step_asks_by, step_asks}
 use Rattle.machine.specs.Events.Heal.{offer_of, no_offer_cause, heal_at, heal_on, offer_asks, heal_asks}
 use Rattle.machine.specs.Events.SweepStep.{SweepParts, undecided_stop, sweep_by, sweep_met, sweep_lists, sweep_at, sweep_step_on, sweep_step_asks}
@@ -59,17 +60,17 @@ asked_write_by session key value c rows None (Some start) =
 pub asked_write : (session key : ℕ) (value : List ℕ) (c : Client) (rows : List Row) → AskedOnce (c, rows) (write_asks key c) (λ fate. write_on session key value fate c rows)
 asked_write session key value c rows = asked_write_by session key value c rows (write_refused c key) c.entry.start
 
-asked_fetch_by : (every : Bool) (session key : ℕ) (c : Client) (rows : List Row) (why : Option Cause) (start epoch : Option ℕ) → AskedOnce c (epoch_asks epoch (open_asks why start)) (λ fate. fetch_open every session key fate c rows why start epoch)
-asked_fetch_by every session key c rows (Some why) start None = refuses c (Session session) why
-asked_fetch_by every session key c rows (Some why) start (Some epoch) = refuses c (Session session) why
-asked_fetch_by every session key c rows None None None = goes c (done c []) refl
-asked_fetch_by every session key c rows None None (Some epoch) = goes c (done c []) refl
-asked_fetch_by every session key c rows None (Some start) None = goes c (done c []) refl
-asked_fetch_by every session key c rows None (Some start) (Some epoch) =
-    asked c Cells (λ fate. fetch_open every session key fate c rows None (Some start) (Some epoch)) (going_leaves c (fetch_open every session key Works c rows None (Some start) (Some epoch)) refl) refl refl (λ store stop. absurd (cc))
+asked_fetch_by : (setup : SetupNumbers) (session key : ℕ) (c : Client) (rows : List Row) (why : Option Cause) (start epoch : Option ℕ) → AskedOnce c (epoch_asks epoch (open_asks why start)) (λ fate. fetch_open setup session key fate c rows why start epoch)
+asked_fetch_by setup session key c rows (Some why) start None = refuses c (Session session) why
+asked_fetch_by setup session key c rows (Some why) start (Some epoch) = refuses c (Session session) why
+asked_fetch_by setup session key c rows None None None = goes c (done c []) refl
+asked_fetch_by setup session key c rows None None (Some epoch) = goes c (done c []) refl
+asked_fetch_by setup session key c rows None (Some start) None = goes c (done c []) refl
+asked_fetch_by setup session key c rows None (Some start) (Some epoch) =
+    asked c Cells (λ fate. fetch_open setup session key fate c rows None (Some start) (Some epoch)) (going_leaves c (fetch_open setup session key Works c rows None (Some start) (Some epoch)) refl) refl refl (λ store stop. absurd (cc))
 
-pub asked_fetch : (every : Bool) (session key : ℕ) (c : Client) (rows : List Row) → AskedOnce c (fetch_asks c) (λ fate. fetch_on every session key fate c rows)
-asked_fetch every session key c rows = asked_fetch_by every session key c rows (work_refusal c.entry.state (is_reading c)) c.entry.start c.entry.epoch
+pub asked_fetch : (setup : SetupNumbers) (session key : ℕ) (c : Client) (rows : List Row) → AskedOnce c (fetch_asks setup key c) (λ fate. fetch_on setup session key fate c rows)
+asked_fetch setup session key c rows = asked_fetch_by setup session key c rows (fetch_refused setup c key) c.entry.start c.entry.epoch
 
 asked_offer : (session : ℕ) (c : Client) (rows : List Row) (pairs : Pairs) (offer : Option (ℕ × ℕ × ℕ)) → AskedOnce (c, rows) (offer_asks offer) (λ fate. heal_at session fate c rows pairs offer)
 asked_offer session c rows pairs None = refuses (c, rows) (Session session) (no_offer_cause c.entry.state)

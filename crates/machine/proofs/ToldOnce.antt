@@ -19,11 +19,11 @@ use Rattle.oracle_parts.specs.declared.instance.Progress.TheVariants.{Accepted, 
 use Rattle.oracle_parts.specs.declared.instance.Request.{Request}
 use Rattle.oracle_parts.specs.declared.instance.Request.TheVariants.{Begin, Commit}
 use Rattle.oracle_parts.specs.Instance.{InstanceEntry, held_of, no_stamp_of_held, was_told_no_stamp, not_yet_of_held, was_told_not_yet, stamps_at, least_unsettled}
-use Rattle.oracle_parts.specs.InstanceSteps.{IsStop, out_of_stamps, decide_drawn, decide_by as verdict_by, decide_if_accepted, decide_held, instance_decide, request_verdict, answer_begin, answer_if_ready, answer_held, instance_answer}
+use Rattle.oracle_parts.specs.InstanceSteps.{IsStop, out_of_stamps, decide_drawn, decide_by as verdict_by, answer_begin, answer_if_ready, answer_held, instance_answer}
 use Rattle.machine.specs.State.{Client, State}
 use Rattle.machine.specs.Effect.{Refuses, Effect}
 use Rattle.machine.specs.Machine.{Step, step_by, with_post, with_client, at_both, on_request}
-use Rattle.machine.specs.Events.Decide.{decide_by, decide_request, decide_on}
+use Rattle.machine.specs.Events.Decide.{both_verdict, both_if_accepted, both_held, decide_both, decide_by, decide_request, decide_on}
 use Rattle.machine.specs.Events.Answer.{answer_by, answer_request, answer_on}
 use Rattle.machine.specs.Laws.{InstanceAt, KeepsStop, RequestsAreToldOnce}
 
@@ -56,16 +56,16 @@ flags_verdict i session held Free is keeps = flags_free i session held (i.last =
 flags_verdict i session held (Conflict key by) is keeps = λ last told. absurd (cc)
 flags_verdict i session held (Hidden key water) is keeps = λ last told. absurd (cc)
 
-flags_accepted : (i : InstanceEntry) (session : ℕ) (held : Held) (progress : Progress) → held_of i session ≡ Some held → KeepsStop i → Flags session (decide_if_accepted i session held progress).answer (decide_if_accepted i session held progress).left
-flags_accepted i session held Accepted is keeps = flags_verdict i session held (request_verdict i.buckets held.request) is keeps
-flags_accepted i session held _ is keeps = λ last told. absurd (cc)
+flags_accepted : (i : InstanceEntry) (session : ℕ) (reads : List ℕ) (held : Held) (progress : Progress) → held_of i session ≡ Some held → KeepsStop i → Flags session (both_if_accepted i session reads held progress).answer (both_if_accepted i session reads held progress).left
+flags_accepted i session reads held Accepted is keeps = flags_verdict i session held (both_verdict i.buckets reads held.request) is keeps
+flags_accepted i session reads held _ is keeps = λ last told. absurd (cc)
 
-flags_held : (i : InstanceEntry) (session : ℕ) (held : Option Held) → held_of i session ≡ held → KeepsStop i → Flags session (decide_held i session held).answer (decide_held i session held).left
-flags_held i session None is keeps = λ last told. absurd (cc)
-flags_held i session (Some held) is keeps = flags_accepted i session held held.progress is keeps
+flags_held : (i : InstanceEntry) (session : ℕ) (reads : List ℕ) (held : Option Held) → held_of i session ≡ held → KeepsStop i → Flags session (both_held i session reads held).answer (both_held i session reads held).left
+flags_held i session reads None is keeps = λ last told. absurd (cc)
+flags_held i session reads (Some held) is keeps = flags_accepted i session reads held held.progress is keeps
 
-flags : (i : InstanceEntry) (session : ℕ) → KeepsStop i → Flags session (instance_decide i session).answer (instance_decide i session).left
-flags i session keeps = flags_held i session (held_of i session) refl keeps
+flags : (i : InstanceEntry) (session : ℕ) (reads : List ℕ) → KeepsStop i → Flags session (decide_both i session reads).answer (decide_both i session reads).left
+flags i session reads keeps = flags_held i session reads (held_of i session) refl keeps
 
 -- ---- an answer that is told NotYet sets the flag
 abbrev Waits : ℕ → Result Reply Cause → InstanceEntry → Type 0
@@ -110,7 +110,7 @@ decide_tells_by node session last held made c (Err _) can flagged = record { onc
 decide_tells_held : (node session last : ℕ) (i : InstanceEntry) (c : Client) (held : Option Held) → Tells (KeepsStop i) (cause.NoStamp last) (no_stamp_of_held held) (λ i. was_told_no_stamp i session) (decide_request node session i c held)
 decide_tells_held node session last i c None = record { once = λ told stop. absurd (cc); kept = λ can left stop is. absurd (cc) }
 decide_tells_held node session last i c (Some held) =
-    decide_tells_by node session last held (instance_decide i session).left c (instance_decide i session).answer (KeepsStop i) (flags i session)
+    decide_tells_by node session last held (decide_both i session c.reads).left c (decide_both i session c.reads).answer (KeepsStop i) (flags i session c.reads)
 
 answer_tells_by : (node session start commit : ℕ) (c : Client) (i made : InstanceEntry) (answer : Result Reply Cause) → Waits session answer made → Tells (Unit {0}) (cause.NotYet commit) (was_told_not_yet i session) (λ j. was_told_not_yet j session) (answer_by node session start c i made answer)
 answer_tells_by node session start commit c i made (Ok (reply.Begun begun epoch)) waited = record { once = λ told stop. absurd (cc); kept = λ can left stop is. absurd (cc) }
