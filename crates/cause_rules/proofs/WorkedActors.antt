@@ -65,7 +65,7 @@ conflict_to_a_node = explained_shows default_numbers (before_conflict conflictin
 
 pub conflict_to_the_writer : Explained default_numbers (told (before_conflict conflicting) (Session 0) (cause.Conflict 0 3)) → ⊥
 conflict_to_the_writer e =
-    let shown : ShownConflict (before_conflict conflicting) 0 0 3 = explained_shows default_numbers (before_conflict conflicting) (Session 0) (cause.Conflict 0 3) e in
+    let shown : ShownConflict default_numbers (before_conflict conflicting) 0 0 3 = explained_shows default_numbers (before_conflict conflicting) (Session 0) (cause.Conflict 0 3) e in
     let term : None ≡ Some shown.term = shown.term_is in
     absurd (cc)
 

@@ -1,6 +1,7 @@
 -- The short histories of keys that are hidden.
-use Rattle.std.proofs.Common.{◌≡◌, ℕ, ◌<◌, Option, None, Some, ◌⊎◌, inl, inr, refl, sym, ◌∙◌, ap, subst, arith, Contains}
+use Rattle.std.proofs.Common.{◌≡◌, ℕ, ◌<◌, false, Option, None, Some, ◌⊎◌, inl, inr, refl, sym, ◌∙◌, ap, subst, arith, Contains}
 use Rattle.std.proofs.lemmas.Option.{same_Some}
+use Rattle.stamp_base.specs.SetupNumbers.{SetupNumbers}
 use Rattle.history_book.specs.Members.{◌∈◌}
 use Rattle.history_book.specs.declared.cause.Cause.TheVariants as cause
 use Rattle.history_book.specs.declared.item.Actor.TheVariants.{Session}
@@ -10,7 +11,7 @@ use Rattle.oracle_parts.specs.Buckets.{Bucket, place_of, bucket_of, contents, ke
 use Rattle.cause_rules.specs.Written.{keys_from, written_keys, recorded, recorded_in}
 use Rattle.cause_rules.specs.Commits.{ShownHidden}
 use Rattle.cause_rules.specs.Explained.{Explained}
-use Rattle.cause_rules.specs.WorkedCommits.{Hiding, hiding, buckets_of, before_hidden, hidden_told}
+use Rattle.cause_rules.specs.WorkedCommits.{strictly, Hiding, hiding, buckets_of, before_hidden, hidden_told}
 use Rattle.cause_rules.proofs.WorkedRefusals.{of_each, only_key, shown_explains, explained_shows}
 
 pub forgotten : Explained (buckets_of 1) (hidden_told hiding)
@@ -20,7 +21,31 @@ forgotten = shown_explains (buckets_of 1) (before_hidden hiding) (Session 2) (ca
   node_is = refl;
   start = 3;
   start_is = refl;
-  own = (0, omega arith, refl);
+  own = λ plain. (0, omega arith, refl);
+  term = 1;
+  term_is = refl;
+  forgotten = refl;
+  forgot = refl;
+  above = omega arith;
+  writer = 1;
+  drawn = (0, 0, inr (inr (inr (inl refl))));
+  other = 0;
+  wrote = (0, omega arith, refl);
+  same_bucket = refl;
+})
+
+-- ---- a key that the transaction did not write, with strict reads
+abbrev of_other_key : Hiding
+of_other_key = record hiding { own = 8 }
+
+pub only_read : Explained (strictly (buckets_of 1)) (hidden_told of_other_key)
+unfolding keys_from recorded_in record_pairs kept_commit added without oldest ◌∈◌
+only_read = shown_explains (strictly (buckets_of 1)) (before_hidden of_other_key) (Session 2) (cause.Hidden 0 4) refl (record {
+  node = 0;
+  node_is = refl;
+  start = 3;
+  start_is = refl;
+  own = λ plain. absurd (cc);
   term = 1;
   term_is = refl;
   forgotten = refl;
@@ -35,46 +60,49 @@ forgotten = shown_explains (buckets_of 1) (before_hidden hiding) (Session 2) (ca
 
 -- ---- what must hold of the numbers
 -- the key's bucket, and what it keeps for the key
-abbrev bucket_in : ℕ → Hiding → ℕ → Bucket
-bucket_in width c term = bucket_of (contents 4 width (recorded (before_hidden c) term)) c.key
+abbrev bucket_in : SetupNumbers → Hiding → ℕ → Bucket
+bucket_in setup c term = bucket_of (contents setup.buckets setup.width (recorded (before_hidden c) term)) c.key
 
-abbrev kept_of : ℕ → Hiding → ℕ → Option ℕ
-kept_of width c term = kept_commit (bucket_in width c term).kept c.key
+abbrev kept_of : SetupNumbers → Hiding → ℕ → Option ℕ
+kept_of setup c term = kept_commit (bucket_in setup c term).kept c.key
 
 -- the two commits that are drawn
 abbrev TwoDraws : Hiding → Item → Type 0
 TwoDraws c (Draw session node term writer (Some commit)) = ((writer ≡ 1) × (commit ≡ 4) × (term ≡ c.drawn_in)) ⊎ (commit ≡ 5)
 TwoDraws c _ = Unit {0}
 
-record Told (width : ℕ) (c : Hiding) : Type 0 where
+record Told (setup : SetupNumbers) (c : Hiding) : Type 0 where
   above : c.start < c.water
-  own : Contains (written_keys (before_hidden c) c.start) c.key
-  kept : kept_of width c 1 ≡ None
-  water : (bucket_in width c 1).water ≡ c.water
+  own : setup.strict ≡ false → Contains (written_keys (before_hidden c) c.start) c.key
+  kept : kept_of setup c 1 ≡ None
+  water : (bucket_in setup c 1).water ≡ c.water
   writer : ℕ
   drawn : ((writer ≡ 1) × (c.water ≡ 4) × (1 ≡ c.drawn_in)) ⊎ (c.water ≡ 5)
   other : ℕ
   wrote : Contains (written_keys (before_hidden c) writer) other
-  same_bucket : place_of 4 other ≡ place_of 4 c.key
+  same_bucket : place_of setup.buckets other ≡ place_of setup.buckets c.key
 
-told_of : (width : ℕ) (c : Hiding) → Explained (buckets_of width) (hidden_told c) → Told width c
-told_of width c e =
-    let shown : ShownHidden (buckets_of width) (before_hidden c) 2 c.key c.water = explained_shows (buckets_of width) (before_hidden c) (Session 2) (cause.Hidden c.key c.water) e in
+told_by : (setup : SetupNumbers) (c : Hiding) → Explained setup (hidden_told c) → Told setup c
+told_by setup c e =
+    let shown : ShownHidden setup (before_hidden c) 2 c.key c.water = explained_shows setup (before_hidden c) (Session 2) (cause.Hidden c.key c.water) e in
     let start : shown.start ≡ c.start = sym (same_Some _ _ shown.start_is) in
     let term : shown.term ≡ 1 = sym (same_Some _ _ shown.term_is) in
     let drawn : TwoDraws c (Draw shown.drawn.0 shown.drawn.1 shown.term shown.writer (Some c.water)) =
     of_each (TwoDraws c) (Draw shown.drawn.0 shown.drawn.1 shown.term shown.writer (Some c.water)) (before_hidden c) (tt, (tt, (tt, (inl (refl, refl, refl), (inr refl, (tt, (tt, tt))))))) shown.drawn.2 in
     record {
       above = subst (λ (t : ℕ). t < c.water) start shown.above;
-      own = subst (λ (t : ℕ). Contains (written_keys (before_hidden c) t) c.key) start shown.own;
-      kept = subst (λ (t : ℕ). kept_of width c t ≡ None) term shown.forgotten;
-      water = subst (λ (t : ℕ). (bucket_in width c t).water ≡ c.water) term shown.forgot;
+      own = λ plain. subst (λ (t : ℕ). Contains (written_keys (before_hidden c) t) c.key) start (shown.own plain);
+      kept = subst (λ (t : ℕ). kept_of setup c t ≡ None) term shown.forgotten;
+      water = subst (λ (t : ℕ). (bucket_in setup c t).water ≡ c.water) term shown.forgot;
       writer = shown.writer;
       drawn = subst (λ (t : ℕ). ((shown.writer ≡ 1) × (c.water ≡ 4) × (t ≡ c.drawn_in)) ⊎ (c.water ≡ 5)) term drawn;
       other = shown.other;
       wrote = shown.wrote;
       same_bucket = shown.same_bucket;
     }
+
+abbrev told_of : (width : ℕ) (c : Hiding) → Explained (buckets_of width) (hidden_told c) → Told (buckets_of width) c
+told_of width c e = told_by (buckets_of width) c e
 
 some_not_none : (commit : ℕ) → Some commit ≡ None → ⊥
 some_not_none commit same = cc
@@ -83,6 +111,10 @@ some_not_none commit same = cc
 pub kept_by_width : Explained (buckets_of 2) (hidden_told hiding) → ⊥
 unfolding keys_from recorded_in record_pairs kept_commit added
 kept_by_width e = absurd (some_not_none 4 (told_of 2 hiding e).kept)
+
+pub only_read_kept : Explained (strictly (buckets_of 2)) (hidden_told of_other_key) → ⊥
+unfolding keys_from recorded_in record_pairs kept_commit added
+only_read_kept e = absurd (some_not_none 4 (told_by (strictly (buckets_of 2)) of_other_key e).kept)
 
 pub kept : Explained (buckets_of 1) (hidden_told (record hiding { own = 4; key = 4 })) → ⊥
 unfolding keys_from recorded_in record_pairs kept_commit added without oldest
@@ -119,7 +151,7 @@ wrote_one writer other is wrote = only_key 1 other (subst (λ (w : ℕ). Contain
 
 pub other_bucket : Explained (buckets_of 1) (hidden_told of_other_bucket) → ⊥
 other_bucket e =
-    let told : Told 1 of_other_bucket = told_of 1 of_other_bucket e in
+    let told : Told (buckets_of 1) of_other_bucket = told_of 1 of_other_bucket e in
     elim told.drawn [
       | inl first ↦
           let same : 1 ≡ 0 = ap (λ (k : ℕ). place_of 4 k) (wrote_one told.writer told.other first.0 told.wrote) ∙ told.same_bucket in
@@ -129,4 +161,4 @@ other_bucket e =
 
 pub not_its_own : Explained (buckets_of 1) (hidden_told (record hiding { own = 8 })) → ⊥
 unfolding keys_from
-not_its_own e = let same : 8 ≡ 0 = only_key 8 0 (told_of 1 (record hiding { own = 8 }) e).own in absurd (omega (arith, same))
+not_its_own e = let same : 8 ≡ 0 = only_key 8 0 ((told_of 1 (record hiding { own = 8 }) e).own refl) in absurd (omega (arith, same))

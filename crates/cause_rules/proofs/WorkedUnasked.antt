@@ -20,7 +20,7 @@ no_node h s node unasked asked = none-some node (sym unasked ∙ asked)
 -- ---- commits
 pub conflict_unasked : Explained default_numbers conflict_told_unasked → ⊥
 conflict_unasked e =
-    let shown : ShownConflict before_conflict_unasked 1 0 3 = explained_shows default_numbers before_conflict_unasked (Session 1) (cause.Conflict 0 3) e in
+    let shown : ShownConflict default_numbers before_conflict_unasked 1 0 3 = explained_shows default_numbers before_conflict_unasked (Session 1) (cause.Conflict 0 3) e in
     no_node before_conflict_unasked 1 shown.node refl shown.node_is
 
 pub hidden_unasked : Explained (buckets_of 1) hidden_told_unasked → ⊥

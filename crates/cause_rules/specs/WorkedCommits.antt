@@ -1,11 +1,15 @@
 -- Short histories of what a commit is told of its keys, of a mark and of its loss, each with the numbers that may be turned.
-use Rattle.std.specs.Prelude.{ℕ, List, [], ◌∷◌, ◌++◌, None, Some}
+use Rattle.std.specs.Prelude.{ℕ, true, List, [], ◌∷◌, ◌++◌, None, Some}
 use Rattle.stamp_base.specs.SetupNumbers.{SetupNumbers, default_numbers}
 use Rattle.history_book.specs.declared.cause.Cause.TheVariants as cause
 use Rattle.history_book.specs.declared.item.Actor.TheVariants.{Session}
 use Rattle.history_book.specs.declared.item.Item.{Item}
 use Rattle.history_book.specs.declared.item.Item.TheVariants.{AskCommit, Accept, Draw, Write, Mark}
 use Rattle.cause_rules.specs.WorkedHistories.{told, told_between, v}
+
+-- with strict reads a transaction is told of keys too that it only read, and its history need not show that it read them
+abbrev pub strictly : SetupNumbers → SetupNumbers
+strictly setup = record setup { strict = true }
 
 -- ---- a conflict on the key 0
 -- the transaction 1 wrote a key, and its commit 3 was drawn in a term; another one wrote a key, and asks to commit in the
