@@ -5,6 +5,7 @@ pub mod InversionOfFetches
 pub mod InversionOfRecord
 pub mod InversionOfExtensions
 pub mod InversionOfAsks
+pub mod FreeVerdicts
 pub mod InversionOfRequests
 pub mod InversionOfAnswers
 pub mod InversionOfCalls

@@ -20,7 +20,7 @@ use Rattle.machine.specs.Events.Decide.{decide_on}
 use Rattle.machine.specs.Events.Put.{put_on}
 use Rattle.machine.specs.Events.Answer.{answer_on}
 use Rattle.machine.specs.Events.Write.{write_on}
-use Rattle.machine.specs.Events.Fetch.{marks_every, fetch_on}
+use Rattle.machine.specs.Events.Fetch.{fetch_on}
 use Rattle.machine.specs.Events.Step.{step_on}
 use Rattle.machine.specs.Events.Heal.{heal_on}
 use Rattle.machine.specs.Events.Abort.{abort_on}
@@ -88,7 +88,7 @@ comes_to w h (event.Decide node session) fate holds sound steady = at_pair w w n
 comes_to w h (event.Put node session) fate holds sound steady = at_node w w node (λ post. for_table w node (put_on node session fate post w.pairs)) (nothing_at_all w) (put_at w node session fate)
 comes_to w h (event.Answer node session) fate holds sound steady = at_pair w w node session (λ post c. for_request w node session (answer_on node session post c)) (nothing_at_all w) (λ post c at client_at. answer_at w node session post c at client_at)
 comes_to w h (event.Write session key value) fate holds sound steady = at_session w session (λ c. for_cells w session (write_on session key value fate c w.rows)) (λ c at. write_at w session key value fate c at)
-comes_to w h (event.Fetch session key) fate holds sound steady = at_session w session (λ c. for_client w session (fetch_on (marks_every w.setup) session key fate c w.rows)) (λ c at. fetch_at w session key fate c at)
+comes_to w h (event.Fetch session key) fate holds sound steady = at_session w session (λ c. for_client w session (fetch_on w.setup session key fate c w.rows)) (λ c at. fetch_at w session key fate c at)
 comes_to w h (event.Step session) fate holds sound steady = at_session w session (λ c. for_stores w session (step_on session fate c w.rows w.pairs)) (λ c at. step_at_client w h session fate c holds at)
 comes_to w h (event.Heal session) fate holds sound steady = at_session w session (λ c. for_cells w session (heal_on session fate c w.rows w.pairs)) (λ c at. heal_at_client w session fate c at)
 comes_to w h (event.Abort session) fate holds sound steady = at_session w session (λ c. for_client w session (abort_on session c)) (λ c at. abort_at w session c at)

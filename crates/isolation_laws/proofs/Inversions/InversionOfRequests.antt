@@ -16,14 +16,14 @@ use Rattle.oracle_parts.specs.declared.instance.Progress.TheVariants as progress
 use Rattle.oracle_parts.specs.declared.instance.Request.{Request}
 use Rattle.oracle_parts.specs.declared.instance.Request.TheVariants.{Begin, Commit}
 use Rattle.oracle_parts.specs.Instance.{InstanceEntry, held_of}
-use Rattle.oracle_parts.specs.InstanceSteps.{InstanceStep, decided_by, IsStop, moved, without_request, no_stamp_told, epoch_refusal, accept_unless, accept_if_asked, accept_held, request_verdict, out_of_stamps, decide_drawn, decide_by as verdict_by, decide_if_accepted, decide_held}
+use Rattle.oracle_parts.specs.InstanceSteps.{InstanceStep, decided_by, IsStop, moved, without_request, no_stamp_told, epoch_refusal, accept_unless, accept_if_asked, accept_held, out_of_stamps, decide_drawn, decide_by as verdict_by}
 use Rattle.oracle_parts.specs.InstanceLaws.{stamp_of}
 use Rattle.machine.specs.State.{Client, State}
 use Rattle.machine.specs.Effect.{Effect}
 use Rattle.machine.specs.Clients.{after_refusal}
 use Rattle.machine.specs.Machine.{Step, step_by, with_post, with_client, with_reading}
 use Rattle.machine.specs.Events.Accept.{accept_by, accept_request, accept_on}
-use Rattle.machine.specs.Events.Decide.{draw_item, decide_by, decide_request, decide_on}
+use Rattle.machine.specs.Events.Decide.{draw_item, both_verdict, both_if_accepted, both_held, decide_by, decide_request, decide_on}
 use Rattle.isolation_laws.specs.Words.{InstanceAt, ClientAt}
 use Rattle.isolation_laws.specs.Sound.{StopOf, AreStops}
 use Rattle.isolation_laws.proofs.Outcome.Outcomes.{OfAccepted, OfEnded, OfDrew}
@@ -31,6 +31,7 @@ use Rattle.cause_rules.specs.OpenAsks.{ends_request}
 use Rattle.isolation_laws.proofs.Outcome.PlainItems.{node_plain, once_silent}
 use Rattle.isolation_laws.proofs.Outcome.OutcomesOfRecord.{Told}
 use Rattle.isolation_laws.proofs.Inversions.InversionParts.{ComesTo, ComesBy, refusal_quiet, told_quiet, tells, still_both, client_back}
+use Rattle.isolation_laws.proofs.Inversions.FreeVerdicts.{writes_free, reads_free}
 use Rattle.isolation_laws.proofs.Orders.{max_left}
 use Rattle.isolation_laws.proofs.Pushed.{one_quiet}
 
@@ -163,7 +164,7 @@ drawn_same : (node term stamp : ℕ) (request : Request) → draw_item node term
 drawn_same node term stamp (Begin session) = refl
 drawn_same node term stamp (Commit session start keys) = refl
 
-decide_room : (w : State) (node session : ℕ) (i : InstanceEntry) (held : Held) (c : Client) → Served w node session i held c → StopOf i.stop → held.progress ≡ progress.Accepted → request_verdict i.buckets held.request ≡ Free → (spent : Bool) → (i.last == i.ceiling) ≡ spent → ComesBy w (decide_step w node session held c (if spent then out_of_stamps i session held i.stop else decide_drawn i session held (i.last + 1)))
+decide_room : (w : State) (node session : ℕ) (i : InstanceEntry) (held : Held) (c : Client) → Served w node session i held c → StopOf i.stop → held.progress ≡ progress.Accepted → both_verdict i.buckets c.reads held.request ≡ Free → (spent : Bool) → (i.last == i.ceiling) ≡ spent → ComesBy w (decide_step w node session held c (if spent then out_of_stamps i session held i.stop else decide_drawn i session held (i.last + 1)))
 decide_room w node session i held c served stop accepted free true full = decide_out w node session i held c served accepted i.stop stop
 decide_room w node session i held c served stop accepted free false room = (
   OfDrew (record {
@@ -175,13 +176,16 @@ decide_room w node session i held c served stop accepted free false room = (
     has = served.has;
     accepted = accepted;
     room = λ same. eqb-false i.last i.ceiling room same;
-    free = free;
+    free = writes_free i.buckets c.reads held.request free;
+    c = c;
+    client_at = served.client_at;
+    reads_free = reads_free i.buckets c.reads held.request free;
   }),
   client_back w session w.seen c (slice_set w.nodes node (Some (decide_drawn i session held (i.last + 1)).left)) served.client_at,
   drawn_same node i.term (i.last + 1) held.request,
 )
 
-decide_verdict : (w : State) (node session : ℕ) (i : InstanceEntry) (held : Held) (c : Client) → Served w node session i held c → StopOf i.stop → held.progress ≡ progress.Accepted → (v : Verdict) → request_verdict i.buckets held.request ≡ v → ComesBy w (decide_step w node session held c (verdict_by i session held v))
+decide_verdict : (w : State) (node session : ℕ) (i : InstanceEntry) (held : Held) (c : Client) → Served w node session i held c → StopOf i.stop → held.progress ≡ progress.Accepted → (v : Verdict) → both_verdict i.buckets c.reads held.request ≡ v → ComesBy w (decide_step w node session held c (verdict_by i session held v))
 decide_verdict w node session i held c served stop accepted Free is = decide_room w node session i held c served stop accepted is (i.last == i.ceiling) refl
 decide_verdict w node session i held c served stop accepted (Conflict key by) is = decide_ended w node session i held c (cause.Conflict key by) refl served accepted
 decide_verdict w node session i held c served stop accepted (Hidden key water) is = decide_ended w node session i held c (cause.Hidden key water) refl served accepted
@@ -189,8 +193,8 @@ decide_verdict w node session i held c served stop accepted (Hidden key water) i
 pub decide_still : (w : State) (node session : ℕ) (post : Option InstanceEntry) (c : Client) (why : Cause) → slice_get w.nodes node ≡ Some post → ClientAt w.clients session c → ComesTo w (with_client (with_post w node post) session c) (item.Refused (Node node) why ∷ [])
 decide_still w node session post c why at client_at = still_both w node session w.seen post c _ at client_at (omega arith) (node_plain node why)
 
-decide_progress : (w : State) (node session : ℕ) (i : InstanceEntry) (held : Held) (c : Client) → Served w node session i held c → StopOf i.stop → (p : Progress) → held.progress ≡ p → ComesBy w (decide_step w node session held c (decide_if_accepted i session held p))
-decide_progress w node session i held c served stop progress.Accepted is = decide_verdict w node session i held c served stop is (request_verdict i.buckets held.request) refl
+decide_progress : (w : State) (node session : ℕ) (i : InstanceEntry) (held : Held) (c : Client) → Served w node session i held c → StopOf i.stop → (p : Progress) → held.progress ≡ p → ComesBy w (decide_step w node session held c (both_if_accepted i session c.reads held p))
+decide_progress w node session i held c served stop progress.Accepted is = decide_verdict w node session i held c served stop is (both_verdict i.buckets c.reads held.request) refl
 decide_progress w node session i held c served stop progress.Asked is = decide_still w node session (Some i) c (cause.NoRequest session) served.at served.client_at
 decide_progress w node session i held c served stop (progress.Drawn stamp) is = decide_still w node session (Some i) c (cause.NoRequest session) served.at served.client_at
 decide_progress w node session i held c served stop (progress.Settled commit how) is = decide_still w node session (Some i) c (cause.NoRequest session) served.at served.client_at
@@ -198,7 +202,7 @@ decide_progress w node session i held c served stop (progress.Settled commit how
 decide_found : (w : State) (node session : ℕ) (i : InstanceEntry) (c : Client) → InstanceAt w.nodes node i → ClientAt w.clients session c → StopOf i.stop → (found : Option Held) → held_of i session ≡ found → ComesBy w (for_request w node session (decide_request node session i c found))
 decide_found w node session i c at client_at stop None has = decide_still w node session (Some i) c (cause.NoRequest session) at client_at
 decide_found w node session i c at client_at stop (Some held) has =
-    subst (λ (f : Option Held). ComesBy w (decide_step w node session held c (decide_held i session f))) (sym has) (decide_progress w node session i held c (record { at = at; client_at = client_at; has = has }) stop held.progress refl)
+    subst (λ (f : Option Held). ComesBy w (decide_step w node session held c (both_held i session c.reads f))) (sym has) (decide_progress w node session i held c (record { at = at; client_at = client_at; has = has }) stop held.progress refl)
 
 pub decide_at : (w : State) (node session : ℕ) (post : Option InstanceEntry) (c : Client) → AreStops w.nodes → slice_get w.nodes node ≡ Some post → ClientAt w.clients session c → ComesBy w (for_request w node session (decide_on node session post c))
 decide_at w node session None c stops at client_at = decide_still w node session None c (cause.NoOracle node) at client_at

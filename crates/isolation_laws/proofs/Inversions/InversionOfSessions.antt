@@ -102,11 +102,11 @@ vanish_at w session c at = vanish_comes w session c at (vanish_refusal c.entry.s
 
 -- ---- write
 -- a list of keys that is full refuses no request
-full_mild : (room : Bool) → Mild (if room then None else Some TooManyKeys)
+pub full_mild : (room : Bool) → Mild (if room then None else Some TooManyKeys)
 full_mild true = tt
 full_mild false = refl
 
-either_mild : (first second : Option Cause) → Mild first → Mild second → Mild (option_or first second)
+pub either_mild : (first second : Option Cause) → Mild first → Mild second → Mild (option_or first second)
 either_mild None second one two = two
 either_mild (Some why) second one two = one
 

@@ -17,7 +17,7 @@ use Rattle.oracle_parts.specs.declared.instance.Progress.TheVariants as progress
 use Rattle.oracle_parts.specs.declared.instance.Request.TheVariants.{Begin, Commit}
 use Rattle.oracle_parts.specs.declared.instance.Settled.{Settled}
 use Rattle.oracle_parts.specs.declared.instance.Settled.TheVariants as how
-use Rattle.oracle_parts.specs.Buckets.{record_pairs}
+use Rattle.oracle_parts.specs.Buckets.{verdict, record_pairs}
 use Rattle.oracle_parts.specs.Instance.{InstanceEntry, held_of, least_unsettled}
 use Rattle.oracle_parts.specs.InstanceSteps.{without_request, moved, pairs_by, request_verdict}
 use Rattle.machine.specs.State.{Client, State}
@@ -27,7 +27,7 @@ use Rattle.isolation_laws.specs.Words.{InstanceAt, ClientAt}
 use Rattle.isolation_laws.specs.Quiet.{AllQuiet}
 
 -- ---- requests
--- a stamp was drawn
+-- a stamp was drawn: the keys that the request writes are free, and so are those that its client has read
 pub record Drew (w : State) : Type 0 where
   pub node : ℕ
   pub session : ℕ
@@ -38,6 +38,9 @@ pub record Drew (w : State) : Type 0 where
   pub accepted : held.progress ≡ progress.Accepted
   pub room : i.last ≢ i.ceiling
   pub free : request_verdict i.buckets held.request ≡ Free
+  pub c : Client
+  pub client_at : ClientAt w.clients session c
+  pub reads_free : (asker start : ℕ) (keys : List ℕ) → held.request ≡ Commit asker start keys → verdict i.buckets start c.reads ≡ Free
 
 abbrev pub drew_instance : (w : State) → Drew w → InstanceEntry
 drew_instance w k = record (moved k.i k.session k.held (progress.Drawn (k.i.last + 1))) { last = k.i.last + 1; buckets = record_pairs k.i.buckets (pairs_by k.held.request (k.i.last + 1)) }

@@ -13,7 +13,7 @@ use Rattle.client_parts.specs.KeyRead.{Reading, ReadTurn, read_over, read_ask, r
 use Rattle.machine.specs.State.{UnderWay, Nothing, Reads, Settles, Completes, Client, State}
 use Rattle.machine.specs.Clients.{is_reading, client_freed}
 use Rattle.machine.specs.StoreSteps.{rows_after, pairs_after, told_by}
-use Rattle.machine.specs.Events.Fetch.{marks_every, client_read, read_items}
+use Rattle.machine.specs.Events.Fetch.{marks_every, client_read, read_items, client_fetched, fetch_refused}
 use Rattle.machine.specs.Events.Step.{client_settled, settle_items, own_resolve, after_asks}
 use Rattle.isolation_laws.specs.Words.{ClientAt}
 use Rattle.isolation_laws.specs.Quiet.{Quiet, AllQuiet}
@@ -33,12 +33,17 @@ pub record Fetched (w : State) : Type 0 where
   pub epoch : ℕ
   pub start_is : it.c.entry.start ≡ Some start
   pub epoch_is : it.c.entry.epoch ≡ Some epoch
+  pub may : fetch_refused w.setup it.c key ≡ None
   pub first : Item
   pub quiet : Quiet first
   pub silent : Silent first
 
+-- the client, whose transaction may now have read the key
+abbrev pub fetched_client : (w : State) → Fetched w → Client
+fetched_client w k = client_fetched w.setup k.it.c k.key
+
 abbrev pub fetched_state : (w : State) → Fetched w → State
-fetched_state w k = record w { clients = slice_set w.clients k.it.session (client_read k.it.c (fetched_turn w k.key k.start k.epoch)) }
+fetched_state w k = record w { clients = slice_set w.clients k.it.session (client_read (fetched_client w k) (fetched_turn w k.key k.start k.epoch)) }
 
 abbrev pub fetched_items : (w : State) → Fetched w → List Item
 fetched_items w k = k.first ∷ read_items k.it.session k.start k.key (fetched_turn w k.key k.start k.epoch)

@@ -23,7 +23,7 @@ use Rattle.isolation_laws.specs.Pending.{ComesBelow}
 use Rattle.isolation_laws.specs.Quiet.{Quiet}
 use Rattle.isolation_laws.specs.Reads.{IsReading, Outlasts, AreLastingReads}
 use Rattle.isolation_laws.specs.Holds.{Holds}
-use Rattle.isolation_laws.proofs.Outcome.OutcomesOfWork.{Fetched, fetched_turn, fetched_state, fetched_items, ReadStepped, read_turn, read_stepped_state, read_stepped_items}
+use Rattle.isolation_laws.proofs.Outcome.OutcomesOfWork.{Fetched, fetched_turn, fetched_client, fetched_state, fetched_items, ReadStepped, read_turn, read_stepped_state, read_stepped_items}
 use Rattle.isolation_laws.proofs.Pushed.{not_true, in_append, one_quiet}
 use Rattle.isolation_laws.proofs.Requests.ClientsOpen.{read_keeps_entry}
 use Rattle.isolation_laws.proofs.Reading.ClientsReading.{nothing_reads}
@@ -103,15 +103,15 @@ turn_rights w h g pairs before s b e k (Answers a) un prior good rights =
     AtEach-push (RightRead g) before (Read s b k (found_of a.found)) rights
     (subst (RightAnswer g before b k (found_of a.found)) (sym (prior.writes b k)) (right_longer h g before b k (found_of a.found) (last_write h b k) un prior.on good.right))
 
--- ---- a turn of a read, whatever it comes to
-pub reads_turn : (w : State) (h : List Item) (pairs : Pairs) (x : Item) (s b e k : ℕ) (c : Client) (turn : ReadTurn) → Quiet x → ClientAt w.clients s c → OpenAt w.clients s b e → MarksStay w.pairs pairs → GoodTurn w h pairs b e k turn → Holds w h → ReadsRight w.setup (slice_set w.clients s (client_read c turn)) w.nodes w.rows pairs (h ++ x ∷ read_items s b k turn)
-reads_turn w h pairs x s b e k c turn quiet at o marks good holds =
+-- ---- a turn of a read, whatever it comes to, and whatever the client has kept before
+pub reads_turn : (w : State) (h : List Item) (pairs : Pairs) (x : Item) (s b e k : ℕ) (c kept : Client) (turn : ReadTurn) → Quiet x → ClientAt w.clients s c → kept.entry ≡ c.entry → OpenAt w.clients s b e → MarksStay w.pairs pairs → GoodTurn w h pairs b e k turn → Holds w h → ReadsRight w.setup (slice_set w.clients s (client_read kept turn)) w.nodes w.rows pairs (h ++ x ∷ read_items s b k turn)
+reads_turn w h pairs x s b e k c kept turn quiet at same o marks good holds =
     let g : List Item = h ++ x ∷ read_items s b k turn in
     let un : Calm h g = calm_turn h x s b k turn quiet in
     let rely : RelyOn w h w.nodes w.rows pairs g = rely_calm w h g w.nodes w.rows pairs un (same_comes w h) (shadows_same h w.rows) marks in
     record {
       facts = record {
-        reading = reading_set w.setup w.clients w.nodes w.rows pairs g s b e c (client_read c turn) at (read_keeps_entry c turn) o (turn_reads w h g pairs b e k c turn un good) (reading_kept w h w.nodes w.rows pairs g rely holds);
+        reading = reading_set w.setup w.clients w.nodes w.rows pairs g s b e c (client_read kept turn) at (read_keeps_entry kept turn ∙ same) o (turn_reads w h g pairs b e k kept turn un good) (reading_kept w h w.nodes w.rows pairs g rely holds);
         lasting = turn_lasting w h pairs x s b e k turn quiet rely un good holds;
       };
       rights = subst (AtEach (RightRead g)) (append_assoc h (x ∷ []) (read_items s b k turn))
@@ -131,7 +131,7 @@ reads_stepped w h k holds =
     let was = holds.reads.reading.reads k.session k.c k.r k.client_at k.under_way in
     let o : OpenAt w.clients k.session k.r.start k.r.epoch = open_by w k.session was.0 was.1 k.r.start k.r.epoch (sym was.3.start_is) (sym was.3.epoch_is) was.2 in
     let is : IsReading w.setup w.nodes w.rows w.pairs h k.r.start k.r.epoch k.r = reading_by w h was.0 was.1 k.r.start k.r.epoch k.r (sym was.3.start_is) (sym was.3.epoch_is) was.3 in
-    reads_turn w h (pairs_after (read_ask k.r) w.pairs) k.first k.session k.r.start k.r.epoch k.r.key k.c (read_turn w k.r) k.quiet k.client_at o (marks_after (read_ask k.r) w.pairs)
+    reads_turn w h (pairs_after (read_ask k.r) w.pairs) k.first k.session k.r.start k.r.epoch k.r.key k.c k.c (read_turn w k.r) k.quiet k.client_at refl o (marks_after (read_ask k.r) w.pairs)
     (good_turn w h (pairs_after (read_ask k.r) w.pairs) k.r.start k.r.epoch k.r.key (read_turn w k.r) is.own (step_right w h k.session k.r holds o is)) holds
 
 -- ---- a fetch
@@ -176,5 +176,5 @@ cells_good w h s k b e (c ∷ cs) holds o are = elim (cases_eq c.version b) [
 
 pub reads_fetched : (w : State) (h : List Item) (k : Fetched w) → Holds w h → ReadsRight w.setup (fetched_state w k).clients w.nodes w.rows w.pairs (h ++ fetched_items w k)
 reads_fetched w h k holds =
-    reads_turn w h w.pairs k.first k.it.session k.start k.epoch k.key k.it.c (fetched_turn w k.key k.start k.epoch) k.quiet k.it.client_at (fetched_open w k) (marks_same w.pairs)
+    reads_turn w h w.pairs k.first k.it.session k.start k.epoch k.key k.it.c (fetched_client w k) (fetched_turn w k.key k.start k.epoch) k.quiet k.it.client_at refl (fetched_open w k) (marks_same w.pairs)
     (cells_good w h k.it.session k.key k.start k.epoch (fetched w.rows k.key k.start) holds (fetched_open w k) (are_fetched w h k.key k.start holds)) holds

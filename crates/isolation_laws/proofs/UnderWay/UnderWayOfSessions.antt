@@ -16,7 +16,7 @@ use Rattle.machine.specs.Events.Fetch.{marks_every, client_read}
 use Rattle.isolation_laws.specs.UnderWay.{UnderWayFacts}
 use Rattle.isolation_laws.specs.Holds.{Holds}
 use Rattle.isolation_laws.proofs.Outcome.OutcomesOfSessions.{EndedReadOnly, read_only_state, Aborted, aborted_state, Vanished, vanished_state, Healed, healed_state}
-use Rattle.isolation_laws.proofs.Outcome.OutcomesOfWork.{Fetched, fetched_turn, fetched_state, fetched_items, ReadDropped, read_dropped_state, ReadStepped, read_turn, read_stepped_state, read_stepped_items}
+use Rattle.isolation_laws.proofs.Outcome.OutcomesOfWork.{Fetched, fetched_turn, fetched_client, fetched_state, fetched_items, ReadDropped, read_dropped_state, ReadStepped, read_turn, read_stepped_state, read_stepped_items}
 use Rattle.isolation_laws.proofs.Stores.Calm.{calm_same, calm_quiet, calm_turn}
 use Rattle.isolation_laws.proofs.UnderWay.Works.{Works, KeepsPlaced, no_settling}
 use Rattle.isolation_laws.proofs.UnderWay.ClientWorks.{works_freed, works_vanished, works_aborted, plain_open, works_plain, plain_reading, TurnHeals, read_over_heals, works_read}
@@ -61,8 +61,8 @@ under_way_healed w h k holds = under_way_moved w h (h ++ k.items) k.it.session (
 pub under_way_fetched : (w : State) (h : List Item) (k : Fetched w) → Holds w h → UnderWayFacts (fetched_state w k).clients w.sweep w.rows w.pairs (h ++ fetched_items w k)
 under_way_fetched w h k holds =
     let turn : ReadTurn = fetched_turn w k.key k.start k.epoch in
-    under_way_client w h (h ++ fetched_items w k) k.it.session (client_read k.it.c turn) holds (calm_turn h k.first k.it.session k.start k.key turn k.quiet)
-    (works_read w.rows h k.it.c turn (plain_open k.it.c k.it.is_open) (read_over_heals h (marks_every w.setup) k.key k.start k.epoch _))
+    under_way_client w h (h ++ fetched_items w k) k.it.session (client_read (fetched_client w k) turn) holds (calm_turn h k.first k.it.session k.start k.key turn k.quiet)
+    (works_read w.rows h (fetched_client w k) turn (plain_open (fetched_client w k) k.it.is_open) (read_over_heals h (marks_every w.setup) k.key k.start k.epoch _))
 
 works_heal : (rows : List Row) (h : List Item) (c : Client) (heal : Option (ℕ × ℕ × ℕ)) → (heal ≡ c.heal) ⊎ (heal ≡ None) → Works rows h c → Works rows h (record c { heal = heal })
 works_heal rows h c heal is work = record {
