@@ -14,5 +14,6 @@ mod StopsOfPosts
 mod StopsOfEvents
 mod StopsKept
 mod WorkedPaths
+mod WorkedReading
 mod TableMoves
 mod WorkedTables

@@ -9,3 +9,4 @@ pub mod Calls
 pub mod Laws
 pub mod WorkedMoves
 pub mod WorkedRefusals
+pub mod WorkedReads

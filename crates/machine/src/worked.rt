@@ -4,6 +4,7 @@ ghost use Rattle.stamp_base.specs.SetupNumbers.{default_numbers};
 ghost use Rattle.machine.specs.Machine.{history_after};
 ghost use Rattle.machine.specs.WorkedMoves as worked;
 ghost use Rattle.machine.specs.WorkedRefusals as alone;
+ghost use Rattle.machine.specs.WorkedReads as reads;
 
 /// A lease stands up to the reading before its end, and no other node takes the record before its end by all clocks.
 pub fn boundaries_of_the_lease()
@@ -107,4 +108,21 @@ pub fn hidden()
     ensures forgotten { history_after alone.small_buckets (alone.hidden_moves 0) ≡ alone.hidden_items 0 alone.forgotten }
     ensures unwritten { history_after alone.small_buckets (alone.hidden_moves 12) ≡ alone.hidden_items 12 alone.unwritten }
     ensures kept { history_after alone.small_buckets (alone.hidden_moves 4) ≡ alone.hidden_items 4 alone.kept }
+{}
+
+/// Two transactions each read the key that the other one writes, and both commit; with strict reads the second to be decided
+/// is refused.
+pub fn write_skew()
+    ensures strict { history_after reads.strict_reads reads.skew_moves ≡ reads.skew_items reads.read_conflict }
+    ensures plain { history_after default_numbers reads.skew_moves ≡ reads.skew_items reads.both_drawn }
+{}
+
+/// A session has vanished with its commit accepted: what it has read counts all the same.
+pub fn reads_of_the_vanished()
+    ensures { history_after reads.strict_reads reads.left_moves ≡ reads.left_items }
+{}
+
+/// A transaction that has read 64 keys reads no other but what it wrote, and each of these again.
+pub fn too_many_keys_read()
+    ensures { history_after reads.strict_reads reads.full_moves ≡ reads.full_items }
 {}
