@@ -110,8 +110,8 @@ pub fn hidden()
     ensures kept { history_after alone.small_buckets (alone.hidden_moves 4) ≡ alone.hidden_items 4 alone.kept }
 {}
 
-/// Two transactions each read the key that the other one writes, and both commit; with strict reads the second to be decided
-/// is refused.
+/// Two transactions each read the key that the other one writes, and both get a commit; with strict reads the second to be
+/// decided is refused.
 pub fn write_skew()
     ensures strict { history_after reads.strict_reads reads.skew_moves ≡ reads.skew_items reads.read_conflict }
     ensures plain { history_after default_numbers reads.skew_moves ≡ reads.skew_items reads.both_drawn }
