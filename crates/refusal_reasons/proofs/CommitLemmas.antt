@@ -1,6 +1,6 @@
 -- What a request is told of its keys, its stamps and its term: by its definition where the items are found, and the other way round.
 use Rattle.std.proofs.Common.{◌≡◌, ℕ, ◌+◌, ◌<◌, ◌≤◌, ◌==◌, ◌&&◌, ◌||◌, nat_lt, nat_le, Bool, true, false, not, List, Option, Some, None, Contains, is_some, is_none, refl, sym, subst, ap, ◌∙◌, ◌⊎◌, inl, inr, arith}
-use Rattle.std.specs.Prelude.{slice_get, ◌^◌}
+use Rattle.std.specs.Prelude.{slice_get, ◌^◌, IfSome}
 use Rattle.std.proofs.lemmas.Bool.{eqb-true, eq-eqb, and_parts, and_from, or_cases, or_left, or_right, le-leb, leb-true}
 use Rattle.stamp_base.specs.SetupNumbers.{SetupNumbers}
 use Rattle.history_book.specs.Members.{◌∈◌}
@@ -14,12 +14,12 @@ use Rattle.cause_rules.specs.Posts.{TermTaken, CeilingGiven}
 use Rattle.cause_rules.specs.Written.{written_keys}
 use Rattle.refusal_reasons.specs.declared.clue.Clue.TheVariants as clue
 use Rattle.refusal_reasons.specs.Clues.{draws_commit, draws_start, draws_stamp, takes_term, gives_ceiling_in, places, fits}
-use Rattle.refusal_reasons.specs.Decided.{ForgottenBySetup}
-use Rattle.refusal_reasons.specs.Showing.{conflict, conflict_by, conflict_with, hidden, not_yet, no_stamp, replaced, is_rival, rival, three_places}
+use Rattle.refusal_reasons.specs.Decided.{WrittenBySetup, ForgottenBySetup}
+use Rattle.refusal_reasons.specs.Showing.{conflict, conflict_by, conflict_with, hidden, not_yet, no_stamp, replaced, own_place, is_rival, rival, places_behind}
 use Rattle.refusal_reasons.specs.Sought.{seek}
 use Rattle.refusal_reasons.proofs.SeekLemmas.{Found, found, last_is, none_is}
 use Rattle.refusal_reasons.proofs.PartLemmas.{in_drop}
-use Rattle.refusal_reasons.proofs.PlaceLemmas.{IsPlace, one_found, one_parts, two_found, two_parts, three_found, three_parts, same, both, seek_all, sought_in}
+use Rattle.refusal_reasons.proofs.PlaceLemmas.{IsPlace, one_found, one_parts, two_found, two_parts, one_behind, behind_one, two_behind, behind_two, same, both, seek_all, sought_in}
 use Rattle.refusal_reasons.proofs.WrittenLemmas.{wrote_found, found_wrote}
 
 -- ---- a draw of a commit in a term
@@ -66,28 +66,38 @@ rival_form h u key by _ e = absurd cc
 is_there : (o : Option ℕ) (place : ℕ) → o ≡ Some place → is_some o ≡ true
 is_there o place e = rw e refl
 
-rival_whole : (h : List Item) (start u key by w : ℕ) → CommitDrawn h u w by → Contains (written_keys h w) key → Contains (written_keys h start) key → start < by → is_some (conflict_by h start key by (rival h u key by)) ≡ true
-rival_whole h start u key by w (s, n, m) wrote own above =
+rival_whole : (h : List Item) (own : Option ℕ) (start u key by w : ℕ) → CommitDrawn h u w by → Contains (written_keys h w) key → start < by → is_some (conflict_by h own start key by (rival h u key by)) ≡ true
+rival_whole h own start u key by w (s, n, m) wrote above =
     let at = in_drop (item.Draw s n u w (Some by)) h 0 m in
     let write = wrote_found h w key wrote in
     let is : is_rival h u key by (item.Draw s n u w (Some by)) ≡ true = and_from ((u == u) && (by == by)) (is_some (seek h 0 (clue.Wrote w key))) (both u by) (is_there (seek h 0 (clue.Wrote w key)) write.place write.is) in
     let f = found (is_rival h u key by) h 0 at.0 (item.Draw s n u w (Some by)) (omega arith) at.1.1 is in
     let form = rival_form h u key by f.last.item f.last.fits in
-    let mine = wrote_found h start key own in
     let stands : slice_get h f.place ≡ Some (item.Draw form.of.s form.of.n u form.of.writer (Some by)) = f.last.stands ∙ ap Some form.of.is in
-    rw (f.is, stands) (three_found (nat_lt start by) (seek h 0 (clue.Wrote start key)) (Some f.place) (seek h 0 (clue.Wrote form.of.writer key)) (le-leb _ _ above) (mine.place, mine.is) (f.place, refl) form.wrote)
+    rw (f.is, stands) (two_behind own (nat_lt start by) (Some f.place) (seek h 0 (clue.Wrote form.of.writer key)) (le-leb _ _ above) (f.place, refl) form.wrote)
 
-pub conflict_whole : (h : List Item) (s key by : ℕ) → ShownConflict h s key by → is_some (conflict h key by (its_node h s) (its_start h s) (its_term h s)) ≡ true
-conflict_whole h s key by shown = rw (shown.node_is, shown.start_is, shown.term_is) (rival_whole h shown.start shown.term key by shown.writer shown.drawn shown.wrote shown.own shown.above)
+-- what the setup says of the own side, where the start is known
+own_whole : (setup : SetupNumbers) (h : List Item) (s key start : ℕ) → its_start h s ≡ Some start → (setup.strict ≡ false → Contains (written_keys h start) key) → WrittenBySetup setup h s key
+own_whole setup h s key start is own = λ plain. rw is (own plain)
 
-rival_sound : (h : List Item) (s key by n t u : ℕ) → its_node h s ≡ Some n → its_start h s ≡ Some t → its_term h s ≡ Some u → (place : Option ℕ) → rival h u key by ≡ place → is_some (conflict_by h t key by place) ≡ true → ShownConflict h s key by
-rival_sound h s key by n t u ns ss ts None is e = absurd cc
-rival_sound h s key by n t u ns ss ts (Some place) is e =
+own_sound : (setup : SetupNumbers) (h : List Item) (s key start : ℕ) → its_start h s ≡ Some start → WrittenBySetup setup h s key → setup.strict ≡ false → Contains (written_keys h start) key
+own_sound setup h s key start is own plain = subst (λ (o : Option ℕ). IfSome o (λ t. Contains (written_keys h t) key)) is (own plain)
+
+pub conflict_whole : (setup : SetupNumbers) (h : List Item) (s key by : ℕ) → ShownConflict setup h s key by → (is_some (conflict h s key by (its_node h s) (its_start h s) (its_term h s)) ≡ true) × WrittenBySetup setup h s key
+conflict_whole setup h s key by shown = (
+  rw (shown.node_is, shown.start_is, shown.term_is) (rival_whole h (own_place h s shown.start key) shown.start shown.term key by shown.writer shown.drawn shown.wrote shown.above),
+  own_whole setup h s key shown.start shown.start_is shown.own,
+)
+
+rival_sound : (setup : SetupNumbers) (h : List Item) (s key by n t u : ℕ) → its_node h s ≡ Some n → its_start h s ≡ Some t → its_term h s ≡ Some u → WrittenBySetup setup h s key
+    → (place : Option ℕ) → rival h u key by ≡ place → is_some (conflict_by h (own_place h s t key) t key by place) ≡ true → ShownConflict setup h s key by
+rival_sound setup h s key by n t u ns ss ts own None is e = absurd cc
+rival_sound setup h s key by n t u ns ss ts own (Some place) is e =
     let last = last_is (is_rival h u key by) h 0 place is in
     let form = rival_form h u key by last.item last.fits in
     let stands : slice_get h place ≡ Some (item.Draw form.of.s form.of.n u form.of.writer (Some by)) = last.stands ∙ ap Some form.of.is in
-    let all : is_some (three_places (nat_lt t by) (seek h 0 (clue.Wrote t key)) (Some place) (seek h 0 (clue.Wrote form.of.writer key))) ≡ true = subst (λ (o : Option Item). is_some (conflict_with h t key by place o) ≡ true) stands e in
-    let parts = three_parts (nat_lt t by) (seek h 0 (clue.Wrote t key)) (Some place) (seek h 0 (clue.Wrote form.of.writer key)) all in
+    let all : is_some (places_behind (own_place h s t key) (nat_lt t by) (Some place) (seek h 0 (clue.Wrote form.of.writer key))) ≡ true = subst (λ (o : Option Item). is_some (conflict_with h (own_place h s t key) t key by place o) ≡ true) stands e in
+    let parts = behind_two (own_place h s t key) (nat_lt t by) (Some place) (seek h 0 (clue.Wrote form.of.writer key)) all in
     let at = in_at h place last.item last.stands in
     record {
       node = n;
@@ -96,50 +106,55 @@ rival_sound h s key by n t u ns ss ts (Some place) is e =
       start_is = ss;
       term = u;
       term_is = ts;
-      own = found_wrote h t key parts.1.0.0 parts.1.0.1;
+      own = own_sound setup h s key t ss own;
       above = leb-true _ _ parts.0;
       writer = form.of.writer;
       drawn = (form.of.s, form.of.n, subst (λ (x : Item). x ∈ h) form.of.is at);
-      wrote = found_wrote h form.of.writer key parts.1.1.1.0 parts.1.1.1.1;
+      wrote = found_wrote h form.of.writer key parts.1.1.0 parts.1.1.1;
     }
 
-pub conflict_sound : (h : List Item) (s key by : ℕ) (node start term : Option ℕ) → its_node h s ≡ node → its_start h s ≡ start → its_term h s ≡ term → is_some (conflict h key by node start term) ≡ true → ShownConflict h s key by
-conflict_sound h s key by None start term ns ss ts e = absurd cc
-conflict_sound h s key by (Some n) None term ns ss ts e = absurd cc
-conflict_sound h s key by (Some n) (Some t) None ns ss ts e = absurd cc
-conflict_sound h s key by (Some n) (Some t) (Some u) ns ss ts e = rival_sound h s key by n t u ns ss ts (rival h u key by) refl e
+pub conflict_sound : (setup : SetupNumbers) (h : List Item) (s key by : ℕ) (node start term : Option ℕ) → its_node h s ≡ node → its_start h s ≡ start → its_term h s ≡ term
+    → is_some (conflict h s key by node start term) ≡ true → WrittenBySetup setup h s key → ShownConflict setup h s key by
+conflict_sound setup h s key by None start term ns ss ts e own = absurd cc
+conflict_sound setup h s key by (Some n) None term ns ss ts e own = absurd cc
+conflict_sound setup h s key by (Some n) (Some t) None ns ss ts e own = absurd cc
+conflict_sound setup h s key by (Some n) (Some t) (Some u) ns ss ts e own = rival_sound setup h s key by n t u ns ss ts own (rival h u key by) refl e
 
 -- ---- a key that is hidden, as far as the history tells
-pub hidden_whole : (setup : SetupNumbers) (h : List Item) (s key water : ℕ) → ShownHidden setup h s key water → (is_some (hidden h key water (its_node h s) (its_start h s) (its_term h s)) ≡ true) × ForgottenBySetup setup h s key water
+pub hidden_whole : (setup : SetupNumbers) (h : List Item) (s key water : ℕ) → ShownHidden setup h s key water
+    → (is_some (hidden h s key water (its_node h s) (its_start h s) (its_term h s)) ≡ true) × (WrittenBySetup setup h s key × ForgottenBySetup setup h s key water)
 hidden_whole setup h s key water shown =
-    let mine = wrote_found h shown.start key shown.own in
     let drawn = commit_drawn h shown.term shown.writer water shown.drawn in (
-      rw (shown.node_is, shown.start_is, shown.term_is) (two_found (nat_lt shown.start water) (seek h 0 (clue.Wrote shown.start key)) (seek h 0 (clue.Commit shown.term water)) (le-leb _ _ shown.above) (mine.place, mine.is) drawn),
-      record { term = shown.term; term_is = shown.term_is; forgotten = shown.forgotten; forgot = shown.forgot; writer = shown.writer; drawn = shown.drawn; other = shown.other; wrote = shown.wrote; same_bucket = shown.same_bucket },
+      rw (shown.node_is, shown.start_is, shown.term_is) (one_behind (own_place h s shown.start key) (nat_lt shown.start water) (seek h 0 (clue.Commit shown.term water)) (le-leb _ _ shown.above) drawn),
+      (
+        own_whole setup h s key shown.start shown.start_is shown.own,
+        record { term = shown.term; term_is = shown.term_is; forgotten = shown.forgotten; forgot = shown.forgot; writer = shown.writer; drawn = shown.drawn; other = shown.other; wrote = shown.wrote; same_bucket = shown.same_bucket },
+      ),
     )
 
-pub hidden_sound : (setup : SetupNumbers) (h : List Item) (s key water : ℕ) (node start term : Option ℕ) → its_node h s ≡ node → its_start h s ≡ start → its_term h s ≡ term → is_some (hidden h key water node start term) ≡ true → ForgottenBySetup setup h s key water → ShownHidden setup h s key water
+pub hidden_sound : (setup : SetupNumbers) (h : List Item) (s key water : ℕ) (node start term : Option ℕ) → its_node h s ≡ node → its_start h s ≡ start → its_term h s ≡ term
+    → is_some (hidden h s key water node start term) ≡ true → WrittenBySetup setup h s key × ForgottenBySetup setup h s key water → ShownHidden setup h s key water
 hidden_sound setup h s key water None start term ns ss ts e by = absurd cc
 hidden_sound setup h s key water (Some n) None term ns ss ts e by = absurd cc
 hidden_sound setup h s key water (Some n) (Some t) None ns ss ts e by = absurd cc
 hidden_sound setup h s key water (Some n) (Some t) (Some u) ns ss ts e by =
-    let parts = two_parts (nat_lt t water) (seek h 0 (clue.Wrote t key)) (seek h 0 (clue.Commit u water)) e in
+    let parts = behind_one (own_place h s t key) (nat_lt t water) (seek h 0 (clue.Commit u water)) e in
     record {
       node = n;
       node_is = ns;
       start = t;
       start_is = ss;
-      own = found_wrote h t key parts.1.0.0 parts.1.0.1;
-      term = by.term;
-      term_is = by.term_is;
-      forgotten = by.forgotten;
-      forgot = by.forgot;
+      own = own_sound setup h s key t ss by.0;
+      term = by.1.term;
+      term_is = by.1.term_is;
+      forgotten = by.1.forgotten;
+      forgot = by.1.forgot;
       above = leb-true _ _ parts.0;
-      writer = by.writer;
-      drawn = by.drawn;
-      other = by.other;
-      wrote = by.wrote;
-      same_bucket = by.same_bucket;
+      writer = by.1.writer;
+      drawn = by.1.drawn;
+      other = by.1.other;
+      wrote = by.1.wrote;
+      same_bucket = by.1.same_bucket;
     }
 
 -- ---- a commit that is not placed yet

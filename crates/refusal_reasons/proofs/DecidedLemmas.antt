@@ -33,7 +33,7 @@ spent_asked h s ceiling (Some n) ns e = ((n, ns), (one_parts true (seek h 0 (clu
 
 -- ---- what is told to a session
 by_session : (setup : SetupNumbers) (h : List Item) (s : ℕ) (why : Cause) → IsDecided setup h (Session s) why
-by_session setup h s (cause.Conflict key by) = record { whole = λ shown. (conflict_whole h s key by shown, tt); sound = λ e _. conflict_sound h s key by (its_node h s) (its_start h s) (its_term h s) refl refl refl e }
+by_session setup h s (cause.Conflict key by) = record { whole = conflict_whole setup h s key by; sound = conflict_sound setup h s key by (its_node h s) (its_start h s) (its_term h s) refl refl refl }
 by_session setup h s (cause.Hidden key water) = record { whole = hidden_whole setup h s key water; sound = hidden_sound setup h s key water (its_node h s) (its_start h s) (its_term h s) refl refl refl }
 by_session setup h s (cause.OldEpoch start epoch) = record { whole = λ shown. (old_epoch_whole h s start epoch shown, tt); sound = λ e _. old_epoch_sound h s start epoch (its_node h s) refl e }
 by_session setup h s (cause.Expired reading until) = record { whole = λ shown. (expired_whole h s reading until shown, tt); sound = λ e _. expired_sound h s reading until (its_node h s) refl e }

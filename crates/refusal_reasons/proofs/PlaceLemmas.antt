@@ -12,7 +12,7 @@ use Rattle.refusal_reasons.specs.declared.clue.Clue.{Clue}
 use Rattle.refusal_reasons.specs.declared.clue.Clue.TheVariants as clue
 use Rattle.refusal_reasons.specs.Clues.{fits}
 use Rattle.refusal_reasons.specs.Sought.{passes, last_in, last_place, seek, behind}
-use Rattle.refusal_reasons.specs.Showing.{one_place, two_places, three_places, ask_from, take_place, take_from, last_take_at}
+use Rattle.refusal_reasons.specs.Showing.{one_place, two_places, place_behind, places_behind, ask_from, take_place, take_from, last_take_at}
 use Rattle.refusal_reasons.proofs.SeekLemmas.{Found, found, IsLast, last_is, Known, known}
 use Rattle.refusal_reasons.proofs.PartLemmas.{in_drop, drop_in, since_is, Tells, told_is, ToldAt}
 
@@ -37,15 +37,23 @@ two_parts true (Some a) None e = absurd cc
 two_parts true None p e = absurd cc
 two_parts false o p e = absurd cc
 
-pub three_found : (b : Bool) (o p q : Option ℕ) → b ≡ true → IsPlace o → IsPlace p → IsPlace q → is_some (three_places b o p q) ≡ true
-three_found b o p q agrees at and also = rw (agrees, at.1, and.1, also.1) refl
+-- and behind a place that may not be there
+pub one_behind : (own : Option ℕ) (b : Bool) (o : Option ℕ) → b ≡ true → IsPlace o → is_some (place_behind own b o) ≡ true
+one_behind own b o agrees at = rw (agrees, at.1) refl
 
-pub three_parts : (b : Bool) (o p q : Option ℕ) → is_some (three_places b o p q) ≡ true → (b ≡ true) × (IsPlace o × (IsPlace p × IsPlace q))
-three_parts true (Some a) (Some c) (Some d) e = (refl, ((a, refl), ((c, refl), (d, refl))))
-three_parts true (Some a) (Some c) None e = absurd cc
-three_parts true (Some a) None q e = absurd cc
-three_parts true None p q e = absurd cc
-three_parts false o p q e = absurd cc
+pub behind_one : (own : Option ℕ) (b : Bool) (o : Option ℕ) → is_some (place_behind own b o) ≡ true → (b ≡ true) × IsPlace o
+behind_one own true (Some a) e = (refl, (a, refl))
+behind_one own true None e = absurd cc
+behind_one own false o e = absurd cc
+
+pub two_behind : (own : Option ℕ) (b : Bool) (o p : Option ℕ) → b ≡ true → IsPlace o → IsPlace p → is_some (places_behind own b o p) ≡ true
+two_behind own b o p agrees at and = rw (agrees, at.1, and.1) refl
+
+pub behind_two : (own : Option ℕ) (b : Bool) (o p : Option ℕ) → is_some (places_behind own b o p) ≡ true → (b ≡ true) × (IsPlace o × IsPlace p)
+behind_two own true (Some a) (Some c) e = (refl, ((a, refl), (c, refl)))
+behind_two own true (Some a) None e = absurd cc
+behind_two own true None p e = absurd cc
+behind_two own false o p e = absurd cc
 
 -- ---- an item that stands in the history, or behind a place, is found
 pub same : (n : ℕ) → (n == n) ≡ true

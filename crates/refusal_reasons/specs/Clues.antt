@@ -1,8 +1,9 @@
 -- What an earlier item may have to be, so that it shows a refusal.
 use Rattle.std.specs.Prelude.{ℕ, ◌==◌, Bool, false, ◌&&◌, ◌||◌, None, Some, nat_lt}
 use Rattle.stamp_base.specs.declared.stores.Store.TheVariants.{Table}
-use Rattle.history_book.specs.declared.item.Actor.TheVariants.{Node}
+use Rattle.history_book.specs.declared.item.Actor.TheVariants.{Node, Session}
 use Rattle.history_book.specs.declared.item.Item.{Item}
+use Rattle.history_book.specs.declared.item.StoreStep.TheVariants as step
 use Rattle.history_book.specs.declared.item.Item.TheVariants as item
 pub use Rattle.cause_rules.specs.Asks.{asks_for, draws_for}
 pub use Rattle.cause_rules.specs.Posts.{takes_for, crashes_for}
@@ -17,6 +18,11 @@ accepts_for s _ = false
 abbrev pub writes : ℕ → ℕ → Item → Bool
 writes t k (item.Write session start key value) = (start == t) && (key == k)
 writes t k _ = false
+
+abbrev pub reads : ℕ → ℕ → Item → Bool
+reads s k (item.Step (Session session) (step.Fetch key count)) = (session == s) && (key == k)
+reads s k (item.Read session start key answer) = (session == s) && (key == k)
+reads s k _ = false
 
 abbrev pub draws_commit : ℕ → ℕ → Item → Bool
 draws_commit u c (item.Draw session node term start (Some commit)) = (term == u) && (commit == c)
@@ -116,6 +122,7 @@ fits (clue.Ask session) x = asks_for session x
 fits (clue.Accepted session) x = accepts_for session x
 fits (clue.Drew session) x = draws_for session x
 fits (clue.Wrote start key) x = writes start key x
+fits (clue.HasRead session key) x = reads session key x
 fits (clue.Commit term commit) x = draws_commit term commit x
 fits (clue.StampIn term stamp) x = draws_stamp term stamp x
 fits (clue.Marked start) x = marks start x

@@ -1,6 +1,6 @@
 -- What is named is what cause_rules asks for: a refusal is shown by its definition exactly where its items are found, and the
--- numbers of the setup, which no history tells, agree.
-use Rattle.std.specs.Prelude.{◌≡◌, ℕ, ◌+◌, ◌<◌, ◌≤◌, ◌^◌, true, List, None, Some, IfSome, IsSome, take, slice_get, is_some, Contains}
+-- setup, which no history tells, agrees.
+use Rattle.std.specs.Prelude.{◌≡◌, ℕ, ◌+◌, ◌<◌, ◌≤◌, ◌^◌, true, false, List, None, Some, IfSome, IsSome, take, slice_get, is_some, Contains}
 use Rattle.stamp_base.specs.SetupNumbers.{SetupNumbers}
 use Rattle.history_book.specs.declared.cause.Cause.{Cause}
 use Rattle.history_book.specs.declared.cause.Cause.TheVariants as cause
@@ -9,7 +9,7 @@ use Rattle.history_book.specs.declared.item.Actor.TheVariants.{Session, Node}
 use Rattle.history_book.specs.declared.item.Item.{Item}
 use Rattle.history_book.specs.declared.item.Item.TheVariants.{Refused}
 use Rattle.oracle_parts.specs.Buckets.{place_of, bucket_of, contents, kept_commit}
-use Rattle.cause_rules.specs.Asks.{its_term}
+use Rattle.cause_rules.specs.Asks.{its_start, its_term}
 use Rattle.cause_rules.specs.Commits.{CommitDrawn}
 use Rattle.cause_rules.specs.Explained.{Explained, ShownCause}
 use Rattle.cause_rules.specs.Refusals.{ShownFull}
@@ -18,6 +18,10 @@ use Rattle.refusal_reasons.specs.declared.clue.Clue.{Clue}
 use Rattle.refusal_reasons.specs.Clues.{fits}
 use Rattle.refusal_reasons.specs.Showing.{shown_by}
 use Rattle.refusal_reasons.specs.Sought.{seek}
+
+-- unless reads are strict, the transaction wrote the key
+abbrev pub WrittenBySetup : SetupNumbers → List Item → ℕ → ℕ → Type 0
+WrittenBySetup setup h s key = setup.strict ≡ false → IfSome (its_start h s) (λ start. Contains (written_keys h start) key)
 
 -- by the buckets and their width: the key's bucket does not keep the key, and forgot the commit, which was drawn for one of its keys
 pub record ForgottenBySetup (setup : SetupNumbers) (h : List Item) (s key water : ℕ) : Type 0 where
@@ -31,9 +35,10 @@ pub record ForgottenBySetup (setup : SetupNumbers) (h : List Item) (s key water 
   pub wrote : Contains (written_keys h writer) other
   pub same_bucket : place_of setup.buckets other ≡ place_of setup.buckets key
 
--- what the numbers of the setup have to say: the buckets, the range, the slots and the skew
+-- what the setup has to say: the buckets, the range, the slots, the skew, and whether reads are strict
 abbrev pub FromSetup : SetupNumbers → List Item → Actor → Cause → Type 0
-FromSetup setup h (Session s) (cause.Hidden key water) = ForgottenBySetup setup h s key water
+FromSetup setup h (Session s) (cause.Conflict key by) = WrittenBySetup setup h s key
+FromSetup setup h (Session s) (cause.Hidden key water) = WrittenBySetup setup h s key × ForgottenBySetup setup h s key water
 FromSetup setup h (Session s) (cause.Spent ceiling) = 2 ^ 62 < ceiling + setup.range
 FromSetup setup h (Session s) (cause.Full in_flight) = ShownFull setup h in_flight
 FromSetup setup h (Node n) (cause.Spent ceiling) = 2 ^ 62 < ceiling + setup.range

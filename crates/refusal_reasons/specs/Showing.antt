@@ -27,9 +27,14 @@ abbrev pub two_places : Bool → Option ℕ → Option ℕ → Option Places
 two_places true (Some a) (Some b) = Some (record { first = Some a; second = Some b; third = None })
 two_places _ _ _ = None
 
-abbrev pub three_places : Bool → Option ℕ → Option ℕ → Option ℕ → Option Places
-three_places true (Some a) (Some b) (Some c) = Some (record { first = Some a; second = Some b; third = Some c })
-three_places _ _ _ _ = None
+-- ---- the same, behind a place that may not be there
+abbrev pub place_behind : Option ℕ → Bool → Option ℕ → Option Places
+place_behind own true (Some a) = Some (record { first = own; second = Some a; third = None })
+place_behind own _ _ = None
+
+abbrev pub places_behind : Option ℕ → Bool → Option ℕ → Option ℕ → Option Places
+places_behind own true (Some a) (Some b) = Some (record { first = own; second = Some a; third = Some b })
+places_behind own _ _ _ = None
 
 -- ---- from where on
 abbrev pub ask_from : List Item → ℕ → ℕ
@@ -46,7 +51,12 @@ abbrev pub last_take_at : (Item → Bool) → List Item → Option ℕ → Optio
 last_take_at test h None = None
 last_take_at test h (Some place) = if passes test (slice_get h place) then Some place else None
 
--- ---- a conflict: the own write, the draw of a transaction that wrote the key too, and that write
+-- ---- the own side of a key: the write, and where there is none the last fetch or read of it by the session. There may be
+-- neither: whether a key that was not written counts, the setup says
+abbrev pub own_place : List Item → ℕ → ℕ → ℕ → Option ℕ
+own_place h s start key = option_or (seek h 0 (clue.Wrote start key)) (seek h 0 (clue.HasRead s key))
+
+-- ---- a conflict: the own side, the draw of a transaction that wrote the key, and that write
 abbrev pub is_rival : List Item → ℕ → ℕ → ℕ → Item → Bool
 is_rival h u key by (Draw session node term writer (Some commit)) = draws_commit u by (Draw session node term writer (Some commit)) && is_some (seek h 0 (clue.Wrote writer key))
 is_rival h u key by _ = false
@@ -54,22 +64,22 @@ is_rival h u key by _ = false
 abbrev pub rival : List Item → ℕ → ℕ → ℕ → Option ℕ
 rival h u key by = last_place (is_rival h u key by) h 0
 
-abbrev pub conflict_with : List Item → ℕ → ℕ → ℕ → ℕ → Option Item → Option Places
-conflict_with h start key by place (Some (Draw session node term writer commit)) = three_places (nat_lt start by) (seek h 0 (clue.Wrote start key)) (Some place) (seek h 0 (clue.Wrote writer key))
-conflict_with h start key by place _ = None
+abbrev pub conflict_with : List Item → Option ℕ → ℕ → ℕ → ℕ → ℕ → Option Item → Option Places
+conflict_with h own start key by place (Some (Draw session node term writer commit)) = places_behind own (nat_lt start by) (Some place) (seek h 0 (clue.Wrote writer key))
+conflict_with h own start key by place _ = None
 
-abbrev pub conflict_by : List Item → ℕ → ℕ → ℕ → Option ℕ → Option Places
-conflict_by h start key by None = None
-conflict_by h start key by (Some place) = conflict_with h start key by place (slice_get h place)
+abbrev pub conflict_by : List Item → Option ℕ → ℕ → ℕ → ℕ → Option ℕ → Option Places
+conflict_by h own start key by None = None
+conflict_by h own start key by (Some place) = conflict_with h own start key by place (slice_get h place)
 
-abbrev pub conflict : List Item → ℕ → ℕ → Option ℕ → Option ℕ → Option ℕ → Option Places
-conflict h key by (Some node) (Some start) (Some term) = conflict_by h start key by (rival h term key by)
-conflict h key by _ _ _ = None
+abbrev pub conflict : List Item → ℕ → ℕ → ℕ → Option ℕ → Option ℕ → Option ℕ → Option Places
+conflict h s key by (Some node) (Some start) (Some term) = conflict_by h (own_place h s start key) start key by (rival h term key by)
+conflict h s key by _ _ _ = None
 
 -- ---- the others that a request is told
-abbrev pub hidden : List Item → ℕ → ℕ → Option ℕ → Option ℕ → Option ℕ → Option Places
-hidden h key water (Some node) (Some start) (Some term) = two_places (nat_lt start water) (seek h 0 (clue.Wrote start key)) (seek h 0 (clue.Commit term water))
-hidden h key water _ _ _ = None
+abbrev pub hidden : List Item → ℕ → ℕ → ℕ → Option ℕ → Option ℕ → Option ℕ → Option Places
+hidden h s key water (Some node) (Some start) (Some term) = place_behind (own_place h s start key) (nat_lt start water) (seek h 0 (clue.Commit term water))
+hidden h s key water _ _ _ = None
 
 abbrev pub same : Option ℕ → ℕ → Bool
 same None n = false
@@ -160,8 +170,8 @@ holding h n term = one_place (is_none (seek h (take_from h n) (clue.Crashed n)))
 
 -- ---- by whom it is told
 abbrev pub shown_to_session : List Item → ℕ → Cause → Option Places
-shown_to_session h s (cause.Conflict key by) = conflict h key by (its_node h s) (its_start h s) (its_term h s)
-shown_to_session h s (cause.Hidden key water) = hidden h key water (its_node h s) (its_start h s) (its_term h s)
+shown_to_session h s (cause.Conflict key by) = conflict h s key by (its_node h s) (its_start h s) (its_term h s)
+shown_to_session h s (cause.Hidden key water) = hidden h s key water (its_node h s) (its_start h s) (its_term h s)
 shown_to_session h s (cause.OldEpoch start epoch) = old_epoch h start epoch (its_node h s) (its_start h s)
 shown_to_session h s (cause.Expired reading until) = expired h reading until (its_node h s)
 shown_to_session h s (cause.Replaced found) = replaced h found (its_node h s) (its_term h s)

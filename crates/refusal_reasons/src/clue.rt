@@ -2,7 +2,7 @@
 ghost use Rattle.std.specs.Prelude.{◌≡◌, Some, None};
 ghost use Rattle.refusal_reasons.specs.Clues as clues;
 
-use history_book::{Actor, Item};
+use history_book::{Actor, Item, StoreStep};
 use stamp_base::{KeyNo, NodeNo, SessionNo, Store};
 
 /// What an item has to be. Terms, stamps, epochs, ceilings and ends of leases stand as numbers.
@@ -15,6 +15,8 @@ pub enum Clue {
     Crashed { node: NodeNo },
     CrashedIn { node: NodeNo, term: u64 },
     Wrote { start: u64, key: KeyNo },
+    /// A fetch or a read of the key by the session.
+    HasRead { session: SessionNo, key: KeyNo },
     /// A draw of the commit in the term.
     Commit { term: u64, commit: u64 },
     /// A draw of the stamp in the term, as a start or as a commit.
@@ -51,6 +53,7 @@ pub fn fits(clue: &Clue, item: &Item) -> bool
         Clue::Accepted { session } => accepts(session, item),
         Clue::Drew { session } => draws(session, item),
         Clue::Wrote { start, key } => writes(start, key, item),
+        Clue::HasRead { session, key } => reads(session, key, item),
         Clue::Commit { term, commit } => draws_commit(term, commit, item),
         Clue::StampIn { term, stamp } => draws_stamp(term, stamp, item),
         Clue::Marked { start } => marks(start, item),
@@ -116,6 +119,19 @@ fn writes(own: u64, written: KeyNo, item: &Item) -> bool
 {
     match *item {
         Item::Write { start, key, .. } => start.value() == own && key == written,
+        _ => false,
+    }
+}
+
+fn reads(own: SessionNo, its: KeyNo, item: &Item) -> bool
+    ensures { result ≡ clues.reads own its item.now }
+{
+    match *item {
+        Item::Step {
+            actor: Actor::Session(session),
+            what: StoreStep::Fetch { key, .. },
+        } => session == own && key == its,
+        Item::Read { session, key, .. } => session == own && key == its,
         _ => false,
     }
 }

@@ -132,17 +132,32 @@ fn two_places(agrees: bool, first: Option<usize>, second: Option<usize>) -> Opti
     }
 }
 
-fn three_places(
+/// The place, behind one that may not be there.
+fn place_behind(own: Option<usize>, agrees: bool, place: Option<usize>) -> Option<Places>
+    ensures { result ≡ showing.place_behind own agrees place }
+{
+    if agrees && place.is_some() {
+        Some(Places {
+            first: own,
+            second: place,
+            third: None,
+        })
+    } else {
+        None
+    }
+}
+
+fn places_behind(
+    own: Option<usize>,
     agrees: bool,
-    first: Option<usize>,
     second: Option<usize>,
     third: Option<usize>,
 ) -> Option<Places>
-    ensures { result ≡ showing.three_places agrees first second third }
+    ensures { result ≡ showing.places_behind own agrees second third }
 {
-    if agrees && first.is_some() && second.is_some() && third.is_some() {
+    if agrees && second.is_some() && third.is_some() {
         Some(Places {
-            first,
+            first: own,
             second,
             third,
         })
@@ -162,24 +177,42 @@ fn is_same(number: Option<u64>, other: u64) -> bool
 
 // ---- what a request is told
 
+/// Where the session wrote the key in the transaction, and else where it fetched or read it last.
+fn own_place(items: &[Item], session: SessionNo, start: u64, key: KeyNo) -> Option<usize>
+    ensures { result ≡ showing.own_place items.now session start key }
+{
+    match seek(items, 0, &Clue::Wrote { start, key }) {
+        Some(write) => Some(write),
+        None => seek(items, 0, &Clue::HasRead { session, key }),
+    }
+}
+
 fn conflict(items: &[Item], session: SessionNo, key: KeyNo, by: u64) -> Option<Places>
-    ensures { result ≡ showing.conflict items.now key by (asks.its_node items.now session) (asks.its_start items.now session) (asks.its_term items.now session) }
+    ensures { result ≡ showing.conflict items.now session key by (asks.its_node items.now session) (asks.its_start items.now session) (asks.its_term items.now session) }
 {
     let _node = node_of(items, session)?;
     let start = start_of(items, session)?;
     let term = term_of(items, session)?;
     let place = rival(items, term, key, by)?;
-    conflict_with(items, start, key, by, place)
+    let own = own_place(items, session, start, key);
+    conflict_with(items, own, start, key, by, place)
 }
 
-fn conflict_with(items: &[Item], start: u64, key: KeyNo, by: u64, place: usize) -> Option<Places>
+fn conflict_with(
+    items: &[Item],
+    own: Option<usize>,
+    start: u64,
+    key: KeyNo,
+    by: u64,
+    place: usize,
+) -> Option<Places>
     requires { place < length items.now }
-    ensures { result ≡ showing.conflict_with items.now start key by place (slice_get items.now place) }
+    ensures { result ≡ showing.conflict_with items.now own start key by place (slice_get items.now place) }
 {
     match items[place] {
-        Item::Draw { start: writer, .. } => three_places(
+        Item::Draw { start: writer, .. } => places_behind(
+            own,
             start < by,
-            seek(items, 0, &Clue::Wrote { start, key }),
             Some(place),
             write_of(items, writer, key),
         ),
@@ -195,15 +228,15 @@ fn write_of(items: &[Item], writer: TxnId, key: KeyNo) -> Option<usize>
 }
 
 fn hidden(items: &[Item], session: SessionNo, key: KeyNo, water: u64) -> Option<Places>
-    ensures { result ≡ showing.hidden items.now key water (asks.its_node items.now session) (asks.its_start items.now session) (asks.its_term items.now session) }
+    ensures { result ≡ showing.hidden items.now session key water (asks.its_node items.now session) (asks.its_start items.now session) (asks.its_term items.now session) }
 {
     let _node = node_of(items, session)?;
     let start = start_of(items, session)?;
     let term = term_of(items, session)?;
-    let write = seek(items, 0, &Clue::Wrote { start, key });
+    let own = own_place(items, session, start, key);
     let commit = water;
     let draw = seek(items, 0, &Clue::Commit { term, commit });
-    two_places(start < water, write, draw)
+    place_behind(own, start < water, draw)
 }
 
 fn old_epoch(items: &[Item], session: SessionNo, start: u64, epoch: u64) -> Option<Places>
