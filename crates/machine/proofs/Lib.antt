@@ -13,6 +13,7 @@ mod LeftAll
 mod StopsOfPosts
 mod StopsOfEvents
 mod StopsKept
+mod PlainReads
 mod WorkedPaths
 mod WorkedReading
 mod TableMoves

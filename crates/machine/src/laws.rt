@@ -1,4 +1,13 @@
 // What a reader of the machine's definitions may rely on, over every state, event and fate.
+ghost use Rattle.std.specs.Prelude.{◌≡◌, ℕ, false, []};
+ghost use Rattle.stamp_base.specs.SetupNumbers.{SetupNumbers};
+ghost use Rattle.client_parts.specs.SessionSteps.{work_refusal};
+ghost use Rattle.oracle_parts.specs.Instance.{InstanceEntry};
+ghost use Rattle.oracle_parts.specs.InstanceSteps.{instance_decide};
+ghost use Rattle.machine.specs.State.{Client};
+ghost use Rattle.machine.specs.Clients.{is_reading};
+ghost use Rattle.machine.specs.Events.Fetch.{client_fetched, fetch_refused};
+ghost use Rattle.machine.specs.Events.Decide.{decide_both};
 ghost use Rattle.machine.specs.Laws.{StopsAreKept, RefusalsLeaveAll, SeenGoesUp, EventsLeaveParts, StoresAreAskedOnce, RequestsAreToldOnce, GoneStaysGone};
 
 /// What an instance keeps of the master record's refusals is Replaced or Spent: so it is at the opening, and each event keeps
@@ -39,4 +48,13 @@ pub fn requests_are_told_once()
 /// A session that has vanished stays so, whatever it is asked to do and whatever its request is told.
 pub fn gone_stays_gone()
     ensures { GoneStaysGone }
+{}
+
+/// What was read counts with strict reads alone: a client that has kept nothing is decided as the instance decides by itself,
+/// and where the setup does not ask for strict reads a fetch keeps nothing, and is refused for nothing that was read.
+pub fn reads_count_if_strict()
+    ensures empty { (i : InstanceEntry) (session : ℕ) → decide_both i session [] ≡ instance_decide i session }
+    ensures kept { (setup : SetupNumbers) (c : Client) (key : ℕ) → setup.strict ≡ false → client_fetched setup c key ≡ c }
+    ensures refused { (setup : SetupNumbers) (c : Client) (key : ℕ) → setup.strict ≡ false →
+        fetch_refused setup c key ≡ work_refusal c.entry.state (is_reading c) }
 {}
