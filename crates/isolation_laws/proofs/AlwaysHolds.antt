@@ -1,11 +1,13 @@
 -- For line_steps, cause_laws, call_laws, planned_laws, replay_driver and turn_rules too.
--- What ties state and history holds after every list of moves with steady readings; so each history is snapshot isolated.
+-- What ties state and history holds after every list of moves with steady readings; so each history is snapshot isolated, and
+-- serial with strict reads.
 use Rattle.std.proofs.Common.{◌≡◌, ℕ, List, [], ◌∷◌, ◌++◌, append_assoc, refl, sym, ◌∙◌, ap, subst}
 use Rattle.std.proofs.lemmas.List.{append-nil}
 use Rattle.stamp_base.specs.SetupNumbers.{SetupNumbers, AreInRange}
 use Rattle.port_io.specs.declared.weather.Fate.{Fate}
 use Rattle.history_book.specs.Isolation.{Isolated}
 use Rattle.history_book.specs.declared.item.Item.{Item}
+use Rattle.cause_rules.specs.Strict.{SerialIfStrict}
 use Rattle.machine.specs.declared.event.Event.{Event}
 use Rattle.machine.specs.State.{State, opening}
 use Rattle.machine.specs.Machine.{Step, stepped, Move, state_after, items_after, history_after, reading_of, seen_after, IsSteadyAt, AreSteady, Steady}
@@ -23,8 +25,9 @@ use Rattle.isolation_laws.proofs.Inversions.InversionParts.{ComesBy}
 use Rattle.isolation_laws.proofs.Inversions.Inversion.{comes_to}
 use Rattle.isolation_laws.proofs.Inversions.InversionSound.{sound_kept, opening_sound}
 use Rattle.isolation_laws.proofs.Holding.IsolatedStamps.{stamped_kept, fresh_kept, apart_kept}
+use Rattle.isolation_laws.proofs.Holding.SerialCommits.{serial_if_strict}
 use Rattle.isolation_laws.proofs.Holding.Opening.{opening_holds}
-use Rattle.machine.proofs.PartsKept.{seen_up}
+use Rattle.machine.proofs.PartsKept.{leaves_parts, seen_up}
 
 -- ---- one outcome
 pub setup_kept : (w : State) (o : Outcome w) → (left_by w o).setup ≡ w.setup
@@ -105,3 +108,17 @@ always_stands setup moves in_range steady = stands_after (opening setup) [] move
 -- every history is snapshot isolated
 pub histories_are_isolated : (setup : SetupNumbers) (moves : List Move) → AreInRange setup → Steady setup moves → Isolated (history_after setup moves)
 histories_are_isolated setup moves in_range steady = (always_stands setup moves in_range steady).holds.isolated
+
+-- and serial where the setup asks for strict reads
+pub setup_after : (w : State) (moves : List Move) → (state_after w moves).setup ≡ w.setup
+unfolding state_after
+setup_after w [] = refl
+setup_after w (move ∷ moves) = setup_after (stepped w move.event move.fate).state moves ∙ (leaves_parts w move.event move.fate).setup
+
+pub stands_serially : (w : State) (h : List Item) → Stands w h → SerialIfStrict w.setup h
+stands_serially w h both = serial_if_strict w h both.holds
+
+pub histories_are_serial : (setup : SetupNumbers) (moves : List Move) → AreInRange setup → Steady setup moves → SerialIfStrict setup (history_after setup moves)
+histories_are_serial setup moves in_range steady =
+    subst (λ (numbers : SetupNumbers). SerialIfStrict numbers (history_after setup moves)) (setup_after (opening setup) moves)
+    (stands_serially (state_after (opening setup) moves) (history_after setup moves) (always_stands setup moves in_range steady))

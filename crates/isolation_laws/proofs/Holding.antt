@@ -4,6 +4,7 @@ pub mod Framed
 pub mod Calmed
 pub mod IsolatedItems
 pub mod IsolatedStamps
+pub mod SerialCommits
 pub mod OpeningSessions
 pub mod Opening
 pub mod NeverPlaced

@@ -2,4 +2,5 @@
 pub mod RecordedCommits
 pub mod MemoryStays
 pub mod MemoryOfDraws
+pub mod SerialDraws
 pub mod MemoryKept

@@ -3,6 +3,7 @@ pub mod Pending
 pub mod Quiet
 pub mod Numbers
 pub mod Requests
+pub mod ReadSets
 pub mod Memory
 pub mod Cells
 pub mod UnderWay

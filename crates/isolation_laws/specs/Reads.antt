@@ -19,6 +19,7 @@ use Rattle.machine.specs.Events.Fetch.{marks_every}
 use Rattle.isolation_laws.specs.Words.{ClientAt, OpenAt, Marked}
 use Rattle.isolation_laws.specs.Pending.{ComesBelow}
 use Rattle.isolation_laws.specs.UnderWay.{HasShadow}
+use Rattle.isolation_laws.specs.ReadSets.{AreReadSets}
 
 -- the version of the last cell where its shadow is below the start, below which no cell can answer; 0 where it is not
 abbrev pub floor_at : ℕ → Cell → ℕ
@@ -85,3 +86,4 @@ pub record AreLastingReads (nodes : List (Option InstanceEntry)) (pairs : Pairs)
 pub record ReadFacts (setup : SetupNumbers) (clients : List Client) (nodes : List (Option InstanceEntry)) (rows : List Row) (pairs : Pairs) (h : List Item) : Type 0 where
   pub reading : AreReading setup clients nodes rows pairs h
   pub lasting : AreLastingReads nodes pairs h
+  pub read_sets : AreReadSets setup clients nodes h

@@ -1,10 +1,11 @@
-//! Why every history of the machine is snapshot isolated: the facts that tie each state to its history, and that every
-//! event keeps them.
+//! Why every history of the machine is snapshot isolated, and serial where reads are strict: the facts that tie each state to its
+//! history, and that every event keeps them.
 #![tactic(auto)]
 
 ghost use Rattle.std.specs.Prelude.{List, [], ◌++◌};
 ghost use Rattle.history_book.specs.Isolation.{Isolated};
 ghost use Rattle.history_book.specs.declared.item.Item.{Item};
+ghost use Rattle.cause_rules.specs.Strict.{SerialIfStrict};
 ghost use Rattle.stamp_base.specs.SetupNumbers.{SetupNumbers, AreInRange};
 ghost use Rattle.port_io.specs.declared.weather.Fate.{Fate};
 ghost use Rattle.machine.specs.declared.event.Event.{Event};
@@ -24,6 +25,13 @@ pub use consequences::{
 /// that readings of the clocks are steady: none is behind an earlier one by more than the skew.
 pub fn always_isolated()
     ensures { (setup : SetupNumbers) (moves : List Move) → AreInRange setup → Steady setup moves → Isolated (history_after setup moves) }
+{}
+
+/// Where the setup asks for strict reads, every history of the machine is serial too: what a committed transaction read of a key
+/// that it had not written stood until its commit, so the commits in their order are a serial run. Nothing else is asked for than
+/// above, and nothing of the other forms.
+pub fn always_serial()
+    ensures { (setup : SetupNumbers) (moves : List Move) → AreInRange setup → Steady setup moves → SerialIfStrict setup (history_after setup moves) }
 {}
 
 /// All facts hold of the opening state and no history.

@@ -73,6 +73,12 @@ opening_reads : (setup : SetupNumbers) → ReadFacts setup (opening setup).clien
 opening_reads setup = record {
   reading = record { reads = λ s c r at is. let clash : Nothing ≡ Reads r = not_under_way s c (Reads r) at is in absurd (cc) };
   lasting = record { lasts = λ s b k u answer value m. absurd (in_none _ m) };
+  read_sets = record {
+    plain = λ flag s c at. ap (λ (x : Client). x.reads) (is_new s c at);
+    opened = λ strict s t e o. absurd (not_open s t e o);
+    asked = λ strict n s t keys p i c at. absurd (none_at setup.nodes n i at);
+    under_way = λ strict s c r at is. let clash : Nothing ≡ Reads r = not_under_way s c (Reads r) at is in absurd (cc);
+  };
 }
 
 opening_isolated : Isolated []

@@ -117,6 +117,7 @@ pub opening_memory : (setup : SetupNumbers) → MemoryFacts setup (opening setup
 opening_memory setup = record {
   recorded = record { hold = λ n i at. absurd (none_at setup.nodes n i at) };
   apart = record { apart = λ r s n m term other t c u d k v w one. absurd (in_none _ one) };
+  serial = λ strict. record { stood = λ r s n m term other t d u c k value one. absurd (in_none _ one) };
 }
 
 pub opening_begins : (setup : SetupNumbers) → BeginFacts (opening setup).clients (opening setup).nodes []

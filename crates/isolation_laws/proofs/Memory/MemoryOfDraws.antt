@@ -19,7 +19,7 @@ use Rattle.oracle_parts.proofs.BucketVerdicts.{verdict_shown, record_pairs-appen
 use Rattle.oracle_parts.proofs.LastCommits.{last_commit_greatest}
 use Rattle.machine.specs.State.{State}
 use Rattle.isolation_laws.specs.Words.{DrewCommit, written_keys, recorded, recorded_by}
-use Rattle.isolation_laws.specs.Memory.{AreRecorded, DrawnApart, MemoryFacts}
+use Rattle.isolation_laws.specs.Memory.{AreRecorded, DrawnApart}
 use Rattle.isolation_laws.specs.Holds.{Holds}
 use Rattle.isolation_laws.proofs.Outcome.OutcomesOfStamps.{Drew, drew_state, drew_items}
 use Rattle.isolation_laws.proofs.OnceEach.{drawn_once}
@@ -60,7 +60,7 @@ own_buckets w h k holds =
     ∙ (sym (record_pairs-append _ (recorded h k.i.term) (pairs_by k.held.request (k.i.last + 1)))
     ∙ ap (contents w.setup.buckets w.setup.width) (sym all))
 
-drew_records : (w : State) (h : List Item) (k : Drew w) → Holds w h → AreRecorded w.setup (drew_state w k).nodes (h ++ drew_items w k)
+pub drew_records : (w : State) (h : List Item) (k : Drew w) → Holds w h → AreRecorded w.setup (drew_state w k).nodes (h ++ drew_items w k)
 drew_records w h k holds = record {
   hold = λ n j at. elim (drew_cases w k n j at) [
     | inl here ↦ ap (λ x. x.buckets) here.1 ∙ (own_buckets w h k holds ∙ ap (λ term. contents w.setup.buckets w.setup.width (recorded (h ++ drew_items w k) term)) (ap (λ x. x.term) (sym here.1)))
@@ -76,19 +76,24 @@ below_last : (last : Option ℕ) (d t : ℕ) → IsSomeAnd last (λ l. d ≤ l) 
 below_last None d t some shown = absurd some
 below_last (Some l) d t some shown = omega (arith, some, shown l refl)
 
-free_shown : (w : State) (h : List Item) (k : Drew w) (r t : ℕ) (keys : List ℕ) → Holds w h → k.held.request ≡ Commit r t keys → IsShown w.setup.buckets w.setup.width (recorded h k.i.term) t keys Free
-free_shown w h k r t keys holds is =
+free_shown : (w : State) (h : List Item) (k : Drew w) (t : ℕ) (keys : List ℕ) → Holds w h → verdict k.i.buckets t keys ≡ Free → IsShown w.setup.buckets w.setup.width (recorded h k.i.term) t keys Free
+free_shown w h k t keys holds free =
     let buckets : contents w.setup.buckets w.setup.width (recorded h k.i.term) ≡ k.i.buckets = sym (holds.memory.recorded.hold k.node k.i k.at) in
-    let free : verdict (contents w.setup.buckets w.setup.width (recorded h k.i.term)) t keys ≡ Free = ap (λ bs. verdict bs t keys) buckets ∙ (ap (request_verdict k.i.buckets) (sym is) ∙ k.free) in
-    subst (λ (v : Verdict). IsShown w.setup.buckets w.setup.width (recorded h k.i.term) t keys v) free
+    subst (λ (v : Verdict). IsShown w.setup.buckets w.setup.width (recorded h k.i.term) t keys v) (ap (λ bs. verdict bs t keys) buckets ∙ free)
     (verdict_shown w.setup.buckets w.setup.width (recorded h k.i.term) t keys (holds.in_range.buckets).0 (holds.in_range.width).0 (recorded_rise h k.i.term holds.numbers.new))
 
-free_below : (w : State) (h : List Item) (k : Drew w) (r t : ℕ) (keys : List ℕ) (s m u d key : ℕ) (value own : List ℕ) → Holds w h → k.held.request ≡ Commit r t keys → DrewCommit h s m k.i.term u d → Wrote h u key value → Wrote h t key own → d ≤ t
-free_below w h k r t keys s m u d key value own holds is drew wrote mine =
-    let has : Contains keys key = subst (λ ks. Contains ks key) (sym (own_keys w h k r t keys holds is)) (wrote_key h t key own mine) in
+free_below : (w : State) (h : List Item) (k : Drew w) (t : ℕ) (keys : List ℕ) (s m u d key : ℕ) (value : List ℕ) → Holds w h → verdict k.i.buckets t keys ≡ Free → Contains keys key → DrewCommit h s m k.i.term u d → Wrote h u key value → d ≤ t
+free_below w h k t keys s m u d key value holds free has drew wrote =
     below_last (last_commit (recorded h k.i.term) key) d t
     (last_commit_greatest (recorded h k.i.term) key d (recorded_rise h k.i.term holds.numbers.new) (recorded_contains h s m k.i.term u d key value drew wrote))
-    (λ c last. free_shown w h k r t keys holds is key c has last)
+    (λ c last. free_shown w h k t keys holds free key c has last)
+
+-- what the transaction wrote is free
+own_free : (w : State) (k : Drew w) (r t : ℕ) (keys : List ℕ) → k.held.request ≡ Commit r t keys → verdict k.i.buckets t keys ≡ Free
+own_free w k r t keys is = ap (request_verdict k.i.buckets) (sym is) ∙ k.free
+
+own_has : (w : State) (h : List Item) (k : Drew w) (r t : ℕ) (keys : List ℕ) (key : ℕ) (own : List ℕ) → Holds w h → k.held.request ≡ Commit r t keys → Wrote h t key own → Contains keys key
+own_has w h k r t keys key own holds is mine = subst (λ ks. Contains ks key) (sym (own_keys w h k r t keys holds is)) (wrote_key h t key own mine)
 
 -- a start and a commit are never the same stamp
 start_is_no_commit : (s n term t r m other u d : ℕ) → Draw s n term t None ≡ Draw r m other u (Some d) → ⊥
@@ -106,23 +111,28 @@ not_above d t low other = elim (cases_eq d t) [
   | inr differ ↦ omega (arith, low, differ)
 ]
 
--- the commit that is drawn now, and one before
-apart_now : (w : State) (h : List Item) (k : Drew w) (r t : ℕ) (keys : List ℕ) (s m other u d key : ℕ) (own value : List ℕ) → Holds w h → k.held.request ≡ Commit r t keys → DrewCommit h s m other u d → Wrote h t key own → Wrote h u key value → (k.i.last + 1 < u) ⊎ (d < t)
-apart_now w h k r t keys s m other u d key own value holds is drew mine wrote = elim (three_ways other k.i.term) [
-  | inl less ↦ inr (omega (arith, holds.numbers.drawn.earlier s m other u k.node (Some d) k.i drew k.at less, (drew_within w k r t keys holds.requests.requests holds.requests.accepted is).0))
-  | inr (inl same) ↦ inr (not_above d t (free_below w h k r t keys s m u d key value own holds is (subst (λ term. DrewCommit h s m term u d) same drew) wrote mine) (apart_stamps w h k r t keys s m other u d holds is drew))
+-- the commit that is drawn now, of a transaction with a free key, and one before it that wrote the key
+pub apart_now : (w : State) (h : List Item) (k : Drew w) (r t : ℕ) (asked keys : List ℕ) (s m other u d key : ℕ) (value : List ℕ) → Holds w h → k.held.request ≡ Commit r t asked → verdict k.i.buckets t keys ≡ Free → Contains keys key → DrewCommit h s m other u d → Wrote h u key value → (k.i.last + 1 < u) ⊎ (d < t)
+apart_now w h k r t asked keys s m other u d key value holds is free has drew wrote = elim (three_ways other k.i.term) [
+  | inl less ↦ inr (omega (arith, holds.numbers.drawn.earlier s m other u k.node (Some d) k.i drew k.at less, (drew_within w k r t asked holds.requests.requests holds.requests.accepted is).0))
+  | inr (inl same) ↦ inr (not_above d t (free_below w h k t keys s m u d key value holds free has (subst (λ term. DrewCommit h s m term u d) same drew) wrote) (apart_stamps w h k r t asked s m other u d holds is drew))
   | inr (inr more) ↦ inl (omega (arith, (holds.numbers.drawn.later s m other u k.node (Some d) k.i drew k.at more).1, drew_room w k holds.numbers.ranges))
 ]
 
+-- where it wrote the key itself
+wrote_now : (w : State) (h : List Item) (k : Drew w) (r t : ℕ) (keys : List ℕ) (s m other u d key : ℕ) (own value : List ℕ) → Holds w h → k.held.request ≡ Commit r t keys → DrewCommit h s m other u d → Wrote h t key own → Wrote h u key value → (k.i.last + 1 < u) ⊎ (d < t)
+wrote_now w h k r t keys s m other u d key own value holds is drew mine wrote =
+    apart_now w h k r t keys keys s m other u d key value holds is (own_free w k r t keys is) (own_has w h k r t keys key own holds is mine) drew wrote
+
 -- ---- the facts
-commit_is : (request : Request) (stamp c : ℕ) → Some c ≡ commit_drawn request stamp → c ≡ stamp
+pub commit_is : (request : Request) (stamp c : ℕ) → Some c ≡ commit_drawn request stamp → c ≡ stamp
 commit_is (BeginRequest r) stamp c is = absurd (none-some c (sym is))
 commit_is (Commit r t keys) stamp c is = same_Some c stamp is
 
 no_write : (w : State) (k : Drew w) (s t key : ℕ) (value : List ℕ) → Draw (asker_of k.held.request) k.node k.i.term (start_drawn k.held.request (k.i.last + 1)) (commit_drawn k.held.request (k.i.last + 1)) ≡ Write s t key value → ⊥
 no_write w k s t key value same = cc
 
-draw_writes_nothing : (w : State) (h : List Item) (k : Drew w) (t key : ℕ) (value : List ℕ) → Wrote (h ++ drew_items w k) t key value → Wrote h t key value
+pub draw_writes_nothing : (w : State) (h : List Item) (k : Drew w) (t key : ℕ) (value : List ℕ) → Wrote (h ++ drew_items w k) t key value → Wrote h t key value
 draw_writes_nothing w h k t key value wrote =
     ap (λ o. option_or o (last_write h t key)) (sym (unwritten t key (new_draw w k) (λ s q v is. no_write w k s t q v (sym (draw_item_is k.node k.i.term k.held.request (k.i.last + 1)) ∙ is))))
     ∙ (sym (last_write-push h (new_draw w k) t key) ∙ wrote)
@@ -131,10 +141,10 @@ swapped : (c u d t : ℕ) → (c < u) ⊎ (d < t) → (d < t) ⊎ (c < u)
 swapped c u d t (inl a) = inr a
 swapped c u d t (inr b) = inl b
 
-same_transaction : (w : State) (k : Drew w) (t u : ℕ) → t ≡ start_drawn k.held.request (k.i.last + 1) → u ≡ start_drawn k.held.request (k.i.last + 1) → t ≡ u
+pub same_transaction : (w : State) (k : Drew w) (t u : ℕ) → t ≡ start_drawn k.held.request (k.i.last + 1) → u ≡ start_drawn k.held.request (k.i.last + 1) → t ≡ u
 same_transaction w k t u a b = a ∙ sym b
 
-drew_apart : (w : State) (h : List Item) (k : Drew w) → Holds w h → DrawnApart (h ++ drew_items w k)
+pub drew_apart : (w : State) (h : List Item) (k : Drew w) → Holds w h → DrawnApart (h ++ drew_items w k)
 drew_apart w h k holds = record {
   apart = λ r s n m term other t c u d key v x first second differ wrote also.
       let a : Wrote h t key v = draw_writes_nothing w h k t key v wrote in
@@ -145,20 +155,14 @@ drew_apart w h k holds = record {
           | inr now ↦
               let draws : DrawsFor w k u = draws_commit w k k.held.request u d refl now.1 now.2 in
               let stamp : d ≡ k.i.last + 1 = commit_is k.held.request (k.i.last + 1) d now.2 in
-              subst (λ q. (c < u) ⊎ (q < t)) (sym stamp) (swapped (k.i.last + 1) t c u (apart_now w h k draws.0 u draws.1 r n term t c key x v holds draws.2 old b a))
+              subst (λ q. (c < u) ⊎ (q < t)) (sym stamp) (swapped (k.i.last + 1) t c u (wrote_now w h k draws.0 u draws.1 r n term t c key x v holds draws.2 old b a))
         ]
         | inr now ↦
             let draws : DrawsFor w k t = draws_commit w k k.held.request t c refl now.1 now.2 in
             let stamp : c ≡ k.i.last + 1 = commit_is k.held.request (k.i.last + 1) c now.2 in
             elim (drew_or w k h s m other u (Some d) second) [
-              | inl older ↦ subst (λ q. (q < u) ⊎ (d < t)) (sym stamp) (apart_now w h k draws.0 t draws.1 s m other u d key v x holds draws.2 older a b)
+              | inl older ↦ subst (λ q. (q < u) ⊎ (d < t)) (sym stamp) (wrote_now w h k draws.0 t draws.1 s m other u d key v x holds draws.2 older a b)
               | inr both ↦ absurd (differ (same_transaction w k t u now.1 both.1))
             ]
       ];
-}
-
-pub memory_drew : (w : State) (h : List Item) (k : Drew w) → Holds w h → MemoryFacts w.setup (drew_state w k).nodes (h ++ drew_items w k)
-memory_drew w h k holds = record {
-  recorded = drew_records w h k holds;
-  apart = drew_apart w h k holds;
 }

@@ -5,8 +5,9 @@ use Rattle.std.specs.Option.{option_or}
 use Rattle.std.proofs.lemmas.Bool.{cases_Bool, eqb-true}
 use Rattle.std.proofs.lemmas.List.{append-nil}
 use Rattle.history_book.specs.Isolation.{Wrote, last_write, written_by}
+use Rattle.history_book.specs.declared.item.Found.{Found}
 use Rattle.history_book.specs.declared.item.Item.{Item}
-use Rattle.history_book.specs.declared.item.Item.TheVariants.{Draw, Write}
+use Rattle.history_book.specs.declared.item.Item.TheVariants.{Draw, Write, Read}
 use Rattle.history_book.proofs.HistoryLemmas.{last_write-push}
 use Rattle.history_book.proofs.MemberLemmas.{in_old}
 use Rattle.stamp_base.specs.SetupNumbers.{SetupNumbers}
@@ -14,10 +15,13 @@ use Rattle.oracle_parts.specs.Buckets.{contents}
 use Rattle.oracle_parts.specs.Instance.{InstanceEntry}
 use Rattle.isolation_laws.specs.Words.{InstanceAt, DrewCommit, HasDrawn, keys_with, written_keys, recorded_by, recorded}
 use Rattle.isolation_laws.specs.Quiet.{AllQuiet}
-use Rattle.isolation_laws.specs.Memory.{AreRecorded, MemoryFacts}
+use Rattle.isolation_laws.specs.ReadSets.{ReadFirst}
+use Rattle.isolation_laws.specs.Memory.{AreRecorded, DrawnSerial, MemoryFacts}
 use Rattle.isolation_laws.proofs.Lookups.{instance_changed, instance_ended}
 use Rattle.isolation_laws.proofs.Outcome.OutcomesOfRecord.{AlikeNodes}
 use Rattle.isolation_laws.proofs.Numbers.NumbersOfItems.{NoDraw}
+use Rattle.isolation_laws.proofs.Reading.ReadsStay.{quiet_no_reads}
+use Rattle.isolation_laws.proofs.Reading.FirstReads.{first_push, first_no_reads}
 use Rattle.isolation_laws.proofs.Pushed.{old_draw, drawn_on, last_write-quiet, written_keys-push, recorded-quiet, recorded-push}
 
 -- ---- instances with the same memory
@@ -55,6 +59,7 @@ pub record RecordsNothing (h g : List Item) : Type 0 where
   pub drew : (s n term t c : ℕ) → DrewCommit g s n term t c → DrewCommit h s n term t c
   pub goes : (t : ℕ) → HasDrawn h t → HasDrawn g t
   pub wrote : (t k : ℕ) (value : List ℕ) → HasDrawn h t → Wrote g t k value → Wrote h t k value
+  pub read : (t k : ℕ) → HasDrawn h t → ReadFirst g t k → ReadFirst h t k
 
 pub nothing_twice : (h g f : List Item) → RecordsNothing h g → RecordsNothing g f → RecordsNothing h f
 nothing_twice h g f first second = record {
@@ -62,6 +67,7 @@ nothing_twice h g f first second = record {
   drew = λ s n term t c drew. first.drew s n term t c (second.drew s n term t c drew);
   goes = λ t drew. second.goes t (first.goes t drew);
   wrote = λ t k value drew wrote. first.wrote t k value drew (second.wrote t k value (first.goes t drew) wrote);
+  read = λ t k drew read. first.read t k drew (second.read t k (first.goes t drew) read);
 }
 
 pub nothing_quiet : (h items : List Item) → AllQuiet items → RecordsNothing h (h ++ items)
@@ -70,11 +76,16 @@ nothing_quiet h items quiet = record {
   drew = λ s n term t c drew. old_draw h items s n term t (Some c) quiet drew;
   goes = λ t drew. drawn_on h items t drew;
   wrote = λ t k value drew wrote. sym (last_write-quiet h items t k quiet) ∙ wrote;
+  read = λ t k drew read. first_no_reads h items t k (quiet_no_reads items quiet) read;
 }
 
 -- the item writes for no transaction that has drawn
 abbrev pub WritesUndrawn : List Item → Item → Type 0
 WritesUndrawn h x = (s t k : ℕ) (value : List ℕ) → x ≡ Write s t k value → HasDrawn h t → ⊥
+
+-- the item answers a read of no transaction that has drawn
+abbrev pub ReadsUndrawn : List Item → Item → Type 0
+ReadsUndrawn h x = (s t k : ℕ) (answer : Option Found) → x ≡ Read s t k answer → HasDrawn h t → ⊥
 
 keys_unwritten : (keys : List ℕ) (t : ℕ) (x : Item) → ((s k : ℕ) (value : List ℕ) → x ≡ Write s t k value → ⊥) → keys_with keys t x ≡ keys
 keys_unwritten keys t (Write s u k value) other = elim (cases_Bool (u == t)) [
@@ -94,8 +105,8 @@ nothing_by : (h : List Item) (term : ℕ) (x : Item) → NoDraw x → recorded_b
 nothing_by h term (Draw s n drawn t commit) other = absurd (other s n drawn t commit refl)
 nothing_by h term _ other = refl
 
-pub nothing_push : (h : List Item) (x : Item) → NoDraw x → WritesUndrawn h x → RecordsNothing h (h ++ x ∷ [])
-nothing_push h x other undrawn = record {
+pub nothing_push : (h : List Item) (x : Item) → NoDraw x → WritesUndrawn h x → ReadsUndrawn h x → RecordsNothing h (h ++ x ∷ [])
+nothing_push h x other undrawn unread = record {
   same = λ term.
       recorded-push h x term (λ t drew. written_keys-push h x t ∙ keys_unwritten (written_keys h t) t x (λ s k value is. undrawn s t k value is drew))
       ∙ (ap (λ rest. recorded h term ++ rest) (nothing_by (h ++ x ∷ []) term x other) ∙ append-nil (recorded h term));
@@ -103,11 +114,15 @@ nothing_push h x other undrawn = record {
   goes = λ t drew. drawn_on h (x ∷ []) t drew;
   wrote = λ t k value drew wrote.
       ap (λ o. option_or o (last_write h t k)) (sym (unwritten t k x (λ s key v is. undrawn s t key v is drew))) ∙ (sym (last_write-push h x t k) ∙ wrote);
+  read = λ t k drew read. elim (first_push h x t k read) [
+    | inl old ↦ old
+    | inr now ↦ absurd (unread now.session t k now.answer now.item_is drew)
+  ];
 }
 
-pub nothing_more : (h : List Item) (x : Item) (items : List Item) → NoDraw x → WritesUndrawn h x → AllQuiet items → RecordsNothing h (h ++ x ∷ items)
-nothing_more h x items other undrawn quiet =
-    subst (λ all. RecordsNothing h all) (append_assoc h (x ∷ []) items) (nothing_twice h (h ++ x ∷ []) ((h ++ x ∷ []) ++ items) (nothing_push h x other undrawn) (nothing_quiet (h ++ x ∷ []) items quiet))
+pub nothing_more : (h : List Item) (x : Item) (items : List Item) → NoDraw x → WritesUndrawn h x → ReadsUndrawn h x → AllQuiet items → RecordsNothing h (h ++ x ∷ items)
+nothing_more h x items other undrawn unread quiet =
+    subst (λ all. RecordsNothing h all) (append_assoc h (x ∷ []) items) (nothing_twice h (h ++ x ∷ []) ((h ++ x ∷ []) ++ items) (nothing_push h x other undrawn unread) (nothing_quiet (h ++ x ∷ []) items quiet))
 
 -- ---- the facts
 has_drawn : (h : List Item) (s n term t c : ℕ) → DrewCommit h s n term t c → HasDrawn h t
@@ -120,6 +135,14 @@ recorded_same setup old new h g same records facts = record {
       was.2.buckets ∙ (facts.hold n was.0 was.1 ∙ ap (contents setup.buckets setup.width) (ap (recorded h) (sym was.2.term) ∙ sym (records j.term)));
 }
 
+serial_same : (h g : List Item) → RecordsNothing h g → DrawnSerial h → DrawnSerial g
+serial_same h g nothing serial = record {
+  stood = λ r s n m term other t d u c k value first second differ read wrote.
+      let a = nothing.drew r n term t d first in
+      let b = nothing.drew s m other u c second in
+      serial.stood r s n m term other t d u c k value a b differ (nothing.read t k (has_drawn h r n term t d a) read) (nothing.wrote u k value (has_drawn h s m other u c b) wrote);
+}
+
 pub memory_same : (setup : SetupNumbers) (old new : List (Option InstanceEntry)) (h g : List Item) → SameMemory old new → RecordsNothing h g → MemoryFacts setup old h → MemoryFacts setup new g
 memory_same setup old new h g same nothing facts = record {
   recorded = recorded_same setup old new h g same nothing.same facts.recorded;
@@ -129,4 +152,5 @@ memory_same setup old new h g same nothing facts = record {
         let b = nothing.drew s m other u d second in
         facts.apart.apart r s n m term other t c u d k v w a b differ (nothing.wrote t k v (has_drawn h r n term t c a) wrote) (nothing.wrote u k w (has_drawn h s m other u d b) also);
   };
+  serial = λ strict. serial_same h g nothing (facts.serial strict);
 }

@@ -29,13 +29,13 @@ has_there (first ∷ keys) key has = elim (cases_Bool (first == key)) [
   | inr not_it ↦ let more : has_key keys key ≡ true = rw not_it at has in further first keys key (has_there keys key more)
 ]
 
-added_there : (keys : List ℕ) (key : ℕ) → Contains (key_added keys key) key
+pub added_there : (keys : List ℕ) (key : ℕ) → Contains (key_added keys key) key
 added_there keys key = elim (cases_Bool (has_key keys key)) [
   | inl there ↦ rw there (has_there keys key there)
   | inr new ↦ rw new (Contains-push keys key)
 ]
 
-added_keeps : (keys : List ℕ) (key other : ℕ) → Contains keys other → Contains (key_added keys key) other
+pub added_keeps : (keys : List ℕ) (key other : ℕ) → Contains keys other → Contains (key_added keys key) other
 added_keeps keys key other has = elim (cases_Bool (has_key keys key)) [
   | inl there ↦ rw there has
   | inr new ↦ rw new (Contains-append_left keys (key ∷ []) other has)

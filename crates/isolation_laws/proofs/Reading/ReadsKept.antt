@@ -19,6 +19,7 @@ use Rattle.isolation_laws.proofs.Reading.ClientsReading.{FewerReading, same_read
 use Rattle.isolation_laws.proofs.Reading.ReadsStay.{NoReads, quiet_no_reads, then_no_reads, one_no_reads, draw_no_reads, ReadsRight, reads_stay, NoneComes, none_comes, same_comes, rely_placed, rely_wrote}
 use Rattle.isolation_laws.proofs.Reading.ReadsOfReads.{reads_stepped, reads_fetched}
 use Rattle.isolation_laws.proofs.Reading.ReadsLonger.{rely_calm}
+use Rattle.isolation_laws.proofs.Reading.ReadSetsKept.{read_sets_kept}
 use Rattle.isolation_laws.proofs.Numbers.Placings.{by_its_node}
 use Rattle.isolation_laws.proofs.Holding.Calmed.{calmed, reads_calmed}
 
@@ -47,7 +48,9 @@ all_reads_kept w h (OfSweepListed k) holds = with_one w h (Step Janitor (KeysSte
 all_reads_kept w h o holds = reads_calmed w h (left_by w o) (told_by_outcome w o) (calmed w h o holds refl) holds
 
 pub reads_kept : (w : State) (h : List Item) (o : Outcome w) → Holds w h → ReadFacts (left_by w o).setup (left_by w o).clients (left_by w o).nodes (left_by w o).rows (left_by w o).pairs (h ++ told_by_outcome w o)
-reads_kept w h o holds = (all_reads_kept w h o holds).facts
+reads_kept w h o holds =
+    let reads = all_reads_kept w h o holds in
+    record { reading = reads.reading; lasting = reads.lasting; read_sets = read_sets_kept w h o holds }
 
 pub right_reads_kept : (w : State) (h : List Item) (o : Outcome w) → Holds w h → AtEach (RightRead (h ++ told_by_outcome w o)) (h ++ told_by_outcome w o)
 right_reads_kept w h o holds = (all_reads_kept w h o holds).rights

@@ -110,10 +110,8 @@ reads_turn w h pairs x s b e k c kept turn quiet at same o marks good holds =
     let un : Calm h g = calm_turn h x s b k turn quiet in
     let rely : RelyOn w h w.nodes w.rows pairs g = rely_calm w h g w.nodes w.rows pairs un (same_comes w h) (shadows_same h w.rows) marks in
     record {
-      facts = record {
-        reading = reading_set w.setup w.clients w.nodes w.rows pairs g s b e c (client_read kept turn) at (read_keeps_entry kept turn ∙ same) o (turn_reads w h g pairs b e k kept turn un good) (reading_kept w h w.nodes w.rows pairs g rely holds);
-        lasting = turn_lasting w h pairs x s b e k turn quiet rely un good holds;
-      };
+      reading = reading_set w.setup w.clients w.nodes w.rows pairs g s b e c (client_read kept turn) at (read_keeps_entry kept turn ∙ same) o (turn_reads w h g pairs b e k kept turn un good) (reading_kept w h w.nodes w.rows pairs g rely holds);
+      lasting = turn_lasting w h pairs x s b e k turn quiet rely un good holds;
       rights = subst (AtEach (RightRead g)) (append_assoc h (x ∷ []) (read_items s b k turn))
           (turn_rights w h g pairs (h ++ x ∷ []) s b e k turn un (calm_quiet h (x ∷ []) (one_quiet x quiet)) good
           (rights_more g h (x ∷ []) (quiet_no_reads (x ∷ []) (one_quiet x quiet)) (right_kept w h w.nodes w.rows pairs g rely holds)));
@@ -126,16 +124,21 @@ open_by w s b e c d start epoch o = subst (λ x. OpenAt w.clients s x d) start (
 reading_by : (w : State) (h : List Item) (b e c d : ℕ) (r : Reading) → b ≡ c → e ≡ d → IsReading w.setup w.nodes w.rows w.pairs h b e r → IsReading w.setup w.nodes w.rows w.pairs h c d r
 reading_by w h b e c d r start epoch is = subst (λ x. IsReading w.setup w.nodes w.rows w.pairs h x d r) start (subst (λ y. IsReading w.setup w.nodes w.rows w.pairs h b y r) epoch is)
 
+pub stepped_open : (w : State) (h : List Item) (k : ReadStepped w) → Holds w h → OpenAt w.clients k.session k.r.start k.r.epoch
+stepped_open w h k holds =
+    let was = holds.reads.reading.reads k.session k.c k.r k.client_at k.under_way in
+    open_by w k.session was.0 was.1 k.r.start k.r.epoch (sym was.3.start_is) (sym was.3.epoch_is) was.2
+
 pub reads_stepped : (w : State) (h : List Item) (k : ReadStepped w) → Holds w h → ReadsRight w.setup (read_stepped_state w k).clients w.nodes w.rows (read_stepped_state w k).pairs (h ++ read_stepped_items w k)
 reads_stepped w h k holds =
     let was = holds.reads.reading.reads k.session k.c k.r k.client_at k.under_way in
-    let o : OpenAt w.clients k.session k.r.start k.r.epoch = open_by w k.session was.0 was.1 k.r.start k.r.epoch (sym was.3.start_is) (sym was.3.epoch_is) was.2 in
+    let o : OpenAt w.clients k.session k.r.start k.r.epoch = stepped_open w h k holds in
     let is : IsReading w.setup w.nodes w.rows w.pairs h k.r.start k.r.epoch k.r = reading_by w h was.0 was.1 k.r.start k.r.epoch k.r (sym was.3.start_is) (sym was.3.epoch_is) was.3 in
     reads_turn w h (pairs_after (read_ask k.r) w.pairs) k.first k.session k.r.start k.r.epoch k.r.key k.c k.c (read_turn w k.r) k.quiet k.client_at refl o (marks_after (read_ask k.r) w.pairs)
     (good_turn w h (pairs_after (read_ask k.r) w.pairs) k.r.start k.r.epoch k.r.key (read_turn w k.r) is.own (step_right w h k.session k.r holds o is)) holds
 
 -- ---- a fetch
-fetched_open : (w : State) (k : Fetched w) → OpenAt w.clients k.it.session k.start k.epoch
+pub fetched_open : (w : State) (k : Fetched w) → OpenAt w.clients k.it.session k.start k.epoch
 fetched_open w k = record { client = k.it.c; at = k.it.client_at; state_is = k.it.is_open; start_is = k.start_is; epoch_is = ap epoch_or_none k.epoch_is }
 
 -- the reader's own cell comes first, and answers

@@ -24,7 +24,7 @@ use Rattle.machine.specs.Events.Decide.{draw_item}
 use Rattle.isolation_laws.specs.Words.{epoch_or_none, OpenAt, Begun}
 use Rattle.isolation_laws.specs.Pending.{IsStageBelow, ComesBelow, IsPending}
 use Rattle.isolation_laws.specs.Quiet.{AllQuiet}
-use Rattle.isolation_laws.specs.Reads.{ReadFacts}
+use Rattle.isolation_laws.specs.Reads.{AreReading, AreLastingReads}
 use Rattle.isolation_laws.specs.Holds.{Holds}
 use Rattle.isolation_laws.proofs.Lookups.{one_client}
 use Rattle.isolation_laws.proofs.Outcome.OutcomesOfRequests.{Accepted, accepted_state}
@@ -83,19 +83,18 @@ rights_more g h (x ∷ items) none rights = subst (AtEach (RightRead g)) (append
 
 -- ---- what an outcome leaves of reads
 pub record ReadsRight (setup : SetupNumbers) (clients : List Client) (nodes : List (Option InstanceEntry)) (rows : List Row) (pairs : Pairs) (g : List Item) : Type 0 where
-  pub facts : ReadFacts setup clients nodes rows pairs g
+  pub reading : AreReading setup clients nodes rows pairs g
+  pub lasting : AreLastingReads nodes pairs g
   pub rights : AtEach (RightRead g) g
 
 pub reads_stay : (w : State) (h items : List Item) (nodes : List (Option InstanceEntry)) (rows : List Row) (pairs : Pairs) (clients : List Client) → NoReads items → RelyOn w h nodes rows pairs (h ++ items) → FewerReading w.clients clients → Holds w h → ReadsRight w.setup clients nodes rows pairs (h ++ items)
 reads_stay w h items nodes rows pairs clients none rely fewer holds = record {
-  facts = record {
-    reading = reading_fewer w.setup w.clients clients nodes rows pairs (h ++ items) fewer (reading_kept w h nodes rows pairs (h ++ items) rely holds);
-    lasting = record {
-      lasts = λ s b k u answer value m comes wrote. elim (in_append (Read s b k answer) h items m) [
-        | inl old ↦ lasts_on w h nodes rows pairs (h ++ items) s b k u answer value rely holds old comes wrote
-        | inr new ↦ absurd (none s b k answer new)
-      ];
-    };
+  reading = reading_fewer w.setup w.clients clients nodes rows pairs (h ++ items) fewer (reading_kept w h nodes rows pairs (h ++ items) rely holds);
+  lasting = record {
+    lasts = λ s b k u answer value m comes wrote. elim (in_append (Read s b k answer) h items m) [
+      | inl old ↦ lasts_on w h nodes rows pairs (h ++ items) s b k u answer value rely holds old comes wrote
+      | inr new ↦ absurd (none s b k answer new)
+    ];
   };
   rights = rights_more (h ++ items) h items none (right_kept w h nodes rows pairs (h ++ items) rely holds);
 }

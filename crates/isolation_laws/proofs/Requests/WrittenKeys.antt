@@ -51,7 +51,7 @@ added_stays keys k j m = elim (cases_Bool (has_key keys j)) [
   | inr has ↦ rw has (in_front k keys (j ∷ []) m)
 ]
 
-has_key_in : (keys : List ℕ) (k : ℕ) → has_key keys k ≡ true → k ∈ keys
+pub has_key_in : (keys : List ℕ) (k : ℕ) → has_key keys k ≡ true → k ∈ keys
 unfolding ◌∈◌
 has_key_in [] k has = absurd (cc)
 has_key_in (j ∷ keys) k has = elim (cases_eq j k) [
