@@ -11,7 +11,7 @@ use Rattle.machine.specs.Events.Heal.{offer_of}
 use Rattle.machine.specs.declared.event.Event.{Event}
 use Rattle.machine.specs.declared.event.Event.TheVariants as event
 use Rattle.machine.specs.Machine.{Step, nothing, at_post, at_client, at_both, with_reading, stepped}
-use Rattle.machine.specs.Events.Fetch.{marks_every}
+use Rattle.machine.specs.Events.Fetch.{fetch_refused}
 use Rattle.line_steps.proofs.Fitting.{ClientFits, AllFit, fit_at, fit_set, ask_begin_fits, ask_commit_fits, accept_fits, decide_fits, answer_fits, crash_fits, crash_long}
 use Rattle.machine.specs.Machine.{step_by as machine_step_by}
 use Rattle.machine.specs.State.{client_new, opening}
@@ -106,7 +106,7 @@ always w (event.Decide node s) fate fit = by_both w (FitStep w) _ (fits_still w 
 always w (event.Put node s) fate fit = by_post w (FitStep w) _ (fits_still w w fit.epochs refl refl refl) (λ post. node_fits w node _ _ fit.epochs refl refl refl) (slice_get w.nodes node)
 always w (event.Answer node s) fate fit = by_both w (FitStep w) _ (fits_still w w fit.epochs refl refl refl) (slice_get w.nodes node) (slice_get w.clients s) (λ post c at. both_fit w node s _ _ _ fit.epochs refl refl refl (answer_fits node s post c (fit_at w.clients s c fit.epochs at)))
 always w (event.Write s key value) fate fit = by_client w (FitStep w) _ (fits_still w w fit.epochs refl refl refl) (slice_get w.clients s) (λ c at. one_fits w s _ _ fit.epochs refl refl refl (write_fits s key value fate c w.rows (write_refused c key) c.entry.start (fit_at w.clients s c fit.epochs at)))
-always w (event.Fetch s key) fate fit = by_client w (FitStep w) _ (fits_still w w fit.epochs refl refl refl) (slice_get w.clients s) (λ c at. one_fits w s _ _ fit.epochs refl refl refl (fetch_fits (marks_every w.setup) s key fate c w.rows (work_refusal c.entry.state (is_reading c)) c.entry.start c.entry.epoch (fit_at w.clients s c fit.epochs at)))
+always w (event.Fetch s key) fate fit = by_client w (FitStep w) _ (fits_still w w fit.epochs refl refl refl) (slice_get w.clients s) (λ c at. one_fits w s _ _ fit.epochs refl refl refl (fetch_fits w.setup s key fate c w.rows (fetch_refused w.setup c key) c.entry.start c.entry.epoch (fit_at w.clients s c fit.epochs at)))
 always w (event.Step s) fate fit = by_client w (FitStep w) _ (fits_still w w fit.epochs refl refl refl) (slice_get w.clients s) (λ c at. one_fits w s _ _ fit.epochs refl refl refl (step_fits s fate c w.rows w.pairs (step_refusal c.entry.state (is_reading c)) (fit_at w.clients s c fit.epochs at)))
 always w (event.Heal s) fate fit = by_client w (FitStep w) _ (fits_still w w fit.epochs refl refl refl) (slice_get w.clients s) (λ c at. one_fits w s _ _ fit.epochs refl refl refl (heal_fits s fate c w.rows w.pairs (offer_of c) (fit_at w.clients s c fit.epochs at)))
 always w (event.Abort s) fate fit = by_client w (FitStep w) _ (fits_still w w fit.epochs refl refl refl) (slice_get w.clients s) (λ c at. one_fits w s _ _ fit.epochs refl refl refl (abort_fits s c (work_refusal c.entry.state (is_reading c)) c.entry.start (fit_at w.clients s c fit.epochs at)))

@@ -23,8 +23,8 @@ use Rattle.isolation_laws.specs.Words.{InstanceAt, ClientAt}
 use Rattle.isolation_laws.proofs.Lookups.{set_found}
 use Rattle.line_steps.specs.Left.{of_client, client_completes, client_ends, lacks_stamps, place_left, drive_left}
 use Rattle.line_steps.proofs.Clients.{client_now, refused_left}
-use Rattle.oracle_parts.specs.InstanceSteps.{InstanceStep, IsStop, out_of_stamps, decide_drawn, decide_by as verdict_by, request_verdict, decide_if_accepted, decide_held}
-use Rattle.machine.specs.Events.Decide.{decide_by, decide_request, decide_on}
+use Rattle.oracle_parts.specs.InstanceSteps.{InstanceStep, IsStop, out_of_stamps, decide_drawn, decide_by as verdict_by}
+use Rattle.machine.specs.Events.Decide.{both_verdict, both_if_accepted, both_held, decide_by, decide_request, decide_on}
 use Rattle.isolation_laws.specs.Sound.{StopOf}
 use Rattle.line_steps.proofs.Serving.{Lowers, Serving, left_to_drive, node_step, on_both, goes_on, ends_so}
 
@@ -32,12 +32,12 @@ use Rattle.line_steps.proofs.Serving.{Lowers, Serving, left_to_drive, node_step,
 abbrev decide_effect : ℕ → ℕ → Held → Client → InstanceStep Decided → Effect (Option InstanceEntry × Client)
 decide_effect node s held c step = decide_by node s held step.left c step.answer
 
-decide_is : (w : State) (node s : ℕ) (fate : Fate) (i : InstanceEntry) (held : Held) (c : Client) → InstanceAt w.nodes node i → ClientAt w.clients s c → held_of i s ≡ Some held → held.progress ≡ progress.Accepted → stepped w (event.Decide node s) fate ≡ node_step w node s (decide_effect node s held c (verdict_by i s held (request_verdict i.buckets held.request)))
+decide_is : (w : State) (node s : ℕ) (fate : Fate) (i : InstanceEntry) (held : Held) (c : Client) → InstanceAt w.nodes node i → ClientAt w.clients s c → held_of i s ≡ Some held → held.progress ≡ progress.Accepted → stepped w (event.Decide node s) fate ≡ node_step w node s (decide_effect node s held c (verdict_by i s held (both_verdict i.buckets c.reads held.request)))
 decide_is w node s fate i held c at client_at has accepted =
     on_both w node s i c (decide_on node s) at client_at
     ∙ ap (λ (found : Option Held). node_step w node s (decide_request node s i c found)) has
-    ∙ ap (λ (found : Option Held). node_step w node s (decide_effect node s held c (decide_held i s found))) has
-    ∙ ap (λ (p : Progress). node_step w node s (decide_effect node s held c (decide_if_accepted i s held p))) accepted
+    ∙ ap (λ (found : Option Held). node_step w node s (decide_effect node s held c (both_held i s c.reads found))) has
+    ∙ ap (λ (p : Progress). node_step w node s (decide_effect node s held c (both_if_accepted i s c.reads held p))) accepted
 
 -- what a decision takes at least
 accepted_least : (lacks : Bool) → 3 ≤ place_left lacks place.Accepted
@@ -95,4 +95,4 @@ decided w h node s verb k (Hidden key water) = decide_ends w h node s k
 pub decide_lowers : (w : State) (h : List Item) (node s : ℕ) (fate : Fate) (verb : Verb) (k : Serving w h s (node, place.Accepted)) → k.served.held.progress ≡ progress.Accepted → Lowers w s verb (stepped w (event.Decide node s) fate)
 decide_lowers w h node s fate verb k accepted =
     let i : InstanceEntry = k.served.holder.i in
-    subst (λ (step : Step). Lowers w s verb step) (sym (decide_is w node s fate i k.served.held k.c k.served.holder.at k.client_at k.served.holder.has accepted)) (decided w h node s verb k (request_verdict i.buckets k.served.held.request))
+    subst (λ (step : Step). Lowers w s verb step) (sym (decide_is w node s fate i k.served.held k.c k.served.holder.at k.client_at k.served.holder.has accepted)) (decided w h node s verb k (both_verdict i.buckets k.c.reads k.served.held.request))

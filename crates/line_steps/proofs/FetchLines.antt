@@ -1,8 +1,11 @@
 -- The fetch of a read line answers it; and then the read has ended, or is under way.
-use Rattle.std.proofs.Common.{◌≡◌, ℕ, Bool, true, false, List, [], ◌∷◌, Option, Some, None, ◌⊎◌, inl, inr, refl, sym, subst, length}
+use Rattle.std.proofs.Common.{◌≡◌, ℕ, Bool, true, false, cond, nat_lt, ◌||◌, List, [], ◌∷◌, Option, Some, None, ◌⊎◌, inl, inr, refl, sym, subst, length}
+use Rattle.std.specs.Option.{option_or}
+use Rattle.stamp_base.specs.declared.limits.TheConstants.{KEY_LIMIT}
 use Rattle.port_io.specs.declared.weather.Fate.{Fate}
 use Rattle.port_io.specs.declared.weather.Fate.TheVariants.{Works, FailsUnchanged, FailsApplied}
 use Rattle.history_book.specs.declared.cause.Cause.{Cause}
+use Rattle.history_book.specs.declared.cause.Cause.TheVariants as cause
 use Rattle.history_book.specs.declared.item.Actor.TheVariants.{Session}
 use Rattle.history_book.specs.declared.item.StoreStep.TheVariants as step
 use Rattle.history_book.specs.declared.item.Item.{Item}
@@ -12,12 +15,12 @@ use Rattle.store_parts.specs.Rows.{fetched, front_of}
 use Rattle.client_parts.specs.declared.session.State.{State as SessionState}
 use Rattle.client_parts.specs.declared.session.State.TheVariants as phase
 use Rattle.client_parts.specs.KeyRead.{ReadTurn, Asks, Answers, read_over}
-use Rattle.client_parts.specs.SessionSteps.{work_refusal}
+use Rattle.client_parts.specs.SessionSteps.{work_refusal, has_key}
 use Rattle.machine.specs.declared.event.Event.TheVariants as event
 use Rattle.machine.specs.State.{Client, State}
 use Rattle.machine.specs.Clients.{is_reading}
 use Rattle.machine.specs.Machine.{Step, step_by, with_client, at_client, stepped}
-use Rattle.machine.specs.Events.Fetch.{marks_every, found_of, client_read, read_items, fetch_open, fetch_on}
+use Rattle.machine.specs.Events.Fetch.{marks_every, keeps_read, reads_refusal, client_fetched, found_of, client_read, read_items, fetch_open, fetch_on}
 use Rattle.script_data.specs.declared.line.Verb.TheVariants as verb
 use Rattle.isolation_laws.specs.Words.{ClientAt}
 use Rattle.isolation_laws.specs.Sound.{Stands}
@@ -51,9 +54,9 @@ fault_line : (s key : ℕ) (store : Store) → LineItems (Session s) (Session s)
 unfolding AllNot
 fault_line s key store = record { first = item.Fault (Session s) store; rest = []; is = refl; answers = inr (inl refl); behind = tt }
 
-turn_done : (w : State) (s key start cells : ℕ) (c : Client) (turn : ReadTurn) → ClientAt w.clients s c → c.entry.state ≡ phase.Open → OfRead key start turn → FetchDone s key (record { state = with_client w s (client_read c turn); items = item.Step (Session s) (step.Fetch key cells) ∷ read_items s start key turn; stop = None })
+turn_done : (w : State) (s key start cells : ℕ) (was c : Client) (turn : ReadTurn) → ClientAt w.clients s was → c.entry.state ≡ phase.Open → OfRead key start turn → FetchDone s key (record { state = with_client w s (client_read c turn); items = item.Step (Session s) (step.Fetch key cells) ∷ read_items s start key turn; stop = None })
 unfolding AllNot
-turn_done w s key start cells c (Asks r) at is_open same = inr (
+turn_done w s key start cells was c (Asks r) at is_open same = inr (
   record {
     first = item.Step (Session s) (step.Fetch key cells);
     rest = [];
@@ -61,11 +64,11 @@ turn_done w s key start cells c (Asks r) at is_open same = inr (
     answers = inl (refl, refl);
     begun = refl;
     none = tt;
-    reads = record { c = client_read c (Asks r); at = set_found w.clients s (client_read c (Asks r)) c at; work = record { r = r; is_open = is_open; under_way = refl }; key_is = same.0 };
+    reads = record { c = client_read c (Asks r); at = set_found w.clients s (client_read c (Asks r)) was at; work = record { r = r; is_open = is_open; under_way = refl }; key_is = same.0 };
   },
   refl,
 )
-turn_done w s key start cells c (Answers a) at is_open same = inl (record {
+turn_done w s key start cells was c (Answers a) at is_open same = inl (record {
   first = item.Step (Session s) (step.Fetch key cells);
   rest = item.Read s start key (found_of a.found) ∷ [];
   is = refl;
@@ -73,16 +76,23 @@ turn_done w s key start cells c (Answers a) at is_open same = inl (record {
   behind = read_pays s start key key a.found refl;
 })
 
-open_done : (w : State) (s key : ℕ) (fate : Fate) (c : Client) (start epoch : Option ℕ) → ClientAt w.clients s c → c.entry.state ≡ phase.Open → HasNumber phase.Open start → HasNumber phase.Open epoch → FetchDone s key (step_by (fetch_open (marks_every w.setup) s key fate c w.rows None start epoch) (λ (p : Client). with_client w s p))
+open_done : (w : State) (s key : ℕ) (fate : Fate) (c : Client) (start epoch : Option ℕ) → ClientAt w.clients s c → c.entry.state ≡ phase.Open → HasNumber phase.Open start → HasNumber phase.Open epoch → FetchDone s key (step_by (fetch_open w.setup s key fate c w.rows None start epoch) (λ (p : Client). with_client w s p))
 open_done w s key fate c None epoch at is_open has sees = absurd has
 open_done w s key fate c (Some start) None at is_open has sees = absurd sees
-open_done w s key Works c (Some start) (Some epoch) at is_open has sees = turn_done w s key start (length (fetched w.rows key start)) c (read_over (marks_every w.setup) key start epoch (front_of start (fetched w.rows key start))) at is_open (over_read (marks_every w.setup) key start epoch (front_of start (fetched w.rows key start)))
+open_done w s key Works c (Some start) (Some epoch) at is_open has sees = turn_done w s key start (length (fetched w.rows key start)) c (client_fetched w.setup c key) (read_over (marks_every w.setup) key start epoch (front_of start (fetched w.rows key start))) at is_open (over_read (marks_every w.setup) key start epoch (front_of start (fetched w.rows key start)))
 open_done w s key FailsUnchanged c (Some start) (Some epoch) at is_open has sees = inl (fault_line s key _)
 open_done w s key FailsApplied c (Some start) (Some epoch) at is_open has sees = inl (fault_line s key _)
 
-done_by : (w : State) (s key : ℕ) (fate : Fate) (c : Client) (state : SessionState) (reading : Bool) (start epoch : Option ℕ) → ClientAt w.clients s c → c.entry.state ≡ state → HasNumber state start → HasNumber state epoch → FetchDone s key (step_by (fetch_open (marks_every w.setup) s key fate c w.rows (work_refusal state reading) start epoch) (λ (p : Client). with_client w s p))
+-- a key that is to be kept has no room
+room_done : (w : State) (s key : ℕ) (fate : Fate) (c : Client) (start epoch : Option ℕ) (kept room : Bool) → ClientAt w.clients s c → c.entry.state ≡ phase.Open → HasNumber phase.Open start → HasNumber phase.Open epoch
+    → FetchDone s key (step_by (fetch_open w.setup s key fate c w.rows (cond kept (cond room None (Some cause.TooManyKeys)) None) start epoch) (λ (p : Client). with_client w s p))
+room_done w s key fate c start epoch true false at is_open has sees = inl (refusal_line s key _ tt)
+room_done w s key fate c start epoch true true at is_open has sees = open_done w s key fate c start epoch at is_open has sees
+room_done w s key fate c start epoch false room at is_open has sees = open_done w s key fate c start epoch at is_open has sees
+
+done_by : (w : State) (s key : ℕ) (fate : Fate) (c : Client) (state : SessionState) (reading : Bool) (start epoch : Option ℕ) → ClientAt w.clients s c → c.entry.state ≡ state → HasNumber state start → HasNumber state epoch → FetchDone s key (step_by (fetch_open w.setup s key fate c w.rows (option_or (work_refusal state reading) (reads_refusal w.setup c key)) start epoch) (λ (p : Client). with_client w s p))
 done_by w s key fate c phase.Open true start epoch at is has sees = inl (refusal_line s key _ tt)
-done_by w s key fate c phase.Open false start epoch at is has sees = open_done w s key fate c start epoch at is has sees
+done_by w s key fate c phase.Open false start epoch at is has sees = room_done w s key fate c start epoch (keeps_read w.setup c key) (has_key c.reads key || nat_lt (length c.reads) KEY_LIMIT) at is has sees
 done_by w s key fate c phase.Free reading start epoch at is has sees = inl (refusal_line s key _ tt)
 done_by w s key fate c phase.Asking reading start epoch at is has sees = inl (refusal_line s key _ tt)
 done_by w s key fate c phase.Committing reading start epoch at is has sees = inl (refusal_line s key _ tt)
@@ -92,4 +102,4 @@ done_by w s key fate c phase.Gone reading start epoch at is has sees = inl (refu
 
 pub fetch_done : (w : State) (h : List Item) (s key : ℕ) (fate : Fate) (c : Client) → Stands w h → Fit w → ClientAt w.clients s c → FetchDone s key (stepped w (event.Fetch s key) fate)
 fetch_done w h s key fate c stands fit at =
-    subst (λ (there : Option Client). FetchDone s key (at_client w there (λ d. step_by (fetch_on (marks_every w.setup) s key fate d w.rows) (λ (p : Client). with_client w s p)))) (sym at) (done_by w s key fate c c.entry.state (is_reading c) c.entry.start c.entry.epoch at refl (starts w h s c stands at) (fit_at w.clients s c fit.epochs at))
+    subst (λ (there : Option Client). FetchDone s key (at_client w there (λ d. step_by (fetch_on w.setup s key fate d w.rows) (λ (p : Client). with_client w s p)))) (sym at) (done_by w s key fate c c.entry.state (is_reading c) c.entry.start c.entry.epoch at refl (starts w h s c stands at) (fit_at w.clients s c fit.epochs at))

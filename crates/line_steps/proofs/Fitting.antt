@@ -15,13 +15,13 @@ use Rattle.oracle_parts.specs.declared.instance.Reply.TheVariants as reply
 use Rattle.oracle_parts.specs.declared.instance.Request.{Request}
 use Rattle.oracle_parts.specs.declared.instance.Request.TheVariants.{Begin, Commit}
 use Rattle.oracle_parts.specs.Instance.{InstanceEntry, held_of, stamps_at}
-use Rattle.oracle_parts.specs.InstanceSteps.{InstanceStep, instance_ask, instance_accept, instance_decide, instance_answer}
+use Rattle.oracle_parts.specs.InstanceSteps.{InstanceStep, instance_ask, instance_accept, instance_answer}
 use Rattle.machine.specs.State.{Client}
 use Rattle.machine.specs.Clients.{is_reading, client_begun, client_freed, client_aborted, client_committed, client_opened, unless_gone, unless_gone_by, after_refusal}
 use Rattle.machine.specs.Events.AskBegin.{asked_by, ask_begin_by, ask_begin_on}
 use Rattle.machine.specs.Events.AskCommit.{commit_of, ask_commit_by, ask_commit_on}
 use Rattle.machine.specs.Events.Accept.{accept_by, accept_request, accept_on}
-use Rattle.machine.specs.Events.Decide.{decide_by, decide_request, decide_on}
+use Rattle.machine.specs.Events.Decide.{decide_both, decide_by, decide_request, decide_on}
 use Rattle.machine.specs.Events.Answer.{answer_by, answer_request, answer_on}
 use Rattle.machine.specs.Events.Crash.{after_loss, crashed_client, crashed_clients}
 
@@ -130,7 +130,7 @@ decide_fits_by node s held left c (Err _) fit = refused_fits held.request c fit
 
 decide_fits_held : (node s : ℕ) (i : InstanceEntry) (c : Client) (held : Option Held) → ClientFits c → ClientFits (decide_request node s i c held).parts.1
 decide_fits_held node s i c None fit = fit
-decide_fits_held node s i c (Some held) fit = decide_fits_by node s held (instance_decide i s).left c (instance_decide i s).answer fit
+decide_fits_held node s i c (Some held) fit = decide_fits_by node s held (decide_both i s c.reads).left c (decide_both i s c.reads).answer fit
 
 pub decide_fits : (node s : ℕ) (post : Option InstanceEntry) (c : Client) → ClientFits c → ClientFits (decide_on node s post c).parts.1
 decide_fits node s None c fit = fit

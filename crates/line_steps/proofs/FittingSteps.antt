@@ -1,5 +1,6 @@
 -- A session's own events keep that an open transaction has an epoch.
-use Rattle.std.proofs.Common.{Bool, ℕ, List, [], ◌∷◌, Option, Some, None}
+use Rattle.std.proofs.Common.{ℕ, List, [], ◌∷◌, Option, Some, None}
+use Rattle.stamp_base.specs.SetupNumbers.{SetupNumbers}
 use Rattle.port_io.specs.declared.weather.Fate.{Fate}
 use Rattle.port_io.specs.declared.weather.Fate.TheVariants.{Works, FailsUnchanged, FailsApplied}
 use Rattle.history_book.specs.declared.cause.Cause.{Cause}
@@ -11,7 +12,7 @@ use Rattle.client_parts.specs.Resolve.{Settling, SettleTurn, Goes, Decides, sett
 use Rattle.client_parts.specs.KeyRead.{ReadTurn, Asks, Answers, read_over, read_told}
 use Rattle.machine.specs.State.{UnderWay, Nothing, Reads, Settles, Completes, Client}
 use Rattle.machine.specs.Events.Write.{client_wrote, write_open}
-use Rattle.machine.specs.Events.Fetch.{client_read, fetch_open}
+use Rattle.machine.specs.Events.Fetch.{marks_every, client_fetched, client_read, fetch_open}
 use Rattle.machine.specs.Events.Step.{client_settled, after_asks, work_of, step_at, step_by}
 use Rattle.machine.specs.Events.Heal.{heal_at}
 use Rattle.machine.specs.Events.Abort.{abort_by}
@@ -29,13 +30,13 @@ turn_fits : (c : Client) (turn : ReadTurn) → ClientFits c → ClientFits (clie
 turn_fits c (Asks r) fit = fit
 turn_fits c (Answers a) fit = fit
 
-pub fetch_fits : (every : Bool) (s key : ℕ) (fate : Fate) (c : Client) (rows : List Row) (why : Option Cause) (start epoch : Option ℕ) → ClientFits c → ClientFits (fetch_open every s key fate c rows why start epoch).parts
-fetch_fits every s key fate c rows (Some why) start epoch fit = fit
-fetch_fits every s key fate c rows None None epoch fit = fit
-fetch_fits every s key fate c rows None (Some start) None fit = fit
-fetch_fits every s key Works c rows None (Some start) (Some epoch) fit = turn_fits c (read_over every key start epoch (front_of start (fetched rows key start))) fit
-fetch_fits every s key FailsUnchanged c rows None (Some start) (Some epoch) fit = fit
-fetch_fits every s key FailsApplied c rows None (Some start) (Some epoch) fit = fit
+pub fetch_fits : (setup : SetupNumbers) (s key : ℕ) (fate : Fate) (c : Client) (rows : List Row) (why : Option Cause) (start epoch : Option ℕ) → ClientFits c → ClientFits (fetch_open setup s key fate c rows why start epoch).parts
+fetch_fits setup s key fate c rows (Some why) start epoch fit = fit
+fetch_fits setup s key fate c rows None None epoch fit = fit
+fetch_fits setup s key fate c rows None (Some start) None fit = fit
+fetch_fits setup s key Works c rows None (Some start) (Some epoch) fit = turn_fits (client_fetched setup c key) (read_over (marks_every setup) key start epoch (front_of start (fetched rows key start))) fit
+fetch_fits setup s key FailsUnchanged c rows None (Some start) (Some epoch) fit = fit
+fetch_fits setup s key FailsApplied c rows None (Some start) (Some epoch) fit = fit
 
 settle_fits : (c : Client) (x : Settling) (turn : SettleTurn) → ClientFits c → ClientFits (client_settled c x turn)
 settle_fits c x (Goes point) fit = fit

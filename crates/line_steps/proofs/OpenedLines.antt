@@ -16,7 +16,6 @@ use Rattle.machine.specs.State.{Client, State}
 use Rattle.machine.specs.Machine.{Step, at_post, at_client, at_both, with_reading, stepped}
 use Rattle.script_data.specs.declared.line.Verb.{Verb}
 use Rattle.script_data.specs.declared.line.Verb.TheVariants as verb
-use Rattle.machine.specs.Events.Fetch.{marks_every}
 use Rattle.isolation_laws.specs.Sound.{Stands}
 use Rattle.line_steps.specs.declared.point.Point.TheVariants.{Opens}
 use Rattle.line_steps.specs.declared.point.View.{View}
@@ -91,7 +90,7 @@ wrote w h s key value fate stands fit in_range =
 fetches : (w : State) (h : List Item) (s key : ℕ) (fate : Fate) → Stands w h → Fit w → s < 16 → Answered w (Session s) (verb.Fetch key) (event.Fetch s key) fate
 fetches w h s key fate stands fit in_range =
     let mine = client_at w s fit in_range in
-    at_session _ w _ (slice_get w.clients s) mine.0 mine.1 (weaken _ _ _ (λ x. either _ _ _) (fetch_begins (marks_every w.setup) s key fate mine.0 w.rows (starts w h s mine.0 stands mine.1) (fit_at w.clients s mine.0 fit.epochs mine.1)))
+    at_session _ w _ (slice_get w.clients s) mine.0 mine.1 (weaken _ _ _ (λ x. either _ _ _) (fetch_begins w.setup s key fate mine.0 w.rows (starts w h s mine.0 stands mine.1) (fit_at w.clients s mine.0 fit.epochs mine.1)))
 
 vanished : (w : State) (s : ℕ) (fate : Fate) → Fit w → s < 16 → Answered w (Session s) verb.Vanish (event.Vanish s) fate
 vanished w s fate fit in_range =

@@ -1,6 +1,7 @@
 -- The first event of a session's line lowers what is left.
 use Rattle.std.proofs.Common.{◌≡◌, ℕ, ◌+◌, ◌*◌, ◌<◌, ◌≤◌, Bool, true, false, List, [], ◌∷◌, Option, Some, None, Result, Ok, Err, refl, ap, arith}
 use Rattle.std.specs.Prelude.{slice_get, slice_set}
+use Rattle.stamp_base.specs.SetupNumbers.{SetupNumbers}
 use Rattle.port_io.specs.declared.weather.Fate.{Fate}
 use Rattle.port_io.specs.declared.weather.Fate.TheVariants.{Works, FailsUnchanged, FailsApplied}
 use Rattle.history_book.specs.declared.cause.Cause.{Cause}
@@ -23,7 +24,7 @@ use Rattle.machine.specs.Events.AskBegin.{asked_by, ask_begin_by, ask_begin_on}
 use Rattle.machine.specs.Events.AskCommit.{commit_of, ask_commit_by, ask_commit_on}
 use Rattle.machine.specs.Events.Write.{client_wrote, write_refused, write_open, write_on}
 use Rattle.machine.specs.Events.Abort.{abort_by, abort_on}
-use Rattle.machine.specs.Events.Fetch.{marks_every, client_read, fetch_open, fetch_on}
+use Rattle.machine.specs.Events.Fetch.{marks_every, client_fetched, fetch_refused, client_read, fetch_open, fetch_on}
 use Rattle.machine.specs.Readers.{place_of}
 use Rattle.script_data.specs.declared.line.Verb.{Verb}
 use Rattle.line_steps.specs.declared.point.Halt.{Halt}
@@ -156,16 +157,16 @@ turn_most : (ends : ReadsEnd) (every : Bool) (c : Client) (rows : List Row) (key
 turn_most ends every c rows key start epoch (Asks r) is = omega (arith, ends.0 every key start epoch (front_of start (fetched rows key start)) r is)
 turn_most ends every c rows key start epoch (Answers a) is = omega arith
 
-fetched_most : (ends : ReadsEnd) (every : Bool) (s key : ℕ) (fate : Fate) (c : Client) (rows : List Row) (why : Option Cause) (start epoch : Option ℕ) → client_reads (fetch_open every s key fate c rows why start epoch).parts ≤ 3 * cells_by rows key start + client_reads c
-fetched_most ends every s key fate c rows (Some why) start epoch = omega arith
-fetched_most ends every s key fate c rows None None epoch = omega arith
-fetched_most ends every s key fate c rows None (Some start) None = omega arith
-fetched_most ends every s key Works c rows None (Some start) (Some epoch) = turn_most ends every c rows key start epoch (read_over every key start epoch (front_of start (fetched rows key start))) refl
-fetched_most ends every s key FailsUnchanged c rows None (Some start) (Some epoch) = omega arith
-fetched_most ends every s key FailsApplied c rows None (Some start) (Some epoch) = omega arith
+fetched_most : (ends : ReadsEnd) (setup : SetupNumbers) (s key : ℕ) (fate : Fate) (c : Client) (rows : List Row) (why : Option Cause) (start epoch : Option ℕ) → client_reads (fetch_open setup s key fate c rows why start epoch).parts ≤ 3 * cells_by rows key start + client_reads c
+fetched_most ends setup s key fate c rows (Some why) start epoch = omega arith
+fetched_most ends setup s key fate c rows None None epoch = omega arith
+fetched_most ends setup s key fate c rows None (Some start) None = omega arith
+fetched_most ends setup s key Works c rows None (Some start) (Some epoch) = turn_most ends (marks_every setup) (client_fetched setup c key) rows key start epoch (read_over (marks_every setup) key start epoch (front_of start (fetched rows key start))) refl
+fetched_most ends setup s key FailsUnchanged c rows None (Some start) (Some epoch) = omega arith
+fetched_most ends setup s key FailsApplied c rows None (Some start) (Some epoch) = omega arith
 
 pub fetch_lowers : (ends : ReadsEnd) (w : State) (s key : ℕ) (verb : Verb) (fate : Fate) → let step : Step = stepped w (event.Fetch s key) fate in session_left step.state s verb (unless_halted Reads (halt_of step.stop)) < 1 + of_client (slice_get w.clients s) (client_fetches w.rows key)
 fetch_lowers ends w s key verb fate =
     let step : Step = stepped w (event.Fetch s key) fate in
-    let most : of_client (slice_get step.state.clients s) client_reads ≤ of_client (slice_get w.clients s) (client_fetches w.rows key) = client_most w s (λ (c : Client). step_by (fetch_on (marks_every w.setup) s key fate c w.rows) (λ (p : Client). with_client w s p)) (λ (c : Client). (fetch_on (marks_every w.setup) s key fate c w.rows).parts) client_reads (client_fetches w.rows key) (λ c. refl) (λ c. fetched_most ends (marks_every w.setup) s key fate c w.rows (work_refusal c.entry.state (is_reading c)) c.entry.start c.entry.epoch) (slice_get w.clients s) refl in
+    let most : of_client (slice_get step.state.clients s) client_reads ≤ of_client (slice_get w.clients s) (client_fetches w.rows key) = client_most w s (λ (c : Client). step_by (fetch_on w.setup s key fate c w.rows) (λ (p : Client). with_client w s p)) (λ (c : Client). (fetch_on w.setup s key fate c w.rows).parts) client_reads (client_fetches w.rows key) (λ c. refl) (λ c. fetched_most ends w.setup s key fate c w.rows (fetch_refused w.setup c key) c.entry.start c.entry.epoch) (slice_get w.clients s) refl in
     halted_less step.state s verb Reads (halt_of step.stop) (1 + of_client (slice_get w.clients s) (client_fetches w.rows key)) (omega (arith, most))

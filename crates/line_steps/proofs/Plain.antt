@@ -21,12 +21,12 @@ use Rattle.oracle_parts.specs.declared.instance.Request.{Request}
 use Rattle.oracle_parts.specs.declared.instance.Request.TheVariants.{Begin, Commit}
 use Rattle.oracle_parts.specs.Instance.{InstanceEntry, held_of, stamps_at, was_told_not_yet}
 use Rattle.oracle_parts.specs.InstanceLaws.{stamp_of}
-use Rattle.oracle_parts.specs.InstanceSteps.{instance_accept, instance_decide, instance_answer}
+use Rattle.oracle_parts.specs.InstanceSteps.{instance_accept, instance_answer}
 use Rattle.machine.specs.State.{Client, State}
 use Rattle.machine.specs.Effect.{refused_once, kept_items}
 use Rattle.machine.specs.Machine.{Step, at_post, at_client, at_both}
 use Rattle.machine.specs.Events.Accept.{accept_by, accept_request, accept_on}
-use Rattle.machine.specs.Events.Decide.{draw_item, decide_by, decide_request, decide_on}
+use Rattle.machine.specs.Events.Decide.{decide_both, draw_item, decide_by, decide_request, decide_on}
 use Rattle.machine.specs.Events.Put.{to_place, put_by, put_commit, put_on}
 use Rattle.machine.specs.Events.Answer.{answer_by, answer_request, answer_on}
 use Rattle.machine.specs.Events.Extend.{extend_by}
@@ -101,7 +101,7 @@ decide_plain node s held left c (Err _) = one_plain _ refl
 
 decide_held : (node s : ℕ) (i : InstanceEntry) (c : Client) (held : Option Held) → AllPlain (decide_request node s i c held).items
 decide_held node s i c None = one_plain _ refl
-decide_held node s i c (Some held) = decide_plain node s held (instance_decide i s).left c (instance_decide i s).answer
+decide_held node s i c (Some held) = decide_plain node s held (decide_both i s c.reads).left c (decide_both i s c.reads).answer
 
 pub decide_at : (node s : ℕ) (post : Option InstanceEntry) (c : Client) → AllPlain (decide_on node s post c).items
 decide_at node s None c = one_plain _ refl

@@ -2,6 +2,7 @@
 -- and an epoch.
 use Rattle.std.proofs.Common.{◌≡◌, ℕ, Bool, true, false, cond, nat_lt, ◌||◌, List, [], ◌∷◌, Option, Some, None, ◌⊎◌, inl, inr, refl, sym, subst, IsTrue, length}
 use Rattle.std.specs.Option.{option_or}
+use Rattle.stamp_base.specs.SetupNumbers.{SetupNumbers}
 use Rattle.stamp_base.specs.declared.limits.TheConstants.{KEY_LIMIT}
 use Rattle.port_io.specs.declared.weather.Fate.{Fate}
 use Rattle.port_io.specs.declared.weather.Fate.TheVariants.{Works, FailsUnchanged, FailsApplied}
@@ -20,7 +21,7 @@ use Rattle.machine.specs.State.{Client, State}
 use Rattle.machine.specs.Clients.{is_reading}
 use Rattle.machine.specs.Events.AskCommit.{commit_of, ask_commit_by, ask_commit_on}
 use Rattle.machine.specs.Events.Write.{write_open, write_on}
-use Rattle.machine.specs.Events.Fetch.{read_items, fetch_open, fetch_on}
+use Rattle.machine.specs.Events.Fetch.{marks_every, keeps_read, reads_refusal, read_items, fetch_open, fetch_on}
 use Rattle.isolation_laws.specs.Words.{ClientAt}
 use Rattle.isolation_laws.specs.Sound.{Stands}
 use Rattle.line_steps.specs.Answers.{IsRefusal, IsReadOnly, IsAskCommit, IsWrite, IsFetch}
@@ -99,22 +100,29 @@ turn_plain : (s start key : ℕ) (turn : ReadTurn) → AllPlain (read_items s st
 turn_plain s start key (Asks r) = no_plain
 turn_plain s start key (Answers a) = one_plain _ refl
 
-fetch_begins_open : (every : Bool) (s key : ℕ) (fate : Fate) (c : Client) (rows : List Row) (start epoch : Option ℕ) → HasNumber phase.Open start → HasNumber phase.Open epoch → Begins (FetchAnswer s key) (fetch_open every s key fate c rows None start epoch).items
-fetch_begins_open every s key fate c rows None epoch has sees = absurd has
-fetch_begins_open every s key fate c rows (Some start) None has sees = absurd sees
-fetch_begins_open every s key Works c rows (Some start) (Some epoch) has sees = behind _ _ _ (inl (refl, refl)) (turn_plain s start key (read_over every key start epoch (front_of start (fetched rows key start))))
-fetch_begins_open every s key FailsUnchanged c rows (Some start) (Some epoch) has sees = alone _ _ (inr refl)
-fetch_begins_open every s key FailsApplied c rows (Some start) (Some epoch) has sees = alone _ _ (inr refl)
+fetch_begins_open : (setup : SetupNumbers) (s key : ℕ) (fate : Fate) (c : Client) (rows : List Row) (start epoch : Option ℕ) → HasNumber phase.Open start → HasNumber phase.Open epoch → Begins (FetchAnswer s key) (fetch_open setup s key fate c rows None start epoch).items
+fetch_begins_open setup s key fate c rows None epoch has sees = absurd has
+fetch_begins_open setup s key fate c rows (Some start) None has sees = absurd sees
+fetch_begins_open setup s key Works c rows (Some start) (Some epoch) has sees = behind _ _ _ (inl (refl, refl)) (turn_plain s start key (read_over (marks_every setup) key start epoch (front_of start (fetched rows key start))))
+fetch_begins_open setup s key FailsUnchanged c rows (Some start) (Some epoch) has sees = alone _ _ (inr refl)
+fetch_begins_open setup s key FailsApplied c rows (Some start) (Some epoch) has sees = alone _ _ (inr refl)
 
-fetch_begins_by : (every : Bool) (s key : ℕ) (fate : Fate) (c : Client) (rows : List Row) (state : SessionState) (reading : Bool) (start epoch : Option ℕ) → HasNumber state start → HasNumber state epoch → Begins (FetchAnswer s key) (fetch_open every s key fate c rows (work_refusal state reading) start epoch).items
-fetch_begins_by every s key fate c rows phase.Open true start epoch has sees = alone _ _ (inr (refl, tt))
-fetch_begins_by every s key fate c rows phase.Open false start epoch has sees = fetch_begins_open every s key fate c rows start epoch has sees
-fetch_begins_by every s key fate c rows phase.Free reading start epoch has sees = alone _ _ (inr (refl, tt))
-fetch_begins_by every s key fate c rows phase.Asking reading start epoch has sees = alone _ _ (inr (refl, tt))
-fetch_begins_by every s key fate c rows phase.Committing reading start epoch has sees = alone _ _ (inr (refl, tt))
-fetch_begins_by every s key fate c rows phase.OpenOutcome reading start epoch has sees = alone _ _ (inr (refl, tt))
-fetch_begins_by every s key fate c rows (phase.Completing undo) reading start epoch has sees = alone _ _ (inr (refl, tt))
-fetch_begins_by every s key fate c rows phase.Gone reading start epoch has sees = alone _ _ (inr (refl, tt))
+-- a key that is to be kept has no room
+fetch_begins_if : (setup : SetupNumbers) (s key : ℕ) (fate : Fate) (c : Client) (rows : List Row) (start epoch : Option ℕ) (kept room : Bool) → HasNumber phase.Open start → HasNumber phase.Open epoch
+    → Begins (FetchAnswer s key) (fetch_open setup s key fate c rows (cond kept (cond room None (Some cause.TooManyKeys)) None) start epoch).items
+fetch_begins_if setup s key fate c rows start epoch true false has sees = alone _ _ (inr (refl, tt))
+fetch_begins_if setup s key fate c rows start epoch true true has sees = fetch_begins_open setup s key fate c rows start epoch has sees
+fetch_begins_if setup s key fate c rows start epoch false room has sees = fetch_begins_open setup s key fate c rows start epoch has sees
 
-pub fetch_begins : (every : Bool) (s key : ℕ) (fate : Fate) (c : Client) (rows : List Row) → HasNumber c.entry.state c.entry.start → HasNumber c.entry.state c.entry.epoch → Begins (FetchAnswer s key) (fetch_on every s key fate c rows).items
-fetch_begins every s key fate c rows has sees = fetch_begins_by every s key fate c rows c.entry.state (is_reading c) c.entry.start c.entry.epoch has sees
+fetch_begins_by : (setup : SetupNumbers) (s key : ℕ) (fate : Fate) (c : Client) (rows : List Row) (state : SessionState) (reading : Bool) (start epoch : Option ℕ) → HasNumber state start → HasNumber state epoch → Begins (FetchAnswer s key) (fetch_open setup s key fate c rows (option_or (work_refusal state reading) (reads_refusal setup c key)) start epoch).items
+fetch_begins_by setup s key fate c rows phase.Open true start epoch has sees = alone _ _ (inr (refl, tt))
+fetch_begins_by setup s key fate c rows phase.Open false start epoch has sees = fetch_begins_if setup s key fate c rows start epoch (keeps_read setup c key) (has_key c.reads key || nat_lt (length c.reads) KEY_LIMIT) has sees
+fetch_begins_by setup s key fate c rows phase.Free reading start epoch has sees = alone _ _ (inr (refl, tt))
+fetch_begins_by setup s key fate c rows phase.Asking reading start epoch has sees = alone _ _ (inr (refl, tt))
+fetch_begins_by setup s key fate c rows phase.Committing reading start epoch has sees = alone _ _ (inr (refl, tt))
+fetch_begins_by setup s key fate c rows phase.OpenOutcome reading start epoch has sees = alone _ _ (inr (refl, tt))
+fetch_begins_by setup s key fate c rows (phase.Completing undo) reading start epoch has sees = alone _ _ (inr (refl, tt))
+fetch_begins_by setup s key fate c rows phase.Gone reading start epoch has sees = alone _ _ (inr (refl, tt))
+
+pub fetch_begins : (setup : SetupNumbers) (s key : ℕ) (fate : Fate) (c : Client) (rows : List Row) → HasNumber c.entry.state c.entry.start → HasNumber c.entry.state c.entry.epoch → Begins (FetchAnswer s key) (fetch_on setup s key fate c rows).items
+fetch_begins setup s key fate c rows has sees = fetch_begins_by setup s key fate c rows c.entry.state (is_reading c) c.entry.start c.entry.epoch has sees
