@@ -87,7 +87,6 @@ setup_words Fault = 4
 abbrev pub is_built : SetupForm → Bool
 is_built (Number numbers.Cache) = false
 is_built (Flag Direct) = false
-is_built (Flag Strict) = false
 is_built _ = true
 
 -- how many words a line of the form has, the actor included

@@ -70,7 +70,7 @@ impl SetupForm {
     {
         match self {
             SetupForm::Number(SetupNumber::Cache) => false,
-            SetupForm::Flag(SetupFlag::Direct | SetupFlag::Strict) => false,
+            SetupForm::Flag(SetupFlag::Direct) => false,
             _ => true,
         }
     }

@@ -5,7 +5,7 @@ use std::alloc::Global;
 use std::test::Fail;
 
 /// A script, its first bad line and the cause, in either mode.
-static BAD: [(&str, u64, &str); 78] = [
+static BAD: [(&str, u64, &str); 79] = [
     // The first bad line.
     ("a\0take", 1, "bad byte"),
     ("\0", 1, "bad byte"),
@@ -56,6 +56,7 @@ static BAD: [(&str, u64, &str); 78] = [
     ("fault table 1000001 none", 1, "out of range"),
     ("fault master 1 none", 1, "unknown kind"),
     ("fault master 1 works", 1, "unknown kind"),
+    ("reads serial", 1, "unknown kind"),
     // Setup lines stand in front, and each once.
     ("a take\nlease 5", 2, "setup order"),
     ("a take\nlease 0", 2, "out of range"),
@@ -65,6 +66,7 @@ static BAD: [(&str, u64, &str); 78] = [
     ("nodes 2\nlead a 0\nnodes 2", 3, "setup order"),
     ("skew 2\nlead b 0\nskew 2", 3, "setup order"),
     ("lease 5\na take\nlease 5", 3, "setup order"),
+    ("a take\nreads strict", 2, "setup order"),
     ("nodes 2\nnodes 2", 2, "setup twice"),
     ("nodes 2\nnodes 3", 2, "setup twice"),
     ("lease 5\n# again\nlease 6", 3, "setup twice"),
@@ -75,6 +77,7 @@ static BAD: [(&str, u64, &str); 78] = [
     ("batch 1\nbatch 2", 2, "setup twice"),
     ("workers 1\nworkers 2", 2, "setup twice"),
     ("lead a 1\nlead b 1\nlead a 1", 3, "setup twice"),
+    ("reads strict\nreads strict", 2, "setup twice"),
     (
         "fault cells 1 applied\nfault table 1 applied\nfault cells 1 unchanged",
         3,
@@ -91,8 +94,6 @@ static BAD: [(&str, u64, &str); 78] = [
     ("cache 4", 1, "not yet"),
     ("cache x", 1, "not yet"),
     ("commits direct", 1, "not yet"),
-    ("reads strict", 1, "not yet"),
-    ("a take\nreads strict", 2, "not yet"),
 ];
 
 /// The same, of a script for threads.
@@ -103,7 +104,7 @@ static BAD_IN_A_RUN: [(&str, u64, &str); 3] = [
 ];
 
 /// A script, and how many lines it has that are not empty.
-static COUNTED: [(&str, usize); 12] = [
+static COUNTED: [(&str, usize); 13] = [
     ("", 0),
     ("\n\n \n", 0),
     ("# one\n  # two \x01\n\t\n#", 0),
@@ -113,6 +114,7 @@ static COUNTED: [(&str, usize); 12] = [
     ("a take\r\n\r\ns0 begin a\r\n", 2),
     ("s15 read k4095\ns0 read k0\n", 2),
     ("lease 5\nb take\ns0 begin b", 2),
+    ("reads strict\na take", 1),
     (
         "s0 write k0 aaaaaaaaaaaaaaaaaaaaaaaaaaaaaaaaaaaaaaaaaaaaaaaaaaaaaaaaaaaaaaaa",
         1,
