@@ -1,5 +1,6 @@
 #!/usr/bin/env python3
-"""Measures the program `omid` beside `sort`, and its compactions and its threads beside its replay, and prints one table of each.
+"""Measures the program `omid` beside `sort`, its strict reads and audits beside the others, and its compactions and its threads
+beside its replay, and prints one table of each.
 
 usage: bench/bench.py [--program PATH] [--runs N] [--only WORD] [--quick]
 
@@ -146,6 +147,26 @@ def compactions(program, work, runs, loads):
                   f"{median(compact) / (median(replay) or 1e-6):9.2f}", flush=True)
 
 
+def strictly(program, work, runs, loads):
+    """What it costs to keep read sets, and to judge whether a history is serial: each load with its reads strict and without."""
+    print(f"{'load of strict reads':28} {'replay':>8} {'strict':>8} {'of plain':>8} {'audit':>8} {'strict':>8} {'of plain':>8}")
+    for name, script in loads:
+        plain, strict, text, other = (os.path.join(work, it) for it in ("script", "strict", "text", "other"))
+        body = script[:LINES - 1]
+        for file, lines in ((plain, body), (strict, ["reads strict", *body])):
+            with open(file, "w") as it:
+                it.write("\n".join(lines) + "\n")
+        took = {key: [] for key in ("replay", "strict replay", "audit", "strict audit")}
+        for _ in range(runs):
+            took["replay"].append(ran([program, "replay"], plain, other))
+            took["strict replay"].append(ran([program, "replay"], strict, text))
+            took["audit"].append(ran([program, "audit"], text, other))
+            took["strict audit"].append(ran([program, "audit", "strict"], text, other))
+        at = {key: median(costs) or 1e-6 for key, costs in took.items()}
+        print(f"{name:28} {at['replay']:8.3f} {at['strict replay']:8.3f} {at['strict replay'] / at['replay']:8.2f} "
+              f"{at['audit']:8.3f} {at['strict audit']:8.3f} {at['strict audit'] / at['audit']:8.2f}", flush=True)
+
+
 def storms(program, work, runs):
     for count in (10_000, 20_000):
         costs = [ran([program, "storm", str(count)], None, os.path.join(work, "other")) for _ in range(runs)]
@@ -187,6 +208,7 @@ def main():
         if picked[0]:
             beside_sort(said.program, work, said.runs, picked[0])
             compactions(said.program, work, said.runs, picked[0][:2])
+            strictly(said.program, work, said.runs, picked[0])
         if not said.only:
             storms(said.program, work, said.runs)
         if picked[1]:
