@@ -1,8 +1,6 @@
 // Transactions that write by turns: which commits conflict, and the bounded memory of conflicts.
 use worked_pieces::Replay;
-use worked_pieces::answers::{
-    BEGUN, S0_COMMITS_3, S1_BEGINS_2, S1_BEGINS_4, S1_FETCHES, S1_PLACES_5, S2_BEGINS_5,
-};
+use worked_pieces::answers::{BEGUN, S0_COMMITS_3, S1_BEGINS_2, S1_BEGINS_4, S1_PLACES_5};
 
 /// Two transactions write one key, and the one that is refused tries again.
 const CONFLICT: &str = "\
@@ -35,46 +33,47 @@ const CONFLICT_HISTORY: &[&str] = &[
     "step s1 remove 4\n",
 ];
 
-/// Two transactions write two keys by turns. Each key alone has no conflict, and both commit.
-const WRITE_SKEW: &str = "\
+/// Each of two transactions reads a key that the other writes. They wrote no key in common, and both commit.
+pub const WRITE_SKEW: &str = "\
 a take
 s0 begin a
 s1 begin a
-s0 write k0 x
-s1 write k1 y
-s0 read k1
-s1 read k0
+s0 read k0
+s0 write k1 p
+s1 read k1
+s1 write k0 q
 s0 commit a
 s1 commit a
-s2 begin a
-s2 read k0
-s2 read k1
 ";
 
-const WRITE_SKEW_HISTORY: &[&str] = &[
-    BEGUN,
-    S1_BEGINS_2,
-    "write s0 start=1 k0 x\n",
-    "write s1 start=2 k1 y\n",
-    "step s0 fetch k1 cells=0\n",
-    "read s0 start=1 k1 none\n",
-    S1_FETCHES,
-    "step s1 look k0 1 none\n",
-    "read s1 start=2 k0 none\n",
-    S0_COMMITS_3,
-    "ask-commit s1 a start=2\n",
-    "accept s1 a term=1 reading=0\n",
-    "draw s1 a term=1 start=2 commit=4\n",
-    "placed start=2 commit=4\n",
-    "committed s1 start=2 commit=4\n",
-    "step s1 shadow k1 2 4\n",
-    "step s1 remove 2\n",
-    S2_BEGINS_5,
-    "step s2 fetch k0 cells=1\n",
-    "read s2 start=5 k0 from=1 x\n",
-    "step s2 fetch k1 cells=1\n",
-    "read s2 start=5 k1 from=2 y\n",
-];
+/// Behind the begins, until the second commit was accepted.
+pub const SKEW_HISTORY: &str = "\
+step s0 fetch k0 cells=0
+read s0 start=1 k0 none
+write s0 start=1 k1 p
+step s1 fetch k1 cells=1
+step s1 get 1 absent
+step s1 look k1 1 none
+read s1 start=2 k1 none
+write s1 start=2 k0 q
+ask-commit s0 a start=1
+accept s0 a term=1 reading=0
+draw s0 a term=1 start=1 commit=3
+placed start=1 commit=3
+committed s0 start=1 commit=3
+step s0 shadow k1 1 3
+step s0 remove 1
+ask-commit s1 a start=2
+accept s1 a term=1 reading=0
+";
+
+const SECOND_COMMITS: &str = "\
+draw s1 a term=1 start=2 commit=4
+placed start=2 commit=4
+committed s1 start=2 commit=4
+step s1 shadow k0 2 4
+step s1 remove 2
+";
 
 /// Three commits go by while a transaction stays open. A bucket that keeps two keys has forgotten the first of them.
 const FORGETFUL: &str = "\
@@ -179,7 +178,7 @@ static REPLAYS: [Replay; 5] = [
     Replay {
         name: "write skew",
         script: &[WRITE_SKEW],
-        history: WRITE_SKEW_HISTORY,
+        history: &[BEGUN, S1_BEGINS_2, SKEW_HISTORY, SECOND_COMMITS],
     },
     Replay {
         name: "hidden, on the key that was forgotten",

@@ -5,3 +5,4 @@ pub mod commits;
 pub mod conflicts;
 pub mod json;
 pub mod many_keys;
+pub mod strict;

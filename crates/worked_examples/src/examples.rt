@@ -236,7 +236,98 @@ const HIDDEN_HISTORY: &[&str] = &[
     "step s0 remove 6\n",
 ];
 
-static REPLAYS: [Replay; 5] = [
+/// `write_skew.omid`; `write_skew_strict.omid` begins with a setup line.
+const DOCTORS: &str = "\
+a take
+s0 begin a
+s0 write k0 on
+s0 write k1 on
+s0 commit a
+s1 begin a
+s2 begin a
+s1 read k1
+s2 read k0
+s1 write k0 off
+s2 write k1 off
+s1 commit a
+s2 commit a
+s3 begin a
+s3 read k0
+s3 read k1
+s3 commit a
+";
+
+/// Behind the begin, until the second doctor's commit was accepted.
+const DOCTORS_HISTORY: &str = "\
+write s0 start=1 k0 on
+write s0 start=1 k1 on
+ask-commit s0 a start=1
+accept s0 a term=1 reading=0
+draw s0 a term=1 start=1 commit=2
+placed start=1 commit=2
+committed s0 start=1 commit=2
+step s0 shadow k0 1 2
+step s0 shadow k1 1 2
+step s0 remove 1
+ask-begin s1 a
+accept s1 a term=1 reading=0
+draw s1 a term=1 start=3
+begin s1 start=3
+ask-begin s2 a
+accept s2 a term=1 reading=0
+draw s2 a term=1 start=4
+begin s2 start=4
+step s1 fetch k1 cells=1
+read s1 start=3 k1 from=1 on
+step s2 fetch k0 cells=1
+read s2 start=4 k0 from=1 on
+write s1 start=3 k0 off
+write s2 start=4 k1 off
+ask-commit s1 a start=3
+accept s1 a term=1 reading=0
+draw s1 a term=1 start=3 commit=5
+placed start=3 commit=5
+committed s1 start=3 commit=5
+step s1 shadow k0 3 5
+step s1 remove 3
+ask-commit s2 a start=4
+accept s2 a term=1 reading=0
+";
+
+/// The second commits too, and nobody is on call.
+const BOTH_GO: &str = "\
+draw s2 a term=1 start=4 commit=6
+placed start=4 commit=6
+committed s2 start=4 commit=6
+step s2 shadow k1 4 6
+step s2 remove 4
+ask-begin s3 a
+accept s3 a term=1 reading=0
+draw s3 a term=1 start=7
+begin s3 start=7
+step s3 fetch k0 cells=2
+read s3 start=7 k0 from=3 off
+step s3 fetch k1 cells=2
+read s3 start=7 k1 from=4 off
+end s3 start=7 read-only
+";
+
+/// The second is refused, and stays on call.
+const ONE_STAYS: &str = "\
+refused s2 conflict key=k0 by=5
+step s2 erase k1 4
+ask-begin s3 a
+accept s3 a term=1 reading=0
+draw s3 a term=1 start=6
+begin s3 start=6
+step s3 fetch k0 cells=2
+read s3 start=6 k0 from=3 off
+step s3 fetch k1 cells=1
+read s3 start=6 k1 from=1 on
+end s3 start=6 read-only
+";
+
+static REPLAYS: [Replay; 7] = [
     Replay {
         name: "examples, takeover",
         script: &[TAKEOVER],
@@ -261,6 +352,16 @@ static REPLAYS: [Replay; 5] = [
         name: "examples, hidden",
         script: &[HIDDEN],
         history: HIDDEN_HISTORY,
+    },
+    Replay {
+        name: "examples, write skew",
+        script: &[DOCTORS],
+        history: &[BEGUN, DOCTORS_HISTORY, BOTH_GO],
+    },
+    Replay {
+        name: "examples, write skew with strict reads",
+        script: &["reads strict\n", DOCTORS],
+        history: &[BEGUN, DOCTORS_HISTORY, ONE_STAYS],
     },
 ];
 

@@ -1,8 +1,8 @@
 // Scripts whose lines wait for each other by names, so that threads have one order to carry them out in: that of the file.
 use worked_pieces::Replay;
 use worked_pieces::answers::{
-    DRAWN, S0_BEGINS, S0_COMPLETES_2, S0_IS_DEAD, S0_IS_INVALID, S0_PLACES_2, S1_BEGINS_AT_B,
-    S1_BEGINS_WITH_AN_EXTENSION, S1_MARKS,
+    DRAWN, S0_BEGINS, S0_COMPLETES_2, S0_IS_DEAD, S0_IS_INVALID, S0_PLACES_2, S1_BEGINS_2,
+    S1_BEGINS_AT_B, S1_BEGINS_WITH_AN_EXTENSION, S1_MARKS,
 };
 
 /// A node with several workers, whose batches have one entry.
@@ -153,7 +153,60 @@ const EXTENDED_HISTORY: &[&str] = &[
     "read s1 start=3 k0 from=1 v\n",
 ];
 
-static REPLAYS: [Replay; 4] = [
+/// Reads are strict, and each of two transactions reads a key that the other writes.
+const STRICT: &str = "\
+reads strict
+a take
+a post p1
+s0 await p1
+s0 begin a
+s0 post p2
+s1 await p2
+s1 begin a
+s1 read k1
+s1 post p3
+s0 await p3
+s0 read k0
+s0 write k1 p
+s0 commit a
+s0 post p4
+s1 await p4
+s1 write k0 q
+s1 commit a
+";
+
+const STRICT_HISTORY: &[&str] = &[
+    "take a reading=0 term=1 epoch=0 until=10 ceiling=100\n",
+    "note a post p1\n",
+    "note s0 await p1\n",
+    S0_BEGINS,
+    "note s0 post p2\n",
+    "note s1 await p2\n",
+    S1_BEGINS_2,
+    "step s1 fetch k1 cells=0\n",
+    "read s1 start=2 k1 none\n",
+    "note s1 post p3\n",
+    "note s0 await p3\n",
+    "step s0 fetch k0 cells=0\n",
+    "read s0 start=1 k0 none\n",
+    "write s0 start=1 k1 p\n",
+    "ask-commit s0 a start=1\n",
+    "accept s0 a term=1 reading=0\n",
+    "draw s0 a term=1 start=1 commit=3\n",
+    "placed start=1 commit=3\n",
+    "committed s0 start=1 commit=3\n",
+    "step s0 shadow k1 1 3\n",
+    "step s0 remove 1\n",
+    "note s0 post p4\n",
+    "note s1 await p4\n",
+    "write s1 start=2 k0 q\n",
+    "ask-commit s1 a start=2\n",
+    "accept s1 a term=1 reading=0\n",
+    "refused s1 conflict key=k1 by=3\n",
+    "step s1 erase k0 2\n",
+];
+
+static REPLAYS: [Replay; 5] = [
     Replay {
         name: "threads",
         script: &[HELD, HELD_PUT],
@@ -173,6 +226,11 @@ static REPLAYS: [Replay; 4] = [
         name: "threads, an extension",
         script: &[EXTENDED],
         history: EXTENDED_HISTORY,
+    },
+    Replay {
+        name: "threads, strict reads",
+        script: &[STRICT],
+        history: STRICT_HISTORY,
     },
 ];
 

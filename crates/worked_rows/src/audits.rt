@@ -17,7 +17,21 @@ struct Audit {
 const EACH_KIND: &str =
     "tick 12\nnote s1 post p\ntake a reading=0 term=1 epoch=0 until=10 ceiling=100\nrenew a reading=5 term=1 until=15\nextend a term=1 ceiling=200\nask-begin s1 a\naccept s1 a term=1 reading=0\ndraw s1 a term=1 start=1\nbegin s1 start=1\nwrite s1 start=1 k0 v\nread s1 start=1 k0 from=1 v\nask-commit s1 a start=1\nplaced start=1 commit=2\ncommitted s1 start=1 commit=2\nmark janitor start=7\nstep s1 fetch k0 cells=2\nend s1 start=3 read-only\nrefused s1 busy\nfault a table\ncrash a term=1\nvanish s1\n";
 
-static AUDITS: [Audit; 18] = [
+/// Each of two transactions reads a key that the other writes, and both commit; and the same as JSON.
+const SKEW: &str =
+    "begin s0 start=1\nbegin s1 start=2\nread s0 start=1 k0 none\nwrite s0 start=1 k1 p\nread s1 start=2 k1 none\nwrite s1 start=2 k0 q\nplaced start=1 commit=3\nplaced start=2 commit=4\n";
+
+const SKEW_JSON: &str = r#"{"kind":"begin","session":"s0","start":1}
+{"kind":"begin","session":"s1","start":2}
+{"key":"k0","kind":"read","session":"s0","start":1}
+{"key":"k1","kind":"write","session":"s0","start":1,"value":"p"}
+{"key":"k1","kind":"read","session":"s1","start":2}
+{"key":"k0","kind":"write","session":"s1","start":2,"value":"q"}
+{"commit":3,"kind":"placed","start":1}
+{"commit":4,"kind":"placed","start":2}
+"#;
+
+static AUDITS: [Audit; 19] = [
     // nothing: no bytes, and lines that say nothing
     Audit {
         history: "",
@@ -118,11 +132,68 @@ static AUDITS: [Audit; 18] = [
         report: "history line 1: not an item\n",
         status: 3,
     },
+    Audit {
+        history: SKEW,
+        report: "isolated items=8\n",
+        status: 0,
+    },
 ];
 
-/// Behind a function, a proof that goes over the rows does not look into their texts.
+/// The same of audits that ask for a serial history too.
+static STRICT: [Audit; 6] = [
+    Audit {
+        history: SKEW,
+        report: "not isolated: serial 5 7\n",
+        status: 7,
+    },
+    Audit {
+        history: SKEW_JSON,
+        report: "not isolated: serial 5 7\n",
+        status: 7,
+    },
+    Audit {
+        history: PLAIN_HISTORY,
+        report: "isolated items=20\n",
+        status: 0,
+    },
+    // The second of the two does not commit.
+    Audit {
+        history: "begin s0 start=1\nbegin s1 start=2\nread s0 start=1 k0 none\nwrite s0 start=1 k1 p\nread s1 start=2 k1 none\nwrite s1 start=2 k0 q\nplaced start=1 commit=3\n",
+        report: "isolated items=7\n",
+        status: 0,
+    },
+    // Neither apart nor serial: isolation is judged first.
+    Audit {
+        history: "begin s0 start=1\nbegin s1 start=2\nread s1 start=2 k0 none\nwrite s0 start=1 k0 p\nwrite s1 start=2 k0 q\nplaced start=1 commit=3\nplaced start=2 commit=4\n",
+        report: "not isolated: apart 6 7\n",
+        status: 7,
+    },
+    Audit {
+        history: "a take\n",
+        report: "history line 1: not an item\n",
+        status: 3,
+    },
+];
+
+// Behind functions, a proof that goes over the rows does not look into their texts.
+
 fn audits() -> &'static [Audit] {
     &AUDITS
+}
+
+fn strict() -> &'static [Audit] {
+    &STRICT
+}
+
+/// Whether these words write the report of the history, with its status.
+fn is_reported<R: Threads + Wait + Sync>(
+    rt: &R,
+    alloc: Global,
+    words: &[&str],
+    audit: &Audit,
+) -> Result<bool, AllocError> {
+    let (history, report) = (audit.history.as_bytes(), audit.report.as_bytes());
+    answers(rt, alloc, words, history, report, audit.status)
 }
 
 /// A history of 9,000 items, whose transactions come one after the other. The last two end with the items 8997 and 9000, at the
@@ -187,9 +258,21 @@ fn is_judged_behind<R: Threads + Wait + Sync>(
 #[test]
 fn histories_are_judged(rt: HostRuntime) -> Result<(), Fail> {
     for audit in audits() {
-        let (history, report) = (audit.history.as_bytes(), audit.report.as_bytes());
         assert!(rt;
-            answers(&rt, rt.alloc(), &["audit"], history, report, audit.status)?,
+            is_reported(&rt, rt.alloc(), &["audit"], audit)?,
+            "{}",
+            audit.history
+        );
+    }
+    Ok(())
+}
+
+#[test]
+fn histories_are_judged_strictly(rt: HostRuntime) -> Result<(), Fail> {
+    let words = ["audit", "strict"];
+    for audit in strict() {
+        assert!(rt;
+            is_reported(&rt, rt.alloc(), &words, audit)?,
             "{}",
             audit.history
         );

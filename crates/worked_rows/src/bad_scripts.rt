@@ -3,13 +3,18 @@ use crate::calls::answers;
 use std::test::Fail;
 use worked_commits::commits::PLAIN_PATH;
 
-pub const USAGE: &str = "usage: omid replay [summary|json|compact N] | run | audit | storm N\n";
+pub const USAGE: &str =
+    "usage: omid replay [summary|json|compact N] | run | audit [strict] | storm N\n";
 
 /// Words that are no command.
-static NO_COMMANDS: [&[&str]; 31] = [
+static NO_COMMANDS: [&[&str]; 35] = [
     &[],
     &["replay", "now"],
     &["audit", "now"],
+    &["strict"],
+    &["audit", "Strict"],
+    &["audit", "strict", "strict"],
+    &["replay", "strict"],
     &["Replay"],
     &["run", "now"],
     &["json"],

@@ -73,6 +73,16 @@ pub fn is_isolated<R: Threads + Wait + Sync>(
     Ok(status == 0)
 }
 
+/// Whether a strict audit finds the history isolated and serial.
+pub fn is_serial<R: Threads + Wait + Sync>(
+    rt: &R,
+    alloc: Global,
+    history: &[u8],
+) -> Result<bool, AllocError> {
+    let (_, status) = answer_of(rt, alloc, &["audit", "strict"], history)?;
+    Ok(status == 0)
+}
+
 /// Whether the program writes the history of the example for its script and these words.
 pub fn tells<R: Threads + Wait + Sync>(
     rt: &R,

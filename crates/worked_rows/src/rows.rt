@@ -1,19 +1,19 @@
-// What a replay writes for a script, byte for byte, and that it is isolated.
-use crate::calls::{is_isolated, joined, tells};
+// What a replay writes for a script, byte for byte, and that it is isolated, and serial where reads are strict.
+use crate::calls::{is_isolated, is_serial, joined, tells};
 use std::alloc::{AllocError, Global};
 use std::sync::Wait;
 use std::test::Fail;
 use std::thread::Threads;
-use worked_commits::{commits, conflicts, many_keys};
+use worked_commits::{commits, conflicts, many_keys, strict};
 use worked_examples::{examples, threads};
 use worked_faults::{leases, outcomes, refusals, takeovers};
 use worked_pieces::Replay;
 
 /// How many topics the worked examples have.
-pub const TOPICS: usize = 9;
+pub const TOPICS: usize = 10;
 
 /// How many each topic has.
-const COUNTS: [usize; TOPICS] = [10, 5, 1, 8, 6, 9, 8, 5, 4];
+const COUNTS: [usize; TOPICS] = [10, 5, 1, 4, 8, 6, 9, 8, 7, 5];
 
 /// The worked examples of a topic.
 pub fn topic(number: usize) -> &'static [Replay] {
@@ -21,11 +21,12 @@ pub fn topic(number: usize) -> &'static [Replay] {
         0 => commits::replays(),
         1 => conflicts::replays(),
         2 => many_keys::replays(),
-        3 => takeovers::replays(),
-        4 => leases::replays(),
-        5 => outcomes::replays(),
-        6 => refusals::replays(),
-        7 => examples::replays(),
+        3 => strict::replays(),
+        4 => takeovers::replays(),
+        5 => leases::replays(),
+        6 => outcomes::replays(),
+        7 => refusals::replays(),
+        8 => examples::replays(),
         _ => threads::replays(),
     }
 }
@@ -47,6 +48,15 @@ fn each_script_is_replayed(rt: HostRuntime) -> Result<(), Fail> {
         for replay in topic(number) {
             assert!(rt; is_replayed(&rt, rt.alloc(), replay)?, "{}", replay.name);
         }
+    }
+    Ok(())
+}
+
+#[test]
+fn strict_histories_are_serial(rt: HostRuntime) -> Result<(), Fail> {
+    for replay in strict::replays() {
+        let history = joined(rt.alloc(), replay.history)?;
+        assert!(rt; is_serial(&rt, rt.alloc(), &history)?, "{}", replay.name);
     }
     Ok(())
 }
