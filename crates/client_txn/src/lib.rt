@@ -4,7 +4,7 @@
 mod session;
 
 pub use client_parts::State;
-pub use session::Session;
+pub use session::{Session, check_key};
 
 #[cfg(test)]
 mod tests;

@@ -225,8 +225,8 @@ impl Session {
     }
 }
 
-/// Whether the list has the key, or room for it.
-fn check_key(keys: &KeyList, key: KeyNo) -> Result<(), Cause>
+/// Whether the list has the key, or room for it: refused with 64 other keys.
+pub fn check_key(keys: &KeyList, key: KeyNo) -> Result<(), Cause>
     ensures { step.IsAnswer (step.key_refusal keys.now key) result }
 {
     let keys = keys.as_slice();

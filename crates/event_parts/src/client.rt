@@ -1,21 +1,23 @@
 ghost use Rattle.std.specs.Prelude.{◌≡◌, None};
 ghost use Rattle.client_parts.specs.KeyRead.{ReadTurn, next_of, reading_left};
 ghost use Rattle.client_parts.specs.SessionSteps as step;
+ghost use Rattle.stamp_base.specs.Setups.{numbers_of};
 ghost use Rattle.machine.specs.State as state;
 ghost use Rattle.machine.specs.Clients as left;
 ghost use Rattle.machine.specs.Events.Write.{client_wrote, write_refused};
-ghost use Rattle.machine.specs.Events.Fetch.{client_read};
+ghost use Rattle.machine.specs.Events.Fetch.{client_read, client_fetched, keeps_read, reads_refusal, fetch_refused};
 ghost use Rattle.machine.specs.Events.Heal.{offer_of};
 ghost use Rattle.event_parts.specs.Parts.{way_of};
 
 use client_parts::State;
-use client_txn::Session;
+use client_txn::{Session, check_key};
 use history_book::Cause;
 use invalidator::Settle;
 use oracle_parts::{Reply, Request};
+use read_sets::ReadSet;
 use reader_resolve::{Next, ReadRun};
 use shadow_cells::Completion;
-use stamp_base::{KeyList, KeyNo, Stamp, TxnId};
+use stamp_base::{KeyList, KeyNo, Setup, Stamp, TxnId};
 use std::marker::Model;
 
 /// What a session has under way between two of its events.
@@ -28,12 +30,14 @@ pub(crate) enum UnderWay {
     Completes(Completion),
 }
 
-/// A client: its session, what it has under way, and the shadow that its last read offers to set.
+/// A client: its session, what it has under way, the shadow that its last read offers to set, and the keys that its
+/// transaction read and had not written, where the setup has them kept.
 #[derive(Drop)]
 pub struct Client {
     pub(crate) session: Session,
     pub(crate) under_way: UnderWay,
     pub(crate) heal: Option<(KeyNo, TxnId, Stamp)>,
+    pub(crate) reads: ReadSet,
 }
 
 impl Model for Client {
@@ -43,7 +47,7 @@ impl Model for Client {
 
     ghost use Rattle.event_parts.specs.Parts.{way_of};
 
-    ghost view = { λ c. record { entry = c.session; under_way = way_of c.under_way; heal = c.heal } };
+    ghost view = { λ c. record { entry = c.session; under_way = way_of c.under_way; heal = c.heal; reads = c.reads } };
 }
 
 impl Client {
@@ -58,6 +62,7 @@ impl Client {
             session: Session::new(),
             under_way: UnderWay::Nothing,
             heal: None,
+            reads: ReadSet::empty(),
         }
     }
 
@@ -100,6 +105,13 @@ impl Client {
         self.session.keys()
     }
 
+    /// The keys that its transaction read and had not written, where the setup has them kept.
+    pub fn read_set(&self) -> &ReadSet
+        ensures { result.now ≡ self.now.reads }
+    {
+        &self.reads
+    }
+
     /// Whether a begin may be asked: refused as gone, or busy.
     pub fn check_begin(&self) -> Result<(), Cause>
         ensures { step.IsAnswer (step.begin_refusal self.now.entry.state) result }
@@ -121,6 +133,33 @@ impl Client {
     {
         self.check_work()?;
         self.session.check_write(key)
+    }
+
+    /// Whether the transaction may begin a read of the key: refused as gone, without a transaction, busy, or with 64 other
+    /// keys in the read set, in this order.
+    pub fn check_fetch(&self, setup: &Setup, key: KeyNo) -> Result<(), Cause>
+        ensures { step.IsAnswer (fetch_refused (numbers_of setup.now) self.now key) result }
+    {
+        self.check_work()?;
+        self.check_reads(setup, key)
+    }
+
+    /// Whether the read set has room for the key, where it is to be kept.
+    fn check_reads(&self, setup: &Setup, key: KeyNo) -> Result<(), Cause>
+        ensures { step.IsAnswer (reads_refusal (numbers_of setup.now) self.now key) result }
+    {
+        if self.keeps(setup, key) {
+            check_key(self.reads.keys(), key)
+        } else {
+            Ok(())
+        }
+    }
+
+    /// Whether a read of the key is kept: with strict reads, of a key alone that the transaction has not written.
+    fn keeps(&self, setup: &Setup, key: KeyNo) -> bool
+        ensures { result ≡ keeps_read (numbers_of setup.now) self.now key }
+    {
+        setup.strict && !self.session.keys().as_slice().contains(&key)
     }
 
     /// Whether the session may vanish: refused as gone.
@@ -145,6 +184,7 @@ impl Client {
         ensures { self.new ≡ left.client_begun self.old start epoch }
     {
         self.session.begun(start, epoch);
+        self.reads = ReadSet::empty();
         self.rest();
     }
 
@@ -226,6 +266,16 @@ impl Client {
         self.heal = None;
     }
 
+    /// The cells of a key were fetched: the key joins the read set, where it is to be kept.
+    pub fn fetched(&mut self, setup: &Setup, key: KeyNo)
+        requires { fetch_refused (numbers_of setup.now) self.old key ≡ None }
+        ensures { self.new ≡ client_fetched (numbers_of setup.now) self.old key }
+    {
+        if self.keeps(setup, key) {
+            add_read(&mut self.reads, key);
+        }
+    }
+
     /// A read was begun: it goes on, or it has its answer, and with it the shadow that may be set.
     pub fn reads(&mut self, run: ReadRun, next: Next)
         ensures { (turn : ReadTurn) → run ≡ reading_left turn → next ≡ next_of turn → self.new ≡ client_read self.old turn }
@@ -275,6 +325,16 @@ impl Client {
         self.under_way = UnderWay::Nothing;
         self.heal = None;
     }
+}
+
+/// The key is in the set from now on.
+#[tactic(auto, using(client_txn::proofs::KeyLemmas::pushed, client_txn::proofs::KeyLemmas::refused))]
+fn add_read(reads: &mut ReadSet, key: KeyNo)
+    requires { step.key_refusal reads.old key ≡ None }
+    ensures { reads.new ≡ step.key_added reads.old key }
+{
+    // There is room for the key, so this is not refused.
+    let _ = reads.read(key);
 }
 
 /// Each cell of the transaction is to be erased.
