@@ -2,3 +2,4 @@ mod KeptItems
 mod Losses
 mod Placed
 mod Replies
+mod BothSets

@@ -3,3 +3,4 @@ pub use Rattle.machine.specs.Effect
 pub use Rattle.machine.specs.Events
 pub use Rattle.event_parts.specs.Made
 pub use Rattle.event_parts.specs.Waiting
+pub mod Against

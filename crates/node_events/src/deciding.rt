@@ -1,22 +1,23 @@
 // A node decides a session's request.
 ghost use Rattle.std.specs.Prelude.{◌≡◌, Some};
 ghost use Rattle.oracle_parts.specs.Instance.{held_of};
-ghost use Rattle.oracle_parts.specs.InstanceSteps.{instance_decide};
 ghost use Rattle.oracle_parts.specs.InstanceLaws.{stamp_of};
-ghost use Rattle.machine.specs.Events.Decide.{decide_on, decide_request, decide_by, draw_item as draw_item_of};
+ghost use Rattle.machine.specs.Events.Decide.{decide_on, decide_request, decide_by, decide_both as both_decided, draw_item as draw_item_of};
 ghost use Rattle.event_parts.specs.Made.{Makes};
 ghost use Rattle.event_parts.specs.Waiting.{Waits, WaitsFor, WaitsAt};
+ghost use Rattle.node_events.specs.Against.{verdict_against};
 
 use event_parts::{Client, Stopped, ledger};
 use history_book::{Actor, Book, Cause, Item};
 use oracle_core::Instance;
-use oracle_parts::{Decided, Held, Request};
+use oracle_parts::{Decided, Held, Progress, Request, Verdict};
+use read_sets::{ReadSet, check_both};
 use stamp_base::{NodeNo, SessionNo, Stamp, Term};
 use takeover_core::Post;
 
 /// The node draws the stamp of the session's request: refused as NoOracle, then as NoRequest unless it was accepted, then as
-/// Conflict or Hidden, or by the record's refusal that the instance keeps, which end the request, or as NoStamp, which it
-/// is told once.
+/// Conflict or Hidden by the keys that the transaction wrote and then by those of its read set, or by the record's refusal
+/// that the instance keeps, which end the request, or as NoStamp, which it is told once.
 pub fn decide(
     book: &mut Book,
     post: &mut Post,
@@ -61,13 +62,14 @@ fn decide_held(
     session: SessionNo,
     held: &Held,
 ) -> Result<(), Stopped>
-    requires { Waits held.now.request client.old.entry }
-    ensures made { Makes (decide_by node session held.now (instance_decide instance.old session).left client.old (instance_decide instance.old session).answer)
+    requires held { held_of instance.old session ≡ Some held.now }
+    requires waits { Waits held.now.request client.old.entry }
+    ensures made { Makes (decide_by node session held.now (both_decided instance.old session client.old.reads).left client.old (both_decided instance.old session client.old.reads).answer)
         (Some instance.old, client.old) (Some instance.new, client.new) book.old.items book.new.items result }
     ensures spare { book.new.spare ≡ book.old.spare }
 {
     book.make_room(1)?;
-    let decided = instance.decide(session);
+    let decided = decide_both(instance, session, held, client.read_set());
     match &decided {
         Ok(drawn) => {
             let stamp = stamp_drawn(drawn);
@@ -82,6 +84,48 @@ fn decide_held(
             client.refused(&held.request);
             ledger::tell(book, Actor::Session(session), *cause)
         }
+    }
+}
+
+/// The instance's decision, in which the keys that were read count too.
+#[tactic(auto, using(crate::proofs::BothSets::decides_alone))]
+fn decide_both(
+    instance: &mut Instance,
+    session: SessionNo,
+    held: &Held,
+    reads: &ReadSet,
+) -> Result<Decided, Cause>
+    requires { held_of instance.old session ≡ Some held.now }
+    ensures left { instance.new ≡ (both_decided instance.old session reads.now).left }
+    ensures answer { result ≡ (both_decided instance.old session reads.now).answer }
+{
+    match verdict_against(instance, held, reads) {
+        Verdict::Free => instance.decide(session),
+        Verdict::Conflict { key, by } => {
+            let _ = instance.refuse(session);
+            Err(Cause::Conflict { key, by })
+        }
+        Verdict::Hidden { key, water } => {
+            let _ = instance.refuse(session);
+            Err(Cause::Hidden { key, water })
+        }
+    }
+}
+
+/// What the conflict memory has against a commit that was accepted, by what its transaction wrote and read. Where none of these
+/// keys was read, the decision itself looks at what was written.
+fn verdict_against(instance: &Instance, held: &Held, reads: &ReadSet) -> Verdict
+    ensures { result ≡ verdict_against held.now.progress held.now.request instance.now.buckets reads.now }
+{
+    match held {
+        Held {
+            request: Request::Commit { start, keys, .. },
+            progress: Progress::Accepted,
+            ..
+        } if !reads.keys().as_slice().is_empty() => {
+            check_both(instance.buckets(), *start, keys, reads)
+        }
+        _ => Verdict::Free,
     }
 }
 

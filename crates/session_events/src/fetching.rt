@@ -1,7 +1,8 @@
 // A session begins a read.
-ghost use Rattle.std.specs.Prelude.{◌≡◌, false};
+ghost use Rattle.std.specs.Prelude.{◌≡◌, None};
+ghost use Rattle.stamp_base.specs.Setups.{numbers_of};
 ghost use Rattle.store_parts.specs.Rows.{fetched};
-ghost use Rattle.machine.specs.Events.Fetch.{fetch_on, fetch_by, fetch_asks};
+ghost use Rattle.machine.specs.Events.Fetch.{fetch_on, fetch_by, fetch_asks, fetch_refused};
 ghost use Rattle.event_parts.specs.Made.{Makes, Asks};
 
 use cell_store::{Cells, StoreError};
@@ -9,30 +10,32 @@ use event_parts::{Client, Stopped, ledger};
 use history_book::{Actor, Book, Item, StoreStep};
 use port_io::Weather;
 use reader_resolve::ReadRun;
-use stamp_base::{KeyNo, SessionNo, Stamp, Store};
+use stamp_base::{KeyNo, SessionNo, Setup, Stamp, Store};
 
-/// The session fetches the key's cells and begins a read over them: refused as gone, without a transaction or busy. A read
-/// that needs no step on the stores has its answer at once; a failed fetch ends it without one.
+/// The session fetches the key's cells and begins a read over them: refused as gone, without a transaction, busy, or with
+/// too many keys in the read set. The key joins the read set, where the setup has it kept. A read that needs no step on the
+/// stores has its answer at once; a failed fetch ends it without one, and the read set stays.
 pub fn fetch<W: Weather>(
     weather: &mut W,
     book: &mut Book,
     client: &mut Client,
     cells: &Cells,
+    setup: &Setup,
     session: SessionNo,
     key: KeyNo,
 ) -> Result<(), Stopped>
-    ensures made { Makes (fetch_on false session key (W.ahead weather.old Store.Cells 0) client.old cells.now.rows)
+    ensures made { Makes (fetch_on (numbers_of setup.now) session key (W.ahead weather.old Store.Cells 0) client.old cells.now.rows)
         client.old client.new book.old.items book.new.items result }
     ensures spare { book.new.spare ≡ book.old.spare }
-    ensures asked { Asks result (fetch_asks client.old) (W.ahead weather.old) (W.ahead weather.new)
+    ensures asked { Asks result (fetch_asks (numbers_of setup.now) key client.old) (W.ahead weather.old) (W.ahead weather.new)
         (W.faults weather.old) (W.faults weather.new) }
 {
-    if let Err(cause) = client.check_work() {
+    if let Err(cause) = client.check_fetch(setup, key) {
         return ledger::refuse(book, Actor::Session(session), cause);
     }
     match (client.start(), client.epoch()) {
         (Some(start), Some(epoch)) => fetch_open(
-            weather, book, client, cells, session, start, epoch, key,
+            weather, book, client, cells, setup, session, start, epoch, key,
         ),
         _ => Ok(()),
     }
@@ -43,12 +46,14 @@ fn fetch_open<W: Weather>(
     book: &mut Book,
     client: &mut Client,
     cells: &Cells,
+    setup: &Setup,
     session: SessionNo,
     start: Stamp,
     epoch: u64,
     key: KeyNo,
 ) -> Result<(), Stopped>
-    ensures made { Makes (fetch_by false session start epoch key (W.ahead weather.old Store.Cells 0) client.old (fetched cells.now.rows key start))
+    requires { fetch_refused (numbers_of setup.now) client.old key ≡ None }
+    ensures made { Makes (fetch_by (numbers_of setup.now) session start epoch key (W.ahead weather.old Store.Cells 0) client.old (fetched cells.now.rows key start))
         client.old client.new book.old.items book.new.items result }
     ensures spare { book.new.spare ≡ book.old.spare }
     ensures asked { Asks result (Some Store.Cells) (W.ahead weather.old) (W.ahead weather.new)
@@ -61,6 +66,7 @@ fn fetch_open<W: Weather>(
                 key,
                 cells: front.versions,
             };
+            client.fetched(setup, key);
             let (run, next) = ReadRun::start(key, start, epoch, front.cells);
             book.append_in_room(Item::Step {
                 actor: Actor::Session(session),
