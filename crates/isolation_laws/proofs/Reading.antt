@@ -12,5 +12,6 @@ pub mod ReadsOfReads
 pub mod KeptReads
 pub mod ReadSetsStay
 pub mod ReadSetsOfTurns
+pub mod ReadSetsOfRequests
 pub mod ReadSetsKept
 pub mod ReadsKept

@@ -1,153 +1,39 @@
 -- Every outcome keeps the read sets.
-use Rattle.std.proofs.Common.{◌≡◌, ℕ, ◌+◌, Bool, true, false, if◌then◌else◌, List, [], ◌∷◌, ◌++◌, Option, ◌⊎◌, inl, inr, refl, sym, ◌∙◌, ap, subst, Contains}
+use Rattle.std.proofs.Common.{◌≡◌, ℕ, ◌+◌, Bool, true, false, if◌then◌else◌, List, ◌++◌, Option, ◌⊎◌, inl, inr, refl, subst, Contains}
 use Rattle.std.proofs.lemmas.Bool.{cases_Bool}
 use Rattle.history_book.specs.Members.{◌∈◌}
 use Rattle.history_book.specs.declared.item.Actor.TheVariants.{Janitor}
 use Rattle.history_book.specs.declared.item.StoreStep.TheVariants.{Keys as KeysStep}
 use Rattle.history_book.specs.declared.item.Item.{Item}
-use Rattle.history_book.specs.declared.item.Item.TheVariants.{AskBegin, Begin, Write, Placed, Step}
+use Rattle.history_book.specs.declared.item.Item.TheVariants.{Write, Placed, Step}
 use Rattle.stamp_base.specs.SetupNumbers.{SetupNumbers}
-use Rattle.client_parts.specs.declared.session.State.TheVariants as phase
 use Rattle.client_parts.specs.SessionSteps.{has_key, key_added}
 use Rattle.client_parts.specs.Resolve.{settle_turn}
 use Rattle.client_parts.specs.KeyRead.{settling_of, read_ask}
-use Rattle.oracle_parts.specs.declared.instance.Progress.{Progress}
-use Rattle.oracle_parts.specs.declared.instance.Request.TheVariants.{Begin as BeginRequest, Commit}
-use Rattle.oracle_parts.specs.Instance.{InstanceEntry, held_of}
-use Rattle.oracle_parts.specs.InstanceSteps.{without_request, just_asked}
+use Rattle.oracle_parts.specs.Instance.{InstanceEntry}
 use Rattle.store_parts.specs.Rows.{fetched, front_of}
 use Rattle.machine.specs.State.{Client, State}
-use Rattle.machine.specs.Clients.{client_begun, unless_gone}
 use Rattle.machine.specs.StoreSteps.{told_by}
 use Rattle.machine.specs.Events.Fetch.{marks_every, keeps_read, reads_after}
-use Rattle.isolation_laws.specs.Words.{InstanceAt, HeldBy, ClientAt, OpenAt, epoch_or_none}
-use Rattle.isolation_laws.specs.ReadSets.{ReadFirst, KeepsReads, AreReadSets}
+use Rattle.isolation_laws.specs.ReadSets.{AreReadSets}
 use Rattle.isolation_laws.specs.Holds.{Holds}
-use Rattle.isolation_laws.proofs.Lookups.{client_set, held_by, one_client, one_instance, one_held}
-use Rattle.isolation_laws.proofs.Outcome.OutcomesOfRequests.{AskedBegin, asked_begin_state, AskedCommit, asked_commit_state}
-use Rattle.isolation_laws.proofs.Outcome.OutcomesOfStamps.{AnsweredBegin, answered_begin_state, answered_begin_items}
 use Rattle.isolation_laws.proofs.Outcome.OutcomesOfWork.{Fetched, fetched_turn, fetched_client, fetched_state, fetched_items, ReadStepped, read_turn, read_stepped_state, read_stepped_items}
 use Rattle.isolation_laws.proofs.Outcome.Outcomes.{Outcome, OfGranted, OfRenewed, OfExtended, OfAskedBegin, OfAskedCommit, OfAccepted, OfDrew, OfPlaced, OfAnsweredBegin, OfWrote, OfFetched, OfReadStepped, OfSweepListed, left_by, told_by_outcome}
-use Rattle.isolation_laws.proofs.Requests.ClientsOpen.{same_open, gone_cases}
-use Rattle.isolation_laws.proofs.Requests.OpenAfter.{fewer_open_asked_begin, fewer_open_asked_commit, fewer_open_wrote, open_answered_begin}
-use Rattle.isolation_laws.proofs.Requests.RequestsAfter.{FewerHeld, held_changed, held_over, new_held, none_held, open_waits}
-use Rattle.isolation_laws.proofs.Requests.RequestsOfBegins.{start_unbegun}
+use Rattle.isolation_laws.proofs.Requests.ClientsOpen.{same_open}
+use Rattle.isolation_laws.proofs.Requests.OpenAfter.{fewer_open_wrote}
+use Rattle.isolation_laws.proofs.Requests.RequestsAfter.{FewerHeld}
 use Rattle.isolation_laws.proofs.Requests.Standing.{held_same, held_granted, held_renewed, held_extended, held_accepted, held_drew, held_settled}
 use Rattle.isolation_laws.proofs.Requests.WrittenKeys.{has_key_in, key_was_written}
 use Rattle.isolation_laws.proofs.Memory.RecordedCommits.{added_there, added_keeps}
-use Rattle.isolation_laws.proofs.Reading.ClientsReading.{same_reading, reading_asked_begin, reading_asked_commit, reading_answered_begin, reading_wrote}
+use Rattle.isolation_laws.proofs.Reading.ClientsReading.{same_reading, reading_wrote}
 use Rattle.isolation_laws.proofs.Reading.ReadsStay.{NoReads, quiet_no_reads, then_no_reads, one_no_reads, draw_no_reads}
 use Rattle.isolation_laws.proofs.Reading.ReadsOfReads.{fetched_open, stepped_open}
-use Rattle.isolation_laws.proofs.Reading.FirstReads.{first_no_reads, read_of}
 use Rattle.isolation_laws.proofs.Reading.KeptReads.{SameReads, same_reads, reads_keep}
-use Rattle.isolation_laws.proofs.Reading.ReadSetsStay.{ReadsNoMore, keeps_as, FewerCommits, fewer_commits, plain_stays, opened_stays, asked_stays, under_way_stays, read_sets_stay}
+use Rattle.isolation_laws.proofs.Reading.ReadSetsStay.{fewer_commits, read_sets_stay}
+use Rattle.isolation_laws.proofs.Reading.ReadSetsOfRequests.{none_more, sets_asked_begin, sets_asked_commit, sets_answered_begin}
 use Rattle.isolation_laws.proofs.Reading.ReadSetsOfTurns.{KeepsMore, fetched_of, told_of, read_sets_turn}
 use Rattle.isolation_laws.proofs.Holding.Frames.{Frame}
 use Rattle.isolation_laws.proofs.Holding.Framed.{framed}
-
-none_more : (h items : List Item) → NoReads items → ReadsNoMore h (h ++ items)
-none_more h items none t k read = first_no_reads h items t k none read
-
--- ---- the clients stay
-by_nodes : (w : State) (h items : List Item) (nodes : List (Option InstanceEntry)) → NoReads items → FewerHeld w.nodes nodes → Holds w h → AreReadSets w.setup w.clients nodes (h ++ items)
-by_nodes w h items nodes none held holds = read_sets_stay w h items w.clients nodes (same_reads w.clients) (same_open w.clients) (same_reading w.clients) (fewer_commits w.nodes nodes held) (none_more h items none) holds
-
-by_frame : (w : State) (h : List Item) (left : State) (items : List Item) → Frame w h left items → SameReads w.clients left.clients → Holds w h → AreReadSets w.setup left.clients left.nodes (h ++ items)
-by_frame w h left items f same holds = read_sets_stay w h items left.clients left.nodes same f.clients.opened f.clients.reading (fewer_commits w.nodes left.nodes f.nodes.held) (none_more h items (quiet_no_reads items f.quiet)) holds
-
--- ---- asks
-begin_no_commit : (s r t : ℕ) (keys : List ℕ) → Commit r t keys ≡ BeginRequest s → ⊥
-begin_no_commit s r t keys same = cc
-
-commits_asked_begin : (w : State) (k : AskedBegin w) → FewerCommits w.nodes (asked_begin_state w k).nodes
-commits_asked_begin w k n s t keys p j at held = elim ((new_held w.nodes k.session k.node k.i (just_asked (BeginRequest k.session)) k.at).each n s j (Commit s t keys) p at held) [
-  | inl now ↦ absurd (begin_no_commit k.session s t keys now.2)
-  | inr was ↦ (was.0, p, was.1, was.2)
-]
-
-sets_asked_begin : (w : State) (h : List Item) (k : AskedBegin w) → Holds w h → AreReadSets w.setup (asked_begin_state w k).clients (asked_begin_state w k).nodes (h ++ AskBegin k.session k.node ∷ [])
-sets_asked_begin w h k holds = read_sets_stay w h (AskBegin k.session k.node ∷ []) _ _ (reads_keep w (OfAskedBegin k) refl) (fewer_open_asked_begin w k) (reading_asked_begin w k) (commits_asked_begin w k)
-    (none_more h _ (one_no_reads (AskBegin k.session k.node) (λ s b key answer is. cc))) holds
-
-commit_parts : (s t r u : ℕ) (keys others : List ℕ) → Commit s t keys ≡ Commit r u others → t ≡ u
-commit_parts s t r u keys others same = cc
-
-asker_is : (w : State) (k : AskedCommit w) (s : ℕ) (d : Client) → s ≡ k.session → ClientAt w.clients s d → d ≡ k.c
-asker_is w k s d mine at = one_client w.clients k.session d k.c (subst (λ q. ClientAt w.clients q d) mine at) k.client_at
-
--- the client of a commit that is asked for keeps what its open transaction read
-sets_asked_commit : (w : State) (h : List Item) (k : AskedCommit w) → Holds w h → AreReadSets w.setup (asked_commit_state w k).clients (asked_commit_state w k).nodes (h ++ k.items)
-sets_asked_commit w h k holds =
-    let same : SameReads w.clients (asked_commit_state w k).clients = reads_keep w (OfAskedCommit k) refl in
-    let none : ReadsNoMore h (h ++ k.items) = none_more h k.items (quiet_no_reads k.items k.quiet) in
-    let o : OpenAt w.clients k.session k.start (epoch_or_none k.c.entry.epoch) = record { client = k.c; at = k.client_at; state_is = k.is_open; start_is = k.start_is; epoch_is = refl } in
-    record {
-      plain = plain_stays w h _ same holds;
-      opened = opened_stays w h (h ++ k.items) _ same (fewer_open_asked_commit w k) none holds;
-      asked = λ strict n s t keys p i c at held client. elim ((new_held w.nodes k.session k.node k.i (just_asked (Commit k.session k.start k.c.entry.keys)) k.at).each n s i (Commit s t keys) p at held) [
-        | inl now ↦
-            let start : t ≡ k.start = commit_parts s t k.session k.start keys k.c.entry.keys now.2 in
-            let was = same s c client in
-            let is : was.0 ≡ k.c = asker_is w k s was.0 now.0 was.1 in
-            subst (λ u. KeepsReads (h ++ k.items) u c) (sym start) (keeps_as h (h ++ k.items) k.start c k.c none (was.2 ∙ ap (λ (x : Client). x.reads) is) (holds.reads.read_sets.opened strict k.session k.start (epoch_or_none k.c.entry.epoch) o))
-        | inr was ↦ asked_stays w h (h ++ k.items) _ n s t keys p was.0 c same none holds strict was.1 was.2 client
-      ];
-      under_way = under_way_stays w h k.items _ (reading_asked_commit w k) holds;
-    }
-
--- ---- a begin that is answered: the new transaction has read nothing, and its client keeps nothing
-begun_read_none : (w : State) (h : List Item) (k : AnsweredBegin w) (key : ℕ) → Holds w h → ReadFirst h k.start key → ⊥
-begun_read_none w h k key holds read =
-    let was = read_of h k.start key read in
-    let begun = holds.numbers.begun.reads was.0 k.start key was.1 was.2 in
-    start_unbegun w h k begun.0 holds begun.1
-
-begun_plain : (w : State) (h : List Item) (k : AnsweredBegin w) → Holds w h → w.setup.strict ≡ false → (unless_gone k.c (client_begun k.c k.start k.i.epoch)).reads ≡ []
-begun_plain w h k holds flag = elim (gone_cases k.c (client_begun k.c k.start k.i.epoch)) [
-  | inl stays ↦ ap (λ (x : Client). x.reads) stays.0 ∙ holds.reads.read_sets.plain flag k.session k.c k.client_at
-  | inr moves ↦ ap (λ (x : Client). x.reads) moves
-]
-
--- no commit of its session is held
-not_commit : (w : State) (h : List Item) (k : AnsweredBegin w) (n s t : ℕ) (keys : List ℕ) (q : Progress) (i : InstanceEntry) → Holds w h → s ≡ k.session → InstanceAt w.nodes n i → HeldBy i s (Commit s t keys) q → ⊥
-not_commit w h k n s t keys q i holds mine at held =
-    let here : HeldBy i k.session (Commit s t keys) q = subst (λ r. HeldBy i r (Commit s t keys) q) mine held in
-    let node : n ≡ k.node = holds.requests.requests.one n k.node k.session i k.i (Commit s t keys) k.held.request q k.held.progress at k.at here (held_by k.i k.session k.held k.has) in
-    let same : i ≡ k.i = one_instance w.nodes k.node i k.i (subst (λ m. InstanceAt w.nodes m i) node at) k.at in
-    let is : here.held ≡ k.held = one_held k.i k.session here.held k.held (ap (λ (x : InstanceEntry). held_of x k.session) (sym same) ∙ here.has) k.has in
-    begin_no_commit k.asker s t keys (sym here.asks ∙ (ap (λ x. x.request) is ∙ k.request_is))
-
--- a session whose begin is answered has no transaction open
-begun_open : (w : State) (h : List Item) (k : AnsweredBegin w) (s t e : ℕ) → Holds w h → s ≡ k.session → OpenAt w.clients s t e → ⊥
-begun_open w h k s t e holds mine o =
-    none_held w.nodes w.clients s o.client phase.Open holds.requests.requests o.at o.state_is open_waits k.node k.i k.held.request k.held.progress k.at
-    (subst (λ r. HeldBy k.i r k.held.request k.held.progress) (sym mine) (held_by k.i k.session k.held k.has))
-
-sets_answered_begin : (w : State) (h : List Item) (k : AnsweredBegin w) → Holds w h → AreReadSets w.setup (answered_begin_state w k).clients (answered_begin_state w k).nodes (h ++ answered_begin_items w k)
-sets_answered_begin w h k holds =
-    let none : ReadsNoMore h (h ++ answered_begin_items w k) = none_more h (answered_begin_items w k) (one_no_reads (Begin k.session k.start) (λ s b key answer is. cc)) in
-    let sets = holds.reads.read_sets in
-    let new : Client = unless_gone k.c (client_begun k.c k.start k.i.epoch) in
-    record {
-      plain = λ flag s c at. elim (client_set w.clients k.session s new c at) [
-        | inl here ↦ ap (λ (x : Client). x.reads) here.1 ∙ begun_plain w h k holds flag
-        | inr other ↦ sets.plain flag s c other.1
-      ];
-      opened = λ strict s t e o key read. elim (client_set w.clients k.session s new o.client o.at) [
-        | inl here ↦ elim (open_answered_begin w k s t e o) [
-          | inl was ↦ absurd (begun_open w h k s t e holds here.0 was)
-          | inr now ↦ absurd (begun_read_none w h k key holds (subst (λ u. ReadFirst h u key) now.1 (none t key read)))
-        ]
-        | inr other ↦ sets.opened strict s t e (record { client = o.client; at = other.1; state_is = o.state_is; start_is = o.start_is; epoch_is = o.epoch_is }) key (none t key read)
-      ];
-      asked = λ strict n s t keys p i c at held client key read.
-          let was = (held_changed w.nodes k.node k.i (without_request k.i k.session) k.at (held_over k.i k.session)).each n s i (Commit s t keys) p at held in
-          elim (client_set w.clients k.session s new c client) [
-            | inl here ↦ absurd (not_commit w h k n s t keys was.1 was.0 holds here.0 was.2 was.3)
-            | inr other ↦ sets.asked strict n s t keys was.1 was.0 c was.2 was.3 other.1 key (none t key read)
-          ];
-      under_way = under_way_stays w h (answered_begin_items w k) _ (reading_answered_begin w k) holds;
-    }
 
 -- ---- a fetch
 contains_if : (chosen : Bool) (keys : List ℕ) (key other : ℕ) → Contains keys other → Contains (if chosen then key_added keys key else keys) other
@@ -193,6 +79,13 @@ sets_stepped : (w : State) (h : List Item) (k : ReadStepped w) → Holds w h →
 sets_stepped w h k holds =
     read_sets_turn w h k.first k.session k.r.start k.r.epoch k.r.key k.c k.c (read_turn w k.r) k.quiet k.client_at (stepped_open w h k holds) (stepped_more w h k holds)
     (told_of k.r (settle_turn (settling_of k.r) (told_by (read_ask k.r) w.rows w.pairs))) holds
+
+-- ---- the clients stay
+by_nodes : (w : State) (h items : List Item) (nodes : List (Option InstanceEntry)) → NoReads items → FewerHeld w.nodes nodes → Holds w h → AreReadSets w.setup w.clients nodes (h ++ items)
+by_nodes w h items nodes none held holds = read_sets_stay w h items w.clients nodes (same_reads w.clients) (same_open w.clients) (same_reading w.clients) (fewer_commits w.nodes nodes held) (none_more h items none) holds
+
+by_frame : (w : State) (h : List Item) (left : State) (items : List Item) → Frame w h left items → SameReads w.clients left.clients → Holds w h → AreReadSets w.setup left.clients left.nodes (h ++ items)
+by_frame w h left items f same holds = read_sets_stay w h items left.clients left.nodes same f.clients.opened f.clients.reading (fewer_commits w.nodes left.nodes f.nodes.held) (none_more h items (quiet_no_reads items f.quiet)) holds
 
 -- ---- every outcome
 pub read_sets_kept : (w : State) (h : List Item) (o : Outcome w) → Holds w h → AreReadSets (left_by w o).setup (left_by w o).clients (left_by w o).nodes (h ++ told_by_outcome w o)
