@@ -12,6 +12,7 @@ use Rattle.machine.specs.Clients.{client_begun}
 use Rattle.machine.specs.StoreSteps.{told_by}
 use Rattle.machine.specs.Events.Crash.{crashed_clients}
 use Rattle.machine.specs.Events.Write.{client_wrote}
+use Rattle.machine.specs.Events.Fetch.{client_fetched}
 use Rattle.isolation_laws.specs.Words.{ClientAt}
 use Rattle.isolation_laws.proofs.Outcome.OutcomesOfWork.{CompletedOne, fetched_turn, read_turn}
 use Rattle.isolation_laws.proofs.Outcome.Outcomes.{Outcome, OfCrashed, OfAskedBegin, OfAskedCommit, OfEnded, OfAnsweredBegin, OfAnsweredCommit, OfEndedReadOnly, OfWrote, OfWriteFailed, OfAborted, OfVanished, OfHealed, OfFetched, OfReadDropped, OfReadStepped, OfOutcome, OfOutcomeFailed, OfCompleted, left_by, told_by_outcome}
@@ -45,7 +46,7 @@ moved w (OfWriteFailed k) = put_back w _ k.it.session k.it.c _ k.it.client_at (a
 moved w (OfAborted k) = put_back w _ k.it.session k.it.c _ k.it.client_at (aborted_only k.it.c k.it.c)
 moved w (OfVanished k) = PutBack k.session k.c _ k.client_at refl (inr (subst (λ (items : List Item). item.Vanish k.session ∈ items) (sym k.tells) (in_last (item.Vanish k.session) [])))
 moved w (OfHealed k) = put_back w _ k.it.session k.it.c _ k.it.client_at (λ gone. gone)
-moved w (OfFetched k) = put_back w _ k.it.session k.it.c _ k.it.client_at (read_only k.it.c (fetched_turn w k.key k.start k.epoch))
+moved w (OfFetched k) = put_back w _ k.it.session k.it.c _ k.it.client_at (read_only (client_fetched w.setup k.it.c k.key) (fetched_turn w k.key k.start k.epoch))
 moved w (OfReadDropped k) = put_back w _ k.session k.c _ k.client_at (λ gone. gone)
 moved w (OfReadStepped k) = put_back w _ k.session k.c _ k.client_at (read_only k.c (read_turn w k.r))
 moved w (OfOutcome k) = put_back w _ k.it.session k.it.c _ k.it.client_at (settled_only k.it.c k.x (settle_turn k.x (told_by (settle_ask k.x) w.rows w.pairs)))

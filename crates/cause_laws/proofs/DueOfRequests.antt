@@ -16,11 +16,11 @@ use Rattle.oracle_parts.specs.declared.instance.Progress.TheVariants as progress
 use Rattle.oracle_parts.specs.declared.instance.Request.{Request}
 use Rattle.oracle_parts.specs.declared.instance.Request.TheVariants.{Begin, Commit}
 use Rattle.oracle_parts.specs.Instance.{InstanceEntry, held_of}
-use Rattle.oracle_parts.specs.InstanceSteps.{InstanceStep, IsStop, epoch_refusal, accept_unless, accept_if_asked, accept_held, request_verdict, out_of_stamps, decide_drawn, decide_by as verdict_by, decide_if_accepted, decide_held}
+use Rattle.oracle_parts.specs.InstanceSteps.{InstanceStep, IsStop, epoch_refusal, accept_unless, accept_if_asked, accept_held, out_of_stamps, decide_drawn, decide_by as verdict_by}
 use Rattle.machine.specs.State.{Client, State}
 use Rattle.machine.specs.Events.Accept.{accept_by, accept_request, accept_on}
-use Rattle.machine.specs.Events.Decide.{draw_item, decide_by, decide_request, decide_on}
-use Rattle.isolation_laws.specs.Words.{InstanceAt}
+use Rattle.machine.specs.Events.Decide.{both_verdict, both_if_accepted, both_held, draw_item, decide_by, decide_request, decide_on}
+use Rattle.isolation_laws.specs.Words.{InstanceAt, ClientAt}
 use Rattle.isolation_laws.specs.Sound.{StopOf, AreStops}
 use Rattle.cause_laws.specs.Due.{Serves, DueVerdict, AreDue}
 use Rattle.cause_laws.proofs.DueItems.{plain_due, refusal_due, no_row_due, once_due}
@@ -111,32 +111,39 @@ room_due w node session i held c it stop accepted true full = out_due w node ses
 room_due w node session i held c it stop accepted false room = draw_due w node i.term _ held.request
 
 -- the verdict on a commit that is held and accepted
-held_verdict : (w : State) (node session asker start : ℕ) (i : InstanceEntry) (held : Held) (keys : List ℕ) (v : Verdict) → Serving w node session i held → held.request ≡ Commit asker start keys → held.progress ≡ progress.Accepted → request_verdict i.buckets (Commit asker start keys) ≡ v → DueVerdict w session v
-held_verdict w node session asker start i held keys v it asks accepted is = record {
+held_verdict : (w : State) (node session asker start : ℕ) (i : InstanceEntry) (held : Held) (c : Client) (keys : List ℕ) (v : Verdict) → Serving w node session i held → ClientAt w.clients session c
+    → held.request ≡ Commit asker start keys → held.progress ≡ progress.Accepted → both_verdict i.buckets c.reads (Commit asker start keys) ≡ v → DueVerdict w session v
+held_verdict w node session asker start i held c keys v it client_at asks accepted is = record {
   i = i;
   asker = asker;
   start = start;
   keys = keys;
   serves = serves_held w node session i held (Commit asker start keys) progress.Accepted it asks accepted;
+  client = c;
+  client_at = client_at;
   judged = is;
 }
 
-verdict_due : (w : State) (node session : ℕ) (i : InstanceEntry) (held : Held) (c : Client) → Serving w node session i held → StopOf i.stop → held.progress ≡ progress.Accepted → (request : Request) → held.request ≡ request → (v : Verdict) → request_verdict i.buckets request ≡ v → decide_due_by w node session held c (verdict_by i session held v)
-verdict_due w node session i held c it stop accepted request asks Free is = room_due w node session i held c it stop accepted (i.last == i.ceiling) refl
-verdict_due w node session i held c it stop accepted (Begin asker) asks (Conflict key by) is = absurd (cc)
-verdict_due w node session i held c it stop accepted (Begin asker) asks (Hidden key water) is = absurd (cc)
-verdict_due w node session i held c it stop accepted (Commit asker start keys) asks (Conflict key by) is = refusal_due w (Session session) (cause.Conflict key by) (held_verdict w node session asker start i held keys (Conflict key by) it asks accepted is)
-verdict_due w node session i held c it stop accepted (Commit asker start keys) asks (Hidden key water) is = refusal_due w (Session session) (cause.Hidden key water) (held_verdict w node session asker start i held keys (Hidden key water) it asks accepted is)
+verdict_due : (w : State) (node session : ℕ) (i : InstanceEntry) (held : Held) (c : Client) → Serving w node session i held → ClientAt w.clients session c → StopOf i.stop → held.progress ≡ progress.Accepted
+    → (request : Request) → held.request ≡ request → (v : Verdict) → both_verdict i.buckets c.reads request ≡ v → decide_due_by w node session held c (verdict_by i session held v)
+verdict_due w node session i held c it at stop accepted request asks Free is = room_due w node session i held c it stop accepted (i.last == i.ceiling) refl
+verdict_due w node session i held c it at stop accepted (Begin asker) asks (Conflict key by) is = absurd (cc)
+verdict_due w node session i held c it at stop accepted (Begin asker) asks (Hidden key water) is = absurd (cc)
+verdict_due w node session i held c it at stop accepted (Commit asker start keys) asks (Conflict key by) is =
+    refusal_due w (Session session) (cause.Conflict key by) (held_verdict w node session asker start i held c keys (Conflict key by) it at asks accepted is)
+verdict_due w node session i held c it at stop accepted (Commit asker start keys) asks (Hidden key water) is =
+    refusal_due w (Session session) (cause.Hidden key water) (held_verdict w node session asker start i held c keys (Hidden key water) it at asks accepted is)
 
-decide_progress : (w : State) (node session : ℕ) (i : InstanceEntry) (held : Held) (c : Client) → Serving w node session i held → StopOf i.stop → (p : Progress) → held.progress ≡ p → decide_due_by w node session held c (decide_if_accepted i session held p)
-decide_progress w node session i held c it stop progress.Accepted is = verdict_due w node session i held c it stop is held.request refl (request_verdict i.buckets held.request) refl
-decide_progress w node session i held c it stop _ is = no_request_due w node session
+decide_progress : (w : State) (node session : ℕ) (i : InstanceEntry) (held : Held) (c : Client) → Serving w node session i held → ClientAt w.clients session c → StopOf i.stop → (p : Progress) → held.progress ≡ p
+    → decide_due_by w node session held c (both_if_accepted i session c.reads held p)
+decide_progress w node session i held c it at stop progress.Accepted is = verdict_due w node session i held c it at stop is held.request refl (both_verdict i.buckets c.reads held.request) refl
+decide_progress w node session i held c it at stop _ is = no_request_due w node session
 
-decide_found : (w : State) (node session : ℕ) (i : InstanceEntry) (c : Client) → InstanceAt w.nodes node i → StopOf i.stop → (found : Option Held) → held_of i session ≡ found → AreDue w (decide_request node session i c found).items
-decide_found w node session i c at stop None has = no_request_due w node session
-decide_found w node session i c at stop (Some held) has =
-    subst (λ (f : Option Held). decide_due_by w node session held c (decide_held i session f)) (sym has) (decide_progress w node session i held c (record { at = at; has = has }) stop held.progress refl)
+decide_found : (w : State) (node session : ℕ) (i : InstanceEntry) (c : Client) → InstanceAt w.nodes node i → ClientAt w.clients session c → StopOf i.stop → (found : Option Held) → held_of i session ≡ found → AreDue w (decide_request node session i c found).items
+decide_found w node session i c at client_at stop None has = no_request_due w node session
+decide_found w node session i c at client_at stop (Some held) has =
+    subst (λ (f : Option Held). decide_due_by w node session held c (both_held i session c.reads f)) (sym has) (decide_progress w node session i held c (record { at = at; has = has }) client_at stop held.progress refl)
 
-pub decide_on_due : (w : State) (node session : ℕ) (post : Option InstanceEntry) (c : Client) → AreStops w.nodes → slice_get w.nodes node ≡ Some post → AreDue w (decide_on node session post c).items
-decide_on_due w node session None c stops at = refusal_due w (Node node) (cause.NoOracle node) (refl, at)
-decide_on_due w node session (Some i) c stops at = decide_found w node session i c at (stops.stop node i at) (held_of i session) refl
+pub decide_on_due : (w : State) (node session : ℕ) (post : Option InstanceEntry) (c : Client) → AreStops w.nodes → slice_get w.nodes node ≡ Some post → ClientAt w.clients session c → AreDue w (decide_on node session post c).items
+decide_on_due w node session None c stops at client_at = refusal_due w (Node node) (cause.NoOracle node) (refl, at)
+decide_on_due w node session (Some i) c stops at client_at = decide_found w node session i c at client_at (stops.stop node i at) (held_of i session) refl

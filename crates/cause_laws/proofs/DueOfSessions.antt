@@ -6,6 +6,7 @@ use Rattle.std.proofs.lemmas.Bool.{eqb-true}
 use Rattle.std.proofs.lemmas.Option.{same_Some}
 use Rattle.std.proofs.lemmas.List.Elements.{All-cons}
 use Rattle.stamp_base.specs.declared.limits.TheConstants.{KEY_LIMIT}
+use Rattle.stamp_base.specs.SetupNumbers.{SetupNumbers}
 use Rattle.port_io.specs.declared.weather.Fate.{Fate}
 use Rattle.port_io.specs.declared.weather.Fate.TheVariants.{Works, FailsUnchanged, FailsApplied}
 use Rattle.history_book.specs.declared.cause.Cause.{Cause}
@@ -28,7 +29,7 @@ use Rattle.machine.specs.Events.AskCommit.{commit_of, ask_commit_by, ask_commit_
 use Rattle.machine.specs.Events.Abort.{abort_by, abort_on}
 use Rattle.machine.specs.Events.Vanish.{vanish_by, vanish_on}
 use Rattle.machine.specs.Events.Write.{write_refused, write_by, write_open, write_on}
-use Rattle.machine.specs.Events.Fetch.{marks_every, read_items, fetch_by, fetch_open, fetch_on}
+use Rattle.machine.specs.Events.Fetch.{keeps_read, reads_refusal, fetch_refused, read_items, fetch_by, fetch_open, fetch_on}
 use Rattle.isolation_laws.specs.Words.{InstanceAt, ClientAt}
 use Rattle.isolation_laws.proofs.Inversions.InversionOfAsks.{asked_if}
 use Rattle.cause_laws.specs.Due.{NeedsNoRow, AreDue}
@@ -83,6 +84,15 @@ room_own state false why is = told_own state cause.TooManyKeys why (λ s setup h
 write_own : (c : Client) (key : ℕ) (why : Cause) (work : Option Cause) → work_refusal c.entry.state (is_reading c) ≡ work → option_or work (key_refusal c.entry.keys key) ≡ Some why → IsOwn c.entry.state why
 write_own c key why (Some first) work is = work_own c.entry.state (is_reading c) why (subst (λ (x : Option Cause). x ≡ Some why) (sym work) is)
 write_own c key why None work is = room_own c.entry.state (has_key c.entry.keys key || nat_lt (length c.entry.keys) KEY_LIMIT) why is
+
+-- a fetch finds no room for a key that is to be kept
+reads_own : (c : Client) (key : ℕ) (why : Cause) (kept : Bool) → (if kept then key_refusal c.reads key else None) ≡ Some why → IsOwn c.entry.state why
+reads_own c key why true is = room_own c.entry.state (has_key c.reads key || nat_lt (length c.reads) KEY_LIMIT) why is
+reads_own c key why false is = absurd (cc)
+
+fetch_own : (setup : SetupNumbers) (c : Client) (key : ℕ) (why : Cause) (work : Option Cause) → work_refusal c.entry.state (is_reading c) ≡ work → option_or work (reads_refusal setup c key) ≡ Some why → IsOwn c.entry.state why
+fetch_own setup c key why (Some first) work is = work_own c.entry.state (is_reading c) why (subst (λ (x : Option Cause). x ≡ Some why) (sym work) is)
+fetch_own setup c key why None work is = reads_own c key why (keeps_read setup c key) is
 
 -- ---- the asks
 slots_due : (w : State) (session node : ℕ) (c : Client) (i : InstanceEntry) (request : Request) (x : Item) → DueAnyway w x → InstanceAt w.nodes node i → (full : Bool) → (in_flight i == i.slots) ≡ full → AreDue w (asked_by session c x (asked_if i request full) (asked_if i request full).answer).items
@@ -145,16 +155,16 @@ pub read_free : (w : State) (session start key : ℕ) (turn : ReadTurn) → AllD
 read_free w session start key (Asks r) = none_free w
 read_free w session start key (Answers a) = one_free w _ (λ told. tt)
 
-fetch_fated : (w : State) (session start epoch key : ℕ) (fate : Fate) (c : Client) → AreDue w (fetch_by (marks_every w.setup) session start epoch key fate c (fetched w.rows key start)).items
+fetch_fated : (w : State) (session start epoch key : ℕ) (fate : Fate) (c : Client) → AreDue w (fetch_by w.setup session start epoch key fate c (fetched w.rows key start)).items
 fetch_fated w session start epoch key Works c = all_due w _ (All-cons (DueAnyway w) _ (read_items session start key _) (λ told. tt) (read_free w session start key _))
 fetch_fated w session start epoch key FailsUnchanged c = plain_due w _ (λ told. tt)
 fetch_fated w session start epoch key FailsApplied c = plain_due w _ (λ told. tt)
 
-fetch_due : (w : State) (session key : ℕ) (fate : Fate) (c : Client) → ClientAt w.clients session c → (why : Option Cause) → work_refusal c.entry.state (is_reading c) ≡ why → (start epoch : Option ℕ) → AreDue w (fetch_open (marks_every w.setup) session key fate c w.rows why start epoch).items
-fetch_due w session key fate c at (Some why) is start epoch = own_due w session c why at (work_own c.entry.state (is_reading c) why is)
+fetch_due : (w : State) (session key : ℕ) (fate : Fate) (c : Client) → ClientAt w.clients session c → (why : Option Cause) → fetch_refused w.setup c key ≡ why → (start epoch : Option ℕ) → AreDue w (fetch_open w.setup session key fate c w.rows why start epoch).items
+fetch_due w session key fate c at (Some why) is start epoch = own_due w session c why at (fetch_own w.setup c key why (work_refusal c.entry.state (is_reading c)) refl is)
 fetch_due w session key fate c at None is None epoch = none_due w
 fetch_due w session key fate c at None is (Some start) None = none_due w
 fetch_due w session key fate c at None is (Some start) (Some epoch) = fetch_fated w session start epoch key fate c
 
-pub fetch_on_due : (w : State) (session key : ℕ) (fate : Fate) (c : Client) → ClientAt w.clients session c → AreDue w (fetch_on (marks_every w.setup) session key fate c w.rows).items
-fetch_on_due w session key fate c at = fetch_due w session key fate c at (work_refusal c.entry.state (is_reading c)) refl c.entry.start c.entry.epoch
+pub fetch_on_due : (w : State) (session key : ℕ) (fate : Fate) (c : Client) → ClientAt w.clients session c → AreDue w (fetch_on w.setup session key fate c w.rows).items
+fetch_on_due w session key fate c at = fetch_due w session key fate c at (fetch_refused w.setup c key) refl c.entry.start c.entry.epoch

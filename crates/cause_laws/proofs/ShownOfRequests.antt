@@ -1,15 +1,15 @@
 -- For planned_laws too.
 -- What is due of a request is shown: by its ask, its term and its draw, and by the facts of isolation.
-use Rattle.std.proofs.Common.{◌≡◌, ◌≢◌, ℕ, List, Option, None, Some, refl, sym, ◌∙◌, ap, subst, Contains}
+use Rattle.std.proofs.Common.{◌≡◌, ◌≢◌, ℕ, false, List, [], Option, None, Some, ◌⊎◌, inl, inr, refl, sym, ◌∙◌, ap, subst, Contains}
 use Rattle.std.specs.Option.{option_or}
 use Rattle.history_book.specs.declared.item.Item.{Item}
 use Rattle.oracle_parts.specs.declared.buckets.Verdict.{Verdict}
-use Rattle.oracle_parts.specs.declared.buckets.Verdict.TheVariants.{Conflict, Hidden}
+use Rattle.oracle_parts.specs.declared.buckets.Verdict.TheVariants.{Free, Conflict, Hidden}
 use Rattle.oracle_parts.specs.declared.instance.Progress.{Progress}
 use Rattle.oracle_parts.specs.declared.instance.Progress.TheVariants as progress
 use Rattle.oracle_parts.specs.declared.instance.Request.{Request}
 use Rattle.oracle_parts.specs.declared.instance.Request.TheVariants.{Begin, Commit}
-use Rattle.oracle_parts.specs.Buckets.{Bucket, contents, verdict, IsShown}
+use Rattle.oracle_parts.specs.Buckets.{Bucket, contents, first_refusal, verdict, IsShown}
 use Rattle.oracle_parts.specs.Instance.{InstanceEntry}
 use Rattle.oracle_parts.proofs.BucketVerdicts.{verdict_shown}
 use Rattle.machine.specs.State.{State}
@@ -65,27 +65,59 @@ keys_of w h s asker start keys i stands serves =
     let pending : Pending w.nodes q = record { instance_of = i; progress_of = progress.Accepted; at = serves.at; held = held; term_is = refl; stage_is = refl } in
     (stands.holds.requests.pending.keys q pending).0
 
+-- ---- the keys that a refusal is of: those that the commit writes, or with strict reads those that its client has read
+record Refused (w : State) (i : InstanceEntry) (start : ℕ) (keys : List ℕ) (why : Verdict) : Type 0 where
+  of : List ℕ
+  own : w.setup.strict ≡ false → of ≡ keys
+  judged : verdict i.buckets start of ≡ why
+
+either : (here later why : Verdict) → why ≢ Free → first_refusal here later ≡ why → (here ≡ why) ⊎ (later ≡ why)
+either Free later why some is = inr is
+either (Conflict key by) later why some is = inl is
+either (Hidden key water) later why some is = inl is
+
+-- nothing that was read is nothing that is refused
+none_read : (buckets : List Bucket) (start : ℕ) (reads : List ℕ) (why : Verdict) → why ≢ Free → reads ≡ [] → verdict buckets start reads ≡ why → ⊥
+unfolding verdict
+none_read buckets start reads why some none is = some (sym is ∙ ap (λ (ks : List ℕ). verdict buckets start ks) none)
+
+refused : (w : State) (h : List Item) (s : ℕ) (why : Verdict) → why ≢ Free → Stands w h → (due : DueVerdict w s why) → Refused w due.i due.start due.keys why
+refused w h s why some stands due = elim (either (verdict due.i.buckets due.start due.keys) (verdict due.i.buckets due.start due.client.reads) why some due.judged) [
+  | inl wrote ↦ record { of = due.keys; own = λ plain. refl; judged = wrote }
+  | inr read ↦
+      record {
+        of = due.client.reads;
+        own = λ plain. absurd (none_read due.i.buckets due.start due.client.reads why some (stands.holds.reads.read_sets.plain plain s due.client due.client_at) read);
+        judged = read;
+      }
+]
+
 -- the buckets have what was drawn in the term
-judged_by : (w : State) (h : List Item) (s : ℕ) (why : Verdict) → Stands w h → (due : DueVerdict w s why) → verdict (contents w.setup.buckets w.setup.width (recorded h due.i.term)) due.start due.keys ≡ why
-judged_by w h s why stands due = ap (λ (bs : List Bucket). verdict bs due.start due.keys) (sym (stands.holds.memory.recorded.hold due.serves.node due.i due.serves.at)) ∙ due.judged
+judged_by : (w : State) (h : List Item) (s : ℕ) (why : Verdict) → Stands w h → (due : DueVerdict w s why) → (r : Refused w due.i due.start due.keys why) → verdict (contents w.setup.buckets w.setup.width (recorded h due.i.term)) due.start r.of ≡ why
+judged_by w h s why stands due r = ap (λ (bs : List Bucket). verdict bs due.start r.of) (sym (stands.holds.memory.recorded.hold due.serves.node due.i due.serves.at)) ∙ r.judged
 
 -- so what they say is shown by it
-told : (w : State) (h : List Item) (s : ℕ) (why : Verdict) → Stands w h → (due : DueVerdict w s why) → IsShown w.setup.buckets w.setup.width (recorded h due.i.term) due.start due.keys why
-told w h s why stands due =
+told : (w : State) (h : List Item) (s : ℕ) (why : Verdict) → Stands w h → (due : DueVerdict w s why) → (r : Refused w due.i due.start due.keys why) → IsShown w.setup.buckets w.setup.width (recorded h due.i.term) due.start r.of why
+told w h s why stands due r =
     let setup = stands.holds.in_range in
-    subst (λ v. IsShown w.setup.buckets w.setup.width (recorded h due.i.term) due.start due.keys v) (judged_by w h s why stands due)
-    (verdict_shown w.setup.buckets w.setup.width (recorded h due.i.term) due.start due.keys setup.buckets.0 setup.width.0 (recorded_rise h due.i.term stands.holds.numbers.new))
+    subst (λ v. IsShown w.setup.buckets w.setup.width (recorded h due.i.term) due.start r.of v) (judged_by w h s why stands due r)
+    (verdict_shown w.setup.buckets w.setup.width (recorded h due.i.term) due.start r.of setup.buckets.0 setup.width.0 (recorded_rise h due.i.term stands.holds.numbers.new))
 
-pub conflict_shown : (w : State) (h : List Item) (s key by : ℕ) → Stands w h → Shows w h → DueVerdict w s (Conflict key by) → ShownConflict h s key by
+-- without strict reads the transaction wrote the key
+own_key : (w : State) (h : List Item) (s key : ℕ) (why : Verdict) → Stands w h → (due : DueVerdict w s why) → (r : Refused w due.i due.start due.keys why) → Contains r.of key → w.setup.strict ≡ false → Contains (written_keys h due.start) key
+own_key w h s key why stands due r has plain = subst (λ ks. Contains ks key) (r.own plain ∙ keys_of w h s due.asker due.start due.keys due.i stands due.serves) has
+
+pub conflict_shown : (w : State) (h : List Item) (s key by : ℕ) → Stands w h → Shows w h → DueVerdict w s (Conflict key by) → ShownConflict w.setup h s key by
 conflict_shown w h s key by stands shows due =
-    let is = told w h s (Conflict key by) stands due in
+    let r = refused w h s (Conflict key by) (λ same. cc) stands due in
+    let is = told w h s (Conflict key by) stands due r in
     let from = last_drawn h due.i.term key by is.1 in
     record {
       node = due.serves.node;
       node_is = node_of w h s due.i (Commit due.asker due.start due.keys) progress.Accepted shows due.serves;
       start = due.start;
       start_is = start_of w h s due.asker due.start due.keys due.i progress.Accepted shows due.serves;
-      own = subst (λ ks. Contains ks key) (keys_of w h s due.asker due.start due.keys due.i stands due.serves) is.0;
+      own = own_key w h s key (Conflict key by) stands due r is.0;
       term = due.i.term;
       term_is = term_of w h s due.i (Commit due.asker due.start due.keys) progress.Accepted shows due.serves accepted_not_asked;
       above = is.2;
@@ -96,18 +128,19 @@ conflict_shown w h s key by stands shows due =
 
 pub hidden_shown : (w : State) (h : List Item) (s key water : ℕ) → Stands w h → Shows w h → DueVerdict w s (Hidden key water) → ShownHidden w.setup h s key water
 hidden_shown w h s key water stands shows due =
-    let is = told w h s (Hidden key water) stands due in
+    let r = refused w h s (Hidden key water) (λ same. cc) stands due in
+    let is = told w h s (Hidden key water) stands due r in
     let from = drawn_at h due.i.term w.setup.buckets _ water is.2 in
     record {
       node = due.serves.node;
       node_is = node_of w h s due.i (Commit due.asker due.start due.keys) progress.Accepted shows due.serves;
       start = due.start;
       start_is = start_of w h s due.asker due.start due.keys due.i progress.Accepted shows due.serves;
-      own = subst (λ ks. Contains ks key) (keys_of w h s due.asker due.start due.keys due.i stands due.serves) is.0;
+      own = own_key w h s key (Hidden key water) stands due r is.0;
       term = due.i.term;
       term_is = term_of w h s due.i (Commit due.asker due.start due.keys) progress.Accepted shows due.serves accepted_not_asked;
       forgotten = is.1;
-      forgot = hidden_water (contents w.setup.buckets w.setup.width (recorded h due.i.term)) due.start due.keys key water (judged_by w h s (Hidden key water) stands due);
+      forgot = hidden_water (contents w.setup.buckets w.setup.width (recorded h due.i.term)) due.start r.of key water (judged_by w h s (Hidden key water) stands due r);
       above = is.3;
       writer = from.writer;
       drawn = from.drawn;

@@ -17,9 +17,9 @@ use Rattle.oracle_parts.specs.declared.instance.Request.{Request}
 use Rattle.oracle_parts.specs.declared.instance.Request.TheVariants.{Begin, Commit}
 use Rattle.oracle_parts.specs.declared.instance.Settled.{Settled}
 use Rattle.oracle_parts.specs.declared.instance.Settled.TheVariants as how
-use Rattle.oracle_parts.specs.Buckets.{verdict}
 use Rattle.oracle_parts.specs.Instance.{InstanceEntry, in_flight, least_unsettled}
 use Rattle.machine.specs.State.{Client, State}
+use Rattle.machine.specs.Events.Decide.{both_verdict}
 use Rattle.cause_rules.specs.Explained.{ShownCause}
 use Rattle.isolation_laws.specs.Words.{InstanceAt, HeldBy, ClientAt}
 
@@ -30,14 +30,16 @@ pub record Serves (w : State) (s : ℕ) (i : InstanceEntry) (request : Request) 
   pub at : InstanceAt w.nodes node i
   pub holds : HeldBy i s request p
 
--- the buckets give the commit this verdict
+-- the buckets give the commit this verdict, by the keys that it writes and by those that its client has read
 pub record DueVerdict (w : State) (s : ℕ) (why : Verdict) : Type 0 where
   pub i : InstanceEntry
   pub asker : ℕ
   pub start : ℕ
   pub keys : List ℕ
   pub serves : Serves w s i (Commit asker start keys) progress.Accepted
-  pub judged : verdict i.buckets start keys ≡ why
+  pub client : Client
+  pub client_at : ClientAt w.clients s client
+  pub judged : both_verdict i.buckets client.reads (Commit asker start keys) ≡ why
 
 pub record DueOldEpoch (w : State) (s start epoch : ℕ) : Type 0 where
   pub i : InstanceEntry
