@@ -14,7 +14,7 @@ use Rattle.machine.specs.Events.Renew.{renew_asks}
 use Rattle.machine.specs.Events.Extend.{extend_asks}
 use Rattle.machine.specs.Events.Put.{put_asks}
 use Rattle.machine.specs.Events.Write.{write_asks}
-use Rattle.machine.specs.Events.Fetch.{marks_every, fetch_asks}
+use Rattle.machine.specs.Events.Fetch.{fetch_asks}
 use Rattle.machine.specs.Events.Step.{step_asks}
 use Rattle.machine.specs.Events.Heal.{heal_asks}
 use Rattle.isolation_laws.specs.Sound.{Stands}
@@ -47,7 +47,7 @@ all_made clocks w h (event.Decide node session) fate stands shows reads = inl (b
 all_made clocks w h (event.Put node session) fate stands shows reads = inl (post_made clocks fate w w node _ (put_asks session) (λ post at. put_on_made clocks node session fate post w.pairs) (slice_get w.nodes node) refl)
 all_made clocks w h (event.Answer node session) fate stands shows reads = inl (both_made clocks fate w node _ (λ post c at. answer_on_made clocks fate node session post c) (slice_get w.nodes node) (slice_get w.clients session) refl)
 all_made clocks w h (event.Write session key value) fate stands shows reads = inl (client_made clocks fate w _ (write_asks key) (λ c. write_on_made clocks session key value fate c w.rows) (slice_get w.clients session))
-all_made clocks w h (event.Fetch session key) fate stands shows reads = inl (client_made clocks fate w _ fetch_asks (λ c. fetch_on_made clocks (marks_every w.setup) session key fate c w.rows) (slice_get w.clients session))
+all_made clocks w h (event.Fetch session key) fate stands shows reads = inl (client_made clocks fate w _ (fetch_asks w.setup key) (λ c. fetch_on_made clocks w.setup session key fate c w.rows) (slice_get w.clients session))
 all_made clocks w h (event.Step session) fate stands shows reads = inl (client_made clocks fate w _ step_asks (λ c. step_on_made clocks session fate c w.rows w.pairs) (slice_get w.clients session))
 all_made clocks w h (event.Heal session) fate stands shows reads = inl (client_made clocks fate w _ heal_asks (λ c. heal_on_made clocks session fate c w.rows w.pairs) (slice_get w.clients session))
 all_made clocks w h (event.Abort session) fate stands shows reads = inl (session_made clocks fate w _ (λ c. abort_on_made clocks fate session c) (slice_get w.clients session))

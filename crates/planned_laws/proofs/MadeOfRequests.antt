@@ -24,10 +24,10 @@ use Rattle.oracle_parts.specs.declared.instance.Request.{Request}
 use Rattle.oracle_parts.specs.declared.instance.Request.TheVariants.{Begin, Commit}
 use Rattle.oracle_parts.specs.Instance.{InstanceEntry, held_of, stamps_at, was_told_not_yet, least_unsettled}
 use Rattle.oracle_parts.specs.InstanceLaws.{stamp_of}
-use Rattle.oracle_parts.specs.InstanceSteps.{InstanceStep, epoch_refusal, accept_unless, accept_if_asked, accept_held, request_verdict, out_of_stamps, decide_drawn, decide_by as verdict_by, decide_if_accepted, decide_held, instance_decide, answer_begin, answer_if_ready, answer_held, instance_answer}
+use Rattle.oracle_parts.specs.InstanceSteps.{InstanceStep, epoch_refusal, accept_unless, accept_if_asked, accept_held, out_of_stamps, decide_drawn, decide_by as verdict_by, answer_begin, answer_if_ready, answer_held, instance_answer}
 use Rattle.machine.specs.State.{Client, State}
 use Rattle.machine.specs.Events.Accept.{accept_by, accept_request, accept_on}
-use Rattle.machine.specs.Events.Decide.{draw_item, decide_by, decide_request, decide_on}
+use Rattle.machine.specs.Events.Decide.{both_verdict, both_if_accepted, both_held, decide_both, draw_item, decide_by, decide_request, decide_on}
 use Rattle.machine.specs.Events.Put.{to_place, put_by, put_commit, put_on, commit_asks, put_asks}
 use Rattle.machine.specs.Events.Answer.{answer_by, answer_request, answer_on}
 use Rattle.cause_rules.specs.Asks.{its_node}
@@ -104,13 +104,13 @@ verdict_untimed i session held Free stop = room_untimed i session _ held (i.last
 verdict_untimed i session held (Conflict key by) stop = tt
 verdict_untimed i session held (Hidden key water) stop = tt
 
-accepted_untimed : (i : InstanceEntry) (session : ℕ) (held : Held) (p : Progress) → StopOf i.stop → AnswersUntimed (decide_if_accepted i session held p).answer
-accepted_untimed i session held progress.Accepted stop = verdict_untimed i session held (request_verdict i.buckets held.request) stop
-accepted_untimed i session held _ stop = tt
+accepted_untimed : (i : InstanceEntry) (session : ℕ) (reads : List ℕ) (held : Held) (p : Progress) → StopOf i.stop → AnswersUntimed (both_if_accepted i session reads held p).answer
+accepted_untimed i session reads held progress.Accepted stop = verdict_untimed i session held (both_verdict i.buckets reads held.request) stop
+accepted_untimed i session reads held _ stop = tt
 
-decided_untimed : (i : InstanceEntry) (session : ℕ) (found : Option Held) → StopOf i.stop → AnswersUntimed (decide_held i session found).answer
-decided_untimed i session None stop = tt
-decided_untimed i session (Some held) stop = accepted_untimed i session held held.progress stop
+decided_untimed : (i : InstanceEntry) (session : ℕ) (reads : List ℕ) (found : Option Held) → StopOf i.stop → AnswersUntimed (both_held i session reads found).answer
+decided_untimed i session reads None stop = tt
+decided_untimed i session reads (Some held) stop = accepted_untimed i session reads held held.progress stop
 
 draw_made : (clocks : Clocks) (fate : Fate) (node term stamp : ℕ) (request : Request) → Made clocks None fate (draw_item node term request stamp ∷ [])
 draw_made clocks fate node term stamp (Begin asker) = made_one clocks None fate (item.Draw asker node term stamp None) tt
@@ -124,7 +124,7 @@ decide_made clocks fate node session held left c (Err why) untimed = made_refuse
 
 decide_found : (clocks : Clocks) (fate : Fate) (node session : ℕ) (i : InstanceEntry) (c : Client) → StopOf i.stop → (found : Option Held) → Made clocks None fate (decide_request node session i c found).items
 decide_found clocks fate node session i c stop None = made_refused clocks None fate (Node node) (cause.NoRequest session) tt
-decide_found clocks fate node session i c stop (Some held) = decide_made clocks fate node session held (instance_decide i session).left c (instance_decide i session).answer (decided_untimed i session (held_of i session) stop)
+decide_found clocks fate node session i c stop (Some held) = decide_made clocks fate node session held (decide_both i session c.reads).left c (decide_both i session c.reads).answer (decided_untimed i session c.reads (held_of i session) stop)
 
 pub decide_on_made : (clocks : Clocks) (fate : Fate) (w : State) (node session : ℕ) (post : Option InstanceEntry) (c : Client) → AreStops w.nodes → slice_get w.nodes node ≡ Some post → Made clocks None fate (decide_on node session post c).items
 decide_on_made clocks fate w node session None c stops at = made_refused clocks None fate (Node node) (cause.NoOracle node) tt

@@ -3,6 +3,7 @@ use Rattle.std.proofs.Common.{ℕ, ◌==◌, Bool, true, false, if◌then◌else
 use Rattle.std.specs.Prelude.{nat_lt}
 use Rattle.std.specs.Option.{option_or}
 use Rattle.std.proofs.lemmas.List.Elements.{All-cons, All-append}
+use Rattle.stamp_base.specs.SetupNumbers.{SetupNumbers}
 use Rattle.stamp_base.specs.declared.stores.Store.TheVariants.{Cells}
 use Rattle.stamp_base.specs.declared.limits.TheConstants.{KEY_LIMIT}
 use Rattle.port_io.specs.declared.weather.Fate.{Fate}
@@ -31,7 +32,7 @@ use Rattle.machine.specs.Events.AskCommit.{commit_of, ask_commit_by, ask_commit_
 use Rattle.machine.specs.Events.Abort.{abort_by, abort_on}
 use Rattle.machine.specs.Events.Vanish.{vanish_by, vanish_on}
 use Rattle.machine.specs.Events.Write.{write_refused, write_by, write_open, write_on, open_asks, write_asks}
-use Rattle.machine.specs.Events.Fetch.{read_items, fetch_by, fetch_open, fetch_on, epoch_asks, fetch_asks}
+use Rattle.machine.specs.Events.Fetch.{marks_every, keeps_read, reads_refusal, fetch_refused, read_items, fetch_by, fetch_open, fetch_on, epoch_asks, fetch_asks}
 use Rattle.isolation_laws.proofs.InversionOfAsks.{asked_if}
 use Rattle.line_steps.specs.Next.{Clocks}
 use Rattle.planned_laws.proofs.ReadItems.{IsRead, Made, none_read, one_read, made_none, made_one, made_failed, made_fault, unchanged_fails, applied_fails, IfUntimed, made_refused}
@@ -96,6 +97,10 @@ vanish_untimed (phase.Completing undo) = tt
 key_untimed : (room : Bool) → IfUntimed (if room then None else Some cause.TooManyKeys)
 key_untimed true = tt
 key_untimed false = tt
+
+reads_untimed : (c : Client) (key : ℕ) (kept : Bool) → IfUntimed (if kept then key_refusal c.reads key else None)
+reads_untimed c key true = key_untimed (has_key c.reads key || nat_lt (length c.reads) KEY_LIMIT)
+reads_untimed c key false = tt
 
 either_untimed : (work key : Option Cause) → IfUntimed work → IfUntimed key → IfUntimed (option_or work key)
 either_untimed None key first second = second
@@ -164,18 +169,20 @@ pub read_turn_read : (clocks : Clocks) (session start key : ℕ) (turn : ReadTur
 read_turn_read clocks session start key (Asks r) = none_read clocks
 read_turn_read clocks session start key (Answers a) = one_read clocks _ tt
 
-fetch_fated : (clocks : Clocks) (every : Bool) (session start epoch key : ℕ) (fate : Fate) (c : Client) (cells : List Cell) → Made clocks (Some Cells) fate (fetch_by every session start epoch key fate c cells).items
-fetch_fated clocks every session start epoch key Works c cells = inl (All-cons (IsRead clocks) _ (read_items session start key (read_over every key start epoch (front_of start cells))) tt (read_turn_read clocks session start key (read_over every key start epoch (front_of start cells))))
-fetch_fated clocks every session start epoch key FailsUnchanged c cells = made_fault clocks Cells FailsUnchanged [] (Session session) unchanged_fails (none_read clocks)
-fetch_fated clocks every session start epoch key FailsApplied c cells = made_fault clocks Cells FailsApplied [] (Session session) applied_fails (none_read clocks)
+fetch_fated : (clocks : Clocks) (setup : SetupNumbers) (session start epoch key : ℕ) (fate : Fate) (c : Client) (cells : List Cell) → Made clocks (Some Cells) fate (fetch_by setup session start epoch key fate c cells).items
+fetch_fated clocks setup session start epoch key Works c cells = inl (All-cons (IsRead clocks) _ (read_items session start key (read_over (marks_every setup) key start epoch (front_of start cells))) tt (read_turn_read clocks session start key (read_over (marks_every setup) key start epoch (front_of start cells))))
+fetch_fated clocks setup session start epoch key FailsUnchanged c cells = made_fault clocks Cells FailsUnchanged [] (Session session) unchanged_fails (none_read clocks)
+fetch_fated clocks setup session start epoch key FailsApplied c cells = made_fault clocks Cells FailsApplied [] (Session session) applied_fails (none_read clocks)
 
-fetch_made : (clocks : Clocks) (every : Bool) (session key : ℕ) (fate : Fate) (c : Client) (rows : List Row) (why : Option Cause) (start epoch : Option ℕ) → IfUntimed why → Made clocks (epoch_asks epoch (open_asks why start)) fate (fetch_open every session key fate c rows why start epoch).items
-fetch_made clocks every session key fate c rows (Some why) start None untimed = made_refused clocks None fate (Session session) why untimed
-fetch_made clocks every session key fate c rows (Some why) start (Some epoch) untimed = made_refused clocks None fate (Session session) why untimed
-fetch_made clocks every session key fate c rows None None None untimed = made_none clocks None fate
-fetch_made clocks every session key fate c rows None None (Some epoch) untimed = made_none clocks None fate
-fetch_made clocks every session key fate c rows None (Some start) None untimed = made_none clocks None fate
-fetch_made clocks every session key fate c rows None (Some start) (Some epoch) untimed = fetch_fated clocks every session start epoch key fate c (fetched rows key start)
+fetch_made : (clocks : Clocks) (setup : SetupNumbers) (session key : ℕ) (fate : Fate) (c : Client) (rows : List Row) (why : Option Cause) (start epoch : Option ℕ) → IfUntimed why → Made clocks (epoch_asks epoch (open_asks why start)) fate (fetch_open setup session key fate c rows why start epoch).items
+fetch_made clocks setup session key fate c rows (Some why) start None untimed = made_refused clocks None fate (Session session) why untimed
+fetch_made clocks setup session key fate c rows (Some why) start (Some epoch) untimed = made_refused clocks None fate (Session session) why untimed
+fetch_made clocks setup session key fate c rows None None None untimed = made_none clocks None fate
+fetch_made clocks setup session key fate c rows None None (Some epoch) untimed = made_none clocks None fate
+fetch_made clocks setup session key fate c rows None (Some start) None untimed = made_none clocks None fate
+fetch_made clocks setup session key fate c rows None (Some start) (Some epoch) untimed = fetch_fated clocks setup session start epoch key fate c (fetched rows key start)
 
-pub fetch_on_made : (clocks : Clocks) (every : Bool) (session key : ℕ) (fate : Fate) (c : Client) (rows : List Row) → Made clocks (fetch_asks c) fate (fetch_on every session key fate c rows).items
-fetch_on_made clocks every session key fate c rows = fetch_made clocks every session key fate c rows (work_refusal c.entry.state (is_reading c)) c.entry.start c.entry.epoch (work_untimed c.entry.state (is_reading c))
+pub fetch_on_made : (clocks : Clocks) (setup : SetupNumbers) (session key : ℕ) (fate : Fate) (c : Client) (rows : List Row) → Made clocks (fetch_asks setup key c) fate (fetch_on setup session key fate c rows).items
+fetch_on_made clocks setup session key fate c rows =
+    let untimed : IfUntimed (fetch_refused setup c key) = either_untimed (work_refusal c.entry.state (is_reading c)) (reads_refusal setup c key) (work_untimed c.entry.state (is_reading c)) (reads_untimed c key (keeps_read setup c key)) in
+    fetch_made clocks setup session key fate c rows (fetch_refused setup c key) c.entry.start c.entry.epoch untimed
