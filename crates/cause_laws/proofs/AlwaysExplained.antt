@@ -1,6 +1,6 @@
 -- For cluster_core and planned_laws too.
 -- What the history shows of the state is kept by every event; so every refusal is shown in each history.
-use Rattle.std.proofs.Common.{◌≡◌, List, [], ◌∷◌, ◌++◌, append_assoc, Option, refl, sym, ◌∙◌, subst}
+use Rattle.std.proofs.Common.{◌≡◌, List, [], ◌∷◌, ◌++◌, append_assoc, Option, sym, ◌∙◌, subst}
 use Rattle.std.proofs.lemmas.List.{append-nil}
 use Rattle.stamp_base.specs.SetupNumbers.{SetupNumbers, AreInRange}
 use Rattle.port_io.specs.declared.weather.Fate.{Fate}
@@ -12,7 +12,7 @@ use Rattle.machine.specs.Machine.{Step, stepped, Move, state_after, items_after,
 use Rattle.machine.proofs.PartsKept.{leaves_parts}
 use Rattle.cause_rules.specs.Explained.{Shown, Explained}
 use Rattle.isolation_laws.specs.Sound.{Stands}
-use Rattle.isolation_laws.proofs.AlwaysHolds.{facts_stay, steady_stays, steady_now, stands_at_first}
+use Rattle.isolation_laws.proofs.AlwaysHolds.{facts_stay, steady_stays, steady_now, stands_at_first, setup_after}
 use Rattle.cause_laws.specs.Requests.{AreAsked, AreFaulted, AreOpenAsks}
 use Rattle.cause_laws.specs.Nodes.{AreTaken, AreVacant, AreShownStops, AreLasts}
 use Rattle.cause_laws.specs.Shows.{Shows, Tells}
@@ -86,11 +86,6 @@ tells_at_first setup in_range = record {
   shows = shown_at_first setup;
   explained = record { at = λ place x found. absurd (cc) };
 }
-
-setup_after : (w : State) (moves : List Move) → (state_after w moves).setup ≡ w.setup
-unfolding state_after
-setup_after w [] = refl
-setup_after w (move ∷ moves) = setup_after (stepped w move.event move.fate).state moves ∙ (leaves_parts w move.event move.fate).setup
 
 -- every refusal of every history is shown
 pub histories_are_explained : (setup : SetupNumbers) (moves : List Move) → AreInRange setup → Steady setup moves → Explained setup (history_after setup moves)
