@@ -17,14 +17,14 @@ use Rattle.oracle_parts.specs.declared.instance.Reply.TheVariants as reply
 use Rattle.oracle_parts.specs.declared.instance.Request.{Request}
 use Rattle.oracle_parts.specs.declared.instance.Request.TheVariants.{Begin, Commit}
 use Rattle.oracle_parts.specs.Instance.{InstanceEntry, held_of, with_request, stamps_of_held, least_unsettled, not_yet_of_held}
-use Rattle.oracle_parts.specs.InstanceSteps.{InstanceStep, IsStop, out_of_stamps, decide_drawn, decide_by as verdict_by, decide_if_accepted, decide_held, instance_decide, request_verdict, answer_begin, answer_if_ready, answer_held, instance_answer}
+use Rattle.oracle_parts.specs.InstanceSteps.{InstanceStep, IsStop, out_of_stamps, decide_drawn, decide_by as verdict_by, answer_begin, answer_if_ready, answer_held, instance_answer}
 use Rattle.machine.specs.declared.event.Event.{Event}
 use Rattle.machine.specs.declared.event.Event.TheVariants as event
 use Rattle.machine.specs.State.{Client, State}
 use Rattle.machine.specs.Effect.{Effect}
 use Rattle.machine.specs.Machine.{Step, step_by, with_post, with_client, at_both, stepped}
 use Rattle.machine.specs.Events.Answer.{answer_by, answer_request, answer_on}
-use Rattle.machine.specs.Events.Decide.{decide_by, decide_request, decide_on}
+use Rattle.machine.specs.Events.Decide.{both_verdict, both_if_accepted, both_held, decide_both, decide_by, decide_request, decide_on}
 use Rattle.machine.proofs.Refusals.{same_both}
 use Rattle.script_data.specs.Data.{ScriptData}
 use Rattle.isolation_laws.specs.Sound.{StopOf, Stands}
@@ -84,16 +84,16 @@ verdict_leaves i s held Free is stops = free_leaves i s held (i.last == i.ceilin
 verdict_leaves i s held (Conflict key by) is stops = λ last answer told. absurd (cc)
 verdict_leaves i s held (Hidden key water) is stops = λ last answer told. absurd (cc)
 
-accepted_leaves : (i : InstanceEntry) (s : ℕ) (held : Held) (progress : Progress) → held_of i s ≡ Some held → StopOf i.stop → LeavesTold i held (decide_if_accepted i s held progress)
-accepted_leaves i s held Accepted is stops = verdict_leaves i s held (request_verdict i.buckets held.request) is stops
-accepted_leaves i s held _ is stops = λ last answer told. absurd (cc)
+accepted_leaves : (i : InstanceEntry) (s : ℕ) (reads : List ℕ) (held : Held) (progress : Progress) → held_of i s ≡ Some held → StopOf i.stop → LeavesTold i held (both_if_accepted i s reads held progress)
+accepted_leaves i s reads held Accepted is stops = verdict_leaves i s held (both_verdict i.buckets reads held.request) is stops
+accepted_leaves i s reads held _ is stops = λ last answer told. absurd (cc)
 
-decide_leaves : (i : InstanceEntry) (s : ℕ) (held : Held) → held_of i s ≡ Some held → StopOf i.stop → LeavesTold i held (instance_decide i s)
-decide_leaves i s held is stops = subst (λ (found : Option Held). LeavesTold i held (decide_held i s found)) (sym is) (accepted_leaves i s held held.progress is stops)
+decide_leaves : (i : InstanceEntry) (s : ℕ) (reads : List ℕ) (held : Held) → held_of i s ≡ Some held → StopOf i.stop → LeavesTold i held (decide_both i s reads)
+decide_leaves i s reads held is stops = subst (λ (found : Option Held). LeavesTold i held (both_held i s reads found)) (sym is) (accepted_leaves i s reads held held.progress is stops)
 
 decide_held_quiet : (node s : ℕ) (i : InstanceEntry) (c : Client) (held : Option Held) → held_of i s ≡ held → StopOf i.stop → Quiet (Some i) c (decide_request node s i c held)
 decide_held_quiet node s i c None is stops none = absurd (cc)
-decide_held_quiet node s i c (Some held) is stops none = decided_quiet node s i (instance_decide i s).left held c (instance_decide i s).answer (decide_leaves i s held is stops) none
+decide_held_quiet node s i c (Some held) is stops none = decided_quiet node s i (decide_both i s c.reads).left held c (decide_both i s c.reads).answer (decide_leaves i s c.reads held is stops) none
 
 decide_quiet : (node s : ℕ) (post : Option InstanceEntry) (c : Client) → ((i : InstanceEntry) → post ≡ Some i → StopOf i.stop) → Quiet post c (decide_on node s post c)
 decide_quiet node s None c stops none = absurd (cc)
