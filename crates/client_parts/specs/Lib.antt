@@ -4,5 +4,7 @@ pub mod Completion
 pub mod Sweep
 pub mod KeyRead
 pub mod CutReads
+pub mod Cache
+pub mod Recalled
 pub mod SessionSteps
 pub mod WriteLists

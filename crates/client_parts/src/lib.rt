@@ -5,6 +5,7 @@
 mod asks;
 mod completion;
 mod key_read;
+mod known;
 mod resolve;
 mod session;
 mod sweep;
@@ -17,6 +18,7 @@ pub use key_read::{
     Answer, Next, answers_own_or_below, answers_resolved, cut_reads_are_whole, passed_are_late,
     passes_dead_or_late, reads_end, reads_mark_old_alone,
 };
+pub use known::Known;
 pub use resolve::{
     Outcome, SettlePoint, committed_is_told, dead_by_last_look, mark_never_decides,
     marks_where_allowed, settles_end,

@@ -2,6 +2,7 @@
 use Rattle.std.specs.Prelude.{ℕ, Bool, true, false, List, [], ◌∷◌, Option, None, Some}
 use Rattle.client_parts.specs.declared.session.State as state
 use Rattle.client_parts.specs.SessionSteps.{session_begun, session_asked, session_freed, session_aborted, session_committed, session_opened, session_vanished}
+use Rattle.client_parts.specs.Cache.{cache_new}
 use Rattle.client_parts.specs.Completion.{finish_asks, undo_asks}
 use Rattle.oracle_parts.specs.declared.instance.Request.{Request}
 use Rattle.oracle_parts.specs.declared.instance.Request.TheVariants.{Begin, Commit}
@@ -51,8 +52,9 @@ client_committed c commit = record (emptied c) { entry = session_committed c.ent
 abbrev pub client_opened : Client → Client
 client_opened c = record (emptied c) { entry = session_opened c.entry }
 
+-- what it remembered goes with it
 abbrev pub client_vanished : Client → Client
-client_vanished c = record (emptied c) { entry = session_vanished c.entry }
+client_vanished c = record (emptied c) { entry = session_vanished c.entry; cache = cache_new c.cache.room }
 
 -- nobody hears an answer to a session that has vanished
 abbrev pub unless_gone_by : state.State → Client → Client → Client

@@ -9,6 +9,7 @@ use Rattle.client_parts.specs.declared.asks.Ask.{Ask}
 use Rattle.client_parts.specs.SessionSteps.{SessionEntry, session_new}
 use Rattle.client_parts.specs.Resolve.{Settling}
 use Rattle.client_parts.specs.KeyRead.{Reading}
+use Rattle.client_parts.specs.Cache.{Cache, cache_new}
 use Rattle.client_parts.specs.Sweep.{Sweeping}
 use Rattle.oracle_parts.specs.Instance.{InstanceEntry}
 
@@ -22,13 +23,14 @@ pub data UnderWay : Type 0 where
   -- the asks of a completion that are left
   Completes : List Ask → UnderWay
 
--- a client: its session, what it has under way, the shadow that its last read offers to set (key, version and commit), and
--- the keys that its transaction read and had not written, where the setup has them kept
+-- a client: its session, what it has under way, the shadow that its last read offers to set (key, version and commit), the keys
+-- that its transaction read and had not written, where the setup has them kept, and what it remembers of other transactions
 pub record Client : Type 0 where
   pub entry : SessionEntry
   pub under_way : UnderWay
   pub heal : Option (ℕ × ℕ × ℕ)
   pub reads : List ℕ
+  pub cache : Cache
 
 pub record State : Type 0 where
   -- the numbers of the setup, which no event changes
@@ -46,14 +48,15 @@ pub record State : Type 0 where
   pub pairs : Pairs
   pub master : MasterRecord
 
-abbrev pub client_new : Client
-client_new = record { entry = session_new; under_way = Nothing; heal = None; reads = [] }
+-- a client before its first transaction, with room for so many decisions
+abbrev pub client_new : ℕ → Client
+client_new room = record { entry = session_new; under_way = Nothing; heal = None; reads = []; cache = cache_new room }
 
 abbrev pub opening : SetupNumbers → State
 opening setup = record {
   setup = setup;
   seen = 0;
-  clients = replicate 16 client_new;
+  clients = replicate 16 (client_new setup.cache);
   nodes = replicate setup.nodes None;
   sweep = None;
   rows = [];

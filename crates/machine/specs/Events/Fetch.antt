@@ -17,7 +17,9 @@ use Rattle.history_book.specs.declared.item.Item.TheVariants as item
 use Rattle.store_parts.specs.declared.rows.Cell.{Cell}
 use Rattle.store_parts.specs.Rows.{Row, fetched, front_of}
 use Rattle.client_parts.specs.SessionSteps.{work_refusal, has_key, key_added, key_refusal}
-use Rattle.client_parts.specs.KeyRead.{ReadTurn, Asks, Answers, read_over}
+use Rattle.client_parts.specs.KeyRead.{ReadTurn, Asks, Answers}
+use Rattle.client_parts.specs.Cache.{put_fresh}
+use Rattle.client_parts.specs.Recalled.{Remembering, recalled_over}
 use Rattle.machine.specs.State.{Client, Nothing, Reads}
 use Rattle.machine.specs.Effect.{Effect, done, refused, faulted}
 use Rattle.machine.specs.Clients.{is_reading}
@@ -31,6 +33,14 @@ found_of (Some found) = Some (record { from = found.0; value = found.1 })
 abbrev pub client_read : Client → ReadTurn → Client
 client_read c (Asks r) = record c { under_way = Reads r; heal = None }
 client_read c (Answers a) = record c { under_way = Nothing; heal = a.heal }
+
+-- the same, with what the session remembers then
+abbrev pub client_recalled : Client → Remembering → Client
+client_recalled c x = client_read (record c { cache = x.1 }) x.0
+
+-- a fetch, and a step of a read, first put a fresh decision with those that are kept
+abbrev pub client_put_fresh : Client → Client
+client_put_fresh c = record c { cache = put_fresh c.cache }
 
 abbrev pub read_items : ℕ → ℕ → ℕ → ReadTurn → List Item
 read_items session start key (Asks r) = []
@@ -58,13 +68,13 @@ abbrev pub fetch_refused : SetupNumbers → Client → ℕ → Option Cause
 fetch_refused setup c key = option_or (work_refusal c.entry.state (is_reading c)) (reads_refusal setup c key)
 
 -- the fetch, and the read over its cells as far as it goes
-abbrev pub fetch_worked : ℕ → ℕ → ℕ → Client → List Cell → ReadTurn → Effect Client
-fetch_worked session start key c cells turn = done (client_read c turn) (item.Step (Session session) (step.Fetch key (length cells)) ∷ read_items session start key turn)
+abbrev pub fetch_worked : ℕ → ℕ → ℕ → Client → List Cell → Remembering → Effect Client
+fetch_worked session start key c cells x = done (client_recalled c x) (item.Step (Session session) (step.Fetch key (length cells)) ∷ read_items session start key x.0)
 
 abbrev pub fetch_by : SetupNumbers → ℕ → ℕ → ℕ → ℕ → Fate → Client → List Cell → Effect Client
 fetch_by setup session start epoch key Works c cells =
-    fetch_worked session start key (client_fetched setup c key) cells (read_over (marks_every setup) key start epoch (front_of start cells))
-fetch_by setup session start epoch key fate c cells = faulted (record c { heal = None }) (Session session) Cells []
+    fetch_worked session start key (client_fetched setup c key) cells (recalled_over (marks_every setup) key start epoch (front_of start cells) (put_fresh c.cache))
+fetch_by setup session start epoch key fate c cells = faulted (record (client_put_fresh c) { heal = None }) (Session session) Cells []
 
 abbrev pub fetch_open : SetupNumbers → ℕ → ℕ → Fate → Client → List Row → Option Cause → Option ℕ → Option ℕ → Effect Client
 fetch_open setup session key fate c rows (Some why) start epoch = refused c (Session session) why

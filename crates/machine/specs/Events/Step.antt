@@ -16,13 +16,15 @@ use Rattle.client_parts.specs.declared.resolve.Outcome.TheVariants as outcome
 use Rattle.client_parts.specs.declared.session.State as state
 use Rattle.client_parts.specs.SessionSteps.{SessionEntry, step_refusal}
 use Rattle.client_parts.specs.Resolve.{Settling, own_settling, settle_ask, SettleTurn, Goes, Decides, settle_turn}
-use Rattle.client_parts.specs.KeyRead.{Reading, read_ask, read_told}
+use Rattle.client_parts.specs.KeyRead.{Reading, read_ask}
+use Rattle.client_parts.specs.Cache.{cache_learnt, learnt_by}
+use Rattle.client_parts.specs.Recalled.{Remembering, recalled_told}
 use Rattle.client_parts.specs.Completion.{first_ask}
 use Rattle.machine.specs.State.{UnderWay, Nothing, Reads, Settles, Completes, Client}
 use Rattle.machine.specs.Effect.{Effect, Faults, done, refused}
 use Rattle.machine.specs.StoreSteps.{Met, met, store_of}
 use Rattle.machine.specs.Clients.{is_reading, client_freed, client_aborted, client_committed}
-use Rattle.machine.specs.Events.Fetch.{client_read, read_items}
+use Rattle.machine.specs.Events.Fetch.{client_recalled, client_put_fresh, read_items}
 
 abbrev pub StepParts : Type 0
 StepParts = Client × List Row × Pairs
@@ -35,13 +37,16 @@ stepped_on c m items = done (c, m.rows, m.pairs) (m.items ++ items)
 abbrev pub step_failed : Client → Ask → Met → Effect StepParts
 step_failed c asked m = record { parts = (c, m.rows, m.pairs); items = m.items; stop = Some (Faults (store_of asked)) }
 
--- ---- a read: a failed step ends it without an answer
+-- ---- a read: what the step decides for good is learnt; a failed step ends the read without an answer
+abbrev pub read_worked : ℕ → Client → Reading → Met → Remembering → Effect StepParts
+read_worked session c r m x = stepped_on (client_recalled c x) m (read_items session r.start r.key x.0)
+
 abbrev pub read_by : ℕ → Client → Reading → Met → Option Told → Effect StepParts
 read_by session c r m None = step_failed (record c { under_way = Nothing }) (read_ask r) m
-read_by session c r m (Some answer) = stepped_on (client_read c (read_told r answer)) m (read_items session r.start r.key (read_told r answer))
+read_by session c r m (Some answer) = read_worked session c r m (recalled_told (cache_learnt c.cache (learnt_by r answer)) r answer)
 
 abbrev pub read_step : ℕ → Client → Reading → Met → Effect StepParts
-read_step session c r m = read_by session c r m m.told
+read_step session c r m = read_by session (client_put_fresh c) r m m.told
 
 -- ---- the own commit, whose outcome is open: after a failed step the resolve starts over
 abbrev pub settle_items : ℕ → Option ℕ → SettleTurn → List Item
