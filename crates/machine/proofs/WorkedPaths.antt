@@ -2,7 +2,7 @@
 use Rattle.std.proofs.Common.{◌≡◌, refl}
 use Rattle.stamp_base.specs.SetupNumbers.{default_numbers}
 use Rattle.store_parts.specs.Rows.{put_row, fetched, front_of, without_bare}
-use Rattle.client_parts.specs.KeyRead.{after_passed}
+use Rattle.client_parts.specs.Recalled.{recalled_over}
 use Rattle.oracle_parts.specs.Buckets.{kept_commit, added, without, oldest, record_pairs, verdict}
 use Rattle.oracle_parts.specs.Instance.{least_unsettled}
 use Rattle.machine.specs.Machine.{items_after, history_after}
@@ -14,7 +14,7 @@ unfolding items_after record_pairs least_unsettled
 boundary_row = refl
 
 pub own_row : history_after default_numbers alone.own_moves ≡ alone.own_items
-unfolding items_after record_pairs least_unsettled put_row fetched front_of without_bare after_passed
+unfolding items_after record_pairs least_unsettled put_row fetched front_of without_bare recalled_over
 own_row = refl
 
 pub order_row : history_after default_numbers alone.order_moves ≡ alone.order_items
@@ -34,11 +34,11 @@ unfolding items_after record_pairs least_unsettled put_row without_bare kept_com
 range_row = refl
 
 pub expired_row : history_after default_numbers (alone.late_moves 0) ≡ alone.late_items 0 alone.expired_late
-unfolding items_after record_pairs least_unsettled put_row without_bare fetched front_of after_passed
+unfolding items_after record_pairs least_unsettled put_row without_bare fetched front_of recalled_over
 expired_row = refl
 
 pub old_row : history_after default_numbers (alone.late_moves 1) ≡ alone.late_items 1 alone.old_late
-unfolding items_after record_pairs least_unsettled put_row without_bare fetched front_of after_passed
+unfolding items_after record_pairs least_unsettled put_row without_bare fetched front_of recalled_over
 old_row = refl
 
 pub forgotten_row : history_after alone.small_buckets (alone.hidden_moves 0) ≡ alone.hidden_items 0 alone.forgotten

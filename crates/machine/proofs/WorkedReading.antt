@@ -2,24 +2,24 @@
 use Rattle.std.proofs.Common.{◌≡◌, refl}
 use Rattle.stamp_base.specs.SetupNumbers.{default_numbers}
 use Rattle.store_parts.specs.Rows.{put_row, fetched, front_of}
-use Rattle.client_parts.specs.KeyRead.{after_passed}
+use Rattle.client_parts.specs.Recalled.{recalled_over}
 use Rattle.oracle_parts.specs.Buckets.{kept_commit, added, record_pairs, verdict}
 use Rattle.oracle_parts.specs.Instance.{least_unsettled}
 use Rattle.machine.specs.Machine.{items_after, history_after}
 use Rattle.machine.specs.WorkedReads.{strict_reads, skew_moves, skew_items, read_conflict, both_drawn, left_moves, left_items, fetches_below, nones_below, full_moves, full_items}
 
 pub skew_row : history_after strict_reads skew_moves ≡ skew_items read_conflict
-unfolding items_after record_pairs least_unsettled put_row fetched front_of kept_commit added verdict after_passed
+unfolding items_after record_pairs least_unsettled put_row fetched front_of kept_commit added verdict recalled_over
 skew_row = refl
 
 pub plain_skew_row : history_after default_numbers skew_moves ≡ skew_items both_drawn
-unfolding items_after record_pairs least_unsettled put_row fetched front_of kept_commit added verdict after_passed
+unfolding items_after record_pairs least_unsettled put_row fetched front_of kept_commit added verdict recalled_over
 plain_skew_row = refl
 
 pub left_row : history_after strict_reads left_moves ≡ left_items
-unfolding items_after record_pairs least_unsettled put_row fetched front_of kept_commit added verdict after_passed
+unfolding items_after record_pairs least_unsettled put_row fetched front_of kept_commit added verdict recalled_over
 left_row = refl
 
 pub full_row : history_after strict_reads full_moves ≡ full_items
-unfolding items_after record_pairs least_unsettled put_row fetched front_of after_passed fetches_below nones_below
+unfolding items_after record_pairs least_unsettled put_row fetched front_of recalled_over fetches_below nones_below
 full_row = refl

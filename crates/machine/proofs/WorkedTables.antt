@@ -11,7 +11,7 @@ use Rattle.store_parts.specs.Rows.{put_row, fetched, front_of, looked, with_shad
 use Rattle.store_parts.proofs.PairLaws.{entry_or, mark_of-empty, mark_of-put_pair, committed_goes}
 use Rattle.client_parts.specs.declared.asks.Ask.{Ask}
 use Rattle.client_parts.specs.declared.asks.Ask.TheVariants.{Get, Mark as MarkAsk}
-use Rattle.client_parts.specs.KeyRead.{after_passed}
+use Rattle.client_parts.specs.Recalled.{recalled_over}
 use Rattle.client_parts.specs.Sweep.{Sweeping, Marking, sweep_open}
 use Rattle.oracle_parts.specs.Buckets.{kept_commit, added, record_pairs, verdict}
 use Rattle.oracle_parts.specs.Instance.{least_unsettled}
@@ -50,7 +50,7 @@ abbrev plain_cut : Cut
 plain_cut = cut_put drawn_events Works None
 
 pub plain_row : history_after default_numbers worked.plain_moves ≡ worked.plain_items
-unfolding items_after state_after record_pairs least_unsettled put_row fetched front_of looked with_shadow without_bare keys_of_version kept_commit added verdict after_passed crashed_clients all_crashed_items
+unfolding items_after state_after record_pairs least_unsettled put_row fetched front_of looked with_shadow without_bare keys_of_version kept_commit added verdict recalled_over crashed_clients all_crashed_items
 plain_row =
     cut_all opening_state (plain_cut ∷ []) (working (event.Answer 0 0 ∷ event.Step 0 ∷ event.Step 0 ∷ begins 1 0 0 ++ event.Fetch 1 0 ∷ event.AskCommit 1 0 ∷ [])) (mark_of-empty 1, refl, tt)
 
@@ -59,7 +59,7 @@ abbrev conflict_cut : Cut
 conflict_cut = cut_put (event.Take 0 0 ∷ begins 0 0 0 ++ begins 1 0 0 ++ event.Write 0 0 v ∷ event.Write 1 0 v ∷ draws 0 0 0) Works None
 
 pub conflict_row : history_after default_numbers worked.conflict_moves ≡ worked.conflict_items
-unfolding items_after state_after record_pairs least_unsettled put_row fetched front_of looked with_shadow without_bare keys_of_version kept_commit added verdict after_passed crashed_clients all_crashed_items
+unfolding items_after state_after record_pairs least_unsettled put_row fetched front_of looked with_shadow without_bare keys_of_version kept_commit added verdict recalled_over crashed_clients all_crashed_items
 conflict_row =
     cut_all opening_state (conflict_cut ∷ []) (working (event.Answer 0 0 ∷ event.Step 0 ∷ event.Step 0 ∷ draws 1 0 0 ++ event.Step 1 ∷ [])) (mark_of-empty 1, refl, tt)
 
@@ -74,7 +74,7 @@ abbrev late_put_cut_3 : Cut
 late_put_cut_3 = cut_put (event.Step 1 ∷ []) Works (Some Invalid)
 
 pub late_put_row : history_after default_numbers worked.late_put_moves ≡ worked.late_put_items
-unfolding items_after state_after record_pairs least_unsettled put_row fetched front_of looked with_shadow without_bare keys_of_version kept_commit added verdict after_passed crashed_clients all_crashed_items
+unfolding items_after state_after record_pairs least_unsettled put_row fetched front_of looked with_shadow without_bare keys_of_version kept_commit added verdict recalled_over crashed_clients all_crashed_items
 late_put_row =
     cut_all opening_state (late_put_cut_1 ∷ late_put_cut_2 ∷ late_put_cut_3 ∷ []) (working (event.Answer 0 0 ∷ event.Step 0 ∷ [])) (mark_of-empty 1, refl, (mark_of-empty 1, refl, (has_entry Invalid, refl, tt)))
 
@@ -86,7 +86,7 @@ abbrev early_put_cut_2 : Cut
 early_put_cut_2 = cut_step (reader_begins ++ event.Fetch 1 0 ∷ []) 1 (Some (Committed 2))
 
 pub early_put_row : history_after default_numbers worked.early_put_moves ≡ worked.early_put_items
-unfolding items_after state_after record_pairs least_unsettled put_row fetched front_of looked with_shadow without_bare keys_of_version kept_commit added verdict after_passed crashed_clients all_crashed_items
+unfolding items_after state_after record_pairs least_unsettled put_row fetched front_of looked with_shadow without_bare keys_of_version kept_commit added verdict recalled_over crashed_clients all_crashed_items
 early_put_row =
     cut_all opening_state (early_put_cut_1 ∷ early_put_cut_2 ∷ []) (working (event.Answer 0 0 ∷ event.Step 0 ∷ event.Step 0 ∷ [])) (mark_of-empty 1, refl, (has_entry (Committed 2), refl, tt))
 
@@ -95,7 +95,7 @@ abbrev late_draw_cut : Cut
 late_draw_cut = cut_put (event.Take 0 0 ∷ begins 0 0 0 ++ event.Write 0 0 v ∷ event.AskCommit 0 0 ∷ event.Accept 0 0 0 ∷ taken_over ++ event.Decide 0 0 ∷ []) Works None
 
 pub late_draw_row : history_after default_numbers worked.late_draw_moves ≡ worked.late_draw_items
-unfolding items_after state_after record_pairs least_unsettled put_row fetched front_of looked with_shadow without_bare keys_of_version kept_commit added verdict after_passed crashed_clients all_crashed_items
+unfolding items_after state_after record_pairs least_unsettled put_row fetched front_of looked with_shadow without_bare keys_of_version kept_commit added verdict recalled_over crashed_clients all_crashed_items
 late_draw_row =
     cut_all opening_state (late_draw_cut ∷ []) (working (event.Answer 0 0 ∷ event.Step 0 ∷ event.Step 0 ∷ reader_begins ++ event.Fetch 1 0 ∷ [])) (mark_of-empty 1, refl, tt)
 
@@ -110,7 +110,7 @@ abbrev stray_cut_3 : Cut
 stray_cut_3 = cut_step (event.Answer 0 0 ∷ event.Step 0 ∷ event.Step 0 ∷ []) 1 None
 
 pub stray_row : history_after default_numbers worked.stray_moves ≡ worked.stray_items
-unfolding items_after state_after record_pairs least_unsettled put_row fetched front_of looked with_shadow without_bare keys_of_version kept_commit added verdict after_passed crashed_clients all_crashed_items
+unfolding items_after state_after record_pairs least_unsettled put_row fetched front_of looked with_shadow without_bare keys_of_version kept_commit added verdict recalled_over crashed_clients all_crashed_items
 stray_row =
     cut_all opening_state (stray_cut_1 ∷ stray_cut_2 ∷ stray_cut_3 ∷ []) (working (event.Step 1 ∷ [])) (mark_of-empty 1, refl, (mark_of-empty 1, refl, (committed_goes (with_entry (Committed 2)) 1 2 (has_entry (Committed 2)), refl, tt)))
 
@@ -119,7 +119,7 @@ abbrev wait_cut : Cut
 wait_cut = cut_put (drawn_events ++ begins 1 0 0 ++ event.Answer 0 1 ∷ []) Works None
 
 pub wait_row : history_after default_numbers worked.wait_moves ≡ worked.wait_items
-unfolding items_after state_after record_pairs least_unsettled put_row fetched front_of looked with_shadow without_bare keys_of_version kept_commit added verdict after_passed crashed_clients all_crashed_items
+unfolding items_after state_after record_pairs least_unsettled put_row fetched front_of looked with_shadow without_bare keys_of_version kept_commit added verdict recalled_over crashed_clients all_crashed_items
 wait_row =
     cut_all opening_state (wait_cut ∷ []) (working (event.Answer 0 1 ∷ event.Answer 0 0 ∷ [])) (mark_of-empty 1, refl, tt)
 
@@ -134,7 +134,7 @@ abbrev unplaced_cut_3 : Cut
 unplaced_cut_3 = cut_step [] 0 None
 
 pub unplaced_row : history_after default_numbers worked.unplaced_moves ≡ worked.unplaced_items
-unfolding items_after state_after record_pairs least_unsettled put_row fetched front_of looked with_shadow without_bare keys_of_version kept_commit added verdict after_passed crashed_clients all_crashed_items
+unfolding items_after state_after record_pairs least_unsettled put_row fetched front_of looked with_shadow without_bare keys_of_version kept_commit added verdict recalled_over crashed_clients all_crashed_items
 unplaced_row =
     cut_all opening_state (unplaced_cut_1 ∷ unplaced_cut_2 ∷ unplaced_cut_3 ∷ []) (working (event.Step 0 ∷ event.Step 0 ∷ [])) (mark_of-empty 1, refl, (mark_of-empty 1, refl, (mark_of-empty 1, refl, tt)))
 
@@ -146,7 +146,7 @@ abbrev unheard_cut_2 : Cut
 unheard_cut_2 = cut_step (event.Answer 0 0 ∷ event.Step 0 ∷ []) 0 (Some (Committed 2))
 
 pub unheard_row : history_after default_numbers worked.unheard_moves ≡ worked.unheard_items
-unfolding items_after state_after record_pairs least_unsettled put_row fetched front_of looked with_shadow without_bare keys_of_version kept_commit added verdict after_passed crashed_clients all_crashed_items
+unfolding items_after state_after record_pairs least_unsettled put_row fetched front_of looked with_shadow without_bare keys_of_version kept_commit added verdict recalled_over crashed_clients all_crashed_items
 unheard_row =
     cut_all opening_state (unheard_cut_1 ∷ unheard_cut_2 ∷ []) (working (event.Step 0 ∷ event.Step 0 ∷ [])) (mark_of-empty 1, refl, (has_entry (Committed 2), refl, tt))
 
@@ -161,7 +161,7 @@ abbrev crash_cut_3 : Cut
 crash_cut_3 = cut_sweep (event.Step 0 ∷ event.Step 0 ∷ taken_over ++ reader_begins ++ event.Fetch 1 0 ∷ event.SweepOpen 1 1 ∷ []) (sweep_open 1 100) (Get 1) (Some Invalid)
 
 pub crash_row : history_after default_numbers worked.crash_moves ≡ worked.crash_items
-unfolding items_after state_after record_pairs least_unsettled put_row fetched front_of looked without_bare keys_of_version kept_commit added verdict after_passed crashed_clients all_crashed_items
+unfolding items_after state_after record_pairs least_unsettled put_row fetched front_of looked without_bare keys_of_version kept_commit added verdict recalled_over crashed_clients all_crashed_items
 crash_row =
     let at : State = state_after (cut_step_of (cut_step_of opening_state crash_cut_1).state crash_cut_2).state crash_cut_3.first in
     cut_all opening_state (crash_cut_1 ∷ crash_cut_2 ∷ crash_cut_3 ∷ []) (working (event.SweepStep ∷ [])) (mark_of-empty 1, refl, (mark_of-empty 1, refl, (has_entry Invalid, janitor_gets at (sweep_open 1 100) 1 refl refl, tt)))
