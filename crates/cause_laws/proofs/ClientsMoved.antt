@@ -14,7 +14,7 @@ use Rattle.machine.specs.Events.Crash.{crashed_clients}
 use Rattle.machine.specs.Events.Write.{client_wrote}
 use Rattle.machine.specs.Events.Fetch.{client_fetched}
 use Rattle.isolation_laws.specs.Words.{ClientAt}
-use Rattle.isolation_laws.proofs.Outcome.OutcomesOfWork.{CompletedOne, fetched_turn, read_turn}
+use Rattle.isolation_laws.proofs.Outcome.OutcomesOfWork.{CompletedOne, fetched_turn, fetched_client, read_turn, read_client}
 use Rattle.isolation_laws.proofs.Outcome.Outcomes.{Outcome, OfCrashed, OfAskedBegin, OfAskedCommit, OfEnded, OfAnsweredBegin, OfAnsweredCommit, OfEndedReadOnly, OfWrote, OfWriteFailed, OfAborted, OfVanished, OfHealed, OfFetched, OfReadDropped, OfReadStepped, OfOutcome, OfOutcomeFailed, OfCompleted, left_by, told_by_outcome}
 use Rattle.cause_laws.proofs.GoneOnly.{OnlyGone, freed_only, aborted_only, asked_only, begun_only, heard, refusal_only, answered_only, settled_only, read_only, asks_only}
 
@@ -46,9 +46,9 @@ moved w (OfWriteFailed k) = put_back w _ k.it.session k.it.c _ k.it.client_at (a
 moved w (OfAborted k) = put_back w _ k.it.session k.it.c _ k.it.client_at (aborted_only k.it.c k.it.c)
 moved w (OfVanished k) = PutBack k.session k.c _ k.client_at refl (inr (subst (λ (items : List Item). item.Vanish k.session ∈ items) (sym k.tells) (in_last (item.Vanish k.session) [])))
 moved w (OfHealed k) = put_back w _ k.it.session k.it.c _ k.it.client_at (λ gone. gone)
-moved w (OfFetched k) = put_back w _ k.it.session k.it.c _ k.it.client_at (read_only (client_fetched w.setup k.it.c k.key) (fetched_turn w k.key k.start k.epoch))
+moved w (OfFetched k) = put_back w _ k.it.session k.it.c _ k.it.client_at (read_only (fetched_client w k) (fetched_turn w k))
 moved w (OfReadDropped k) = put_back w _ k.session k.c _ k.client_at (λ gone. gone)
-moved w (OfReadStepped k) = put_back w _ k.session k.c _ k.client_at (read_only k.c (read_turn w k.r))
+moved w (OfReadStepped k) = put_back w _ k.session k.c _ k.client_at (read_only (read_client w k) (read_turn w k))
 moved w (OfOutcome k) = put_back w _ k.it.session k.it.c _ k.it.client_at (settled_only k.it.c k.x (settle_turn k.x (told_by (settle_ask k.x) w.rows w.pairs)))
 moved w (OfOutcomeFailed k) = put_back w _ k.it.session k.it.c _ k.it.client_at (λ gone. gone)
 moved w (OfCompleted k) = put_back w _ k.session k.c _ k.client_at (left_only w k)

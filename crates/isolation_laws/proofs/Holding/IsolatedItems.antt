@@ -73,8 +73,8 @@ stamping w h (OfDrew k) holds = StampsNone (one_no_stamp (draw_item k.node k.i.t
 stamping w h (OfPlaced k) holds = StampsPlaced (by_its_node w h k holds) k.items k.quiet refl
 stamping w h (OfAnsweredBegin k) holds = StampsBegin k refl
 stamping w h (OfWrote k) holds = StampsNone (one_no_stamp (item.Write k.it.session k.start k.key k.value) refl)
-stamping w h (OfFetched k) holds = StampsNone (first_no_stamps k.first (read_items k.it.session k.start k.key (fetched_turn w k.key k.start k.epoch)) k.quiet (turn_no_stamps k.it.session k.start k.key (fetched_turn w k.key k.start k.epoch)))
-stamping w h (OfReadStepped k) holds = StampsNone (first_no_stamps k.first (read_items k.session k.r.start k.r.key (read_turn w k.r)) k.quiet (turn_no_stamps k.session k.r.start k.r.key (read_turn w k.r)))
+stamping w h (OfFetched k) holds = StampsNone (first_no_stamps k.first (read_items k.it.session k.start k.key (fetched_turn w k)) k.quiet (turn_no_stamps k.it.session k.start k.key (fetched_turn w k)))
+stamping w h (OfReadStepped k) holds = StampsNone (first_no_stamps k.first (read_items k.session k.r.start k.r.key (read_turn w k)) k.quiet (turn_no_stamps k.session k.r.start k.r.key (read_turn w k)))
 stamping w h (OfSweepListed k) holds = StampsNone (one_no_stamp (item.Step Janitor (Keys k.txn k.count)) refl)
 stamping w h o holds = StampsNone (quiet_no_stamps (told_by_outcome w o) (calmed w h o holds refl).quiet)
 

@@ -21,7 +21,7 @@ use Rattle.isolation_laws.proofs.Holding.OpeningSessions.{in_none, each_none, is
 
 -- ---- the stores and what is under way
 not_live : (setup : SetupNumbers) (t : ℕ) → Live (opening setup).clients (opening setup).nodes t → ⊥
-not_live setup t (inl o) = not_open o.session t o.epoch o.open_at
+not_live setup t (inl o) = not_open setup o.session t o.epoch o.open_at
 not_live setup t (inr p) = none_at setup.nodes p.coming.node p.pending.instance_of p.pending.at
 
 none_looked : (k t : ℕ) (cell : Cell) → looked [] k t ≡ Some cell → ⊥
@@ -53,31 +53,31 @@ opening_cells setup = record {
 opening_under_way : (setup : SetupNumbers) → UnderWayFacts (opening setup).clients (opening setup).sweep (opening setup).rows (opening setup).pairs []
 opening_under_way setup = record {
   finishing = record {
-    finish = λ s c asks at is. let clash : phase.Free ≡ phase.Completing false = not_in s c (phase.Completing false) at is in absurd (cc);
-    busy = λ s c at is. let clash : phase.Free ≡ phase.Completing false = not_in s c (phase.Completing false) at is in absurd (cc);
+    finish = λ s c asks at is. let clash : phase.Free ≡ phase.Completing false = not_in setup s c (phase.Completing false) at is in absurd (cc);
+    busy = λ s c at is. let clash : phase.Free ≡ phase.Completing false = not_in setup s c (phase.Completing false) at is in absurd (cc);
   };
   undoing = record {
-    undo = λ s t c asks at is. let clash : phase.Free ≡ phase.Completing true = not_in s c (phase.Completing true) at is in absurd (cc);
-    busy = λ s c at is. let clash : phase.Free ≡ phase.Completing true = not_in s c (phase.Completing true) at is in absurd (cc);
+    undo = λ s t c asks at is. let clash : phase.Free ≡ phase.Completing true = not_in setup s c (phase.Completing true) at is in absurd (cc);
+    busy = λ s c at is. let clash : phase.Free ≡ phase.Completing true = not_in setup s c (phase.Completing true) at is in absurd (cc);
     unplaced = λ s t c txn m. absurd (in_none _ m);
   };
   settling = record {
-    resolve = λ s c at is. let clash : phase.Free ≡ phase.OpenOutcome = not_in s c phase.OpenOutcome at is in absurd (cc);
-    only = λ s c x at is. let clash : Nothing ≡ Settles x = not_under_way s c (Settles x) at is in absurd (cc);
+    resolve = λ s c at is. let clash : phase.Free ≡ phase.OpenOutcome = not_in setup s c phase.OpenOutcome at is in absurd (cc);
+    only = λ s c x at is. let clash : Nothing ≡ Settles x = not_under_way setup s c (Settles x) at is in absurd (cc);
   };
-  heals = record { placed = λ s k t commit c at offer. let clash : None ≡ Some (k, t, commit) = ap (λ (x : Client). x.heal) (sym (is_new s c at)) ∙ offer in absurd (cc) };
+  heals = record { placed = λ s k t commit c at offer. let clash : None ≡ Some (k, t, commit) = ap (λ (x : Client). x.heal) (sym (is_new setup s c at)) ∙ offer in absurd (cc) };
   sweeping = record { knows = λ s is. absurd (cc) };
 }
 
 opening_reads : (setup : SetupNumbers) → ReadFacts setup (opening setup).clients (opening setup).nodes (opening setup).rows (opening setup).pairs []
 opening_reads setup = record {
-  reading = record { reads = λ s c r at is. let clash : Nothing ≡ Reads r = not_under_way s c (Reads r) at is in absurd (cc) };
+  reading = record { reads = λ s c r at is. let clash : Nothing ≡ Reads r = not_under_way setup s c (Reads r) at is in absurd (cc) };
   lasting = record { lasts = λ s b k u answer value m. absurd (in_none _ m) };
   read_sets = record {
-    plain = λ flag s c at. ap (λ (x : Client). x.reads) (is_new s c at);
-    opened = λ strict s t e o. absurd (not_open s t e o);
+    plain = λ flag s c at. ap (λ (x : Client). x.reads) (is_new setup s c at);
+    opened = λ strict s t e o. absurd (not_open setup s t e o);
     asked = λ strict n s t keys p i c at. absurd (none_at setup.nodes n i at);
-    under_way = λ strict s c r at is. let clash : Nothing ≡ Reads r = not_under_way s c (Reads r) at is in absurd (cc);
+    under_way = λ strict s c r at is. let clash : Nothing ≡ Reads r = not_under_way setup s c (Reads r) at is in absurd (cc);
   };
 }
 

@@ -23,17 +23,17 @@ pub each_none : {X : Type 0} (P : List X → X → Type 0) → AtEach P []
 each_none P = record { at = λ p x found. absurd (cc) }
 
 -- each client is new
-pub is_new : (s : ℕ) (c : Client) → ClientAt (replicate 16 client_new) s c → c ≡ client_new
-is_new s c at = found_copy 16 s client_new c at
+pub is_new : (setup : SetupNumbers) (s : ℕ) (c : Client) → ClientAt (opening setup).clients s c → c ≡ client_new setup.cache
+is_new setup s c at = found_copy 16 s (client_new setup.cache) c at
 
-pub not_in : (s : ℕ) (c : Client) (state : SessionState) → ClientAt (replicate 16 client_new) s c → c.entry.state ≡ state → phase.Free ≡ state
-not_in s c state at is = ap (λ (x : Client). x.entry.state) (sym (is_new s c at)) ∙ is
+pub not_in : (setup : SetupNumbers) (s : ℕ) (c : Client) (state : SessionState) → ClientAt (opening setup).clients s c → c.entry.state ≡ state → phase.Free ≡ state
+not_in setup s c state at is = ap (λ (x : Client). x.entry.state) (sym (is_new setup s c at)) ∙ is
 
-pub not_under_way : (s : ℕ) (c : Client) (work : UnderWay) → ClientAt (replicate 16 client_new) s c → c.under_way ≡ work → Nothing ≡ work
-not_under_way s c work at is = ap (λ (x : Client). x.under_way) (sym (is_new s c at)) ∙ is
+pub not_under_way : (setup : SetupNumbers) (s : ℕ) (c : Client) (work : UnderWay) → ClientAt (opening setup).clients s c → c.under_way ≡ work → Nothing ≡ work
+not_under_way setup s c work at is = ap (λ (x : Client). x.under_way) (sym (is_new setup s c at)) ∙ is
 
-pub not_open : (s t e : ℕ) → OpenAt (replicate 16 client_new) s t e → ⊥
-not_open s t e o = let clash : phase.Free ≡ phase.Open = not_in s o.client phase.Open o.at o.state_is in cc
+pub not_open : (setup : SetupNumbers) (s t e : ℕ) → OpenAt (opening setup).clients s t e → ⊥
+not_open setup s t e o = let clash : phase.Free ≡ phase.Open = not_in setup s o.client phase.Open o.at o.state_is in cc
 
 -- ---- numbers
 pub opening_numbers : (setup : SetupNumbers) → NumberFacts setup 0 (opening setup).nodes (opening setup).master []
@@ -71,17 +71,17 @@ opening_numbers setup = record {
 free_has : (state : SessionState) → phase.Free ≡ state → IsTrue (has_transaction state) → ⊥
 free_has state is has = let clash : has_transaction phase.Free ≡ true = ap has_transaction is ∙ has in cc
 
-not_asked : (s : ℕ) (c : Client) → ClientAt (replicate 16 client_new) s c → HasAsked c.entry.state → ⊥
-not_asked s c at (inl is) = let clash : phase.Free ≡ phase.Committing = not_in s c phase.Committing at is in cc
-not_asked s c at (inr is) = let clash : phase.Free ≡ phase.OpenOutcome = not_in s c phase.OpenOutcome at is in cc
+not_asked : (setup : SetupNumbers) (s : ℕ) (c : Client) → ClientAt (opening setup).clients s c → HasAsked c.entry.state → ⊥
+not_asked setup s c at (inl is) = let clash : phase.Free ≡ phase.Committing = not_in setup s c phase.Committing at is in cc
+not_asked setup s c at (inr is) = let clash : phase.Free ≡ phase.OpenOutcome = not_in setup s c phase.OpenOutcome at is in cc
 
-not_working : (s : ℕ) (c : Client) → ClientAt (replicate 16 client_new) s c → (c.entry.state ≡ phase.Open) ⊎ HasAsked c.entry.state → ⊥
-not_working s c at (inl is) = let clash : phase.Free ≡ phase.Open = not_in s c phase.Open at is in cc
-not_working s c at (inr asked) = not_asked s c at asked
+not_working : (setup : SetupNumbers) (s : ℕ) (c : Client) → ClientAt (opening setup).clients s c → (c.entry.state ≡ phase.Open) ⊎ HasAsked c.entry.state → ⊥
+not_working setup s c at (inl is) = let clash : phase.Free ≡ phase.Open = not_in setup s c phase.Open at is in cc
+not_working setup s c at (inr asked) = not_asked setup s c at asked
 
 pub opening_requests : (setup : SetupNumbers) → RequestFacts (opening setup).nodes (opening setup).clients []
 opening_requests setup = record {
-  have_begun = record { begun = λ s c at has. absurd (free_has c.entry.state (not_in s c c.entry.state at refl) has) };
+  have_begun = record { begun = λ s c at has. absurd (free_has c.entry.state (not_in setup s c c.entry.state at refl) has) };
   requests = record {
     own = λ n s i request p at. absurd (none_at setup.nodes n i at);
     waits = λ n s i request p at. absurd (none_at setup.nodes n i at);
@@ -103,12 +103,12 @@ opening_requests setup = record {
   };
   accepted = record { within = λ n s t keys i at. absurd (none_at setup.nodes n i at) };
   opened = record {
-    undrawn = λ s t e o. absurd (not_open s t e o);
-    above = λ s t e o. absurd (not_open s t e o);
+    undrawn = λ s t e o. absurd (not_open setup s t e o);
+    above = λ s t e o. absurd (not_open setup s t e o);
   };
   keys = record {
-    written = λ s t c at working. absurd (not_working s c at working);
-    some = λ s c at asked. absurd (not_asked s c at asked);
+    written = λ s t c at working. absurd (not_working setup s c at working);
+    some = λ s c at asked. absurd (not_asked setup s c at asked);
   };
 }
 
@@ -127,5 +127,5 @@ opening_begins setup = record {
     accepted = λ n s t c i at. absurd (none_at setup.nodes n i at);
     drawn = λ n s b t c i at. absurd (none_at setup.nodes n i at);
   };
-  below = record { below = λ s b e n i o. absurd (not_open s b e o) };
+  below = record { below = λ s b e n i o. absurd (not_open setup s b e o) };
 }

@@ -14,7 +14,7 @@ use Rattle.client_parts.specs.SessionSteps.{work_refusal, key_refusal}
 use Rattle.machine.specs.State.{Client, State}
 use Rattle.machine.specs.Clients.{is_reading}
 use Rattle.machine.specs.Machine.{with_client}
-use Rattle.machine.specs.Events.Fetch.{keeps_read, reads_refusal, fetch_refused, fetch_by, fetch_open, fetch_on}
+use Rattle.machine.specs.Events.Fetch.{client_put_fresh, keeps_read, reads_refusal, fetch_refused, fetch_by, fetch_open, fetch_on}
 use Rattle.isolation_laws.specs.Words.{ClientAt}
 use Rattle.isolation_laws.proofs.Outcome.Outcomes.{OfFetched, OfReadDropped}
 use Rattle.isolation_laws.proofs.Outcome.PlainItems.{none_plain, one_silent, Mild, session_plain, mild_is}
@@ -37,7 +37,7 @@ fetch_may : (setup : SetupNumbers) (c : Client) (key : ℕ) → fetch_refused se
 fetch_may setup c key go = write_may (work_refusal c.entry.state (is_reading c)) (reads_refusal setup c key) go
 
 -- ---- fetch
-fetch_failed : (w : State) (session : ℕ) (c : Client) → ClientAt w.clients session c → work_refusal c.entry.state (is_reading c) ≡ None → ComesTo w (with_client w session (record c { heal = None })) (item.Fault (Session session) Cells ∷ [])
+fetch_failed : (w : State) (session : ℕ) (c : Client) → ClientAt w.clients session c → work_refusal c.entry.state (is_reading c) ≡ None → ComesTo w (with_client w session (record (client_put_fresh c) { heal = None })) (item.Fault (Session session) Cells ∷ [])
 fetch_failed w session c at go = (
   OfReadDropped (record {
     session = session;

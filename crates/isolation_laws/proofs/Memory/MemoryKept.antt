@@ -93,10 +93,10 @@ on_read w h x s b k e turn quiet o holds =
     (first_then h x s b k turn quiet (holds.requests.opened.undrawn s b e o)) holds.memory
 
 memory_fetched : (w : State) (h : List Item) (k : Fetched w) → Holds w h → MemoryFacts w.setup w.nodes (h ++ fetched_items w k)
-memory_fetched w h k holds = on_read w h k.first k.it.session k.start k.key k.epoch (fetched_turn w k.key k.start k.epoch) k.quiet (fetched_open w k) holds
+memory_fetched w h k holds = on_read w h k.first k.it.session k.start k.key k.epoch (fetched_turn w k) k.quiet (fetched_open w k) holds
 
 memory_read : (w : State) (h : List Item) (k : ReadStepped w) → Holds w h → MemoryFacts w.setup w.nodes (h ++ read_stepped_items w k)
-memory_read w h k holds = on_read w h k.first k.session k.r.start k.r.key k.r.epoch (read_turn w k.r) k.quiet (stepped_open w h k holds) holds
+memory_read w h k holds = on_read w h k.first k.session k.r.start k.r.key k.r.epoch (read_turn w k) k.quiet (stepped_open w h k holds) holds
 
 same_start : (s t k r u key : ℕ) (v x : List ℕ) → Write s t k v ≡ Write r u key x → t ≡ u
 same_start s t k r u key v x same = cc

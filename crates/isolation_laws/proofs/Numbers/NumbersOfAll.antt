@@ -55,7 +55,7 @@ numbers_wrote w h k holds =
 
 numbers_fetched : (w : State) (h : List Item) (k : Fetched w) → Holds w h → NumberFacts w.setup w.seen w.nodes w.master (h ++ fetched_items w k)
 numbers_fetched w h k holds =
-    first_then w.setup w.seen w.nodes w.master h k.first k.it.session k.start k.key k.it.session (fetched_turn w k.key k.start k.epoch) k.quiet
+    first_then w.setup w.seen w.nodes w.master h k.first k.it.session k.start k.key k.it.session (fetched_turn w k) k.quiet
     (open_begun w.clients h k.it.session k.start k.it.c holds.requests.have_begun k.it.client_at k.it.is_open k.start_is) holds.numbers
 
 -- a read under way is that of a session that has begun
@@ -65,7 +65,7 @@ read_begun w h k holds =
     subst (Begun h k.session) (sym reads.3.start_is) (open_begun w.clients h k.session reads.0 reads.2.client holds.requests.have_begun reads.2.at reads.2.state_is reads.2.start_is)
 
 numbers_read : (w : State) (h : List Item) (k : ReadStepped w) → Holds w h → NumberFacts w.setup w.seen w.nodes w.master (h ++ read_stepped_items w k)
-numbers_read w h k holds = first_then w.setup w.seen w.nodes w.master h k.first k.session k.r.start k.r.key k.session (read_turn w k.r) k.quiet (read_begun w h k holds) holds.numbers
+numbers_read w h k holds = first_then w.setup w.seen w.nodes w.master h k.first k.session k.r.start k.r.key k.session (read_turn w k) k.quiet (read_begun w h k holds) holds.numbers
 
 numbers_listed : (w : State) (h : List Item) (k : SweepListed w) → Holds w h → NumberFacts w.setup w.seen w.nodes w.master (h ++ sweep_listed_items w k)
 numbers_listed w h k holds =

@@ -9,7 +9,10 @@ use Rattle.store_parts.specs.Pairs.{Pairs, put_pair}
 use Rattle.client_parts.specs.declared.asks.Ask.{Ask}
 use Rattle.client_parts.specs.declared.session.State.TheVariants as phase
 use Rattle.client_parts.specs.Resolve.{Settling, settle_ask, settle_turn}
-use Rattle.client_parts.specs.KeyRead.{Reading, ReadTurn, read_over, read_ask, read_told}
+use Rattle.client_parts.specs.declared.asks.Told.{Told}
+use Rattle.client_parts.specs.KeyRead.{Reading, ReadTurn, read_ask}
+use Rattle.client_parts.specs.Cache.{Cache, put_fresh, cache_learnt, learnt_by}
+use Rattle.client_parts.specs.Recalled.{Remembering, recalled_over, recalled_told}
 use Rattle.machine.specs.State.{UnderWay, Nothing, Reads, Settles, Completes, Client, State}
 use Rattle.machine.specs.Clients.{is_reading, client_freed}
 use Rattle.machine.specs.StoreSteps.{rows_after, pairs_after, told_by}
@@ -22,10 +25,6 @@ use Rattle.isolation_laws.proofs.Outcome.OutcomesOfSessions.{AtOpen}
 use Rattle.isolation_laws.proofs.Stores.MarksTold.{MarksTold}
 
 -- ---- reads
--- a read over the cells that were fetched
-abbrev pub fetched_turn : (w : State) → ℕ → ℕ → ℕ → ReadTurn
-fetched_turn w key b e = read_over (marks_every w.setup) key b e (front_of b (fetched w.rows key b))
-
 pub record Fetched (w : State) : Type 0 where
   pub it : AtOpen w
   pub key : ℕ
@@ -38,21 +37,28 @@ pub record Fetched (w : State) : Type 0 where
   pub quiet : Quiet first
   pub silent : Silent first
 
+-- the read over the cells that were fetched, and what the session remembers then
+abbrev pub fetched_recall : (w : State) → Fetched w → Remembering
+fetched_recall w k = recalled_over (marks_every w.setup) k.key k.start k.epoch (front_of k.start (fetched w.rows k.key k.start)) (put_fresh k.it.c.cache)
+
+abbrev pub fetched_turn : (w : State) → Fetched w → ReadTurn
+fetched_turn w k = (fetched_recall w k).0
+
 -- the client, whose transaction may now have read the key
 abbrev pub fetched_client : (w : State) → Fetched w → Client
-fetched_client w k = client_fetched w.setup k.it.c k.key
+fetched_client w k = record (client_fetched w.setup k.it.c k.key) { cache = (fetched_recall w k).1 }
 
 abbrev pub fetched_state : (w : State) → Fetched w → State
-fetched_state w k = record w { clients = slice_set w.clients k.it.session (client_read (fetched_client w k) (fetched_turn w k.key k.start k.epoch)) }
+fetched_state w k = record w { clients = slice_set w.clients k.it.session (client_read (fetched_client w k) (fetched_turn w k)) }
 
 abbrev pub fetched_items : (w : State) → Fetched w → List Item
-fetched_items w k = k.first ∷ read_items k.it.session k.start k.key (fetched_turn w k.key k.start k.epoch)
+fetched_items w k = k.first ∷ read_items k.it.session k.start k.key (fetched_turn w k)
 
 -- the table may have got a mark, by a call that failed all the same
 abbrev pub MayHaveMarked : Pairs → Pairs → Type 0
 MayHaveMarked old new = (new ≡ old) ⊎ ((t : ℕ) × (new ≡ put_pair old t InvalidMark))
 
--- a read failed, and is over; so is an offer
+-- a read failed, and is over; so is an offer. What was just decided is kept all the same
 pub record ReadDropped (w : State) : Type 0 where
   pub session : ℕ
   pub c : Client
@@ -69,11 +75,11 @@ pub record ReadDropped (w : State) : Type 0 where
   pub silent : AllSilent items
 
 abbrev pub read_dropped_state : (w : State) → ReadDropped w → State
-read_dropped_state w k = record w { clients = slice_set w.clients k.session (record k.c { under_way = k.under_way; heal = k.heal }); pairs = k.pairs }
+read_dropped_state w k = record w { clients = slice_set w.clients k.session (record k.c { under_way = k.under_way; heal = k.heal; cache = put_fresh k.c.cache }); pairs = k.pairs }
 
--- what a read comes to by its next answer
-abbrev pub read_turn : (w : State) → Reading → ReadTurn
-read_turn w r = read_told r (told_by (read_ask r) w.rows w.pairs)
+-- what a read comes to by its next answer, and what the session remembers then
+abbrev pub answered_recall : Cache → Reading → Told → Remembering
+answered_recall cache r told = recalled_told (cache_learnt (put_fresh cache) (learnt_by r told)) r told
 
 pub record ReadStepped (w : State) : Type 0 where
   pub session : ℕ
@@ -86,11 +92,20 @@ pub record ReadStepped (w : State) : Type 0 where
   pub quiet : Quiet first
   pub silent : Silent first
 
+abbrev pub read_recall : (w : State) → ReadStepped w → Remembering
+read_recall w k = answered_recall k.c.cache k.r (told_by (read_ask k.r) w.rows w.pairs)
+
+abbrev pub read_turn : (w : State) → ReadStepped w → ReadTurn
+read_turn w k = (read_recall w k).0
+
+abbrev pub read_client : (w : State) → ReadStepped w → Client
+read_client w k = record k.c { cache = (read_recall w k).1 }
+
 abbrev pub read_stepped_state : (w : State) → ReadStepped w → State
-read_stepped_state w k = record w { clients = slice_set w.clients k.session (client_read k.c (read_turn w k.r)); pairs = pairs_after (read_ask k.r) w.pairs }
+read_stepped_state w k = record w { clients = slice_set w.clients k.session (client_read (read_client w k) (read_turn w k)); pairs = pairs_after (read_ask k.r) w.pairs }
 
 abbrev pub read_stepped_items : (w : State) → ReadStepped w → List Item
-read_stepped_items w k = k.first ∷ read_items k.session k.r.start k.r.key (read_turn w k.r)
+read_stepped_items w k = k.first ∷ read_items k.session k.r.start k.r.key (read_turn w k)
 
 -- ---- an outcome that is open
 pub record AtOpenOutcome (w : State) : Type 0 where

@@ -20,7 +20,7 @@ use Rattle.isolation_laws.specs.Words.{ClientAt}
 use Rattle.isolation_laws.proofs.Lookups.{client_set}
 use Rattle.isolation_laws.proofs.Outcome.OutcomesOfRequests.{Crashed, crashed_state}
 use Rattle.isolation_laws.proofs.Outcome.OutcomesOfStamps.{answered_client}
-use Rattle.isolation_laws.proofs.Outcome.OutcomesOfWork.{read_turn, CompletedOne}
+use Rattle.isolation_laws.proofs.Outcome.OutcomesOfWork.{read_turn, read_client, CompletedOne}
 use Rattle.isolation_laws.proofs.Outcome.Outcomes.{Outcome, OfCrashed, OfAskedBegin, OfAskedCommit, OfEnded, OfAnsweredBegin, OfAnsweredCommit, OfEndedReadOnly, OfWrote, OfWriteFailed, OfAborted, OfVanished, OfHealed, OfFetched, OfReadDropped, OfReadStepped, OfOutcome, OfOutcomeFailed, OfCompleted, left_by}
 use Rattle.isolation_laws.proofs.Requests.ClientsOpen.{gone_cases}
 use Rattle.isolation_laws.proofs.Requests.OpenAfter.{crashed_at}
@@ -108,7 +108,7 @@ reads_keep w (OfVanished k) is = same_set w.clients k.session k.c _ k.client_at 
 reads_keep w (OfHealed k) is = same_set w.clients k.it.session k.it.c _ k.it.client_at refl
 reads_keep w (OfFetched k) is = absurd (cc)
 reads_keep w (OfReadDropped k) is = same_set w.clients k.session k.c _ k.client_at refl
-reads_keep w (OfReadStepped k) is = same_set w.clients k.session k.c _ k.client_at (read_keeps k.c (read_turn w k.r))
+reads_keep w (OfReadStepped k) is = same_set w.clients k.session k.c _ k.client_at (read_keeps (read_client w k) (read_turn w k))
 reads_keep w (OfOutcome k) is = same_set w.clients k.it.session k.it.c _ k.it.client_at (settled_keeps k.it.c k.x (settle_turn k.x (told_by (settle_ask k.x) w.rows w.pairs)))
 reads_keep w (OfOutcomeFailed k) is = same_set w.clients k.it.session k.it.c _ k.it.client_at refl
 reads_keep w (OfCompleted k) is = same_set w.clients k.session k.c k.left k.client_at (completed_keeps w k)

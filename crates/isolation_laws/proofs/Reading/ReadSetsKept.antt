@@ -17,7 +17,7 @@ use Rattle.machine.specs.StoreSteps.{told_by}
 use Rattle.machine.specs.Events.Fetch.{marks_every, keeps_read, reads_after}
 use Rattle.isolation_laws.specs.ReadSets.{AreReadSets}
 use Rattle.isolation_laws.specs.Holds.{Holds}
-use Rattle.isolation_laws.proofs.Outcome.OutcomesOfWork.{Fetched, fetched_turn, fetched_client, fetched_state, fetched_items, ReadStepped, read_turn, read_stepped_state, read_stepped_items}
+use Rattle.isolation_laws.proofs.Outcome.OutcomesOfWork.{Fetched, fetched_turn, fetched_client, fetched_state, fetched_items, ReadStepped, read_turn, read_client, read_stepped_state, read_stepped_items}
 use Rattle.isolation_laws.proofs.Outcome.Outcomes.{Outcome, OfGranted, OfRenewed, OfExtended, OfAskedBegin, OfAskedCommit, OfAccepted, OfDrew, OfPlaced, OfAnsweredBegin, OfWrote, OfFetched, OfReadStepped, OfSweepListed, left_by, told_by_outcome}
 use Rattle.isolation_laws.proofs.Requests.ClientsOpen.{same_open}
 use Rattle.isolation_laws.proofs.Requests.OpenAfter.{fewer_open_wrote}
@@ -63,7 +63,7 @@ fetched_more w h k holds = record {
 
 sets_fetched : (w : State) (h : List Item) (k : Fetched w) → Holds w h → AreReadSets w.setup (fetched_state w k).clients w.nodes (h ++ fetched_items w k)
 sets_fetched w h k holds =
-    read_sets_turn w h k.first k.it.session k.start k.epoch k.key k.it.c (fetched_client w k) (fetched_turn w k.key k.start k.epoch) k.quiet k.it.client_at (fetched_open w k) (fetched_more w h k holds)
+    read_sets_turn w h k.first k.it.session k.start k.epoch k.key k.it.c (fetched_client w k) (fetched_turn w k) k.quiet k.it.client_at (fetched_open w k) (fetched_more w h k holds)
     (fetched_of (marks_every w.setup) k.key k.start k.epoch (front_of k.start (fetched w.rows k.key k.start))) holds
 
 -- ---- a step of a read
@@ -77,7 +77,7 @@ stepped_more w h k holds = record {
 
 sets_stepped : (w : State) (h : List Item) (k : ReadStepped w) → Holds w h → AreReadSets w.setup (read_stepped_state w k).clients w.nodes (h ++ read_stepped_items w k)
 sets_stepped w h k holds =
-    read_sets_turn w h k.first k.session k.r.start k.r.epoch k.r.key k.c k.c (read_turn w k.r) k.quiet k.client_at (stepped_open w h k holds) (stepped_more w h k holds)
+    read_sets_turn w h k.first k.session k.r.start k.r.epoch k.r.key k.c (read_client w k) (read_turn w k) k.quiet k.client_at (stepped_open w h k holds) (stepped_more w h k holds)
     (told_of k.r (settle_turn (settling_of k.r) (told_by (read_ask k.r) w.rows w.pairs))) holds
 
 -- ---- the clients stay

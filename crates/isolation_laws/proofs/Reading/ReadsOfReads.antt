@@ -23,7 +23,7 @@ use Rattle.isolation_laws.specs.Pending.{ComesBelow}
 use Rattle.isolation_laws.specs.Quiet.{Quiet}
 use Rattle.isolation_laws.specs.Reads.{IsReading, Outlasts, AreLastingReads}
 use Rattle.isolation_laws.specs.Holds.{Holds}
-use Rattle.isolation_laws.proofs.Outcome.OutcomesOfWork.{Fetched, fetched_turn, fetched_client, fetched_state, fetched_items, ReadStepped, read_turn, read_stepped_state, read_stepped_items}
+use Rattle.isolation_laws.proofs.Outcome.OutcomesOfWork.{Fetched, fetched_turn, fetched_client, fetched_state, fetched_items, ReadStepped, read_turn, read_client, read_stepped_state, read_stepped_items}
 use Rattle.isolation_laws.proofs.Pushed.{not_true, in_append, one_quiet}
 use Rattle.isolation_laws.proofs.Requests.ClientsOpen.{read_keeps_entry}
 use Rattle.isolation_laws.proofs.Reading.ClientsReading.{nothing_reads}
@@ -134,8 +134,8 @@ reads_stepped w h k holds =
     let was = holds.reads.reading.reads k.session k.c k.r k.client_at k.under_way in
     let o : OpenAt w.clients k.session k.r.start k.r.epoch = stepped_open w h k holds in
     let is : IsReading w.setup w.nodes w.rows w.pairs h k.r.start k.r.epoch k.r = reading_by w h was.0 was.1 k.r.start k.r.epoch k.r (sym was.3.start_is) (sym was.3.epoch_is) was.3 in
-    reads_turn w h (pairs_after (read_ask k.r) w.pairs) k.first k.session k.r.start k.r.epoch k.r.key k.c k.c (read_turn w k.r) k.quiet k.client_at refl o (marks_after (read_ask k.r) w.pairs)
-    (good_turn w h (pairs_after (read_ask k.r) w.pairs) k.r.start k.r.epoch k.r.key (read_turn w k.r) is.own (step_right w h k.session k.r holds o is)) holds
+    reads_turn w h (pairs_after (read_ask k.r) w.pairs) k.first k.session k.r.start k.r.epoch k.r.key k.c (read_client w k) (read_turn w k) k.quiet k.client_at refl o (marks_after (read_ask k.r) w.pairs)
+    (good_turn w h (pairs_after (read_ask k.r) w.pairs) k.r.start k.r.epoch k.r.key (read_turn w k) is.own (step_right w h k.session k.r holds o is)) holds
 
 -- ---- a fetch
 pub fetched_open : (w : State) (k : Fetched w) → OpenAt w.clients k.it.session k.start k.epoch
@@ -179,5 +179,5 @@ cells_good w h s k b e (c ∷ cs) holds o are = elim (cases_eq c.version b) [
 
 pub reads_fetched : (w : State) (h : List Item) (k : Fetched w) → Holds w h → ReadsRight w.setup (fetched_state w k).clients w.nodes w.rows w.pairs (h ++ fetched_items w k)
 reads_fetched w h k holds =
-    reads_turn w h w.pairs k.first k.it.session k.start k.epoch k.key k.it.c (fetched_client w k) (fetched_turn w k.key k.start k.epoch) k.quiet k.it.client_at refl (fetched_open w k) (marks_same w.pairs)
+    reads_turn w h w.pairs k.first k.it.session k.start k.epoch k.key k.it.c (fetched_client w k) (fetched_turn w k) k.quiet k.it.client_at refl (fetched_open w k) (marks_same w.pairs)
     (cells_good w h k.it.session k.key k.start k.epoch (fetched w.rows k.key k.start) holds (fetched_open w k) (are_fetched w h k.key k.start holds)) holds

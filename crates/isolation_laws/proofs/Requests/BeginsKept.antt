@@ -74,7 +74,7 @@ begins_kept w h (OfAnsweredBegin k) holds = record {
   below = below_answered_begin w h k holds;
 }
 begins_kept w h (OfWrote k) holds = begins_stay w h _ _ (fewer_open_wrote w k) (λ s. one_no_ask s _ refl) holds
-begins_kept w h (OfFetched k) holds = begins_stay w h _ _ (fewer_open_fetched w k) (λ s. turn_no_ask s k.first k.it.session k.start k.key (fetched_turn w k.key k.start k.epoch) k.quiet) holds
-begins_kept w h (OfReadStepped k) holds = begins_stay w h _ _ (fewer_open_read w k) (λ s. turn_no_ask s k.first k.session k.r.start k.r.key (read_turn w k.r) k.quiet) holds
+begins_kept w h (OfFetched k) holds = begins_stay w h _ _ (fewer_open_fetched w k) (λ s. turn_no_ask s k.first k.it.session k.start k.key (fetched_turn w k) k.quiet) holds
+begins_kept w h (OfReadStepped k) holds = begins_stay w h _ _ (fewer_open_read w k) (λ s. turn_no_ask s k.first k.session k.r.start k.r.key (read_turn w k) k.quiet) holds
 begins_kept w h (OfSweepListed k) holds = begins_stay w h _ w.clients (same_open w.clients) (λ s. one_no_ask s _ refl) holds
 begins_kept w h o holds = begins_framed w h (left_by w o) (told_by_outcome w o) (framed w h o holds refl) holds

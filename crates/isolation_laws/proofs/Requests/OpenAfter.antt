@@ -17,7 +17,7 @@ use Rattle.isolation_laws.proofs.Lookups.{client_set}
 use Rattle.isolation_laws.proofs.Outcome.OutcomesOfRequests.{Crashed, crashed_state, AskedBegin, asked_begin_state, AskedCommit, asked_commit_state, Ended, ended_state}
 use Rattle.isolation_laws.proofs.Outcome.OutcomesOfStamps.{AnsweredBegin, answered_begin_state, AnsweredCommit, answered_commit_state}
 use Rattle.isolation_laws.proofs.Outcome.OutcomesOfSessions.{EndedReadOnly, read_only_state, WroteOne, wrote_state, WriteFailed, write_failed_state, Aborted, aborted_state, Vanished, vanished_state, Healed, healed_state}
-use Rattle.isolation_laws.proofs.Outcome.OutcomesOfWork.{Fetched, fetched_turn, fetched_client, fetched_state, ReadDropped, read_dropped_state, read_turn, ReadStepped, read_stepped_state, OutcomeStepped, outcome_state, OutcomeFailed, outcome_failed_state, CompletedOne, completed_state}
+use Rattle.isolation_laws.proofs.Outcome.OutcomesOfWork.{Fetched, fetched_turn, fetched_client, fetched_state, ReadDropped, read_dropped_state, read_turn, read_client, ReadStepped, read_stepped_state, OutcomeStepped, outcome_state, OutcomeFailed, outcome_failed_state, CompletedOne, completed_state}
 use Rattle.isolation_laws.proofs.Requests.ClientsOpen.{FewerOpen, OpensNothing, fewer_open_set, not_free, not_asking, not_committing, not_gone, aborted_closed, gone_cases, refusal_opens, loss_opens, answer_opens, settled_opens, asks_opens, read_opens}
 
 -- ---- a crash: each client is as it was, or heard of the loss of its request
@@ -74,13 +74,13 @@ pub fewer_open_healed : (w : State) (k : Healed w) → FewerOpen w.clients (heal
 fewer_open_healed w k = fewer_open_set w.clients k.it.session k.it.c _ k.it.client_at (inr (refl, refl, refl))
 
 pub fewer_open_fetched : (w : State) (k : Fetched w) → FewerOpen w.clients (fetched_state w k).clients
-fewer_open_fetched w k = fewer_open_set w.clients k.it.session k.it.c _ k.it.client_at (read_opens (fetched_client w k) (fetched_turn w k.key k.start k.epoch))
+fewer_open_fetched w k = fewer_open_set w.clients k.it.session k.it.c _ k.it.client_at (read_opens (fetched_client w k) (fetched_turn w k))
 
 pub fewer_open_dropped : (w : State) (k : ReadDropped w) → FewerOpen w.clients (read_dropped_state w k).clients
 fewer_open_dropped w k = fewer_open_set w.clients k.session k.c _ k.client_at (inr (refl, refl, refl))
 
 pub fewer_open_read : (w : State) (k : ReadStepped w) → FewerOpen w.clients (read_stepped_state w k).clients
-fewer_open_read w k = fewer_open_set w.clients k.session k.c _ k.client_at (read_opens k.c (read_turn w k.r))
+fewer_open_read w k = fewer_open_set w.clients k.session k.c _ k.client_at (read_opens (read_client w k) (read_turn w k))
 
 pub fewer_open_outcome : (w : State) (k : OutcomeStepped w) → FewerOpen w.clients (outcome_state w k).clients
 fewer_open_outcome w k = fewer_open_set w.clients k.it.session k.it.c _ k.it.client_at (settled_opens k.it.c k.x (settle_turn k.x (told_by (settle_ask k.x) w.rows w.pairs)))

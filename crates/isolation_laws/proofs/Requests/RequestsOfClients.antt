@@ -21,7 +21,7 @@ use Rattle.isolation_laws.specs.Words.{InstanceAt, HeldBy, ClientAt}
 use Rattle.isolation_laws.specs.Requests.{WaitsFor, AreRequests, HasAsked}
 use Rattle.isolation_laws.specs.Holds.{Holds}
 use Rattle.isolation_laws.proofs.Outcome.OutcomesOfSessions.{EndedReadOnly, read_only_state, WriteFailed, write_failed_state, Aborted, aborted_state, Vanished, vanished_state, Healed, healed_state}
-use Rattle.isolation_laws.proofs.Outcome.OutcomesOfWork.{Fetched, fetched_turn, fetched_client, fetched_state, ReadDropped, read_dropped_state, read_turn, ReadStepped, read_stepped_state, OutcomeStepped, outcome_state, OutcomeFailed, outcome_failed_state, CompletedOne, completed_state}
+use Rattle.isolation_laws.proofs.Outcome.OutcomesOfWork.{Fetched, fetched_turn, fetched_client, fetched_state, ReadDropped, read_dropped_state, read_turn, read_client, ReadStepped, read_stepped_state, OutcomeStepped, outcome_state, OutcomeFailed, outcome_failed_state, CompletedOne, completed_state}
 use Rattle.isolation_laws.proofs.Requests.ClientsOpen.{FewerOpen, read_keeps_entry}
 use Rattle.isolation_laws.proofs.Requests.OpenAfter.{fewer_open_read_only, fewer_open_write_failed, fewer_open_aborted, fewer_open_vanished, fewer_open_healed, fewer_open_fetched, fewer_open_dropped, fewer_open_read, fewer_open_outcome, fewer_open_outcome_failed, fewer_open_completed}
 use Rattle.isolation_laws.proofs.Requests.ClientsAfter.{begun_kept, KeepsStart, has_none, has_by, aborted_keeps, freed_keeps, settled_keeps, asks_keep, KeysClient, keys_client, keys_set, keys_closed, gone_closed, keys_aborted, keys_freed, keys_settled, keys_asks}
@@ -86,7 +86,7 @@ pub leaves_healed : (w : State) (h : List Item) (k : Healed w) → Holds w h →
 leaves_healed w h k holds = leaves_idle w h k.it.session k.it.c _ phase.Open k.it.client_at k.it.is_open open_waits (same_entry h k.it.session k.it.c _ refl (keys_of w h k.it.session k.it.c holds k.it.client_at)) (fewer_open_healed w k) holds
 
 pub leaves_fetched : (w : State) (h : List Item) (k : Fetched w) → Holds w h → Leaves w h w.nodes (fetched_state w k).clients
-leaves_fetched w h k holds = leaves_idle w h k.it.session k.it.c (client_read (fetched_client w k) (fetched_turn w k.key k.start k.epoch)) phase.Open k.it.client_at k.it.is_open open_waits (same_entry h k.it.session k.it.c _ (read_keeps_entry (fetched_client w k) (fetched_turn w k.key k.start k.epoch)) (keys_of w h k.it.session k.it.c holds k.it.client_at)) (fewer_open_fetched w k) holds
+leaves_fetched w h k holds = leaves_idle w h k.it.session k.it.c (client_read (fetched_client w k) (fetched_turn w k)) phase.Open k.it.client_at k.it.is_open open_waits (same_entry h k.it.session k.it.c _ (read_keeps_entry (fetched_client w k) (fetched_turn w k)) (keys_of w h k.it.session k.it.c holds k.it.client_at)) (fewer_open_fetched w k) holds
 
 -- ---- any session: its requests wait for the same state
 waits_same : (request : Request) (old new : Client) → new.entry ≡ old.entry → WaitsFor request old → WaitsFor request new
@@ -109,7 +109,7 @@ pub leaves_dropped : (w : State) (h : List Item) (k : ReadDropped w) → Holds w
 leaves_dropped w h k holds = leaves_same w h k.session k.c _ k.client_at refl (fewer_open_dropped w k) holds
 
 pub leaves_read : (w : State) (h : List Item) (k : ReadStepped w) → Holds w h → Leaves w h w.nodes (read_stepped_state w k).clients
-leaves_read w h k holds = leaves_same w h k.session k.c (client_read k.c (read_turn w k.r)) k.client_at (read_keeps_entry k.c (read_turn w k.r)) (fewer_open_read w k) holds
+leaves_read w h k holds = leaves_same w h k.session k.c (client_read (read_client w k) (read_turn w k)) k.client_at (read_keeps_entry (read_client w k) (read_turn w k)) (fewer_open_read w k) holds
 
 vanished_waits : (request : Request) (c : Client) → c.entry.state ≡ phase.Gone → WaitsFor request c
 vanished_waits (Begin s) c gone = inl gone

@@ -15,7 +15,7 @@ use Rattle.client_parts.specs.Completion.{finish_asks, undo_asks}
 use Rattle.client_parts.specs.Resolve.{Settling}
 use Rattle.client_parts.specs.KeyRead.{Reading, ReadTurn, Asks, Answers, after_passed, turn_at, read_over}
 use Rattle.machine.specs.State.{Nothing, Reads, Settles, Completes, Client}
-use Rattle.machine.specs.Clients.{undo_of, finish_of, client_begun, client_asked, client_freed, client_aborted, client_committed, client_opened, client_vanished, unless_gone, unless_gone_by}
+use Rattle.machine.specs.Clients.{emptied, undo_of, finish_of, client_begun, client_asked, client_freed, client_aborted, client_committed, client_opened, client_vanished, unless_gone, unless_gone_by}
 use Rattle.machine.specs.Events.Fetch.{client_read}
 use Rattle.isolation_laws.specs.Words.{written_keys}
 use Rattle.isolation_laws.proofs.Requests.WrittenKeys.{wrote_in_keys}
@@ -50,9 +50,9 @@ works_asked rows h c = works_idle rows h (client_asked c) (record { no_work = re
 pub asks_same : (a b : List Ask) → Completes a ≡ Completes b → a ≡ b
 asks_same a b same = cc
 
-aborted_works : (rows : List Row) (h : List Item) (reads : List ℕ) (e : SessionEntry) (t : ℕ) (keys : List ℕ) → e.start ≡ Some t → ((d : ℕ) → Committed h t d → ⊥) → Works rows h (record { entry = aborted_by e keys; under_way = undo_of (Some t) keys; heal = None; reads = reads })
-aborted_works rows h reads e t [] start unplaced = works_idle rows h _ (record { no_work = refl; no_heal = refl; not_completing = λ undo is. cc })
-aborted_works rows h reads e t (key ∷ keys) start unplaced = record {
+aborted_works : (rows : List Row) (h : List Item) (c : Client) (e : SessionEntry) (t : ℕ) (keys : List ℕ) → e.start ≡ Some t → ((d : ℕ) → Committed h t d → ⊥) → Works rows h (record (emptied c) { entry = aborted_by e keys; under_way = undo_of (Some t) keys })
+aborted_works rows h c e t [] start unplaced = works_idle rows h _ (record { no_work = refl; no_heal = refl; not_completing = λ undo is. cc })
+aborted_works rows h c e t (key ∷ keys) start unplaced = record {
   finish = λ asks is busy. absurd (cc);
   finish_busy = λ is. absurd (cc);
   undo = λ u asks is other busy. record {
@@ -68,11 +68,11 @@ aborted_works rows h reads e t (key ∷ keys) start unplaced = record {
 }
 
 pub works_aborted : (rows : List Row) (h : List Item) (c : Client) (t : ℕ) → c.entry.start ≡ Some t → ((d : ℕ) → Committed h t d → ⊥) → Works rows h (client_aborted c)
-works_aborted rows h c t start unplaced = subst (λ (o : Option ℕ). Works rows h (record { entry = aborted_by c.entry c.entry.keys; under_way = undo_of o c.entry.keys; heal = None; reads = c.reads })) (sym start) (aborted_works rows h c.reads c.entry t c.entry.keys start unplaced)
+works_aborted rows h c t start unplaced = subst (λ (o : Option ℕ). Works rows h (record (emptied c) { entry = aborted_by c.entry c.entry.keys; under_way = undo_of o c.entry.keys })) (sym start) (aborted_works rows h c c.entry t c.entry.keys start unplaced)
 
 -- ---- one that has its commit
-committed_works : (rows : List Row) (h : List Item) (reads : List ℕ) (e : SessionEntry) (t commit : ℕ) → e.start ≡ Some t → e.keys ≡ written_keys h t → Committed h t commit → Works rows h (record { entry = record e { state = phase.Completing false; commit = Some commit }; under_way = finish_of (Some t) commit e.keys; heal = None; reads = reads })
-committed_works rows h reads e t commit start keys placed = record {
+committed_works : (rows : List Row) (h : List Item) (c : Client) (e : SessionEntry) (t commit : ℕ) → e.start ≡ Some t → e.keys ≡ written_keys h t → Committed h t commit → Works rows h (record (emptied c) { entry = record e { state = phase.Completing false; commit = Some commit }; under_way = finish_of (Some t) commit e.keys })
+committed_works rows h c e t commit start keys placed = record {
   finish = λ asks is busy. (
     t,
     commit,
@@ -95,7 +95,7 @@ committed_works rows h reads e t commit start keys placed = record {
 }
 
 pub works_committed : (rows : List Row) (h : List Item) (c : Client) (t commit : ℕ) → c.entry.start ≡ Some t → c.entry.keys ≡ written_keys h t → Committed h t commit → Works rows h (client_committed c commit)
-works_committed rows h c t commit start keys placed = subst (λ (o : Option ℕ). Works rows h (record { entry = record c.entry { state = phase.Completing false; commit = Some commit }; under_way = finish_of o commit c.entry.keys; heal = None; reads = c.reads })) (sym start) (committed_works rows h c.reads c.entry t commit start keys placed)
+works_committed rows h c t commit start keys placed = subst (λ (o : Option ℕ). Works rows h (record (emptied c) { entry = record c.entry { state = phase.Completing false; commit = Some commit }; under_way = finish_of o commit c.entry.keys })) (sym start) (committed_works rows h c c.entry t commit start keys placed)
 
 -- ---- nobody hears an answer to a session that has vanished
 unless_works : (rows : List Row) (h : List Item) (old new : Client) (state : SessionState) → Works rows h old → ((state ≡ phase.Gone → ⊥) → Works rows h new) → Works rows h (unless_gone_by state old new)

@@ -60,7 +60,7 @@ under_way_healed w h k holds = under_way_moved w h (h ++ k.items) k.it.session (
 -- ---- reads
 pub under_way_fetched : (w : State) (h : List Item) (k : Fetched w) → Holds w h → UnderWayFacts (fetched_state w k).clients w.sweep w.rows w.pairs (h ++ fetched_items w k)
 under_way_fetched w h k holds =
-    let turn : ReadTurn = fetched_turn w k.key k.start k.epoch in
+    let turn : ReadTurn = fetched_turn w k in
     under_way_client w h (h ++ fetched_items w k) k.it.session (client_read (fetched_client w k) turn) holds (calm_turn h k.first k.it.session k.start k.key turn k.quiet)
     (works_read w.rows h (fetched_client w k) turn (plain_open (fetched_client w k) k.it.is_open) (read_over_heals h (marks_every w.setup) k.key k.start k.epoch _))
 
@@ -113,6 +113,6 @@ turn_heals w h r (Decides (outcome.Committed c by_table)) holds is = elim (cases
 
 pub under_way_read : (w : State) (h : List Item) (k : ReadStepped w) → Holds w h → UnderWayFacts (read_stepped_state w k).clients w.sweep w.rows (read_stepped_state w k).pairs (h ++ read_stepped_items w k)
 under_way_read w h k holds =
-    let turn : ReadTurn = read_turn w k.r in
+    let turn : ReadTurn = read_turn w k in
     under_way_moved w h (h ++ read_stepped_items w k) k.session (client_read k.c turn) w.rows (read_stepped_state w k).pairs holds (calm_keeps w h) (λ t marked. marks_stepped (read_ask k.r) w.pairs t marked) (calm_turn h k.first k.session k.r.start k.r.key turn k.quiet)
     (works_read w.rows h k.c turn (plain_reading w.rows h k.c k.r (work_of w h k.session k.c holds k.client_at) k.under_way) (turn_heals w h k.r (settle_turn (settling_of k.r) (told_by (read_ask k.r) w.rows w.pairs)) holds refl))
