@@ -1,4 +1,5 @@
 pub mod CompletionLemmas
 pub mod CutReadLemmas
 mod KeyReadLemmas
+pub mod RecalledLemmas
 pub mod WriteListLemmas

@@ -6,5 +6,6 @@ pub mod KeyRead
 pub mod CutReads
 pub mod Cache
 pub mod Recalled
+pub mod RecalledReads
 pub mod SessionSteps
 pub mod WriteLists

@@ -46,3 +46,12 @@ recalled_turn cache r (Decides outcome) = recalled_by cache r.key r.start r.cell
 
 abbrev pub recalled_told : Cache → Reading → Told → Remembering
 recalled_told cache r told = recalled_turn cache r (settle_turn (settling_of r) told)
+
+-- ---- the same read, recall by recall: what is kept of the cell that it has come to decides it, and where nothing is, it asks
+abbrev pub recalled_known : Cache → Reading → Option Known → Remembering
+recalled_known cache r None = (Asks r, cache)
+recalled_known cache r (Some k) = recalled_turn (used cache r.cell.version) r (Decides (outcome_known k))
+
+abbrev pub recalled_from : Cache → ReadTurn → Remembering
+recalled_from cache (Asks r) = recalled_known cache r (known_of cache r.cell.version)
+recalled_from cache (Answers a) = (Answers a, cache)
