@@ -1,3 +1,4 @@
+pub mod CacheLemmas
 pub mod CompletionLemmas
 pub mod CutReadLemmas
 mod KeyReadLemmas
