@@ -40,6 +40,10 @@ decided_from cache r (Committed commit by_table) = late_from cache r commit by_t
 decided_from cache r Dead = over_from r.every r.key r.start r.epoch r.older cache
 
 -- ---- what holds of the plain read, and is kept where a read goes on by what is kept, holds of the one that recalls
+-- of a fact that does not look at what is remembered
+abbrev pub AnyCache : Cache → Type 0
+AnyCache cache = Unit {0}
+
 module _ (P : ReadTurn → Type 0) (Q : Cache → Type 0) where
   -- what is remembered stays of this kind at a recall, and a read that goes on by it does too
   pub record Recalls : Type 0 where

@@ -5,10 +5,16 @@ use Rattle.std.proofs.lemmas.Option.{same_Some, none-some}
 use Rattle.history_book.specs.Isolation.{Committed}
 use Rattle.history_book.specs.declared.item.Item.{Item}
 use Rattle.store_parts.specs.Rows.{Row, with_shadow}
+use Rattle.client_parts.specs.declared.known.Known.{Known}
+use Rattle.client_parts.specs.declared.known.Known.TheVariants as known
+use Rattle.client_parts.specs.declared.asks.Told.{Told}
 use Rattle.client_parts.specs.declared.resolve.Outcome.TheVariants as outcome
 use Rattle.client_parts.specs.declared.session.State.TheVariants as phase
 use Rattle.client_parts.specs.Resolve.{SettleTurn, Goes, Decides, settle_turn}
 use Rattle.client_parts.specs.KeyRead.{Reading, ReadTurn, Answers, settling_of, found_by, read_by, read_ask}
+use Rattle.client_parts.specs.Cache.{Cache, put_fresh}
+use Rattle.client_parts.specs.Recalled.{outcome_known}
+use Rattle.client_parts.proofs.RecalledLemmas.{AnyCache, Recalls, over_holds, told_holds}
 use Rattle.machine.specs.State.{UnderWay, Nothing, Client, State}
 use Rattle.machine.specs.Clients.{client_freed, client_aborted, client_vanished}
 use Rattle.machine.specs.StoreSteps.{told_by}
@@ -16,10 +22,10 @@ use Rattle.machine.specs.Events.Fetch.{marks_every, client_read}
 use Rattle.isolation_laws.specs.UnderWay.{UnderWayFacts}
 use Rattle.isolation_laws.specs.Holds.{Holds}
 use Rattle.isolation_laws.proofs.Outcome.OutcomesOfSessions.{EndedReadOnly, read_only_state, Aborted, aborted_state, Vanished, vanished_state, Healed, healed_state}
-use Rattle.isolation_laws.proofs.Outcome.OutcomesOfWork.{Fetched, fetched_turn, fetched_client, fetched_state, fetched_items, ReadDropped, read_dropped_state, ReadStepped, read_turn, read_stepped_state, read_stepped_items}
+use Rattle.isolation_laws.proofs.Outcome.OutcomesOfWork.{Fetched, fetched_turn, fetched_client, fetched_state, fetched_items, ReadDropped, read_dropped_state, ReadStepped, read_turn, read_client, read_stepped_state, read_stepped_items}
 use Rattle.isolation_laws.proofs.Stores.Calm.{calm_same, calm_quiet, calm_turn}
 use Rattle.isolation_laws.proofs.UnderWay.Works.{Works, KeepsPlaced, no_settling}
-use Rattle.isolation_laws.proofs.UnderWay.ClientWorks.{works_freed, works_vanished, works_aborted, plain_open, works_plain, plain_reading, TurnHeals, read_over_heals, works_read}
+use Rattle.isolation_laws.proofs.UnderWay.ClientWorks.{IsPlain, works_freed, works_vanished, works_aborted, plain_open, works_plain, plain_reading, TurnHeals, read_over_heals, works_read}
 use Rattle.isolation_laws.proofs.UnderWay.Settled.{decided_placed}
 use Rattle.isolation_laws.proofs.Stores.StoreMoves.{keeps_same, keeps_shadow, marks_stepped}
 use Rattle.isolation_laws.proofs.UnderWay.SessionMoves.{work_of, start_of, unplaced_of, open_settles_none, marks_may_mark, under_way_moved, under_way_client}
@@ -58,14 +64,29 @@ under_way_healed w h k holds = under_way_moved w h (h ++ k.items) k.it.session (
     (works_plain (healed_state w k).rows h (record k.it.c { heal = None }) (plain_open (record k.it.c { heal = None }) k.it.is_open) (λ x busy. open_settles_none w h k.it.session k.it.c holds k.it.client_at k.it.is_open x busy) (λ j t d offer. heals_none j t d h None refl offer))
 
 -- ---- reads
+late_heals : (h : List Item) (r : Reading) (commit : ℕ) (below : Bool) → nat_lt commit r.start ≡ below → TurnHeals h (read_by r (Decides (outcome.Committed commit false)))
+late_heals h r commit true is = rw is (λ k t d offer. heals_none k t d h None refl offer)
+late_heals h r commit false is = rw is (read_over_heals h r.every r.key r.start r.epoch r.older)
+
+-- a recall offers no shadow
+known_heals : (h : List Item) (r : Reading) (k : Known) → TurnHeals h (read_by r (Decides (outcome_known k)))
+known_heals h r (known.Committed commit) = late_heals h r commit (nat_lt commit r.start) refl
+known_heals h r known.Dead = read_over_heals h r.every r.key r.start r.epoch r.older
+
+recalls_heal : (h : List Item) → Recalls (TurnHeals h) AnyCache
+recalls_heal h = record {
+  stays = λ cache txn any. tt;
+  goes = λ cache r k any is heals. known_heals h r k;
+}
+
 pub under_way_fetched : (w : State) (h : List Item) (k : Fetched w) → Holds w h → UnderWayFacts (fetched_state w k).clients w.sweep w.rows w.pairs (h ++ fetched_items w k)
 under_way_fetched w h k holds =
     let turn : ReadTurn = fetched_turn w k in
     under_way_client w h (h ++ fetched_items w k) k.it.session (client_read (fetched_client w k) turn) holds (calm_turn h k.first k.it.session k.start k.key turn k.quiet)
-    (works_read w.rows h (fetched_client w k) turn (plain_open (fetched_client w k) k.it.is_open) (read_over_heals h (marks_every w.setup) k.key k.start k.epoch _))
+    (works_read w.rows h (fetched_client w k) turn (plain_open (fetched_client w k) k.it.is_open) (over_holds (TurnHeals h) AnyCache (recalls_heal h) (marks_every w.setup) k.key k.start k.epoch _ _ tt (read_over_heals h (marks_every w.setup) k.key k.start k.epoch _)).0)
 
-works_heal : (rows : List Row) (h : List Item) (c : Client) (heal : Option (ℕ × ℕ × ℕ)) → (heal ≡ c.heal) ⊎ (heal ≡ None) → Works rows h c → Works rows h (record c { heal = heal })
-works_heal rows h c heal is work = record {
+works_heal : (rows : List Row) (h : List Item) (c : Client) (heal : Option (ℕ × ℕ × ℕ)) (cache : Cache) → (heal ≡ c.heal) ⊎ (heal ≡ None) → Works rows h c → Works rows h (record c { heal = heal; cache = cache })
+works_heal rows h c heal cache is work = record {
   finish = work.finish;
   finish_busy = work.finish_busy;
   undo = work.undo;
@@ -83,18 +104,18 @@ offered : (rows : List Row) (h : List Item) (c : Client) (heal : Option (ℕ × 
 offered rows h c heal (inl same) work k t d offer = work.heal k t d (sym same ∙ offer)
 offered rows h c heal (inr none) work k t d offer = heals_none k t d h heal none offer
 
-dropped_works : (w : State) (h : List Item) (k : ReadDropped w) → Holds w h → Works w.rows h (record k.c { under_way = k.under_way; heal = k.heal })
+dropped_works : (w : State) (h : List Item) (k : ReadDropped w) → Holds w h → Works w.rows h (record k.c { under_way = k.under_way; heal = k.heal; cache = put_fresh k.c.cache })
 dropped_works w h k holds =
     let work : Works w.rows h k.c = work_of w h k.session k.c holds k.client_at in
     elim k.under_way_is [
-      | inl goes ↦ subst (λ (u : UnderWay). Works w.rows h (record k.c { under_way = u; heal = k.heal })) (sym goes.0) (works_heal w.rows h k.c k.heal k.heal_is work)
-      | inr ends ↦ subst (λ (u : UnderWay). Works w.rows h (record k.c { under_way = u; heal = k.heal })) (sym ends.1)
+      | inl goes ↦ subst (λ (u : UnderWay). Works w.rows h (record k.c { under_way = u; heal = k.heal; cache = put_fresh k.c.cache })) (sym goes.0) (works_heal w.rows h k.c k.heal (put_fresh k.c.cache) k.heal_is work)
+      | inr ends ↦ subst (λ (u : UnderWay). Works w.rows h (record k.c { under_way = u; heal = k.heal; cache = put_fresh k.c.cache })) (sym ends.1)
           (let plain = plain_reading w.rows h k.c ends.0.0 work ends.0.1 in
-          works_plain w.rows h (record k.c { under_way = Nothing; heal = k.heal }) (record { not_completing = plain.not_completing; not_outcome = plain.not_outcome }) no_settling (offered w.rows h k.c k.heal k.heal_is work))
+          works_plain w.rows h (record k.c { under_way = Nothing; heal = k.heal; cache = put_fresh k.c.cache }) (record { not_completing = plain.not_completing; not_outcome = plain.not_outcome }) no_settling (offered w.rows h k.c k.heal k.heal_is work))
     ]
 
 pub under_way_dropped : (w : State) (h : List Item) (k : ReadDropped w) → Holds w h → UnderWayFacts (read_dropped_state w k).clients w.sweep w.rows k.pairs (h ++ k.items)
-under_way_dropped w h k holds = under_way_moved w h (h ++ k.items) k.session (record k.c { under_way = k.under_way; heal = k.heal }) w.rows k.pairs holds (calm_keeps w h) (marks_may_mark w.pairs k.pairs k.pairs_are) (calm_quiet h k.items k.quiet) (dropped_works w h k holds)
+under_way_dropped w h k holds = under_way_moved w h (h ++ k.items) k.session (record k.c { under_way = k.under_way; heal = k.heal; cache = put_fresh k.c.cache }) w.rows k.pairs holds (calm_keeps w h) (marks_may_mark w.pairs k.pairs k.pairs_are) (calm_quiet h k.items k.quiet) (dropped_works w h k holds)
 
 -- the shadow that is offered is the table's commit
 found_heals : (h : List Item) (r : Reading) (c : ℕ) (by_table : Bool) → (by_table ≡ true → Committed h r.cell.version c) → TurnHeals h (Answers (found_by r.key r.cell c by_table))
@@ -114,5 +135,8 @@ turn_heals w h r (Decides (outcome.Committed c by_table)) holds is = elim (cases
 pub under_way_read : (w : State) (h : List Item) (k : ReadStepped w) → Holds w h → UnderWayFacts (read_stepped_state w k).clients w.sweep w.rows (read_stepped_state w k).pairs (h ++ read_stepped_items w k)
 under_way_read w h k holds =
     let turn : ReadTurn = read_turn w k in
-    under_way_moved w h (h ++ read_stepped_items w k) k.session (client_read k.c turn) w.rows (read_stepped_state w k).pairs holds (calm_keeps w h) (λ t marked. marks_stepped (read_ask k.r) w.pairs t marked) (calm_turn h k.first k.session k.r.start k.r.key turn k.quiet)
-    (works_read w.rows h k.c turn (plain_reading w.rows h k.c k.r (work_of w h k.session k.c holds k.client_at) k.under_way) (turn_heals w h k.r (settle_turn (settling_of k.r) (told_by (read_ask k.r) w.rows w.pairs)) holds refl))
+    let told : Told = told_by (read_ask k.r) w.rows w.pairs in
+    let was = plain_reading w.rows h k.c k.r (work_of w h k.session k.c holds k.client_at) k.under_way in
+    let plain : IsPlain (read_client w k) = record { not_completing = was.not_completing; not_outcome = was.not_outcome } in
+    under_way_moved w h (h ++ read_stepped_items w k) k.session (client_read (read_client w k) turn) w.rows (read_stepped_state w k).pairs holds (calm_keeps w h) (λ t marked. marks_stepped (read_ask k.r) w.pairs t marked) (calm_turn h k.first k.session k.r.start k.r.key turn k.quiet)
+    (works_read w.rows h (read_client w k) turn plain (told_holds (TurnHeals h) AnyCache (recalls_heal h) _ k.r told tt (turn_heals w h k.r (settle_turn (settling_of k.r) told) holds refl)).0)
