@@ -8,8 +8,8 @@ use Rattle.history_book.specs.declared.item.Item.{Item}
 use Rattle.history_book.specs.declared.item.Item.TheVariants.{Write, Placed, Step}
 use Rattle.stamp_base.specs.SetupNumbers.{SetupNumbers}
 use Rattle.client_parts.specs.SessionSteps.{has_key, key_added}
-use Rattle.client_parts.specs.Resolve.{settle_turn}
-use Rattle.client_parts.specs.KeyRead.{settling_of, read_ask}
+use Rattle.client_parts.specs.KeyRead.{read_ask}
+use Rattle.client_parts.specs.Cache.{put_fresh}
 use Rattle.oracle_parts.specs.Instance.{InstanceEntry}
 use Rattle.store_parts.specs.Rows.{fetched, front_of}
 use Rattle.machine.specs.State.{Client, State}
@@ -31,7 +31,7 @@ use Rattle.isolation_laws.proofs.Reading.ReadsOfReads.{fetched_open, stepped_ope
 use Rattle.isolation_laws.proofs.Reading.KeptReads.{SameReads, same_reads, reads_keep}
 use Rattle.isolation_laws.proofs.Reading.ReadSetsStay.{fewer_commits, read_sets_stay}
 use Rattle.isolation_laws.proofs.Reading.ReadSetsOfRequests.{none_more, sets_asked_begin, sets_asked_commit, sets_answered_begin}
-use Rattle.isolation_laws.proofs.Reading.ReadSetsOfTurns.{KeepsMore, fetched_of, told_of, read_sets_turn}
+use Rattle.isolation_laws.proofs.Reading.ReadSetsOfTurns.{KeepsMore, fetched_recall_of, told_recall_of, read_sets_turn}
 use Rattle.isolation_laws.proofs.Holding.Frames.{Frame}
 use Rattle.isolation_laws.proofs.Holding.Framed.{framed}
 
@@ -64,10 +64,10 @@ fetched_more w h k holds = record {
 sets_fetched : (w : State) (h : List Item) (k : Fetched w) → Holds w h → AreReadSets w.setup (fetched_state w k).clients w.nodes (h ++ fetched_items w k)
 sets_fetched w h k holds =
     read_sets_turn w h k.first k.it.session k.start k.epoch k.key k.it.c (fetched_client w k) (fetched_turn w k) k.quiet k.it.client_at (fetched_open w k) (fetched_more w h k holds)
-    (fetched_of (marks_every w.setup) k.key k.start k.epoch (front_of k.start (fetched w.rows k.key k.start))) holds
+    (fetched_recall_of (marks_every w.setup) k.key k.start k.epoch (front_of k.start (fetched w.rows k.key k.start)) (put_fresh k.it.c.cache)) holds
 
 -- ---- a step of a read
-stepped_more : (w : State) (h : List Item) (k : ReadStepped w) → Holds w h → KeepsMore w.setup h k.r.start k.r.key k.c k.c
+stepped_more : (w : State) (h : List Item) (k : ReadStepped w) → Holds w h → KeepsMore w.setup h k.r.start k.r.key k.c (read_client w k)
 stepped_more w h k holds = record {
   entry = refl;
   plain = λ flag. refl;
@@ -78,7 +78,7 @@ stepped_more w h k holds = record {
 sets_stepped : (w : State) (h : List Item) (k : ReadStepped w) → Holds w h → AreReadSets w.setup (read_stepped_state w k).clients w.nodes (h ++ read_stepped_items w k)
 sets_stepped w h k holds =
     read_sets_turn w h k.first k.session k.r.start k.r.epoch k.r.key k.c (read_client w k) (read_turn w k) k.quiet k.client_at (stepped_open w h k holds) (stepped_more w h k holds)
-    (told_of k.r (settle_turn (settling_of k.r) (told_by (read_ask k.r) w.rows w.pairs))) holds
+    (told_recall_of _ k.r (told_by (read_ask k.r) w.rows w.pairs)) holds
 
 -- ---- the clients stay
 by_nodes : (w : State) (h items : List Item) (nodes : List (Option InstanceEntry)) → NoReads items → FewerHeld w.nodes nodes → Holds w h → AreReadSets w.setup w.clients nodes (h ++ items)

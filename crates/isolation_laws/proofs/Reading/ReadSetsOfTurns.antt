@@ -9,9 +9,13 @@ use Rattle.store_parts.specs.declared.rows.Cell.{Cell}
 use Rattle.client_parts.specs.declared.resolve.Outcome.TheVariants.{Committed, Dead}
 use Rattle.client_parts.specs.declared.session.State.TheVariants as phase
 use Rattle.client_parts.specs.declared.key_read.Answer.{Answer}
-use Rattle.client_parts.specs.Resolve.{SettleTurn, Goes, Decides}
+use Rattle.client_parts.specs.declared.asks.Told.{Told}
+use Rattle.client_parts.specs.Resolve.{SettleTurn, Goes, Decides, settle_turn}
 use Rattle.client_parts.specs.declared.resolve.SettlePoint.TheVariants.{Table}
-use Rattle.client_parts.specs.KeyRead.{Reading, ReadTurn, Asks, Answers, found_none, found_cell, found_by, after_passed, turn_at, read_over, read_by}
+use Rattle.client_parts.specs.KeyRead.{Reading, ReadTurn, Asks, Answers, found_none, found_cell, found_by, settling_of, after_passed, turn_at, read_over, read_by}
+use Rattle.client_parts.specs.Cache.{Cache}
+use Rattle.client_parts.specs.Recalled.{outcome_known, recalled_over, recalled_told}
+use Rattle.client_parts.proofs.RecalledLemmas.{AnyCache, Recalls, over_holds, told_holds}
 use Rattle.oracle_parts.specs.declared.instance.Progress.{Progress}
 use Rattle.oracle_parts.specs.declared.instance.Progress.TheVariants as progress
 use Rattle.oracle_parts.specs.declared.instance.Request.TheVariants.{Commit}
@@ -69,16 +73,31 @@ over_of every j b e (c ∷ cs) = elim (cases_Bool ((c.version == b) || is_some c
   | inr asks ↦ rw asks (asks_of b j (record { key = j; start = b; epoch = e; every = every; cell = c; older = cs; point = Table }) refl refl)
 ]
 
-pub fetched_of : (every : Bool) (j b e : ℕ) (cells : List Cell) → IsTurnOf b j (read_over every j b e cells)
+fetched_of : (every : Bool) (j b e : ℕ) (cells : List Cell) → IsTurnOf b j (read_over every j b e cells)
 fetched_of every j b e cells = over_of every j b e (after_passed b cells)
 
-pub told_of : (r : Reading) (turn : SettleTurn) → IsTurnOf r.start r.key (read_by r turn)
+told_of : (r : Reading) (turn : SettleTurn) → IsTurnOf r.start r.key (read_by r turn)
 told_of r (Goes p) = asks_of r.start r.key (record r { point = p }) refl refl
 told_of r (Decides Dead) = fetched_of r.every r.key r.start r.epoch r.older
 told_of r (Decides (Committed c by_table)) = elim (cases_Bool (nat_lt c r.start)) [
   | inl below ↦ rw below (answers_of r.start r.key (found_by r.key r.cell c by_table))
   | inr late ↦ rw late (fetched_of r.every r.key r.start r.epoch r.older)
 ]
+
+recalls_of : (b j : ℕ) → Recalls (IsTurnOf b j) AnyCache
+recalls_of b j = record {
+  stays = λ cache txn any. tt;
+  goes = λ cache r k any is of.
+      let turn : ReadTurn = read_by r (Decides (outcome_known k)) in
+      let parts = of r refl in
+      subst (λ q. IsTurnOf b q turn) parts.1 (subst (λ q. IsTurnOf q r.key turn) parts.0 (told_of r (Decides (outcome_known k))));
+}
+
+pub fetched_recall_of : (every : Bool) (j b e : ℕ) (cells : List Cell) (cache : Cache) → IsTurnOf b j (recalled_over every j b e cells cache).0
+fetched_recall_of every j b e cells cache = (over_holds (IsTurnOf b j) AnyCache (recalls_of b j) every j b e cells cache tt (fetched_of every j b e cells)).0
+
+pub told_recall_of : (cache : Cache) (r : Reading) (told : Told) → IsTurnOf r.start r.key (recalled_told cache r told).0
+told_recall_of cache r told = (told_holds (IsTurnOf r.start r.key) AnyCache (recalls_of r.start r.key) cache r told tt (told_of r (settle_turn (settling_of r) told))).0
 
 -- ---- what the client of a session that reads keeps
 -- as much as before, with strict reads the key too, where the transaction had not written it, and without them nothing more
