@@ -1,10 +1,15 @@
 -- Public laws, for the proofs of crates above: what a cache keeps was kept before, or was just made.
-use Rattle.std.proofs.Common.{◌≡◌, ◌⊎◌, ℕ, nat_eq, true, Option, None, Some, sym, ap, subst, inl, inr, Contains}
-use Rattle.std.proofs.lemmas.Bool.{eqb-true}
+use Rattle.std.proofs.Common.{◌≡◌, ◌⊎◌, ℕ, nat_eq, Bool, true, false, cond, List, [], ◌∷◌, Option, None, Some, refl, sym, ◌∙◌, ap, subst, inl, inr, Contains}
+use Rattle.std.specs.Map.{lookup, lookup_entry, remove_entry}
+use Rattle.std.specs.Option.{option_map_or}
+use Rattle.std.proofs.lemmas.Bool.{eqb-true, eq-eqb}
+use Rattle.std.proofs.lemmas.Cmp.{nat_eq_equiv}
 use Rattle.lru.specs.LruCache.{lru_cache}
-use Rattle.lru.proofs.CallerLemmas.{Contains-lookup, Contains-promoted, Contains-put_entries, IsPut}
+use Rattle.lru.proofs.Splits.{Contains-cons, Contains-head, Contains-tail, Contains-nil}
+use Rattle.lru.proofs.CallerLemmas.{Contains-lookup, Contains-lookup_entry, Contains-promoted, Contains-put_entries, IsPut, lookup-put_entries}
 use Rattle.client_parts.specs.declared.known.Known.{Known}
-use Rattle.client_parts.specs.Cache.{Cache, known_of, used, fresh_put}
+use Rattle.client_parts.specs.Cache.{Cache, known_of, used, fresh_put, put_fresh}
+use Rattle.client_parts.specs.RecalledReads.{RecallsKeep, PutsFresh, MemoriesKeep}
 
 -- what is found of a transaction is kept
 pub known_there : (cache : Cache) (txn : ℕ) (it : Known) → known_of cache txn ≡ Some it → Contains cache.kept (txn, it)
@@ -30,3 +35,85 @@ put_there cache (Some made) pair there = elim (Contains-put_entries nat_eq (lru_
   | inl old ↦ inl old
   | inr put ↦ inr (ap Some (put_is cache made pair put))
 ]
+
+-- ---- a use keeps no less
+abbrev Pairs : Type 0
+Pairs = List (ℕ × Known)
+
+-- a pair that is not taken out by its transaction is left
+left_cons : (txn : ℕ) (one : ℕ × Known) (es : Pairs) (took pair : ℕ × Known) (takes : Bool) → nat_eq txn one.0 ≡ takes → (lookup_entry (nat_eq txn) es ≡ Some took → Contains es pair → (took ≡ pair) ⊎ Contains (remove_entry (nat_eq txn) es) pair) → lookup_entry (nat_eq txn) (one ∷ es) ≡ Some took → Contains (one ∷ es) pair → (took ≡ pair) ⊎ Contains (remove_entry (nat_eq txn) (one ∷ es)) pair
+left_cons txn one es took pair true is rest = rw is (λ found there. elim (Contains-cons one es pair there) [
+  | inl here ↦ let first : one ≡ took = cc in inl (sym first ∙ here)
+  | inr later ↦ inr later
+])
+left_cons txn one es took pair false is rest = rw is (λ found there. elim (Contains-cons one es pair there) [
+  | inl here ↦ inr (subst (Contains (one ∷ remove_entry (nat_eq txn) es)) here (Contains-head one (remove_entry (nat_eq txn) es)))
+  | inr later ↦ elim (rest found later) [
+    | inl took_it ↦ inl took_it
+    | inr left ↦ inr (Contains-tail one (remove_entry (nat_eq txn) es) pair left)
+  ]
+])
+
+left_there : (txn : ℕ) (es : Pairs) (took pair : ℕ × Known) → lookup_entry (nat_eq txn) es ≡ Some took → Contains es pair → (took ≡ pair) ⊎ Contains (remove_entry (nat_eq txn) es) pair
+left_there txn [] took pair found there = absurd (Contains-nil pair there)
+left_there txn (one ∷ es) took pair found there = left_cons txn one es took pair (nat_eq txn one.0) refl (left_there txn es took pair) found there
+
+use_keeps : (txn : ℕ) (es : Pairs) (o : Option (ℕ × Known)) (pair : ℕ × Known) → lookup_entry (nat_eq txn) es ≡ o → Contains es pair → Contains (option_map_or (λ e. e ∷ remove_entry (nat_eq txn) es) o es) pair
+use_keeps txn es None pair found there = there
+use_keeps txn es (Some took) pair found there = elim (left_there txn es took pair found there) [
+  | inl same ↦ subst (Contains (took ∷ remove_entry (nat_eq txn) es)) same (Contains-head took (remove_entry (nat_eq txn) es))
+  | inr left ↦ Contains-tail took (remove_entry (nat_eq txn) es) pair left
+]
+
+-- ---- a use tells the same of each transaction
+-- one that is found in front of the pair that was taken out is another's
+other_first : (txn other : ℕ) (one took : ℕ × Known) (rest : Option Known) → nat_eq txn one.0 ≡ false → nat_eq txn took.0 ≡ true → nat_eq other one.0 ≡ true → cond (nat_eq other took.0) (Some took.1) rest ≡ rest
+other_first txn other one took rest passes takes mine =
+    let apart : nat_eq other took.0 ≡ false = differs (nat_eq other took.0) refl in
+    rw apart refl
+  where
+    differs : (b : Bool) → nat_eq other took.0 ≡ b → b ≡ false
+    differs false is = refl
+    differs true is =
+        let first : other ≡ one.0 = eqb-true other one.0 mine in
+        let second : other ≡ took.0 = eqb-true other took.0 is in
+        let third : txn ≡ took.0 = eqb-true txn took.0 takes in
+        let clash : nat_eq txn one.0 ≡ true = eq-eqb txn one.0 (third ∙ sym second ∙ first) in
+        absurd (cc)
+
+tells_cons : (txn other : ℕ) (one : ℕ × Known) (es : Pairs) (took : ℕ × Known) (takes mine : Bool) → nat_eq txn one.0 ≡ takes → nat_eq other one.0 ≡ mine → nat_eq txn took.0 ≡ true → (lookup_entry (nat_eq txn) es ≡ Some took → cond (nat_eq other took.0) (Some took.1) (lookup (nat_eq other) (remove_entry (nat_eq txn) es)) ≡ lookup (nat_eq other) es) → lookup_entry (nat_eq txn) (one ∷ es) ≡ Some took → cond (nat_eq other took.0) (Some took.1) (lookup (nat_eq other) (remove_entry (nat_eq txn) (one ∷ es))) ≡ lookup (nat_eq other) (one ∷ es)
+tells_cons txn other one es took true mine is m its rest = rw is (λ found. let first : one ≡ took = cc in ap (λ (e : ℕ × Known). cond (nat_eq other e.0) (Some e.1) (lookup (nat_eq other) es)) (sym first))
+tells_cons txn other one es took false true is m its rest = rw (is, m) (λ found. other_first txn other one took (Some one.1) is its m)
+tells_cons txn other one es took false false is m its rest = rw (is, m) rest
+
+tells_same : (txn other : ℕ) (es : Pairs) (took : ℕ × Known) → nat_eq txn took.0 ≡ true → lookup_entry (nat_eq txn) es ≡ Some took → cond (nat_eq other took.0) (Some took.1) (lookup (nat_eq other) (remove_entry (nat_eq txn) es)) ≡ lookup (nat_eq other) es
+tells_same txn other [] took its found = cc
+tells_same txn other (one ∷ es) took its found = tells_cons txn other one es took (nat_eq txn one.0) (nat_eq other one.0) refl refl its (tells_same txn other es took its) found
+
+use_tells : (txn other : ℕ) (es : Pairs) (o : Option (ℕ × Known)) → lookup_entry (nat_eq txn) es ≡ o → lookup (nat_eq other) (option_map_or (λ e. e ∷ remove_entry (nat_eq txn) es) o es) ≡ lookup (nat_eq other) es
+use_tells txn other es None found = refl
+use_tells txn other es (Some took) found = tells_same txn other es took (Contains-lookup_entry (nat_eq txn) es took found).1 found
+
+recalls_keep : (cache : Cache) (txn : ℕ) → RecallsKeep cache txn
+recalls_keep cache txn = record {
+  same = λ pair. (used_there cache txn pair, use_keeps txn cache.kept (lookup_entry (nat_eq txn) cache.kept) pair refl);
+  known = λ other. use_tells txn other cache.kept (lookup_entry (nat_eq txn) cache.kept) refl;
+}
+
+-- ---- what was fresh
+fresh_none : (cache : Cache) (made : Option (ℕ × Known)) → cache.fresh ≡ made → (fresh_put cache made).fresh ≡ None
+fresh_none cache None is = is
+fresh_none cache (Some made) is = refl
+
+fresh_known : (cache : Cache) (pair : ℕ × Known) → known_of (fresh_put cache (Some pair)) pair.0 ≡ Some pair.1
+fresh_known cache pair = lookup-put_entries nat_eq (lru_cache cache.kept cache.room) pair.0 pair.1 nat_eq_equiv
+
+pub memories_keep : MemoriesKeep
+memories_keep cache = (
+  recalls_keep cache,
+  record {
+    known = λ pair is. subst (λ (made : Option (ℕ × Known)). known_of (fresh_put cache made) pair.0 ≡ Some pair.1) (sym is) (fresh_known cache pair);
+    before = put_there cache cache.fresh;
+    none = fresh_none cache cache.fresh refl;
+  },
+)

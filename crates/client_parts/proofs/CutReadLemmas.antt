@@ -10,7 +10,7 @@ use Rattle.client_parts.specs.Resolve.{SettleTurn, Goes, Decides, settle_turn}
 use Rattle.client_parts.specs.KeyRead.{is_late, is_passed, after_passed, Reading, ReadTurn, Asks, Answers, settling_of, turn_at, read_over, read_by, read_told, next_of}
 use Rattle.client_parts.specs.CutReads.{IsCut, IsCutTurn, read_after, CutReadsAreWhole}
 
-passed_over : (start : ℕ) (own : Bool) (shadow : Option ℕ) → cond own false (is_late start shadow) ≡ true → is_below start shadow ≡ false
+pub passed_over : (start : ℕ) (own : Bool) (shadow : Option ℕ) → cond own false (is_late start shadow) ≡ true → is_below start shadow ≡ false
 passed_over start true shadow e = absurd cc
 passed_over start false None e = refl
 passed_over start false (Some commit) e = lt-leb (suc commit) start (omega (arith, leb-true start commit e))
@@ -53,7 +53,7 @@ cut_begins : (every : Bool) (key start epoch : ℕ) (cells : List Cell) → IsCu
 cut_begins every key start epoch cells = rw (front_passed start cells) (turn_cut every key start epoch (after_passed start cells))
 
 -- the read with the front of its older cells
-abbrev cut_of : Reading → Reading
+abbrev pub cut_of : Reading → Reading
 cut_of whole = record whole { older = front_of whole.start whole.older }
 
 committed_cut : (whole : Reading) (commit : ℕ) (by_table below : Bool) → nat_lt commit whole.start ≡ below → IsCutTurn (read_by (cut_of whole) (Decides (Committed commit by_table))) (read_by whole (Decides (Committed commit by_table)))

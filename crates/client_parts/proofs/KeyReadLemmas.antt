@@ -8,6 +8,7 @@ use Rattle.store_parts.specs.declared.rows.Cell.{Cell}
 use Rattle.client_parts.specs.declared.key_read.Answer.{Answer}
 use Rattle.client_parts.specs.declared.resolve.SettlePoint.{SettlePoint}
 use Rattle.client_parts.specs.declared.resolve.SettlePoint.TheVariants.{FirstLook, Table, Marking, LastLook}
+use Rattle.client_parts.specs.declared.resolve.Outcome.{Outcome}
 use Rattle.client_parts.specs.declared.resolve.Outcome.TheVariants.{Committed, Dead}
 use Rattle.client_parts.specs.declared.asks.Told.{Told}
 use Rattle.client_parts.specs.Resolve.{SettleTurn, Goes, Decides, settle_turn, settle_left, SettlesEnd}
@@ -106,10 +107,14 @@ late_falls : (r s : Reading) (c : ℕ) (by_table below : Bool) → cond below (A
 late_falls r s c by_table true e = absurd cc
 late_falls r s c by_table false e = over_falls r s e
 
+-- a cell that was decided is left behind
+pub decided_falls : (r s : Reading) (outcome : Outcome) → read_by r (Decides outcome) ≡ Asks s → read_left s < read_left r
+decided_falls r s Dead e = over_falls r s e
+decided_falls r s (Committed c by_table) e = late_falls r s c by_table (nat_lt c r.start) e
+
 told_falls : (r s : Reading) (told : Told) (v : SettleTurn) → settle_turn (settling_of r) told ≡ v → read_by r v ≡ Asks s → read_left s < read_left r
 told_falls r s told (Goes p) v e = goes_falls r s told p v e
-told_falls r s told (Decides Dead) v e = over_falls r s e
-told_falls r s told (Decides (Committed c by_table)) v e = late_falls r s c by_table (nat_lt c r.start) e
+told_falls r s told (Decides outcome) v e = decided_falls r s outcome e
 
 pub reads_end : ReadsEnd
 reads_end = (read_left_over, λ r s told e. told_falls r s told (settle_turn (settling_of r) told) refl e)

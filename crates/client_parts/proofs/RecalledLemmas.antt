@@ -10,6 +10,7 @@ use Rattle.client_parts.specs.Resolve.{SettleTurn, Goes, Decides, settle_turn}
 use Rattle.client_parts.specs.KeyRead.{Reading, ReadTurn, Asks, Answers, is_passed, after_passed, found_none, found_cell, found_by, settling_of, read_over, read_by, read_told}
 use Rattle.client_parts.specs.Cache.{Cache, known_of, used}
 use Rattle.client_parts.specs.Recalled.{Remembering, outcome_known, recalled_by, recalled_at, recalled_over, recalled_turn, recalled_told, recalled_known, recalled_from}
+use Rattle.client_parts.specs.RecalledReads.{RecallsGoCellByCell}
 
 -- ---- a read is the plain one up to the cell that it comes to, and there it is recalled
 -- the read that has just come to this cell
@@ -88,3 +89,6 @@ module _ (P : ReadTurn → Type 0) (Q : Cache → Type 0) where
 
   pub told_holds : Recalls → (cache : Cache) (r : Reading) (told : Told) → Q cache → P (read_told r told) → HoldBoth (recalled_told cache r told)
   told_holds recalls cache r told = turn_holds recalls cache r (settle_turn (settling_of r) told)
+
+pub recalls_go_cell_by_cell : RecallsGoCellByCell
+recalls_go_cell_by_cell = record { over = over_from; decided = decided_from }

@@ -1,6 +1,5 @@
 -- What is promised of a session's memory, and of the reads that recall it.
-use Rattle.std.specs.Prelude.{◌≡◌, ℕ, ◌*◌, ◌<◌, ◌≤◌, ◌⊎◌, ◌↔◌, Bool, List, [], None, Option, Some, length}
-use Rattle.history_book.specs.Members.{◌∈◌}
+use Rattle.std.specs.Prelude.{◌≡◌, ℕ, ◌*◌, ◌<◌, ◌≤◌, ◌⊎◌, ◌↔◌, Bool, List, [], None, Option, Some, Contains, length}
 use Rattle.store_parts.specs.declared.rows.Cell.{Cell}
 use Rattle.store_parts.specs.Rows.{front_of}
 use Rattle.client_parts.specs.declared.known.Known.{Known}
@@ -15,13 +14,13 @@ use Rattle.client_parts.specs.Recalled.{Remembering, recalled_over, recalled_tol
 -- ---- what is kept
 -- a recall leaves the same pairs, and what they tell of each transaction
 pub record RecallsKeep (cache : Cache) (txn : ℕ) : Type 0 where
-  pub same : (pair : ℕ × Known) → (pair ∈ (used cache txn).kept) ↔ (pair ∈ cache.kept)
+  pub same : (pair : ℕ × Known) → Contains (used cache txn).kept pair ↔ Contains cache.kept pair
   pub known : (other : ℕ) → known_of (used cache txn) other ≡ known_of cache other
 
 -- what was fresh is kept then; each other pair that is kept was kept before
 pub record PutsFresh (cache : Cache) : Type 0 where
   pub known : (pair : ℕ × Known) → cache.fresh ≡ Some pair → known_of (put_fresh cache) pair.0 ≡ Some pair.1
-  pub before : (pair : ℕ × Known) → pair ∈ (put_fresh cache).kept → (cache.fresh ≡ Some pair) ⊎ (pair ∈ cache.kept)
+  pub before : (pair : ℕ × Known) → Contains (put_fresh cache).kept pair → Contains cache.kept pair ⊎ (cache.fresh ≡ Some pair)
   pub none : (put_fresh cache).fresh ≡ None
 
 abbrev pub MemoriesKeep : Type 0

@@ -18,7 +18,10 @@ pub use key_read::{
     Answer, Next, answers_own_or_below, answers_resolved, cut_reads_are_whole, passed_are_late,
     passes_dead_or_late, reads_end, reads_mark_old_alone,
 };
-pub use known::Known;
+pub use known::{
+    Known, cut_recalls_are_whole, memories_keep, nothing_kept_is_plain, recalled_reads_end,
+    recalls_go_cell_by_cell,
+};
 pub use resolve::{
     Outcome, SettlePoint, committed_is_told, dead_by_last_look, mark_never_decides,
     marks_where_allowed, settles_end,
