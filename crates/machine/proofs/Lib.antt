@@ -18,3 +18,4 @@ mod WorkedPaths
 mod WorkedReading
 mod TableMoves
 mod WorkedTables
+mod WorkedRecalls

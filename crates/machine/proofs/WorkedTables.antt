@@ -25,10 +25,10 @@ use Rattle.machine.specs.WorkedMoves as worked
 use Rattle.machine.proofs.TableMoves.{put_step, session_step, janitor_step, janitor_gets, Cut, cut_step_of, cut_all}
 
 -- ---- the cuts: a put of the first session's commit, a session's step and the janitor's
-abbrev cut_put : List Event → Fate → Option Mark → Cut
+abbrev pub cut_put : List Event → Fate → Option Mark → Cut
 cut_put first fate found = record { first = working first; move = record { event = event.Put 0 0; fate = fate }; txn = 1; found = found; step = λ w. put_step w 0 0 fate }
 
-abbrev cut_step : List Event → ℕ → Option Mark → Cut
+abbrev pub cut_step : List Event → ℕ → Option Mark → Cut
 cut_step first session found = record { first = working first; move = record { event = event.Step session; fate = Works }; txn = 1; found = found; step = λ w. session_step w session }
 
 abbrev cut_sweep : List Event → Sweeping → Ask → Option Mark → Cut
@@ -39,7 +39,7 @@ cut_sweep first s asked found =
 abbrev with_entry : Mark → Pairs
 with_entry mark = put_pair map.empty 1 mark
 
-has_entry : (mark : Mark) → mark_of (with_entry mark) 1 ≡ Some mark
+pub has_entry : (mark : Mark) → mark_of (with_entry mark) 1 ≡ Some mark
 has_entry mark = mark_of-put_pair map.empty 1 mark ∙ ap (λ (found : Option Mark). Some (entry_or found mark)) (mark_of-empty 1)
 
 abbrev opening_state : State

@@ -10,3 +10,4 @@ pub mod Laws
 pub mod WorkedMoves
 pub mod WorkedRefusals
 pub mod WorkedReads
+pub mod WorkedRecalls

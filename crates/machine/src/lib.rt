@@ -14,6 +14,6 @@ pub use laws::{
 pub use worked::{
     boundaries_of_the_lease, conflict, crash, end_of_the_stamps, faulted_put,
     faulted_take_and_write, hidden, late_begin, late_draw, late_put, not_yet, own_writes,
-    plain_path, put_before_the_read, ranges, reads_of_the_vanished, refusals_of_order, stray_mark,
-    too_many_keys_read, vanished_session, write_skew,
+    plain_path, put_before_the_read, ranges, reads_of_the_vanished, recalled_commit, recalled_mark,
+    refusals_of_order, stray_mark, too_many_keys_read, vanished_session, write_skew,
 };

@@ -1,10 +1,12 @@
 // Short histories of the definitions, item by item.
-ghost use Rattle.std.specs.Prelude.{◌≡◌};
+ghost use Rattle.std.specs.Prelude.{◌≡◌, [], ◌∷◌};
 ghost use Rattle.stamp_base.specs.SetupNumbers.{default_numbers};
 ghost use Rattle.machine.specs.Machine.{history_after};
+ghost use Rattle.machine.specs.declared.event.Event.TheVariants as event;
 ghost use Rattle.machine.specs.WorkedMoves as worked;
 ghost use Rattle.machine.specs.WorkedRefusals as alone;
 ghost use Rattle.machine.specs.WorkedReads as reads;
+ghost use Rattle.machine.specs.WorkedRecalls as recalls;
 
 /// A lease stands up to the reading before its end, and no other node takes the record before its end by all clocks.
 pub fn boundaries_of_the_lease()
@@ -125,4 +127,15 @@ pub fn reads_of_the_vanished()
 /// A transaction that has read 64 keys reads no other but what it wrote, and each of these again.
 pub fn too_many_keys_read()
     ensures { history_after reads.strict_reads reads.full_moves ≡ reads.full_items }
+{}
+
+/// A session that remembers asks the commit table once, for two keys of one transaction; one that does not asks it twice.
+pub fn recalled_commit()
+    ensures recalled { history_after recalls.two_decisions (recalls.two_reads []) ≡ recalls.two_items [] }
+    ensures forgotten { history_after default_numbers (recalls.two_reads (event.Step 1 ∷ [])) ≡ recalls.two_items (recalls.asks_table ∷ []) }
+{}
+
+/// A session that marked a transaction passes over its cells without another ask.
+pub fn recalled_mark()
+    ensures { history_after recalls.two_decisions recalls.marked_moves ≡ recalls.marked_items }
 {}
