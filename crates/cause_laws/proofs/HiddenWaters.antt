@@ -1,5 +1,6 @@
--- The number that a start is told of a hidden key is the water of the key's bucket.
-use Rattle.std.proofs.Common.{◌≡◌, ℕ, nat_lt, Bool, true, false, if◌then◌else◌, List, [], ◌∷◌, Option, None, Some, ◌⊎◌, inl, inr, subst}
+-- A refusal by some keys is that of one of them, and the number that a start is told of a hidden key is the water of the key's
+-- bucket.
+use Rattle.std.proofs.Common.{◌≡◌, ◌≢◌, ℕ, nat_lt, Bool, true, false, if◌then◌else◌, List, [], ◌∷◌, Option, None, Some, ◌⊎◌, inl, inr, subst}
 use Rattle.oracle_parts.specs.declared.buckets.Verdict.{Verdict}
 use Rattle.oracle_parts.specs.declared.buckets.Verdict.TheVariants.{Free, Conflict, Hidden}
 use Rattle.oracle_parts.specs.Buckets.{Bucket, kept_commit, bucket_of, judged, key_verdict, first_refusal, verdict}
@@ -17,18 +18,18 @@ judged_hidden : (start first water : ℕ) (there : Option ℕ) (key told : ℕ) 
 judged_hidden start first water (Some commit) key told is = absurd (conflict_or_free start first water commit key told (nat_lt start commit) is)
 judged_hidden start first water None key told is = hidden_or_free first water key told (nat_lt start water) is
 
--- ---- the first of some keys
-refused_first : (here later : Verdict) (key water : ℕ) → first_refusal here later ≡ Hidden key water → (here ≡ Hidden key water) ⊎ (later ≡ Hidden key water)
-refused_first Free later key water is = inr is
-refused_first (Conflict k by) later key water is = absurd (cc)
-refused_first (Hidden k w) later key water is = inl is
+-- ---- the first of some keys, and of two sets of them
+pub refused_first : (here later why : Verdict) → why ≢ Free → first_refusal here later ≡ why → (here ≡ why) ⊎ (later ≡ why)
+refused_first Free later why some is = inr is
+refused_first (Conflict key by) later why some is = inl is
+refused_first (Hidden key water) later why some is = inl is
 
 pub hidden_water : (buckets : List Bucket) (start : ℕ) (keys : List ℕ) (key water : ℕ) → verdict buckets start keys ≡ Hidden key water → (bucket_of buckets key).water ≡ water
 unfolding verdict
 hidden_water buckets start [] key water is = absurd (cc)
 hidden_water buckets start (first ∷ keys) key water is =
     let bucket : Bucket = bucket_of buckets first in
-    elim (refused_first (key_verdict bucket start first) (verdict buckets start keys) key water is) [
+    elim (refused_first (key_verdict bucket start first) (verdict buckets start keys) (Hidden key water) (λ same. cc) is) [
       | inl here ↦
           let same = judged_hidden start first bucket.water (kept_commit bucket.kept first) key water here in
           subst (λ (k : ℕ). (bucket_of buckets k).water ≡ water) same.0 same.1

@@ -1,6 +1,6 @@
 -- For planned_laws too.
 -- What is due of a request is shown: by its ask, its term and its draw, and by the facts of isolation.
-use Rattle.std.proofs.Common.{◌≡◌, ◌≢◌, ℕ, false, List, [], Option, None, Some, ◌⊎◌, inl, inr, refl, sym, ◌∙◌, ap, subst, Contains}
+use Rattle.std.proofs.Common.{◌≡◌, ◌≢◌, ℕ, false, List, [], Option, None, Some, inl, inr, refl, sym, ◌∙◌, ap, subst, Contains}
 use Rattle.std.specs.Option.{option_or}
 use Rattle.history_book.specs.declared.item.Item.{Item}
 use Rattle.oracle_parts.specs.declared.buckets.Verdict.{Verdict}
@@ -9,7 +9,7 @@ use Rattle.oracle_parts.specs.declared.instance.Progress.{Progress}
 use Rattle.oracle_parts.specs.declared.instance.Progress.TheVariants as progress
 use Rattle.oracle_parts.specs.declared.instance.Request.{Request}
 use Rattle.oracle_parts.specs.declared.instance.Request.TheVariants.{Begin, Commit}
-use Rattle.oracle_parts.specs.Buckets.{Bucket, contents, first_refusal, verdict, IsShown}
+use Rattle.oracle_parts.specs.Buckets.{Bucket, contents, verdict, IsShown}
 use Rattle.oracle_parts.specs.Instance.{InstanceEntry}
 use Rattle.oracle_parts.proofs.BucketVerdicts.{verdict_shown}
 use Rattle.machine.specs.State.{State}
@@ -24,7 +24,7 @@ use Rattle.isolation_laws.proofs.Memory.RecordedCommits.{recorded_rise}
 use Rattle.cause_laws.specs.Requests.{ask_for}
 use Rattle.cause_laws.specs.Shows.{Shows}
 use Rattle.cause_laws.specs.Due.{Serves, DueVerdict, DueOldEpoch, DueExpired}
-use Rattle.cause_laws.proofs.HiddenWaters.{hidden_water}
+use Rattle.cause_laws.proofs.HiddenWaters.{refused_first, hidden_water}
 use Rattle.cause_laws.proofs.RecordedDraws.{last_drawn, drawn_at}
 
 -- ---- the ask of a request
@@ -71,18 +71,13 @@ record Refused (w : State) (i : InstanceEntry) (start : ℕ) (keys : List ℕ) (
   own : w.setup.strict ≡ false → of ≡ keys
   judged : verdict i.buckets start of ≡ why
 
-either : (here later why : Verdict) → why ≢ Free → first_refusal here later ≡ why → (here ≡ why) ⊎ (later ≡ why)
-either Free later why some is = inr is
-either (Conflict key by) later why some is = inl is
-either (Hidden key water) later why some is = inl is
-
 -- nothing that was read is nothing that is refused
 none_read : (buckets : List Bucket) (start : ℕ) (reads : List ℕ) (why : Verdict) → why ≢ Free → reads ≡ [] → verdict buckets start reads ≡ why → ⊥
 unfolding verdict
 none_read buckets start reads why some none is = some (sym is ∙ ap (λ (ks : List ℕ). verdict buckets start ks) none)
 
 refused : (w : State) (h : List Item) (s : ℕ) (why : Verdict) → why ≢ Free → Stands w h → (due : DueVerdict w s why) → Refused w due.i due.start due.keys why
-refused w h s why some stands due = elim (either (verdict due.i.buckets due.start due.keys) (verdict due.i.buckets due.start due.client.reads) why some due.judged) [
+refused w h s why some stands due = elim (refused_first (verdict due.i.buckets due.start due.keys) (verdict due.i.buckets due.start due.client.reads) why some due.judged) [
   | inl wrote ↦ record { of = due.keys; own = λ plain. refl; judged = wrote }
   | inr read ↦
       record {

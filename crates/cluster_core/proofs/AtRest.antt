@@ -1,14 +1,14 @@
 -- The stores of a state that is reached stand at rest with its history.
 use Rattle.std.proofs.Common.{◌≡◌, ℕ, ◌⊎◌, inl, inr, ⊎_elim, refl, sym, ap, ◌∙◌, List}
 use Rattle.std.specs.Prelude.{Option, None, Some}
-use Rattle.std.proofs.lemmas.Option.{same_Some, none-some}
-use Rattle.history_book.specs.Isolation.{Committed, Wrote, last_write}
+use Rattle.std.proofs.lemmas.Option.{none-some}
+use Rattle.history_book.specs.Isolation.{last_write}
 use Rattle.history_book.specs.declared.item.Item.{Item}
 use Rattle.store_parts.specs.declared.rows.Cell.{Cell}
-use Rattle.store_parts.specs.Rows.{Row, looked}
+use Rattle.store_parts.specs.Rows.{looked}
 use Rattle.store_parts.specs.Pairs.{Pairs}
 use Rattle.isolation_laws.specs.Words.{cell_with, HasRecord}
-use Rattle.isolation_laws.specs.Cells.{IsPlacedCell, AreShadowed}
+use Rattle.isolation_laws.specs.Cells.{AreShadowed}
 use Rattle.machine.specs.State.{State}
 use Rattle.isolation_laws.specs.Sound.{Stands}
 use Rattle.cell_compaction.specs.Rest.{IsWritten, StandsAtRest}

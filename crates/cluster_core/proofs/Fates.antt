@@ -1,5 +1,5 @@
 -- The fate that an event meets is the first that its store has ahead; where it asks none, any would do.
-use Rattle.std.proofs.Common.{Bool, ◌≡◌, ℕ, List, Option, Some, None, Result, refl, sym, subst}
+use Rattle.std.proofs.Common.{◌≡◌, ℕ, List, Option, Some, None, Result, refl, sym, subst}
 use Rattle.stamp_base.specs.SetupNumbers.{SetupNumbers}
 use Rattle.stamp_base.specs.declared.stores.Store.{Store}
 use Rattle.stamp_base.specs.declared.stores.Store.TheVariants.{Cells, Table, Master}
@@ -10,16 +10,14 @@ use Rattle.store_parts.specs.Rows.{Row}
 use Rattle.store_parts.specs.Pairs.{Pairs}
 use Rattle.store_parts.specs.Record.{MasterRecord}
 use Rattle.oracle_parts.specs.Instance.{InstanceEntry, held_of}
-use Rattle.client_parts.specs.SessionSteps.{work_refusal}
 use Rattle.machine.specs.State.{Client}
-use Rattle.machine.specs.Clients.{is_reading}
 use Rattle.machine.specs.Effect.{Effect}
 use Rattle.machine.specs.Events.Take.{take_on, take_asks}
 use Rattle.machine.specs.Events.Renew.{renew_on, renew_asks}
 use Rattle.machine.specs.Events.Extend.{extend_on, extend_asks}
 use Rattle.machine.specs.Events.Put.{put_on, put_commit, to_place, commit_asks, put_asks}
 use Rattle.machine.specs.Events.Write.{write_on, write_open, write_refused, write_asks, open_asks}
-use Rattle.machine.specs.Events.Fetch.{fetch_on, fetch_open, fetch_asks, epoch_asks}
+use Rattle.machine.specs.Events.Fetch.{fetch_on, fetch_open, fetch_asks, fetch_refused, epoch_asks}
 use Rattle.machine.specs.Events.Heal.{heal_on, heal_at, heal_asks, offer_of, offer_asks}
 use Rattle.event_parts.specs.Made.{Makes, fate_ahead}
 use Rattle.event_parts.specs.declared.stopped.Stopped.{Stopped}
@@ -55,14 +53,14 @@ open_fate session key value ahead c rows None (Some start) = refl
 pub write_fate : (session key : ℕ) (value : List ℕ) (ahead : Store → ℕ → Fate) (c : Client) (rows : List Row) → write_on session key value (fate_ahead (write_asks key c) ahead) c rows ≡ write_on session key value (ahead Cells 0) c rows
 write_fate session key value ahead c rows = open_fate session key value ahead c rows (write_refused c key) c.entry.start
 
-read_fate : (every : Bool) (session key : ℕ) (ahead : Store → ℕ → Fate) (c : Client) (rows : List Row) (why : Option Cause) (start epoch : Option ℕ) → fetch_open every session key (fate_ahead (epoch_asks epoch (open_asks why start)) ahead) c rows why start epoch ≡ fetch_open every session key (ahead Cells 0) c rows why start epoch
-read_fate every session key ahead c rows (Some why) start epoch = refl
-read_fate every session key ahead c rows None None epoch = refl
-read_fate every session key ahead c rows None (Some start) None = refl
-read_fate every session key ahead c rows None (Some start) (Some epoch) = refl
+read_fate : (setup : SetupNumbers) (session key : ℕ) (ahead : Store → ℕ → Fate) (c : Client) (rows : List Row) (why : Option Cause) (start epoch : Option ℕ) → fetch_open setup session key (fate_ahead (epoch_asks epoch (open_asks why start)) ahead) c rows why start epoch ≡ fetch_open setup session key (ahead Cells 0) c rows why start epoch
+read_fate setup session key ahead c rows (Some why) start epoch = refl
+read_fate setup session key ahead c rows None None epoch = refl
+read_fate setup session key ahead c rows None (Some start) None = refl
+read_fate setup session key ahead c rows None (Some start) (Some epoch) = refl
 
-pub fetch_fate : (every : Bool) (session key : ℕ) (ahead : Store → ℕ → Fate) (c : Client) (rows : List Row) → fetch_on every session key (fate_ahead (fetch_asks c) ahead) c rows ≡ fetch_on every session key (ahead Cells 0) c rows
-fetch_fate every session key ahead c rows = read_fate every session key ahead c rows (work_refusal c.entry.state (is_reading c)) c.entry.start c.entry.epoch
+pub fetch_fate : (setup : SetupNumbers) (session key : ℕ) (ahead : Store → ℕ → Fate) (c : Client) (rows : List Row) → fetch_on setup session key (fate_ahead (fetch_asks setup key c) ahead) c rows ≡ fetch_on setup session key (ahead Cells 0) c rows
+fetch_fate setup session key ahead c rows = read_fate setup session key ahead c rows (fetch_refused setup c key) c.entry.start c.entry.epoch
 
 offer_fate : (session : ℕ) (ahead : Store → ℕ → Fate) (c : Client) (rows : List Row) (pairs : Pairs) (offer : Option (ℕ × ℕ × ℕ)) → heal_at session (fate_ahead (offer_asks offer) ahead) c rows pairs offer ≡ heal_at session (ahead Cells 0) c rows pairs offer
 offer_fate session ahead c rows pairs None = refl

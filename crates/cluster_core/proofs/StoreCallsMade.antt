@@ -16,7 +16,7 @@ use Rattle.machine.specs.Events.Renew.{renew_on}
 use Rattle.machine.specs.Events.Extend.{extend_on}
 use Rattle.machine.specs.Events.Put.{put_on}
 use Rattle.machine.specs.Events.Write.{write_on}
-use Rattle.machine.specs.Events.Fetch.{marks_every, fetch_on}
+use Rattle.machine.specs.Events.Fetch.{fetch_on}
 use Rattle.machine.specs.Events.Step.{StepParts, step_on, step_asks}
 use Rattle.machine.specs.Events.Heal.{heal_on}
 use Rattle.event_parts.specs.Made.{Makes, fate_ahead}
@@ -51,9 +51,9 @@ write_made w v session key value ahead c left rows before after result at is mad
     let whole : Client × List Row → State = λ p. record (with_client w session p.0) { rows = p.1 } in
     rw at (put_back _ whole (c, w.rows) (left, rows) w v before after result (same_client w session c at) is (by_fate _ _ (c, w.rows) (left, rows) before after result (write_fate session key value ahead c w.rows) made))
 
-pub fetch_made : (w v : State) (session key : ℕ) (ahead : Store → ℕ → Fate) (c left : Client) (before after : List Item) (result : Result Unit Stopped) → slice_get w.clients session ≡ Some c → v ≡ with_client w session left → Makes (fetch_on (marks_every w.setup) session key (ahead Cells 0) c w.rows) c left before after result → Makes (effect_of (step_under ahead w (event.Fetch session key))) w v before after result
+pub fetch_made : (w v : State) (session key : ℕ) (ahead : Store → ℕ → Fate) (c left : Client) (before after : List Item) (result : Result Unit Stopped) → slice_get w.clients session ≡ Some c → v ≡ with_client w session left → Makes (fetch_on w.setup session key (ahead Cells 0) c w.rows) c left before after result → Makes (effect_of (step_under ahead w (event.Fetch session key))) w v before after result
 fetch_made w v session key ahead c left before after result at is made =
-    rw at (put_back _ (λ p. with_client w session p) c left w v before after result (same_client w session c at) is (by_fate _ _ c left before after result (fetch_fate (marks_every w.setup) session key ahead c w.rows) made))
+    rw at (put_back _ (λ p. with_client w session p) c left w v before after result (same_client w session c at) is (by_fate _ _ c left before after result (fetch_fate w.setup session key ahead c w.rows) made))
 
 pub heal_made : (w v : State) (session : ℕ) (ahead : Store → ℕ → Fate) (c left : Client) (rows : List Row) (before after : List Item) (result : Result Unit Stopped) → slice_get w.clients session ≡ Some c → v ≡ record (with_client w session left) { rows = rows } → Makes (heal_on session (ahead Cells 0) c w.rows w.pairs) (c, w.rows) (left, rows) before after result → Makes (effect_of (step_under ahead w (event.Heal session))) w v before after result
 heal_made w v session ahead c left rows before after result at is made =

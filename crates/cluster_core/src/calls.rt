@@ -162,7 +162,7 @@ impl Cluster {
         )
     }
 
-    /// The session begins a read of the key: refused as Gone, NoTransaction or Busy.
+    /// The session begins a read of the key: refused as Gone, NoTransaction or Busy, and with strict reads as TooManyKeys.
     pub fn fetch<W: Weather>(
         &mut self,
         weather: &mut W,

@@ -1,8 +1,9 @@
-// The cluster, whose history is isolated and explained.
+// The cluster, whose history is isolated and explained, and serial where reads are strict.
 ghost use Rattle.std.specs.Prelude.{◌≡◌, [], IfOk};
 ghost use Rattle.stamp_base.specs.Setups.{numbers_of};
 ghost use Rattle.history_book.specs.Isolation.{Isolated};
 ghost use Rattle.cause_rules.specs.Explained.{Explained};
+ghost use Rattle.cause_rules.specs.Strict.{SerialIfStrict};
 ghost use Rattle.machine.specs.State.{opening};
 ghost use Rattle.machine.specs.Machine.{IsSteadyAt, reading_of, asks};
 ghost use Rattle.machine.specs.Readers as read;
@@ -20,7 +21,8 @@ use std::alloc::Global;
 use std::marker::Model;
 
 /// The nodes with their oracles, the sessions, the janitor and the stores, with the history of their events. Each event is
-/// one call. The history is isolated, and each of its refusals is shown by what stands before it.
+/// one call. The history is isolated, each of its refusals is shown by what stands before it, and where the setup asks for strict
+/// reads it is serial.
 #[derive(Drop)]
 pub struct Cluster {
     pub(crate) engine: Engine,
@@ -69,6 +71,7 @@ impl Cluster {
         ensures value { result.now ≡ self.now.history }
         ensures isolated { Isolated self.now.history }
         ensures explained { Explained self.now.state.setup self.now.history }
+        ensures serial { SerialIfStrict self.now.state.setup self.now.history }
     {
         self.engine.history()
     }

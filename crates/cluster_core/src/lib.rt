@@ -1,5 +1,5 @@
 //! The cluster: all parts of the system, each call one step of the machine, and a type that keeps its history isolated and
-//! explained.
+//! explained, and serial where reads are strict.
 #![tactic(auto)]
 
 mod calls;

@@ -49,7 +49,15 @@ impl Engine {
             (W.faults weather.old) (W.faults weather.new) }
     {
         let client = &mut self.clients[session.index()];
-        session_events::fetch(weather, &mut self.book, client, &self.cells, session, key)
+        session_events::fetch(
+            weather,
+            &mut self.book,
+            client,
+            &self.cells,
+            &self.setup,
+            session,
+            key,
+        )
     }
 
     /// The session makes the next step of what it has under way.

@@ -11,7 +11,7 @@ use Rattle.oracle_parts.specs.declared.instance.Place.{Place}
 use Rattle.oracle_parts.specs.declared.instance.Progress.TheVariants as progress
 use Rattle.oracle_parts.specs.declared.instance.Request.{Request}
 use Rattle.oracle_parts.specs.Instance.{InstanceEntry, held_of, with_request}
-use Rattle.oracle_parts.specs.InstanceSteps.{just_asked, moved, accept_refusal, request_verdict}
+use Rattle.oracle_parts.specs.InstanceSteps.{just_asked, moved, accept_refusal}
 use Rattle.oracle_parts.proofs.InstanceRequests.{held_of-with_request_same}
 use Rattle.machine.specs.declared.event.Event.{Event}
 use Rattle.machine.specs.declared.event.Event.TheVariants as event
@@ -27,11 +27,12 @@ use Rattle.grant_laws.proofs.Spots.{Spot, IsAt, Makes, leads_there, serves_on}
 use Rattle.grant_laws.proofs.Effects.{waiting, with_stamp}
 use Rattle.grant_laws.proofs.Serving.{with_both, accept_made, Drew}
 use Rattle.grant_laws.proofs.Extending.{CanDraw, gets_stamp}
+use Rattle.machine.specs.Events.Decide.{both_verdict}
 
 set_within : (i : InstanceEntry) (s : ℕ) (now : Option Held) → s < length i.requests → s < length (with_request i s now).requests
 set_within i s now within = omega (arith, within, length-set i.requests s now)
 
-pub asked_is_drawn : (script : ScriptData) (number node s : ℕ) (verb : Verb) (p : Played) (x : Spot) (request : Request) → ((at : Place) → is_served verb at ≡ true) → IsAt script node s p x → held_of x.oracle s ≡ Some (just_asked request) → accept_refusal x.oracle (reading_at (clocks_of script p) node) request ≡ None → request_verdict x.oracle.buckets request ≡ Free → CanDraw script s x → Drew script (line_of number (Session s) verb) node s 4 p x request
+pub asked_is_drawn : (script : ScriptData) (number node s : ℕ) (verb : Verb) (p : Played) (x : Spot) (request : Request) → ((at : Place) → is_served verb at ≡ true) → IsAt script node s p x → held_of x.oracle s ≡ Some (just_asked request) → accept_refusal x.oracle (reading_at (clocks_of script p) node) request ≡ None → both_verdict x.oracle.buckets x.client.reads request ≡ Free → CanDraw script s x → Drew script (line_of number (Session s) verb) node s 4 p x request
 asked_is_drawn script number node s verb p x request to_answer k has is_free no_conflict can =
     let line : Line = line_of number (Session s) verb in
     let reading : ℕ = reading_at (clocks_of script p) node in

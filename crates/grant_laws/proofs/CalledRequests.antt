@@ -16,7 +16,11 @@ use Rattle.store_parts.specs.declared.record.ExtendRefused.{ExtendRefused}
 use Rattle.store_parts.specs.declared.record.ExtendRefused.TheVariants as not_extended
 use Rattle.store_parts.specs.Pairs.{Pairs, mark_of}
 use Rattle.store_parts.specs.Record.{MasterRecord}
+use Rattle.oracle_parts.specs.declared.buckets.Verdict.{Verdict}
+use Rattle.oracle_parts.specs.declared.buckets.Verdict.TheVariants.{Free, Conflict, Hidden}
 use Rattle.oracle_parts.specs.declared.instance.Decided.{Decided}
+use Rattle.oracle_parts.specs.declared.instance.Progress.{Progress}
+use Rattle.oracle_parts.specs.declared.instance.Progress.TheVariants as progress
 use Rattle.oracle_parts.specs.declared.instance.Held.{Held}
 use Rattle.oracle_parts.specs.declared.instance.Reply.{Reply}
 use Rattle.oracle_parts.specs.declared.instance.Reply.TheVariants as reply
@@ -24,8 +28,8 @@ use Rattle.oracle_parts.specs.declared.instance.Request.{Request}
 use Rattle.oracle_parts.specs.declared.instance.Request.TheVariants.{Begin, Commit}
 use Rattle.oracle_parts.specs.declared.instance.Settled.TheVariants as how
 use Rattle.oracle_parts.specs.Instance.{InstanceEntry, held_of, session_of}
-use Rattle.oracle_parts.specs.InstanceSteps.{instance_ask, instance_accept, instance_decide, instance_answer}
-use Rattle.oracle_parts.specs.InstanceLaws.{InstanceCall, Asks, Accepts, Decides, Settles, Answers, after_call, call_session}
+use Rattle.oracle_parts.specs.InstanceSteps.{without_request, ends, request_verdict, decide_by as verdict_by, decide_if_accepted, decide_held, refuse_if_accepted, refuse_held, instance_ask, instance_accept, instance_decide, instance_refuse, instance_answer}
+use Rattle.oracle_parts.specs.InstanceLaws.{InstanceCall, Asks, Accepts, Decides, Refuses, Settles, Answers, after_call, call_session}
 use Rattle.oracle_parts.proofs.InstanceRequests.{held_of-after_call_other}
 use Rattle.machine.specs.State.{Client}
 use Rattle.machine.specs.Events.Renew.{renew_by}
@@ -33,10 +37,11 @@ use Rattle.machine.specs.Events.Extend.{extend_by}
 use Rattle.machine.specs.Events.AskBegin.{asked_by, ask_begin_by}
 use Rattle.machine.specs.Events.AskCommit.{commit_of, ask_commit_by}
 use Rattle.machine.specs.Events.Accept.{accept_by, accept_request}
-use Rattle.machine.specs.Events.Decide.{decide_by, decide_request}
+use Rattle.machine.specs.Events.Decide.{both_verdict, both_if_accepted, both_held, decide_both, decide_by, decide_request}
 use Rattle.machine.specs.Events.Put.{put_by, put_commit}
 use Rattle.machine.specs.Events.Answer.{answer_by, answer_request}
 use Rattle.isolation_laws.specs.Words.{InstanceAt}
+use Rattle.isolation_laws.proofs.Inversions.FreeVerdicts.{writes_free}
 use Rattle.isolation_laws.proofs.Lookups.{set_found, set_other}
 
 -- ---- a request at a node
@@ -111,17 +116,52 @@ unfolding Called
 accepts_called n r reading i c None = inl refl
 accepts_called n r reading i c (Some held) = accept_called n r reading held.request i c (instance_accept i r reading).answer
 
-decide_called : (n r : ℕ) (held : Held) (i : InstanceEntry) (c : Client) (answer : Result Decided Cause) → Called i r (decide_by n r held (instance_decide i r).left c answer).parts.0
+-- a decision by both sets of keys decides the request, ends a commit, or does nothing
+ends_called : (i : InstanceEntry) (r start asker : ℕ) (keys : List ℕ) (held : Held) (why : Cause) → held_of i r ≡ Some held → held.request ≡ Commit asker start keys → held.progress ≡ progress.Accepted → Called i r (Some (ends {A = Decided} i r why).left)
 unfolding Called
-decide_called n r held i c (Ok drawn) = inr (Decides r, refl, refl)
-decide_called n r held i c (Err (cause.NoRequest s)) = inr (Decides r, refl, refl)
-decide_called n r held i c (Err (cause.NoStamp last)) = inr (Decides r, refl, refl)
-decide_called n r held i c (Err _) = inr (Decides r, refl, refl)
+ends_called i r start asker keys held why has asks accepted =
+    let left : (instance_refuse i r).left ≡ without_request i r =
+    ap (λ (found : Option Held). (refuse_held i r found).left) has
+    ∙ ap (λ (request : Request). (refuse_if_accepted i r request held.progress).left) asks
+    ∙ ap (λ (p : Progress). (refuse_if_accepted i r (Commit asker start keys) p).left) accepted in
+    inr (Refuses r, refl, ap (λ (j : InstanceEntry). Some j) (sym left))
+
+free_called : (i : InstanceEntry) (r : ℕ) (held : Held) → held_of i r ≡ Some held → held.progress ≡ progress.Accepted → request_verdict i.buckets held.request ≡ Free → Called i r (Some (verdict_by i r held Free).left)
+unfolding Called
+free_called i r held has accepted free =
+    let left : (instance_decide i r).left ≡ (verdict_by i r held Free).left =
+    ap (λ (found : Option Held). (decide_held i r found).left) has
+    ∙ ap (λ (p : Progress). (decide_if_accepted i r held p).left) accepted
+    ∙ ap (λ (v : Verdict). (verdict_by i r held v).left) free in
+    inr (Decides r, refl, ap (λ (j : InstanceEntry). Some j) (sym left))
+
+verdict_called : (i : InstanceEntry) (r : ℕ) (reads : List ℕ) (held : Held) → held_of i r ≡ Some held → held.progress ≡ progress.Accepted → (request : Request) → held.request ≡ request → (v : Verdict) → both_verdict i.buckets reads request ≡ v → Called i r (Some (verdict_by i r held v).left)
+verdict_called i r reads held has accepted request asks Free is = free_called i r held has accepted (subst (λ (q : Request). request_verdict i.buckets q ≡ Free) (sym asks) (writes_free i.buckets reads request is))
+verdict_called i r reads held has accepted (Begin asker) asks (Conflict key by) is = absurd (cc)
+verdict_called i r reads held has accepted (Begin asker) asks (Hidden key water) is = absurd (cc)
+verdict_called i r reads held has accepted (Commit asker start keys) asks (Conflict key by) is = ends_called i r start asker keys held (cause.Conflict key by) has asks accepted
+verdict_called i r reads held has accepted (Commit asker start keys) asks (Hidden key water) is = ends_called i r start asker keys held (cause.Hidden key water) has asks accepted
+
+accepted_called : (i : InstanceEntry) (r : ℕ) (reads : List ℕ) (held : Held) → held_of i r ≡ Some held → (p : Progress) → held.progress ≡ p → Called i r (Some (both_if_accepted i r reads held p).left)
+unfolding Called
+accepted_called i r reads held has progress.Accepted is = verdict_called i r reads held has is held.request refl (both_verdict i.buckets reads held.request) refl
+accepted_called i r reads held has _ is = inl refl
+
+both_called : (i : InstanceEntry) (r : ℕ) (reads : List ℕ) (found : Option Held) → held_of i r ≡ found → Called i r (Some (both_held i r reads found).left)
+unfolding Called
+both_called i r reads None has = inl refl
+both_called i r reads (Some held) has = accepted_called i r reads held has held.progress refl
+
+decide_called : (n r : ℕ) (held : Held) (i left : InstanceEntry) (c : Client) (answer : Result Decided Cause) → Called i r (Some left) → Called i r (decide_by n r held left c answer).parts.0
+decide_called n r held i left c (Ok drawn) called = called
+decide_called n r held i left c (Err (cause.NoRequest s)) called = called
+decide_called n r held i left c (Err (cause.NoStamp last)) called = called
+decide_called n r held i left c (Err _) called = called
 
 pub decides_called : (n r : ℕ) (i : InstanceEntry) (c : Client) (held : Option Held) → Called i r (decide_request n r i c held).parts.0
 unfolding Called
 decides_called n r i c None = inl refl
-decides_called n r i c (Some held) = decide_called n r held i c (instance_decide i r).answer
+decides_called n r i c (Some held) = decide_called n r held i (decide_both i r c.reads).left c (decide_both i r c.reads).answer (both_called i r c.reads (held_of i r) refl)
 
 put_called : (n r start commit : ℕ) (fate : Fate) (found : Option Mark) (i : InstanceEntry) (pairs : Pairs) → Called i r (put_by n r start commit fate found i pairs).parts.0
 unfolding Called

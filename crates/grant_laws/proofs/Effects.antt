@@ -27,7 +27,7 @@ use Rattle.oracle_parts.specs.declared.instance.Request.{Request}
 use Rattle.oracle_parts.specs.declared.instance.Request.TheVariants.{Begin, Commit}
 use Rattle.oracle_parts.specs.declared.instance.Settled.TheVariants as how
 use Rattle.oracle_parts.specs.Instance.{InstanceEntry, held_of, in_flight, with_request, session_of, stamps_of_held, least_unsettled, not_yet_of_held, was_told_not_yet}
-use Rattle.oracle_parts.specs.InstanceSteps.{InstanceStep, stays, just_asked, moved, no_stamp_told, accept_refusal, accept_unless, accept_held, out_of_stamps, decided_by, decide_drawn, decide_by, request_verdict, decide_held, settle_held, answer_begin, answer_held, instance_widened}
+use Rattle.oracle_parts.specs.InstanceSteps.{InstanceStep, stays, just_asked, moved, no_stamp_told, accept_refusal, accept_unless, accept_held, out_of_stamps, decided_by, decide_drawn, decide_by, settle_held, answer_begin, answer_held, instance_widened}
 use Rattle.oracle_parts.specs.InstanceLaws.{stamp_of}
 use Rattle.machine.specs.State.{Client}
 use Rattle.machine.specs.Effect.{Refuses, done}
@@ -35,7 +35,7 @@ use Rattle.machine.specs.Clients.{is_reading, client_asked}
 use Rattle.machine.specs.Events.AskBegin.{asked_by, ask_begin_by, ask_begin_on}
 use Rattle.machine.specs.Events.AskCommit.{commit_asked, commit_of, ask_commit_by, ask_commit_on}
 use Rattle.machine.specs.Events.Accept.{accept_by, accept_request, accept_on}
-use Rattle.machine.specs.Events.Decide.{draw_item, decide_by as decision_by, decide_request, decide_on}
+use Rattle.machine.specs.Events.Decide.{both_verdict, both_held, draw_item, decide_by as decision_by, decide_request, decide_on}
 use Rattle.machine.specs.Events.Put.{to_place, put_by, put_commit, put_on}
 use Rattle.machine.specs.Events.Answer.{answer_by, answer_request, answer_on}
 use Rattle.machine.specs.Events.Take.{rules_of}
@@ -86,19 +86,19 @@ waiting request told = record { request = request; progress = progress.Accepted;
 abbrev pub drawn : InstanceEntry → ℕ → Held → InstanceEntry
 drawn i s held = (decide_drawn i s held (i.last + 1)).left
 
-decision : (node s : ℕ) (i : InstanceEntry) (c : Client) (request : Request) (told : Bool) → held_of i s ≡ Some (waiting request told) → request_verdict i.buckets request ≡ Free → (spent : Bool) → (i.last == i.ceiling) ≡ spent →
+decision : (node s : ℕ) (i : InstanceEntry) (c : Client) (request : Request) (told : Bool) → held_of i s ≡ Some (waiting request told) → both_verdict i.buckets c.reads request ≡ Free → (spent : Bool) → (i.last == i.ceiling) ≡ spent →
     decide_on node s (Some i) c ≡ (let step = cond spent (out_of_stamps i s (waiting request told) i.stop) (decide_drawn i s (waiting request told) (i.last + 1)) in decision_by node s (waiting request told) step.left c step.answer)
 decision node s i c request told has no_conflict spent is =
     let held : Held = waiting request told in
     ap (λ (found : Option Held). decide_request node s i c found) has
-    ∙ ap (λ (found : Option Held). decision_by node s held (decide_held i s found).left c (decide_held i s found).answer) has
+    ∙ ap (λ (found : Option Held). decision_by node s held (both_held i s c.reads found).left c (both_held i s c.reads found).answer) has
     ∙ ap (λ (v : Verdict). decision_by node s held (decide_by i s held v).left c (decide_by i s held v).answer) no_conflict
     ∙ ap (λ (t : Bool). let step = cond t (out_of_stamps i s held i.stop) (decide_drawn i s held (i.last + 1)) in decision_by node s held step.left c step.answer) is
 
-pub draws : (node s : ℕ) (i : InstanceEntry) (c : Client) (request : Request) (told : Bool) → held_of i s ≡ Some (waiting request told) → request_verdict i.buckets request ≡ Free → i.last ≢ i.ceiling → decide_on node s (Some i) c ≡ done (Some (drawn i s (waiting request told)), c) (draw_item node i.term request (stamp_of (decided_by request (i.last + 1))) ∷ [])
+pub draws : (node s : ℕ) (i : InstanceEntry) (c : Client) (request : Request) (told : Bool) → held_of i s ≡ Some (waiting request told) → both_verdict i.buckets c.reads request ≡ Free → i.last ≢ i.ceiling → decide_on node s (Some i) c ≡ done (Some (drawn i s (waiting request told)), c) (draw_item node i.term request (stamp_of (decided_by request (i.last + 1))) ∷ [])
 draws node s i c request told has no_conflict more = decision node s i c request told has no_conflict false (ne_eqb i.last i.ceiling more)
 
-pub lacks : (node s : ℕ) (i : InstanceEntry) (c : Client) (request : Request) → held_of i s ≡ Some (waiting request false) → request_verdict i.buckets request ≡ Free → i.last ≡ i.ceiling → i.stop ≡ None → decide_on node s (Some i) c ≡ record { parts = (Some (no_stamp_told i s (waiting request false)), c); items = item.Refused (Session s) (cause.NoStamp i.last) ∷ []; stop = Some (Refuses (cause.NoStamp i.last)) }
+pub lacks : (node s : ℕ) (i : InstanceEntry) (c : Client) (request : Request) → held_of i s ≡ Some (waiting request false) → both_verdict i.buckets c.reads request ≡ Free → i.last ≡ i.ceiling → i.stop ≡ None → decide_on node s (Some i) c ≡ record { parts = (Some (no_stamp_told i s (waiting request false)), c); items = item.Refused (Session s) (cause.NoStamp i.last) ∷ []; stop = Some (Refuses (cause.NoStamp i.last)) }
 lacks node s i c request has no_conflict spent goes_on =
     let held : Held = waiting request false in
     decision node s i c request false has no_conflict true (eq-eqb i.last i.ceiling spent)

@@ -15,7 +15,7 @@ use Rattle.oracle_parts.specs.declared.instance.Held.{Held}
 use Rattle.oracle_parts.specs.declared.instance.Place.{Place}
 use Rattle.oracle_parts.specs.declared.instance.Request.{Request}
 use Rattle.oracle_parts.specs.Instance.{InstanceEntry, held_of, with_request}
-use Rattle.oracle_parts.specs.InstanceSteps.{request_verdict, instance_widened}
+use Rattle.oracle_parts.specs.InstanceSteps.{instance_widened}
 use Rattle.oracle_parts.proofs.InstanceRequests.{held_of-with_request_same}
 use Rattle.machine.specs.State.{State}
 use Rattle.machine.specs.Effect.{Effect, Stop, Refuses}
@@ -23,7 +23,7 @@ use Rattle.machine.specs.Readers.{place_held}
 use Rattle.machine.specs.declared.event.Event.{Event}
 use Rattle.machine.specs.declared.event.Event.TheVariants as event
 use Rattle.machine.specs.Machine.{Step, step_by, with_post, at_post, asks, asks_at_post}
-use Rattle.machine.specs.Events.Decide.{decide_on}
+use Rattle.machine.specs.Events.Decide.{decide_on, both_verdict}
 use Rattle.machine.specs.Events.Extend.{extend_on, extend_asks}
 use Rattle.machine.specs.Events.Take.{rules_of}
 use Rattle.script_data.specs.declared.line.Line.{Line}
@@ -53,7 +53,7 @@ pub record CanDraw (script : ScriptData) (s : ℕ) (x : Spot) : Type 0 where
 abbrev told_so : Spot → ℕ → Request → Spot
 told_so x s request = with_both x (with_request x.oracle s (Some (waiting request true))) x.client (item.Refused (Session s) (cause.NoStamp x.oracle.last) ∷ [])
 
-lacks_made : (script : ScriptData) (node s : ℕ) (p : Played) (x : Spot) (request : Request) → IsAt script node s p x → held_of x.oracle s ≡ Some (waiting request false) → request_verdict x.oracle.buckets request ≡ Free → x.oracle.last ≡ x.oracle.ceiling → x.oracle.stop ≡ None → Makes script node s p (event.Decide node s) (told_so x s request) (Some (Refuses (cause.NoStamp x.oracle.last)))
+lacks_made : (script : ScriptData) (node s : ℕ) (p : Played) (x : Spot) (request : Request) → IsAt script node s p x → held_of x.oracle s ≡ Some (waiting request false) → both_verdict x.oracle.buckets x.client.reads request ≡ Free → x.oracle.last ≡ x.oracle.ceiling → x.oracle.stop ≡ None → Makes script node s p (event.Decide node s) (told_so x s request) (Some (Refuses (cause.NoStamp x.oracle.last)))
 lacks_made script node s p x request k has no_conflict spent goes_on = on_request_made script node s p.state.seen p x (event.Decide node s) (decide_on node s) (with_request x.oracle s (Some (waiting request true))) x.client (item.Refused (Session s) (cause.NoStamp x.oracle.last) ∷ []) (Some (Refuses (cause.NoStamp x.oracle.last))) k refl (lacks node s x.oracle x.client request has no_conflict spent goes_on) refl refl
 
 -- ---- the extension
@@ -98,7 +98,7 @@ extend_made script node s p x k in_term stamps works =
 extends_next : (script : ScriptData) (number node s : ℕ) (verb : Verb) (p : Played) (x : Spot) (request : Request) (told : Bool) → IsAt script node s p x → held_of x.oracle s ≡ Some (waiting request told) → next_in script (line_of number (Session s) verb) (run_at Extends p) ≡ Some (event.Extend node)
 extends_next script number node s verb p x request told k has = ap (λ (found : Option (ℕ × Held)). extend_next (place_held found)) (holder_is script node s p x (waiting request told) k has)
 
-draw_later : (script : ScriptData) (number node s : ℕ) (verb : Verb) (p : Played) (x : Spot) (request : Request) → ((at : Place) → is_served verb at ≡ true) → IsAt script node s p x → held_of x.oracle s ≡ Some (waiting request false) → request_verdict x.oracle.buckets request ≡ Free → CanDraw script s x → x.oracle.last ≡ x.oracle.ceiling → x.master.ceiling + script.setup.range ≤ 2 ^ 62 → fate_by script x.calls (Some Master) ≡ Works → Drew script (line_of number (Session s) verb) node s 3 p x request
+draw_later : (script : ScriptData) (number node s : ℕ) (verb : Verb) (p : Played) (x : Spot) (request : Request) → ((at : Place) → is_served verb at ≡ true) → IsAt script node s p x → held_of x.oracle s ≡ Some (waiting request false) → both_verdict x.oracle.buckets x.client.reads request ≡ Free → CanDraw script s x → x.oracle.last ≡ x.oracle.ceiling → x.master.ceiling + script.setup.range ≤ 2 ^ 62 → fate_by script x.calls (Some Master) ≡ Works → Drew script (line_of number (Session s) verb) node s 3 p x request
 draw_later script number node s verb p x request to_answer k has no_conflict can spent stamps works =
     let line : Line = line_of number (Session s) verb in
     let told : Spot = told_so x s request in
@@ -133,10 +133,10 @@ draw_later script number node s verb p x request to_answer k has no_conflict can
 more_steps : (script : ScriptData) (line : Line) (node s : ℕ) (p : Played) (x : Spot) (request : Request) → Drew script line node s 1 p x request → Drew script line node s 3 p x request
 more_steps script line node s p x request drew = record { steps = drew.steps; few = omega (arith, drew.few); next = drew.next; spot = drew.spot; told = drew.told; leads = drew.leads; at = drew.at; requests = drew.requests; pairs = drew.pairs; table = drew.table; longer = drew.longer }
 
-stamp_by : (script : ScriptData) (number node s : ℕ) (verb : Verb) (p : Played) (x : Spot) (request : Request) → ((at : Place) → is_served verb at ≡ true) → IsAt script node s p x → held_of x.oracle s ≡ Some (waiting request false) → request_verdict x.oracle.buckets request ≡ Free → CanDraw script s x → (x.oracle.last ≡ x.oracle.ceiling) ⊎ (x.oracle.last ≢ x.oracle.ceiling) → (x.oracle.last < x.oracle.ceiling) ⊎ ((x.master.ceiling + script.setup.range ≤ 2 ^ 62) × (fate_by script x.calls (Some Master) ≡ Works)) → Drew script (line_of number (Session s) verb) node s 3 p x request
+stamp_by : (script : ScriptData) (number node s : ℕ) (verb : Verb) (p : Played) (x : Spot) (request : Request) → ((at : Place) → is_served verb at ≡ true) → IsAt script node s p x → held_of x.oracle s ≡ Some (waiting request false) → both_verdict x.oracle.buckets x.client.reads request ≡ Free → CanDraw script s x → (x.oracle.last ≡ x.oracle.ceiling) ⊎ (x.oracle.last ≢ x.oracle.ceiling) → (x.oracle.last < x.oracle.ceiling) ⊎ ((x.master.ceiling + script.setup.range ≤ 2 ^ 62) × (fate_by script x.calls (Some Master) ≡ Works)) → Drew script (line_of number (Session s) verb) node s 3 p x request
 stamp_by script number node s verb p x request to_answer k has no_conflict can (inl spent) (inl left) = absurd (omega (arith, spent, left))
 stamp_by script number node s verb p x request to_answer k has no_conflict can (inl spent) (inr wider) = draw_later script number node s verb p x request to_answer k has no_conflict can spent wider.0 wider.1
 stamp_by script number node s verb p x request to_answer k has no_conflict can (inr more) left = more_steps script (line_of number (Session s) verb) node s p x request (draw_now script number node s verb p x request false to_answer k has no_conflict more)
 
-pub gets_stamp : (script : ScriptData) (number node s : ℕ) (verb : Verb) (p : Played) (x : Spot) (request : Request) → ((at : Place) → is_served verb at ≡ true) → IsAt script node s p x → held_of x.oracle s ≡ Some (waiting request false) → request_verdict x.oracle.buckets request ≡ Free → CanDraw script s x → Drew script (line_of number (Session s) verb) node s 3 p x request
+pub gets_stamp : (script : ScriptData) (number node s : ℕ) (verb : Verb) (p : Played) (x : Spot) (request : Request) → ((at : Place) → is_served verb at ≡ true) → IsAt script node s p x → held_of x.oracle s ≡ Some (waiting request false) → both_verdict x.oracle.buckets x.client.reads request ≡ Free → CanDraw script s x → Drew script (line_of number (Session s) verb) node s 3 p x request
 gets_stamp script number node s verb p x request to_answer k has no_conflict can = stamp_by script number node s verb p x request to_answer k has no_conflict can (cases_eq x.oracle.last x.oracle.ceiling) can.more

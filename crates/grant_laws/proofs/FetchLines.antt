@@ -1,5 +1,5 @@
 -- A read line whose premises hold has its answer: the fetch, and then the steps of the read.
-use Rattle.std.proofs.Common.{◌≡◌, ℕ, ◌+◌, ◌*◌, ◌≤◌, Bool, false, List, [], ◌∷◌, ◌++◌, length, Option, Some, None, refl, sym, ◌∙◌, ap, subst, arith}
+use Rattle.std.proofs.Common.{◌≡◌, ℕ, ◌+◌, ◌*◌, ◌≤◌, Bool, List, [], ◌∷◌, ◌++◌, length, Option, Some, None, refl, sym, ◌∙◌, ap, subst, arith}
 use Rattle.stamp_base.specs.declared.stores.Store.{Store}
 use Rattle.stamp_base.specs.declared.stores.Store.TheVariants.{Cells}
 use Rattle.port_io.specs.declared.weather.Fate.{Fate}
@@ -22,7 +22,7 @@ use Rattle.machine.specs.Effect.{Effect}
 use Rattle.machine.specs.declared.event.Event.{Event}
 use Rattle.machine.specs.declared.event.Event.TheVariants as event
 use Rattle.machine.specs.Machine.{Step, step_by as step_of_effect, with_client, at_client, asks, asks_at_client}
-use Rattle.machine.specs.Events.Fetch.{marks_every, found_of, fetch_worked, fetch_by, fetch_open, fetch_on, epoch_asks, fetch_asks}
+use Rattle.machine.specs.Events.Fetch.{marks_every, found_of, fetch_worked, fetch_by, fetch_open, fetch_on, epoch_asks, fetch_asks, reads_refusal, fetch_refused, client_fetched}
 use Rattle.machine.specs.Events.Write.{open_asks}
 use Rattle.script_data.specs.declared.line.Line.{Line}
 use Rattle.script_data.specs.declared.line.Verb.{Verb}
@@ -44,6 +44,9 @@ use Rattle.line_steps.specs.Left.{of_client, cells_by, client_reads, client_fetc
 use Rattle.line_steps.proofs.AlwaysFit.{Fit}
 use Rattle.line_steps.proofs.Fitting.{EpochFits, fit_at}
 use Rattle.grant_laws.proofs.ReadTurns.{CallsWork, works_on, works_now}
+use Rattle.std.specs.Option.{option_or}
+use Rattle.stamp_base.specs.SetupNumbers.{SetupNumbers}
+use Rattle.grant_laws.specs.Premises.{IsAtWork}
 
 -- ---- the fetch
 -- an open transaction has an epoch
@@ -55,21 +58,25 @@ pub has_epoch : (p : Played) (s : ℕ) (c : Client) → Fit p.state → ClientAt
 has_epoch p s c fit at in_work = epoch_by c.entry.epoch (subst (λ (state : SessionState). EpochFits state c.entry.epoch) in_work (fit_at p.state.clients s c fit.epochs at))
 
 -- what the session may do, and by which start and epoch
-pub record MayFetch (c : Client) (start epoch : ℕ) : Type 0 where
-  pub is_free : work_refusal c.entry.state (is_reading c) ≡ None
+pub record MayFetch (setup : SetupNumbers) (c : Client) (key start epoch : ℕ) : Type 0 where
+  pub is_free : fetch_refused setup c key ≡ None
   pub start_is : c.entry.start ≡ Some start
   pub epoch_is : c.entry.epoch ≡ Some epoch
 
-pub may_fetch : (c : Client) (start epoch : ℕ) → c.entry.state ≡ phase.Open → is_reading c ≡ false → c.entry.start ≡ Some start → c.entry.epoch ≡ Some epoch → MayFetch c start epoch
-may_fetch c start epoch in_work at_rest start_is epoch_is = record {
-  is_free = ap (λ (state : SessionState). work_refusal state (is_reading c)) in_work ∙ ap (λ (reading : Bool). work_refusal phase.Open reading) at_rest;
-  start_is = start_is;
+pub may_fetch : (script : ScriptData) (p : Played) (s key epoch : ℕ) → p.state.setup ≡ script.setup → (work : IsAtWork p s) → reads_refusal script.setup work.client key ≡ None → work.client.entry.epoch ≡ Some epoch → MayFetch p.state.setup work.client key work.start epoch
+may_fetch script p s key epoch same work room epoch_is = record {
+  is_free =
+      ap (λ (state : SessionState). option_or (work_refusal state (is_reading work.client)) (reads_refusal p.state.setup work.client key)) work.in_work
+      ∙ ap (λ (reading : Bool). option_or (work_refusal phase.Open reading) (reads_refusal p.state.setup work.client key)) work.at_rest
+      ∙ ap (λ (setup : SetupNumbers). reads_refusal setup work.client key) same
+      ∙ room;
+  start_is = work.begun;
   epoch_is = epoch_is;
 }
 
-fetch_asked : (c : Client) (start epoch : ℕ) → MayFetch c start epoch → fetch_asks c ≡ Some Cells
-fetch_asked c start epoch may =
-    ap (λ (at : Option ℕ). epoch_asks at (open_asks (work_refusal c.entry.state (is_reading c)) c.entry.start)) may.epoch_is
+fetch_asked : (setup : SetupNumbers) (c : Client) (key start epoch : ℕ) → MayFetch setup c key start epoch → fetch_asks setup key c ≡ Some Cells
+fetch_asked setup c key start epoch may =
+    ap (λ (at : Option ℕ). epoch_asks at (open_asks (fetch_refused setup c key) c.entry.start)) may.epoch_is
     ∙ ap (λ (why : Option Cause). open_asks why c.entry.start) may.is_free
     ∙ ap (λ (at : Option ℕ). open_asks None at) may.start_is
 
@@ -78,14 +85,14 @@ abbrev pub first_turn : Played → ℕ → ℕ → ℕ → ReadTurn
 first_turn p key start epoch = read_over (marks_every p.state.setup) key start epoch (front_of start (fetched p.state.rows key start))
 
 abbrev pub fetch_turn : ℕ → Played → Client → ℕ → ℕ → ReadTurn → Step
-fetch_turn s p c key start turn = step_of_effect (fetch_worked s start key c (fetched p.state.rows key start) turn) (λ (q : Client). with_client p.state s q)
+fetch_turn s p c key start turn = step_of_effect (fetch_worked s start key (client_fetched p.state.setup c key) (fetched p.state.rows key start) turn) (λ (q : Client). with_client p.state s q)
 
-fetch_effect : (every : Bool) (s key start epoch : ℕ) (fate : Fate) (c : Client) (rows : List Row) → MayFetch c start epoch → fate ≡ Works → fetch_on every s key fate c rows ≡ fetch_worked s start key c (fetched rows key start) (read_over every key start epoch (front_of start (fetched rows key start)))
-fetch_effect every s key start epoch fate c rows may works =
-    ap (λ (why : Option Cause). fetch_open every s key fate c rows why c.entry.start c.entry.epoch) may.is_free
-    ∙ ap (λ (at : Option ℕ). fetch_open every s key fate c rows None at c.entry.epoch) may.start_is
-    ∙ ap (λ (at : Option ℕ). fetch_open every s key fate c rows None (Some start) at) may.epoch_is
-    ∙ ap (λ (f : Fate). fetch_by every s start epoch key f c (fetched rows key start)) works
+fetch_effect : (setup : SetupNumbers) (s key start epoch : ℕ) (fate : Fate) (c : Client) (rows : List Row) → MayFetch setup c key start epoch → fate ≡ Works → fetch_on setup s key fate c rows ≡ fetch_worked s start key (client_fetched setup c key) (fetched rows key start) (read_over (marks_every setup) key start epoch (front_of start (fetched rows key start)))
+fetch_effect setup s key start epoch fate c rows may works =
+    ap (λ (why : Option Cause). fetch_open setup s key fate c rows why c.entry.start c.entry.epoch) may.is_free
+    ∙ ap (λ (at : Option ℕ). fetch_open setup s key fate c rows None at c.entry.epoch) may.start_is
+    ∙ ap (λ (at : Option ℕ). fetch_open setup s key fate c rows None (Some start) at) may.epoch_is
+    ∙ ap (λ (f : Fate). fetch_by setup s start epoch key f c (fetched rows key start)) works
 
 pub record FetchesSo (script : ScriptData) (s key start : ℕ) (p : Played) (c : Client) (turn : ReadTurn) : Type 0 where
   pub session_is : ClientAt p.state.clients s c
@@ -93,16 +100,16 @@ pub record FetchesSo (script : ScriptData) (s key start : ℕ) (p : Played) (c :
   pub is : step_of script p (event.Fetch s key) ≡ fetch_turn s p c key start turn
   pub calls : (played script p (event.Fetch s key)).calls ≡ one_more p.calls Cells
 
-pub fetches_so : (script : ScriptData) (s key start epoch : ℕ) (p : Played) (c : Client) → ClientAt p.state.clients s c → c.entry.state ≡ phase.Open → MayFetch c start epoch → next_fate script p Cells ≡ Works → FetchesSo script s key start p c (first_turn p key start epoch)
+pub fetches_so : (script : ScriptData) (s key start epoch : ℕ) (p : Played) (c : Client) → ClientAt p.state.clients s c → c.entry.state ≡ phase.Open → MayFetch p.state.setup c key start epoch → next_fate script p Cells ≡ Works → FetchesSo script s key start p c (first_turn p key start epoch)
 fetches_so script s key start epoch p c at in_work may works =
     let w : State = p.state in
     let e : Event = event.Fetch s key in
-    let asked : asks w e ≡ Some Cells = ap (λ (found : Option Client). asks_at_client found fetch_asks) at ∙ fetch_asked c start epoch may in
+    let asked : asks w e ≡ Some Cells = ap (λ (found : Option Client). asks_at_client found (fetch_asks w.setup key)) at ∙ fetch_asked w.setup c key start epoch may in
     let fate : fate_of script p e ≡ Works = ap (λ (store : Option Store). fate_by script p.calls store) asked ∙ works in
     record {
       session_is = at;
       in_work = in_work;
-      is = ap (λ (found : Option Client). at_client w found (λ d. step_of_effect (fetch_on (marks_every w.setup) s key (fate_of script p e) d w.rows) (λ (q : Client). with_client w s q))) at ∙ ap (λ (effect : Effect Client). step_of_effect effect (λ (q : Client). with_client w s q)) (fetch_effect (marks_every w.setup) s key start epoch (fate_of script p e) c w.rows may fate);
+      is = ap (λ (found : Option Client). at_client w found (λ d. step_of_effect (fetch_on w.setup s key (fate_of script p e) d w.rows) (λ (q : Client). with_client w s q))) at ∙ ap (λ (effect : Effect Client). step_of_effect effect (λ (q : Client). with_client w s q)) (fetch_effect w.setup s key start epoch (fate_of script p e) c w.rows may fate);
       calls = ap (λ (store : Option Store). calls_after p.calls store) asked;
     }
 
@@ -126,7 +133,7 @@ answers_later ends script number s key start many p c r key_is start_is few work
     let line : Line = line_of number (Session s) v in
     let e : Event = event.Fetch s key in
     let q : Played = played script p e in
-    let now : Client = record c { under_way = UnderRead r; heal = None } in
+    let now : Client = record (client_fetched p.state.setup c key) { under_way = UnderRead r; heal = None } in
     let there : IsReading s key start q r = record {
       client = now;
       session_is = subst (λ (step : Step). ClientAt step.state.clients s now) (sym so.is) (set_found p.state.clients s now c so.session_is);
@@ -170,7 +177,7 @@ reads_are_granted lowers ends script p number s key before can =
     let known : Known script p = known_before lowers script line p before in
     let epoch : (e : ℕ) × (c.entry.epoch ≡ Some e) = has_epoch p s c known.fit can.work.session_is can.work.in_work in
     let works : CallsWork script (many + 1) p.calls = λ store n from less. can.reading store n from (omega (arith, less)) in
-    let so : FetchesSo script s key start p c (first_turn p key start epoch.0) = fetches_so script s key start epoch.0 p c can.work.session_is can.work.in_work (may_fetch c start epoch.0 can.work.in_work can.work.at_rest can.work.begun epoch.1) (works_now script many p.calls Cells tt works) in
+    let so : FetchesSo script s key start p c (first_turn p key start epoch.0) = fetches_so script s key start epoch.0 p c can.work.session_is can.work.in_work (may_fetch script p s key epoch.0 known.reached.setup can.work can.room epoch.1) (works_now script many p.calls Cells tt works) in
     let all : HasAnswer script line s key start (many + 1) (opened p) = by_first ends script number s key start epoch.0 many p c (first_turn p key start epoch.0) refl refl works so in
     let x : Item = item.Read s start key all.answer in
     (all.answer, granted script line p x before (line_appends script line p all.steps all.next x (omega (arith, all.few, room_left number s key start p c can.work.session_is can.work.begun)) all.leads all.appends))

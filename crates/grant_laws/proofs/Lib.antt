@@ -14,6 +14,7 @@ mod ReadTurns
 mod ReadLines
 mod FetchLines
 mod WorkedScripts
+mod WorkedCrossing
 mod WorkedPremises
 mod WorkedTurns
 mod WorkedWaits

@@ -12,7 +12,7 @@ use Rattle.machine.specs.State.{Reads as UnderRead, Client}
 use Rattle.machine.specs.StoreSteps.{store_of}
 use Rattle.machine.specs.declared.event.Event.TheVariants as event
 use Rattle.machine.specs.Machine.{Step}
-use Rattle.machine.specs.Events.Fetch.{marks_every, found_of}
+use Rattle.machine.specs.Events.Fetch.{marks_every, client_fetched, found_of}
 use Rattle.script_data.specs.Data.{ScriptData}
 use Rattle.isolation_laws.specs.Words.{ClientAt}
 use Rattle.isolation_laws.proofs.Lookups.{set_found}
@@ -76,7 +76,7 @@ fetch_by_turn ends script s start key epoch most p c (Answers a) is all so =
     inl (found_of a.found, record { added = fetch ∷ x ∷ []; is = ap (λ (step : Step). p.items ++ step.items) so.is; has = in_last x (fetch ∷ []) (x ∷ []) (in_one x) })
 fetch_by_turn ends script s start key epoch most p c (Asks r) is all so =
     let cells : List Cell = front_of start (fetched p.state.rows key start) in
-    let now : Client = record c { under_way = UnderRead r; heal = None } in
+    let now : Client = record (client_fetched p.state.setup c key) { under_way = UnderRead r; heal = None } in
     inr (record {
       later = r;
       reads = record {
@@ -90,13 +90,13 @@ fetch_by_turn ends script s start key epoch most p c (Asks r) is all so =
       fewer = omega (arith, all, ends.0 (marks_every p.state.setup) key start epoch cells r is);
     })
 
-fetch_carried : ReadsEnd → (script : ScriptData) (turns : List Turn) (s key : ℕ) → AreInRange script.setup → IsPlayable script 0 script.lines → own_ahead script (carried script turns) (Session s) ≡ Makes (event.Fetch s key) → (can : CanFetch script (carried script turns).played s) → AnswersOr (carried script turns).played (turned script (carried script turns) (turn.Own (Session s))).played s can.work.start key (3 * cells_to_read (carried script turns).played can.work.start key + 1)
+fetch_carried : ReadsEnd → (script : ScriptData) (turns : List Turn) (s key : ℕ) → AreInRange script.setup → IsPlayable script 0 script.lines → own_ahead script (carried script turns) (Session s) ≡ Makes (event.Fetch s key) → (can : CanFetch script (carried script turns).played s key) → AnswersOr (carried script turns).played (turned script (carried script turns) (turn.Own (Session s))).played s can.work.start key (3 * cells_to_read (carried script turns).played can.work.start key + 1)
 fetch_carried ends script turns s key in_range playable ahead can =
     let c : Carried = carried script turns in
     let facts : Facts script c = facts_all script playable turns (all_passed script (at_first script)) (facts_at_first script in_range) in
     let most : ℕ = 3 * cells_to_read c.played can.work.start key in
     let epoch : (e : ℕ) × (can.work.client.entry.epoch ≡ Some e) = has_epoch c.played s can.work.client facts.fit can.work.session_is can.work.in_work in
-    let so : FetchesSo script s key can.work.start c.played can.work.client (first_turn c.played key can.work.start epoch.0) = fetches_so script s key can.work.start epoch.0 c.played can.work.client can.work.session_is can.work.in_work (may_fetch can.work.client can.work.start epoch.0 can.work.in_work can.work.at_rest can.work.begun epoch.1) can.fetching in
+    let so : FetchesSo script s key can.work.start c.played can.work.client (first_turn c.played key can.work.start epoch.0) = fetches_so script s key can.work.start epoch.0 c.played can.work.client can.work.session_is can.work.in_work (may_fetch script c.played s key epoch.0 facts.reached.setup can.work can.room epoch.1) can.fetching in
     subst (λ (after : Played). AnswersOr c.played after s can.work.start key (most + 1)) (sym (own_plays script c s (event.Fetch s key) ahead)) (fetch_by_turn ends script s can.work.start key epoch.0 most c.played can.work.client (first_turn c.played key can.work.start epoch.0) refl refl so)
 
 pub reads_are_carried : ReadsEnd → ReadsAreCarried

@@ -13,14 +13,14 @@ use Rattle.oracle_parts.specs.declared.instance.Request.{Request}
 use Rattle.oracle_parts.specs.declared.instance.Request.TheVariants.{Begin, Commit}
 use Rattle.oracle_parts.specs.declared.instance.Settled.TheVariants as how
 use Rattle.oracle_parts.specs.Instance.{InstanceEntry, least_unsettled}
-use Rattle.oracle_parts.specs.InstanceSteps.{epoch_refusal, request_verdict}
+use Rattle.oracle_parts.specs.InstanceSteps.{epoch_refusal}
 use Rattle.machine.specs.declared.event.Event.TheVariants as event
-use Rattle.machine.specs.Events.Decide.{draw_item}
+use Rattle.machine.specs.Events.Decide.{draw_item, both_verdict}
 use Rattle.script_data.specs.declared.line.Target.TheVariants as target
 use Rattle.script_data.specs.declared.line.Verb.{Verb}
 use Rattle.script_data.specs.declared.line.Verb.TheVariants as verb
 use Rattle.script_data.specs.Data.{ScriptData}
-use Rattle.isolation_laws.proofs.Lookups.{one_instance}
+use Rattle.isolation_laws.proofs.Lookups.{one_instance, one_client}
 use Rattle.line_steps.specs.declared.point.Point.TheVariants.{Opens}
 use Rattle.line_steps.specs.declared.point.View.{View}
 use Rattle.line_steps.specs.Laws.{IsPlayable}
@@ -40,7 +40,10 @@ use Rattle.grant_laws.proofs.KnownTurns.{KnownTurns, known_stands, known_turned,
 use Rattle.grant_laws.proofs.LeftRequests.{of_holder, left_served, left_waiting}
 use Rattle.grant_laws.proofs.LongerTurns.{turns_on, carries, still_has, has_added}
 use Rattle.grant_laws.proofs.OwnLines.{line_makes}
+use Rattle.grant_laws.proofs.ServedTurns.{Parts, parts_of}
 use Rattle.grant_laws.proofs.StageTurns.{served_by}
+use Rattle.machine.specs.State.{Client}
+use Rattle.isolation_laws.specs.Words.{ClientAt}
 
 -- ---- up to the stamp
 -- after the turn and those of others
@@ -52,7 +55,7 @@ record HasDrawn (script : ScriptData) (s node : ℕ) (u : UpToDraw) (request : R
   known : KnownTurns script (at_draw script s node u)
   served : IsServed (turned script (at_draw script s node u) (turn.Decide node s)).played node s request (progress.Drawn stamp)
 
-draws_through : (script : ScriptData) (s node : ℕ) (u : UpToDraw) (request : Request) → IsPlayable script 0 script.lines → KnownTurns script (at_ask script u) → IsServed (turned script (at_ask script u) (turn.Own (Session s))).played node s request progress.Asked → (serving : CanServeBy script s node u) → AtNode (at_accept script s u).played node (λ i. epoch_refusal i request ≡ None) → AtNode (at_draw script s node u).played node (λ i. request_verdict i.buckets request ≡ Free) → HasDrawn script s node u request (stamp_drawn serving)
+draws_through : (script : ScriptData) (s node : ℕ) (u : UpToDraw) (request : Request) → IsPlayable script 0 script.lines → KnownTurns script (at_ask script u) → IsServed (turned script (at_ask script u) (turn.Own (Session s))).played node s request progress.Asked → (serving : CanServeBy script s node u) → AtNode (at_accept script s u).played node (λ i. epoch_refusal i request ≡ None) → ((client : Client) → ClientAt (at_draw script s node u).played.state.clients s client → AtNode (at_draw script s node u).played node (λ i. both_verdict i.buckets client.reads request ≡ Free)) → HasDrawn script s node u request (stamp_drawn serving)
 draws_through script s node u request playable known asked serving above no_conflict =
     let c : Carried = at_accept script s u in
     let d : Carried = at_draw script s node u in
@@ -63,9 +66,10 @@ draws_through script s node u request playable known asked serving above no_conf
     let accepted : Serves script c (turn.Accept node s) (item.Accept s node held.oracle.term (reading_of script c.played node)) node s request progress.Accepted = (served_by script c node s request (known_stands script c known_c)).accepts held leased free in
     let known_d : KnownTurns script d = known_after script c (turn.Accept node s) u.accepted playable known_c in
     let waits : IsServed d.played node s request progress.Accepted = left_served script node s request progress.Accepted u.accepted (turned script c (turn.Accept node s)) serving.until_drawn accepted.comes in
-    let clear : request_verdict waits.oracle.buckets request ≡ Free = of_holder d.played node s request progress.Accepted (λ i. request_verdict i.buckets request ≡ Free) waits no_conflict in
+    let parts : Parts d.played node s request progress.Accepted waits = parts_of d.played node s request progress.Accepted waits (known_stands script d known_d) in
+    let clear : both_verdict waits.oracle.buckets parts.client.reads request ≡ Free = of_holder d.played node s request progress.Accepted (λ i. both_verdict i.buckets parts.client.reads request ≡ Free) waits (no_conflict parts.client parts.session_is) in
     let more : waits.oracle.last < waits.oracle.ceiling = of_holder d.played node s request progress.Accepted (λ i. i.last < i.ceiling) waits serving.stamp in
-    let drew : Serves script d (turn.Decide node s) (draw_item node waits.oracle.term request (waits.oracle.last + 1)) node s request (progress.Drawn (waits.oracle.last + 1)) = (served_by script d node s request (known_stands script d known_d)).draws waits clear more in
+    let drew : Serves script d (turn.Decide node s) (draw_item node waits.oracle.term request (waits.oracle.last + 1)) node s request (progress.Drawn (waits.oracle.last + 1)) = (served_by script d node s request (known_stands script d known_d)).draws waits parts.client parts.session_is clear more in
     let same : waits.oracle ≡ serving.stamp.oracle = one_instance d.played.state.nodes node waits.oracle serving.stamp.oracle waits.node_has serving.stamp.node_has in
     record {
       known = known_d;
@@ -89,7 +93,8 @@ runs_grant_begins script s node u drawn later in_range playable ahead can =
     let makes : own_ahead script c (Session s) ≡ Makes (event.AskBegin s node) = line_makes script c (Session s) (verb.Begin (target.Node node)) ahead in
     let asked : Serves script c (turn.Own (Session s)) (item.AskBegin s node) node s request progress.Asked = begin_asks script c s node can.client known makes can.session_is can.is_free can.serving.slot in
     let above : AtNode (at_accept script s u).played node (λ i. epoch_refusal i request ≡ None) = record { oracle = can.serving.leased.oracle; node_has = can.serving.leased.node_has; so = refl } in
-    let clear : AtNode (at_draw script s node u).played node (λ i. request_verdict i.buckets request ≡ Free) = record { oracle = can.serving.stamp.oracle; node_has = can.serving.stamp.node_has; so = refl } in
+    let clear : (client : Client) → ClientAt (at_draw script s node u).played.state.clients s client → AtNode (at_draw script s node u).played node (λ i. both_verdict i.buckets client.reads request ≡ Free) =
+    λ client session_is. record { oracle = can.serving.stamp.oracle; node_has = can.serving.stamp.node_has; so = refl } in
     let drew : HasDrawn script s node u request start = draws_through script s node u request playable known asked.comes can.serving above clear in
     let d : Carried = turned script (at_draw script s node u) (turn.Decide node s) in
     let known_d : KnownTurns script d = known_turned script (at_draw script s node u) (turn.Decide node s) playable drew.known in
@@ -123,7 +128,13 @@ runs_grant_commits script s node line u drawn placed later in_range playable ahe
     let makes : own_ahead script c (Session s) ≡ Makes (event.AskCommit s node) = line_makes script c (Session s) line ahead ∙ asks_commit (clocks_of script c.played) (name_posted c.names line) ahead.seat.unawaited (view_of c.played.state (Session s)) s node line asks in
     let asked : Serves script c (turn.Own (Session s)) (item.AskCommit s node start) node s request progress.Asked = commit_asks script c s node known makes can.work can.wrote can.serving.slot in
     let above : AtNode (at_accept script s u).played node (λ i. epoch_refusal i request ≡ None) = record { oracle = can.in_epoch.oracle; node_has = can.in_epoch.node_has; so = above_epoch can.in_epoch.oracle s start keys can.in_epoch.so } in
-    let drew : HasDrawn script s node u request commit = draws_through script s node u request playable known asked.comes can.serving above (record { oracle = can.no_conflict.oracle; node_has = can.no_conflict.node_has; so = can.no_conflict.so }) in
+    let clear : (client : Client) → ClientAt (at_draw script s node u).played.state.clients s client → AtNode (at_draw script s node u).played node (λ i. both_verdict i.buckets client.reads request ≡ Free) =
+    λ client session_is. record {
+      oracle = can.no_conflict.oracle;
+      node_has = can.no_conflict.node_has;
+      so = subst (λ (d : Client). both_verdict can.no_conflict.oracle.buckets d.reads request ≡ Free) (one_client (at_draw script s node u).played.state.clients s can.no_conflict.client client can.no_conflict.session_is session_is) can.no_conflict.so;
+    } in
+    let drew : HasDrawn script s node u request commit = draws_through script s node u request playable known asked.comes can.serving above clear in
     let d : Carried = turned script (at_draw script s node u) (turn.Decide node s) in
     let known_d : KnownTurns script d = known_turned script (at_draw script s node u) (turn.Decide node s) playable drew.known in
     let f : Carried = at_place script s node u drawn in

@@ -21,7 +21,7 @@ use Rattle.oracle_parts.specs.declared.instance.Request.{Request}
 use Rattle.oracle_parts.specs.declared.instance.Request.TheVariants.{Begin, Commit}
 use Rattle.oracle_parts.specs.declared.instance.Settled.TheVariants as how
 use Rattle.oracle_parts.specs.Instance.{InstanceEntry, held_of, with_request, stamps_by, stamps_of_held, unsettled_by, least_unsettled}
-use Rattle.oracle_parts.specs.InstanceSteps.{moved, accept_refusal, accept_unless, accept_if_asked, accept_held, out_of_stamps, decided_by, decide_drawn, decide_by, request_verdict, decide_if_accepted, decide_held, settle_if_drawn, settle_held, answer_begin, answer_if_ready, answer_held}
+use Rattle.oracle_parts.specs.InstanceSteps.{moved, accept_refusal, accept_unless, accept_if_asked, accept_held, out_of_stamps, decided_by, decide_drawn, decide_by, settle_if_drawn, settle_held, answer_begin, answer_if_ready, answer_held}
 use Rattle.oracle_parts.specs.InstanceLaws.{stamp_of}
 use Rattle.oracle_parts.proofs.InstanceRequests.{held_of-with_request_same}
 use Rattle.machine.specs.State.{Client, State}
@@ -29,7 +29,7 @@ use Rattle.machine.specs.Effect.{Effect, done}
 use Rattle.machine.specs.declared.event.Event.{Event}
 use Rattle.machine.specs.Machine.{Step, on_request, asks}
 use Rattle.machine.specs.Events.Accept.{accept_by, accept_request, accept_on}
-use Rattle.machine.specs.Events.Decide.{draw_item, decide_by as decision_by, decide_request, decide_on}
+use Rattle.machine.specs.Events.Decide.{draw_item, decide_by as decision_by, decide_request, decide_on, both_verdict, both_if_accepted, both_held}
 use Rattle.machine.specs.Events.Put.{to_place, to_place_by, put_by, put_commit, put_on}
 use Rattle.machine.specs.Events.Answer.{answer_by, answer_request, answer_on}
 use Rattle.script_data.specs.Data.{ScriptData}
@@ -95,11 +95,11 @@ is_stamp : (request : Request) (stamp : ℕ) → stamp_of (decided_by request st
 is_stamp (Begin s) stamp = refl
 is_stamp (Commit s start keys) stamp = refl
 
-pub draws_so : (node s : ℕ) (i : InstanceEntry) (c : Client) (held : Held) → held_of i s ≡ Some held → held.progress ≡ progress.Accepted → request_verdict i.buckets held.request ≡ Free → i.last ≢ i.ceiling → decide_on node s (Some i) c ≡ done (Some (decide_drawn i s held (i.last + 1)).left, c) (draw_item node i.term held.request (i.last + 1) ∷ [])
+pub draws_so : (node s : ℕ) (i : InstanceEntry) (c : Client) (held : Held) → held_of i s ≡ Some held → held.progress ≡ progress.Accepted → both_verdict i.buckets c.reads held.request ≡ Free → i.last ≢ i.ceiling → decide_on node s (Some i) c ≡ done (Some (decide_drawn i s held (i.last + 1)).left, c) (draw_item node i.term held.request (i.last + 1) ∷ [])
 draws_so node s i c held has accepted no_conflict more =
     ap (λ (found : Option Held). decide_request node s i c found) has
-    ∙ ap (λ (found : Option Held). decision_by node s held (decide_held i s found).left c (decide_held i s found).answer) has
-    ∙ ap (λ (p : Progress). decision_by node s held (decide_if_accepted i s held p).left c (decide_if_accepted i s held p).answer) accepted
+    ∙ ap (λ (found : Option Held). decision_by node s held (both_held i s c.reads found).left c (both_held i s c.reads found).answer) has
+    ∙ ap (λ (p : Progress). decision_by node s held (both_if_accepted i s c.reads held p).left c (both_if_accepted i s c.reads held p).answer) accepted
     ∙ ap (λ (v : Verdict). decision_by node s held (decide_by i s held v).left c (decide_by i s held v).answer) no_conflict
     ∙ ap (λ (spent : Bool). let step = cond spent (out_of_stamps i s held i.stop) (decide_drawn i s held (i.last + 1)) in decision_by node s held step.left c step.answer) (ne_eqb i.last i.ceiling more)
     ∙ ap (λ (stamp : ℕ). done (Some (decide_drawn i s held (i.last + 1)).left, c) (draw_item node i.term held.request stamp ∷ [])) (is_stamp held.request (i.last + 1))

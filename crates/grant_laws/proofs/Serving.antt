@@ -10,7 +10,7 @@ use Rattle.oracle_parts.specs.declared.instance.Place.{Place}
 use Rattle.oracle_parts.specs.declared.instance.Progress.TheVariants as progress
 use Rattle.oracle_parts.specs.declared.instance.Request.{Request}
 use Rattle.oracle_parts.specs.Instance.{InstanceEntry, held_of}
-use Rattle.oracle_parts.specs.InstanceSteps.{just_asked, moved, accept_refusal, request_verdict, decided_by}
+use Rattle.oracle_parts.specs.InstanceSteps.{just_asked, moved, accept_refusal, decided_by}
 use Rattle.oracle_parts.specs.InstanceLaws.{stamp_of}
 use Rattle.machine.specs.State.{Client, State}
 use Rattle.machine.specs.Effect.{Effect, Stop}
@@ -18,7 +18,7 @@ use Rattle.machine.specs.declared.event.Event.{Event}
 use Rattle.machine.specs.declared.event.Event.TheVariants as event
 use Rattle.machine.specs.Machine.{Step, step_by, with_post, with_client, with_reading, at_both, on_request, on_ask, asks}
 use Rattle.machine.specs.Events.Accept.{accept_on}
-use Rattle.machine.specs.Events.Decide.{draw_item, decide_on}
+use Rattle.machine.specs.Events.Decide.{draw_item, decide_on, both_verdict}
 use Rattle.script_data.specs.declared.line.Line.{Line}
 use Rattle.script_data.specs.declared.line.Verb.{Verb}
 use Rattle.script_data.specs.Data.{ScriptData}
@@ -93,10 +93,10 @@ pub record Drew (script : ScriptData) (line : Line) (node s most : ℕ) (p : Pla
   pub table : spot.calls.table ≡ x.calls.table
   pub longer : Longer x.items spot.items
 
-draw_made : (script : ScriptData) (node s : ℕ) (p : Played) (x : Spot) (request : Request) (told : Bool) → IsAt script node s p x → held_of x.oracle s ≡ Some (waiting request told) → request_verdict x.oracle.buckets request ≡ Free → x.oracle.last ≢ x.oracle.ceiling → Makes script node s p (event.Decide node s) (with_both x (drawn x.oracle s (waiting request told)) x.client (draw_item node x.oracle.term request (stamp_of (decided_by request (x.oracle.last + 1))) ∷ [])) None
+draw_made : (script : ScriptData) (node s : ℕ) (p : Played) (x : Spot) (request : Request) (told : Bool) → IsAt script node s p x → held_of x.oracle s ≡ Some (waiting request told) → both_verdict x.oracle.buckets x.client.reads request ≡ Free → x.oracle.last ≢ x.oracle.ceiling → Makes script node s p (event.Decide node s) (with_both x (drawn x.oracle s (waiting request told)) x.client (draw_item node x.oracle.term request (stamp_of (decided_by request (x.oracle.last + 1))) ∷ [])) None
 draw_made script node s p x request told k has no_conflict more = on_request_made script node s p.state.seen p x (event.Decide node s) (decide_on node s) (drawn x.oracle s (waiting request told)) x.client (draw_item node x.oracle.term request (stamp_of (decided_by request (x.oracle.last + 1))) ∷ []) None k refl (draws node s x.oracle x.client request told has no_conflict more) refl refl
 
-pub draw_now : (script : ScriptData) (number node s : ℕ) (verb : Verb) (p : Played) (x : Spot) (request : Request) (told : Bool) → ((at : Place) → is_served verb at ≡ true) → IsAt script node s p x → held_of x.oracle s ≡ Some (waiting request told) → request_verdict x.oracle.buckets request ≡ Free → x.oracle.last ≢ x.oracle.ceiling → Drew script (line_of number (Session s) verb) node s 1 p x request
+pub draw_now : (script : ScriptData) (number node s : ℕ) (verb : Verb) (p : Played) (x : Spot) (request : Request) (told : Bool) → ((at : Place) → is_served verb at ≡ true) → IsAt script node s p x → held_of x.oracle s ≡ Some (waiting request told) → both_verdict x.oracle.buckets x.client.reads request ≡ Free → x.oracle.last ≢ x.oracle.ceiling → Drew script (line_of number (Session s) verb) node s 1 p x request
 draw_now script number node s verb p x request told to_answer k has no_conflict more =
     let items : List Item = draw_item node x.oracle.term request (stamp_of (decided_by request (x.oracle.last + 1))) ∷ [] in
     let y : Spot = with_both x (drawn x.oracle s (waiting request told)) x.client items in

@@ -19,7 +19,7 @@ use Rattle.oracle_parts.specs.declared.instance.Request.{Request}
 use Rattle.oracle_parts.specs.declared.instance.Request.TheVariants.{Commit}
 use Rattle.oracle_parts.specs.declared.instance.Settled.TheVariants as how
 use Rattle.oracle_parts.specs.Instance.{InstanceEntry}
-use Rattle.oracle_parts.specs.InstanceSteps.{moved, accept_refusal, epoch_refusal, decide_drawn, request_verdict}
+use Rattle.oracle_parts.specs.InstanceSteps.{moved, accept_refusal, epoch_refusal, decide_drawn}
 use Rattle.oracle_parts.proofs.InstanceRequests.{held_of-with_request_same}
 use Rattle.machine.specs.State.{Client, State}
 use Rattle.machine.specs.Effect.{Effect, done}
@@ -27,14 +27,14 @@ use Rattle.machine.specs.declared.event.Event.{Event}
 use Rattle.machine.specs.declared.event.Event.TheVariants as event
 use Rattle.machine.specs.Machine.{Step, step_by, with_post, with_reading, at_post, asks, asks_at_post}
 use Rattle.machine.specs.Events.Accept.{accept_on}
-use Rattle.machine.specs.Events.Decide.{draw_item, decide_on}
+use Rattle.machine.specs.Events.Decide.{draw_item, decide_on, both_verdict}
 use Rattle.machine.specs.Events.Put.{to_place, to_place_by, put_on, put_asks, commit_asks}
 use Rattle.machine.specs.Events.Answer.{answer_on}
 use Rattle.machine.specs.Events.Extend.{extend_on, extend_asks}
 use Rattle.script_data.specs.Data.{ScriptData}
-use Rattle.isolation_laws.specs.Words.{InstanceAt, Marked}
+use Rattle.isolation_laws.specs.Words.{InstanceAt, ClientAt, Marked}
 use Rattle.isolation_laws.specs.Sound.{Stands}
-use Rattle.isolation_laws.proofs.Lookups.{set_found}
+use Rattle.isolation_laws.proofs.Lookups.{set_found, one_client}
 use Rattle.line_steps.specs.Runs.{fate_by, fate_of, step_of, played}
 use Rattle.turn_rules.specs.declared.turn.Turn.TheVariants as turn
 use Rattle.turn_rules.specs.Carried.{Carried, carried}
@@ -65,16 +65,18 @@ accepts script c node s request stands k leased above =
     let tells : (step_of script c.played e).items ≡ x ∷ [] = tells_by script c e node s seen request progress.Asked (accept_on node s reading) (x ∷ []) k parts refl (ap (λ (it : Effect (Option InstanceEntry × Client)). it.items) effect) in
     by_request script c (turn.Accept node s) e x node s seen request progress.Asked progress.Accepted (accept_on node s reading) now k parts refl (turn_adds script c (turn.Accept node s) e x refl tells) refl effect refl
 
-draws : (script : ScriptData) (c : Carried) (node s : ℕ) (request : Request) → Stands c.played.state c.played.items → (k : IsServed c.played node s request progress.Accepted) → request_verdict k.oracle.buckets request ≡ Free → k.oracle.last < k.oracle.ceiling →
+draws : (script : ScriptData) (c : Carried) (node s : ℕ) (request : Request) → Stands c.played.state c.played.items → (k : IsServed c.played node s request progress.Accepted) → (client : Client) → ClientAt c.played.state.clients s client → both_verdict k.oracle.buckets client.reads request ≡ Free → k.oracle.last < k.oracle.ceiling →
     Serves script c (turn.Decide node s) (draw_item node k.oracle.term request (k.oracle.last + 1)) node s request (progress.Drawn (k.oracle.last + 1))
-draws script c node s request stands k no_conflict left =
+draws script c node s request stands k client session_is no_conflict left =
     let e : Event = event.Decide node s in
     let i : InstanceEntry = k.oracle in
     let held : Held = k.held.held in
     let stamp : ℕ = i.last + 1 in
     let x : Item = draw_item node i.term request stamp in
     let parts : Parts c.played node s request progress.Accepted k = parts_of c.played node s request progress.Accepted k stands in
-    let free : request_verdict i.buckets held.request ≡ Free = ap (λ (asked : Request). request_verdict i.buckets asked) k.held.asks ∙ no_conflict in
+    let same : client ≡ parts.client = one_client c.played.state.clients s client parts.client session_is parts.session_is in
+    let free : both_verdict i.buckets parts.client.reads held.request ≡ Free =
+    ap (λ (asked : Request). both_verdict i.buckets parts.client.reads asked) k.held.asks ∙ subst (λ (d : Client). both_verdict i.buckets d.reads request ≡ Free) same no_conflict in
     let more : i.last ≢ i.ceiling = λ same. absurd (omega (arith, left, same)) in
     let now : InstanceEntry = (decide_drawn i s held stamp).left in
     let effect : decide_on node s (Some i) parts.client ≡ done (Some now, parts.client) (x ∷ []) =
@@ -126,7 +128,7 @@ answers script c node s request at x k stands tells =
 pub served_by : (script : ScriptData) (c : Carried) (node s : ℕ) (request : Request) → Stands c.played.state c.played.items → ServedAreGranted script c node s request
 served_by script c node s request stands = record {
   accepts = λ k leased above. accepts script c node s request stands k leased above;
-  draws = λ k no_conflict left. draws script c node s request stands k no_conflict left;
+  draws = λ k client session_is no_conflict left. draws script c node s request stands k client session_is no_conflict left;
   places = λ start commit keys is k unmarked works. as_commit script c node s start commit keys request is stands k unmarked works;
   commits = λ start commit keys is k. answers script c node s request (progress.Settled commit how.Placed) (item.Committed s start commit) k stands (λ client. commit_answers node s start commit keys k.oracle client k.held.held k.held.has (k.held.asks ∙ is) k.held.stands);
   begins = λ start is k settled. answers script c node s request (progress.Drawn start) (item.Begin s start) k stands (λ client. begin_answers node s start k.oracle client k.held.held k.held.has (k.held.asks ∙ is) k.held.stands settled);

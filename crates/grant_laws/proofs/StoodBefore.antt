@@ -17,11 +17,11 @@ use Rattle.oracle_parts.specs.declared.instance.Request.TheVariants.{Begin, Comm
 use Rattle.oracle_parts.specs.declared.instance.Settled.{Settled}
 use Rattle.oracle_parts.specs.declared.instance.Settled.TheVariants as how
 use Rattle.oracle_parts.specs.Instance.{InstanceEntry, held_of, stamps_by, stamps_of_held, unsettled_by, unsettled_commit, only_below, lesser, least_unsettled}
-use Rattle.oracle_parts.specs.InstanceSteps.{out_of_stamps, decide_drawn, decide_by, decide_if_accepted, decide_held, request_verdict, answer_begin, answer_if_ready, answer_held}
+use Rattle.oracle_parts.specs.InstanceSteps.{out_of_stamps, decide_drawn, decide_by, answer_begin, answer_if_ready, answer_held}
 use Rattle.machine.specs.State.{Client, State}
 use Rattle.machine.specs.declared.event.Event.{Event}
 use Rattle.machine.specs.Events.Answer.{answer_by, answer_request, answer_on}
-use Rattle.machine.specs.Events.Decide.{decide_by as decision_by, decide_request, decide_on}
+use Rattle.machine.specs.Events.Decide.{decide_by as decision_by, decide_request, decide_on, both_verdict, both_if_accepted, both_held}
 use Rattle.script_data.specs.Data.{ScriptData}
 use Rattle.isolation_laws.specs.Sound.{Stands}
 use Rattle.isolation_laws.specs.Words.{ClientAt}
@@ -72,11 +72,11 @@ verdict_quiet node s i held c (Hidden key water) quiet = absurd (cc)
 
 pub decide_quiet : (node s : ℕ) (i : InstanceEntry) (held : Held) (c : Client) → held_of i s ≡ Some held → held.progress ≡ progress.Accepted → (decide_on node s (Some i) c).items ≡ [] → i.last ≡ i.ceiling
 decide_quiet node s i held c has accepted quiet =
-    let v : Verdict = request_verdict i.buckets held.request in
+    let v : Verdict = both_verdict i.buckets c.reads held.request in
     let is : (decide_on node s (Some i) c).items ≡ (decision_by node s held (decide_by i s held v).left c (decide_by i s held v).answer).items =
     ap (λ (found : Option Held). (decide_request node s i c found).items) has
-    ∙ ap (λ (found : Option Held). (decision_by node s held (decide_held i s found).left c (decide_held i s found).answer).items) has
-    ∙ ap (λ (p : Progress). (decision_by node s held (decide_if_accepted i s held p).left c (decide_if_accepted i s held p).answer).items) accepted in
+    ∙ ap (λ (found : Option Held). (decision_by node s held (both_held i s c.reads found).left c (both_held i s c.reads found).answer).items) has
+    ∙ ap (λ (p : Progress). (decision_by node s held (both_if_accepted i s c.reads held p).left c (both_if_accepted i s c.reads held p).answer).items) accepted in
     verdict_quiet node s i held c v (sym is ∙ quiet)
 
 -- a request waits there for a stamp

@@ -110,7 +110,7 @@ reads_through ends script playable [] c s start key most known k works enough = 
 reads_through ends script playable (t ∷ turns) c s start key most known k works enough = reads_by ends script playable t turns c s start key most (is_own s t) refl known k works enough (λ left under few. reads_through ends script playable turns (turned script c t) s start key left (known_turned script c t playable known) under works.1 few)
 
 -- ---- the fetch
-fetched_or : ReadsEnd → (script : ScriptData) (c : Carried) (s key : ℕ) → KnownTurns script c → IsAhead script c (Session s) (verb.Read key) → (can : CanFetch script c.played s) → ReadOrUnder script (turned script c (turn.Own (Session s))) s can.work.start key (3 * cells_to_read c.played can.work.start key)
+fetched_or : ReadsEnd → (script : ScriptData) (c : Carried) (s key : ℕ) → KnownTurns script c → IsAhead script c (Session s) (verb.Read key) → (can : CanFetch script c.played s key) → ReadOrUnder script (turned script c (turn.Own (Session s))) s can.work.start key (3 * cells_to_read c.played can.work.start key)
 fetched_or ends script c s key known ahead can =
     let e : Event = event.Fetch s key in
     let start : ℕ = can.work.start in
@@ -118,7 +118,7 @@ fetched_or ends script c s key known ahead can =
     let most : ℕ = 3 * cells_to_read c.played start key in
     let is : event_of script c (turn.Own (Session s)) ≡ Some e = ap made_by (line_makes script c (Session s) (verb.Read key) ahead) in
     let epoch : (n : ℕ) × (client.entry.epoch ≡ Some n) = has_epoch c.played s client known.facts.fit can.work.session_is can.work.in_work in
-    let so : FetchesSo script s key start c.played client (first_turn c.played key start epoch.0) = fetches_so script s key start epoch.0 c.played client can.work.session_is can.work.in_work (may_fetch client start epoch.0 can.work.in_work can.work.at_rest can.work.begun epoch.1) can.fetching in
+    let so : FetchesSo script s key start c.played client (first_turn c.played key start epoch.0) = fetches_so script s key start epoch.0 c.played client can.work.session_is can.work.in_work (may_fetch script c.played s key epoch.0 known.facts.reached.setup can.work can.room epoch.1) can.fetching in
     let stops : (step_of script c.played e).stop ≡ None = ap (λ (step : Step). step.stop) so.is in
     elim (fetch_by_turn ends script s start key epoch.0 most c.played client (first_turn c.played key start epoch.0) refl refl so) [
       | inl answers ↦

@@ -35,12 +35,12 @@ write_can =
     let work : IsAtWork p 0 = record { client = client_of p; start = 1; session_is = refl; begun = refl; in_work = refl; at_rest = refl } in
     record { work = work; room = refl; writing = refl }
 
-pub read_can : CanFetch worked.reading (carried worked.reading runs.begun).played 0
+pub read_can : CanFetch worked.reading (carried worked.reading runs.begun).played 0 0
 unfolding seats_of passed holder_from planned_fate record_pairs least_unsettled kept_commit verdict put_row without_bare fetched front_of after_passed
 read_can =
     let p : Played = (carried worked.reading runs.begun).played in
     let work : IsAtWork p 0 = record { client = client_of p; start = 1; session_is = refl; begun = refl; in_work = refl; at_rest = refl } in
-    record { work = work; fetching = refl }
+    record { work = work; room = refl; fetching = refl }
 
 begin_serving : CanServeBy runs.beginning 0 0 runs.to_begin
 unfolding seats_of passed holder_from planned_fate record_pairs least_unsettled kept_commit verdict put_row without_bare fetched front_of after_passed Leave
@@ -149,7 +149,7 @@ commit_can =
       wrote = λ none. cc (keys, none);
       serving = commit_serving;
       in_epoch = record { oracle = oracle_of q; node_has = refl; so = omega (arith, epoch) };
-      no_conflict = record { oracle = oracle_of r; node_has = refl; so = refl };
+      no_conflict = record { oracle = oracle_of r; node_has = refl; client = client_of r; session_is = refl; so = refl };
       unmarked = λ marked. none-some InvalidMark (sym (mark_of-empty 1) ∙ marked);
       placing = refl;
       until_placed = (refl, tt);

@@ -127,7 +127,7 @@ pub read_can : CanRead worked.reading worked.before_reading 0 0
 unfolding lines_played run_for planned_fate holder_from record_pairs kept_commit verdict least_unsettled put_row without_bare fetched front_of after_passed
 read_can =
     let work : IsAtWork worked.before_reading 0 = record { client = client_of worked.before_reading; start = 1; session_is = refl; begun = refl; in_work = refl; at_rest = refl } in
-    record { work = work; reading = λ store n from few. quiet worked.before_reading.calls store n }
+    record { work = work; room = refl; reading = λ store n from few. quiet worked.before_reading.calls store n }
 
 pub commit_can : CanCommit worked.committing worked.before_committing 0 0
 unfolding lines_played run_for planned_fate holder_from record_pairs kept_commit verdict least_unsettled put_row without_bare fetched front_of after_passed

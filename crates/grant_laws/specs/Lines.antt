@@ -12,7 +12,7 @@ use Rattle.history_book.specs.declared.item.Item.TheVariants as item
 use Rattle.client_parts.specs.declared.session.State.TheVariants as phase
 use Rattle.client_parts.specs.KeyRead.{Reading, read_ask}
 use Rattle.oracle_parts.specs.declared.buckets.Verdict.TheVariants.{Free}
-use Rattle.oracle_parts.specs.Buckets.{verdict}
+use Rattle.oracle_parts.specs.Buckets.{verdict_both}
 use Rattle.oracle_parts.specs.Instance.{InstanceEntry, in_flight, least_unsettled}
 use Rattle.machine.specs.State.{Client}
 use Rattle.machine.specs.StoreSteps.{store_of}
@@ -51,6 +51,14 @@ pub record AtNode (p : Played) (node : ℕ) (P : InstanceEntry → Type 0) : Typ
   pub oracle : InstanceEntry
   pub node_has : InstanceAt p.state.nodes node oracle
   pub so : P oracle
+
+-- and the session its client, of both of which this holds
+pub record AtBoth (p : Played) (node session : ℕ) (P : InstanceEntry → Client → Type 0) : Type 0 where
+  pub oracle : InstanceEntry
+  pub node_has : InstanceAt p.state.nodes node oracle
+  pub client : Client
+  pub session_is : ClientAt p.state.clients session client
+  pub so : P oracle client
 
 -- ---- a write and a take: one turn of their own
 abbrev pub RunsGrantWrites : Type 0
@@ -152,8 +160,9 @@ pub record CanCommitBy (script : ScriptData) (session node : ℕ) (u : UpToDraw)
   pub serving : CanServeBy script session node u
   -- at the acceptance the transaction began above the instance's epoch
   pub in_epoch : AtNode (at_accept script session u).played node (λ i. i.epoch < work.start)
-  -- at the draw the conflict memory has nothing against its keys
-  pub no_conflict : AtNode (at_draw script session node u).played node (λ i. verdict i.buckets work.start work.client.entry.keys ≡ Free)
+  -- at the draw the conflict memory has nothing against the keys that it wrote, nor against those that its client keeps of what
+  -- it read
+  pub no_conflict : AtBoth (at_draw script session node u).played node session (λ i c. verdict_both i.buckets work.start work.client.entry.keys c.reads ≡ Free)
   -- at the placing nobody has marked the transaction
   pub unmarked : Marked (at_place script session node u drawn).played.state.pairs work.start → ⊥
   -- and the next call on the commit table works
@@ -187,5 +196,5 @@ StepsWork script session c (t ∷ turns) = (is_own session t ≡ true → (start
 -- a read line has its answer once as many own turns are made as three for each cell, whatever turns of others are made in between
 abbrev pub RunsGrantReads : Type 0
 RunsGrantReads =
-    (script : ScriptData) (before turns later : List Turn) (session key : ℕ) → let c = carried script before in let fetched = turned script c (turn.Own (Session session)) in AreInRange script.setup → IsPlayable script 0 script.lines → IsAhead script c (Session session) (verb.Read key) → (can : CanFetch script c.played session) → StepsWork script session fetched turns → 3 * cells_to_read c.played can.work.start key ≤ length (filter (is_own session) turns) →
+    (script : ScriptData) (before turns later : List Turn) (session key : ℕ) → let c = carried script before in let fetched = turned script c (turn.Own (Session session)) in AreInRange script.setup → IsPlayable script 0 script.lines → IsAhead script c (Session session) (verb.Read key) → (can : CanFetch script c.played session key) → StepsWork script session fetched turns → 3 * cells_to_read c.played can.work.start key ≤ length (filter (is_own session) turns) →
     (answer : Option Found) × (item.Read session can.work.start key answer ∈ carried_items script (before ++ turn.Own (Session session) ∷ (turns ++ later)))

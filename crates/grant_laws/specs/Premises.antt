@@ -9,10 +9,11 @@ use Rattle.store_parts.specs.Rows.{fetched, front_of}
 use Rattle.client_parts.specs.declared.session.State.TheVariants as phase
 use Rattle.client_parts.specs.SessionSteps.{key_refusal}
 use Rattle.oracle_parts.specs.declared.buckets.Verdict.TheVariants.{Free}
-use Rattle.oracle_parts.specs.Buckets.{verdict}
+use Rattle.oracle_parts.specs.Buckets.{verdict_both}
 use Rattle.oracle_parts.specs.Instance.{InstanceEntry, in_flight}
 use Rattle.machine.specs.State.{Client}
 use Rattle.machine.specs.Clients.{is_reading}
+use Rattle.machine.specs.Events.Fetch.{reads_refusal}
 use Rattle.script_data.specs.Data.{ScriptData}
 use Rattle.line_steps.specs.Runs.{Played, calls_on}
 use Rattle.isolation_laws.specs.Words.{InstanceAt, ClientAt, Marked}
@@ -79,8 +80,8 @@ pub record CanCommit (script : ScriptData) (p : Played) (session node : ℕ) : T
   pub serving : CanServe script p node
   -- the transaction began above the instance's epoch
   pub in_epoch : serving.oracle.epoch < work.start
-  -- the conflict memory has nothing against its keys
-  pub no_conflict : verdict serving.oracle.buckets work.start work.client.entry.keys ≡ Free
+  -- the conflict memory has nothing against the keys that it wrote, nor against those that it keeps of what it read
+  pub no_conflict : verdict_both serving.oracle.buckets work.start work.client.entry.keys work.client.reads ≡ Free
   -- nobody has marked the transaction
   pub unmarked : Marked p.state.pairs work.start → ⊥
   -- the next call on the commit table works
@@ -99,11 +100,15 @@ cells_to_read p start key = length (front_of start (fetched p.state.rows key sta
 
 pub record CanRead (script : ScriptData) (p : Played) (session key : ℕ) : Type 0 where
   pub work : IsAtWork p session
+  -- the key need not be kept, or is among those that are, or there is room for it
+  pub room : reads_refusal script.setup work.client key ≡ None
   -- on both stores the next calls work, as many as the read can make: the fetch, and three for each cell
   pub reading : (store : Store) (n : ℕ) → IsReadFrom store → n ≤ 3 * cells_to_read p work.start key → planned_fate script.faults store (calls_on p.calls store + n + 1) ≡ Works
 
 -- ---- the fetch of a read alone
-pub record CanFetch (script : ScriptData) (p : Played) (session : ℕ) : Type 0 where
+pub record CanFetch (script : ScriptData) (p : Played) (session key : ℕ) : Type 0 where
   pub work : IsAtWork p session
+  -- the key need not be kept, or is among those that are, or there is room for it
+  pub room : reads_refusal script.setup work.client key ≡ None
   -- the next call on the cells works
   pub fetching : next_fate script p Cells ≡ Works

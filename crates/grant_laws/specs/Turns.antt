@@ -17,12 +17,12 @@ use Rattle.oracle_parts.specs.declared.instance.Request.{Request}
 use Rattle.oracle_parts.specs.declared.instance.Request.TheVariants.{Begin, Commit}
 use Rattle.oracle_parts.specs.declared.instance.Settled.TheVariants as how
 use Rattle.oracle_parts.specs.Instance.{InstanceEntry, least_unsettled}
-use Rattle.oracle_parts.specs.InstanceSteps.{request_verdict, epoch_refusal}
+use Rattle.oracle_parts.specs.InstanceSteps.{epoch_refusal}
 use Rattle.machine.specs.State.{Reads, Client}
 use Rattle.machine.specs.StoreSteps.{store_of}
 use Rattle.machine.specs.declared.event.Event.{Event}
 use Rattle.machine.specs.declared.event.Event.TheVariants as event
-use Rattle.machine.specs.Events.Decide.{draw_item}
+use Rattle.machine.specs.Events.Decide.{draw_item, both_verdict}
 use Rattle.script_data.specs.Data.{ScriptData}
 use Rattle.isolation_laws.specs.Words.{InstanceAt, HeldBy, ClientAt, Marked}
 use Rattle.line_steps.specs.Laws.{IsPlayable}
@@ -64,12 +64,13 @@ pub record Serves (script : ScriptData) (c : Carried) (t : Turn) (x : Item) (nod
   pub comes : IsServed (turned script c t).played node session request progress
 
 -- in every state that turns lead to, the turn that serves the request next does so: the acceptance where the lease stands and a
--- commit began above the epoch, the draw where the conflict memory is free of the commit's keys and a stamp is left, the placing
--- where nobody has marked the transaction and the commit table's next call works, and the answers
+-- commit began above the epoch, the draw where the conflict memory is free of the commit's keys and of those that its client keeps
+-- of what it read, and a stamp is left, the placing where nobody has marked the transaction and the commit table's next call works,
+-- and the answers
 pub record ServedAreGranted (script : ScriptData) (c : Carried) (node session : ℕ) (request : Request) : Type 0 where
   pub accepts : (k : IsServed c.played node session request progress.Asked) → reading_of script c.played node < k.oracle.until → epoch_refusal k.oracle request ≡ None →
       Serves script c (turn.Accept node session) (item.Accept session node k.oracle.term (reading_of script c.played node)) node session request progress.Accepted
-  pub draws : (k : IsServed c.played node session request progress.Accepted) → request_verdict k.oracle.buckets request ≡ Free → k.oracle.last < k.oracle.ceiling →
+  pub draws : (k : IsServed c.played node session request progress.Accepted) → (client : Client) → ClientAt c.played.state.clients session client → both_verdict k.oracle.buckets client.reads request ≡ Free → k.oracle.last < k.oracle.ceiling →
       Serves script c (turn.Decide node session) (draw_item node k.oracle.term request (k.oracle.last + 1)) node session request (progress.Drawn (k.oracle.last + 1))
   pub places : (start commit : ℕ) (keys : List ℕ) → request ≡ Commit session start keys → IsServed c.played node session request (progress.Drawn commit) → (Marked c.played.state.pairs start → ⊥) → next_fate script c.played Table ≡ Works →
       Serves script c (turn.Put node session) (item.Placed start commit) node session request (progress.Settled commit how.Placed)
@@ -127,5 +128,5 @@ AnswersOr before after session start key most = ((answer : Option Found) × Appe
 pub record ReadsAreCarried : Type 0 where
   pub steps : (script : ScriptData) (turns : List Turn) (session start key : ℕ) (r : Reading) → let c = carried script turns in own_ahead script c (Session session) ≡ Makes (event.Step session) → ReadsKey c.played session start key r → next_fate script c.played (store_of (read_ask r)) ≡ Works →
       AnswersOr c.played (turned script c (turn.Own (Session session))).played session start key (read_left r)
-  pub fetches : (script : ScriptData) (turns : List Turn) (session key : ℕ) → let c = carried script turns in AreInRange script.setup → IsPlayable script 0 script.lines → own_ahead script c (Session session) ≡ Makes (event.Fetch session key) → (can : CanFetch script c.played session) →
+  pub fetches : (script : ScriptData) (turns : List Turn) (session key : ℕ) → let c = carried script turns in AreInRange script.setup → IsPlayable script 0 script.lines → own_ahead script c (Session session) ≡ Makes (event.Fetch session key) → (can : CanFetch script c.played session key) →
       AnswersOr c.played (turned script c (turn.Own (Session session))).played session can.work.start key (3 * cells_to_read c.played can.work.start key + 1)

@@ -1,5 +1,5 @@
 -- Short scripts: each asks for one thing in its last line, once with all premises and once without one of them.
-use Rattle.std.specs.Prelude.{ℕ, List, [], ◌∷◌, ◌++◌, None, Some}
+use Rattle.std.specs.Prelude.{ℕ, true, List, [], ◌∷◌, ◌++◌, None, Some}
 use Rattle.stamp_base.specs.SetupNumbers.{default_numbers}
 use Rattle.stamp_base.specs.declared.stores.Store.{Store}
 use Rattle.stamp_base.specs.declared.stores.Store.TheVariants.{Cells, Table}
@@ -12,6 +12,7 @@ use Rattle.history_book.specs.declared.item.Item.{Item}
 use Rattle.history_book.specs.declared.item.Item.TheVariants as item
 use Rattle.script_data.specs.declared.line.Line.{Line}
 use Rattle.script_data.specs.declared.line.Target.TheVariants as target
+use Rattle.script_data.specs.declared.line.Verb.{Verb}
 use Rattle.script_data.specs.declared.line.Verb.TheVariants as verb
 use Rattle.script_data.specs.Data.{ScriptData}
 use Rattle.line_steps.specs.Runs.{Played, lines_played, opening_played}
@@ -132,3 +133,33 @@ committing_items = asking_items ++ item.Placed 1 2 ∷ item.Committed 0 1 2 ∷ 
 
 abbrev pub failed_commit_items : List Item
 failed_commit_items = asking_items ++ item.Fault (Node 0) Table ∷ item.Refused (Session 0) (cause.Open 1) ∷ []
+
+-- ---- a commit whose transaction read what another writes, whose commit is drawn meanwhile
+abbrev pub strictly : ScriptData → ScriptData
+strictly script = record script { setup = record script.setup { strict = true } }
+
+abbrev of_other : Verb → Line
+of_other verb = line_of 0 (Session 1) verb
+
+abbrev of_node : Verb → Line
+of_node verb = line_of 0 (Node 0) verb
+
+abbrev pub before_last : List Line
+before_last =
+    take 0 ∷ begin ∷ read ∷ line_of 0 (Session 0) (verb.Write 1 v)
+    ∷ of_other (verb.Begin (target.Node 0)) ∷ of_other (verb.Write 0 v) ∷ of_other (verb.AskCommit 0)
+    ∷ of_node (verb.Accept 1) ∷ of_node (verb.Decide 1) ∷ []
+
+abbrev pub crossing : ScriptData
+crossing = of_lines (before_last ++ commit ∷ [])
+
+abbrev pub before_crossing : Played
+before_crossing = after crossing before_last
+
+abbrev pub refused_crossing_items : List Item
+refused_crossing_items =
+    reading_items ++ item.Write 0 1 1 v
+    ∷ item.AskBegin 1 0 ∷ item.Accept 1 0 1 0 ∷ item.Draw 1 0 1 2 None ∷ item.Begin 1 2 ∷ item.Write 1 2 0 v
+    ∷ item.AskCommit 1 0 2 ∷ item.Accept 1 0 1 0 ∷ item.Draw 1 0 1 2 (Some 3)
+    ∷ item.AskCommit 0 0 1 ∷ item.Accept 0 0 1 0 ∷ item.Refused (Session 0) (cause.Conflict 0 3)
+    ∷ item.Step (Session 0) (step.Erase 1 1) ∷ []

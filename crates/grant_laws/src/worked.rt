@@ -48,3 +48,13 @@ pub fn a_commit()
 {
     commits_are_granted();
 }
+
+/// A commit is granted, by the law, whose transaction read what another one writes, whose commit is drawn meanwhile. With strict
+/// reads, all else being the same, it is refused for that key.
+pub fn a_strict_commit()
+    ensures can { CanCommit worked.crossing worked.before_crossing 0 0 }
+    ensures granted { Grants worked.crossing worked.commit worked.before_crossing (Committed 0 1 4) }
+    ensures refused { replayed (worked.strictly worked.crossing) ≡ worked.refused_crossing_items }
+{
+    commits_are_granted();
+}

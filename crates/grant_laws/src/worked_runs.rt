@@ -56,7 +56,7 @@ pub fn a_commit_on_threads()
 
 /// A read has its answer. Where the cells fail, all else being the same, it has none.
 pub fn a_read_on_threads()
-    ensures can { CanFetch worked.reading (carried worked.reading runs.begun).played 0 }
+    ensures can { CanFetch worked.reading (carried worked.reading runs.begun).played 0 0 }
     ensures granted { carried_items worked.reading runs.one_more ≡ worked.reading_items }
     ensures refused { carried_items (worked.failing Cells worked.reading) runs.one_more ≡ worked.failed_read_items }
 {}

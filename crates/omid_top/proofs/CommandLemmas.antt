@@ -9,6 +9,7 @@ use Rattle.script_lines.specs.declared.cause.ScriptCause.TheVariants.{TooLong}
 use Rattle.script_lines.specs.declared.mode.Mode.{Mode}
 use Rattle.session_script.specs.Script.{script_of}
 use Rattle.omid_top.specs.Audit.{IsVerdict, IsFairTo}
+use Rattle.omid_top.specs.declared.standard.Standard.{Standard}
 use Rattle.omid_top.specs.Commands.{Replays, Compacts, Runs, Audits, Storms}
 use Rattle.omid_top.proofs.ReportLemmas.{silent_is_fair}
 
@@ -49,9 +50,9 @@ too_many_is_no_end code is (inl e) = absurd (omega (arith, e, is (inl e)))
 too_many_is_no_end code is (inr e) = absurd (omega (arith, e, is (inr (inr e))))
 
 -- ---- nothing was written
-fair_in_silence : (left : Option (List ℕ)) (code : ℕ) → (IsVerdict code → ⊥) → IfSome left (λ bytes. (items : List Item) → AreItems bytes items → IsFairTo items code)
-fair_in_silence None code silent = tt
-fair_in_silence (Some bytes) code silent = λ items read. silent_is_fair items code silent
+fair_in_silence : (asked : Standard) (left : Option (List ℕ)) (code : ℕ) → (IsVerdict code → ⊥) → IfSome left (λ bytes. (items : List Item) → AreItems bytes items → IsFairTo asked items code)
+fair_in_silence asked None code silent = tt
+fair_in_silence asked (Some bytes) code silent = λ items read. silent_is_fair asked items code silent
 
 pub replays_silently : (text : List Item → List ℕ) (code : ℕ) (left rest held now : Option (List ℕ)) → 3 < code → code < 7 → (code ≡ 5 → ⊥) → Replays text code left rest held now
 replays_silently text code left rest held now low high whole = record {
@@ -80,11 +81,11 @@ runs_silently code left rest held now low high whole = record {
   codes = inr (omega (arith, low), omega (arith, high));
 }
 
-pub audits_silently : (code : ℕ) (left rest held now : Option (List ℕ)) → 3 < code → code < 7 → (code ≡ 5 → ⊥) → Audits code left rest held now
-audits_silently code left rest held now low high whole = record {
+pub audits_silently : (asked : Standard) (code : ℕ) (left rest held now : Option (List ℕ)) → 3 < code → code < 7 → (code ≡ 5 → ⊥) → Audits asked code left rest held now
+audits_silently asked code left rest held now low high whole = record {
   read = λ is. absurd (no_end code low high is);
   audited = λ verdict. absurd (no_verdict code low high verdict);
-  fair = fair_in_silence left code (no_verdict code low high);
+  fair = fair_in_silence asked left code (no_verdict code low high);
   cut = λ five. absurd (whole five);
   codes = (omega (arith, high), λ e. omega (arith, e, low), λ e. omega (arith, e, low));
 }

@@ -13,6 +13,7 @@ use Rattle.replay_driver.specs.Storm.{storm_data}
 use Rattle.omid_top.specs.Audit.{IsVerdict, Reported, ReportedFront, IsFairTo}
 use Rattle.omid_top.specs.Compaction.{KeepsCompaction, compact_text, compact_told}
 use Rattle.omid_top.specs.Promise.{KeepsPromise, GainsFront, GainsLines, history_of, WritesRun, IsCutRun}
+use Rattle.omid_top.specs.declared.standard.Standard.{Standard}
 use Rattle.omid_top.specs.Texts.{usage_text, bad_line_text, replay_text}
 
 -- A script was read and carried out in file order, and this text of its history was written; or the bytes are no script, and
@@ -49,13 +50,13 @@ pub record Runs (code : ℕ) (left rest held now : Option (List ℕ)) : Type 0 w
   pub cut : code ≡ 5 → IfSome left (λ bytes. IsCutRun (script_of bytes Run) held now)
   pub codes : (code ≡ 0) ⊎ ((3 ≤ code) × (code ≤ 6))
 
--- A history was read and judged, and a report that is right about its bytes was written; or a front of one went out; or nothing
--- did. Where the bytes are items, the status is fair to them.
-pub record Audits (code : ℕ) (left rest held now : Option (List ℕ)) : Type 0 where
+-- A history was read and judged by what is asked of it, and a report that is right about its bytes was written; or a front of
+-- one went out; or nothing did. Where the bytes are items, the status is fair to them.
+pub record Audits (asked : Standard) (code : ℕ) (left rest held now : Option (List ℕ)) : Type 0 where
   pub read : (code ≡ 0) ⊎ (code ≡ 7) → IsAtEnd rest
-  pub audited : IsVerdict code → IfSome left (λ bytes. Reported bytes code held now)
-  pub fair : IfSome left (λ bytes. (items : List Item) → AreItems bytes items → IsFairTo items code)
-  pub cut : code ≡ 5 → IfSome left (λ bytes. ReportedFront bytes held now)
+  pub audited : IsVerdict code → IfSome left (λ bytes. Reported asked bytes code held now)
+  pub fair : IfSome left (λ bytes. (items : List Item) → AreItems bytes items → IsFairTo asked items code)
+  pub cut : code ≡ 5 → IfSome left (λ bytes. ReportedFront asked bytes held now)
   pub codes : (code ≤ 7) × (code ≢ 1) × (code ≢ 2)
 
 -- The storm of so many transactions was carried out, and the summary of its history was written; or a front of that went out;

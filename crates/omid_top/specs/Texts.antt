@@ -38,6 +38,12 @@ IsRun words = words ≡ codes "run" ∷ []
 abbrev pub IsAudit : List (List ℕ) → Type 0
 IsAudit words = words ≡ codes "audit" ∷ []
 
+abbrev pub IsAuditStrict : List (List ℕ) → Type 0
+IsAuditStrict words = words ≡ codes "audit" ∷ codes "strict" ∷ []
+
+abbrev pub IsAnyAudit : List (List ℕ) → Type 0
+IsAnyAudit words = IsAudit words ⊎ IsAuditStrict words
+
 -- the storm of so many transactions: their number in decimal, with no zero before it
 pub record IsStorm (transactions : ℕ) (words : List (List ℕ)) : Type 0 where
   pub named : words ≡ codes "storm" ∷ decimal transactions ∷ []
@@ -48,7 +54,7 @@ IsAnyStorm words = (transactions : ℕ) × IsStorm transactions words
 
 -- the words name a command that is built
 abbrev pub IsKnown : List (List ℕ) → Type 0
-IsKnown words = IsReplay words ⊎ IsReplaySummary words ⊎ IsReplayJson words ⊎ IsAnyReplayCompact words ⊎ IsRun words ⊎ IsAudit words ⊎ IsAnyStorm words
+IsKnown words = IsReplay words ⊎ IsReplaySummary words ⊎ IsReplayJson words ⊎ IsAnyReplayCompact words ⊎ IsRun words ⊎ IsAnyAudit words ⊎ IsAnyStorm words
 
 abbrev pub Names : Command → List (List ℕ) → Type 0
 Names command.Replay words = IsReplay words
@@ -57,10 +63,11 @@ Names command.ReplayJson words = IsReplayJson words
 Names (command.ReplayCompact water) words = IsReplayCompact water words
 Names command.Run words = IsRun words
 Names command.Audit words = IsAudit words
+Names command.AuditStrict words = IsAuditStrict words
 Names (command.Storm transactions) words = IsStorm transactions words
 
 abbrev pub usage_text : List ℕ
-usage_text = codes "usage: omid replay [summary|json|compact N] | run | audit | storm N" ++ 10 ∷ []
+usage_text = codes "usage: omid replay [summary|json|compact N] | run | audit [strict] | storm N" ++ 10 ∷ []
 
 -- the first bad line of a script and its first cause
 abbrev pub bad_line_text : BadLine → List ℕ

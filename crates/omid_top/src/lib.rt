@@ -6,7 +6,7 @@ ghost use Rattle.port_io.specs.Ports.{Risen};
 ghost use Rattle.history_text.specs.Summary.{summarized};
 ghost use Rattle.history_text.specs.Text.{printed};
 ghost use Rattle.omid_top.specs.Commands.{Replays, ReplaysJson, Compacts, Runs, Audits, Storms, SaysUsage};
-ghost use Rattle.omid_top.specs.Texts.{IsReplay, IsReplaySummary, IsReplayJson, IsReplayCompact, IsRun, IsAudit, IsStorm, IsAnyStorm, IsKnown};
+ghost use Rattle.omid_top.specs.Texts.{IsReplay, IsReplaySummary, IsReplayJson, IsReplayCompact, IsRun, IsAudit, IsAuditStrict, IsAnyAudit, IsStorm, IsAnyStorm, IsKnown};
 
 pub use session_script as script;
 
@@ -21,6 +21,7 @@ mod progress;
 mod replay;
 mod report;
 mod run;
+mod standard;
 mod status;
 mod usage;
 mod words;
@@ -30,6 +31,7 @@ use port_io::{Sink, Source};
 pub use process::{program, words_behind};
 pub use progress::ShowingGate;
 pub use run_driver::{Gate, GatePlace, OpenGate};
+use standard::Standard;
 pub use status::Status;
 use std::alloc::Global;
 use std::sync::Wait;
@@ -44,12 +46,13 @@ use words::Command;
 /// and writes what a reader at the water finds at each key, and how many rows there were and are. `run` carries the
 /// script out on threads, which pass the gate before each step of a stage, and writes the history that came of it.
 /// `storm N` writes the summary for a script of its own, of N transactions, and reads nothing. `audit` reads a history
-/// from the source, as text or as JSON, and writes whether it is snapshot isolated.
+/// from the source, as text or as JSON, and writes whether it is snapshot isolated; `audit strict` asks besides that it
+/// is serial, in the order of its commits.
 ///
-/// The status is 0 where all was done, and for `audit` the history is isolated; 2 where the words are no command,
-/// and the usage line is written; 3 where the bytes are no script (no history, for `audit`), and the first bad line
+/// The status is 0 where all was done, and for an audit the history is as asked; 2 where the words are no command,
+/// and the usage line is written; 3 where the bytes are no script (no history, for an audit), and the first bad line
 /// is written, with its cause; 4 where the source failed, 5 where the sink did, and 6 where memory was refused; 7
-/// where the history that was audited is not isolated, and the first broken rule and two items that break it are
+/// where the history that was audited is not as asked, and the first broken rule and two items that break it are
 /// written. On 2 the source is not read, and on 3 nothing is carried out. No error of memory comes from judging, and
 /// none once the first byte is written, but for `replay json`: its lines take memory as they are made, and on 6 whole
 /// lines of a front of the history may have gone out.
@@ -77,14 +80,16 @@ pub fn omid<R: Threads + Wait + Sync, S: Source, K: Sink, G: Gate>(
     ensures run { IsRun (map string_bytes words.now) →
         Runs result.code (S.left source.old) (S.left source.new) (K.held sink.old) (K.held sink.new) }
     ensures audit { IsAudit (map string_bytes words.now) →
-        Audits result.code (S.left source.old) (S.left source.new) (K.held sink.old) (K.held sink.new) }
+        Audits Standard.Isolated result.code (S.left source.old) (S.left source.new) (K.held sink.old) (K.held sink.new) }
+    ensures audit_strict { IsAuditStrict (map string_bytes words.now) →
+        Audits Standard.Strict result.code (S.left source.old) (S.left source.new) (K.held sink.old) (K.held sink.new) }
     ensures storm { (transactions : ℕ) → IsStorm transactions (map string_bytes words.now) →
         Storms transactions result.code (K.held sink.old) (K.held sink.new) }
     ensures no_command { (IsKnown (map string_bytes words.now) → ⊥) → SaysUsage result.code (K.held sink.old) (K.held sink.new) }
 
     // Which words each status goes with, and which leave the source untouched.
     ensures usage { result.code ≡ 2 → IsKnown (map string_bytes words.now) → ⊥ }
-    ensures judged { result.code ≡ 7 → IsAudit (map string_bytes words.now) }
+    ensures judged { result.code ≡ 7 → IsAnyAudit (map string_bytes words.now) }
     ensures codes { (result.code ≤ 7) × (result.code ≢ 1) }
     ensures unread { (IsKnown (map string_bytes words.now) → ⊥) ⊎ IsAnyStorm (map string_bytes words.now) → source.new ≡ source.old }
 
@@ -105,7 +110,8 @@ pub fn omid<R: Threads + Wait + Sync, S: Source, K: Sink, G: Gate>(
             compact::compact_source(alloc, words::stamp_of(water), source, sink, gate)
         }
         Some(Command::Run) => run::run_source(rt, alloc, source, sink, gate),
-        Some(Command::Audit) => audit::audit_source(alloc, source, sink),
+        Some(Command::Audit) => audit::audit_source(alloc, Standard::Isolated, source, sink),
+        Some(Command::AuditStrict) => audit::audit_source(alloc, Standard::Strict, source, sink),
         Some(Command::Storm(transactions)) => replay::storm(alloc, transactions, sink, gate),
         None => usage::say_usage(sink),
     }

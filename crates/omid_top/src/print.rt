@@ -122,7 +122,7 @@ pub fn print_usage<K: Sink>(sink: &mut K) -> Result<(), Failed>
 {
     print_text(
         sink,
-        b"usage: omid replay [summary|json|compact N] | run | audit | storm N\n",
+        b"usage: omid replay [summary|json|compact N] | run | audit [strict] | storm N\n",
     )
 }
 

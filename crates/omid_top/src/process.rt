@@ -2,7 +2,7 @@
 // it ends with.
 ghost use Rattle.std.specs.Prelude.{◌≡◌, ◌≢◌, ◌≤◌, ◌⊎◌, [], map, string_bytes, IfOk, OnErr, OnOk};
 ghost use Rattle.std.specs.Str.{IsUtf8};
-ghost use Rattle.omid_top.specs.Texts.{IsAudit, IsKnown};
+ghost use Rattle.omid_top.specs.Texts.{IsAnyAudit, IsKnown};
 
 use crate::{ShowingGate, Status, omid};
 use port_io::{Failed, StdSink, StdSource};
@@ -76,7 +76,7 @@ fn carried_out<R: Alloc<A = Global> + Threads + Wait + Sync>(
 ) -> Status
     ensures usage { result.code ≡ 2 → IsKnown (map string_bytes words.now) → ⊥ }
     ensures no_command { (IsKnown (map string_bytes words.now) → ⊥) → (result.code ≡ 2) ⊎ (result.code ≡ 5) }
-    ensures judged { result.code ≡ 7 → IsAudit (map string_bytes words.now) }
+    ensures judged { result.code ≡ 7 → IsAnyAudit (map string_bytes words.now) }
     ensures codes { (result.code ≤ 7) × (result.code ≢ 1) }
 {
     let status = omid(rt, rt.alloc(), words, &mut source, &mut sink, gate);

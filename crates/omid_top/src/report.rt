@@ -1,6 +1,6 @@
 // What an audit reports of a history, and the line that says it.
 ghost use Rattle.std.specs.Prelude.{◌≡◌, ◌≤◌, length};
-ghost use Rattle.omid_top.specs.Audit.{report_status, report_text, rule_text};
+ghost use Rattle.omid_top.specs.Audit.{broken_text, report_status, report_text, rule_text};
 
 use crate::Status;
 use history_text::LineBuf;
@@ -9,7 +9,7 @@ use si_judge::Rule;
 /// What an audit found.
 #[derive(Clone, Copy, Debug, PartialEq, Eq)]
 pub enum Report {
-    /// The history is snapshot isolated, and has so many items.
+    /// The history is as asked: snapshot isolated, and serial too where that was asked. It has so many items.
     Isolated {
         items: usize,
     },
@@ -18,6 +18,11 @@ pub enum Report {
         rule: Rule,
         first: usize,
         second: usize,
+    },
+    /// The history is isolated and not serial: the numbers of a read and of a placed commit that crosses it, counted from 1.
+    Crossed {
+        read: usize,
+        placed: usize,
     },
     /// The number of the first line that is no item, counted from 1, and 0 where there are too many bytes.
     NotAnItem {
@@ -32,7 +37,7 @@ impl Report {
     {
         match self {
             Report::Isolated { .. } => Status::DONE,
-            Report::Broken { .. } => Status::NOT_ISOLATED,
+            Report::Broken { .. } | Report::Crossed { .. } => Status::NOT_ISOLATED,
             Report::NotAnItem { .. } => Status::BAD_INPUT,
         }
     }
@@ -45,27 +50,36 @@ impl Report {
             Report::Isolated { items } => {
                 line.set_text(b"isolated items=");
                 line.push_number(*items as u64);
+                line.push_text(b"\n");
             }
             Report::Broken {
                 rule,
                 first,
                 second,
-            } => {
-                line.set_text(b"not isolated: ");
-                line.push_text(rule_word(*rule));
-                line.push_text(b" ");
-                line.push_number(*first as u64);
-                line.push_text(b" ");
-                line.push_number(*second as u64);
-            }
+            } => set_broken(line, rule_word(*rule), *first, *second),
+            Report::Crossed { read, placed } => set_broken(line, b"serial", *read, *placed),
             Report::NotAnItem { line: number } => {
                 line.set_text(b"history line ");
                 line.push_number(*number);
                 line.push_text(b": not an item");
+                line.push_text(b"\n");
             }
         }
-        line.push_text(b"\n");
     }
+}
+
+/// Leaves the line in the buffer that names a broken rule and the two items that break it.
+fn set_broken(line: &mut LineBuf, word: &[u8], first: usize, second: usize)
+    requires { length word.now ≤ 7 }
+    ensures { line.new ≡ broken_text word.now first second }
+{
+    line.set_text(b"not isolated: ");
+    line.push_text(word);
+    line.push_text(b" ");
+    line.push_number(first as u64);
+    line.push_text(b" ");
+    line.push_number(second as u64);
+    line.push_text(b"\n");
 }
 
 fn rule_word(rule: Rule) -> &'static [u8]

@@ -17,6 +17,6 @@ impl Status {
     pub const SINK_FAILED: Status = Status { code: 5 };
     /// Memory was refused.
     pub const NO_MEMORY: Status = Status { code: 6 };
-    /// The history that was audited is not isolated.
+    /// The history that was audited is not isolated, or not serial where that was asked.
     pub const NOT_ISOLATED: Status = Status { code: 7 };
 }

@@ -20,8 +20,10 @@ pub enum Command {
     ReplayCompact(u64),
     /// Carry out a script on threads, and write its history.
     Run,
-    /// Judge a history.
+    /// Judge whether a history is snapshot isolated.
     Audit,
+    /// Judge whether a history is snapshot isolated, and serial besides.
+    AuditStrict,
     /// Carry out the storm of so many transactions, and write the summary of its history.
     Storm(u64),
 }
@@ -34,6 +36,9 @@ pub fn command_of(words: &[String]) -> Option<Command>
         [word] if is_word(word.as_str(), "replay") => Some(Command::Replay),
         [word] if is_word(word.as_str(), "run") => Some(Command::Run),
         [word] if is_word(word.as_str(), "audit") => Some(Command::Audit),
+        [word, form] if is_word(word.as_str(), "audit") && is_word(form.as_str(), "strict") => {
+            Some(Command::AuditStrict)
+        }
         [word, form] if is_word(word.as_str(), "replay") && is_word(form.as_str(), "summary") => {
             Some(Command::ReplaySummary)
         }

@@ -14,11 +14,11 @@ use Rattle.oracle_parts.specs.declared.instance.Place.TheVariants as place
 use Rattle.oracle_parts.specs.declared.instance.Progress.{Progress}
 use Rattle.oracle_parts.specs.declared.instance.Progress.TheVariants as progress
 use Rattle.oracle_parts.specs.Instance.{InstanceEntry, held_of}
-use Rattle.oracle_parts.specs.InstanceSteps.{InstanceStep, no_stamp_told, out_of_stamps, decide_drawn, decide_by as verdict_by, request_verdict, decide_if_accepted, decide_held}
+use Rattle.oracle_parts.specs.InstanceSteps.{InstanceStep, no_stamp_told, out_of_stamps, decide_drawn, decide_by as verdict_by}
 use Rattle.machine.specs.declared.event.Event.TheVariants as event
 use Rattle.machine.specs.State.{Client, State}
 use Rattle.machine.specs.Machine.{Step, stepped}
-use Rattle.machine.specs.Events.Decide.{decide_by, decide_request, decide_on}
+use Rattle.machine.specs.Events.Decide.{both_verdict, both_if_accepted, both_held, decide_by, decide_request, decide_on}
 use Rattle.isolation_laws.specs.Words.{InstanceAt, ClientAt}
 use Rattle.isolation_laws.specs.Sound.{StopOf}
 use Rattle.isolation_laws.proofs.Lookups.{set_found}
@@ -69,12 +69,12 @@ finds_by i s held (Hidden key water) stops = λ last is. absurd (true≢false (s
 abbrev decided : State → ℕ → ℕ → Held → Client → InstanceStep Decided → Step
 decided w node s held c step = node_step w node s (decide_by node s held step.left c step.answer)
 
-decided_is : (w : State) (node s : ℕ) (fate : Fate) (i : InstanceEntry) (held : Held) (c : Client) → InstanceAt w.nodes node i → ClientAt w.clients s c → held_of i s ≡ Some held → held.progress ≡ progress.Accepted → stepped w (event.Decide node s) fate ≡ decided w node s held c (verdict_by i s held (request_verdict i.buckets held.request))
+decided_is : (w : State) (node s : ℕ) (fate : Fate) (i : InstanceEntry) (held : Held) (c : Client) → InstanceAt w.nodes node i → ClientAt w.clients s c → held_of i s ≡ Some held → held.progress ≡ progress.Accepted → stepped w (event.Decide node s) fate ≡ decided w node s held c (verdict_by i s held (both_verdict i.buckets c.reads held.request))
 decided_is w node s fate i held c at client_at has accepted =
     on_both w node s i c (decide_on node s) at client_at
     ∙ ap (λ (found : Option Held). node_step w node s (decide_request node s i c found)) has
-    ∙ ap (λ (found : Option Held). decided w node s held c (decide_held i s found)) has
-    ∙ ap (λ (p : Progress). decided w node s held c (decide_if_accepted i s held p)) accepted
+    ∙ ap (λ (found : Option Held). decided w node s held c (both_held i s c.reads found)) has
+    ∙ ap (λ (p : Progress). decided w node s held c (both_if_accepted i s c.reads held p)) accepted
 
 -- ---- where no stamp was found, none is left
 abbrev is_lack : Option Halt → Bool
@@ -93,8 +93,8 @@ pub decide_lacks : (w : State) (h : List Item) (node s : ℕ) (fate : Fate) (k :
 decide_lacks w h node s fate k accepted =
     let i : InstanceEntry = k.served.holder.i in
     let held : Held = k.served.held in
-    let step : InstanceStep Decided = verdict_by i s held (request_verdict i.buckets held.request) in
-    let finds : FindsNone i s held step = finds_by i s held (request_verdict i.buckets held.request) (k.stands.sound.stops.stop node i k.served.holder.at) in
+    let step : InstanceStep Decided = verdict_by i s held (both_verdict i.buckets k.c.reads held.request) in
+    let finds : FindsNone i s held step = finds_by i s held (both_verdict i.buckets k.c.reads held.request) (k.stands.sound.stops.stop node i k.served.holder.at) in
     subst (λ (x : Step). halt_of x.stop ≡ Some halt.NoStamp → IsUsedUp (slice_get x.state.nodes node)) (sym (decided_is w node s fate i held k.c k.served.holder.at k.client_at k.served.holder.has accepted)) (lacks_by w node s held i step.left k.c step.answer finds k.served.holder.at)
 
 -- ---- where a request stands

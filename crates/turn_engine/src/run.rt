@@ -2,6 +2,7 @@ ghost use Rattle.std.specs.Prelude.{◌≡◌, ◌≤◌, [], IfOk, vec_len};
 ghost use Rattle.stamp_base.specs.declared.limits.TheConstants.{LINE_LIMIT};
 ghost use Rattle.history_book.specs.Isolation.{Isolated};
 ghost use Rattle.cause_rules.specs.Explained.{Explained};
+ghost use Rattle.cause_rules.specs.Strict.{SerialIfStrict};
 ghost use Rattle.session_script.specs.Script.{data_of};
 ghost use Rattle.turn_rules.specs.Carried.{carried_items};
 ghost use Rattle.turn_rules.specs.Lawful.{AreLawful};
@@ -73,11 +74,13 @@ impl ScriptRun {
         })
     }
 
-    /// The history that the turns have made. It is isolated, and each of its refusals is shown by what stands before it.
+    /// The history that the turns have made. It is isolated, each of its refusals is shown by what stands before it, and where the
+    /// setup asks for strict reads it is serial.
     pub fn history(&self) -> &[Item]
         ensures value { result.now ≡ carried_items self.now.script self.now.turns }
         ensures isolated { Isolated result.now }
         ensures explained { Explained self.now.script.setup result.now }
+        ensures serial { SerialIfStrict self.now.script.setup result.now }
     {
         self.planned.cluster.history()
     }
