@@ -21,6 +21,7 @@ use Rattle.isolation_laws.proofs.Stores.CellsKept.{cells_kept}
 use Rattle.isolation_laws.proofs.UnderWay.UnderWayKept.{under_way_kept}
 use Rattle.isolation_laws.proofs.Requests.BeginsKept.{begins_kept}
 use Rattle.isolation_laws.proofs.Reading.ReadsKept.{reads_kept, right_reads_kept}
+use Rattle.isolation_laws.proofs.Known.KnownKept.{known_kept}
 use Rattle.isolation_laws.proofs.Inversions.InversionParts.{ComesBy}
 use Rattle.isolation_laws.proofs.Inversions.Inversion.{comes_to}
 use Rattle.isolation_laws.proofs.Inversions.InversionSound.{sound_kept, opening_sound}
@@ -44,6 +45,7 @@ holds_kept w h o holds = record {
   under_way = under_way_kept w h o holds;
   begins = begins_kept w h o holds;
   reads = reads_kept w h o holds;
+  known = known_kept w h o holds;
   isolated = record {
     apart = apart_kept w h o holds;
     stamped = stamped_kept w h o holds;

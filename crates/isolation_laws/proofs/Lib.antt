@@ -10,6 +10,7 @@ pub mod Numbers
 pub mod Memory
 pub mod Stores
 pub mod UnderWay
+pub mod Known
 pub mod Reading
 pub mod Holding
 pub mod Inversions

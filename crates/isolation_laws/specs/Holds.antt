@@ -11,6 +11,7 @@ use Rattle.isolation_laws.specs.Cells.{CellFacts}
 use Rattle.isolation_laws.specs.UnderWay.{UnderWayFacts}
 use Rattle.isolation_laws.specs.Begins.{BeginFacts}
 use Rattle.isolation_laws.specs.Reads.{ReadFacts}
+use Rattle.isolation_laws.specs.Known.{KnownFacts}
 
 pub record Holds (w : State) (h : List Item) : Type 0 where
   pub in_range : AreInRange w.setup
@@ -21,4 +22,5 @@ pub record Holds (w : State) (h : List Item) : Type 0 where
   pub under_way : UnderWayFacts w.clients w.sweep w.rows w.pairs h
   pub begins : BeginFacts w.clients w.nodes h
   pub reads : ReadFacts w.setup w.clients w.nodes w.rows w.pairs h
+  pub known : KnownFacts w.clients w.nodes w.pairs h
   pub isolated : Isolated h

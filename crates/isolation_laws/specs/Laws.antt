@@ -6,7 +6,8 @@ use Rattle.history_book.specs.declared.item.Found.{Found}
 use Rattle.history_book.specs.declared.item.Item.{Item}
 use Rattle.history_book.specs.declared.item.Item.TheVariants.{Draw, Read}
 use Rattle.oracle_parts.specs.Instance.{InstanceEntry}
-use Rattle.machine.specs.State.{State}
+use Rattle.store_parts.specs.Pairs.{Pairs}
+use Rattle.machine.specs.State.{Client, State}
 use Rattle.isolation_laws.specs.Words.{InstanceAt, Begun, Marked, drawn_stamp}
 use Rattle.isolation_laws.specs.Pending.{Live}
 
@@ -15,16 +16,22 @@ abbrev pub Unplaced : List Item → ℕ → Type 0
 Unplaced h t = (c : ℕ) → Committed h t c → ⊥
 
 -- it was marked before it was placed
-pub record IsMarkedFirst (w : State) (h : List Item) (t : ℕ) : Type 0 where
-  pub marked : Marked w.pairs t
+pub record IsBarred (pairs : Pairs) (h : List Item) (t : ℕ) : Type 0 where
+  pub marked : Marked pairs t
   pub unplaced : Unplaced h t
 
+abbrev pub IsMarkedFirst : State → List Item → ℕ → Type 0
+IsMarkedFirst w h t = IsBarred w.pairs h t
+
 -- it has begun, is neither open in a session nor has a commit in flight, and was not placed
-pub record IsLost (w : State) (h : List Item) (t : ℕ) : Type 0 where
+pub record IsOver (clients : List Client) (nodes : List (Option InstanceEntry)) (h : List Item) (t : ℕ) : Type 0 where
   pub session : ℕ
   pub begun : Begun h session t
-  pub dead : Live w.clients w.nodes t → ⊥
+  pub dead : Live clients nodes t → ⊥
   pub unplaced : Unplaced h t
+
+abbrev pub IsLost : State → List Item → ℕ → Type 0
+IsLost w h t = IsOver w.clients w.nodes h t
 
 -- a value that was read is the reader's own, or that of a transaction that commits below the reader's start
 abbrev pub ReadsWhatCommits : List Item → Type 0

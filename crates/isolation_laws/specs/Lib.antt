@@ -9,6 +9,7 @@ pub mod Cells
 pub mod UnderWay
 pub mod Begins
 pub mod Reads
+pub mod Known
 pub mod Holds
 pub mod Sound
 pub mod Laws

@@ -1,5 +1,5 @@
 -- All that ties state and history holds in the opening state, of an empty history.
-use Rattle.std.proofs.Common.{[], ◌≡◌, ℕ, true, false, Some, None, inl, inr, sym, ◌∙◌, ap}
+use Rattle.std.proofs.Common.{[], ◌≡◌, ℕ, true, false, Some, None, inl, inr, sym, ◌∙◌, ap, subst}
 use Rattle.std.specs.FinMap as map
 use Rattle.std.specs.Ordering.{nat_cmp}
 use Rattle.std.proofs.lemmas.Option.{none-some}
@@ -15,8 +15,10 @@ use Rattle.isolation_laws.specs.Pending.{Live}
 use Rattle.isolation_laws.specs.Cells.{CellFacts}
 use Rattle.isolation_laws.specs.UnderWay.{UnderWayFacts}
 use Rattle.isolation_laws.specs.Reads.{ReadFacts}
+use Rattle.isolation_laws.specs.Known.{IsTrueCache, KnownFacts}
 use Rattle.isolation_laws.specs.Holds.{Holds}
 use Rattle.isolation_laws.proofs.Inversions.InversionSound.{none_at}
+use Rattle.isolation_laws.proofs.Known.TrueCaches.{true_new}
 use Rattle.isolation_laws.proofs.Holding.OpeningSessions.{in_none, each_none, is_new, not_in, not_under_way, not_open, opening_numbers, opening_requests, opening_memory, opening_begins}
 
 -- ---- the stores and what is under way
@@ -81,6 +83,12 @@ opening_reads setup = record {
   };
 }
 
+opening_known : (setup : SetupNumbers) → KnownFacts (opening setup).clients (opening setup).nodes (opening setup).pairs []
+opening_known setup = record {
+  known = record { each = λ s c at. subst (λ (x : Client). IsTrueCache (opening setup).pairs [] x.cache) (sym (is_new setup s c at)) (true_new (opening setup).pairs [] setup.cache) };
+  written = record { written = λ s c r at is. let clash : Nothing ≡ Reads r = not_under_way setup s c (Reads r) at is in absurd (cc) };
+}
+
 opening_isolated : Isolated []
 opening_isolated = record {
   apart = record { apart = λ t c u d k v w one. absurd (in_none _ one) };
@@ -103,5 +111,6 @@ opening_holds setup in_range = record {
   under_way = opening_under_way setup;
   begins = opening_begins setup;
   reads = opening_reads setup;
+  known = opening_known setup;
   isolated = opening_isolated;
 }

@@ -1,6 +1,5 @@
 -- In the opening state no instance is there and no client works: numbers, sessions, requests, the conflict memory, begins.
 use Rattle.std.proofs.Common.{[], ◌≡◌, ℕ, true, IsTrue, List, ◌⊎◌, inl, inr, refl, sym, ◌∙◌, ap}
-use Rattle.std.specs.Prelude.{replicate}
 use Rattle.stamp_base.specs.SetupNumbers.{SetupNumbers}
 use Rattle.history_book.specs.Members.{◌∈◌, AtEach}
 use Rattle.client_parts.specs.declared.session.State.{State as SessionState}

@@ -1,5 +1,5 @@
 -- What a store call decides for a read is true, and so the read goes on rightly, or answers rightly.
-use Rattle.std.proofs.Common.{◌≡◌, ℕ, ◌<◌, ◌≤◌, nat_lt, Bool, true, false, cond, List, ◌∷◌, Option, Some, None, ◌⊎◌, inl, inr, refl, sym, ◌∙◌, ap, arith}
+use Rattle.std.proofs.Common.{◌≡◌, ℕ, ◌<◌, ◌≤◌, nat_lt, Bool, true, false, cond, List, ◌∷◌, Option, Some, None, ◌⊎◌, inl, inr, refl, sym, ◌∙◌, ap, subst, arith}
 use Rattle.std.specs.Ordering.{nat_cmp, eq_by_cmp}
 use Rattle.std.specs.FinMap.{get-insert}
 use Rattle.std.specs.Cmp.{nat_cmp_total}
@@ -17,13 +17,19 @@ use Rattle.client_parts.specs.declared.resolve.Outcome.TheVariants.{Committed as
 use Rattle.client_parts.specs.declared.resolve.SettlePoint.{SettlePoint}
 use Rattle.client_parts.specs.declared.resolve.SettlePoint.TheVariants.{FirstLook, Table, Marking, LastLook}
 use Rattle.client_parts.specs.Resolve.{SettleTurn, Goes, Decides, settle_turn, settle_turn_at, ask_at, after_table, after_marking, after_last_look}
-use Rattle.client_parts.specs.KeyRead.{Reading, may_mark, settling_of, read_over, read_by, read_ask, read_told}
+use Rattle.client_parts.specs.declared.known.Known.{Known}
+use Rattle.client_parts.specs.declared.known.Known.TheVariants as known
+use Rattle.client_parts.specs.Recalled.{outcome_known}
+use Rattle.client_parts.proofs.CacheLemmas.{known_there}
+use Rattle.client_parts.proofs.RecalledLemmas.{Recalls}
+use Rattle.client_parts.specs.KeyRead.{Reading, ReadTurn, Asks, may_mark, settling_of, read_over, read_by, read_ask, read_told}
 use Rattle.machine.specs.State.{State}
 use Rattle.machine.specs.Events.Fetch.{marks_every}
 use Rattle.machine.specs.StoreSteps.{pairs_after, told_by, told_entry, told_mark, told_shadow, told_cell}
 use Rattle.isolation_laws.specs.Words.{OpenAt, Marked, HasRecord, cell_with}
 use Rattle.isolation_laws.specs.UnderWay.{HasShadow}
 use Rattle.isolation_laws.specs.Reads.{SeesAll, IsResolvedTo, IsReading}
+use Rattle.isolation_laws.specs.Known.{IsTrueOf, IsTrueCache}
 use Rattle.isolation_laws.specs.Holds.{Holds}
 use Rattle.isolation_laws.proofs.Stores.StoresStay.{MarksStay, marks_put, marks_after, shadows_same}
 use Rattle.isolation_laws.proofs.Reading.ReadersRely.{RelyOn, sees_on, marked_before, open_now_begun}
@@ -32,6 +38,7 @@ use Rattle.isolation_laws.proofs.Reading.ReadsStay.{same_comes}
 use Rattle.isolation_laws.proofs.Reading.SeesPassed.{LetsGo, goes_late, sees_rest, answer_first, TurnRight, OwnListed, over_right}
 use Rattle.isolation_laws.proofs.Reading.ReadsLonger.{rely_calm}
 use Rattle.isolation_laws.proofs.Stores.CellsStay.{no_record_marked}
+use Rattle.isolation_laws.proofs.Known.TrueCaches.{true_used}
 
 -- what a turn of the resolve says of the version is true
 abbrev pub Tells : State → Pairs → List Item → ℕ → ℕ → Bool → ℕ → ℕ → SettleTurn → Type 0
@@ -99,7 +106,7 @@ tells_look w h s k b every e v met None holds o resolved is = dead_goes w h s k 
 tells_look w h s k b every e v met (Some cell) holds o resolved is = tells_shadow w h s k b every e v met cell cell.shadow holds o resolved is refl
 
 -- ---- each point
-tells_at : (w : State) (h : List Item) (s k b : ℕ) (every : Bool) (e : ℕ) (cell : Cell) (cs : List Cell) (point : SettlePoint) → Holds w h → OpenAt w.clients s b e → SeesAll w.nodes w.pairs h b k (cell ∷ cs) → IsResolvedTo w.pairs w.rows h k b every e cell.version point → Tells w (pairs_after (ask_at k cell.version point) w.pairs) h k b every e cell.version (settle_turn_at (may_mark every cell.version e) point (told_by (ask_at k cell.version point) w.rows w.pairs))
+pub tells_at : (w : State) (h : List Item) (s k b : ℕ) (every : Bool) (e : ℕ) (cell : Cell) (cs : List Cell) (point : SettlePoint) → Holds w h → OpenAt w.clients s b e → SeesAll w.nodes w.pairs h b k (cell ∷ cs) → IsResolvedTo w.pairs w.rows h k b every e cell.version point → Tells w (pairs_after (ask_at k cell.version point) w.pairs) h k b every e cell.version (settle_turn_at (may_mark every cell.version e) point (told_by (ask_at k cell.version point) w.rows w.pairs))
 tells_at w h s k b every e cell cs FirstLook holds o sees resolved = absurd resolved
 tells_at w h s k b every e cell cs Table holds o sees resolved = tells_table w h k b every e cell cs (may_mark every cell.version e) (mark_of w.pairs cell.version) holds sees refl refl
 tells_at w h s k b every e cell cs Marking holds o sees resolved = tells_marking w h k b every e cell cs (mark_of w.pairs cell.version) holds sees refl
@@ -122,6 +129,28 @@ turn_right w h pairs r (Decides (CommittedAt c by_table)) every_is holds own see
   | inl below ↦ rw below (answer_first w h pairs r.start r.key c r.cell r.older holds sees tells (ltb-true c r.start below))
   | inr late ↦ rw late (passes_on w h pairs r every_is holds own (goes_late w h pairs r.start r.cell.version c holds tells (ltb-false c r.start late)) sees)
 ]
+
+-- ---- a read that recalls goes on rightly too: what is remembered of a version tells of it what its resolve would
+known_tells : (w : State) (pairs : Pairs) (h : List Item) (k b : ℕ) (every : Bool) (e v : ℕ) (it : Known) → IsTrueOf pairs h v it → Tells w pairs h k b every e v (Decides (outcome_known it))
+known_tells w pairs h k b every e v (known.Committed c) is = is
+known_tells w pairs h k b every e v known.Dead is = record { late = λ d placed. absurd (is.unplaced d placed); marked = λ comes. is.marked }
+
+-- the read by its own start, epoch and key
+turn_as : (w : State) (h : List Item) (pairs : Pairs) (b e k c f j : ℕ) (turn : ReadTurn) → b ≡ c → e ≡ f → k ≡ j → TurnRight w h pairs b e k turn → TurnRight w h pairs c f j turn
+turn_as w h pairs b e k c f j turn start epoch key right =
+    subst (λ x. TurnRight w h pairs x f j turn) start (subst (λ x. TurnRight w h pairs b x j turn) epoch (subst (λ x. TurnRight w h pairs b e x turn) key right))
+
+recall_right : (w : State) (h : List Item) (pairs : Pairs) (b e k : ℕ) (r : Reading) (it : Known) → Holds w h → IsTrueOf pairs h r.cell.version it → TurnRight w h pairs b e k (Asks r) → TurnRight w h pairs b e k (read_by r (Decides (outcome_known it)))
+recall_right w h pairs b e k r it holds is (reads, key) =
+    let own : TurnRight w h pairs r.start r.epoch r.key (Asks r) = turn_as w h pairs b e k r.start r.epoch r.key (Asks r) (sym reads.start_is) (sym reads.epoch_is) (sym key) (reads, key) in
+    turn_as w h pairs r.start r.epoch r.key b e k (read_by r (Decides (outcome_known it))) reads.start_is reads.epoch_is key
+    (turn_right w h pairs r (Decides (outcome_known it)) reads.every_is holds own.0.own own.0.sees (known_tells w pairs h r.key r.start r.every r.epoch r.cell.version it is))
+
+pub recalls_right : (w : State) (h : List Item) (pairs : Pairs) (b e k : ℕ) → Holds w h → Recalls (TurnRight w h pairs b e k) (IsTrueCache pairs h)
+recalls_right w h pairs b e k holds = record {
+  stays = λ cache txn all. true_used pairs h cache txn all;
+  goes = λ cache r it all is right. recall_right w h pairs b e k r it holds (all.kept (r.cell.version, it) (known_there cache r.cell.version it is)) right;
+}
 
 -- the step of a read, by its own start and epoch
 pub step_right : (w : State) (h : List Item) (s : ℕ) (r : Reading) → Holds w h → OpenAt w.clients s r.start r.epoch → IsReading w.setup w.nodes w.rows w.pairs h r.start r.epoch r → TurnRight w h (pairs_after (read_ask r) w.pairs) r.start r.epoch r.key (read_told r (told_by (read_ask r) w.rows w.pairs))

@@ -14,16 +14,21 @@ use Rattle.store_parts.specs.declared.rows.Cell.{Cell}
 use Rattle.store_parts.specs.Rows.{fetched, front_of, is_below}
 use Rattle.store_parts.specs.Pairs.{Pairs}
 use Rattle.client_parts.specs.declared.key_read.Answer.{Answer}
+use Rattle.client_parts.specs.declared.asks.Told.{Told}
+use Rattle.client_parts.specs.Cache.{Cache, put_fresh, cache_learnt, learnt_by}
+use Rattle.client_parts.specs.Recalled.{recalled_over, recalled_from}
+use Rattle.client_parts.proofs.RecalledLemmas.{over_from, HoldBoth, over_holds, told_holds}
 use Rattle.client_parts.specs.KeyRead.{Reading, ReadTurn, Asks, Answers, found_cell, after_passed, read_over, read_ask}
 use Rattle.machine.specs.State.{Client, State}
-use Rattle.machine.specs.StoreSteps.{pairs_after}
+use Rattle.machine.specs.StoreSteps.{pairs_after, told_by}
 use Rattle.machine.specs.Events.Fetch.{marks_every, found_of, client_read, read_items}
 use Rattle.isolation_laws.specs.Words.{ClientAt, epoch_or_none, OpenAt}
 use Rattle.isolation_laws.specs.Pending.{ComesBelow}
 use Rattle.isolation_laws.specs.Quiet.{Quiet}
 use Rattle.isolation_laws.specs.Reads.{IsReading, Outlasts, AreLastingReads}
+use Rattle.isolation_laws.specs.Known.{IsTrueCache}
 use Rattle.isolation_laws.specs.Holds.{Holds}
-use Rattle.isolation_laws.proofs.Outcome.OutcomesOfWork.{Fetched, fetched_turn, fetched_client, fetched_state, fetched_items, ReadStepped, read_turn, read_client, read_stepped_state, read_stepped_items}
+use Rattle.isolation_laws.proofs.Outcome.OutcomesOfWork.{Fetched, fetched_recall, fetched_turn, fetched_client, fetched_state, fetched_items, ReadStepped, read_recall, read_turn, read_client, read_stepped_state, read_stepped_items}
 use Rattle.isolation_laws.proofs.Pushed.{not_true, in_append, one_quiet}
 use Rattle.isolation_laws.proofs.Requests.ClientsOpen.{read_keeps_entry}
 use Rattle.isolation_laws.proofs.Reading.ClientsReading.{nothing_reads}
@@ -34,7 +39,9 @@ use Rattle.isolation_laws.proofs.Reading.ReadsStay.{ReadsRight, quiet_no_reads, 
 use Rattle.isolation_laws.proofs.Reading.SeesFetched.{AreCellsOf, are_fetched, sees_fetched, sees_front, none_own, own_or_listed, own_value}
 use Rattle.isolation_laws.proofs.Reading.SeesPassed.{TurnRight, OwnListed, over_right}
 use Rattle.isolation_laws.proofs.Reading.ReadsLonger.{right_longer, reading_longer, ReadsNow, reading_set, reads_same, rely_calm}
-use Rattle.isolation_laws.proofs.Reading.ReadTurns.{step_right}
+use Rattle.isolation_laws.proofs.Reading.ReadTurns.{recalls_right, step_right}
+use Rattle.isolation_laws.proofs.Known.TrueCaches.{true_put, true_learnt, true_marked}
+use Rattle.isolation_laws.proofs.Known.LearntTruths.{learnt_true}
 
 -- ---- an answer that is right
 pub record GoodAnswer (w : State) (h : List Item) (pairs : Pairs) (b k : ℕ) (answer : Option Found) : Type 0 where
@@ -129,13 +136,27 @@ stepped_open w h k holds =
     let was = holds.reads.reading.reads k.session k.c k.r k.client_at k.under_way in
     open_by w k.session was.0 was.1 k.r.start k.r.epoch (sym was.3.start_is) (sym was.3.epoch_is) was.2
 
+stepped_reading : (w : State) (h : List Item) (k : ReadStepped w) → Holds w h → IsReading w.setup w.nodes w.rows w.pairs h k.r.start k.r.epoch k.r
+stepped_reading w h k holds =
+    let was = holds.reads.reading.reads k.session k.c k.r k.client_at k.under_way in
+    reading_by w h was.0 was.1 k.r.start k.r.epoch k.r (sym was.3.start_is) (sym was.3.epoch_is) was.3
+
+-- the turn is right, and what the client remembers then is true
+pub stepped_right : (w : State) (h : List Item) (k : ReadStepped w) → Holds w h → HoldBoth (TurnRight w h (pairs_after (read_ask k.r) w.pairs) k.r.start k.r.epoch k.r.key) (IsTrueCache (pairs_after (read_ask k.r) w.pairs) h) (read_recall w k)
+stepped_right w h k holds =
+    let pairs : Pairs = pairs_after (read_ask k.r) w.pairs in
+    let told : Told = told_by (read_ask k.r) w.rows w.pairs in
+    let o : OpenAt w.clients k.session k.r.start k.r.epoch = stepped_open w h k holds in
+    let is : IsReading w.setup w.nodes w.rows w.pairs h k.r.start k.r.epoch k.r = stepped_reading w h k holds in
+    let put : IsTrueCache pairs h (put_fresh k.c.cache) = true_put pairs h k.c.cache (true_marked w.pairs pairs h k.c.cache (marks_after (read_ask k.r) w.pairs) (holds.known.known.each k.session k.c k.client_at)) in
+    told_holds (TurnRight w h pairs k.r.start k.r.epoch k.r.key) (IsTrueCache pairs h) (recalls_right w h pairs k.r.start k.r.epoch k.r.key holds) (cache_learnt (put_fresh k.c.cache) (learnt_by k.r told)) k.r told
+    (true_learnt pairs h (put_fresh k.c.cache) (learnt_by k.r told) (learnt_true w h k.session k.r holds o is (holds.known.written.written k.session k.c k.r k.client_at k.under_way)) put)
+    (step_right w h k.session k.r holds o is)
+
 pub reads_stepped : (w : State) (h : List Item) (k : ReadStepped w) → Holds w h → ReadsRight w.setup (read_stepped_state w k).clients w.nodes w.rows (read_stepped_state w k).pairs (h ++ read_stepped_items w k)
 reads_stepped w h k holds =
-    let was = holds.reads.reading.reads k.session k.c k.r k.client_at k.under_way in
-    let o : OpenAt w.clients k.session k.r.start k.r.epoch = stepped_open w h k holds in
-    let is : IsReading w.setup w.nodes w.rows w.pairs h k.r.start k.r.epoch k.r = reading_by w h was.0 was.1 k.r.start k.r.epoch k.r (sym was.3.start_is) (sym was.3.epoch_is) was.3 in
-    reads_turn w h (pairs_after (read_ask k.r) w.pairs) k.first k.session k.r.start k.r.epoch k.r.key k.c (read_client w k) (read_turn w k) k.quiet k.client_at refl o (marks_after (read_ask k.r) w.pairs)
-    (good_turn w h (pairs_after (read_ask k.r) w.pairs) k.r.start k.r.epoch k.r.key (read_turn w k) is.own (step_right w h k.session k.r holds o is)) holds
+    reads_turn w h (pairs_after (read_ask k.r) w.pairs) k.first k.session k.r.start k.r.epoch k.r.key k.c (read_client w k) (read_turn w k) k.quiet k.client_at refl (stepped_open w h k holds) (marks_after (read_ask k.r) w.pairs)
+    (good_turn w h (pairs_after (read_ask k.r) w.pairs) k.r.start k.r.epoch k.r.key (read_turn w k) (stepped_reading w h k holds).own (stepped_right w h k holds).0) holds
 
 -- ---- a fetch
 pub fetched_open : (w : State) (k : Fetched w) → OpenAt w.clients k.it.session k.start k.epoch
@@ -155,29 +176,42 @@ own_front every key b e c cs mine = elim (cases_Bool (is_below b c.shadow)) [
   | inr none ↦ rw none (own_first every key b e c (front_of b cs) mine)
 ]
 
-own_good : (w : State) (h : List Item) (s k b e : ℕ) (c : Cell) (cs : List Cell) → Holds w h → OpenAt w.clients s b e → AreCellsOf w.rows k b (c ∷ cs) → c.version ≡ b → GoodTurn w h w.pairs b e k (read_over (marks_every w.setup) k b e (front_of b (c ∷ cs)))
-own_good w h s k b e c cs holds o are mine =
+-- the read of the front of the cells, over what is remembered: it is good, and what is remembered then is true
+abbrev IsGoodRead : State → List Item → ℕ → ℕ → ℕ → List Cell → Cache → Type 0
+IsGoodRead w h b e k cells cache = HoldBoth (GoodTurn w h w.pairs b e k) (IsTrueCache w.pairs h) (recalled_over (marks_every w.setup) k b e (front_of b cells) cache)
+
+own_recall : (every : Bool) (key b e : ℕ) (c : Cell) (cs : List Cell) (cache : Cache) → c.version ≡ b → recalled_over every key b e (front_of b (c ∷ cs)) cache ≡ (Answers (found_cell c), cache)
+own_recall every key b e c cs cache mine = over_from every key b e (front_of b (c ∷ cs)) cache ∙ ap (recalled_from cache) (own_front every key b e c cs mine)
+
+own_good : (w : State) (h : List Item) (s k b e : ℕ) (c : Cell) (cs : List Cell) (cache : Cache) → Holds w h → OpenAt w.clients s b e → AreCellsOf w.rows k b (c ∷ cs) → IsTrueCache w.pairs h cache → c.version ≡ b → IsGoodRead w h b e k (c ∷ cs) cache
+own_good w h s k b e c cs cache holds o are all mine =
     let value : last_write h b k ≡ Some c.value = own_value w h s k b e c holds o (are.found 0 c (omega arith)) mine in
     let right : RightAnswer h h b k (Some (record { from = c.version; value = c.value })) (Some c.value) = inl (ap (λ (v : ℕ). Some (record { from = v; value = c.value })) mine) in
-    subst (GoodTurn w h w.pairs b e k) (sym (own_front (marks_every w.setup) k b e c cs mine)) (record {
+    let good : GoodAnswer w h w.pairs b k (Some (record { from = c.version; value = c.value })) = record {
       right = subst (RightAnswer h h b k (Some (record { from = c.version; value = c.value }))) (sym value) right;
       lasts = λ u written comes wrote. inl mine;
-    })
+    } in
+    subst (HoldBoth (GoodTurn w h w.pairs b e k) (IsTrueCache w.pairs h)) (sym (own_recall (marks_every w.setup) k b e c cs cache mine)) (good, all)
 
-other_good : (w : State) (h : List Item) (s k b e : ℕ) (cells : List Cell) → Holds w h → OpenAt w.clients s b e → AreCellsOf w.rows k b cells → All (λ (c : Cell). c.version < b) cells → GoodTurn w h w.pairs b e k (read_over (marks_every w.setup) k b e (front_of b cells))
-other_good w h s k b e cells holds o are below =
+other_good : (w : State) (h : List Item) (s k b e : ℕ) (cells : List Cell) (cache : Cache) → Holds w h → OpenAt w.clients s b e → AreCellsOf w.rows k b cells → IsTrueCache w.pairs h cache → All (λ (c : Cell). c.version < b) cells → IsGoodRead w h b e k cells cache
+other_good w h s k b e cells cache holds o are all below =
     let own : OwnListed h b k = λ value wrote. own_or_listed w h s k b e cells value holds o are below wrote in
-    good_turn w h w.pairs b e k (read_over (marks_every w.setup) k b e (front_of b cells)) own
-    (over_right w h w.pairs (marks_every w.setup) b e k (front_of b cells) refl holds own (sees_front w.nodes w.pairs h b k cells (sees_fetched w h k b cells holds are below)))
+    let both = over_holds (TurnRight w h w.pairs b e k) (IsTrueCache w.pairs h) (recalls_right w h w.pairs b e k holds) (marks_every w.setup) k b e (front_of b cells) cache all
+    (over_right w h w.pairs (marks_every w.setup) b e k (front_of b cells) refl holds own (sees_front w.nodes w.pairs h b k cells (sees_fetched w h k b cells holds are below))) in
+    (good_turn w h w.pairs b e k (recalled_over (marks_every w.setup) k b e (front_of b cells) cache).0 own both.0, both.1)
 
-cells_good : (w : State) (h : List Item) (s k b e : ℕ) (cells : List Cell) → Holds w h → OpenAt w.clients s b e → AreCellsOf w.rows k b cells → GoodTurn w h w.pairs b e k (read_over (marks_every w.setup) k b e (front_of b cells))
-cells_good w h s k b e [] holds o are = other_good w h s k b e [] holds o are (All-nil (λ (c : Cell). c.version < b))
-cells_good w h s k b e (c ∷ cs) holds o are = elim (cases_eq c.version b) [
-  | inl mine ↦ own_good w h s k b e c cs holds o are mine
-  | inr other ↦ other_good w h s k b e (c ∷ cs) holds o are (none_own b c cs are.falling are.upto other)
+cells_good : (w : State) (h : List Item) (s k b e : ℕ) (cells : List Cell) (cache : Cache) → Holds w h → OpenAt w.clients s b e → AreCellsOf w.rows k b cells → IsTrueCache w.pairs h cache → IsGoodRead w h b e k cells cache
+cells_good w h s k b e [] cache holds o are all = other_good w h s k b e [] cache holds o are all (All-nil (λ (c : Cell). c.version < b))
+cells_good w h s k b e (c ∷ cs) cache holds o are all = elim (cases_eq c.version b) [
+  | inl mine ↦ own_good w h s k b e c cs cache holds o are all mine
+  | inr other ↦ other_good w h s k b e (c ∷ cs) cache holds o are all (none_own b c cs are.falling are.upto other)
 ]
+
+pub fetched_good : (w : State) (h : List Item) (k : Fetched w) → Holds w h → HoldBoth (GoodTurn w h w.pairs k.start k.epoch k.key) (IsTrueCache w.pairs h) (fetched_recall w k)
+fetched_good w h k holds =
+    cells_good w h k.it.session k.key k.start k.epoch (fetched w.rows k.key k.start) (put_fresh k.it.c.cache) holds (fetched_open w k) (are_fetched w h k.key k.start holds)
+    (true_put w.pairs h k.it.c.cache (holds.known.known.each k.it.session k.it.c k.it.client_at))
 
 pub reads_fetched : (w : State) (h : List Item) (k : Fetched w) → Holds w h → ReadsRight w.setup (fetched_state w k).clients w.nodes w.rows w.pairs (h ++ fetched_items w k)
 reads_fetched w h k holds =
-    reads_turn w h w.pairs k.first k.it.session k.start k.epoch k.key k.it.c (fetched_client w k) (fetched_turn w k) k.quiet k.it.client_at refl (fetched_open w k) (marks_same w.pairs)
-    (cells_good w h k.it.session k.key k.start k.epoch (fetched w.rows k.key k.start) holds (fetched_open w k) (are_fetched w h k.key k.start holds)) holds
+    reads_turn w h w.pairs k.first k.it.session k.start k.epoch k.key k.it.c (fetched_client w k) (fetched_turn w k) k.quiet k.it.client_at refl (fetched_open w k) (marks_same w.pairs) (fetched_good w h k holds).0 holds
