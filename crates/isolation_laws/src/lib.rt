@@ -21,8 +21,8 @@ pub use consequences::{
 };
 
 /// Every history of the machine is snapshot isolated: for every setup in range, every list of events, each with any fate of
-/// its store call, any number of nodes and sessions, crashes, takeovers, marks and sweeps included. All that is asked for is
-/// that readings of the clocks are steady: none is behind an earlier one by more than the skew.
+/// its store call, any number of nodes and sessions, crashes, takeovers, marks and sweeps included, and however much sessions
+/// remember. All that is asked for is that readings of the clocks are steady: none is behind an earlier one by more than the skew.
 pub fn always_isolated()
     ensures { (setup : SetupNumbers) (moves : List Move) → AreInRange setup → Steady setup moves → Isolated (history_after setup moves) }
 {}
