@@ -12,7 +12,6 @@ use Rattle.machine.specs.Clients.{client_begun}
 use Rattle.machine.specs.StoreSteps.{told_by}
 use Rattle.machine.specs.Events.Crash.{crashed_clients}
 use Rattle.machine.specs.Events.Write.{client_wrote}
-use Rattle.machine.specs.Events.Fetch.{client_fetched}
 use Rattle.isolation_laws.specs.Words.{ClientAt}
 use Rattle.isolation_laws.proofs.Outcome.OutcomesOfWork.{CompletedOne, fetched_turn, fetched_client, read_turn, read_client}
 use Rattle.isolation_laws.proofs.Outcome.Outcomes.{Outcome, OfCrashed, OfAskedBegin, OfAskedCommit, OfEnded, OfAnsweredBegin, OfAnsweredCommit, OfEndedReadOnly, OfWrote, OfWriteFailed, OfAborted, OfVanished, OfHealed, OfFetched, OfReadDropped, OfReadStepped, OfOutcome, OfOutcomeFailed, OfCompleted, left_by, told_by_outcome}

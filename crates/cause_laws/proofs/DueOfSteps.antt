@@ -18,7 +18,7 @@ use Rattle.client_parts.specs.declared.asks.Told.TheVariants as told
 use Rattle.client_parts.specs.declared.resolve.Outcome.TheVariants as outcome
 use Rattle.client_parts.specs.declared.session.State.{State as SessionState}
 use Rattle.client_parts.specs.declared.session.State.TheVariants as phase
-use Rattle.client_parts.specs.KeyRead.{Reading, read_ask, read_told}
+use Rattle.client_parts.specs.KeyRead.{Reading, read_ask}
 use Rattle.client_parts.specs.Resolve.{Settling, settle_ask, SettleTurn, Goes, Decides, settle_turn}
 use Rattle.client_parts.specs.SessionSteps.{step_refusal}
 use Rattle.client_parts.specs.Sweep.{Sweeping, sweep_ask, sweep_told, is_undecided}
@@ -31,6 +31,7 @@ use Rattle.machine.specs.Events.Step.{read_step, settle_items, settle_step, comp
 use Rattle.machine.specs.Events.SweepOpen.{sweep_open_on}
 use Rattle.machine.specs.Events.SweepStep.{undecided_items, sweep_met, sweep_lists, sweep_at, sweep_step_on}
 use Rattle.isolation_laws.specs.Words.{ClientAt}
+use Rattle.isolation_laws.proofs.Outcome.OutcomesOfWork.{answered_recall}
 use Rattle.cause_laws.specs.Due.{AreDue}
 use Rattle.cause_laws.proofs.DueItems.{DueAnyway, AllDue, none_free, one_free, no_row_free, all_due, none_due, refusal_due, no_row_due}
 use Rattle.cause_laws.proofs.DueOfSessions.{IsOwn, own_due, told_gone, told_own, read_free}
@@ -82,7 +83,7 @@ heal_on_due w session fate c at = heal_due w session fate c at (offer_of c)
 read_due : (w : State) (session : ℕ) (fate : Fate) (c : Client) (r : Reading) → AreDue w (read_step session c r (met (Session session) (read_ask r) fate w.rows w.pairs)).items
 read_due w session Works c r =
     let answer : Told = told_by (read_ask r) w.rows w.pairs in
-    all_due w _ (All-append (DueAnyway w) (step_item (Session session) (read_ask r) answer ∷ []) _ (worked_free w (Session session) (read_ask r) answer) (read_free w session r.start r.key (read_told r answer)))
+    all_due w _ (All-append (DueAnyway w) (step_item (Session session) (read_ask r) answer ∷ []) _ (worked_free w (Session session) (read_ask r) answer) (read_free w session r.start r.key (answered_recall c.cache r answer).0))
 read_due w session FailsUnchanged c r = failed_due w (Session session) (read_ask r) (told_by (read_ask r) w.rows w.pairs) FailsUnchanged (store_of (read_ask r))
 read_due w session FailsApplied c r = failed_due w (Session session) (read_ask r) (told_by (read_ask r) w.rows w.pairs) FailsApplied (store_of (read_ask r))
 

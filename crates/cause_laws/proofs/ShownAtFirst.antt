@@ -1,6 +1,5 @@
 -- The opening state, of an empty history, has nothing to show.
 use Rattle.std.proofs.Common.{◌≡◌, ℕ, [], Option, None, inl, refl, sym, ◌∙◌, ap}
-use Rattle.std.specs.Prelude.{replicate}
 use Rattle.std.specs.FinMap as map
 use Rattle.std.specs.Ordering.{nat_cmp}
 use Rattle.std.proofs.lemmas.Option.{none-some}
@@ -21,9 +20,9 @@ use Rattle.cause_laws.proofs.ClientsStay.{clients_at_first}
 nobody_asked : (n s : ℕ) (post : Option InstanceEntry) → post ≡ None → open_asks_of [] n s ≡ held_count post s
 nobody_asked n s post none = sym (ap (λ p. held_count p s) none)
 
-nobody_gone : (s : ℕ) (c : Client) → ClientAt (replicate 16 client_new) s c → c.entry.state ≡ phase.Gone → Vanish s ∈ []
-nobody_gone s c at gone =
-    let clash : phase.Free ≡ phase.Gone = ap (λ (x : Client). x.entry.state) (sym (found_copy 16 s client_new c at)) ∙ gone in
+nobody_gone : (setup : SetupNumbers) (s : ℕ) (c : Client) → ClientAt (opening setup).clients s c → c.entry.state ≡ phase.Gone → Vanish s ∈ []
+nobody_gone setup s c at gone =
+    let clash : phase.Free ≡ phase.Gone = ap (λ (x : Client). x.entry.state) (sym (found_copy 16 s (client_new setup.cache) c at)) ∙ gone in
     absurd (cc)
 
 none_marked : (t : ℕ) → Marked map.empty t → ⊥
@@ -65,5 +64,5 @@ shown_at_first setup = record {
     ceiling = λ n held. absurd (cc);
   };
   marked = record { marked = λ t marked. absurd (none_marked t marked) };
-  gone = record { vanished = λ s c at gone. nobody_gone s c at gone };
+  gone = record { vanished = λ s c at gone. nobody_gone setup s c at gone };
 }
