@@ -1,5 +1,5 @@
 -- The read of a key over the cells that were fetched, by the resolve of one cell.
-use Rattle.std.specs.Prelude.{◌≡◌, ℕ, ◌+◌, ◌*◌, ◌<◌, ◌≤◌, ◌⊎◌, ◌==◌, nat_lt, nat_le, Bool, false, IsTrue, ◌||◌, is_some, List, [], ◌∷◌, ◌++◌, Option, None, Some, if◌then◌else◌, length, All}
+use Rattle.std.specs.Prelude.{◌≡◌, ℕ, ◌+◌, ◌*◌, ◌<◌, ◌≤◌, ◌⊎◌, ◌==◌, nat_lt, nat_le, Bool, true, false, IsTrue, ◌||◌, is_some, List, [], ◌∷◌, ◌++◌, Option, None, Some, if◌then◌else◌, length, All}
 use Rattle.std.specs.List.{AllPairs, take_while}
 use Rattle.client_parts.specs.declared.asks.Ask.{Ask}
 use Rattle.client_parts.specs.declared.asks.Told.{Told}
@@ -9,7 +9,7 @@ use Rattle.client_parts.specs.declared.resolve.SettlePoint.TheVariants.{Table, M
 use Rattle.client_parts.specs.declared.resolve.Outcome.TheVariants.{Committed, Dead}
 use Rattle.client_parts.specs.declared.key_read.Answer.{Answer}
 use Rattle.client_parts.specs.declared.key_read.Next.{Next}
-use Rattle.client_parts.specs.declared.key_read.Next.TheVariants.{Ask as NextAsk, Done as NextDone}
+use Rattle.client_parts.specs.declared.key_read.Next.TheVariants.{Recall as NextRecall, Ask as NextAsk, Done as NextDone}
 use Rattle.client_parts.specs.Resolve.{Settling, settle_ask, settle_left, SettleTurn, Goes, Decides, settle_turn}
 
 -- a read under way: the cell that is being resolved, and the older ones behind it
@@ -91,9 +91,24 @@ abbrev pub reading_left : ReadTurn → Option Reading
 reading_left (Asks r) = Some r
 reading_left (Answers a) = None
 
+-- what is next where nothing is recalled of the cell, or no longer
 abbrev pub next_of : ReadTurn → Next
 next_of (Asks r) = NextAsk (read_ask r)
 next_of (Answers a) = NextDone a
+
+-- what is next at a cell that was just come to: it is recalled first
+abbrev pub next_reached : ReadTurn → Next
+next_reached (Asks r) = NextRecall r.cell.version
+next_reached (Answers a) = NextDone a
+
+-- what is next after a step on the stores, which stays at its cell or leaves it
+abbrev pub next_turned : SettleTurn → ReadTurn → Next
+next_turned (Goes p) turn = next_of turn
+next_turned (Decides outcome) turn = next_reached turn
+
+abbrev pub is_recall : Next → Bool
+is_recall (NextRecall txn) = true
+is_recall _ = false
 
 abbrev pub next_ask : Option Reading → Option Ask
 next_ask None = None

@@ -9,7 +9,8 @@ use Rattle.client_parts.specs.declared.resolve.SettlePoint.TheVariants.{Table}
 use Rattle.client_parts.specs.declared.resolve.Outcome.{Outcome}
 use Rattle.client_parts.specs.declared.resolve.Outcome.TheVariants.{Committed as CommittedAt, Dead}
 use Rattle.client_parts.specs.Resolve.{SettleTurn, Goes, Decides, settle_turn}
-use Rattle.client_parts.specs.KeyRead.{Reading, ReadTurn, Asks, Answers, is_passed, found_none, found_cell, found_by, settling_of}
+use Rattle.client_parts.specs.declared.key_read.Next.{Next}
+use Rattle.client_parts.specs.KeyRead.{Reading, ReadTurn, Asks, Answers, is_passed, found_none, found_cell, found_by, settling_of, read_by, next_of, next_reached}
 use Rattle.client_parts.specs.Cache.{Cache, known_of, used}
 
 -- what is remembered, as an outcome
@@ -55,3 +56,12 @@ recalled_known cache r (Some k) = recalled_turn (used cache r.cell.version) r (D
 abbrev pub recalled_from : Cache → ReadTurn → Remembering
 recalled_from cache (Asks r) = recalled_known cache r (known_of cache r.cell.version)
 recalled_from cache (Answers a) = (Answers a, cache)
+
+-- ---- one recall: what is kept of the cell decides it, and where nothing is, it is asked of
+abbrev pub read_recalled : Reading → Option Known → ReadTurn
+read_recalled r None = Asks r
+read_recalled r (Some k) = read_by r (Decides (outcome_known k))
+
+abbrev pub next_recalled : Reading → Option Known → Next
+next_recalled r None = next_of (Asks r)
+next_recalled r (Some k) = next_reached (read_by r (Decides (outcome_known k)))

@@ -16,6 +16,8 @@ pub struct Answer {
 /// What a read of a key does next.
 #[derive(Clone, Copy, Debug, PartialEq, Eq)]
 pub enum Next {
+    /// What is kept of this transaction decides the cell that the read has come to.
+    Recall(TxnId),
     Ask(Ask),
     Done(Answer),
 }
