@@ -1,1 +1,2 @@
 pub use Rattle.client_parts.specs.SessionSteps
+pub mod Remembering

@@ -1,9 +1,10 @@
-//! Client sessions: what a session is about, and what it has written.
+//! Client sessions: what a session is about, what it has written, and what it remembers of other transactions.
 #![tactic(auto)]
 
+mod memory;
 mod session;
 
-pub use client_parts::State;
+pub use client_parts::{Known, State};
 pub use session::{Session, check_key};
 
 #[cfg(test)]

@@ -1,29 +1,33 @@
-ghost use Rattle.std.specs.Prelude.{◌≡◌, MatchResult};
+ghost use Rattle.std.specs.Prelude.{◌≡◌, MatchResult, Some, None, IfOk, OnOk, OnErr};
 ghost use Rattle.client_parts.specs.SessionSteps as step;
+ghost use Rattle.client_parts.specs.Cache.{cache_new, known_of, used, put_fresh, cache_learnt};
+ghost use Rattle.client_txn.specs.Remembering.{opened_with, cache_of};
 
-use client_parts::State;
+use crate::memory::Memory;
+use client_parts::{Known, State};
 use history_book::Cause;
-use stamp_base::{KEY_LIMIT, KeyList, KeyNo, Stamp};
+use stamp_base::{KEY_LIMIT, KeyList, KeyNo, NoMemory, Stamp, TxnId};
+use std::alloc::Global;
 use std::marker::Model;
 
-/// A client session. Its start, keys and commit are those of its transaction.
-#[derive(Clone, Copy, Debug, PartialEq, Eq)]
+/// A client session. Its start, keys and commit are those of its transaction; what it remembers of other transactions stays
+/// until it vanishes.
+#[derive(Drop)]
 pub struct Session {
     state: State,
     start: Option<Stamp>,
     epoch: Option<u64>,
     keys: KeyList,
     commit: Option<Stamp>,
+    memory: Option<Memory>,
 }
 
 impl Model for Session {
-    ghost use Rattle.client_parts.specs.SessionSteps.{SessionEntry};
+    ghost use Rattle.client_txn.specs.Remembering.{SessionParts, cache_of};
 
-    ghost Value = { SessionEntry };
+    ghost Value = { SessionParts };
 
-    ghost view = { λ s. record { state = s.state; start = s.start; epoch = s.epoch; keys = s.keys; commit = s.commit } };
-
-    ghost inverse = { λ s. record { state = s.state; start = s.start; epoch = s.epoch; keys = s.keys; commit = s.commit } };
+    ghost view = { λ s. record { entry = record { state = s.state; start = s.start; epoch = s.epoch; keys = s.keys; commit = s.commit }; cache = cache_of s.memory } };
 
     ghost use Rattle.client_parts.specs.SessionSteps.{MakesSense};
 
@@ -31,9 +35,22 @@ impl Model for Session {
 }
 
 impl Session {
-    /// A free session.
+    /// A free session, which remembers nothing.
     pub fn new() -> Session
-        ensures { result ≡ step.session_new }
+        ensures { result ≡ opened_with 0 }
+    {
+        Session::with_memory(None)
+    }
+
+    /// A free session, which remembers so many decisions; none where the number is 0.
+    pub fn with_cache(alloc: Global, cache: u64) -> Result<Session, NoMemory>
+        ensures { IfOk result (λ session. session ≡ opened_with cache) }
+    {
+        Ok(Session::with_memory(Memory::open(alloc, cache)?))
+    }
+
+    fn with_memory(memory: Option<Memory>) -> Session
+        ensures { result ≡ record { entry = step.session_new; cache = cache_of memory } }
     {
         Session {
             state: State::Free,
@@ -41,48 +58,81 @@ impl Session {
             epoch: None,
             keys: KeyList::empty(),
             commit: None,
+            memory,
+        }
+    }
+
+    /// What is kept of the transaction, which is the last to go from now on.
+    pub fn known(&mut self, txn: TxnId) -> Option<Known>
+        ensures known { result ≡ known_of self.old.cache txn }
+        ensures left { self.new ≡ record self.old { cache = used self.old.cache txn } }
+    {
+        match &mut self.memory {
+            Some(memory) => memory.known(txn),
+            None => None,
+        }
+    }
+
+    /// The decision is fresh: it is kept from the next `keep_fresh` on. Without room nothing is.
+    pub fn learnt(&mut self, txn: TxnId, known: Known)
+        requires { self.old.cache.fresh ≡ None }
+        ensures { self.new ≡ record self.old { cache = cache_learnt self.old.cache (Some (txn, known)) } }
+    {
+        if let Some(memory) = &mut self.memory {
+            memory.learnt(txn, known);
+        }
+    }
+
+    /// A fresh decision goes in front of those that are kept. Where memory is refused, it is still fresh.
+    pub fn keep_fresh(&mut self) -> Result<(), NoMemory>
+        ensures kept { OnOk result (self.new ≡ record self.old { cache = put_fresh self.old.cache }) }
+        ensures refused { OnErr result (self.new ≡ self.old) }
+    {
+        match &mut self.memory {
+            Some(memory) => memory.keep_fresh(),
+            None => Ok(()),
         }
     }
 
     /// What the session is about. The state tells what there is of a transaction.
     pub fn state(&self) -> State
-        ensures value { result ≡ self.now.state }
-        ensures sense { step.MakesSense self.now }
+        ensures value { result ≡ self.now.entry.state }
+        ensures sense { step.MakesSense self.now.entry }
     {
         self.state
     }
 
     /// The start of the transaction.
     pub fn start(&self) -> Option<Stamp>
-        ensures { result ≡ self.now.start }
+        ensures { result ≡ self.now.entry.start }
     {
         self.start
     }
 
     /// The epoch that the last begin was answered with.
     pub fn epoch(&self) -> Option<u64>
-        ensures { result ≡ self.now.epoch }
+        ensures { result ≡ self.now.entry.epoch }
     {
         self.epoch
     }
 
     /// The keys that the transaction has written, in the order of their first write.
     pub fn keys(&self) -> &KeyList
-        ensures { result.now ≡ self.now.keys }
+        ensures { result.now ≡ self.now.entry.keys }
     {
         &self.keys
     }
 
     /// The commit that is completed.
     pub fn commit(&self) -> Option<Stamp>
-        ensures { result ≡ self.now.commit }
+        ensures { result ≡ self.now.entry.commit }
     {
         self.commit
     }
 
     /// Whether a begin may be asked: refused as gone, or busy.
     pub fn check_begin(&self) -> Result<(), Cause>
-        ensures { step.IsAnswer (step.begin_refusal self.now.state) result }
+        ensures { step.IsAnswer (step.begin_refusal self.now.entry.state) result }
     {
         match self.state {
             State::Gone => Err(Cause::Gone),
@@ -94,7 +144,7 @@ impl Session {
     /// Whether the transaction may write, fetch, ask for its commit or abort, where `reading` tells whether a read is
     /// under way: refused as gone, without a transaction, or busy.
     pub fn check_work(&self, reading: bool) -> Result<(), Cause>
-        ensures { step.IsAnswer (step.work_refusal self.now.state reading) result }
+        ensures { step.IsAnswer (step.work_refusal self.now.entry.state reading) result }
     {
         match self.state {
             State::Gone => Err(Cause::Gone),
@@ -106,7 +156,7 @@ impl Session {
 
     /// Whether there is a step to make, where `reading` tells whether a read is under way: refused as gone, or idle.
     pub fn check_step(&self, reading: bool) -> Result<(), Cause>
-        ensures { step.IsAnswer (step.step_refusal self.now.state reading) result }
+        ensures { step.IsAnswer (step.step_refusal self.now.entry.state reading) result }
     {
         match self.state {
             State::Gone => Err(Cause::Gone),
@@ -118,7 +168,7 @@ impl Session {
 
     /// Whether the session may vanish: refused as gone.
     pub fn check_vanish(&self) -> Result<(), Cause>
-        ensures { step.IsAnswer (step.vanish_refusal self.now.state) result }
+        ensures { step.IsAnswer (step.vanish_refusal self.now.entry.state) result }
     {
         match self.state {
             State::Gone => Err(Cause::Gone),
@@ -129,7 +179,7 @@ impl Session {
     /// Whether the transaction may write the key, where no read is under way: refused as gone, without a transaction,
     /// busy, or with 64 other keys, in this order.
     pub fn check_write(&self, key: KeyNo) -> Result<(), Cause>
-        ensures { step.IsAnswer (step.write_refusal self.now key) result }
+        ensures { step.IsAnswer (step.write_refusal self.now.entry key) result }
     {
         self.check_work(false)?;
         check_key(&self.keys, key)
@@ -137,23 +187,21 @@ impl Session {
 
     /// A begin was answered.
     pub fn begun(&mut self, start: Stamp, epoch: u64)
-        requires { step.CanBegin self.old }
-        ensures { self.new ≡ step.session_begun self.old start epoch }
+        requires { step.CanBegin self.old.entry }
+        ensures { self.new ≡ record self.old { entry = step.session_begun self.old.entry start epoch } }
     {
-        *self = Session {
-            state: State::Open,
-            start: Some(start),
-            epoch: Some(epoch),
-            keys: KeyList::empty(),
-            commit: None,
-        };
+        self.state = State::Open;
+        self.start = Some(start);
+        self.epoch = Some(epoch);
+        self.keys = KeyList::empty();
+        self.commit = None;
     }
 
     /// Takes the key into the write list, where `check_write` says yes. Refused as it says; the session is then as
     /// before.
     pub fn wrote(&mut self, key: KeyNo) -> Result<(), Cause>
-        ensures answer { step.IsAnswer (step.write_refusal self.old key) result }
-        ensures left { MatchResult result (λ _. self.new ≡ step.session_wrote self.old key) (λ _. self.new ≡ self.old) }
+        ensures answer { step.IsAnswer (step.write_refusal self.old.entry key) result }
+        ensures left { MatchResult result (λ _. self.new ≡ record self.old { entry = step.session_wrote self.old.entry key }) (λ _. self.new ≡ self.old) }
     {
         self.check_work(false)?;
         add_key(&mut self.keys, key)
@@ -161,8 +209,8 @@ impl Session {
 
     /// A begin was asked of a free session, or the commit of a transaction that has written.
     pub fn asked(&mut self)
-        requires { step.CanAsk self.old }
-        ensures { self.new ≡ step.session_asked self.old }
+        requires { step.CanAsk self.old.entry }
+        ensures { self.new ≡ record self.old { entry = step.session_asked self.old.entry } }
     {
         self.state = match self.state {
             State::Free => State::Asking,
@@ -172,8 +220,8 @@ impl Session {
 
     /// The transaction has ended without a commit. What it wrote is to be undone; without writes the session is free.
     pub fn aborted(&mut self)
-        requires { step.CanAbort self.old }
-        ensures { self.new ≡ step.session_aborted self.old }
+        requires { step.CanAbort self.old.entry }
+        ensures { self.new ≡ record self.old { entry = step.session_aborted self.old.entry } }
     {
         if self.keys.as_slice().is_empty() {
             self.free();
@@ -184,8 +232,8 @@ impl Session {
 
     /// The transaction has committed, and is to be finished.
     pub fn committed(&mut self, commit: Stamp)
-        requires { step.CanCommit self.old }
-        ensures { self.new ≡ step.session_committed self.old commit }
+        requires { step.CanCommit self.old.entry }
+        ensures { self.new ≡ record self.old { entry = step.session_committed self.old.entry commit } }
     {
         self.state = State::Completing { undo: false };
         self.commit = Some(commit);
@@ -193,35 +241,38 @@ impl Session {
 
     /// It is not known whether the commit was placed.
     pub fn opened(&mut self)
-        requires { step.CanOpen self.old }
-        ensures { self.new ≡ step.session_opened self.old }
+        requires { step.CanOpen self.old.entry }
+        ensures { self.new ≡ record self.old { entry = step.session_opened self.old.entry } }
     {
         self.state = State::OpenOutcome;
     }
 
     /// The begin was refused, the transaction has ended without writes, or its completion has ended.
     pub fn freed(&mut self)
-        requires { step.CanFree self.old }
-        ensures { self.new ≡ step.session_freed self.old }
+        requires { step.CanFree self.old.entry }
+        ensures { self.new ≡ record self.old { entry = step.session_freed self.old.entry } }
     {
         self.free();
     }
 
-    /// The session is gone for good.
+    /// The session is gone for good, and what it remembered goes with it.
     pub fn vanished(&mut self)
-        requires { step.CanVanish self.old }
-        ensures { self.new ≡ step.session_vanished self.old }
+        requires { step.CanVanish self.old.entry }
+        ensures { self.new ≡ record { entry = step.session_vanished self.old.entry; cache = cache_new self.old.cache.room } }
     {
         self.state = State::Gone;
+        if let Some(memory) = &mut self.memory {
+            memory.forget();
+        }
     }
 
     fn free(&mut self)
-        ensures { self.new ≡ step.session_freed self.old }
+        ensures { self.new ≡ record self.old { entry = step.session_freed self.old.entry } }
     {
-        *self = Session {
-            epoch: self.epoch,
-            ..Session::new()
-        };
+        self.state = State::Free;
+        self.start = None;
+        self.keys = KeyList::empty();
+        self.commit = None;
     }
 }
 

@@ -1,9 +1,9 @@
-ghost use Rattle.std.specs.Prelude.{◌≡◌, ◌≢◌, [], IfOk};
+ghost use Rattle.std.specs.Prelude.{◌≡◌, ◌≢◌, [], None, IfOk, OnOk};
 ghost use Rattle.client_parts.specs.declared.session.State.{State};
 
 use super::*;
 use history_book::Cause;
-use stamp_base::{KEY_LIMIT, KeyNo, Stamp};
+use stamp_base::{KEY_LIMIT, KeyNo, NoMemory, Stamp};
 use std::process::Abort;
 use std::test::Fail;
 
@@ -17,7 +17,7 @@ fn key(n: u64) -> Result<KeyNo, &'static str> {
 
 /// A session that begins at 1.
 fn opened() -> Result<Session, &'static str>
-    ensures { IfOk result (λ session. (session.state ≡ State.Open) × (session.keys ≡ [])) }
+    ensures { IfOk result (λ session. (session.entry.state ≡ State.Open) × (session.entry.keys ≡ [])) }
 {
     let start = stamp(1)?;
     let mut session = Session::new();
@@ -60,8 +60,8 @@ fn plain_path(rt: HostRuntime) -> Result<(), Fail> {
 
 /// Takes an open transaction with a write through its commit.
 fn commits(rt: &impl Abort, mut session: Session, commit: Stamp)
-    requires open { session.state ≡ State.Open }
-    requires wrote { session.keys ≢ [] }
+    requires open { session.entry.state ≡ State.Open }
+    requires wrote { session.entry.keys ≢ [] }
 {
     session.asked();
     session.opened();
@@ -84,4 +84,28 @@ fn refusals_of_order(rt: HostRuntime) -> Result<(), Fail> {
     session.vanished();
     assert_eq!(rt; session.check_vanish(), Err(Cause::Gone));
     Ok(())
+}
+
+#[test]
+fn decisions_come_and_go(rt: HostRuntime) -> Result<(), Fail> {
+    let mut session = Session::with_cache(rt.alloc(), 2)?;
+    let (one, two, three) = (stamp(1)?, stamp(3)?, stamp(5)?);
+    session.learnt(one, Known::Committed(stamp(2)?));
+    assert_eq!(rt; session.known(one), None);
+    session.keep_fresh()?;
+    keeps(&mut session, two)?;
+    assert_eq!(rt; session.known(one), Some(Known::Committed(stamp(2)?)));
+    keeps(&mut session, three)?;
+    assert_eq!(rt; session.known(two), None);
+    assert!(rt; session.known(one).is_some());
+    Ok(())
+}
+
+/// A transaction is dead, and is kept so.
+fn keeps(session: &mut Session, txn: Stamp) -> Result<(), NoMemory>
+    requires { session.old.cache.fresh ≡ None }
+    ensures { OnOk result (session.new.cache.fresh ≡ None) }
+{
+    session.learnt(txn, Known::Dead);
+    session.keep_fresh()
 }
