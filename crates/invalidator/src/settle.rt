@@ -1,9 +1,10 @@
 ghost use Rattle.std.specs.Prelude.{◌≡◌, true, false};
 ghost use Rattle.client_parts.specs.Asks.{Fits};
-ghost use Rattle.client_parts.specs.Resolve.{settle_open, settle_ask, settle_turn, settle_by, outcome_of};
+ghost use Rattle.client_parts.specs.Resolve.{Decides, settle_open, settle_ask, settle_turn, settle_by, outcome_of};
+ghost use Rattle.client_parts.specs.Cache.{learnt_of};
 ghost use Rattle.client_parts.specs.Sweep.{IsKeys};
 
-use client_parts::{Ask, Outcome, SettlePoint, Told};
+use client_parts::{Ask, Known, Outcome, SettlePoint, Told};
 use stamp_base::{KeyNo, Stamp, TxnId};
 use std::marker::Model;
 
@@ -82,6 +83,20 @@ impl Settle {
             SettlePoint::LastLook { .. } => match answer {
                 Told::Shadowed(commit) => by_shadow(commit),
                 _ => Some(Outcome::Dead),
+            },
+        }
+    }
+
+    /// What a decision at this point tells for good: a commit, and that the transaction is dead where its mark was placed or
+    /// found. Without a mark it may still commit.
+    pub fn learns(&self, outcome: &Outcome) -> Option<(TxnId, Known)>
+        ensures { result ≡ learnt_of self.now.txn self.now.point (Decides outcome.now) }
+    {
+        match outcome {
+            Outcome::Committed { commit, .. } => Some((self.txn, Known::Committed(*commit))),
+            Outcome::Dead => match self.point {
+                SettlePoint::LastLook { met: true } => Some((self.txn, Known::Dead)),
+                _ => None,
             },
         }
     }
