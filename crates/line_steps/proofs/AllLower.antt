@@ -5,7 +5,7 @@ use Rattle.port_io.specs.declared.weather.Fate.{Fate}
 use Rattle.history_book.specs.declared.item.Actor.TheVariants.{Clock, Node, Session, Janitor}
 use Rattle.history_book.specs.declared.item.Item.{Item}
 use Rattle.client_parts.specs.Sweep.{Sweeping}
-use Rattle.client_parts.specs.KeyRead.{ReadsEnd}
+use Rattle.client_parts.specs.RecalledReads.{RecalledReadsEnd}
 use Rattle.client_parts.specs.Resolve.{SettlesEnd}
 use Rattle.machine.specs.declared.event.Event.{Event}
 use Rattle.machine.specs.declared.event.Event.TheVariants as event
@@ -110,7 +110,7 @@ janitor_lowers w h line Reads fate e stands is = absurd (none-some e is)
 janitor_lowers w h line Over fate e stands is = absurd (none-some e is)
 
 -- ---- any line
-pub all_lower : ReadsEnd → SettlesEnd → EventsLowerWhatIsLeft
+pub all_lower : RecalledReadsEnd → SettlesEnd → EventsLowerWhatIsLeft
 all_lower reads settles w h clocks Clock line at e fate stands is = alone_lowers line at _ _ e is
 all_lower reads settles w h clocks (Node node) line at e fate stands is = alone_lowers line at _ _ e is
 all_lower reads settles w h clocks (Session s) line at e fate stands is = session_lowers (record { reads = reads; settles = settles }) clocks w h s line at fate e stands is

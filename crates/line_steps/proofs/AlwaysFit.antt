@@ -124,13 +124,13 @@ many_long : {X : Type 0} (n : ℕ) (x : X) → length (replicate n x) ≡ n
 many_long zero x = refl
 many_long (suc n) x = omega (arith, many_long n x)
 
-all_new : (n : ℕ) → AllFit (replicate n client_new)
+all_new : (room n : ℕ) → AllFit (replicate n (client_new room))
 unfolding AllFit
-all_new zero = tt
-all_new (suc n) = (tt, all_new n)
+all_new room zero = tt
+all_new room (suc n) = (tt, all_new room n)
 
 pub fit_at_first : (setup : SetupNumbers) → Fit (opening setup)
-fit_at_first setup = record { nodes = many_long setup.nodes None; clients = many_long 16 client_new; epochs = all_new 16 }
+fit_at_first setup = record { nodes = many_long setup.nodes None; clients = many_long 16 (client_new setup.cache); epochs = all_new setup.cache 16 }
 
 -- ---- what is in range is there
 pub found : {X : Type 0} (xs : List X) (p : ℕ) → p < length xs → (x : X) × (slice_get xs p ≡ Some x)

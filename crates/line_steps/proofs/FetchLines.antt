@@ -14,7 +14,9 @@ use Rattle.stamp_base.specs.declared.stores.Store.{Store}
 use Rattle.store_parts.specs.Rows.{fetched, front_of}
 use Rattle.client_parts.specs.declared.session.State.{State as SessionState}
 use Rattle.client_parts.specs.declared.session.State.TheVariants as phase
-use Rattle.client_parts.specs.KeyRead.{ReadTurn, Asks, Answers, read_over}
+use Rattle.client_parts.specs.KeyRead.{ReadTurn, Asks, Answers}
+use Rattle.client_parts.specs.Cache.{put_fresh}
+use Rattle.client_parts.specs.Recalled.{Remembering, recalled_over}
 use Rattle.client_parts.specs.SessionSteps.{work_refusal, has_key}
 use Rattle.machine.specs.declared.event.Event.TheVariants as event
 use Rattle.machine.specs.State.{Client, State}
@@ -30,7 +32,7 @@ use Rattle.line_steps.proofs.Fitting.{fit_at}
 use Rattle.line_steps.proofs.AlwaysFit.{Fit}
 use Rattle.line_steps.proofs.WorkItems.{HasNumber, starts}
 use Rattle.line_steps.proofs.Walks.{AllNot, LineItems}
-use Rattle.line_steps.proofs.ReadLines.{OfRead, over_read, ReadsKey, read_pays}
+use Rattle.line_steps.proofs.ReadLines.{OfRead, over_recalls, ReadsKey, read_pays}
 
 -- the items so far: the first has begun a read of the key, which is under way
 pub record ReadBegun (w : State) (s key : ℕ) (xs : List Item) : Type 0 where
@@ -76,10 +78,14 @@ turn_done w s key start cells was c (Answers a) at is_open same = inl (record {
   behind = read_pays s start key key a.found refl;
 })
 
+-- the read over the fetched cells
+abbrev fetch_recall : State → ℕ → ℕ → ℕ → Client → Remembering
+fetch_recall w key start epoch c = recalled_over (marks_every w.setup) key start epoch (front_of start (fetched w.rows key start)) (put_fresh c.cache)
+
 open_done : (w : State) (s key : ℕ) (fate : Fate) (c : Client) (start epoch : Option ℕ) → ClientAt w.clients s c → c.entry.state ≡ phase.Open → HasNumber phase.Open start → HasNumber phase.Open epoch → FetchDone s key (step_by (fetch_open w.setup s key fate c w.rows None start epoch) (λ (p : Client). with_client w s p))
 open_done w s key fate c None epoch at is_open has sees = absurd has
 open_done w s key fate c (Some start) None at is_open has sees = absurd sees
-open_done w s key Works c (Some start) (Some epoch) at is_open has sees = turn_done w s key start (length (fetched w.rows key start)) c (client_fetched w.setup c key) (read_over (marks_every w.setup) key start epoch (front_of start (fetched w.rows key start))) at is_open (over_read (marks_every w.setup) key start epoch (front_of start (fetched w.rows key start)))
+open_done w s key Works c (Some start) (Some epoch) at is_open has sees = turn_done w s key start (length (fetched w.rows key start)) c (record (client_fetched w.setup c key) { cache = (fetch_recall w key start epoch c).1 }) (fetch_recall w key start epoch c).0 at is_open (over_recalls (marks_every w.setup) key start epoch (front_of start (fetched w.rows key start)) (put_fresh c.cache))
 open_done w s key FailsUnchanged c (Some start) (Some epoch) at is_open has sees = inl (fault_line s key _)
 open_done w s key FailsApplied c (Some start) (Some epoch) at is_open has sees = inl (fault_line s key _)
 

@@ -8,7 +8,10 @@ use Rattle.history_book.specs.declared.cause.Cause.{Cause}
 use Rattle.history_book.specs.declared.item.Item.{Item}
 use Rattle.history_book.specs.declared.item.Item.TheVariants.{AskBegin, AskCommit}
 use Rattle.store_parts.specs.Rows.{Row, fetched, front_of}
-use Rattle.client_parts.specs.KeyRead.{ReadTurn, Asks, Answers, read_over, ReadsEnd}
+use Rattle.client_parts.specs.KeyRead.{Reading, ReadTurn, Asks, Answers, read_left}
+use Rattle.client_parts.specs.Cache.{put_fresh}
+use Rattle.client_parts.specs.Recalled.{Remembering, recalled_over}
+use Rattle.client_parts.specs.RecalledReads.{RecalledReadsEnd}
 use Rattle.client_parts.specs.SessionSteps.{begin_refusal, work_refusal}
 use Rattle.oracle_parts.specs.declared.instance.Place.{Place}
 use Rattle.oracle_parts.specs.declared.instance.Place.TheVariants as place
@@ -153,19 +156,21 @@ abort_lowers w s verb fate =
     halted_less step.state s verb Finishes (halt_of step.stop) (1 + of_client (slice_get w.clients s) client_ends) (omega (arith, most))
 
 -- ---- a fetch
-turn_most : (ends : ReadsEnd) (every : Bool) (c : Client) (rows : List Row) (key start epoch : ℕ) (turn : ReadTurn) → read_over every key start epoch (front_of start (fetched rows key start)) ≡ turn → client_reads (client_read c turn) ≤ 3 * cells_by rows key (Some start) + client_reads c
-turn_most ends every c rows key start epoch (Asks r) is = omega (arith, ends.0 every key start epoch (front_of start (fetched rows key start)) r is)
-turn_most ends every c rows key start epoch (Answers a) is = omega arith
+turn_most : (c d : Client) (most : ℕ) (turn : ReadTurn) → ((r : Reading) → turn ≡ Asks r → read_left r ≤ most) → client_reads (client_read c turn) ≤ most + client_reads d
+turn_most c d most (Asks r) few = omega (arith, few r refl)
+turn_most c d most (Answers a) few = omega arith
 
-fetched_most : (ends : ReadsEnd) (setup : SetupNumbers) (s key : ℕ) (fate : Fate) (c : Client) (rows : List Row) (why : Option Cause) (start epoch : Option ℕ) → client_reads (fetch_open setup s key fate c rows why start epoch).parts ≤ 3 * cells_by rows key start + client_reads c
+fetched_most : (ends : RecalledReadsEnd) (setup : SetupNumbers) (s key : ℕ) (fate : Fate) (c : Client) (rows : List Row) (why : Option Cause) (start epoch : Option ℕ) → client_reads (fetch_open setup s key fate c rows why start epoch).parts ≤ 3 * cells_by rows key start + client_reads c
 fetched_most ends setup s key fate c rows (Some why) start epoch = omega arith
 fetched_most ends setup s key fate c rows None None epoch = omega arith
 fetched_most ends setup s key fate c rows None (Some start) None = omega arith
-fetched_most ends setup s key Works c rows None (Some start) (Some epoch) = turn_most ends (marks_every setup) (client_fetched setup c key) rows key start epoch (read_over (marks_every setup) key start epoch (front_of start (fetched rows key start))) refl
+fetched_most ends setup s key Works c rows None (Some start) (Some epoch) =
+    let x : Remembering = recalled_over (marks_every setup) key start epoch (front_of start (fetched rows key start)) (put_fresh c.cache) in
+    turn_most (record (client_fetched setup c key) { cache = x.1 }) c (3 * cells_by rows key (Some start)) x.0 (ends.begins (marks_every setup) key start epoch (front_of start (fetched rows key start)) (put_fresh c.cache))
 fetched_most ends setup s key FailsUnchanged c rows None (Some start) (Some epoch) = omega arith
 fetched_most ends setup s key FailsApplied c rows None (Some start) (Some epoch) = omega arith
 
-pub fetch_lowers : (ends : ReadsEnd) (w : State) (s key : ℕ) (verb : Verb) (fate : Fate) → let step : Step = stepped w (event.Fetch s key) fate in session_left step.state s verb (unless_halted Reads (halt_of step.stop)) < 1 + of_client (slice_get w.clients s) (client_fetches w.rows key)
+pub fetch_lowers : (ends : RecalledReadsEnd) (w : State) (s key : ℕ) (verb : Verb) (fate : Fate) → let step : Step = stepped w (event.Fetch s key) fate in session_left step.state s verb (unless_halted Reads (halt_of step.stop)) < 1 + of_client (slice_get w.clients s) (client_fetches w.rows key)
 fetch_lowers ends w s key verb fate =
     let step : Step = stepped w (event.Fetch s key) fate in
     let most : of_client (slice_get step.state.clients s) client_reads ≤ of_client (slice_get w.clients s) (client_fetches w.rows key) = client_most w s (λ (c : Client). step_by (fetch_on w.setup s key fate c w.rows) (λ (p : Client). with_client w s p)) (λ (c : Client). (fetch_on w.setup s key fate c w.rows).parts) client_reads (client_fetches w.rows key) (λ c. refl) (λ c. fetched_most ends w.setup s key fate c w.rows (fetch_refused w.setup c key) c.entry.start c.entry.epoch) (slice_get w.clients s) refl in

@@ -18,7 +18,7 @@ use Rattle.client_parts.specs.declared.asks.Told.{Told}
 use Rattle.client_parts.specs.declared.asks.Told.TheVariants as told
 use Rattle.client_parts.specs.declared.resolve.Outcome.TheVariants as outcome
 use Rattle.client_parts.specs.Resolve.{SettleTurn, Goes, Decides, settle_ask, settle_turn}
-use Rattle.client_parts.specs.KeyRead.{ReadTurn, Asks, Answers, read_ask, read_told}
+use Rattle.client_parts.specs.KeyRead.{ReadTurn, Asks, Answers, read_ask}
 use Rattle.client_parts.specs.SessionSteps.{work_refusal, step_refusal}
 use Rattle.client_parts.specs.Sweep.{Sweeping, sweep_ask, sweep_told, is_undecided}
 use Rattle.oracle_parts.specs.Instance.{InstanceEntry}
@@ -36,6 +36,7 @@ use Rattle.machine.specs.Events.Heal.{offer_of, heal_at}
 use Rattle.machine.specs.Events.Abort.{abort_by}
 use Rattle.machine.specs.Events.SweepOpen.{sweep_open_on}
 use Rattle.machine.specs.Events.SweepStep.{undecided_items, sweep_met, sweep_lists, sweep_at, sweep_step_on}
+use Rattle.isolation_laws.proofs.Outcome.OutcomesOfWork.{answered_recall}
 use Rattle.line_steps.specs.Answers.{opener}
 use Rattle.line_steps.proofs.Plain.{AllPlain, plain_append, one_plain, no_plain, kept_plain, post_plain, client_plain, both_plain, accept_at, decide_at, put_at, answer_at, extend_plain}
 
@@ -81,7 +82,7 @@ settle_plain s (Some start) (Decides outcome.Dead) = one_plain _ refl
 
 work_plain : (s : ℕ) (fate : Fate) (c : Client) (rows : List Row) (pairs : Pairs) (work : UnderWay) → AllPlain (step_at s fate c rows pairs work).items
 work_plain s fate c rows pairs Nothing = no_plain
-work_plain s Works c rows pairs (Reads r) = plain_append (items_met (Session s) (read_ask r) (told_by (read_ask r) rows pairs) Works) _ (met_plain (Session s) (read_ask r) (told_by (read_ask r) rows pairs) Works) (read_plain s r.start r.key (read_told r (told_by (read_ask r) rows pairs)))
+work_plain s Works c rows pairs (Reads r) = plain_append (items_met (Session s) (read_ask r) (told_by (read_ask r) rows pairs) Works) _ (met_plain (Session s) (read_ask r) (told_by (read_ask r) rows pairs) Works) (read_plain s r.start r.key (answered_recall c.cache r (told_by (read_ask r) rows pairs)).0)
 work_plain s FailsUnchanged c rows pairs (Reads r) = met_plain (Session s) (read_ask r) (told_by (read_ask r) rows pairs) FailsUnchanged
 work_plain s FailsApplied c rows pairs (Reads r) = met_plain (Session s) (read_ask r) (told_by (read_ask r) rows pairs) FailsApplied
 work_plain s Works c rows pairs (Settles x) = plain_append (items_met (Session s) (settle_ask x) (told_by (settle_ask x) rows pairs) Works) _ (met_plain (Session s) (settle_ask x) (told_by (settle_ask x) rows pairs) Works) (settle_plain s c.entry.start (settle_turn x (told_by (settle_ask x) rows pairs)))

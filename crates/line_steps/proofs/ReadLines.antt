@@ -1,5 +1,5 @@
 -- For grant_laws too. A read that a line has begun ends with its value or with a fault: its fetch, and each of its steps.
-use Rattle.std.proofs.Common.{◌≡◌, ℕ, Bool, true, false, cond, nat_lt, ◌==◌, ◌||◌, is_some, List, [], ◌∷◌, ◌++◌, Option, None, ◌⊎◌, inl, refl}
+use Rattle.std.proofs.Common.{◌≡◌, ℕ, Bool, true, false, cond, nat_lt, ◌==◌, ◌||◌, is_some, List, [], ◌∷◌, ◌++◌, Option, None, ◌⊎◌, inl, refl, subst}
 use Rattle.history_book.specs.declared.item.Actor.TheVariants.{Session}
 use Rattle.history_book.specs.declared.item.Item.{Item}
 use Rattle.history_book.specs.declared.item.Item.TheVariants as item
@@ -7,7 +7,10 @@ use Rattle.store_parts.specs.declared.rows.Cell.{Cell}
 use Rattle.client_parts.specs.declared.asks.Told.{Told}
 use Rattle.client_parts.specs.declared.resolve.Outcome.TheVariants.{Committed, Dead}
 use Rattle.client_parts.specs.Resolve.{SettleTurn, Goes, Decides, settle_turn}
-use Rattle.client_parts.specs.KeyRead.{Reading, ReadTurn, Asks, Answers, found_cell, found_by, settling_of, after_passed, turn_at, read_over, read_by, read_told}
+use Rattle.client_parts.specs.KeyRead.{Reading, ReadTurn, Asks, Answers, found_cell, found_by, settling_of, after_passed, turn_at, read_over, read_by}
+use Rattle.client_parts.specs.Cache.{Cache}
+use Rattle.client_parts.specs.Recalled.{outcome_known, recalled_over, recalled_told}
+use Rattle.client_parts.proofs.RecalledLemmas.{AnyCache, Recalls, over_holds, told_holds}
 use Rattle.machine.specs.State.{Client, State}
 use Rattle.machine.specs.Machine.{Step}
 use Rattle.isolation_laws.specs.Words.{ClientAt}
@@ -29,7 +32,7 @@ turn_read : (every : Bool) (key start epoch : ℕ) (cells : List Cell) → OfRea
 turn_read every key start epoch [] = tt
 turn_read every key start epoch (c ∷ cs) = first_read every key start epoch c cs ((c.version == start) || is_some c.shadow)
 
-pub over_read : (every : Bool) (key start epoch : ℕ) (cells : List Cell) → OfRead key start (read_over every key start epoch cells)
+over_read : (every : Bool) (key start epoch : ℕ) (cells : List Cell) → OfRead key start (read_over every key start epoch cells)
 over_read every key start epoch cells = turn_read every key start epoch (after_passed start cells)
 
 decided_read : (r : Reading) (c : ℕ) (by_table below : Bool) → OfRead r.key r.start (cond below (Answers (found_by r.key r.cell c by_table)) (read_over r.every r.key r.start r.epoch r.older))
@@ -41,8 +44,20 @@ settled_read r (Goes p) = (refl, refl)
 settled_read r (Decides Dead) = over_read r.every r.key r.start r.epoch r.older
 settled_read r (Decides (Committed c by_table)) = decided_read r c by_table (nat_lt c r.start)
 
-pub told_read : (r : Reading) (told : Told) → OfRead r.key r.start (read_told r told)
-told_read r told = settled_read r (settle_turn (settling_of r) told)
+-- a recall keeps them too
+recalls_read : (key start : ℕ) → Recalls (OfRead key start) AnyCache
+recalls_read key start = record {
+  stays = λ cache txn any. tt;
+  goes = λ cache r k any is same.
+      let turn : ReadTurn = read_by r (Decides (outcome_known k)) in
+      subst (λ (n : ℕ). OfRead n start turn) same.0 (subst (λ (n : ℕ). OfRead r.key n turn) same.1 (settled_read r (Decides (outcome_known k))));
+}
+
+pub over_recalls : (every : Bool) (key start epoch : ℕ) (cells : List Cell) (cache : Cache) → OfRead key start (recalled_over every key start epoch cells cache).0
+over_recalls every key start epoch cells cache = (over_holds (OfRead key start) AnyCache (recalls_read key start) every key start epoch cells cache tt (over_read every key start epoch cells)).0
+
+pub told_recalls : (cache : Cache) (r : Reading) (told : Told) → OfRead r.key r.start (recalled_told cache r told).0
+told_recalls cache r told = (told_holds (OfRead r.key r.start) AnyCache (recalls_read r.key r.start) cache r told tt (settled_read r (settle_turn (settling_of r) told))).0
 
 -- ---- a read under way
 -- the session reads the key

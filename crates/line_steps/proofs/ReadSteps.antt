@@ -8,7 +8,9 @@ use Rattle.history_book.specs.declared.item.Actor.TheVariants.{Session}
 use Rattle.history_book.specs.declared.item.Item.TheVariants as item
 use Rattle.client_parts.specs.declared.asks.Told.{Told}
 use Rattle.client_parts.specs.declared.session.State.{State as SessionState}
-use Rattle.client_parts.specs.KeyRead.{ReadTurn, Asks, Answers, read_told, read_ask}
+use Rattle.client_parts.specs.KeyRead.{ReadTurn, Asks, Answers, read_ask}
+use Rattle.client_parts.specs.Cache.{Cache}
+use Rattle.client_parts.specs.Recalled.{Remembering}
 use Rattle.client_parts.specs.SessionSteps.{step_refusal}
 use Rattle.machine.specs.declared.event.Event.TheVariants as event
 use Rattle.machine.specs.State.{Reads, Client, State}
@@ -19,41 +21,43 @@ use Rattle.machine.specs.Events.Fetch.{found_of, client_read, read_items}
 use Rattle.machine.specs.Events.Step.{work_by, work_of, read_step}
 use Rattle.machine.specs.Readers.{open_doing, doing_by, doing_at, doing_of}
 use Rattle.isolation_laws.proofs.Lookups.{set_found}
+use Rattle.isolation_laws.proofs.Outcome.OutcomesOfWork.{answered_recall}
 use Rattle.line_steps.specs.Next.{read_next}
 use Rattle.line_steps.proofs.PlainEvents.{effect_plain, met_plain}
 use Rattle.line_steps.proofs.Plain.{plain_append, no_plain}
 use Rattle.line_steps.proofs.Working.{ReadWork}
 use Rattle.line_steps.proofs.Stepping.{stores_step, step_is}
 use Rattle.line_steps.proofs.Walks.{AllNot, plain_not, Paid}
-use Rattle.line_steps.proofs.ReadLines.{OfRead, told_read, ReadsKey, EndsOrReads, ends_with, read_pays}
+use Rattle.line_steps.proofs.ReadLines.{OfRead, told_recalls, ReadsKey, EndsOrReads, ends_with, read_pays}
 
 fault_pays : (s key : ℕ) (store : Store) → Paid (Session s) key (item.Fault (Session s) store ∷ [])
 unfolding Paid AllNot
 fault_pays s key store = inl (refl, tt)
 
 -- ---- the step, by what the read does next
-read_turns : (w : State) (s key : ℕ) (k : ReadsKey w s key) (told : Told) (turn : ReadTurn) → OfRead k.work.r.key k.work.r.start turn →
+read_turns : (w : State) (s key : ℕ) (k : ReadsKey w s key) (cache : Cache) (told : Told) (turn : ReadTurn) → OfRead k.work.r.key k.work.r.start turn →
     EndsOrReads s key (record {
-      state = record (with_client w s (client_read k.c turn)) { rows = rows_after (read_ask k.work.r) w.rows; pairs = pairs_after (read_ask k.work.r) w.pairs };
+      state = record (with_client w s (client_read (record k.c { cache = cache }) turn)) { rows = rows_after (read_ask k.work.r) w.rows; pairs = pairs_after (read_ask k.work.r) w.pairs };
       items = items_met (Session s) (read_ask k.work.r) told Works ++ read_items s k.work.r.start k.work.r.key turn;
       stop = None;
     })
-read_turns w s key k told (Asks next) same = inr (
+read_turns w s key k cache told (Asks next) same = inr (
   plain_not (Session s) _ (plain_append (items_met (Session s) (read_ask k.work.r) told Works) [] (met_plain (Session s) (read_ask k.work.r) told Works) no_plain),
   record {
-    c = client_read k.c (Asks next);
-    at = set_found w.clients s (client_read k.c (Asks next)) k.c k.at;
+    c = client_read (record k.c { cache = cache }) (Asks next);
+    at = set_found w.clients s (client_read (record k.c { cache = cache }) (Asks next)) k.c k.at;
     work = record { r = next; is_open = k.work.is_open; under_way = refl };
     key_is = same.0 ∙ k.key_is;
   },
   refl,
 )
-read_turns w s key k told (Answers a) same = inl (ends_with s key (items_met (Session s) (read_ask k.work.r) told Works) (item.Read s k.work.r.start k.work.r.key (found_of a.found)) (met_plain (Session s) (read_ask k.work.r) told Works) (read_pays s k.work.r.start key k.work.r.key a.found k.key_is))
+read_turns w s key k cache told (Answers a) same = inl (ends_with s key (items_met (Session s) (read_ask k.work.r) told Works) (item.Read s k.work.r.start k.work.r.key (found_of a.found)) (met_plain (Session s) (read_ask k.work.r) told Works) (read_pays s k.work.r.start key k.work.r.key a.found k.key_is))
 
 read_steps : (w : State) (s key : ℕ) (k : ReadsKey w s key) (fate : Fate) → let step : Step = stores_step w s (read_step s k.c k.work.r (met (Session s) (read_ask k.work.r) fate w.rows w.pairs)) in EndsOrReads s key step
 read_steps w s key k Works =
     let told : Told = told_by (read_ask k.work.r) w.rows w.pairs in
-    read_turns w s key k told (read_told k.work.r told) (told_read k.work.r told)
+    let x : Remembering = answered_recall k.c.cache k.work.r told in
+    read_turns w s key k x.1 told x.0 (told_recalls _ k.work.r told)
 read_steps w s key k FailsUnchanged = inl (fault_pays s key (store_of (read_ask k.work.r)))
 read_steps w s key k FailsApplied =
     let told : Told = told_by (read_ask k.work.r) w.rows w.pairs in

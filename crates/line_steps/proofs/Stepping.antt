@@ -14,7 +14,10 @@ use Rattle.client_parts.specs.declared.resolve.SettlePoint.TheVariants.{FirstLoo
 use Rattle.client_parts.specs.declared.session.State.{State as SessionState}
 use Rattle.client_parts.specs.declared.session.State.TheVariants as phase
 use Rattle.client_parts.specs.Resolve.{Settling, settle_ask, settle_left, SettleTurn, Goes, Decides, settle_turn, SettlesEnd}
-use Rattle.client_parts.specs.KeyRead.{Reading, ReadTurn, Asks, Answers, read_ask, read_told, read_left, ReadsEnd}
+use Rattle.client_parts.specs.KeyRead.{Reading, ReadTurn, Asks, Answers, read_ask, read_left}
+use Rattle.client_parts.specs.Cache.{Cache}
+use Rattle.client_parts.specs.Recalled.{Remembering}
+use Rattle.client_parts.specs.RecalledReads.{RecalledReadsEnd}
 use Rattle.client_parts.specs.SessionSteps.{SessionEntry, step_refusal, aborted_by}
 use Rattle.machine.specs.declared.event.Event.TheVariants as event
 use Rattle.machine.specs.State.{UnderWay, Nothing, Reads, Settles, Completes, Client, State}
@@ -22,9 +25,10 @@ use Rattle.machine.specs.Effect.{Effect}
 use Rattle.machine.specs.Clients.{is_reading, undo_of, finish_of, client_freed, client_committed}
 use Rattle.machine.specs.StoreSteps.{met, told_by}
 use Rattle.machine.specs.Machine.{Step, step_by, with_client, at_client, stepped}
-use Rattle.machine.specs.Events.Fetch.{client_read}
+use Rattle.machine.specs.Events.Fetch.{client_read, client_recalled}
 use Rattle.machine.specs.Events.Step.{StepParts, read_step, settle_step, client_settled, complete_step, after_asks, work_by, work_of, step_at, step_on, step_by as step_unless}
 use Rattle.script_data.specs.declared.line.Verb.{Verb}
+use Rattle.isolation_laws.proofs.Outcome.OutcomesOfWork.{answered_recall}
 use Rattle.isolation_laws.specs.Words.{ClientAt}
 use Rattle.line_steps.specs.declared.point.Point.{Point}
 use Rattle.line_steps.specs.declared.point.Point.TheVariants as point
@@ -35,7 +39,7 @@ use Rattle.line_steps.proofs.Working.{ReadWork, SettleWork, CompleteWork, HasWor
 
 -- what the lower crates say of the steps that reads and resolves take
 pub record StepsEnd : Type 0 where
-  pub reads : ReadsEnd
+  pub reads : RecalledReadsEnd
   pub settles : SettlesEnd
 
 -- the step as an effect on the client and the stores
@@ -66,13 +70,20 @@ read_work : (c : Client) (k : ReadWork c) → work_of c ≡ Reads k.r
 read_work c k = ap (λ (state : SessionState). work_by state c.entry c.under_way) k.is_open ∙ k.under_way
 
 -- the read that is left is shorter, whether it is counted as a read or as what is under way
-read_after : (ends : ReadsEnd) (c : Client) (k : ReadWork c) (told : Told) (turn : ReadTurn) → read_told k.r told ≡ turn → client_reads (client_read c turn) < read_left k.r
-read_after ends c k told (Asks next) is = ends.1 k.r next told is
-read_after ends c k told (Answers a) is = omega (arith, read_some k.r)
+abbrev Falls : Reading → ReadTurn → Type 0
+Falls r turn = (next : Reading) → turn ≡ Asks next → read_left next < read_left r
 
-read_steps : (ends : ReadsEnd) (c : Client) (k : ReadWork c) (told : Told) (turn : ReadTurn) → read_told k.r told ≡ turn → client_steps (client_read c turn) < read_left k.r
-read_steps ends c k told (Asks next) is = subst (λ (state : SessionState). steps_left (keys_of c) (work_by state c.entry (Reads next)) < read_left k.r) (sym k.is_open) (ends.1 k.r next told is)
-read_steps ends c k told (Answers a) is = subst (λ (state : SessionState). steps_left (keys_of c) (work_by state c.entry Nothing) < read_left k.r) (sym k.is_open) (omega (arith, read_some k.r))
+read_after : (c : Client) (k : ReadWork c) (turn : ReadTurn) → Falls k.r turn → client_reads (client_read c turn) < read_left k.r
+read_after c k (Asks next) falls = falls next refl
+read_after c k (Answers a) falls = omega (arith, read_some k.r)
+
+read_steps : (c : Client) (k : ReadWork c) (turn : ReadTurn) → Falls k.r turn → client_steps (client_read c turn) < read_left k.r
+read_steps c k (Asks next) falls = subst (λ (state : SessionState). steps_left (keys_of c) (work_by state c.entry (Reads next)) < read_left k.r) (sym k.is_open) (falls next refl)
+read_steps c k (Answers a) falls = subst (λ (state : SessionState). steps_left (keys_of c) (work_by state c.entry Nothing) < read_left k.r) (sym k.is_open) (omega (arith, read_some k.r))
+
+-- whatever the client remembers
+abbrev remembering : (c : Client) (k : ReadWork c) (cache : Cache) → ReadWork (record c { cache = cache })
+remembering c k cache = record { r = k.r; is_open = k.is_open; under_way = k.under_way }
 
 -- ---- the resolve of an own commit
 settle_some : (p : SettlePoint) → 1 ≤ settle_left p
@@ -115,10 +126,11 @@ complete_steps c k (asked ∷ asks) = subst (λ (state : SessionState). steps_le
 found_less : (clients : List Client) (s : ℕ) (old now : Client) (f : Client → ℕ) (bound : ℕ) → ClientAt clients s old → f now < bound → of_client (slice_get (slice_set clients s now) s) f < bound
 found_less clients s old now f bound at less = omega (arith, client_now clients s old now f at, less)
 
-read_lowers : (ends : ReadsEnd) (w : State) (s : ℕ) (verb : Verb) (fate : Fate) (c : Client) (k : ReadWork c) → ClientAt w.clients s c → LowersAt point.Steps (read_left k.r) s verb (stores_step w s (read_step s c k.r (met (Session s) (read_ask k.r) fate w.rows w.pairs)))
+read_lowers : (ends : RecalledReadsEnd) (w : State) (s : ℕ) (verb : Verb) (fate : Fate) (c : Client) (k : ReadWork c) → ClientAt w.clients s c → LowersAt point.Steps (read_left k.r) s verb (stores_step w s (read_step s c k.r (met (Session s) (read_ask k.r) fate w.rows w.pairs)))
 read_lowers ends w s verb Works c k at =
     let told : Told = told_by (read_ask k.r) w.rows w.pairs in
-    found_less w.clients s c (client_read c (read_told k.r told)) client_steps (read_left k.r) at (read_steps ends c k told (read_told k.r told) refl)
+    let x : Remembering = answered_recall c.cache k.r told in
+    found_less w.clients s c (client_recalled c x) client_steps (read_left k.r) at (read_steps (record c { cache = x.1 }) (remembering c k x.1) x.0 (λ next. ends.falls _ k.r next told))
 read_lowers ends w s verb FailsUnchanged c k at = omega (arith, read_some k.r)
 read_lowers ends w s verb FailsApplied c k at = omega (arith, read_some k.r)
 
@@ -146,10 +158,11 @@ steps_lower ends w s verb fate c at go (inr (inl k)) = lowers_by w s verb fate c
 steps_lower ends w s verb fate c at go (inr (inr k)) = lowers_by w s verb fate c (Completes (k.asked ∷ k.asks)) (length (k.asked ∷ k.asks)) at go (complete_work c k) refl (complete_lowers w s verb fate c k at)
 
 -- ---- of a read alone
-one_read : (ends : ReadsEnd) (w : State) (s : ℕ) (verb : Verb) (fate : Fate) (c : Client) (k : ReadWork c) → ClientAt w.clients s c → LowersAt point.Reads (read_left k.r) s verb (stores_step w s (read_step s c k.r (met (Session s) (read_ask k.r) fate w.rows w.pairs)))
+one_read : (ends : RecalledReadsEnd) (w : State) (s : ℕ) (verb : Verb) (fate : Fate) (c : Client) (k : ReadWork c) → ClientAt w.clients s c → LowersAt point.Reads (read_left k.r) s verb (stores_step w s (read_step s c k.r (met (Session s) (read_ask k.r) fate w.rows w.pairs)))
 one_read ends w s verb Works c k at =
     let told : Told = told_by (read_ask k.r) w.rows w.pairs in
-    found_less w.clients s c (client_read c (read_told k.r told)) client_reads (read_left k.r) at (read_after ends c k told (read_told k.r told) refl)
+    let x : Remembering = answered_recall c.cache k.r told in
+    found_less w.clients s c (client_recalled c x) client_reads (read_left k.r) at (read_after (record c { cache = x.1 }) (remembering c k x.1) x.0 (λ next. ends.falls _ k.r next told))
 one_read ends w s verb FailsUnchanged c k at = omega (arith, read_some k.r)
 one_read ends w s verb FailsApplied c k at = omega (arith, read_some k.r)
 

@@ -13,7 +13,9 @@ use Rattle.history_book.specs.declared.item.Item.TheVariants as item
 use Rattle.store_parts.specs.Rows.{Row, fetched, front_of}
 use Rattle.client_parts.specs.declared.session.State.{State as SessionState}
 use Rattle.client_parts.specs.declared.session.State.TheVariants as phase
-use Rattle.client_parts.specs.KeyRead.{ReadTurn, Asks, Answers, read_over}
+use Rattle.client_parts.specs.KeyRead.{ReadTurn, Asks, Answers}
+use Rattle.client_parts.specs.Cache.{put_fresh}
+use Rattle.client_parts.specs.Recalled.{recalled_over}
 use Rattle.client_parts.specs.SessionSteps.{has_transaction, work_refusal, has_key, key_refusal}
 use Rattle.oracle_parts.specs.declared.instance.Request.TheVariants.{Commit}
 use Rattle.oracle_parts.specs.Instance.{InstanceEntry}
@@ -103,7 +105,7 @@ turn_plain s start key (Answers a) = one_plain _ refl
 fetch_begins_open : (setup : SetupNumbers) (s key : ℕ) (fate : Fate) (c : Client) (rows : List Row) (start epoch : Option ℕ) → HasNumber phase.Open start → HasNumber phase.Open epoch → Begins (FetchAnswer s key) (fetch_open setup s key fate c rows None start epoch).items
 fetch_begins_open setup s key fate c rows None epoch has sees = absurd has
 fetch_begins_open setup s key fate c rows (Some start) None has sees = absurd sees
-fetch_begins_open setup s key Works c rows (Some start) (Some epoch) has sees = behind _ _ _ (inl (refl, refl)) (turn_plain s start key (read_over (marks_every setup) key start epoch (front_of start (fetched rows key start))))
+fetch_begins_open setup s key Works c rows (Some start) (Some epoch) has sees = behind _ _ _ (inl (refl, refl)) (turn_plain s start key (recalled_over (marks_every setup) key start epoch (front_of start (fetched rows key start)) (put_fresh c.cache)).0)
 fetch_begins_open setup s key FailsUnchanged c rows (Some start) (Some epoch) has sees = alone _ _ (inr refl)
 fetch_begins_open setup s key FailsApplied c rows (Some start) (Some epoch) has sees = alone _ _ (inr refl)
 

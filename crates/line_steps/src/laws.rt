@@ -1,14 +1,14 @@
 // Every run of a line ends, and what is carried out keeps all facts.
 ghost use Rattle.line_steps.specs.Laws.{EventsLowerWhatIsLeft, RunsEnd, LinesKeepFacts, ScriptsAreReached, LinesAreAnswered};
 
-use client_parts::{reads_end, settles_end};
+use client_parts::{recalled_reads_end, settles_end};
 
 /// Each event that the run of a line makes leaves fewer to make, in every state that is reached, whatever becomes of its store
 /// call. So every run ends.
 pub fn events_lower_what_is_left()
     ensures { EventsLowerWhatIsLeft }
 {
-    reads_end();
+    recalled_reads_end();
     settles_end();
 }
 
