@@ -1,12 +1,11 @@
 -- A turn of the code as the definitions see it.
 use Rattle.std.specs.Prelude.{◌≡◌, ◌<◌, false, List, [], ◌∷◌, Option, None, Some, length, drop}
-use Rattle.client_parts.specs.declared.asks.Told.{Told}
 use Rattle.store_parts.specs.declared.rows.Cell.{Cell}
 use Rattle.client_parts.specs.declared.resolve.SettlePoint.{SettlePoint}
 use Rattle.client_parts.specs.declared.resolve.SettlePoint.TheVariants.{Table}
 use Rattle.client_parts.specs.declared.resolve.Outcome.{Outcome}
 use Rattle.client_parts.specs.Resolve.{Settling, Decides}
-use Rattle.client_parts.specs.KeyRead.{Reading, ReadTurn, Asks, Answers, may_mark, found_none, read_by, read_told}
+use Rattle.client_parts.specs.KeyRead.{Reading, ReadTurn, Asks, Answers, may_mark, found_none, read_by}
 use Rattle.reader_resolve.specs.declared.turn.Reader.{Reader}
 use Rattle.reader_resolve.specs.declared.turn.Turn.{Turn}
 use Rattle.reader_resolve.specs.declared.turn.Turn.TheVariants.{Resolves as TurnResolves, Answers as TurnAnswers}
@@ -39,12 +38,7 @@ abbrev pub IsPlaced : Reader → List Cell → Turn → Type 0
 IsPlaced r cells (TurnResolves passed settle) = (passed < length cells) × Resolves r (drop passed cells) settle
 IsPlaced r cells (TurnAnswers answer) = Unit {0}
 
--- what an answer makes of the read that resolves the first of these cells
-abbrev pub told_of : Reader → List Cell → Settling → Told → ReadTurn
-told_of r [] s told = Answers found_none
-told_of r (c ∷ cs) s told = read_told (resolving r c cs s.point) told
-
--- what a decision makes of it, at whichever point it came
+-- what a decision makes of the read that resolves the first of these cells, at whichever point it came
 abbrev pub decided_of : Reader → List Cell → Outcome → ReadTurn
 decided_of r [] outcome = Answers found_none
 decided_of r (c ∷ cs) outcome = read_by (resolving r c cs Table) (Decides outcome)

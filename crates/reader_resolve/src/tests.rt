@@ -1,9 +1,9 @@
-ghost use Rattle.std.specs.Prelude.{IfOk};
+ghost use Rattle.std.specs.Prelude.{◌≡◌, IfOk};
 ghost use Rattle.client_parts.specs.Asks.{Fits};
-ghost use Rattle.client_parts.specs.KeyRead.{AreFetched};
+ghost use Rattle.client_parts.specs.KeyRead.{AreFetched, is_recall};
 
 use super::*;
-use client_parts::{Ask, Told};
+use client_parts::{Ask, Known, Told};
 use stamp_base::{KeyNo, Stamp, Value};
 use std::alloc::Global;
 use std::test::Fail;
@@ -63,6 +63,17 @@ fn tell(run: &mut ReadRun, ask: Ask, told: Told) -> Result<Next, &'static str>
     Ok(run.step(answer))
 }
 
+/// Recalls, where a recall is next.
+fn recall(run: &mut ReadRun, next: Next, known: Known) -> Result<Next, &'static str>
+    requires { run.old.recalls ≡ is_recall next }
+    ensures { IfOk result (λ then. run.new.recalls ≡ is_recall then) }
+{
+    match next {
+        Next::Recall(_) => Ok(run.recalled(Some(known))),
+        _ => Err("no recall"),
+    }
+}
+
 #[test]
 fn late_put(rt: HostRuntime) -> Result<(), Fail> {
     let (k0, writer, start) = (key(0)?, stamp(1)?, stamp(101)?);
@@ -71,6 +82,7 @@ fn late_put(rt: HostRuntime) -> Result<(), Fail> {
     tell(&mut run, Ask::Get(writer), Told::Absent)?;
     tell(&mut run, Ask::Mark(writer), Told::Marked)?;
     let last = tell(&mut run, Ask::Look(k0, writer), Told::Bare)?;
+    assert_eq!(rt; run.learnt(), Some((writer, Known::Dead)));
     let none = Answer {
         found: None,
         heal: None,
@@ -84,12 +96,29 @@ fn put_before_read(rt: HostRuntime) -> Result<(), Fail> {
     let (k0, writer, start, commit) = (key(0)?, stamp(1)?, stamp(101)?, stamp(2)?);
     let cells = one(rt.alloc(), start, bare(1, b"v")?)?;
     let (mut run, first) = ReadRun::start(k0, start, 100, cells);
-    assert_eq!(rt; first, Next::Ask(Ask::Get(writer)));
+    assert_eq!(rt; first, Next::Recall(writer));
     assert_eq!(rt; run.key(), k0);
     let last = tell(&mut run, Ask::Get(writer), Told::Committed(commit))?;
     let answer = Answer {
         found: Some((writer, value(b"v")?)),
         heal: Some((k0, writer, commit)),
+    };
+    assert_eq!(rt; last, Next::Done(answer));
+    Ok(())
+}
+
+#[test]
+fn recalled_twice(rt: HostRuntime) -> Result<(), Fail> {
+    let (k0, older, newer, start) = (key(0)?, stamp(1)?, stamp(3)?, stamp(101)?);
+    let cells = two(rt.alloc(), start, bare(3, b"w")?, bare(1, b"v")?)?;
+    let (mut run, first) = ReadRun::start(k0, start, 100, cells);
+    assert_eq!(rt; first, Next::Recall(newer));
+    let next = recall(&mut run, first, Known::Dead)?;
+    assert_eq!(rt; next, Next::Recall(older));
+    let last = recall(&mut run, next, Known::Committed(stamp(2)?))?;
+    let answer = Answer {
+        found: Some((older, value(b"v")?)),
+        heal: None,
     };
     assert_eq!(rt; last, Next::Done(answer));
     Ok(())

@@ -1,9 +1,8 @@
 ghost use Rattle.std.specs.Prelude.{◌≡◌, ◌<◌, ◌≤◌, false, drop, length};
-ghost use Rattle.client_parts.specs.Asks.{Fits};
-ghost use Rattle.client_parts.specs.Resolve.{settle_ask};
 ghost use Rattle.client_parts.specs.KeyRead.{is_passed, after_passed, read_over, found_cell, found_by};
+ghost use Rattle.client_parts.specs.Recalled.{outcome_known};
 
-use client_parts::{Answer, Outcome, Told};
+use client_parts::{Answer, Known, Outcome};
 use invalidator::Settle;
 use stamp_base::{KeyNo, Stamp};
 use store_parts::Cell;
@@ -25,7 +24,7 @@ pub enum Turn {
 }
 
 impl Reader {
-    ghost use Rattle.reader_resolve.specs.Turns.{turn_of, IsPlaced, Resolves, told_of, decided_of};
+    ghost use Rattle.reader_resolve.specs.Turns.{turn_of, IsPlaced, decided_of};
 
     /// The read of the cells from a place on.
     pub fn turn_from(&self, cells: &[Cell], from: usize) -> Turn
@@ -51,25 +50,10 @@ impl Reader {
         }
     }
 
-    /// The read after an answer, where the cell at a place is resolved.
-    pub fn turn_told(&self, cells: &[Cell], at: usize, settle: Settle, answer: Told) -> Turn
-        requires within { at < length cells.now }
-        requires resolves { Resolves self.now (drop at cells.now) settle }
-        requires fits { Fits (settle_ask settle) answer }
-        ensures turn { turn_of self.now cells.now result ≡ told_of self.now (drop at cells.now) settle answer }
-        ensures placed { IsPlaced self.now cells.now result }
-    {
-        let mut settle = settle;
-        match settle.told(answer) {
-            None => Turn::Resolves { passed: at, settle },
-            Some(outcome) => self.turn_by(cells, at, outcome),
-        }
-    }
-
     /// The read where the cell at a place was decided: it answers by a commit below the start, and is passed over
     /// otherwise.
     #[tactic(auto, using(crate::proofs::TurnLemmas::passed_on))]
-    fn turn_by(&self, cells: &[Cell], at: usize, outcome: Outcome) -> Turn
+    pub fn turn_by(&self, cells: &[Cell], at: usize, outcome: Outcome) -> Turn
         requires { at < length cells.now }
         ensures turn { turn_of self.now cells.now result ≡ decided_of self.now (drop at cells.now) outcome }
         ensures placed { IsPlaced self.now cells.now result }
@@ -99,6 +83,19 @@ impl Reader {
             found: Some((cell.version, cell.value)),
             heal,
         }
+    }
+}
+
+/// What is kept of a transaction, as an outcome that no table told.
+pub fn outcome_of(known: Known) -> Outcome
+    ensures { result ≡ outcome_known known }
+{
+    match known {
+        Known::Committed(commit) => Outcome::Committed {
+            commit,
+            by_table: false,
+        },
+        Known::Dead => Outcome::Dead,
     }
 }
 
