@@ -18,7 +18,9 @@ use Rattle.store_parts.specs.declared.rows.Cell.{Cell}
 use Rattle.store_parts.specs.Rows.{Row, fetched, front_of}
 use Rattle.client_parts.specs.declared.session.State.{State as SessionState}
 use Rattle.client_parts.specs.declared.session.State.TheVariants as phase
-use Rattle.client_parts.specs.KeyRead.{ReadTurn, Asks, Answers, read_over}
+use Rattle.client_parts.specs.KeyRead.{ReadTurn, Asks, Answers}
+use Rattle.client_parts.specs.Cache.{put_fresh}
+use Rattle.client_parts.specs.Recalled.{recalled_over}
 use Rattle.client_parts.specs.SessionSteps.{begin_refusal, work_refusal, vanish_refusal, key_refusal, has_key}
 use Rattle.oracle_parts.specs.declared.instance.Held.{Held}
 use Rattle.oracle_parts.specs.declared.instance.Request.{Request}
@@ -170,7 +172,9 @@ read_turn_read clocks session start key (Asks r) = none_read clocks
 read_turn_read clocks session start key (Answers a) = one_read clocks _ tt
 
 fetch_fated : (clocks : Clocks) (setup : SetupNumbers) (session start epoch key : ℕ) (fate : Fate) (c : Client) (cells : List Cell) → Made clocks (Some Cells) fate (fetch_by setup session start epoch key fate c cells).items
-fetch_fated clocks setup session start epoch key Works c cells = inl (All-cons (IsRead clocks) _ (read_items session start key (read_over (marks_every setup) key start epoch (front_of start cells))) tt (read_turn_read clocks session start key (read_over (marks_every setup) key start epoch (front_of start cells))))
+fetch_fated clocks setup session start epoch key Works c cells =
+    let turn : ReadTurn = (recalled_over (marks_every setup) key start epoch (front_of start cells) (put_fresh c.cache)).0 in
+    inl (All-cons (IsRead clocks) _ (read_items session start key turn) tt (read_turn_read clocks session start key turn))
 fetch_fated clocks setup session start epoch key FailsUnchanged c cells = made_fault clocks Cells FailsUnchanged [] (Session session) unchanged_fails (none_read clocks)
 fetch_fated clocks setup session start epoch key FailsApplied c cells = made_fault clocks Cells FailsApplied [] (Session session) applied_fails (none_read clocks)
 
