@@ -25,6 +25,7 @@ use Rattle.machine.specs.Machine.{step_by as machine_step_by}
 use Rattle.machine.specs.StoreSteps.{Met, mark_kept, told_by, met}
 use Rattle.machine.specs.Events.Abort.{abort_by, abort_on}
 use Rattle.machine.specs.Events.Heal.{heal_by, heal_at, heal_on, offer_of}
+use Rattle.machine.specs.Events.Fetch.{client_put_fresh}
 use Rattle.machine.specs.Events.Step.{work_by, work_of, read_by, settle_by, complete_by, step_by, step_at, step_on}
 use Rattle.machine.specs.Events.SweepStep.{sweep_by, sweep_lists, sweep_at, sweep_step_on}
 use Rattle.isolation_laws.specs.Sound.{Stands}
@@ -79,7 +80,7 @@ by_work : (w : State) (s : ℕ) (fate : Fate) (c : Client) (work : UnderWay) →
 by_work w s fate c work at go is some = subst (λ (step : Step). Appends step.items) (sym (step_is w s fate c work at go is)) some
 
 work_appends : (w : State) (s : ℕ) (fate : Fate) (c : Client) → ClientAt w.clients s c → step_refusal c.entry.state (is_reading c) ≡ None → HasWork c → Appends (stepped w (event.Step s) fate).items
-work_appends w s fate c at go (inl k) = by_work w s fate c (Reads k.r) at go (read_work c k) (read_appends s c k.r (met (Session s) (read_ask k.r) fate w.rows w.pairs) _ (met_appends (Session s) (read_ask k.r) fate w.rows w.pairs))
+work_appends w s fate c at go (inl k) = by_work w s fate c (Reads k.r) at go (read_work c k) (read_appends s (client_put_fresh c) k.r (met (Session s) (read_ask k.r) fate w.rows w.pairs) _ (met_appends (Session s) (read_ask k.r) fate w.rows w.pairs))
 work_appends w s fate c at go (inr (inl k)) = by_work w s fate c (Settles k.x) at go k.work (settle_appends s c k.x (met (Session s) (settle_ask k.x) fate w.rows w.pairs) _ (met_appends (Session s) (settle_ask k.x) fate w.rows w.pairs))
 work_appends w s fate c at go (inr (inr k)) = by_work w s fate c (Completes (k.asked ∷ k.asks)) at go (complete_work c k) (complete_appends c k.asked k.asks (met (Session s) k.asked fate w.rows w.pairs) _ (met_appends (Session s) k.asked fate w.rows w.pairs))
 
