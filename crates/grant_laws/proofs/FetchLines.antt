@@ -15,7 +15,10 @@ use Rattle.client_parts.specs.declared.key_read.Answer.{Answer}
 use Rattle.client_parts.specs.declared.session.State.{State as SessionState}
 use Rattle.client_parts.specs.declared.session.State.TheVariants as phase
 use Rattle.client_parts.specs.SessionSteps.{work_refusal}
-use Rattle.client_parts.specs.KeyRead.{Reading, ReadTurn, Asks, Answers, read_over, read_left, ReadsEnd}
+use Rattle.client_parts.specs.KeyRead.{Reading, ReadTurn, Asks, Answers, read_left}
+use Rattle.client_parts.specs.Cache.{Cache, put_fresh}
+use Rattle.client_parts.specs.Recalled.{Remembering, recalled_over}
+use Rattle.client_parts.specs.RecalledReads.{RecalledReadsEnd}
 use Rattle.machine.specs.State.{Reads as UnderRead, Client, State}
 use Rattle.machine.specs.Clients.{is_reading}
 use Rattle.machine.specs.Effect.{Effect}
@@ -34,7 +37,7 @@ use Rattle.line_steps.specs.declared.point.Point.TheVariants.{Opens, Reads}
 use Rattle.line_steps.specs.Halts.{halt_of, follows}
 use Rattle.line_steps.specs.Laws.{EventsLowerWhatIsLeft}
 use Rattle.line_steps.specs.Runs.{Calls, Played, one_more, calls_after, fate_by, fate_of, step_of, played, run_after, left_in, opened}
-use Rattle.line_steps.proofs.ReadLines.{OfRead, over_read}
+use Rattle.line_steps.proofs.ReadLines.{OfRead, over_recalls}
 use Rattle.grant_laws.specs.Granted.{line_of, next_fate}
 use Rattle.grant_laws.proofs.LongerRuns.{in_one, in_last, appended_before, Leads, leads_on, leads_one, leads_to, line_appends, run_at}
 use Rattle.grant_laws.proofs.ReadLines.{IsReading, HasAnswer, read_answers}
@@ -80,27 +83,27 @@ fetch_asked setup c key start epoch may =
     ∙ ap (λ (why : Option Cause). open_asks why c.entry.start) may.is_free
     ∙ ap (λ (at : Option ℕ). open_asks None at) may.start_is
 
--- the turn that the read begins with
-abbrev pub first_turn : Played → ℕ → ℕ → ℕ → ReadTurn
-first_turn p key start epoch = read_over (marks_every p.state.setup) key start epoch (front_of start (fetched p.state.rows key start))
+-- the turn that the read begins with, and what the session remembers then
+abbrev pub first_recall : Played → Client → ℕ → ℕ → ℕ → Remembering
+first_recall p c key start epoch = recalled_over (marks_every p.state.setup) key start epoch (front_of start (fetched p.state.rows key start)) (put_fresh c.cache)
 
-abbrev pub fetch_turn : ℕ → Played → Client → ℕ → ℕ → ReadTurn → Step
-fetch_turn s p c key start turn = step_of_effect (fetch_worked s start key (client_fetched p.state.setup c key) (fetched p.state.rows key start) turn) (λ (q : Client). with_client p.state s q)
+abbrev pub fetch_turn : ℕ → Played → Client → ℕ → ℕ → Remembering → Step
+fetch_turn s p c key start x = step_of_effect (fetch_worked s start key (client_fetched p.state.setup c key) (fetched p.state.rows key start) x) (λ (q : Client). with_client p.state s q)
 
-fetch_effect : (setup : SetupNumbers) (s key start epoch : ℕ) (fate : Fate) (c : Client) (rows : List Row) → MayFetch setup c key start epoch → fate ≡ Works → fetch_on setup s key fate c rows ≡ fetch_worked s start key (client_fetched setup c key) (fetched rows key start) (read_over (marks_every setup) key start epoch (front_of start (fetched rows key start)))
+fetch_effect : (setup : SetupNumbers) (s key start epoch : ℕ) (fate : Fate) (c : Client) (rows : List Row) → MayFetch setup c key start epoch → fate ≡ Works → fetch_on setup s key fate c rows ≡ fetch_worked s start key (client_fetched setup c key) (fetched rows key start) (recalled_over (marks_every setup) key start epoch (front_of start (fetched rows key start)) (put_fresh c.cache))
 fetch_effect setup s key start epoch fate c rows may works =
     ap (λ (why : Option Cause). fetch_open setup s key fate c rows why c.entry.start c.entry.epoch) may.is_free
     ∙ ap (λ (at : Option ℕ). fetch_open setup s key fate c rows None at c.entry.epoch) may.start_is
     ∙ ap (λ (at : Option ℕ). fetch_open setup s key fate c rows None (Some start) at) may.epoch_is
     ∙ ap (λ (f : Fate). fetch_by setup s start epoch key f c (fetched rows key start)) works
 
-pub record FetchesSo (script : ScriptData) (s key start : ℕ) (p : Played) (c : Client) (turn : ReadTurn) : Type 0 where
+pub record FetchesSo (script : ScriptData) (s key start : ℕ) (p : Played) (c : Client) (x : Remembering) : Type 0 where
   pub session_is : ClientAt p.state.clients s c
   pub in_work : c.entry.state ≡ phase.Open
-  pub is : step_of script p (event.Fetch s key) ≡ fetch_turn s p c key start turn
+  pub is : step_of script p (event.Fetch s key) ≡ fetch_turn s p c key start x
   pub calls : (played script p (event.Fetch s key)).calls ≡ one_more p.calls Cells
 
-pub fetches_so : (script : ScriptData) (s key start epoch : ℕ) (p : Played) (c : Client) → ClientAt p.state.clients s c → c.entry.state ≡ phase.Open → MayFetch p.state.setup c key start epoch → next_fate script p Cells ≡ Works → FetchesSo script s key start p c (first_turn p key start epoch)
+pub fetches_so : (script : ScriptData) (s key start epoch : ℕ) (p : Played) (c : Client) → ClientAt p.state.clients s c → c.entry.state ≡ phase.Open → MayFetch p.state.setup c key start epoch → next_fate script p Cells ≡ Works → FetchesSo script s key start p c (first_recall p c key start epoch)
 fetches_so script s key start epoch p c at in_work may works =
     let w : State = p.state in
     let e : Event = event.Fetch s key in
@@ -113,8 +116,8 @@ fetches_so script s key start epoch p c at in_work may works =
       calls = ap (λ (store : Option Store). calls_after p.calls store) asked;
     }
 
-answers_at_once : (script : ScriptData) (number s key start many : ℕ) (p : Played) (c : Client) (a : Answer) → FetchesSo script s key start p c (Answers a) → HasAnswer script (line_of number (Session s) (verb.Read key)) s key start (many + 1) (opened p)
-answers_at_once script number s key start many p c a so =
+answers_at_once : (script : ScriptData) (number s key start many : ℕ) (p : Played) (c : Client) (a : Answer) (cache : Cache) → FetchesSo script s key start p c (Answers a, cache) → HasAnswer script (line_of number (Session s) (verb.Read key)) s key start (many + 1) (opened p)
+answers_at_once script number s key start many p c a cache so =
     let line : Line = line_of number (Session s) (verb.Read key) in
     let fetch : Item = item.Step (Session s) (store_step.Fetch key (length (fetched p.state.rows key start))) in
     let x : Item = item.Read s start key (found_of a.found) in
@@ -127,13 +130,13 @@ answers_at_once script number s key start many p c a so =
       appends = record { added = fetch ∷ x ∷ []; is = ap (λ (step : Step). p.items ++ step.items) so.is; has = in_last x (fetch ∷ []) (x ∷ []) (in_one x) };
     }
 
-answers_later : ReadsEnd → (script : ScriptData) (number s key start many : ℕ) (p : Played) (c : Client) (r : Reading) → r.key ≡ key → r.start ≡ start → read_left r ≤ many → CallsWork script (many + 1) p.calls → FetchesSo script s key start p c (Asks r) → HasAnswer script (line_of number (Session s) (verb.Read key)) s key start (many + 1) (opened p)
-answers_later ends script number s key start many p c r key_is start_is few works so =
+answers_later : RecalledReadsEnd → (script : ScriptData) (number s key start many : ℕ) (p : Played) (c : Client) (r : Reading) (cache : Cache) → r.key ≡ key → r.start ≡ start → read_left r ≤ many → CallsWork script (many + 1) p.calls → FetchesSo script s key start p c (Asks r, cache) → HasAnswer script (line_of number (Session s) (verb.Read key)) s key start (many + 1) (opened p)
+answers_later ends script number s key start many p c r cache key_is start_is few works so =
     let v : Verb = verb.Read key in
     let line : Line = line_of number (Session s) v in
     let e : Event = event.Fetch s key in
     let q : Played = played script p e in
-    let now : Client = record (client_fetched p.state.setup c key) { under_way = UnderRead r; heal = None } in
+    let now : Client = record (client_fetched p.state.setup c key) { under_way = UnderRead r; heal = None; cache = cache } in
     let there : IsReading s key start q r = record {
       client = now;
       session_is = subst (λ (step : Step). ClientAt step.state.clients s now) (sym so.is) (set_found p.state.clients s now c so.session_is);
@@ -154,11 +157,9 @@ answers_later ends script number s key start many p c r key_is start_is few work
       appends = appended_before p.items q.items on.next.played.items (item.Read s start key on.answer) (record { added = (step_of script p e).items; is = refl }) on.appends;
     }
 
-by_first : ReadsEnd → (script : ScriptData) (number s key start epoch many : ℕ) (p : Played) (c : Client) (turn : ReadTurn) → first_turn p key start epoch ≡ turn → many ≡ 3 * length (front_of start (fetched p.state.rows key start)) → CallsWork script (many + 1) p.calls → FetchesSo script s key start p c turn → HasAnswer script (line_of number (Session s) (verb.Read key)) s key start (many + 1) (opened p)
-by_first ends script number s key start epoch many p c (Answers a) is all works so = answers_at_once script number s key start many p c a so
-by_first ends script number s key start epoch many p c (Asks r) is all works so =
-    let cells : List Cell = front_of start (fetched p.state.rows key start) in
-    answers_later ends script number s key start many p c r (subst (λ (turn : ReadTurn). OfRead key start turn) is (over_read (marks_every p.state.setup) key start epoch cells)).0 (subst (λ (turn : ReadTurn). OfRead key start turn) is (over_read (marks_every p.state.setup) key start epoch cells)).1 (omega (arith, all, ends.0 (marks_every p.state.setup) key start epoch cells r is)) works so
+by_first : RecalledReadsEnd → (script : ScriptData) (number s key start many : ℕ) (p : Played) (c : Client) (turn : ReadTurn) (cache : Cache) → OfRead key start turn → ((r : Reading) → turn ≡ Asks r → read_left r ≤ many) → CallsWork script (many + 1) p.calls → FetchesSo script s key start p c (turn, cache) → HasAnswer script (line_of number (Session s) (verb.Read key)) s key start (many + 1) (opened p)
+by_first ends script number s key start many p c (Answers a) cache same few works so = answers_at_once script number s key start many p c a cache so
+by_first ends script number s key start many p c (Asks r) cache same few works so = answers_later ends script number s key start many p c r cache same.0 same.1 (few r refl) works so
 
 -- ---- the line
 -- the run of the line has room for all steps
@@ -168,7 +169,7 @@ room_left number s key start p c at begun =
     let cells : cells_by p.state.rows key c.entry.start ≡ length (front_of start (fetched p.state.rows key start)) = ap (λ (from : Option ℕ). cells_by p.state.rows key from) begun in
     omega (arith, is, cells)
 
-pub reads_are_granted : EventsLowerWhatIsLeft → ReadsEnd → ReadsAreGranted
+pub reads_are_granted : EventsLowerWhatIsLeft → RecalledReadsEnd → ReadsAreGranted
 reads_are_granted lowers ends script p number s key before can =
     let line : Line = line_of number (Session s) (verb.Read key) in
     let c : Client = can.work.client in
@@ -177,7 +178,9 @@ reads_are_granted lowers ends script p number s key before can =
     let known : Known script p = known_before lowers script line p before in
     let epoch : (e : ℕ) × (c.entry.epoch ≡ Some e) = has_epoch p s c known.fit can.work.session_is can.work.in_work in
     let works : CallsWork script (many + 1) p.calls = λ store n from less. can.reading store n from (omega (arith, less)) in
-    let so : FetchesSo script s key start p c (first_turn p key start epoch.0) = fetches_so script s key start epoch.0 p c can.work.session_is can.work.in_work (may_fetch script p s key epoch.0 known.reached.setup can.work can.room epoch.1) (works_now script many p.calls Cells tt works) in
-    let all : HasAnswer script line s key start (many + 1) (opened p) = by_first ends script number s key start epoch.0 many p c (first_turn p key start epoch.0) refl refl works so in
-    let x : Item = item.Read s start key all.answer in
-    (all.answer, granted script line p x before (line_appends script line p all.steps all.next x (omega (arith, all.few, room_left number s key start p c can.work.session_is can.work.begun)) all.leads all.appends))
+    let cells : List Cell = front_of start (fetched p.state.rows key start) in
+    let x : Remembering = first_recall p c key start epoch.0 in
+    let so : FetchesSo script s key start p c x = fetches_so script s key start epoch.0 p c can.work.session_is can.work.in_work (may_fetch script p s key epoch.0 known.reached.setup can.work can.room epoch.1) (works_now script many p.calls Cells tt works) in
+    let all : HasAnswer script line s key start (many + 1) (opened p) = by_first ends script number s key start many p c x.0 x.1 (over_recalls (marks_every p.state.setup) key start epoch.0 cells (put_fresh c.cache)) (ends.begins (marks_every p.state.setup) key start epoch.0 cells (put_fresh c.cache)) works so in
+    let read : Item = item.Read s start key all.answer in
+    (all.answer, granted script line p read before (line_appends script line p all.steps all.next read (omega (arith, all.few, room_left number s key start p c can.work.session_is can.work.begun)) all.leads all.appends))

@@ -17,7 +17,10 @@ use Rattle.client_parts.specs.SessionSteps.{step_refusal}
 use Rattle.client_parts.specs.declared.resolve.SettlePoint.{SettlePoint}
 use Rattle.client_parts.specs.declared.resolve.SettlePoint.TheVariants.{FirstLook, Table, Marking, LastLook}
 use Rattle.client_parts.specs.Resolve.{settle_left}
-use Rattle.client_parts.specs.KeyRead.{Reading, ReadTurn, Asks, Answers, read_told, read_ask, read_left, ReadsEnd}
+use Rattle.client_parts.specs.KeyRead.{Reading, ReadTurn, Asks, Answers, read_ask, read_left}
+use Rattle.client_parts.specs.Cache.{Cache}
+use Rattle.client_parts.specs.Recalled.{Remembering}
+use Rattle.client_parts.specs.RecalledReads.{RecalledReadsEnd}
 use Rattle.machine.specs.State.{UnderWay, Reads as UnderRead, Client, State}
 use Rattle.machine.specs.Clients.{is_reading, is_reading_by}
 use Rattle.machine.specs.Readers.{doing_at, doing_by}
@@ -26,7 +29,7 @@ use Rattle.machine.specs.StoreSteps.{met, store_of, told_by}
 use Rattle.machine.specs.declared.event.Event.{Event}
 use Rattle.machine.specs.declared.event.Event.TheVariants as event
 use Rattle.machine.specs.Machine.{Step, step_by as step_of_effect, with_client, at_client, asks, asks_at_client}
-use Rattle.machine.specs.Events.Fetch.{client_read, read_items, found_of}
+use Rattle.machine.specs.Events.Fetch.{client_recalled, client_put_fresh, read_items, found_of}
 use Rattle.machine.specs.Events.Step.{StepParts, stepped_on, work_by, next_of, read_by, step_at, step_by, step_on, store_asked, step_asks_by, step_asks}
 use Rattle.script_data.specs.declared.line.Line.{Line}
 use Rattle.script_data.specs.declared.line.Verb.{Verb}
@@ -34,11 +37,12 @@ use Rattle.script_data.specs.declared.line.Verb.TheVariants as verb
 use Rattle.script_data.specs.Data.{ScriptData}
 use Rattle.isolation_laws.specs.Words.{ClientAt}
 use Rattle.isolation_laws.proofs.Lookups.{set_found}
+use Rattle.isolation_laws.proofs.Outcome.OutcomesOfWork.{answered_recall}
 use Rattle.line_steps.specs.declared.point.Point.TheVariants.{Reads}
 use Rattle.line_steps.specs.Halts.{halt_of, follows}
 use Rattle.line_steps.specs.Next.{read_next}
 use Rattle.line_steps.specs.Runs.{Calls, Played, one_more, calls_after, fate_by, fate_of, step_of, played, Run, run_after, next_in}
-use Rattle.line_steps.proofs.ReadLines.{OfRead, told_read}
+use Rattle.line_steps.proofs.ReadLines.{OfRead, told_recalls}
 use Rattle.grant_laws.specs.Granted.{line_of, Appends, next_fate}
 use Rattle.grant_laws.proofs.LongerRuns.{in_one, in_last, appended_before, Leads, leads_on, leads_one, leads_to, run_at}
 use Rattle.grant_laws.proofs.ReadTurns.{CallsWork, works_on, works_now, read_from}
@@ -54,7 +58,7 @@ pub record IsReading (s key start : ℕ) (p : Played) (r : Reading) : Type 0 whe
 
 -- what a step makes of it
 step_effect : (s : ℕ) (fate : Fate) (c : Client) (r : Reading) (rows : List Row) (pairs : Pairs) → c.entry.state ≡ phase.Open → c.under_way ≡ UnderRead r → fate ≡ Works →
-    step_on s fate c rows pairs ≡ read_by s c r (met (Session s) (read_ask r) Works rows pairs) (Some (told_by (read_ask r) rows pairs))
+    step_on s fate c rows pairs ≡ read_by s (client_put_fresh c) r (met (Session s) (read_ask r) Works rows pairs) (Some (told_by (read_ask r) rows pairs))
 step_effect s fate c r rows pairs in_work under_way works =
     ap (λ (state : SessionState). step_by s fate c rows pairs (step_refusal state (is_reading c))) in_work
     ∙ ap (λ (work : UnderWay). step_by s fate c rows pairs (step_refusal phase.Open (is_reading_by work))) under_way
@@ -89,18 +93,21 @@ pub record HasAnswer (script : ScriptData) (line : Line) (s key start most : ℕ
 abbrev pub the_step : State → ℕ → Effect StepParts → Step
 the_step w s effect = step_of_effect effect (λ (q : StepParts). record (with_client w s q.0) { rows = q.1; pairs = q.2 })
 
--- what the read's next call is told, and what the step comes to by the read's turn
+-- what the read's next call is told, and what the step comes to by the read's turn and by what the session remembers then
 abbrev pub told_now : Played → Reading → Told
 told_now p r = told_by (read_ask r) p.state.rows p.state.pairs
 
-abbrev pub by_turn : ℕ → Played → Client → Reading → ReadTurn → Step
-by_turn s p c r turn = the_step p.state s (stepped_on (client_read c turn) (met (Session s) (read_ask r) Works p.state.rows p.state.pairs) (read_items s r.start r.key turn))
+abbrev pub recall_now : Played → Client → Reading → Remembering
+recall_now p c r = answered_recall c.cache r (told_now p r)
 
-pub record StepsSo (script : ScriptData) (s : ℕ) (p : Played) (c : Client) (r : Reading) (turn : ReadTurn) : Type 0 where
-  pub is : step_of script p (event.Step s) ≡ by_turn s p c r turn
+abbrev pub by_turn : ℕ → Played → Client → Reading → Remembering → Step
+by_turn s p c r x = the_step p.state s (stepped_on (client_recalled c x) (met (Session s) (read_ask r) Works p.state.rows p.state.pairs) (read_items s r.start r.key x.0))
+
+pub record StepsSo (script : ScriptData) (s : ℕ) (p : Played) (c : Client) (r : Reading) (x : Remembering) : Type 0 where
+  pub is : step_of script p (event.Step s) ≡ by_turn s p c r x
   pub calls : (played script p (event.Step s)).calls ≡ one_more p.calls (store_of (read_ask r))
 
-pub steps_so : (script : ScriptData) (s key start : ℕ) (p : Played) (r : Reading) (k : IsReading s key start p r) → next_fate script p (store_of (read_ask r)) ≡ Works → StepsSo script s p k.client r (read_told r (told_now p r))
+pub steps_so : (script : ScriptData) (s key start : ℕ) (p : Played) (r : Reading) (k : IsReading s key start p r) → next_fate script p (store_of (read_ask r)) ≡ Works → StepsSo script s p k.client r (recall_now p k.client r)
 steps_so script s key start p r k works =
     let w : State = p.state in
     let e : Event = event.Step s in
@@ -111,8 +118,8 @@ steps_so script s key start p r k works =
       calls = ap (λ (store : Option Store). calls_after p.calls store) asked;
     }
 
-answers_now : (script : ScriptData) (number s key start most : ℕ) (p : Played) (r : Reading) (k : IsReading s key start p r) (a : Answer) → 1 ≤ most → StepsSo script s p k.client r (Answers a) → HasAnswer script (line_of number (Session s) (verb.Read key)) s key start most (run_at Reads p)
-answers_now script number s key start most p r k a enough so =
+answers_now : (script : ScriptData) (number s key start most : ℕ) (p : Played) (r : Reading) (k : IsReading s key start p r) (a : Answer) (cache : Cache) → 1 ≤ most → StepsSo script s p k.client r (Answers a, cache) → HasAnswer script (line_of number (Session s) (verb.Read key)) s key start most (run_at Reads p)
+answers_now script number s key start most p r k a cache enough so =
     let line : Line = line_of number (Session s) (verb.Read key) in
     let before : List Item = (met (Session s) (read_ask r) Works p.state.rows p.state.pairs).items in
     let x : Item = item.Read s start key (found_of a.found) in
@@ -127,13 +134,13 @@ answers_now script number s key start most p r k a enough so =
       appends = record { added = before ++ x ∷ []; is = ap (λ (xs : List Item). p.items ++ xs) tells; has = in_last x before (x ∷ []) (in_one x) };
     }
 
-goes_on : (script : ScriptData) (number s key start many : ℕ) (p : Played) (r later : Reading) (k : IsReading s key start p r) → later.key ≡ r.key → later.start ≡ r.start → StepsSo script s p k.client r (Asks later) → (IsReading s key start (played script p (event.Step s)) later → HasAnswer script (line_of number (Session s) (verb.Read key)) s key start many (run_at Reads (played script p (event.Step s)))) → HasAnswer script (line_of number (Session s) (verb.Read key)) s key start (many + 1) (run_at Reads p)
-goes_on script number s key start many p r later k key_is start_is so rest =
+goes_on : (script : ScriptData) (number s key start many : ℕ) (p : Played) (r later : Reading) (k : IsReading s key start p r) (cache : Cache) → later.key ≡ r.key → later.start ≡ r.start → StepsSo script s p k.client r (Asks later, cache) → (IsReading s key start (played script p (event.Step s)) later → HasAnswer script (line_of number (Session s) (verb.Read key)) s key start many (run_at Reads (played script p (event.Step s)))) → HasAnswer script (line_of number (Session s) (verb.Read key)) s key start (many + 1) (run_at Reads p)
+goes_on script number s key start many p r later k cache key_is start_is so rest =
     let v : Verb = verb.Read key in
     let line : Line = line_of number (Session s) v in
     let e : Event = event.Step s in
     let q : Played = played script p e in
-    let c : Client = record k.client { under_way = UnderRead later; heal = None } in
+    let c : Client = record k.client { under_way = UnderRead later; heal = None; cache = cache } in
     let there : IsReading s key start q later = record {
       client = c;
       session_is = subst (λ (step : Step). ClientAt step.state.clients s c) (sym so.is) (set_found p.state.clients s c k.client k.session_is);
@@ -153,10 +160,9 @@ goes_on script number s key start many p r later k key_is start_is so rest =
       appends = appended_before p.items q.items on.next.played.items (item.Read s start key on.answer) (record { added = (step_of script p e).items; is = refl }) on.appends;
     }
 
-by_told : (script : ScriptData) (number s key start many : ℕ) (p : Played) (r : Reading) (told : Told) (k : IsReading s key start p r) (turn : ReadTurn) → read_told r told ≡ turn → StepsSo script s p k.client r turn → ((later : Reading) → read_told r told ≡ Asks later → IsReading s key start (played script p (event.Step s)) later → HasAnswer script (line_of number (Session s) (verb.Read key)) s key start many (run_at Reads (played script p (event.Step s)))) → HasAnswer script (line_of number (Session s) (verb.Read key)) s key start (many + 1) (run_at Reads p)
-by_told script number s key start many p r told k (Answers a) is so rest = answers_now script number s key start (many + 1) p r k a (omega arith) so
-by_told script number s key start many p r told k (Asks later) is so rest =
-    goes_on script number s key start many p r later k (subst (λ (turn : ReadTurn). OfRead r.key r.start turn) is (told_read r told)).0 (subst (λ (turn : ReadTurn). OfRead r.key r.start turn) is (told_read r told)).1 so (rest later is)
+by_told : (script : ScriptData) (number s key start many : ℕ) (p : Played) (r : Reading) (k : IsReading s key start p r) (turn : ReadTurn) (cache : Cache) → OfRead r.key r.start turn → StepsSo script s p k.client r (turn, cache) → ((later : Reading) → turn ≡ Asks later → IsReading s key start (played script p (event.Step s)) later → HasAnswer script (line_of number (Session s) (verb.Read key)) s key start many (run_at Reads (played script p (event.Step s)))) → HasAnswer script (line_of number (Session s) (verb.Read key)) s key start (many + 1) (run_at Reads p)
+by_told script number s key start many p r k (Answers a) cache same so rest = answers_now script number s key start (many + 1) p r k a cache (omega arith) so
+by_told script number s key start many p r k (Asks later) cache same so rest = goes_on script number s key start many p r later k cache same.0 same.1 so (rest later refl)
 
 pub some_left : (point : SettlePoint) → 1 ≤ settle_left point
 some_left FirstLook = omega arith
@@ -164,13 +170,14 @@ some_left Table = omega arith
 some_left Marking = omega arith
 some_left (LastLook met) = omega arith
 
-pub read_answers : ReadsEnd → (most : ℕ) (script : ScriptData) (number s key start : ℕ) (p : Played) (r : Reading) → IsReading s key start p r → read_left r ≤ most → CallsWork script most p.calls → HasAnswer script (line_of number (Session s) (verb.Read key)) s key start most (run_at Reads p)
+pub read_answers : RecalledReadsEnd → (most : ℕ) (script : ScriptData) (number s key start : ℕ) (p : Played) (r : Reading) → IsReading s key start p r → read_left r ≤ most → CallsWork script most p.calls → HasAnswer script (line_of number (Session s) (verb.Read key)) s key start most (run_at Reads p)
 read_answers ends zero script number s key start p r k few works = absurd (omega (arith, few, some_left r.point))
 read_answers ends (suc many) script number s key start p r k few works =
     let told : Told = told_now p r in
     let more : CallsWork script (many + 1) p.calls = λ store n from less. works store n from (omega (arith, less)) in
-    let so : StepsSo script s p k.client r (read_told r told) = steps_so script s key start p r k (works_now script many p.calls (store_of (read_ask r)) (read_from (read_ask r)) more) in
+    let x : Remembering = recall_now p k.client r in
+    let so : StepsSo script s p k.client r x = steps_so script s key start p r k (works_now script many p.calls (store_of (read_ask r)) (read_from (read_ask r)) more) in
     let all : HasAnswer script (line_of number (Session s) (verb.Read key)) s key start (many + 1) (run_at Reads p) =
-    by_told script number s key start many p r told k (read_told r told) refl so (λ later is there.
-    read_answers ends many script number s key start (played script p (event.Step s)) later there (omega (arith, few, ends.1 r later told is)) (subst (λ (calls : Calls). CallsWork script many calls) (sym so.calls) (works_on script many p.calls (store_of (read_ask r)) more))) in
+    by_told script number s key start many p r k x.0 x.1 (told_recalls _ r told) so (λ later is there.
+    read_answers ends many script number s key start (played script p (event.Step s)) later there (omega (arith, few, ends.falls _ r later told is)) (subst (λ (calls : Calls). CallsWork script many calls) (sym so.calls) (works_on script many p.calls (store_of (read_ask r)) more))) in
     record { steps = all.steps; few = omega (arith, all.few); next = all.next; answer = all.answer; leads = all.leads; appends = all.appends }

@@ -7,7 +7,8 @@ use Rattle.history_book.specs.declared.item.Actor.{Actor}
 use Rattle.history_book.specs.declared.item.Actor.TheVariants.{Session}
 use Rattle.history_book.specs.declared.item.Found.{Found}
 use Rattle.history_book.specs.declared.item.Item.TheVariants as item
-use Rattle.client_parts.specs.KeyRead.{read_ask, ReadsEnd, read_told}
+use Rattle.client_parts.specs.KeyRead.{read_ask}
+use Rattle.client_parts.specs.RecalledReads.{RecalledReadsEnd}
 use Rattle.machine.specs.State.{Client}
 use Rattle.machine.specs.StoreSteps.{store_of}
 use Rattle.machine.specs.declared.event.Event.{Event}
@@ -28,13 +29,13 @@ use Rattle.turn_rules.specs.Carried.{Carried, own_ahead, name_posted, made_by, e
 use Rattle.grant_laws.specs.Granted.{next_fate}
 use Rattle.grant_laws.specs.Premises.{CanFetch, cells_to_read}
 use Rattle.grant_laws.specs.Lines.{IsAhead, is_own, StepsWork, RunsGrantReads}
-use Rattle.grant_laws.proofs.FetchLines.{has_epoch, may_fetch, first_turn, FetchesSo, fetches_so}
+use Rattle.grant_laws.proofs.FetchLines.{has_epoch, may_fetch, first_recall, FetchesSo, fetches_so}
 use Rattle.grant_laws.proofs.KnownTurns.{KnownTurns, known_turned, known_carried}
 use Rattle.grant_laws.proofs.LongerTurns.{turns_on, carries, still_has, has_appended}
 use Rattle.grant_laws.proofs.OtherTurns.{read_left_by_event, seat_left}
 use Rattle.grant_laws.proofs.OwnLines.{seat_actor, seat_makes, line_makes}
-use Rattle.grant_laws.proofs.ReadLines.{IsReading, told_now, StepsSo, steps_so, some_left}
-use Rattle.grant_laws.proofs.ReadTurnsMade.{as_reading, step_by_turn, fetch_by_turn}
+use Rattle.grant_laws.proofs.ReadLines.{IsReading, recall_now, StepsSo, steps_so, some_left}
+use Rattle.grant_laws.proofs.ReadTurnsMade.{as_reading, step_made, fetch_made}
 use Rattle.grant_laws.proofs.ReadSeats.{IsUnder, makes_step, own_under, under_after}
 
 -- ---- turns while the line is under way
@@ -49,15 +50,15 @@ still_read script turns c s start key has = (has.0, still_has script turns c (it
 abbrev pub ReadOrUnder : ScriptData → Carried → ℕ → ℕ → ℕ → ℕ → Type 0
 ReadOrUnder script c s start key most = HasRead c s start key ⊎ IsUnder script c s start key most
 
-own_step : ReadsEnd → (script : ScriptData) (c : Carried) (s start key many : ℕ) → (k : IsUnder script c s start key (many + 1)) → next_fate script c.played (store_of (read_ask k.r)) ≡ Works → ReadOrUnder script (turned script c (turn.Own (Session s))) s start key many
+own_step : RecalledReadsEnd → (script : ScriptData) (c : Carried) (s start key many : ℕ) → (k : IsUnder script c s start key (many + 1)) → next_fate script c.played (store_of (read_ask k.r)) ≡ Works → ReadOrUnder script (turned script c (turn.Own (Session s))) s start key many
 own_step ends script c s start key many k works =
     let e : Event = event.Step s in
     let makes : own_ahead script c (Session s) ≡ Makes e = seat_makes script c (Session s) k.seat k.line (verb.Read key) Reads k.sits k.present k.verb_is k.point_is ∙ makes_step (clocks_of script c.played) (name_posted c.names (verb.Read key)) k.seat.unawaited c.played s start key k.r k.reads in
     let is : event_of script c (turn.Own (Session s)) ≡ Some e = ap made_by makes in
     let reading : IsReading s key start c.played k.r = as_reading c.played s start key k.r k.reads in
-    let so : StepsSo script s c.played reading.client k.r (read_told k.r (told_now c.played k.r)) = steps_so script s key start c.played k.r reading works in
+    let so : StepsSo script s c.played reading.client k.r (recall_now c.played reading.client k.r) = steps_so script s key start c.played k.r reading works in
     let stops : (step_of script c.played e).stop ≡ None = ap (λ (step : Step). step.stop) so.is in
-    elim (step_by_turn ends script s start key c.played k.r (told_now c.played k.r) reading (read_told k.r (told_now c.played k.r)) refl so) [
+    elim (step_made ends script s start key c.played k.r reading so) [
       | inl answers ↦
           let has : item.Read s start key answers.0 ∈ (played script c.played e).items = has_appended c.played.items (played script c.played e).items (item.Read s start key answers.0) answers.1 in
           inl (answers.0, subst (λ (found : Option Event). item.Read s start key answers.0 ∈ (turned_by script c (turn.Own (Session s)) found).played.items) (sym is) has)
@@ -87,7 +88,7 @@ own_ahead_of s turns = length (filter (is_own s) turns)
 own_first : (s : ℕ) (t : Turn) (turns : List Turn) (own : Bool) → is_own s t ≡ own → own_ahead_of s (t ∷ turns) ≡ length (cond own (t ∷ filter (is_own s) turns) (filter (is_own s) turns))
 own_first s t turns own is = ap (λ (b : Bool). length (cond b (t ∷ filter (is_own s) turns) (filter (is_own s) turns))) is
 
-own_on : ReadsEnd → (script : ScriptData) (c : Carried) (t : Turn) (turns : List Turn) (s start key many : ℕ) → t ≡ turn.Own (Session s) → (k : IsUnder script c s start key (many + 1)) → next_fate script c.played (store_of (read_ask k.r)) ≡ Works → (IsUnder script (turned script c t) s start key many → HasRead (fold (turned script) (turned script c t) turns) s start key) → HasRead (fold (turned script) (turned script c t) turns) s start key
+own_on : RecalledReadsEnd → (script : ScriptData) (c : Carried) (t : Turn) (turns : List Turn) (s start key many : ℕ) → t ≡ turn.Own (Session s) → (k : IsUnder script c s start key (many + 1)) → next_fate script c.played (store_of (read_ask k.r)) ≡ Works → (IsUnder script (turned script c t) s start key many → HasRead (fold (turned script) (turned script c t) turns) s start key) → HasRead (fold (turned script) (turned script c t) turns) s start key
 own_on ends script c t turns s start key many is k works rest = elim (subst (λ (u : Turn). ReadOrUnder script (turned script c u) s start key many) (sym is) (own_step ends script c s start key many k works)) [
   | inl has ↦ still_read script turns (turned script c t) s start key has
   | inr under ↦ rest under
@@ -96,7 +97,7 @@ own_on ends script c t turns s start key many is k works rest = elim (subst (λ 
 few_left : (script : ScriptData) (c : Carried) (s start key : ℕ) → IsUnder script c s start key zero → ⊥
 few_left script c s start key k = omega (arith, k.few, some_left k.r.point)
 
-reads_by : ReadsEnd → (script : ScriptData) → IsPlayable script 0 script.lines → (t : Turn) (turns : List Turn) (c : Carried) (s start key most : ℕ) (own : Bool) → is_own s t ≡ own → KnownTurns script c → IsUnder script c s start key most → StepsWork script s c (t ∷ turns) → most ≤ own_ahead_of s (t ∷ turns) → ((left : ℕ) → IsUnder script (turned script c t) s start key left → left ≤ own_ahead_of s turns → HasRead (fold (turned script) (turned script c t) turns) s start key) → HasRead (fold (turned script) (turned script c t) turns) s start key
+reads_by : RecalledReadsEnd → (script : ScriptData) → IsPlayable script 0 script.lines → (t : Turn) (turns : List Turn) (c : Carried) (s start key most : ℕ) (own : Bool) → is_own s t ≡ own → KnownTurns script c → IsUnder script c s start key most → StepsWork script s c (t ∷ turns) → most ≤ own_ahead_of s (t ∷ turns) → ((left : ℕ) → IsUnder script (turned script c t) s start key left → left ≤ own_ahead_of s turns → HasRead (fold (turned script) (turned script c t) turns) s start key) → HasRead (fold (turned script) (turned script c t) turns) s start key
 unfolding StepsWork
 reads_by ends script playable t turns c s start key zero own is known k works enough rest = absurd (few_left script c s start key k)
 reads_by ends script playable t turns c s start key (suc many) true is known k works enough rest =
@@ -104,13 +105,13 @@ reads_by ends script playable t turns c s start key (suc many) true is known k w
     own_on ends script c t turns s start key many (owned s t is) under (works.0 is start key k.r k.reads) (λ later. rest many later (omega (arith, enough, own_first s t turns true is)))
 reads_by ends script playable t turns c s start key (suc many) false is known k works enough rest = rest (suc many) (other_under script c t s start key (suc many) (event_of script c t) known refl is k) (omega (arith, enough, own_first s t turns false is))
 
-reads_through : ReadsEnd → (script : ScriptData) → IsPlayable script 0 script.lines → (turns : List Turn) (c : Carried) (s start key most : ℕ) → KnownTurns script c → IsUnder script c s start key most → StepsWork script s c turns → most ≤ own_ahead_of s turns → HasRead (fold (turned script) c turns) s start key
+reads_through : RecalledReadsEnd → (script : ScriptData) → IsPlayable script 0 script.lines → (turns : List Turn) (c : Carried) (s start key most : ℕ) → KnownTurns script c → IsUnder script c s start key most → StepsWork script s c turns → most ≤ own_ahead_of s turns → HasRead (fold (turned script) c turns) s start key
 unfolding StepsWork
 reads_through ends script playable [] c s start key most known k works enough = absurd (omega (arith, k.few, some_left k.r.point, enough))
 reads_through ends script playable (t ∷ turns) c s start key most known k works enough = reads_by ends script playable t turns c s start key most (is_own s t) refl known k works enough (λ left under few. reads_through ends script playable turns (turned script c t) s start key left (known_turned script c t playable known) under works.1 few)
 
 -- ---- the fetch
-fetched_or : ReadsEnd → (script : ScriptData) (c : Carried) (s key : ℕ) → KnownTurns script c → IsAhead script c (Session s) (verb.Read key) → (can : CanFetch script c.played s key) → ReadOrUnder script (turned script c (turn.Own (Session s))) s can.work.start key (3 * cells_to_read c.played can.work.start key)
+fetched_or : RecalledReadsEnd → (script : ScriptData) (c : Carried) (s key : ℕ) → KnownTurns script c → IsAhead script c (Session s) (verb.Read key) → (can : CanFetch script c.played s key) → ReadOrUnder script (turned script c (turn.Own (Session s))) s can.work.start key (3 * cells_to_read c.played can.work.start key)
 fetched_or ends script c s key known ahead can =
     let e : Event = event.Fetch s key in
     let start : ℕ = can.work.start in
@@ -118,9 +119,9 @@ fetched_or ends script c s key known ahead can =
     let most : ℕ = 3 * cells_to_read c.played start key in
     let is : event_of script c (turn.Own (Session s)) ≡ Some e = ap made_by (line_makes script c (Session s) (verb.Read key) ahead) in
     let epoch : (n : ℕ) × (client.entry.epoch ≡ Some n) = has_epoch c.played s client known.facts.fit can.work.session_is can.work.in_work in
-    let so : FetchesSo script s key start c.played client (first_turn c.played key start epoch.0) = fetches_so script s key start epoch.0 c.played client can.work.session_is can.work.in_work (may_fetch script c.played s key epoch.0 known.facts.reached.setup can.work can.room epoch.1) can.fetching in
+    let so : FetchesSo script s key start c.played client (first_recall c.played client key start epoch.0) = fetches_so script s key start epoch.0 c.played client can.work.session_is can.work.in_work (may_fetch script c.played s key epoch.0 known.facts.reached.setup can.work can.room epoch.1) can.fetching in
     let stops : (step_of script c.played e).stop ≡ None = ap (λ (step : Step). step.stop) so.is in
-    elim (fetch_by_turn ends script s start key epoch.0 most c.played client (first_turn c.played key start epoch.0) refl refl so) [
+    elim (fetch_made ends script s start key epoch.0 c.played client so) [
       | inl answers ↦
           let has : item.Read s start key answers.0 ∈ (played script c.played e).items = has_appended c.played.items (played script c.played e).items (item.Read s start key answers.0) answers.1 in
           inl (answers.0, subst (λ (found : Option Event). item.Read s start key answers.0 ∈ (turned_by script c (turn.Own (Session s)) found).played.items) (sym is) has)
@@ -128,7 +129,7 @@ fetched_or ends script c s key known ahead can =
     ]
 
 -- ---- the line
-pub runs_grant_reads : ReadsEnd → RunsGrantReads
+pub runs_grant_reads : RecalledReadsEnd → RunsGrantReads
 runs_grant_reads ends script before turns later s key in_range playable ahead can works enough =
     let c : Carried = carried script before in
     let d : Carried = turned script c (turn.Own (Session s)) in

@@ -10,7 +10,8 @@ use Rattle.history_book.specs.declared.item.Item.TheVariants as item
 use Rattle.store_parts.specs.Rows.{put_row, fetched, front_of, without_bare}
 use Rattle.store_parts.proofs.PairLaws.{mark_of-empty}
 use Rattle.client_parts.specs.declared.session.State.TheVariants as phase
-use Rattle.client_parts.specs.KeyRead.{after_passed}
+use Rattle.client_parts.specs.Cache.{cache_new}
+use Rattle.client_parts.specs.Recalled.{recalled_over}
 use Rattle.oracle_parts.specs.declared.buckets.Verdict.TheVariants.{Free}
 use Rattle.oracle_parts.specs.declared.instance.Held.{Held}
 use Rattle.oracle_parts.specs.declared.instance.Progress.TheVariants as progress
@@ -29,12 +30,12 @@ use Rattle.grant_laws.specs.Worked as worked
 use Rattle.grant_laws.proofs.WorkedScripts.{no_lead, in_range}
 
 pub crossing_refused : replayed (worked.strictly worked.crossing) ≡ worked.refused_crossing_items
-unfolding lines_played run_for planned_fate holder_from record_pairs added kept_commit verdict least_unsettled put_row without_bare fetched front_of after_passed
+unfolding lines_played run_for planned_fate holder_from record_pairs added kept_commit verdict least_unsettled put_row without_bare fetched front_of recalled_over
 crossing_refused = refl
 
 -- ---- without strict reads: what stands before the last line
 abbrev reader : Client
-reader = record { entry = record { state = phase.Open; start = Some 1; epoch = Some 0; keys = 1 ∷ []; commit = None }; under_way = Nothing; heal = None; reads = [] }
+reader = record { entry = record { state = phase.Open; start = Some 1; epoch = Some 0; keys = 1 ∷ []; commit = None }; under_way = Nothing; heal = None; reads = []; cache = cache_new 0 }
 
 -- the commit of the other session is drawn
 abbrev drawn : Held
@@ -44,27 +45,27 @@ abbrev oracle : InstanceEntry
 oracle = record (instance_new (record { term = 1; epoch = 0; until = 10; ceiling = 100 }) 0 64 4 64) { last = 3; buckets = contents 64 4 (record { key = 0; commit = 3 } ∷ []); requests = slice_set (replicate 16 None) 1 (Some drawn) }
 
 reader_is : ClientAt worked.before_crossing.state.clients 0 reader
-unfolding lines_played run_for planned_fate holder_from record_pairs added kept_commit verdict least_unsettled put_row without_bare fetched front_of after_passed
+unfolding lines_played run_for planned_fate holder_from record_pairs added kept_commit verdict least_unsettled put_row without_bare fetched front_of recalled_over
 reader_is = refl
 
 oracle_is : InstanceAt worked.before_crossing.state.nodes 0 oracle
-unfolding lines_played run_for planned_fate holder_from record_pairs added kept_commit verdict least_unsettled put_row without_bare fetched front_of after_passed
+unfolding lines_played run_for planned_fate holder_from record_pairs added kept_commit verdict least_unsettled put_row without_bare fetched front_of recalled_over
 oracle_is = refl
 
 term_is : oracle.term ≡ worked.before_crossing.state.master.term
-unfolding lines_played run_for planned_fate holder_from record_pairs added kept_commit verdict least_unsettled put_row without_bare fetched front_of after_passed
+unfolding lines_played run_for planned_fate holder_from record_pairs added kept_commit verdict least_unsettled put_row without_bare fetched front_of recalled_over
 term_is = refl
 
 reading_is : reading_of worked.crossing worked.before_crossing 0 ≡ 0
-unfolding lines_played run_for planned_fate holder_from record_pairs added kept_commit verdict least_unsettled put_row without_bare fetched front_of after_passed
+unfolding lines_played run_for planned_fate holder_from record_pairs added kept_commit verdict least_unsettled put_row without_bare fetched front_of recalled_over
 reading_is = refl
 
 unmarked : Marked worked.before_crossing.state.pairs 1 → ⊥
-unfolding lines_played run_for planned_fate holder_from record_pairs added kept_commit verdict least_unsettled put_row without_bare fetched front_of after_passed
+unfolding lines_played run_for planned_fate holder_from record_pairs added kept_commit verdict least_unsettled put_row without_bare fetched front_of recalled_over
 unmarked marked = none-some InvalidMark (sym (mark_of-empty 1) ∙ marked)
 
 calls_work : next_fate worked.crossing worked.before_crossing Table ≡ Works
-unfolding lines_played run_for planned_fate holder_from record_pairs added kept_commit verdict least_unsettled put_row without_bare fetched front_of after_passed
+unfolding lines_played run_for planned_fate holder_from record_pairs added kept_commit verdict least_unsettled put_row without_bare fetched front_of recalled_over
 calls_work = refl
 
 no_conflict : verdict_both oracle.buckets 1 reader.entry.keys reader.reads ≡ Free

@@ -7,7 +7,7 @@ use Rattle.port_io.specs.Planned.{planned_fate}
 use Rattle.store_parts.specs.Rows.{put_row, fetched, front_of, without_bare}
 use Rattle.store_parts.proofs.PairLaws.{mark_of-empty}
 use Rattle.history_book.specs.declared.item.Item.TheVariants as item
-use Rattle.client_parts.specs.KeyRead.{after_passed}
+use Rattle.client_parts.specs.Recalled.{recalled_over}
 use Rattle.oracle_parts.specs.Buckets.{record_pairs, kept_commit, verdict}
 use Rattle.oracle_parts.specs.Instance.{InstanceEntry, in_flight, least_unsettled}
 use Rattle.machine.specs.State.{Client, client_new}
@@ -25,25 +25,25 @@ use Rattle.grant_laws.specs.WorkedRuns as runs
 use Rattle.grant_laws.proofs.WorkedScripts.{client_of, oracle_of}
 
 pub take_can : CanTake worked.taking (carried worked.taking []).played 0
-unfolding seats_of passed holder_from planned_fate record_pairs least_unsettled kept_commit verdict put_row without_bare fetched front_of after_passed
+unfolding seats_of passed holder_from planned_fate record_pairs least_unsettled kept_commit verdict put_row without_bare fetched front_of recalled_over
 take_can = record { vacant = refl; lapsed = inl refl; stamps = omega arith; taking = refl }
 
 pub write_can : CanWrite worked.writing (carried worked.writing runs.begun).played 0 0
-unfolding seats_of passed holder_from planned_fate record_pairs least_unsettled kept_commit verdict put_row without_bare fetched front_of after_passed
+unfolding seats_of passed holder_from planned_fate record_pairs least_unsettled kept_commit verdict put_row without_bare fetched front_of recalled_over
 write_can =
     let p : Played = (carried worked.writing runs.begun).played in
     let work : IsAtWork p 0 = record { client = client_of p; start = 1; session_is = refl; begun = refl; in_work = refl; at_rest = refl } in
     record { work = work; room = refl; writing = refl }
 
 pub read_can : CanFetch worked.reading (carried worked.reading runs.begun).played 0 0
-unfolding seats_of passed holder_from planned_fate record_pairs least_unsettled kept_commit verdict put_row without_bare fetched front_of after_passed
+unfolding seats_of passed holder_from planned_fate record_pairs least_unsettled kept_commit verdict put_row without_bare fetched front_of recalled_over
 read_can =
     let p : Played = (carried worked.reading runs.begun).played in
     let work : IsAtWork p 0 = record { client = client_of p; start = 1; session_is = refl; begun = refl; in_work = refl; at_rest = refl } in
     record { work = work; room = refl; fetching = refl }
 
 begin_serving : CanServeBy runs.beginning 0 0 runs.to_begin
-unfolding seats_of passed holder_from planned_fate record_pairs least_unsettled kept_commit verdict put_row without_bare fetched front_of after_passed Leave
+unfolding seats_of passed holder_from planned_fate record_pairs least_unsettled kept_commit verdict put_row without_bare fetched front_of recalled_over Leave
 begin_serving =
     let p : Played = (at_ask runs.beginning runs.to_begin).played in
     let q : Played = (at_accept runs.beginning 0 runs.to_begin).played in
@@ -63,7 +63,7 @@ begin_serving =
     }
 
 pub begin_can : CanBeginBy runs.beginning 0 0 runs.to_begin (turn.Decide 0 1 ∷ [])
-unfolding seats_of passed holder_from planned_fate record_pairs least_unsettled kept_commit verdict put_row without_bare fetched front_of after_passed Leave LeaveWaiting begin_serving
+unfolding seats_of passed holder_from planned_fate record_pairs least_unsettled kept_commit verdict put_row without_bare fetched front_of recalled_over Leave LeaveWaiting begin_serving
 begin_can =
     let p : Played = (at_ask runs.beginning runs.to_begin).played in
     record {
@@ -77,7 +77,7 @@ begin_can =
 
 -- the begin that is answered too early
 wait_serving : CanServeBy runs.waiting 1 0 runs.to_wait
-unfolding seats_of passed holder_from planned_fate record_pairs least_unsettled kept_commit verdict put_row without_bare fetched front_of after_passed Leave
+unfolding seats_of passed holder_from planned_fate record_pairs least_unsettled kept_commit verdict put_row without_bare fetched front_of recalled_over Leave
 wait_serving =
     let p : Played = (at_ask runs.waiting runs.to_wait).played in
     let q : Played = (at_accept runs.waiting 1 runs.to_wait).played in
@@ -100,13 +100,13 @@ too_early : (c : Carried) → (i : InstanceEntry) → InstanceAt c.played.state.
 too_early c i node_has least = record { answers = refl; unsettled = record { oracle = i; node_has = node_has; so = λ none. none-some 2 (sym none ∙ least) } }
 
 pub wait_can : CanBeginBy runs.waiting 1 0 runs.to_wait runs.early
-unfolding seats_of passed holder_from planned_fate record_pairs least_unsettled kept_commit verdict put_row without_bare fetched front_of after_passed Leave LeaveWaiting wait_serving
+unfolding seats_of passed holder_from planned_fate record_pairs least_unsettled kept_commit verdict put_row without_bare fetched front_of recalled_over Leave LeaveWaiting wait_serving
 wait_can =
     let p : Played = (at_ask runs.waiting runs.to_wait).played in
     let c : Carried = turned runs.waiting (at_draw runs.waiting 1 0 runs.to_wait) (turn.Decide 0 1) in
     let d : Carried = turned runs.waiting c (turn.Answer 0 1) in
     record {
-      client = slice_index_or p.state.clients 1 client_new;
+      client = slice_index_or p.state.clients 1 (client_new p.state.setup.cache);
       session_is = refl;
       is_free = refl;
       serving = wait_serving;
@@ -115,7 +115,7 @@ wait_can =
     }
 
 pub commit_serving : CanServeBy runs.committing 0 0 runs.to_commit
-unfolding seats_of passed holder_from planned_fate record_pairs least_unsettled kept_commit verdict put_row without_bare fetched front_of after_passed Leave
+unfolding seats_of passed holder_from planned_fate record_pairs least_unsettled kept_commit verdict put_row without_bare fetched front_of recalled_over Leave
 commit_serving =
     let p : Played = (at_ask runs.committing runs.to_commit).played in
     let q : Played = (at_accept runs.committing 0 runs.to_commit).played in
@@ -135,7 +135,7 @@ commit_serving =
     }
 
 pub commit_can : CanCommitBy runs.committing 0 0 runs.to_commit (turn.Accept 0 1 ∷ []) (turn.Decide 0 1 ∷ [])
-unfolding seats_of passed holder_from planned_fate record_pairs least_unsettled kept_commit verdict put_row without_bare fetched front_of after_passed Leave commit_serving
+unfolding seats_of passed holder_from planned_fate record_pairs least_unsettled kept_commit verdict put_row without_bare fetched front_of recalled_over Leave commit_serving
 commit_can =
     let p : Played = (at_ask runs.committing runs.to_commit).played in
     let q : Played = (at_accept runs.committing 0 runs.to_commit).played in
@@ -158,5 +158,5 @@ commit_can =
 
 -- the item that it asks for
 pub commit_item : item.Committed 0 commit_can.work.start (stamp_drawn commit_can.serving) ≡ item.Committed 0 1 2
-unfolding seats_of passed holder_from planned_fate record_pairs least_unsettled kept_commit verdict put_row without_bare fetched front_of after_passed commit_can commit_serving
+unfolding seats_of passed holder_from planned_fate record_pairs least_unsettled kept_commit verdict put_row without_bare fetched front_of recalled_over commit_can commit_serving
 commit_item = refl

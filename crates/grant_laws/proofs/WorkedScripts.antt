@@ -4,7 +4,7 @@ use Rattle.std.specs.Prelude.{slice_index_or}
 use Rattle.stamp_base.specs.declared.stores.Store.TheVariants.{Cells, Table}
 use Rattle.port_io.specs.Planned.{planned_fate}
 use Rattle.store_parts.specs.Rows.{put_row, fetched, front_of, without_bare}
-use Rattle.client_parts.specs.KeyRead.{after_passed}
+use Rattle.client_parts.specs.Recalled.{recalled_over}
 use Rattle.oracle_parts.specs.Buckets.{record_pairs, kept_commit, verdict}
 use Rattle.oracle_parts.specs.Instance.{InstanceEntry, instance_new, in_flight, least_unsettled}
 use Rattle.machine.specs.State.{Client, client_new}
@@ -26,42 +26,42 @@ use Rattle.grant_laws.specs.Worked as worked
 
 -- the client of a session, and the instance of a node, where they are known to be there
 abbrev pub client_of : Played → Client
-client_of p = slice_index_or p.state.clients 0 client_new
+client_of p = slice_index_or p.state.clients 0 (client_new p.state.setup.cache)
 
 pub take_history : replayed worked.taking ≡ worked.taking_items
-unfolding lines_played run_for planned_fate holder_from record_pairs kept_commit verdict least_unsettled put_row without_bare fetched front_of after_passed
+unfolding lines_played run_for planned_fate holder_from record_pairs kept_commit verdict least_unsettled put_row without_bare fetched front_of recalled_over
 take_history = refl
 
 pub take_refused : replayed worked.taking_again ≡ worked.taking_again_items
-unfolding lines_played run_for planned_fate holder_from record_pairs kept_commit verdict least_unsettled put_row without_bare fetched front_of after_passed
+unfolding lines_played run_for planned_fate holder_from record_pairs kept_commit verdict least_unsettled put_row without_bare fetched front_of recalled_over
 take_refused = refl
 
 pub begin_history : replayed worked.beginning ≡ worked.beginning_items
-unfolding lines_played run_for planned_fate holder_from record_pairs kept_commit verdict least_unsettled put_row without_bare fetched front_of after_passed
+unfolding lines_played run_for planned_fate holder_from record_pairs kept_commit verdict least_unsettled put_row without_bare fetched front_of recalled_over
 begin_history = refl
 
 pub begin_refused : replayed worked.beginning_late ≡ worked.beginning_late_items
-unfolding lines_played run_for planned_fate holder_from record_pairs kept_commit verdict least_unsettled put_row without_bare fetched front_of after_passed
+unfolding lines_played run_for planned_fate holder_from record_pairs kept_commit verdict least_unsettled put_row without_bare fetched front_of recalled_over
 begin_refused = refl
 
 pub write_history : replayed worked.writing ≡ worked.writing_items
-unfolding lines_played run_for planned_fate holder_from record_pairs kept_commit verdict least_unsettled put_row without_bare fetched front_of after_passed
+unfolding lines_played run_for planned_fate holder_from record_pairs kept_commit verdict least_unsettled put_row without_bare fetched front_of recalled_over
 write_history = refl
 
 pub write_refused : replayed (worked.failing Cells worked.writing) ≡ worked.failed_write_items
-unfolding lines_played run_for planned_fate holder_from record_pairs kept_commit verdict least_unsettled put_row without_bare fetched front_of after_passed
+unfolding lines_played run_for planned_fate holder_from record_pairs kept_commit verdict least_unsettled put_row without_bare fetched front_of recalled_over
 write_refused = refl
 
 pub read_history : replayed worked.reading ≡ worked.reading_items
-unfolding lines_played run_for planned_fate holder_from record_pairs kept_commit verdict least_unsettled put_row without_bare fetched front_of after_passed
+unfolding lines_played run_for planned_fate holder_from record_pairs kept_commit verdict least_unsettled put_row without_bare fetched front_of recalled_over
 read_history = refl
 
 pub read_refused : replayed (worked.failing Cells worked.reading) ≡ worked.failed_read_items
-unfolding lines_played run_for planned_fate holder_from record_pairs kept_commit verdict least_unsettled put_row without_bare fetched front_of after_passed
+unfolding lines_played run_for planned_fate holder_from record_pairs kept_commit verdict least_unsettled put_row without_bare fetched front_of recalled_over
 read_refused = refl
 
 pub commit_refused : replayed (worked.failing Table worked.committing) ≡ worked.failed_commit_items
-unfolding lines_played run_for planned_fate holder_from record_pairs kept_commit verdict least_unsettled put_row without_bare fetched front_of after_passed
+unfolding lines_played run_for planned_fate holder_from record_pairs kept_commit verdict least_unsettled put_row without_bare fetched front_of recalled_over
 commit_refused = refl
 
 -- ---- premises
@@ -76,17 +76,17 @@ abbrev pub oracle_of : Played → InstanceEntry
 oracle_of p = oracle_in (slice_index_or p.state.nodes 0 None)
 
 pub take_can : CanTake worked.taking (worked.after worked.taking []) 0
-unfolding lines_played run_for planned_fate holder_from record_pairs kept_commit verdict least_unsettled put_row without_bare fetched front_of after_passed
+unfolding lines_played run_for planned_fate holder_from record_pairs kept_commit verdict least_unsettled put_row without_bare fetched front_of recalled_over
 take_can =
     record { vacant = refl; lapsed = inl refl; stamps = omega arith; taking = refl }
 
 pub take_can_later : CanTake worked.taking_again (worked.at_time 12 worked.before_taking_again) 1
-unfolding lines_played run_for planned_fate holder_from record_pairs kept_commit verdict least_unsettled put_row without_bare fetched front_of after_passed
+unfolding lines_played run_for planned_fate holder_from record_pairs kept_commit verdict least_unsettled put_row without_bare fetched front_of recalled_over
 take_can_later =
     record { vacant = refl; lapsed = inr (omega arith); stamps = omega arith; taking = refl }
 
 pub begin_can : CanBegin worked.beginning worked.before_beginning 0 0
-unfolding lines_played run_for planned_fate holder_from record_pairs kept_commit verdict least_unsettled put_row without_bare fetched front_of after_passed
+unfolding lines_played run_for planned_fate holder_from record_pairs kept_commit verdict least_unsettled put_row without_bare fetched front_of recalled_over
 begin_can =
     let p : Played = worked.before_beginning in
     let i : InstanceEntry = oracle_of p in
@@ -100,7 +100,7 @@ begin_can =
     record { client = client_of p; session_is = refl; is_free = refl; serving = serving }
 
 pub begin_can_earlier : CanBegin worked.beginning_late (worked.at_time 0 worked.before_beginning_late) 0 0
-unfolding lines_played run_for planned_fate holder_from record_pairs kept_commit verdict least_unsettled put_row without_bare fetched front_of after_passed
+unfolding lines_played run_for planned_fate holder_from record_pairs kept_commit verdict least_unsettled put_row without_bare fetched front_of recalled_over
 begin_can_earlier =
     let p : Played = worked.at_time 0 worked.before_beginning_late in
     let i : InstanceEntry = oracle_of p in
@@ -114,7 +114,7 @@ begin_can_earlier =
     record { client = client_of p; session_is = refl; is_free = refl; serving = serving }
 
 pub write_can : CanWrite worked.writing worked.before_writing 0 0
-unfolding lines_played run_for planned_fate holder_from record_pairs kept_commit verdict least_unsettled put_row without_bare fetched front_of after_passed
+unfolding lines_played run_for planned_fate holder_from record_pairs kept_commit verdict least_unsettled put_row without_bare fetched front_of recalled_over
 write_can =
     let work : IsAtWork worked.before_writing 0 = record { client = client_of worked.before_writing; start = 1; session_is = refl; begun = refl; in_work = refl; at_rest = refl } in
     record { work = work; room = refl; writing = refl }
@@ -124,13 +124,13 @@ unfolding planned_fate
 quiet calls store n = refl
 
 pub read_can : CanRead worked.reading worked.before_reading 0 0
-unfolding lines_played run_for planned_fate holder_from record_pairs kept_commit verdict least_unsettled put_row without_bare fetched front_of after_passed
+unfolding lines_played run_for planned_fate holder_from record_pairs kept_commit verdict least_unsettled put_row without_bare fetched front_of recalled_over
 read_can =
     let work : IsAtWork worked.before_reading 0 = record { client = client_of worked.before_reading; start = 1; session_is = refl; begun = refl; in_work = refl; at_rest = refl } in
     record { work = work; room = refl; reading = λ store n from few. quiet worked.before_reading.calls store n }
 
 pub commit_can : CanCommit worked.committing worked.before_committing 0 0
-unfolding lines_played run_for planned_fate holder_from record_pairs kept_commit verdict least_unsettled put_row without_bare fetched front_of after_passed
+unfolding lines_played run_for planned_fate holder_from record_pairs kept_commit verdict least_unsettled put_row without_bare fetched front_of recalled_over
 commit_can =
     let p : Played = worked.before_committing in
     let i : InstanceEntry = oracle_of p in

@@ -7,7 +7,7 @@ use Rattle.history_book.specs.Members.{◌∈◌}
 use Rattle.history_book.specs.declared.item.Actor.TheVariants.{Session}
 use Rattle.history_book.specs.declared.item.Item.{Item}
 use Rattle.history_book.specs.declared.item.Item.TheVariants as item
-use Rattle.client_parts.specs.KeyRead.{after_passed}
+use Rattle.client_parts.specs.Recalled.{recalled_over}
 use Rattle.oracle_parts.specs.Buckets.{record_pairs, kept_commit, verdict}
 use Rattle.oracle_parts.specs.Instance.{least_unsettled}
 use Rattle.machine.specs.Readers.{holder_from}
@@ -24,48 +24,48 @@ use Rattle.grant_laws.proofs.WorkedPremises.{commit_can, commit_item}
 
 -- ---- histories
 pub take_history : carried_items worked.taking runs.take_turn ≡ worked.taking_items
-unfolding seats_of passed holder_from planned_fate record_pairs least_unsettled kept_commit verdict put_row without_bare fetched front_of after_passed
+unfolding seats_of passed holder_from planned_fate record_pairs least_unsettled kept_commit verdict put_row without_bare fetched front_of recalled_over
 take_history = refl
 
 pub take_refused : carried_items worked.taking_again runs.take_turns ≡ worked.taking_again_items
-unfolding seats_of passed holder_from planned_fate record_pairs least_unsettled kept_commit verdict put_row without_bare fetched front_of after_passed
+unfolding seats_of passed holder_from planned_fate record_pairs least_unsettled kept_commit verdict put_row without_bare fetched front_of recalled_over
 take_refused = refl
 
 pub write_history : carried_items worked.writing runs.one_more ≡ worked.writing_items
-unfolding seats_of passed holder_from planned_fate record_pairs least_unsettled kept_commit verdict put_row without_bare fetched front_of after_passed
+unfolding seats_of passed holder_from planned_fate record_pairs least_unsettled kept_commit verdict put_row without_bare fetched front_of recalled_over
 write_history = refl
 
 pub write_refused : carried_items (worked.failing Cells worked.writing) runs.one_more ≡ runs.failed_write_items
-unfolding seats_of passed holder_from planned_fate record_pairs least_unsettled kept_commit verdict put_row without_bare fetched front_of after_passed
+unfolding seats_of passed holder_from planned_fate record_pairs least_unsettled kept_commit verdict put_row without_bare fetched front_of recalled_over
 write_refused = refl
 
 pub begin_history : carried_items runs.beginning runs.begin_turns ≡ runs.beginning_items
-unfolding seats_of passed holder_from planned_fate record_pairs least_unsettled kept_commit verdict put_row without_bare fetched front_of after_passed
+unfolding seats_of passed holder_from planned_fate record_pairs least_unsettled kept_commit verdict put_row without_bare fetched front_of recalled_over
 begin_history = refl
 
 pub begin_refused : carried_items runs.beginning_late runs.late_turns ≡ runs.late_items
-unfolding seats_of passed holder_from planned_fate record_pairs least_unsettled kept_commit verdict put_row without_bare fetched front_of after_passed
+unfolding seats_of passed holder_from planned_fate record_pairs least_unsettled kept_commit verdict put_row without_bare fetched front_of recalled_over
 begin_refused = refl
 
 pub commit_refused : carried_items (worked.failing Table runs.committing) runs.commit_turns ≡ runs.failed_commit_items
-unfolding seats_of passed holder_from planned_fate record_pairs least_unsettled kept_commit verdict put_row without_bare fetched front_of after_passed
+unfolding seats_of passed holder_from planned_fate record_pairs least_unsettled kept_commit verdict put_row without_bare fetched front_of recalled_over
 commit_refused = refl
 
 pub wait_history : carried_items runs.waiting runs.wait_turns ≡ runs.wait_items
-unfolding seats_of passed holder_from planned_fate record_pairs least_unsettled kept_commit verdict put_row without_bare fetched front_of after_passed
+unfolding seats_of passed holder_from planned_fate record_pairs least_unsettled kept_commit verdict put_row without_bare fetched front_of recalled_over
 wait_history = refl
 
 pub read_history : carried_items worked.reading runs.one_more ≡ worked.reading_items
-unfolding seats_of passed holder_from planned_fate record_pairs least_unsettled kept_commit verdict put_row without_bare fetched front_of after_passed
+unfolding seats_of passed holder_from planned_fate record_pairs least_unsettled kept_commit verdict put_row without_bare fetched front_of recalled_over
 read_history = refl
 
 pub read_refused : carried_items (worked.failing Cells worked.reading) runs.one_more ≡ worked.failed_read_items
-unfolding seats_of passed holder_from planned_fate record_pairs least_unsettled kept_commit verdict put_row without_bare fetched front_of after_passed
+unfolding seats_of passed holder_from planned_fate record_pairs least_unsettled kept_commit verdict put_row without_bare fetched front_of recalled_over
 read_refused = refl
 
 -- ---- the commit, by the law
 commit_ahead : IsAhead runs.committing (at_ask runs.committing runs.to_commit) (Session 0) (worked.commit).verb
-unfolding seats_of passed holder_from planned_fate record_pairs least_unsettled kept_commit verdict put_row without_bare fetched front_of after_passed
+unfolding seats_of passed holder_from planned_fate record_pairs least_unsettled kept_commit verdict put_row without_bare fetched front_of recalled_over
 commit_ahead = record { seat = runs.commit_seat; sits = refl; line = worked.commit; present = refl; verb_is = refl; unopened = refl }
 
 playable : IsPlayable runs.committing 0 (runs.committing).lines

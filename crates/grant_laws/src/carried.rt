@@ -1,7 +1,7 @@
 // What is asked for by the lines of a script that is carried out by turns is granted, whatever turns came before.
 ghost use Rattle.grant_laws.specs.Turns.{WritesAreCarried, TakesAreCarried, ServedTurnsAreGranted, ExtensionsAreCarried, RequestsStay, ReadsAreCarried};
 
-use client_parts::reads_end;
+use client_parts::recalled_reads_end;
 use turn_rules::turns_keep_facts;
 
 /// An own turn that makes a write appends it, under the premises of a write line.
@@ -46,5 +46,5 @@ pub fn requests_stay()
 pub fn reads_are_carried()
     ensures { ReadsAreCarried }
 {
-    reads_end();
+    recalled_reads_end();
 }

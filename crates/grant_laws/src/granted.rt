@@ -1,7 +1,7 @@
 // What is asked for by a line of a script that is carried out in file order is granted.
 ghost use Rattle.grant_laws.specs.Laws.{WritesAreGranted, TakesAreGranted, BeginsAreGranted, CommitsAreGranted, ReadsAreGranted};
 
-use client_parts::reads_end;
+use client_parts::recalled_reads_end;
 use line_steps::events_lower_what_is_left;
 
 /// A write line of an open transaction appends its write, in whatever state the lines before it have come to: all that is asked
@@ -45,5 +45,5 @@ pub fn reads_are_granted()
     ensures { ReadsAreGranted }
 {
     events_lower_what_is_left();
-    reads_end();
+    recalled_reads_end();
 }

@@ -2,7 +2,7 @@
 // came before, between and after.
 ghost use Rattle.grant_laws.specs.Lines.{RunsGrantWrites, RunsGrantTakes, RunsGrantBegins, RunsGrantCommits, RunsGrantReads};
 
-use client_parts::reads_end;
+use client_parts::recalled_reads_end;
 
 /// A write line appends its write by its one turn, under the premises of a write line in file order.
 pub fn runs_grant_writes()
@@ -34,5 +34,5 @@ pub fn runs_grant_commits()
 pub fn runs_grant_reads()
     ensures { RunsGrantReads }
 {
-    reads_end();
+    recalled_reads_end();
 }

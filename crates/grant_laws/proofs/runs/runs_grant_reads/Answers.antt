@@ -2,4 +2,4 @@ use Rattle.grant_laws.proofs.WholeReads.{runs_grant_reads}
 use Rattle.grant_laws.proofs.runs.runs_grant_reads.Goals as goal
 
 pub returns : goal.returns
-returns c = runs_grant_reads c.reads_end.ensures
+returns c = runs_grant_reads c.recalled_reads_end.ensures
