@@ -29,4 +29,4 @@ clients_stay w h e fate stands steady = each_outcome (λ v items. length v.clien
 
 -- ---- the opening
 pub clients_at_first : (setup : SetupNumbers) → length (opening setup).clients ≡ 16
-clients_at_first setup = length-replicate 16 client_new
+clients_at_first setup = length-replicate 16 (client_new setup.cache)

@@ -27,11 +27,11 @@ use Rattle.machine.specs.State.{UnderWay, Nothing, Reads, Settles, Completes, Cl
 use Rattle.machine.specs.Clients.{is_reading}
 use Rattle.machine.specs.StoreSteps.{met, store_of, told_by, entry_of, mark_item, step_item, mark_kept, effect_items}
 use Rattle.machine.specs.Events.Heal.{no_offer_cause, offer_of, heal_at, heal_on}
-use Rattle.machine.specs.Events.Step.{read_step, settle_items, settle_step, complete_step, work_of, step_at, step_by, step_on}
+use Rattle.machine.specs.Events.Fetch.{client_put_fresh}
+use Rattle.machine.specs.Events.Step.{step_recall, read_step, settle_items, settle_step, complete_step, work_of, step_at, step_by, step_on}
 use Rattle.machine.specs.Events.SweepOpen.{sweep_open_on}
 use Rattle.machine.specs.Events.SweepStep.{undecided_items, sweep_met, sweep_lists, sweep_at, sweep_step_on}
 use Rattle.isolation_laws.specs.Words.{ClientAt}
-use Rattle.isolation_laws.proofs.Outcome.OutcomesOfWork.{answered_recall}
 use Rattle.cause_laws.specs.Due.{AreDue}
 use Rattle.cause_laws.proofs.DueItems.{DueAnyway, AllDue, none_free, one_free, no_row_free, all_due, none_due, refusal_due, no_row_due}
 use Rattle.cause_laws.proofs.DueOfSessions.{IsOwn, own_due, told_gone, told_own, read_free}
@@ -83,7 +83,7 @@ heal_on_due w session fate c at = heal_due w session fate c at (offer_of c)
 read_due : (w : State) (session : ℕ) (fate : Fate) (c : Client) (r : Reading) → AreDue w (read_step session c r (met (Session session) (read_ask r) fate w.rows w.pairs)).items
 read_due w session Works c r =
     let answer : Told = told_by (read_ask r) w.rows w.pairs in
-    all_due w _ (All-append (DueAnyway w) (step_item (Session session) (read_ask r) answer ∷ []) _ (worked_free w (Session session) (read_ask r) answer) (read_free w session r.start r.key (answered_recall c.cache r answer).0))
+    all_due w _ (All-append (DueAnyway w) (step_item (Session session) (read_ask r) answer ∷ []) _ (worked_free w (Session session) (read_ask r) answer) (read_free w session r.start r.key (step_recall (client_put_fresh c) r answer).0))
 read_due w session FailsUnchanged c r = failed_due w (Session session) (read_ask r) (told_by (read_ask r) w.rows w.pairs) FailsUnchanged (store_of (read_ask r))
 read_due w session FailsApplied c r = failed_due w (Session session) (read_ask r) (told_by (read_ask r) w.rows w.pairs) FailsApplied (store_of (read_ask r))
 

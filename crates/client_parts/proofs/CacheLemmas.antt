@@ -8,8 +8,8 @@ use Rattle.lru.specs.LruCache.{lru_cache}
 use Rattle.lru.proofs.Splits.{Contains-cons, Contains-head, Contains-tail, Contains-nil}
 use Rattle.lru.proofs.CallerLemmas.{Contains-lookup, Contains-lookup_entry, Contains-promoted, Contains-put_entries, IsPut, lookup-put_entries}
 use Rattle.client_parts.specs.declared.known.Known.{Known}
-use Rattle.client_parts.specs.Cache.{Cache, known_of, used, fresh_put, put_fresh}
-use Rattle.client_parts.specs.RecalledReads.{RecallsKeep, PutsFresh, MemoriesKeep}
+use Rattle.client_parts.specs.Cache.{Cache, known_of, used, fresh_put}
+use Rattle.client_parts.specs.RecalledReads.{RecallsKeep, MemoriesKeep}
 
 -- what is found of a transaction is kept
 pub known_there : (cache : Cache) (txn : ℕ) (it : Known) → known_of cache txn ≡ Some it → Contains cache.kept (txn, it)

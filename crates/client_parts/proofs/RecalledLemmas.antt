@@ -1,5 +1,5 @@
 -- Public laws, for the proofs of crates above: a read that recalls, beside the plain one.
-use Rattle.std.proofs.Common.{◌≡◌, ℕ, ◌+◌, ◌*◌, ◌<◌, ◌≤◌, ◌==◌, nat_lt, Bool, true, false, ◌||◌, cond, is_some, List, [], ◌∷◌, Option, Some, None, length, refl, sym, ap, ◌∙◌, subst, arith}
+use Rattle.std.proofs.Common.{◌≡◌, ℕ, ◌==◌, nat_lt, Bool, true, false, ◌||◌, cond, is_some, List, [], ◌∷◌, Option, Some, None, refl, sym, subst}
 use Rattle.store_parts.specs.declared.rows.Cell.{Cell}
 use Rattle.client_parts.specs.declared.known.Known.{Known}
 use Rattle.client_parts.specs.declared.asks.Told.{Told}
@@ -7,9 +7,9 @@ use Rattle.client_parts.specs.declared.resolve.SettlePoint.TheVariants.{Table}
 use Rattle.client_parts.specs.declared.resolve.Outcome.{Outcome}
 use Rattle.client_parts.specs.declared.resolve.Outcome.TheVariants.{Committed, Dead}
 use Rattle.client_parts.specs.Resolve.{SettleTurn, Goes, Decides, settle_turn}
-use Rattle.client_parts.specs.KeyRead.{Reading, ReadTurn, Asks, Answers, is_passed, after_passed, found_none, found_cell, found_by, settling_of, read_over, read_by, read_told}
+use Rattle.client_parts.specs.KeyRead.{Reading, ReadTurn, Asks, is_passed, after_passed, settling_of, read_over, read_by, read_told}
 use Rattle.client_parts.specs.Cache.{Cache, known_of, used}
-use Rattle.client_parts.specs.Recalled.{Remembering, outcome_known, recalled_by, recalled_at, recalled_over, recalled_turn, recalled_told, recalled_known, recalled_from}
+use Rattle.client_parts.specs.Recalled.{Remembering, outcome_known, recalled_at, recalled_over, recalled_turn, recalled_told, recalled_known, recalled_from}
 use Rattle.client_parts.specs.RecalledReads.{RecallsGoCellByCell}
 
 -- ---- a read is the plain one up to the cell that it comes to, and there it is recalled

@@ -1,17 +1,15 @@
 -- Public laws, for the proofs of crates above: reads that recall where nothing is kept, how soon they end, and over the front alone.
-use Rattle.std.proofs.Common.{◌≡◌, ℕ, suc, ◌+◌, ◌*◌, ◌<◌, ◌≤◌, ◌==◌, nat_eq, nat_lt, Bool, true, false, ◌||◌, cond, is_some, List, [], ◌∷◌, Option, Some, None, length, refl, ap, ◌∙◌, arith}
+use Rattle.std.proofs.Common.{◌≡◌, ℕ, ◌+◌, ◌*◌, ◌<◌, ◌≤◌, ◌==◌, nat_eq, nat_lt, Bool, true, false, ◌||◌, cond, is_some, List, [], ◌∷◌, Option, Some, None, length, refl, ap, ◌∙◌, arith}
 use Rattle.std.proofs.lemmas.Bool.{eq-eqb}
 use Rattle.std.specs.Map.{lookup}
 use Rattle.store_parts.specs.declared.rows.Cell.{Cell}
 use Rattle.store_parts.specs.Rows.{is_below, front_of}
 use Rattle.client_parts.specs.declared.known.Known.{Known}
-use Rattle.client_parts.specs.declared.asks.Told.{Told}
 use Rattle.client_parts.specs.declared.resolve.Outcome.{Outcome}
 use Rattle.client_parts.specs.declared.resolve.Outcome.TheVariants.{Committed, Dead}
 use Rattle.client_parts.specs.Resolve.{SettleTurn, Goes, Decides, settle_turn}
-use Rattle.client_parts.specs.KeyRead.{Reading, ReadTurn, Asks, Answers, is_passed, settling_of, read_over, read_by, read_told, read_left}
-use Rattle.client_parts.specs.CutReads.{IsCut}
-use Rattle.client_parts.specs.Cache.{Cache, known_of, used, fresh_put, cache_learnt}
+use Rattle.client_parts.specs.KeyRead.{Reading, ReadTurn, Asks, Answers, is_passed, settling_of, read_over, read_by, read_left}
+use Rattle.client_parts.specs.Cache.{Cache, known_of, used, fresh_put}
 use Rattle.client_parts.specs.Recalled.{Remembering, outcome_known, recalled_by, recalled_at, recalled_over, recalled_turn, recalled_known, recalled_from}
 use Rattle.client_parts.specs.RecalledReads.{NothingKeptIsPlain, RecalledReadsEnd, IsCutRecall, CutRecallsAreWhole}
 use Rattle.client_parts.proofs.KeyReadLemmas.{reads_end, decided_falls}

@@ -1,5 +1,5 @@
 -- What a session remembers of other transactions, over its own ones: what reads that it made decided for good.
-use Rattle.std.specs.Prelude.{ℕ, ◌==◌, nat_eq, Bool, true, List, [], ◌∷◌, Option, None, Some, if◌then◌else◌}
+use Rattle.std.specs.Prelude.{ℕ, ◌==◌, nat_eq, true, List, [], Option, None, Some, if◌then◌else◌}
 use Rattle.std.specs.Map.{lookup}
 use Rattle.lru.specs.LruCache.{lru_cache, promoted, put_entries}
 use Rattle.client_parts.specs.declared.known.Known.{Known}

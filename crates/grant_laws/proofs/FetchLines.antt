@@ -17,7 +17,7 @@ use Rattle.client_parts.specs.declared.session.State.TheVariants as phase
 use Rattle.client_parts.specs.SessionSteps.{work_refusal}
 use Rattle.client_parts.specs.KeyRead.{Reading, ReadTurn, Asks, Answers, read_left}
 use Rattle.client_parts.specs.Cache.{Cache, put_fresh}
-use Rattle.client_parts.specs.Recalled.{Remembering, recalled_over}
+use Rattle.client_parts.specs.Recalled.{Remembering}
 use Rattle.client_parts.specs.RecalledReads.{RecalledReadsEnd}
 use Rattle.machine.specs.State.{Reads as UnderRead, Client, State}
 use Rattle.machine.specs.Clients.{is_reading}
@@ -25,7 +25,7 @@ use Rattle.machine.specs.Effect.{Effect}
 use Rattle.machine.specs.declared.event.Event.{Event}
 use Rattle.machine.specs.declared.event.Event.TheVariants as event
 use Rattle.machine.specs.Machine.{Step, step_by as step_of_effect, with_client, at_client, asks, asks_at_client}
-use Rattle.machine.specs.Events.Fetch.{marks_every, found_of, fetch_worked, fetch_by, fetch_open, fetch_on, epoch_asks, fetch_asks, reads_refusal, fetch_refused, client_fetched}
+use Rattle.machine.specs.Events.Fetch.{fetch_recall, marks_every, found_of, fetch_worked, fetch_by, fetch_open, fetch_on, epoch_asks, fetch_asks, reads_refusal, fetch_refused, client_fetched}
 use Rattle.machine.specs.Events.Write.{open_asks}
 use Rattle.script_data.specs.declared.line.Line.{Line}
 use Rattle.script_data.specs.declared.line.Verb.{Verb}
@@ -85,12 +85,12 @@ fetch_asked setup c key start epoch may =
 
 -- the turn that the read begins with, and what the session remembers then
 abbrev pub first_recall : Played → Client → ℕ → ℕ → ℕ → Remembering
-first_recall p c key start epoch = recalled_over (marks_every p.state.setup) key start epoch (front_of start (fetched p.state.rows key start)) (put_fresh c.cache)
+first_recall p c key start epoch = fetch_recall p.state.setup key start epoch c (fetched p.state.rows key start)
 
 abbrev pub fetch_turn : ℕ → Played → Client → ℕ → ℕ → Remembering → Step
 fetch_turn s p c key start x = step_of_effect (fetch_worked s start key (client_fetched p.state.setup c key) (fetched p.state.rows key start) x) (λ (q : Client). with_client p.state s q)
 
-fetch_effect : (setup : SetupNumbers) (s key start epoch : ℕ) (fate : Fate) (c : Client) (rows : List Row) → MayFetch setup c key start epoch → fate ≡ Works → fetch_on setup s key fate c rows ≡ fetch_worked s start key (client_fetched setup c key) (fetched rows key start) (recalled_over (marks_every setup) key start epoch (front_of start (fetched rows key start)) (put_fresh c.cache))
+fetch_effect : (setup : SetupNumbers) (s key start epoch : ℕ) (fate : Fate) (c : Client) (rows : List Row) → MayFetch setup c key start epoch → fate ≡ Works → fetch_on setup s key fate c rows ≡ fetch_worked s start key (client_fetched setup c key) (fetched rows key start) (fetch_recall setup key start epoch c (fetched rows key start))
 fetch_effect setup s key start epoch fate c rows may works =
     ap (λ (why : Option Cause). fetch_open setup s key fate c rows why c.entry.start c.entry.epoch) may.is_free
     ∙ ap (λ (at : Option ℕ). fetch_open setup s key fate c rows None at c.entry.epoch) may.start_is

@@ -30,14 +30,13 @@ use Rattle.machine.specs.declared.event.Event.{Event}
 use Rattle.machine.specs.declared.event.Event.TheVariants as event
 use Rattle.machine.specs.Machine.{Step, step_by as step_of_effect, with_client, at_client, asks, asks_at_client}
 use Rattle.machine.specs.Events.Fetch.{client_recalled, client_put_fresh, read_items, found_of}
-use Rattle.machine.specs.Events.Step.{StepParts, stepped_on, work_by, next_of, read_by, step_at, step_by, step_on, store_asked, step_asks_by, step_asks}
+use Rattle.machine.specs.Events.Step.{step_recall, StepParts, stepped_on, work_by, next_of, read_by, step_at, step_by, step_on, store_asked, step_asks_by, step_asks}
 use Rattle.script_data.specs.declared.line.Line.{Line}
 use Rattle.script_data.specs.declared.line.Verb.{Verb}
 use Rattle.script_data.specs.declared.line.Verb.TheVariants as verb
 use Rattle.script_data.specs.Data.{ScriptData}
 use Rattle.isolation_laws.specs.Words.{ClientAt}
 use Rattle.isolation_laws.proofs.Lookups.{set_found}
-use Rattle.isolation_laws.proofs.Outcome.OutcomesOfWork.{answered_recall}
 use Rattle.line_steps.specs.declared.point.Point.TheVariants.{Reads}
 use Rattle.line_steps.specs.Halts.{halt_of, follows}
 use Rattle.line_steps.specs.Next.{read_next}
@@ -98,7 +97,7 @@ abbrev pub told_now : Played → Reading → Told
 told_now p r = told_by (read_ask r) p.state.rows p.state.pairs
 
 abbrev pub recall_now : Played → Client → Reading → Remembering
-recall_now p c r = answered_recall c.cache r (told_now p r)
+recall_now p c r = step_recall (client_put_fresh c) r (told_now p r)
 
 abbrev pub by_turn : ℕ → Played → Client → Reading → Remembering → Step
 by_turn s p c r x = the_step p.state s (stepped_on (client_recalled c x) (met (Session s) (read_ask r) Works p.state.rows p.state.pairs) (read_items s r.start r.key x.0))

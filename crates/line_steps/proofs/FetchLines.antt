@@ -16,13 +16,12 @@ use Rattle.client_parts.specs.declared.session.State.{State as SessionState}
 use Rattle.client_parts.specs.declared.session.State.TheVariants as phase
 use Rattle.client_parts.specs.KeyRead.{ReadTurn, Asks, Answers}
 use Rattle.client_parts.specs.Cache.{put_fresh}
-use Rattle.client_parts.specs.Recalled.{Remembering, recalled_over}
 use Rattle.client_parts.specs.SessionSteps.{work_refusal, has_key}
 use Rattle.machine.specs.declared.event.Event.TheVariants as event
 use Rattle.machine.specs.State.{Client, State}
 use Rattle.machine.specs.Clients.{is_reading}
 use Rattle.machine.specs.Machine.{Step, step_by, with_client, at_client, stepped}
-use Rattle.machine.specs.Events.Fetch.{marks_every, keeps_read, reads_refusal, client_fetched, found_of, client_read, read_items, fetch_open, fetch_on}
+use Rattle.machine.specs.Events.Fetch.{fetch_recall, marks_every, keeps_read, reads_refusal, client_fetched, found_of, client_read, read_items, fetch_open, fetch_on}
 use Rattle.script_data.specs.declared.line.Verb.TheVariants as verb
 use Rattle.isolation_laws.specs.Words.{ClientAt}
 use Rattle.isolation_laws.specs.Sound.{Stands}
@@ -78,14 +77,10 @@ turn_done w s key start cells was c (Answers a) at is_open same = inl (record {
   behind = read_pays s start key key a.found refl;
 })
 
--- the read over the fetched cells
-abbrev fetch_recall : State → ℕ → ℕ → ℕ → Client → Remembering
-fetch_recall w key start epoch c = recalled_over (marks_every w.setup) key start epoch (front_of start (fetched w.rows key start)) (put_fresh c.cache)
-
 open_done : (w : State) (s key : ℕ) (fate : Fate) (c : Client) (start epoch : Option ℕ) → ClientAt w.clients s c → c.entry.state ≡ phase.Open → HasNumber phase.Open start → HasNumber phase.Open epoch → FetchDone s key (step_by (fetch_open w.setup s key fate c w.rows None start epoch) (λ (p : Client). with_client w s p))
 open_done w s key fate c None epoch at is_open has sees = absurd has
 open_done w s key fate c (Some start) None at is_open has sees = absurd sees
-open_done w s key Works c (Some start) (Some epoch) at is_open has sees = turn_done w s key start (length (fetched w.rows key start)) c (record (client_fetched w.setup c key) { cache = (fetch_recall w key start epoch c).1 }) (fetch_recall w key start epoch c).0 at is_open (over_recalls (marks_every w.setup) key start epoch (front_of start (fetched w.rows key start)) (put_fresh c.cache))
+open_done w s key Works c (Some start) (Some epoch) at is_open has sees = turn_done w s key start (length (fetched w.rows key start)) c (record (client_fetched w.setup c key) { cache = (fetch_recall w.setup key start epoch c (fetched w.rows key start)).1 }) (fetch_recall w.setup key start epoch c (fetched w.rows key start)).0 at is_open (over_recalls (marks_every w.setup) key start epoch (front_of start (fetched w.rows key start)) (put_fresh c.cache))
 open_done w s key FailsUnchanged c (Some start) (Some epoch) at is_open has sees = inl (fault_line s key _)
 open_done w s key FailsApplied c (Some start) (Some epoch) at is_open has sees = inl (fault_line s key _)
 

@@ -4,22 +4,20 @@ use Rattle.stamp_base.specs.SetupNumbers.{SetupNumbers}
 use Rattle.port_io.specs.declared.weather.Fate.{Fate}
 use Rattle.port_io.specs.declared.weather.Fate.TheVariants.{Works, FailsUnchanged, FailsApplied}
 use Rattle.history_book.specs.declared.cause.Cause.{Cause}
-use Rattle.store_parts.specs.Rows.{Row, fetched, front_of}
+use Rattle.store_parts.specs.Rows.{Row, fetched}
 use Rattle.store_parts.specs.Pairs.{Pairs}
 use Rattle.client_parts.specs.declared.asks.Ask.{Ask}
 use Rattle.client_parts.specs.declared.resolve.Outcome.TheVariants as outcome
 use Rattle.client_parts.specs.Resolve.{Settling, SettleTurn, Goes, Decides, settle_turn}
 use Rattle.client_parts.specs.KeyRead.{ReadTurn, Asks, Answers}
-use Rattle.client_parts.specs.Cache.{put_fresh}
-use Rattle.client_parts.specs.Recalled.{Remembering, recalled_over}
+use Rattle.client_parts.specs.Recalled.{Remembering}
 use Rattle.machine.specs.State.{UnderWay, Nothing, Reads, Settles, Completes, Client}
 use Rattle.machine.specs.Events.Write.{client_wrote, write_open}
-use Rattle.machine.specs.Events.Fetch.{client_recalled, marks_every, client_fetched, client_read, fetch_open}
-use Rattle.machine.specs.Events.Step.{client_settled, after_asks, work_of, step_at, step_by}
+use Rattle.machine.specs.Events.Fetch.{fetch_recall, client_put_fresh, client_recalled, client_fetched, client_read, fetch_open}
+use Rattle.machine.specs.Events.Step.{step_recall, client_settled, after_asks, work_of, step_at, step_by}
 use Rattle.machine.specs.Events.Heal.{heal_at}
 use Rattle.machine.specs.Events.Abort.{abort_by}
 use Rattle.machine.specs.Events.Vanish.{vanish_by}
-use Rattle.isolation_laws.proofs.Outcome.OutcomesOfWork.{answered_recall}
 use Rattle.line_steps.proofs.Fitting.{ClientFits, aborted_fits}
 
 pub write_fits : (s key : ℕ) (value : List ℕ) (fate : Fate) (c : Client) (rows : List Row) (why : Option Cause) (start : Option ℕ) → ClientFits c → ClientFits (write_open s key value fate c rows why start).parts.0
@@ -40,7 +38,7 @@ pub fetch_fits : (setup : SetupNumbers) (s key : ℕ) (fate : Fate) (c : Client)
 fetch_fits setup s key fate c rows (Some why) start epoch fit = fit
 fetch_fits setup s key fate c rows None None epoch fit = fit
 fetch_fits setup s key fate c rows None (Some start) None fit = fit
-fetch_fits setup s key Works c rows None (Some start) (Some epoch) fit = recall_fits (client_fetched setup c key) (recalled_over (marks_every setup) key start epoch (front_of start (fetched rows key start)) (put_fresh c.cache)) fit
+fetch_fits setup s key Works c rows None (Some start) (Some epoch) fit = recall_fits (client_fetched setup c key) (fetch_recall setup key start epoch c (fetched rows key start)) fit
 fetch_fits setup s key FailsUnchanged c rows None (Some start) (Some epoch) fit = fit
 fetch_fits setup s key FailsApplied c rows None (Some start) (Some epoch) fit = fit
 
@@ -55,7 +53,7 @@ asks_fit c (asked ∷ asks) fit = fit
 
 work_fits : (s : ℕ) (fate : Fate) (c : Client) (rows : List Row) (pairs : Pairs) (work : UnderWay) → ClientFits c → ClientFits (step_at s fate c rows pairs work).parts.0
 work_fits s fate c rows pairs Nothing fit = fit
-work_fits s Works c rows pairs (Reads r) fit = recall_fits c (answered_recall c.cache r _) fit
+work_fits s Works c rows pairs (Reads r) fit = recall_fits c (step_recall (client_put_fresh c) r _) fit
 work_fits s FailsUnchanged c rows pairs (Reads r) fit = fit
 work_fits s FailsApplied c rows pairs (Reads r) fit = fit
 work_fits s Works c rows pairs (Settles x) fit = settle_fits c x (settle_turn x _) fit

@@ -10,7 +10,7 @@ use Rattle.history_book.specs.declared.item.Item.TheVariants.{AskBegin, AskCommi
 use Rattle.store_parts.specs.Rows.{Row, fetched, front_of}
 use Rattle.client_parts.specs.KeyRead.{Reading, ReadTurn, Asks, Answers, read_left}
 use Rattle.client_parts.specs.Cache.{put_fresh}
-use Rattle.client_parts.specs.Recalled.{Remembering, recalled_over}
+use Rattle.client_parts.specs.Recalled.{Remembering}
 use Rattle.client_parts.specs.RecalledReads.{RecalledReadsEnd}
 use Rattle.client_parts.specs.SessionSteps.{begin_refusal, work_refusal}
 use Rattle.oracle_parts.specs.declared.instance.Place.{Place}
@@ -27,7 +27,7 @@ use Rattle.machine.specs.Events.AskBegin.{asked_by, ask_begin_by, ask_begin_on}
 use Rattle.machine.specs.Events.AskCommit.{commit_of, ask_commit_by, ask_commit_on}
 use Rattle.machine.specs.Events.Write.{client_wrote, write_refused, write_open, write_on}
 use Rattle.machine.specs.Events.Abort.{abort_by, abort_on}
-use Rattle.machine.specs.Events.Fetch.{marks_every, client_fetched, fetch_refused, client_read, fetch_open, fetch_on}
+use Rattle.machine.specs.Events.Fetch.{fetch_recall, marks_every, client_fetched, fetch_refused, client_read, fetch_open, fetch_on}
 use Rattle.machine.specs.Readers.{place_of}
 use Rattle.script_data.specs.declared.line.Verb.{Verb}
 use Rattle.line_steps.specs.declared.point.Halt.{Halt}
@@ -165,7 +165,7 @@ fetched_most ends setup s key fate c rows (Some why) start epoch = omega arith
 fetched_most ends setup s key fate c rows None None epoch = omega arith
 fetched_most ends setup s key fate c rows None (Some start) None = omega arith
 fetched_most ends setup s key Works c rows None (Some start) (Some epoch) =
-    let x : Remembering = recalled_over (marks_every setup) key start epoch (front_of start (fetched rows key start)) (put_fresh c.cache) in
+    let x : Remembering = fetch_recall setup key start epoch c (fetched rows key start) in
     turn_most (record (client_fetched setup c key) { cache = x.1 }) c (3 * cells_by rows key (Some start)) x.0 (ends.begins (marks_every setup) key start epoch (front_of start (fetched rows key start)) (put_fresh c.cache))
 fetched_most ends setup s key FailsUnchanged c rows None (Some start) (Some epoch) = omega arith
 fetched_most ends setup s key FailsApplied c rows None (Some start) (Some epoch) = omega arith

@@ -30,13 +30,12 @@ use Rattle.machine.specs.StoreSteps.{mark_item, entry_of, step_item, mark_kept, 
 use Rattle.machine.specs.Machine.{with_reading, stepped}
 use Rattle.machine.specs.Events.Extend.{extend_on}
 use Rattle.machine.specs.Events.Take.{rules_of}
-use Rattle.machine.specs.Events.Fetch.{read_items}
-use Rattle.machine.specs.Events.Step.{settle_items, work_of, step_at, step_by}
+use Rattle.machine.specs.Events.Fetch.{client_put_fresh, read_items}
+use Rattle.machine.specs.Events.Step.{step_recall, settle_items, work_of, step_at, step_by}
 use Rattle.machine.specs.Events.Heal.{offer_of, heal_at}
 use Rattle.machine.specs.Events.Abort.{abort_by}
 use Rattle.machine.specs.Events.SweepOpen.{sweep_open_on}
 use Rattle.machine.specs.Events.SweepStep.{undecided_items, sweep_met, sweep_lists, sweep_at, sweep_step_on}
-use Rattle.isolation_laws.proofs.Outcome.OutcomesOfWork.{answered_recall}
 use Rattle.line_steps.specs.Answers.{opener}
 use Rattle.line_steps.proofs.Plain.{AllPlain, plain_append, one_plain, no_plain, kept_plain, post_plain, client_plain, both_plain, accept_at, decide_at, put_at, answer_at, extend_plain}
 
@@ -82,7 +81,7 @@ settle_plain s (Some start) (Decides outcome.Dead) = one_plain _ refl
 
 work_plain : (s : ℕ) (fate : Fate) (c : Client) (rows : List Row) (pairs : Pairs) (work : UnderWay) → AllPlain (step_at s fate c rows pairs work).items
 work_plain s fate c rows pairs Nothing = no_plain
-work_plain s Works c rows pairs (Reads r) = plain_append (items_met (Session s) (read_ask r) (told_by (read_ask r) rows pairs) Works) _ (met_plain (Session s) (read_ask r) (told_by (read_ask r) rows pairs) Works) (read_plain s r.start r.key (answered_recall c.cache r (told_by (read_ask r) rows pairs)).0)
+work_plain s Works c rows pairs (Reads r) = plain_append (items_met (Session s) (read_ask r) (told_by (read_ask r) rows pairs) Works) _ (met_plain (Session s) (read_ask r) (told_by (read_ask r) rows pairs) Works) (read_plain s r.start r.key (step_recall (client_put_fresh c) r (told_by (read_ask r) rows pairs)).0)
 work_plain s FailsUnchanged c rows pairs (Reads r) = met_plain (Session s) (read_ask r) (told_by (read_ask r) rows pairs) FailsUnchanged
 work_plain s FailsApplied c rows pairs (Reads r) = met_plain (Session s) (read_ask r) (told_by (read_ask r) rows pairs) FailsApplied
 work_plain s Works c rows pairs (Settles x) = plain_append (items_met (Session s) (settle_ask x) (told_by (settle_ask x) rows pairs) Works) _ (met_plain (Session s) (settle_ask x) (told_by (settle_ask x) rows pairs) Works) (settle_plain s c.entry.start (settle_turn x (told_by (settle_ask x) rows pairs)))

@@ -17,11 +17,10 @@ use Rattle.machine.specs.State.{Reads, Client, State}
 use Rattle.machine.specs.Clients.{is_reading, is_reading_by}
 use Rattle.machine.specs.StoreSteps.{items_met, mark_kept, rows_after, pairs_after, store_of, met, told_by}
 use Rattle.machine.specs.Machine.{Step, with_client, stepped}
-use Rattle.machine.specs.Events.Fetch.{found_of, client_read, read_items}
-use Rattle.machine.specs.Events.Step.{work_by, work_of, read_step}
+use Rattle.machine.specs.Events.Fetch.{client_put_fresh, found_of, client_read, read_items}
+use Rattle.machine.specs.Events.Step.{step_recall, work_by, work_of, read_step}
 use Rattle.machine.specs.Readers.{open_doing, doing_by, doing_at, doing_of}
 use Rattle.isolation_laws.proofs.Lookups.{set_found}
-use Rattle.isolation_laws.proofs.Outcome.OutcomesOfWork.{answered_recall}
 use Rattle.line_steps.specs.Next.{read_next}
 use Rattle.line_steps.proofs.PlainEvents.{effect_plain, met_plain}
 use Rattle.line_steps.proofs.Plain.{plain_append, no_plain}
@@ -56,7 +55,7 @@ read_turns w s key k cache told (Answers a) same = inl (ends_with s key (items_m
 read_steps : (w : State) (s key : ℕ) (k : ReadsKey w s key) (fate : Fate) → let step : Step = stores_step w s (read_step s k.c k.work.r (met (Session s) (read_ask k.work.r) fate w.rows w.pairs)) in EndsOrReads s key step
 read_steps w s key k Works =
     let told : Told = told_by (read_ask k.work.r) w.rows w.pairs in
-    let x : Remembering = answered_recall k.c.cache k.work.r told in
+    let x : Remembering = step_recall (client_put_fresh k.c) k.work.r told in
     read_turns w s key k x.1 told x.0 (told_recalls _ k.work.r told)
 read_steps w s key k FailsUnchanged = inl (fault_pays s key (store_of (read_ask k.work.r)))
 read_steps w s key k FailsApplied =

@@ -25,10 +25,9 @@ use Rattle.machine.specs.Effect.{Effect}
 use Rattle.machine.specs.Clients.{is_reading, undo_of, finish_of, client_freed, client_committed}
 use Rattle.machine.specs.StoreSteps.{met, told_by}
 use Rattle.machine.specs.Machine.{Step, step_by, with_client, at_client, stepped}
-use Rattle.machine.specs.Events.Fetch.{client_read, client_recalled}
-use Rattle.machine.specs.Events.Step.{StepParts, read_step, settle_step, client_settled, complete_step, after_asks, work_by, work_of, step_at, step_on, step_by as step_unless}
+use Rattle.machine.specs.Events.Fetch.{client_put_fresh, client_read, client_recalled}
+use Rattle.machine.specs.Events.Step.{step_recall, StepParts, read_step, settle_step, client_settled, complete_step, after_asks, work_by, work_of, step_at, step_on, step_by as step_unless}
 use Rattle.script_data.specs.declared.line.Verb.{Verb}
-use Rattle.isolation_laws.proofs.Outcome.OutcomesOfWork.{answered_recall}
 use Rattle.isolation_laws.specs.Words.{ClientAt}
 use Rattle.line_steps.specs.declared.point.Point.{Point}
 use Rattle.line_steps.specs.declared.point.Point.TheVariants as point
@@ -129,7 +128,7 @@ found_less clients s old now f bound at less = omega (arith, client_now clients 
 read_lowers : (ends : RecalledReadsEnd) (w : State) (s : ℕ) (verb : Verb) (fate : Fate) (c : Client) (k : ReadWork c) → ClientAt w.clients s c → LowersAt point.Steps (read_left k.r) s verb (stores_step w s (read_step s c k.r (met (Session s) (read_ask k.r) fate w.rows w.pairs)))
 read_lowers ends w s verb Works c k at =
     let told : Told = told_by (read_ask k.r) w.rows w.pairs in
-    let x : Remembering = answered_recall c.cache k.r told in
+    let x : Remembering = step_recall (client_put_fresh c) k.r told in
     found_less w.clients s c (client_recalled c x) client_steps (read_left k.r) at (read_steps (record c { cache = x.1 }) (remembering c k x.1) x.0 (λ next. ends.falls _ k.r next told))
 read_lowers ends w s verb FailsUnchanged c k at = omega (arith, read_some k.r)
 read_lowers ends w s verb FailsApplied c k at = omega (arith, read_some k.r)
@@ -161,7 +160,7 @@ steps_lower ends w s verb fate c at go (inr (inr k)) = lowers_by w s verb fate c
 one_read : (ends : RecalledReadsEnd) (w : State) (s : ℕ) (verb : Verb) (fate : Fate) (c : Client) (k : ReadWork c) → ClientAt w.clients s c → LowersAt point.Reads (read_left k.r) s verb (stores_step w s (read_step s c k.r (met (Session s) (read_ask k.r) fate w.rows w.pairs)))
 one_read ends w s verb Works c k at =
     let told : Told = told_by (read_ask k.r) w.rows w.pairs in
-    let x : Remembering = answered_recall c.cache k.r told in
+    let x : Remembering = step_recall (client_put_fresh c) k.r told in
     found_less w.clients s c (client_recalled c x) client_reads (read_left k.r) at (read_after (record c { cache = x.1 }) (remembering c k x.1) x.0 (λ next. ends.falls _ k.r next told))
 one_read ends w s verb FailsUnchanged c k at = omega (arith, read_some k.r)
 one_read ends w s verb FailsApplied c k at = omega (arith, read_some k.r)

@@ -10,12 +10,10 @@ use Rattle.history_book.specs.declared.cause.Cause.TheVariants as cause
 use Rattle.history_book.specs.declared.item.Actor.TheVariants.{Session}
 use Rattle.history_book.specs.declared.item.Item.{Item}
 use Rattle.history_book.specs.declared.item.Item.TheVariants as item
-use Rattle.store_parts.specs.Rows.{Row, fetched, front_of}
+use Rattle.store_parts.specs.Rows.{Row, fetched}
 use Rattle.client_parts.specs.declared.session.State.{State as SessionState}
 use Rattle.client_parts.specs.declared.session.State.TheVariants as phase
 use Rattle.client_parts.specs.KeyRead.{ReadTurn, Asks, Answers}
-use Rattle.client_parts.specs.Cache.{put_fresh}
-use Rattle.client_parts.specs.Recalled.{recalled_over}
 use Rattle.client_parts.specs.SessionSteps.{has_transaction, work_refusal, has_key, key_refusal}
 use Rattle.oracle_parts.specs.declared.instance.Request.TheVariants.{Commit}
 use Rattle.oracle_parts.specs.Instance.{InstanceEntry}
@@ -23,7 +21,7 @@ use Rattle.machine.specs.State.{Client, State}
 use Rattle.machine.specs.Clients.{is_reading}
 use Rattle.machine.specs.Events.AskCommit.{commit_of, ask_commit_by, ask_commit_on}
 use Rattle.machine.specs.Events.Write.{write_open, write_on}
-use Rattle.machine.specs.Events.Fetch.{marks_every, keeps_read, reads_refusal, read_items, fetch_open, fetch_on}
+use Rattle.machine.specs.Events.Fetch.{fetch_recall, keeps_read, reads_refusal, read_items, fetch_open, fetch_on}
 use Rattle.isolation_laws.specs.Words.{ClientAt}
 use Rattle.isolation_laws.specs.Sound.{Stands}
 use Rattle.line_steps.specs.Answers.{IsRefusal, IsReadOnly, IsAskCommit, IsWrite, IsFetch}
@@ -105,7 +103,7 @@ turn_plain s start key (Answers a) = one_plain _ refl
 fetch_begins_open : (setup : SetupNumbers) (s key : ℕ) (fate : Fate) (c : Client) (rows : List Row) (start epoch : Option ℕ) → HasNumber phase.Open start → HasNumber phase.Open epoch → Begins (FetchAnswer s key) (fetch_open setup s key fate c rows None start epoch).items
 fetch_begins_open setup s key fate c rows None epoch has sees = absurd has
 fetch_begins_open setup s key fate c rows (Some start) None has sees = absurd sees
-fetch_begins_open setup s key Works c rows (Some start) (Some epoch) has sees = behind _ _ _ (inl (refl, refl)) (turn_plain s start key (recalled_over (marks_every setup) key start epoch (front_of start (fetched rows key start)) (put_fresh c.cache)).0)
+fetch_begins_open setup s key Works c rows (Some start) (Some epoch) has sees = behind _ _ _ (inl (refl, refl)) (turn_plain s start key (fetch_recall setup key start epoch c (fetched rows key start)).0)
 fetch_begins_open setup s key FailsUnchanged c rows (Some start) (Some epoch) has sees = alone _ _ (inr refl)
 fetch_begins_open setup s key FailsApplied c rows (Some start) (Some epoch) has sees = alone _ _ (inr refl)
 

@@ -15,12 +15,10 @@ use Rattle.history_book.specs.declared.item.Ending.TheVariants.{Aborted, ReadOnl
 use Rattle.history_book.specs.declared.item.Item.{Item}
 use Rattle.history_book.specs.declared.item.Item.TheVariants as item
 use Rattle.store_parts.specs.declared.rows.Cell.{Cell}
-use Rattle.store_parts.specs.Rows.{Row, fetched, front_of}
+use Rattle.store_parts.specs.Rows.{Row, fetched}
 use Rattle.client_parts.specs.declared.session.State.{State as SessionState}
 use Rattle.client_parts.specs.declared.session.State.TheVariants as phase
 use Rattle.client_parts.specs.KeyRead.{ReadTurn, Asks, Answers}
-use Rattle.client_parts.specs.Cache.{put_fresh}
-use Rattle.client_parts.specs.Recalled.{recalled_over}
 use Rattle.client_parts.specs.SessionSteps.{begin_refusal, work_refusal, vanish_refusal, key_refusal, has_key}
 use Rattle.oracle_parts.specs.declared.instance.Held.{Held}
 use Rattle.oracle_parts.specs.declared.instance.Request.{Request}
@@ -34,7 +32,7 @@ use Rattle.machine.specs.Events.AskCommit.{commit_of, ask_commit_by, ask_commit_
 use Rattle.machine.specs.Events.Abort.{abort_by, abort_on}
 use Rattle.machine.specs.Events.Vanish.{vanish_by, vanish_on}
 use Rattle.machine.specs.Events.Write.{write_refused, write_by, write_open, write_on, open_asks, write_asks}
-use Rattle.machine.specs.Events.Fetch.{marks_every, keeps_read, reads_refusal, fetch_refused, read_items, fetch_by, fetch_open, fetch_on, epoch_asks, fetch_asks}
+use Rattle.machine.specs.Events.Fetch.{fetch_recall, keeps_read, reads_refusal, fetch_refused, read_items, fetch_by, fetch_open, fetch_on, epoch_asks, fetch_asks}
 use Rattle.isolation_laws.proofs.InversionOfAsks.{asked_if}
 use Rattle.line_steps.specs.Next.{Clocks}
 use Rattle.planned_laws.proofs.ReadItems.{IsRead, Made, none_read, one_read, made_none, made_one, made_failed, made_fault, unchanged_fails, applied_fails, IfUntimed, made_refused}
@@ -173,7 +171,7 @@ read_turn_read clocks session start key (Answers a) = one_read clocks _ tt
 
 fetch_fated : (clocks : Clocks) (setup : SetupNumbers) (session start epoch key : ℕ) (fate : Fate) (c : Client) (cells : List Cell) → Made clocks (Some Cells) fate (fetch_by setup session start epoch key fate c cells).items
 fetch_fated clocks setup session start epoch key Works c cells =
-    let turn : ReadTurn = (recalled_over (marks_every setup) key start epoch (front_of start cells) (put_fresh c.cache)).0 in
+    let turn : ReadTurn = (fetch_recall setup key start epoch c cells).0 in
     inl (All-cons (IsRead clocks) _ (read_items session start key turn) tt (read_turn_read clocks session start key turn))
 fetch_fated clocks setup session start epoch key FailsUnchanged c cells = made_fault clocks Cells FailsUnchanged [] (Session session) unchanged_fails (none_read clocks)
 fetch_fated clocks setup session start epoch key FailsApplied c cells = made_fault clocks Cells FailsApplied [] (Session session) applied_fails (none_read clocks)

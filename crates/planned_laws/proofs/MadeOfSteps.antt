@@ -28,10 +28,10 @@ use Rattle.machine.specs.State.{UnderWay, Nothing, Reads, Settles, Completes, Cl
 use Rattle.machine.specs.Clients.{is_reading}
 use Rattle.machine.specs.StoreSteps.{met, store_of, told_by, entry_of, mark_item, step_item, mark_kept, effect_items}
 use Rattle.machine.specs.Events.Heal.{no_offer_cause, offer_of, heal_at, heal_on, offer_asks, heal_asks}
-use Rattle.machine.specs.Events.Step.{read_step, settle_items, settle_step, complete_step, work_of, next_of, step_at, step_by, step_on, store_asked, step_asks_by, step_asks}
+use Rattle.machine.specs.Events.Fetch.{client_put_fresh}
+use Rattle.machine.specs.Events.Step.{step_recall, read_step, settle_items, settle_step, complete_step, work_of, next_of, step_at, step_by, step_on, store_asked, step_asks_by, step_asks}
 use Rattle.machine.specs.Events.SweepOpen.{sweep_open_on}
 use Rattle.machine.specs.Events.SweepStep.{undecided_items, sweep_met, sweep_lists, sweep_at, sweep_step_on, sweep_step_asks}
-use Rattle.isolation_laws.proofs.Outcome.OutcomesOfWork.{answered_recall}
 use Rattle.line_steps.specs.Next.{Clocks}
 use Rattle.planned_laws.proofs.ReadItems.{IsRead, Made, none_read, one_read, made_none, made_one, made_fault, unchanged_fails, applied_fails, Untimed, IfUntimed, made_refused}
 use Rattle.planned_laws.proofs.MadeOfSessions.{read_turn_read}
@@ -88,7 +88,7 @@ heal_on_made clocks session fate c rows pairs = heal_made clocks session fate c 
 read_made : (clocks : Clocks) (session : ℕ) (fate : Fate) (c : Client) (r : Reading) (rows : List Row) (pairs : Pairs) → Made clocks (Some (store_of (read_ask r))) fate (read_step session c r (met (Session session) (read_ask r) fate rows pairs)).items
 read_made clocks session Works c r rows pairs =
     let answer : Told = told_by (read_ask r) rows pairs in
-    inl (All-append (IsRead clocks) (step_item (Session session) (read_ask r) answer ∷ []) _ (worked_read clocks (Session session) (read_ask r) answer) (read_turn_read clocks session r.start r.key (answered_recall c.cache r answer).0))
+    inl (All-append (IsRead clocks) (step_item (Session session) (read_ask r) answer ∷ []) _ (worked_read clocks (Session session) (read_ask r) answer) (read_turn_read clocks session r.start r.key (step_recall (client_put_fresh c) r answer).0))
 read_made clocks session FailsUnchanged c r rows pairs = failed_made clocks (Session session) (read_ask r) (told_by (read_ask r) rows pairs) FailsUnchanged unchanged_fails
 read_made clocks session FailsApplied c r rows pairs = failed_made clocks (Session session) (read_ask r) (told_by (read_ask r) rows pairs) FailsApplied applied_fails
 

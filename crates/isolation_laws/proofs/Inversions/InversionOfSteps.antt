@@ -21,11 +21,11 @@ use Rattle.machine.specs.Clients.{client_freed}
 use Rattle.machine.specs.StoreSteps.{met, store_of, told_by, step_item, rows_after, pairs_after, effect_items}
 use Rattle.machine.specs.Machine.{Step, step_by, with_client}
 use Rattle.machine.specs.Events.Fetch.{client_recalled, client_put_fresh}
-use Rattle.machine.specs.Events.Step.{StepParts, read_step, settle_items, client_settled, settle_step, complete_step, own_resolve, after_asks}
+use Rattle.machine.specs.Events.Step.{step_recall, StepParts, read_step, settle_items, client_settled, settle_step, complete_step, own_resolve, after_asks}
 use Rattle.isolation_laws.specs.Words.{ClientAt}
 use Rattle.isolation_laws.specs.Quiet.{Quiet, AllQuiet}
 use Rattle.isolation_laws.proofs.Outcome.PlainItems.{Plain, AllPlain, all_quiet, all_silent, none_plain}
-use Rattle.isolation_laws.proofs.Outcome.OutcomesOfWork.{CompletedOne, MayHaveMarked, answered_recall}
+use Rattle.isolation_laws.proofs.Outcome.OutcomesOfWork.{CompletedOne, MayHaveMarked}
 use Rattle.isolation_laws.proofs.Outcome.Outcomes.{OfReadStepped, OfReadDropped, OfOutcome, OfOutcomeFailed, OfCompleted}
 use Rattle.isolation_laws.proofs.Inversions.InversionParts.{ComesTo, ComesBy, none_quiet}
 use Rattle.isolation_laws.proofs.Inversions.InversionOfCalls.{NoList, step_plain, failed_plain, resolve_no_list, resolve_rows, resolve_marks}
@@ -75,7 +75,7 @@ read_comes w session Works c r at under_way = (
     quiet = (step_plain (Session session) (read_ask r) (told_by (read_ask r) w.rows w.pairs) (resolve_no_list r.key r.cell.version r.point)).0;
     silent = (step_plain (Session session) (read_ask r) (told_by (read_ask r) w.rows w.pairs) (resolve_no_list r.key r.cell.version r.point)).1;
   }),
-  same_rows w session (client_recalled c (answered_recall c.cache r (told_by (read_ask r) w.rows w.pairs))) (rows_after (read_ask r) w.rows) (pairs_after (read_ask r) w.pairs) (resolve_rows r.key r.cell.version r.point w.rows),
+  same_rows w session (client_recalled c (step_recall (client_put_fresh c) r (told_by (read_ask r) w.rows w.pairs))) (rows_after (read_ask r) w.rows) (pairs_after (read_ask r) w.pairs) (resolve_rows r.key r.cell.version r.point w.rows),
   refl,
 )
 read_comes w session FailsUnchanged c r at under_way = read_failed w session c r FailsUnchanged w.rows w.pairs at under_way refl (inl refl) (met_marks (Session session) (read_ask r) FailsUnchanged w.rows w.pairs)

@@ -4,20 +4,19 @@ use Rattle.std.proofs.Common.{[], ◌≡◌, ℕ, Bool, true, false, if◌then�
 use Rattle.std.specs.Prelude.{slice_set}
 use Rattle.stamp_base.specs.declared.stores.Mark.TheVariants.{Invalid as InvalidMark}
 use Rattle.history_book.specs.declared.item.Item.{Item}
-use Rattle.store_parts.specs.Rows.{fetched, front_of}
+use Rattle.store_parts.specs.Rows.{fetched}
 use Rattle.store_parts.specs.Pairs.{Pairs, put_pair}
 use Rattle.client_parts.specs.declared.asks.Ask.{Ask}
 use Rattle.client_parts.specs.declared.session.State.TheVariants as phase
 use Rattle.client_parts.specs.Resolve.{Settling, settle_ask, settle_turn}
-use Rattle.client_parts.specs.declared.asks.Told.{Told}
 use Rattle.client_parts.specs.KeyRead.{Reading, ReadTurn, read_ask}
-use Rattle.client_parts.specs.Cache.{Cache, put_fresh, cache_learnt, learnt_by}
-use Rattle.client_parts.specs.Recalled.{Remembering, recalled_over, recalled_told}
+use Rattle.client_parts.specs.Cache.{put_fresh}
+use Rattle.client_parts.specs.Recalled.{Remembering}
 use Rattle.machine.specs.State.{UnderWay, Nothing, Reads, Settles, Completes, Client, State}
 use Rattle.machine.specs.Clients.{is_reading, client_freed}
 use Rattle.machine.specs.StoreSteps.{rows_after, pairs_after, told_by}
-use Rattle.machine.specs.Events.Fetch.{marks_every, client_read, read_items, client_fetched, fetch_refused}
-use Rattle.machine.specs.Events.Step.{client_settled, settle_items, own_resolve, after_asks}
+use Rattle.machine.specs.Events.Fetch.{client_put_fresh, fetch_recall, client_read, read_items, client_fetched, fetch_refused}
+use Rattle.machine.specs.Events.Step.{step_recall, client_settled, settle_items, own_resolve, after_asks}
 use Rattle.isolation_laws.specs.Words.{ClientAt}
 use Rattle.isolation_laws.specs.Quiet.{Quiet, AllQuiet}
 use Rattle.isolation_laws.proofs.Outcome.PlainItems.{Silent, AllSilent}
@@ -39,7 +38,7 @@ pub record Fetched (w : State) : Type 0 where
 
 -- the read over the cells that were fetched, and what the session remembers then
 abbrev pub fetched_recall : (w : State) → Fetched w → Remembering
-fetched_recall w k = recalled_over (marks_every w.setup) k.key k.start k.epoch (front_of k.start (fetched w.rows k.key k.start)) (put_fresh k.it.c.cache)
+fetched_recall w k = fetch_recall w.setup k.key k.start k.epoch k.it.c (fetched w.rows k.key k.start)
 
 abbrev pub fetched_turn : (w : State) → Fetched w → ReadTurn
 fetched_turn w k = (fetched_recall w k).0
@@ -77,10 +76,6 @@ pub record ReadDropped (w : State) : Type 0 where
 abbrev pub read_dropped_state : (w : State) → ReadDropped w → State
 read_dropped_state w k = record w { clients = slice_set w.clients k.session (record k.c { under_way = k.under_way; heal = k.heal; cache = put_fresh k.c.cache }); pairs = k.pairs }
 
--- what a read comes to by its next answer, and what the session remembers then
-abbrev pub answered_recall : Cache → Reading → Told → Remembering
-answered_recall cache r told = recalled_told (cache_learnt (put_fresh cache) (learnt_by r told)) r told
-
 pub record ReadStepped (w : State) : Type 0 where
   pub session : ℕ
   pub c : Client
@@ -92,8 +87,9 @@ pub record ReadStepped (w : State) : Type 0 where
   pub quiet : Quiet first
   pub silent : Silent first
 
+-- what the read comes to by its next answer, and what the session remembers then
 abbrev pub read_recall : (w : State) → ReadStepped w → Remembering
-read_recall w k = answered_recall k.c.cache k.r (told_by (read_ask k.r) w.rows w.pairs)
+read_recall w k = step_recall (client_put_fresh k.c) k.r (told_by (read_ask k.r) w.rows w.pairs)
 
 abbrev pub read_turn : (w : State) → ReadStepped w → ReadTurn
 read_turn w k = (read_recall w k).0

@@ -67,13 +67,16 @@ reads_refusal setup c key = if keeps_read setup c key then key_refusal c.reads k
 abbrev pub fetch_refused : SetupNumbers → Client → ℕ → Option Cause
 fetch_refused setup c key = option_or (work_refusal c.entry.state (is_reading c)) (reads_refusal setup c key)
 
--- the fetch, and the read over its cells as far as it goes
+-- the read over the fetched cells, once what was just decided is kept
+abbrev pub fetch_recall : SetupNumbers → ℕ → ℕ → ℕ → Client → List Cell → Remembering
+fetch_recall setup key start epoch c cells = recalled_over (marks_every setup) key start epoch (front_of start cells) (put_fresh c.cache)
+
+-- the fetch, and that read as far as it goes
 abbrev pub fetch_worked : ℕ → ℕ → ℕ → Client → List Cell → Remembering → Effect Client
 fetch_worked session start key c cells x = done (client_recalled c x) (item.Step (Session session) (step.Fetch key (length cells)) ∷ read_items session start key x.0)
 
 abbrev pub fetch_by : SetupNumbers → ℕ → ℕ → ℕ → ℕ → Fate → Client → List Cell → Effect Client
-fetch_by setup session start epoch key Works c cells =
-    fetch_worked session start key (client_fetched setup c key) cells (recalled_over (marks_every setup) key start epoch (front_of start cells) (put_fresh c.cache))
+fetch_by setup session start epoch key Works c cells = fetch_worked session start key (client_fetched setup c key) cells (fetch_recall setup key start epoch c cells)
 fetch_by setup session start epoch key fate c cells = faulted (record (client_put_fresh c) { heal = None }) (Session session) Cells []
 
 abbrev pub fetch_open : SetupNumbers → ℕ → ℕ → Fate → Client → List Row → Option Cause → Option ℕ → Option ℕ → Effect Client

@@ -37,13 +37,17 @@ stepped_on c m items = done (c, m.rows, m.pairs) (m.items ++ items)
 abbrev pub step_failed : Client → Ask → Met → Effect StepParts
 step_failed c asked m = record { parts = (c, m.rows, m.pairs); items = m.items; stop = Some (Faults (store_of asked)) }
 
--- ---- a read: what the step decides for good is learnt; a failed step ends the read without an answer
+-- ---- a read: what the step decides for good is learnt, and the read goes on as far as it can
+abbrev pub step_recall : Client → Reading → Told → Remembering
+step_recall c r answer = recalled_told (cache_learnt c.cache (learnt_by r answer)) r answer
+
+-- a failed step ends it without an answer
 abbrev pub read_worked : ℕ → Client → Reading → Met → Remembering → Effect StepParts
 read_worked session c r m x = stepped_on (client_recalled c x) m (read_items session r.start r.key x.0)
 
 abbrev pub read_by : ℕ → Client → Reading → Met → Option Told → Effect StepParts
 read_by session c r m None = step_failed (record c { under_way = Nothing }) (read_ask r) m
-read_by session c r m (Some answer) = read_worked session c r m (recalled_told (cache_learnt c.cache (learnt_by r answer)) r answer)
+read_by session c r m (Some answer) = read_worked session c r m (step_recall c r answer)
 
 abbrev pub read_step : ℕ → Client → Reading → Met → Effect StepParts
 read_step session c r m = read_by session (client_put_fresh c) r m m.told
