@@ -1,5 +1,5 @@
 -- Public laws, for the proofs of crates above: what a cache keeps was kept before, or was just made.
-use Rattle.std.proofs.Common.{◌≡◌, ◌⊎◌, ℕ, nat_eq, Bool, true, false, cond, List, [], ◌∷◌, Option, None, Some, refl, sym, ◌∙◌, ap, subst, inl, inr, Contains}
+use Rattle.std.proofs.Common.{◌≡◌, ◌⊎◌, ℕ, zero, suc, ◌+◌, ◌-◌, ◌<◌, ◌≤◌, arith, length, take, nat_eq, Bool, true, false, cond, List, [], ◌∷◌, Option, None, Some, refl, sym, ◌∙◌, ap, subst, inl, inr, Contains}
 use Rattle.std.specs.Map.{lookup, lookup_entry, remove_entry}
 use Rattle.std.specs.Option.{option_map_or}
 use Rattle.std.proofs.lemmas.Bool.{eqb-true, eq-eqb}
@@ -94,9 +94,36 @@ use_tells : (txn other : ℕ) (es : Pairs) (o : Option (ℕ × Known)) → looku
 use_tells txn other es None found = refl
 use_tells txn other es (Some took) found = tells_same txn other es took (Contains-lookup_entry (nat_eq txn) es took found).1 found
 
+-- ---- how many are kept
+removed_cons : (txn : ℕ) (one : ℕ × Known) (es : Pairs) (took : ℕ × Known) (takes : Bool) → nat_eq txn one.0 ≡ takes → (lookup_entry (nat_eq txn) es ≡ Some took → length (remove_entry (nat_eq txn) es) + 1 ≡ length es) → lookup_entry (nat_eq txn) (one ∷ es) ≡ Some took → length (remove_entry (nat_eq txn) (one ∷ es)) + 1 ≡ length (one ∷ es)
+removed_cons txn one es took true is rest = rw is (λ found. omega arith)
+removed_cons txn one es took false is rest = rw is (λ found. omega (arith, rest found))
+
+removed_one : (txn : ℕ) (es : Pairs) (took : ℕ × Known) → lookup_entry (nat_eq txn) es ≡ Some took → length (remove_entry (nat_eq txn) es) + 1 ≡ length es
+removed_one txn [] took found = cc
+removed_one txn (one ∷ es) took found = removed_cons txn one es took (nat_eq txn one.0) refl (removed_one txn es took) found
+
+use_many : (txn : ℕ) (es : Pairs) (o : Option (ℕ × Known)) → lookup_entry (nat_eq txn) es ≡ o → length (option_map_or (λ e. e ∷ remove_entry (nat_eq txn) es) o es) ≡ length es
+use_many txn es None found = refl
+use_many txn es (Some took) found = omega (arith, removed_one txn es took found)
+
+taken_few : (most : ℕ) (es : Pairs) → length (take most es) ≤ most
+taken_few zero es = omega arith
+taken_few (suc most) [] = omega arith
+taken_few (suc most) (one ∷ es) = omega (arith, taken_few most es)
+
+put_few : (room : ℕ) (es : Pairs) (pair : ℕ × Known) (o : Option (ℕ × Known)) → lookup_entry (nat_eq pair.0) es ≡ o → 0 < room → length es ≤ room → length (option_map_or (λ e. (e.0, pair.1) ∷ remove_entry (nat_eq pair.0) es) o (pair ∷ take (room - 1) es)) ≤ room
+put_few room es pair None found some few = omega (arith, taken_few (room - 1) es)
+put_few room es pair (Some took) found some few = omega (arith, removed_one pair.0 es took found)
+
+fresh_few : (cache : Cache) (made : Option (ℕ × Known)) → 0 < cache.room → length cache.kept ≤ cache.room → length (fresh_put cache made).kept ≤ cache.room
+fresh_few cache None some few = few
+fresh_few cache (Some pair) some few = put_few cache.room cache.kept pair (lookup_entry (nat_eq pair.0) cache.kept) refl some few
+
 recalls_keep : (cache : Cache) (txn : ℕ) → RecallsKeep cache txn
 recalls_keep cache txn = record {
   same = λ pair. (used_there cache txn pair, use_keeps txn cache.kept (lookup_entry (nat_eq txn) cache.kept) pair refl);
+  many = use_many txn cache.kept (lookup_entry (nat_eq txn) cache.kept) refl;
   known = λ other. use_tells txn other cache.kept (lookup_entry (nat_eq txn) cache.kept) refl;
 }
 
@@ -114,6 +141,7 @@ memories_keep cache = (
   record {
     known = λ pair is. subst (λ (made : Option (ℕ × Known)). known_of (fresh_put cache made) pair.0 ≡ Some pair.1) (sym is) (fresh_known cache pair);
     before = put_there cache cache.fresh;
+    few = fresh_few cache cache.fresh;
     none = fresh_none cache cache.fresh refl;
   },
 )

@@ -12,15 +12,17 @@ use Rattle.client_parts.specs.Cache.{Cache, known_of, used, put_fresh, cache_lea
 use Rattle.client_parts.specs.Recalled.{Remembering, recalled_over, recalled_told, recalled_turn, recalled_from}
 
 -- ---- what is kept
--- a recall leaves the same pairs, and what they tell of each transaction
+-- a recall leaves the same pairs, as many, and what they tell of each transaction
 pub record RecallsKeep (cache : Cache) (txn : ℕ) : Type 0 where
   pub same : (pair : ℕ × Known) → Contains (used cache txn).kept pair ↔ Contains cache.kept pair
+  pub many : length (used cache txn).kept ≡ length cache.kept
   pub known : (other : ℕ) → known_of (used cache txn) other ≡ known_of cache other
 
--- what was fresh is kept then; each other pair that is kept was kept before
+-- what was fresh is kept then; each other pair that is kept was kept before, and there are no more than there is room for
 pub record PutsFresh (cache : Cache) : Type 0 where
   pub known : (pair : ℕ × Known) → cache.fresh ≡ Some pair → known_of (put_fresh cache) pair.0 ≡ Some pair.1
   pub before : (pair : ℕ × Known) → Contains (put_fresh cache).kept pair → Contains cache.kept pair ⊎ (cache.fresh ≡ Some pair)
+  pub few : 0 < cache.room → length cache.kept ≤ cache.room → length (put_fresh cache).kept ≤ cache.room
   pub none : (put_fresh cache).fresh ≡ None
 
 abbrev pub MemoriesKeep : Type 0
