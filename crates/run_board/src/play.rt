@@ -2,6 +2,7 @@ ghost use Rattle.std.specs.Prelude.{◌≡◌, [], ◌≤◌, ◌↔◌, IsOk, I
 ghost use Rattle.stamp_base.specs.declared.limits.TheConstants.{LINE_LIMIT};
 ghost use Rattle.history_book.specs.Isolation.{Isolated};
 ghost use Rattle.cause_rules.specs.Explained.{Explained};
+ghost use Rattle.cause_rules.specs.Strict.{SerialIfStrict};
 ghost use Rattle.session_script.specs.Script.{data_of};
 ghost use Rattle.line_steps.specs.Answers.{Answers};
 ghost use Rattle.line_steps.specs.Planned.{Planned};
@@ -69,14 +70,15 @@ impl<L: Ledger> Play<L> {
         Ok(Play { run, cursors })
     }
 
-    /// The history that the turns have made, at every moment. It is isolated, and each of its refusals is shown by what stands
-    /// before it. Every line that an actor has passed is answered, and so is each line before a cursor, since no cursor is ahead of
+    /// The history that the turns have made, at every moment. It is isolated, each of its refusals is shown by what stands before
+    /// it, and where the setup asks for strict reads it is serial. Every line that an actor has passed is answered, and so is each line before a cursor, since no cursor is ahead of
     /// its actor; nor does one lack a line that its actor had passed with a turn of its own. Faults, ticks and readings are those that
     /// the script plans.
     pub fn history(&self) -> &[Item]
         ensures value { result.now ≡ carried_items self.now.ran.script self.now.ran.turns }
         ensures isolated { Isolated result.now }
         ensures explained { Explained self.now.ran.script.setup result.now }
+        ensures serial { SerialIfStrict self.now.ran.script.setup result.now }
         ensures answered { AreAnsweredSoFar self.now.ran }
         ensures behind { AreBehind (place_of self.now.ran) self.now.cursors }
         ensures counted { AreCounted self.now.ran self.now.cursors }
@@ -129,6 +131,7 @@ impl<L: Ledger> Play<L> {
         ensures over { IsOk result ↔ IsOver (data_of script.now) self shares.items }
         ensures result { IfOk result (λ r. IsResult (data_of script.now) r.0.history r.1.items) }
         ensures isolated { IfOk result (λ r. Isolated r.0.history × Explained (data_of script.now).setup r.0.history) }
+        ensures serial { IfOk result (λ r. SerialIfStrict (data_of script.now).setup r.0.history) }
         ensures answered { IfOk result (λ r. Answers (data_of script.now) r.0.history) }
         ensures planned { IfOk result (λ r. Planned (data_of script.now) r.0.history) }
         ensures counted { IfOk result (λ r. sum_by (λ s. s.amount) shares.items ≡ all_done self.cursors) }
@@ -154,6 +157,7 @@ impl<L: Ledger> Play<L> {
         requires ends { AreAtTheirEnds self.ran.script self.cursors }
         ensures result { IsResult self.ran.script result.0.history result.1.items }
         ensures isolated { Isolated result.0.history × Explained self.ran.script.setup result.0.history }
+        ensures serial { SerialIfStrict self.ran.script.setup result.0.history }
         ensures answered { Answers self.ran.script result.0.history }
         ensures planned { Planned self.ran.script result.0.history }
         ensures counted { sum_by (λ s. s.amount) shares.items ≡ all_done self.cursors }

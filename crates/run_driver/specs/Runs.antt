@@ -3,6 +3,7 @@ use Rattle.std.specs.Prelude.{List}
 use Rattle.history_book.specs.declared.item.Item.{Item}
 use Rattle.history_book.specs.Isolation.{Isolated}
 use Rattle.cause_rules.specs.Explained.{Explained}
+use Rattle.cause_rules.specs.Strict.{SerialIfStrict}
 use Rattle.script_data.specs.Data.{ScriptData}
 use Rattle.line_steps.specs.Answers.{Answers}
 use Rattle.line_steps.specs.Planned.{Planned}
@@ -10,10 +11,12 @@ use Rattle.turn_rules.specs.declared.turn.Turn.{Turn}
 use Rattle.run_board.specs.Playing.{IsResult}
 
 -- The history is what these turns make of the script, which are lawful and whole. It is snapshot isolated, shows the cause of every
--- refusal, answers every line, and has the faults, times and readings that the script plans.
+-- refusal, is serial where the script asks for strict reads, answers every line, and has the faults, times and readings that the
+-- script plans.
 pub record RunsTo (script : ScriptData) (history : List Item) (turns : List Turn) : Type 0 where
   pub result : IsResult script history turns
   pub isolated : Isolated history
   pub explained : Explained script.setup history
+  pub serial : SerialIfStrict script.setup history
   pub answers : Answers script history
   pub planned : Planned script history

@@ -8,6 +8,7 @@ returns-in-Ok g c = subst (λ (script : ScriptData). RunsTo script c.in-Ok.made.
   result = c.in-Ok.ensures.result;
   isolated = c.in-Ok.ensures.isolated.0;
   explained = c.in-Ok.ensures.isolated.1;
+  serial = c.in-Ok.ensures.serial;
   answers = c.in-Ok.ensures.answered;
   planned = c.in-Ok.ensures.planned;
 })

@@ -1,4 +1,4 @@
-use Rattle.std.proofs.Common.{◌≡◌, ℕ, true, false, List, [], ◌∷◌, ◌++◌, Some, drop, length, refl, sym, ◌∙◌, ap, arith}
+use Rattle.std.proofs.Common.{◌≡◌, ℕ, true, false, List, [], ◌∷◌, ◌++◌, drop, length, refl, sym, ◌∙◌, ap, arith}
 use Rattle.std.specs.Prelude.{option_map}
 use Rattle.port_io.specs.contracts.planned.PlannedWeatherWeather.TheImpl.{ahead-value}
 use Rattle.history_book.specs.declared.item.Item.{Item}
@@ -8,10 +8,10 @@ use Rattle.planned_cluster.specs.Standing.{StandsAt}
 use Rattle.turn_rules.specs.declared.turn.Turn.{Turn}
 use Rattle.turn_rules.specs.Carried.{names_after, carried}
 use Rattle.turn_engine.specs.declared.run.ScriptRun.TheInside.{Inside}
-use Rattle.turn_engine.specs.Making.{halted, is_told, lacking_after}
+use Rattle.turn_engine.specs.Making.{is_told, lacking_after}
 use Rattle.turn_engine.specs.Names.{with_name}
 use Rattle.turn_engine.specs.Run.{Ran, SitsAt, IsCarriedOut}
-use Rattle.turn_engine.proofs.Called.{CanTurn, HasGone, can_turn, is_steady, has_gone, same_made, may_pass, is_made, makes_turn, is_silent, leaves_out}
+use Rattle.turn_engine.proofs.Called.{CanTurn, can_turn, is_steady, has_gone, same_made, may_pass, is_made, makes_turn, is_silent, leaves_out}
 use Rattle.turn_engine.proofs.TurnMade.{IsMade}
 use Rattle.turn_engine.proofs.run.ScriptRun.make.Goals as goal
 
