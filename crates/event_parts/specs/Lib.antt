@@ -8,3 +8,4 @@ pub mod Kept
 pub mod Waiting
 pub mod Replies
 pub mod Working
+pub mod Recalling

@@ -12,6 +12,6 @@ reading_way (Some reading) = machine.Reads reading
 
 abbrev pub way_of : UnderWay → machine.UnderWay
 way_of work.Nothing = machine.Nothing
-way_of (work.Reads run) = reading_way run
+way_of (work.Reads run) = reading_way run.reading
 way_of (work.Settles settle) = machine.Settles settle
 way_of (work.Completes asks) = machine.Completes asks

@@ -1,14 +1,16 @@
-ghost use Rattle.std.specs.Prelude.{◌≡◌, None};
-ghost use Rattle.client_parts.specs.KeyRead.{ReadTurn, next_of, reading_left};
+ghost use Rattle.std.specs.Prelude.{◌≡◌, None, IfOk, OnOk, OnErr};
+ghost use Rattle.client_parts.specs.KeyRead.{ReadTurn, is_recall, next_of, reading_left};
 ghost use Rattle.client_parts.specs.SessionSteps as step;
 ghost use Rattle.stamp_base.specs.Setups.{numbers_of};
 ghost use Rattle.machine.specs.State as state;
 ghost use Rattle.machine.specs.Clients as left;
 ghost use Rattle.machine.specs.Events.Write.{client_wrote, write_refused};
-ghost use Rattle.machine.specs.Events.Fetch.{client_read, client_fetched, keeps_read, reads_refusal, fetch_refused};
+ghost use Rattle.machine.specs.Events.Fetch.{client_read, client_recalled, client_put_fresh, client_fetched, keeps_read, reads_refusal, fetch_refused};
 ghost use Rattle.machine.specs.Events.Heal.{offer_of};
 ghost use Rattle.event_parts.specs.Parts.{way_of};
+ghost use Rattle.event_parts.specs.Recalling.{Shows, remembers};
 
+use crate::recalling::recall_all;
 use client_parts::State;
 use client_txn::{Session, check_key};
 use history_book::Cause;
@@ -17,7 +19,8 @@ use oracle_parts::{Reply, Request};
 use read_sets::ReadSet;
 use reader_resolve::{Next, ReadRun};
 use shadow_cells::Completion;
-use stamp_base::{KeyList, KeyNo, Setup, Stamp, TxnId};
+use stamp_base::{KeyList, KeyNo, NoMemory, Setup, Stamp, TxnId};
+use std::alloc::Global;
 use std::marker::Model;
 
 /// What a session has under way between two of its events.
@@ -30,8 +33,8 @@ pub(crate) enum UnderWay {
     Completes(Completion),
 }
 
-/// A client: its session, what it has under way, the shadow that its last read offers to set, and the keys that its
-/// transaction read and had not written, where the setup has them kept.
+/// A client: its session, with what it remembers, what it has under way, the shadow that its last read offers to set, and
+/// the keys that its transaction read and had not written, where the setup has them kept.
 #[derive(Drop)]
 pub struct Client {
     pub(crate) session: Session,
@@ -47,23 +50,31 @@ impl Model for Client {
 
     ghost use Rattle.event_parts.specs.Parts.{way_of};
 
-    ghost view = { λ c. record { entry = c.session; under_way = way_of c.under_way; heal = c.heal; reads = c.reads } };
+    ghost view = { λ c. record { entry = c.session.entry; under_way = way_of c.under_way; heal = c.heal; reads = c.reads; cache = c.session.cache } };
 }
 
 impl Client {
     ghost use Rattle.event_parts.specs.Waiting.{Waits};
     ghost use Rattle.event_parts.specs.Replies.{WaitsForReply, replied};
 
-    /// A free session, with nothing under way.
-    pub fn new() -> Client
-        ensures { result ≡ state.client_new }
+    /// A free session that remembers so many decisions, with nothing under way.
+    pub fn new(alloc: Global, cache: u64) -> Result<Client, NoMemory>
+        ensures { IfOk result (λ client. client ≡ state.client_new cache) }
     {
-        Client {
-            session: Session::new(),
+        Ok(Client {
+            session: Session::with_cache(alloc, cache)?,
             under_way: UnderWay::Nothing,
             heal: None,
             reads: ReadSet::empty(),
-        }
+        })
+    }
+
+    /// A fresh decision goes with those that are kept, in front. Where memory is refused, all is as before.
+    pub fn put_fresh(&mut self) -> Result<(), NoMemory>
+        ensures kept { OnOk result (self.new ≡ client_put_fresh self.old) }
+        ensures refused { OnErr result (self.new ≡ self.old) }
+    {
+        self.session.keep_fresh()
     }
 
     /// Whether a read is under way.
@@ -276,12 +287,26 @@ impl Client {
         }
     }
 
-    /// A read was begun: it goes on, or it has its answer, and with it the shadow that may be set.
-    pub fn reads(&mut self, run: ReadRun, next: Next)
-        ensures { (turn : ReadTurn) → run ≡ reading_left turn → next ≡ next_of turn → self.new ≡ client_read self.old turn }
+    /// A read was begun. It recalls until it asks, or has its answer, and with it the shadow that may be set. What is next
+    /// then.
+    pub fn reads(&mut self, run: ReadRun, next: Next) -> Next
+        requires recalls { run.recalls ≡ is_recall next }
+        requires shows { Shows run.reading next }
+        ensures client { self.new ≡ client_recalled self.old (remembers self.old.cache run.reading next) }
+        ensures next { result ≡ next_of (remembers self.old.cache run.reading next).0 }
+    {
+        let mut run = run;
+        let then = recall_all(&mut self.session, &mut run, next);
+        self.reads_on(run, &then);
+        then
+    }
+
+    /// The read asks, or has its answer.
+    fn reads_on(&mut self, run: ReadRun, next: &Next)
+        ensures { (turn : ReadTurn) → run.reading ≡ reading_left turn → next.now ≡ next_of turn → self.new ≡ client_read self.old turn }
     {
         match next {
-            Next::Ask(_) => {
+            Next::Recall(_) | Next::Ask(_) => {
                 self.under_way = UnderWay::Reads(run);
                 self.heal = None;
             }

@@ -3,6 +3,7 @@
 
 mod client;
 pub mod ledger;
+mod recalling;
 mod stopped;
 mod working;
 

@@ -1,24 +1,27 @@
 // How a client goes on with what it has under way: what it asks next, and what the answer makes of it.
-ghost use Rattle.std.specs.Prelude.{◌≡◌, ◌≤◌, ◌++◌, Bool, None, Some, IfSome};
+ghost use Rattle.std.specs.Prelude.{◌≡◌, ◌≤◌, ◌++◌, Bool, None, Some, IfSome, OnOk, OnErr};
 ghost use Rattle.client_parts.specs.SessionSteps.{IsAnswer, step_refusal, CanCommit};
 ghost use Rattle.client_parts.specs.Asks.{FitsNext};
 ghost use Rattle.client_parts.specs.Sweep.{IsKeys};
 ghost use Rattle.client_parts.specs.Resolve.{Settling, SettleTurn, Decides, settle_by, outcome_of};
-ghost use Rattle.client_parts.specs.KeyRead.{ReadTurn, next_of as next_after, next_ask, read_told, reading_left};
+ghost use Rattle.client_parts.specs.KeyRead.{ReadTurn, next_of as next_after, next_ask, reading_left};
+ghost use Rattle.client_parts.specs.Cache.{cache_learnt};
 ghost use Rattle.machine.specs.State as state;
 ghost use Rattle.machine.specs.Clients.{is_reading};
 ghost use Rattle.machine.specs.Events.Fetch.{read_items};
 ghost use Rattle.machine.specs.Events.Step.{next_of, own_resolve, work_by, work_of, client_settled, settle_items};
-ghost use Rattle.event_parts.specs.Working.{client_told, told_items, client_failed, offered_by, settles, is_nothing, CanWork};
+ghost use Rattle.event_parts.specs.Working.{client_told, told_items, told_over, IsReady, client_ready, client_failed, offered_by, settles, is_nothing, CanWork};
 
 use crate::Client;
 use crate::client::UnderWay;
 use crate::ledger::tell_read;
-use client_parts::{Ask, Outcome, State, Told};
+use crate::recalling::recall_all;
+use client_parts::{Ask, Known, Outcome, State, Told};
+use client_txn::Session;
 use history_book::{Book, Cause, Ending, Item};
 use invalidator::Settle;
 use reader_resolve::{Next, ReadRun};
-use stamp_base::{KeyNo, SessionNo, Stamp, TxnId};
+use stamp_base::{KeyNo, NoMemory, SessionNo, Stamp, TxnId};
 
 impl Client {
     /// Whether there is a step to make: refused as gone, or idle.
@@ -44,11 +47,24 @@ impl Client {
         }
     }
 
-    /// Takes the answer to the next step. What it decides is told.
+    /// Before the step of a read, a fresh decision goes with those that are kept. Where memory is refused, all is as before.
+    pub fn make_ready(&mut self) -> Result<(), NoMemory>
+        ensures ready { OnOk result (self.new ≡ client_ready self.old (work_of self.old)) }
+        ensures refused { OnErr result (self.new ≡ self.old) }
+    {
+        if self.is_reading() {
+            self.put_fresh()
+        } else {
+            Ok(())
+        }
+    }
+
+    /// Takes the answer to the next step, which is ready. What it decides is told.
     pub fn told(&mut self, book: &mut Book, session: SessionNo, answer: Told)
         requires room { 1 ≤ book.old.room }
         requires answer { FitsNext (next_of (work_of self.old)) answer }
         requires work { CanWork (work_of self.old) self.old.entry }
+        requires ready { IsReady self.old (work_of self.old) }
         ensures client { self.new ≡ client_told self.old (work_of self.old) answer }
         ensures items { book.new.items ≡ book.old.items ++ told_items session self.old (work_of self.old) answer }
         ensures spare { book.new.spare ≡ book.old.spare }
@@ -116,13 +132,21 @@ impl Client {
         requires room { 1 ≤ book.old.room }
         requires answer { FitsNext (next_of self.old.under_way) answer }
         requires work { CanWork self.old.under_way self.old.entry }
+        requires ready { IsReady self.old self.old.under_way }
         ensures client { self.new ≡ client_told self.old self.old.under_way answer }
         ensures items { book.new.items ≡ book.old.items ++ told_items session self.old self.old.under_way answer }
         ensures spare { book.new.spare ≡ book.old.spare }
     {
         match &mut self.under_way {
             UnderWay::Nothing => {}
-            UnderWay::Reads(run) => read_on(book, run, &mut self.heal, session, answer),
+            UnderWay::Reads(run) => read_on(
+                book,
+                &mut self.session,
+                run,
+                &mut self.heal,
+                session,
+                answer,
+            ),
             UnderWay::Settles(settle) => {
                 let outcome = settle.told(answer);
                 self.settled(book, session, &outcome);
@@ -161,26 +185,53 @@ impl Client {
     }
 }
 
-/// The read goes on, or has its answer, which is told, and with it the shadow that may be set.
+/// The read goes on, over what its session keeps, or has its answer, which is told, and with it the shadow that may be set.
+/// What the step decided for good is fresh then.
 fn read_on(
     book: &mut Book,
+    memory: &mut Session,
     run: &mut ReadRun,
     heal: &mut Option<(KeyNo, TxnId, Stamp)>,
     session: SessionNo,
     answer: Told,
 )
     requires room { 1 ≤ book.old.room }
-    requires answer { FitsNext (next_ask run.old) answer }
-    ensures run { IfSome run.old (λ r. run.new ≡ reading_left (read_told r answer)) }
-    ensures heal { IfSome run.old (λ r. heal.new ≡ offered_by (read_told r answer)) }
-    ensures items { IfSome run.old (λ r. book.new.items ≡ book.old.items ++ read_items session r.start r.key (read_told r answer)) }
+    requires answer { FitsNext (next_ask run.old.reading) answer }
+    requires ready { memory.old.cache.fresh ≡ None }
+    ensures memory { IfSome run.old.reading (λ r. memory.new ≡ record memory.old { cache = (told_over memory.old.cache r answer).1 }) }
+    ensures run { IfSome run.old.reading (λ r. run.new.reading ≡ reading_left (told_over memory.old.cache r answer).0) }
+    ensures heal { IfSome run.old.reading (λ r. heal.new ≡ offered_by (told_over memory.old.cache r answer).0) }
+    ensures items { IfSome run.old.reading (λ r. book.new.items ≡ book.old.items ++ read_items session r.start r.key (told_over memory.old.cache r answer).0) }
     ensures spare { book.new.spare ≡ book.old.spare }
 {
     let key = run.key();
     let start = run.reader();
-    let next = run.step(answer);
+    let next = recalls_on(memory, run, answer);
     tell_read(book, session, start, key, &next);
     *heal = offered(&next);
+}
+
+/// The step of a read: what it decides for good is learnt, and the cells that it comes to are recalled.
+fn recalls_on(memory: &mut Session, run: &mut ReadRun, answer: Told) -> Next
+    requires answer { FitsNext (next_ask run.old.reading) answer }
+    requires ready { memory.old.cache.fresh ≡ None }
+    ensures memory { IfSome run.old.reading (λ r. memory.new ≡ record memory.old { cache = (told_over memory.old.cache r answer).1 }) }
+    ensures run { IfSome run.old.reading (λ r. run.new.reading ≡ reading_left (told_over memory.old.cache r answer).0) }
+    ensures next { IfSome run.old.reading (λ r. result ≡ next_after (told_over memory.old.cache r answer).0) }
+{
+    let next = run.step(answer);
+    learn(memory, run.learnt());
+    recall_all(memory, run, next)
+}
+
+/// What a step decided for good is fresh.
+fn learn(memory: &mut Session, learnt: Option<(TxnId, Known)>)
+    requires { memory.old.cache.fresh ≡ None }
+    ensures { memory.new ≡ record memory.old { cache = cache_learnt memory.old.cache learnt } }
+{
+    if let Some((txn, known)) = learnt {
+        memory.learnt(txn, known);
+    }
 }
 
 /// The shadow that a read offers: none until it has its answer.
@@ -188,7 +239,7 @@ fn offered(next: &Next) -> Option<(KeyNo, TxnId, Stamp)>
     ensures { (turn : ReadTurn) → next.now ≡ next_after turn → result ≡ offered_by turn }
 {
     match next {
-        Next::Ask(_) => None,
+        Next::Recall(_) | Next::Ask(_) => None,
         Next::Done(answer) => answer.heal,
     }
 }
