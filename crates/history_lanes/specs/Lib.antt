@@ -2,3 +2,4 @@ pub mod Lanes
 pub mod Bars
 pub mod Shown
 pub mod Signs
+pub mod Earlier

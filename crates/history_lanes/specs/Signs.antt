@@ -27,7 +27,7 @@ pub record IsSign (lanes : List ℕ) (items : List Item) (place : ℕ) (item : I
   pub bar_is : sign.bar ≡ bar_of items place item
   pub link_is : MatchOption sign.link (NoneShows items item 0 place) (IsLink lanes items place item)
 
--- there is a sign for each item, in order
-pub record AreSigns (lanes : List ℕ) (items : List Item) (signs : List Sign) : Type 0 where
-  pub all : length signs ≡ length items
+-- there is a sign for each of the first so many items, in order
+pub record AreSigns (lanes : List ℕ) (count : ℕ) (items : List Item) (signs : List Sign) : Type 0 where
+  pub all : length signs ≡ count
   pub each : (place : ℕ) (item : Item) (sign : Sign) → slice_get items place ≡ Some item → slice_get signs place ≡ Some sign → IsSign lanes items place item sign

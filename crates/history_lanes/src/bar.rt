@@ -41,7 +41,7 @@ pub fn bar_of(items: &[Item], place: usize, item: &Item) -> Option<Bar>
 
 /// The bar to the first item from the place on that ends it.
 #[tactic(auto, unfolding(crate::specs::Bars::bar_to))]
-fn bar_from(items: &[Item], from: usize, opener: &Item, left: BarKind) -> Bar
+pub fn bar_from(items: &[Item], from: usize, opener: &Item, left: BarKind) -> Bar
     requires { from ≤ length items.now }
     ensures bar { result ≡ bar_to opener.now left from (drop from items.now) }
     ensures ahead { from ≤ result.to }

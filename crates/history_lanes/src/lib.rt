@@ -3,10 +3,12 @@
 #![tactic(auto)]
 
 mod bar;
+mod earlier;
 mod lane;
 mod shown;
 mod sign;
 
 pub use bar::{Bar, BarKind};
+pub use earlier::{EarlierBar, earlier_bars};
 pub use lane::lanes_of;
 pub use sign::{Link, Sign, signs_of};

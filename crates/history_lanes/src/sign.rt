@@ -27,12 +27,18 @@ pub struct Sign {
     pub link: Option<Link>,
 }
 
-/// The signs of the items, one for each, in order. Lanes are numbered from the top.
-pub fn signs_of(alloc: Global, lanes: &[usize], items: &[Item]) -> Result<Vec<Sign>, NoMemory>
-    ensures { IfOk result (λ signs. AreSigns lanes.now items.now signs.items) }
+/// The signs of the first so many items, one for each, in order. Lanes are numbered from the top. A bar may end at an item behind them.
+pub fn signs_of(
+    alloc: Global,
+    lanes: &[usize],
+    items: &[Item],
+    count: usize,
+) -> Result<Vec<Sign>, NoMemory>
+    requires { count ≤ length items.now }
+    ensures { IfOk result (λ signs. AreSigns lanes.now count items.now signs.items) }
 {
     let mut signs = Vec::new(alloc);
-    for place in 0..items.len() {
+    for place in 0..count {
         add_sign(&mut signs, sign_at(lanes, items, place))?;
     }
     Ok(signs)

@@ -18,14 +18,14 @@ then_between old mid new words a b c so next = then_one old ((mid ++ a) ++ b) ne
 pub then_two : (old mid new words a b c d : List ℕ) → mid ≡ old ++ words → new ≡ (((mid ++ a) ++ b) ++ c) ++ d → new ≡ old ++ ((((words ++ a) ++ b) ++ c) ++ d)
 then_two old mid new words a b c d so next = then_one old (((mid ++ a) ++ b) ++ c) new (((words ++ a) ++ b) ++ c) d (then_between old mid (((mid ++ a) ++ b) ++ c) words a b c so refl) next
 
-pub one_line : (old new : List ℕ) (width row : ℕ) (lanes : List ℕ) (d : ℕ) → row < length lanes → new ≡ old ++ line_text width row (get_or lanes row d)
-    → new ++ lines_text width (row + 1) (drop (row + 1) lanes) ≡ old ++ lines_text width row (drop row lanes)
+pub one_line : (old new : List ℕ) (count row : ℕ) (lanes : List ℕ) (d : ℕ) → row < length lanes → new ≡ old ++ line_text count row (get_or lanes row d)
+    → new ++ lines_text count (row + 1) (drop (row + 1) lanes) ≡ old ++ lines_text count row (drop row lanes)
 unfolding lines_text
-one_line old new width row lanes d within is =
+one_line old new count row lanes d within is =
     let parts : drop row lanes ≡ get_or lanes row d ∷ drop (row + 1) lanes = rw add-one (drop-cons lanes row d within) in
-    ap (λ text. text ++ lines_text width (row + 1) (drop (row + 1) lanes)) is
-    ∙ (append_assoc old (line_text width row (get_or lanes row d)) (lines_text width (row + 1) (drop (row + 1) lanes))
-    ∙ ap (λ rest. old ++ lines_text width row rest) (sym parts))
+    ap (λ text. text ++ lines_text count (row + 1) (drop (row + 1) lanes)) is
+    ∙ (append_assoc old (line_text count row (get_or lanes row d)) (lines_text count (row + 1) (drop (row + 1) lanes))
+    ∙ ap (λ rest. old ++ lines_text count row rest) (sym parts))
 
 pub one_sign : (old new : List ℕ) (first place : ℕ) (signs : List Sign) (d : Sign) → place < length signs → new ≡ old ++ sign_text (first + place) place (get_or signs place d)
     → new ++ signs_text first (place + 1) (drop (place + 1) signs) ≡ old ++ signs_text first place (drop place signs)

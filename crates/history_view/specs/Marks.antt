@@ -1,10 +1,11 @@
 -- The text of one sign: its bar, its arrow, the sign itself, and a short label.
-use Rattle.std.specs.Prelude.{ℕ, ◌+◌, ◌-◌, ◌*◌, ◌/◌, ◌%◌, ◌==◌, if◌then◌else◌, min, List, [], ◌++◌, Option, None, Some, codes, decimal}
+use Rattle.std.specs.Prelude.{ℕ, ◌+◌, ◌-◌, ◌*◌, ◌/◌, ◌%◌, ◌==◌, ltb, if◌then◌else◌, min, List, [], ◌++◌, Option, None, Some, codes, decimal}
 use Rattle.history_book.specs.declared.item.Item.{Item}
 use Rattle.history_book.specs.declared.item.Item.TheVariants as item
 use Rattle.history_lanes.specs.declared.bar.Bar.{Bar}
 use Rattle.history_lanes.specs.declared.bar.BarKind.{BarKind}
 use Rattle.history_lanes.specs.declared.bar.BarKind.TheVariants as kind
+use Rattle.history_lanes.specs.declared.earlier.EarlierBar.{EarlierBar}
 use Rattle.history_lanes.specs.declared.sign.Link.{Link}
 use Rattle.history_lanes.specs.declared.sign.Sign.{Sign}
 use Rattle.history_text.specs.Text.{body_of}
@@ -91,13 +92,30 @@ abbrev pub bar_text : ℕ → ℕ → Option Bar → List ℕ
 bar_text place row None = []
 bar_text place row (Some bar) = rect_text (kind_text bar.kind) (place_x place) (row_y row - 11) (place_x bar.to - place_x place)
 
+-- a bar that goes on from before the first sign: it begins left of it, and has the words of the item that opened it
+unfoldable pub opener_text : Item → List ℕ
+opener_text opener = codes "<g><title>before: " ++ escaped (body_of opener) ++ codes "</title>"
+
+abbrev pub onward_text : ℕ → Bar → List ℕ
+onward_text row bar = rect_text (kind_text bar.kind) 48 (row_y row - 11) (place_x bar.to - 48)
+
+unfoldable pub earlier_bar_text : EarlierBar → List ℕ
+earlier_bar_text earlier = opener_text earlier.opener ++ onward_text earlier.row earlier.bar ++ codes "</g>\n"
+
+-- a curve that bends over the middle
+unfoldable pub curve_text : ℕ → ℕ → ℕ → ℕ → List ℕ
+curve_text x y to_x to_y =
+    codes "<path d='M" ++ decimal x ++ codes " " ++ decimal y ++ codes "Q" ++ decimal ((x + to_x) / 2) ++ codes " " ++ decimal (y - 18)
+    ++ codes " " ++ decimal to_x ++ codes " " ++ decimal to_y
+
+-- an arrow over more than a hundred places is faint
+abbrev pub end_text : ℕ → ℕ → List ℕ
+end_text from to = if ltb 100 (to - from) then codes "' class='far'/>" else codes "'/>"
+
 -- an arrow from the sign that shows this one
 unfoldable pub link_text : ℕ → ℕ → Option Link → List ℕ
 link_text place row None = []
-link_text place row (Some link) =
-    codes "<path d='M" ++ decimal (place_x link.place) ++ codes " " ++ decimal (row_y link.row)
-    ++ codes "Q" ++ decimal ((place_x link.place + place_x place) / 2) ++ codes " " ++ decimal (row_y link.row - 18)
-    ++ codes " " ++ decimal (place_x place) ++ codes " " ++ decimal (row_y row) ++ codes "'/>"
+link_text place row (Some link) = curve_text (place_x link.place) (row_y link.row) (place_x place) (row_y row) ++ end_text link.place place
 
 -- each tenth sign has its number at the top
 unfoldable pub number_text : ℕ → ℕ → List ℕ

@@ -1,8 +1,10 @@
 -- The text of a picture: its page and style, its lanes, its signs and its legend.
-use Rattle.std.specs.Prelude.{ℕ, ◌+◌, ◌-◌, ltb, ◌==◌, if◌then◌else◌, max, List, [], ◌∷◌, ◌++◌, length, codes, decimal}
+use Rattle.std.specs.Prelude.{ℕ, zero, suc, ◌+◌, ◌-◌, ◌*◌, ◌/◌, ltb, ◌==◌, if◌then◌else◌, max, List, [], ◌∷◌, ◌++◌, length, codes, decimal}
+use Rattle.std.specs.List.{flat_map}
 use Rattle.history_text.specs.Words.{node_text, session_text}
+use Rattle.history_lanes.specs.declared.earlier.EarlierBar.{EarlierBar}
 use Rattle.history_lanes.specs.declared.sign.Sign.{Sign}
-use Rattle.history_view.specs.Marks.{place_x, row_y, sign_text}
+use Rattle.history_view.specs.Marks.{earlier_bar_text, place_x, row_y, sign_text}
 
 -- ---- how large the page is
 abbrev pub page_width : ℕ → ℕ
@@ -31,7 +33,7 @@ circles_text =
 -- where the reader has set so
 unfoldable pub night_text : List ℕ
 night_text =
-    codes ".n{font-size:8px}@media(prefers-color-scheme:dark){svg{background:#16181d;fill:#ddd}line{stroke:#333}\n"
+    codes ".n{font-size:8px}.again{font-size:8px;fill:#777}.far{opacity:.2}@media(prefers-color-scheme:dark){svg{background:#16181d;fill:#ddd}line{stroke:#333}\n"
     ++ codes ".committed{fill:#23462a}.refused{fill:#5c2622}.aborted{fill:#3c3c3c}.dead{fill:#43305a}.open{fill:#574715}.lease{fill:#22375a}}\n"
 
 unfoldable pub arrow_text : List ℕ
@@ -60,12 +62,26 @@ rule_text width y = codes "<line x1='48' x2='" ++ decimal width ++ codes "' y1='
 unfoldable pub caption_text : ℕ → ℕ → List ℕ
 caption_text y lane = codes "<text class='lane' x='4' y='" ++ decimal (y + 4) ++ codes "'>" ++ lane_text lane ++ codes "</text>\n"
 
+-- the name again, above the line
+unfoldable pub again_text : ℕ → ℕ → ℕ → List ℕ
+again_text x y lane = codes "<text class='lane again' x='" ++ decimal x ++ codes "' y='" ++ decimal y ++ codes "'>" ++ lane_text lane ++ codes "</text>\n"
+
+-- at each fiftieth place, so many of them
+unfoldable pub names_text : ℕ → ℕ → ℕ → List ℕ
+names_text y lane zero = []
+names_text y lane (suc names) = names_text y lane names ++ again_text (place_x (50 * (names + 1))) (y - 12) lane
+
+-- on a page of so many signs
 abbrev pub line_text : ℕ → ℕ → ℕ → List ℕ
-line_text width row lane = rule_text width (row_y row) ++ caption_text (row_y row) lane
+line_text count row lane = rule_text (page_width count) (row_y row) ++ caption_text (row_y row) lane ++ names_text (row_y row) lane (count / 50)
 
 unfoldable pub lines_text : ℕ → ℕ → List ℕ → List ℕ
-lines_text width row [] = []
-lines_text width row (lane ∷ lanes) = line_text width row lane ++ lines_text width (row + 1) lanes
+lines_text count row [] = []
+lines_text count row (lane ∷ lanes) = line_text count row lane ++ lines_text count (row + 1) lanes
+
+-- ---- the bars that go on from before its first sign
+abbrev pub earlier_text : List EarlierBar → List ℕ
+earlier_text bars = flat_map earlier_bar_text bars
 
 -- ---- its signs, one for each, in order; the first has this number
 unfoldable pub signs_text : ℕ → ℕ → List Sign → List ℕ
@@ -80,20 +96,20 @@ key_text x kind words =
 
 abbrev pub ends_text : List ℕ
 ends_text =
-    key_text 60 (codes "committed") (codes "committed") ++ key_text 180 (codes "refused") (codes "refused")
-    ++ key_text 280 (codes "aborted") (codes "aborted") ++ key_text 380 (codes "dead") (codes "dead")
+    key_text 60 (codes "committed") (codes "committed or read-only") ++ key_text 240 (codes "refused") (codes "refused")
+    ++ key_text 330 (codes "aborted") (codes "aborted") ++ key_text 420 (codes "dead") (codes "dead")
 
 abbrev pub keys_text : List ℕ
-keys_text = ends_text ++ key_text 460 (codes "open") (codes "open or left") ++ key_text 590 (codes "lease") (codes "lease of a term, by the base clock")
+keys_text = ends_text ++ key_text 490 (codes "open") (codes "open or left") ++ key_text 610 (codes "lease") (codes "lease of a term, by the base clock")
 
 unfoldable pub legend_text : ℕ → List ℕ
 legend_text y =
-    codes "<text class='lane' x='4' y='" ++ decimal y ++ codes "'>b c ask, a accept, d draw, B begin, W write, R read, P placed, C committed, D ended, s step, n note"
+    codes "<text class='lane' x='4' y='" ++ decimal y ++ codes "'>b asks to begin, c to commit, a accept, d draw, B begin, W write, R read, P placed, C committed, D ended otherwise, s step, n note"
     ++ codes "</text><text class='lane' x='4' y='" ++ decimal (y + 18)
     ++ codes "'>T take, N renew, E extend, t tick, M mark, ! refused, F fault, X crash, V vanish. Arrows lead from what shows a read or a refusal.</text></svg>\n"
 
 -- ---- the whole, of signs whose first has this number
-abbrev pub picture_text : List ℕ → ℕ → List Sign → List ℕ
-picture_text lanes first signs =
+abbrev pub picture_text : List ℕ → List EarlierBar → ℕ → List Sign → List ℕ
+picture_text lanes earlier first signs =
     open_text (page_width (length signs)) (page_height (length lanes)) ++ style_text ++ keys_text
-    ++ lines_text (page_width (length signs)) 0 lanes ++ signs_text first 0 signs ++ legend_text (row_y (length lanes) + 20)
+    ++ lines_text (length signs) 0 lanes ++ earlier_text earlier ++ signs_text first 0 signs ++ legend_text (row_y (length lanes) + 20)

@@ -1,16 +1,16 @@
 // The text of one sign.
 ghost use Rattle.std.specs.Prelude.{◌≡◌, ◌≤◌, ◌++◌, Some, OnOk, decimal};
-ghost use Rattle.history_view.specs.Marks.{bar_text, class_text, dot_text, front_text, kind_text, label, label_text, letter, link_text, number_text, place_x, rect_text, row_y, sign_text, stamp_text, title_text};
+ghost use Rattle.history_view.specs.Marks.{bar_text, class_text, curve_text, dot_text, earlier_bar_text, end_text, front_text, kind_text, label, label_text, letter, link_text, number_text, onward_text, opener_text, place_x, rect_text, row_y, sign_text, stamp_text, title_text};
 
 use crate::text::Text;
 use history_book::Item;
-use history_lanes::{Bar, BarKind, Link, Sign};
+use history_lanes::{Bar, BarKind, EarlierBar, Link, Sign};
 use stamp_base::{NoMemory, Stamp};
 
 /// Where a place stands. What is past the last place stands at the edge.
 pub fn place_x(place: usize) -> u64
     ensures x { result ≡ place_x place }
-    ensures within { result ≤ 32060 }
+    ensures within { (60 ≤ result) × (result ≤ 32060) }
 {
     60 + 16 * place.min(2000) as u64
 }
@@ -31,6 +31,38 @@ pub fn print_sign(text: &mut Text, number: u64, place: usize, sign: &Sign) -> Re
     print_bar(text, place, sign.row, sign.bar)?;
     print_link(text, place, sign.row, sign.link)?;
     print_front(text, number, place, sign)
+}
+
+/// Adds a bar that goes on from before the first sign, with the words of the item that opened it.
+#[tactic(auto, unfolding(crate::specs::Marks::earlier_bar_text))]
+pub fn print_earlier_bar(text: &mut Text, earlier: &EarlierBar) -> Result<(), NoMemory>
+    ensures { OnOk result (text.new ≡ text.old ++ earlier_bar_text earlier.now) }
+{
+    print_opener(text, &earlier.opener)?;
+    print_onward(text, earlier.row, earlier.bar)?;
+    text.push(b"</g>\n")
+}
+
+fn print_opener(text: &mut Text, opener: &Item) -> Result<(), NoMemory>
+    ensures { OnOk result (text.new ≡ text.old ++ opener_text opener.now) }
+{
+    text.push(b"<g><title>before: ")?;
+    text.push_item(opener)?;
+    text.push(b"</title>")?;
+    Ok(())
+}
+
+/// A bar from the left of the first sign on.
+fn print_onward(text: &mut Text, row: usize, bar: Bar) -> Result<(), NoMemory>
+    ensures { OnOk result (text.new ≡ text.old ++ onward_text row bar) }
+{
+    print_rect(
+        text,
+        kind_word(bar.kind),
+        48,
+        row_y(row) - 11,
+        place_x(bar.to) - 48,
+    )
 }
 
 #[tactic(auto, unfolding(crate::specs::Marks::title_text))]
@@ -90,20 +122,41 @@ fn print_link(text: &mut Text, place: usize, row: usize, link: Option<Link>) -> 
     }
 }
 
-/// An arrow that bends over the middle.
 #[tactic(auto, unfolding(crate::specs::Marks::link_text))]
 fn print_arrow(text: &mut Text, place: usize, row: usize, link: Link) -> Result<(), NoMemory>
     ensures { OnOk result (text.new ≡ text.old ++ link_text place row (Some link)) }
 {
-    text.push_two(b"<path d='M", place_x(link.place), b" ", row_y(link.row))?;
-    text.push_two(
-        b"Q",
-        (place_x(link.place) + place_x(place)) / 2,
-        b" ",
-        row_y(link.row) - 18,
+    print_curve(
+        text,
+        place_x(link.place),
+        row_y(link.row),
+        place_x(place),
+        row_y(row),
     )?;
-    text.push_two(b" ", place_x(place), b" ", row_y(row))?;
-    text.push(b"'/>")
+    text.push(end_of(link.place, place))
+}
+
+/// A curve that bends over the middle.
+fn print_curve(text: &mut Text, x: u64, y: u64, to_x: u64, to_y: u64) -> Result<(), NoMemory>
+    requires across { (x ≤ 32060) × (to_x ≤ 32060) }
+    requires below { 66 ≤ y }
+    ensures { OnOk result (text.new ≡ text.old ++ curve_text x y to_x to_y) }
+{
+    text.push_two(b"<path d='M", x, b" ", y)?;
+    text.push_two(b"Q", (x + to_x) / 2, b" ", y - 18)?;
+    text.push_two(b" ", to_x, b" ", to_y)?;
+    Ok(())
+}
+
+/// The end of an arrow's words. One over more than a hundred places is faint.
+fn end_of(from: usize, to: usize) -> &'static [u8]
+    ensures { result.now ≡ end_text from to }
+{
+    if 100 < to.saturating_sub(from) {
+        b"' class='far'/>"
+    } else {
+        b"'/>"
+    }
 }
 
 /// A circle with a letter in it.

@@ -78,7 +78,7 @@ fn print_night(text: &mut Text) -> Result<(), NoMemory>
     ensures { OnOk result (text.new ≡ text.old ++ night_text) }
 {
     text.push(
-        b".n{font-size:8px}@media(prefers-color-scheme:dark){svg{background:#16181d;fill:#ddd}line{stroke:#333}\n",
+        b".n{font-size:8px}.again{font-size:8px;fill:#777}.far{opacity:.2}@media(prefers-color-scheme:dark){svg{background:#16181d;fill:#ddd}line{stroke:#333}\n",
     )?;
     text.push(
         b".committed{fill:#23462a}.refused{fill:#5c2622}.aborted{fill:#3c3c3c}.dead{fill:#43305a}.open{fill:#574715}.lease{fill:#22375a}}\n",
@@ -105,17 +105,17 @@ fn print_keys(text: &mut Text) -> Result<(), NoMemory>
     ensures { OnOk result (text.new ≡ text.old ++ keys_text) }
 {
     print_ends(text)?;
-    print_key(text, 460, b"open", b"open or left")?;
-    print_key(text, 590, b"lease", b"lease of a term, by the base clock")
+    print_key(text, 490, b"open", b"open or left")?;
+    print_key(text, 610, b"lease", b"lease of a term, by the base clock")
 }
 
 fn print_ends(text: &mut Text) -> Result<(), NoMemory>
     ensures { OnOk result (text.new ≡ text.old ++ ends_text) }
 {
-    print_key(text, 60, b"committed", b"committed")?;
-    print_key(text, 180, b"refused", b"refused")?;
-    print_key(text, 280, b"aborted", b"aborted")?;
-    print_key(text, 380, b"dead", b"dead")
+    print_key(text, 60, b"committed", b"committed or read-only")?;
+    print_key(text, 240, b"refused", b"refused")?;
+    print_key(text, 330, b"aborted", b"aborted")?;
+    print_key(text, 420, b"dead", b"dead")
 }
 
 fn print_key(text: &mut Text, x: u64, kind: &[u8], words: &[u8]) -> Result<(), NoMemory>
@@ -141,7 +141,7 @@ pub fn print_legend(text: &mut Text, y: u64) -> Result<(), NoMemory>
 {
     text.push_field(b"<text class='lane' x='4' y='", y)?;
     text.push(
-        b"'>b c ask, a accept, d draw, B begin, W write, R read, P placed, C committed, D ended, s step, n note",
+        b"'>b asks to begin, c to commit, a accept, d draw, B begin, W write, R read, P placed, C committed, D ended otherwise, s step, n note",
     )?;
     text.push_field(b"</text><text class='lane' x='4' y='", y + 18)?;
     text.push(

@@ -4,4 +4,4 @@ use Rattle.history_view.proofs.lanes.print_lines.Goals as goal
 
 pub loop-row-preserved : goal.loop-row-preserved
 loop-row-preserved c =
-    one_line c.loop-row.text c.print_line.new.text c.args.width c.loop-row.row c.args.lanes.now 0 (omega arith) c.in_ok-print_line.ensures ∙ c.loop-row.invariant
+    one_line c.loop-row.text c.print_line.new.text c.args.count c.loop-row.row c.args.lanes.now 0 (omega arith) c.in_ok-print_line.ensures ∙ c.loop-row.invariant
