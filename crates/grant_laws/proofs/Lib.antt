@@ -11,7 +11,9 @@ mod Facts
 mod CommitLines
 mod BeginLines
 mod ReadTurns
+mod BareReads
 mod ReadLines
+mod ShortReads
 mod FetchLines
 mod WorkedScripts
 mod WorkedCrossing
