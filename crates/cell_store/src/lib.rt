@@ -109,25 +109,17 @@ impl Cells {
         Ok(answered_under(weather.next(Store::Cells), cells)?)
     }
 
-    /// What a reader with this start needs of the key, in one step. It costs a search by halves and the cells that it
-    /// gives, however many versions the key has.
-    pub fn fetch_front<W: Weather>(
-        &self,
-        weather: &mut W,
-        key: KeyNo,
-        start: Stamp,
-    ) -> Result<Front, StoreError>
+    /// What a reader with this start needs of the key, without a store call: a fetch gathers it before its call. It costs a
+    /// search by halves and the cells that it gives, however many versions the key has.
+    pub fn front(&self, key: KeyNo, start: Stamp) -> Result<Front, NoMemory>
         ensures versions { IfOk result (λ front. front.versions ≡ length (fetched self.now.rows key start)) }
         ensures cells { IfOk result (λ front. front.cells.items ≡ front_of start (fetched self.now.rows key start)) }
         ensures falling { IfOk result (λ front. AreFalling front.cells.items) }
         ensures upto { IfOk result (λ front. AreUpto start front.cells.items) }
-        ensures call { UnlessNoMemory result (IsOneCall Store.Cells (W.ahead weather.old) (W.ahead weather.new)
-            (W.faults weather.old) (W.faults weather.new) result) }
-        ensures memory { OnNoMemory result (weather.new ≡ weather.old) }
         ensures ordered { AreOrdered self.now.rows }
     {
         let front = self.rows.front(key, start)?;
-        Ok(answered_under(weather.next(Store::Cells), front)?)
+        Ok(front)
     }
 
     /// The cell of the key and the version, in one step. None exactly where there is no such row.

@@ -130,7 +130,7 @@ fn a_fault_hides_what_was_done(rt: HostRuntime) -> Result<(), Fail> {
 fn a_front_of_one_key(rt: HostRuntime) -> Result<(), Fail> {
     let key = KeyNo::FIRST;
     let cells = committed_by_tens(rt.alloc(), key)?;
-    let front = cells.fetch_front(&mut CalmWeather::new(), key, stamp(43)?)?;
+    let front = cells.front(key, stamp(43)?)?;
     assert_eq!(rt; front.versions, 43);
     let last = front.cells.last().map(|cell| cell.version.value());
     assert_eq!(rt; last, Some(30));

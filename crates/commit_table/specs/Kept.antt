@@ -1,5 +1,5 @@
 -- How the table's map and its set of places hold what contracts see.
-use Rattle.std.specs.Prelude.{◌≤◌}
+use Rattle.std.specs.Prelude.{◌≤◌, ◌+◌, if◌then◌else◌}
 use Rattle.indexmap.specs.IndexMap.{spare}
 use Rattle.indexmap.specs.IndexSet.{index_set_len}
 use Rattle.store_parts.specs.Pairs.{Pairs, Places}
@@ -12,6 +12,6 @@ pairs_of t = pairs_from t.pairs.entries
 abbrev pub places_of : Inside → Places
 places_of t = places_from t.places.keys
 
--- the map has room for every transaction with a place
+-- the map has room for every transaction with a place, and for one mark more where it says so
 abbrev pub HasRoom : Inside → Type 0
-HasRoom t = index_set_len t.places ≤ spare t.pairs
+HasRoom t = index_set_len t.places + (if t.has_room then 1 else 0) ≤ spare t.pairs

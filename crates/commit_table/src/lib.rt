@@ -1,7 +1,7 @@
 //! The commit table: the marks of transactions, and places for the marks that must not want memory.
 #![tactic(auto)]
 
-ghost use Rattle.std.specs.Prelude.{◌≡◌, IfOk, IsTrue, OnErr, OnOk};
+ghost use Rattle.std.specs.Prelude.{◌≡◌, true, IfOk, IsTrue, OnErr, OnOk};
 ghost use Rattle.std.specs.FinMap as map;
 ghost use Rattle.std.specs.FinSet as set;
 ghost use Rattle.commit_table.specs.Calls.{mark_of, put_answer, put_pair, without_committed, IsOneCall, UnlessNoMemory, OnNoMemory, fated};
@@ -24,6 +24,8 @@ pub struct Table {
     // By the transactions' numbers.
     pairs: IndexMap<u64, Mark>,
     places: IndexSet<u64>,
+    /// Whether the map has room for one mark more.
+    has_room: bool,
 }
 
 impl Model for Table {
@@ -35,7 +37,7 @@ impl Model for Table {
 
     ghost use Rattle.commit_table.specs.Kept.{pairs_of, places_of, HasRoom};
 
-    ghost view = { λ t. record { pairs = pairs_of t; places = places_of t } };
+    ghost view = { λ t. record { pairs = pairs_of t; places = places_of t; has_room = t.has_room } };
 
     ghost invariant = { HasRoom };
 }
@@ -49,6 +51,7 @@ impl Table {
         Table {
             pairs: IndexMap::new(alloc),
             places: IndexSet::new(alloc),
+            has_room: false,
         }
     }
 
@@ -102,7 +105,7 @@ impl Table {
         if self.places.contains(&number) {
             return Ok(());
         }
-        self.pairs.reserve(self.places.len() + 1)?;
+        self.pairs.reserve(self.places.len() + 2)?;
         self.places.insert(number)?;
         Ok(())
     }
@@ -147,6 +150,40 @@ impl Table {
         answered_under(fate, ())
     }
 
+    /// Makes room for one mark more, so that the next `put_in_room` takes no memory. The pairs and the places stay.
+    pub fn make_room(&mut self) -> Result<(), NoMemory>
+        ensures pairs { self.new.pairs ≡ self.old.pairs }
+        ensures places { self.new.places ≡ self.old.places }
+        ensures room { OnOk result (self.new.has_room ≡ true) }
+    {
+        self.pairs.reserve(self.places.len() + 1)?;
+        self.has_room = true;
+        Ok(())
+    }
+
+    /// Places the mark where the transaction has none, in the room that was made. The room is used up whatever the fate. An
+    /// entry that is there stays, and is the answer.
+    pub fn put_in_room<W: Weather>(
+        &mut self,
+        weather: &mut W,
+        txn: TxnId,
+        mark: Mark,
+    ) -> Result<Put, StoreFault>
+        requires { self.old.has_room ≡ true }
+        ensures value { IfOk result (λ put. put ≡ put_answer (mark_of self.old.pairs txn)) }
+        ensures pairs { self.new.pairs ≡ fated (W.ahead weather.old Store.Table 0)
+            self.old.pairs (put_pair self.old.pairs txn mark) }
+        ensures places { self.new.places ≡ self.old.places }
+        ensures call { IsOneCall Store.Table (W.ahead weather.old) (W.ahead weather.new)
+            (W.faults weather.old) (W.faults weather.new) result }
+    {
+        let put = answer(self.mark_of(txn));
+        self.has_room = false;
+        let fate = weather.next(Store::Table);
+        place_under(&mut self.pairs, fate, txn, mark);
+        answered_under(fate, put)
+    }
+
     /// Places the mark of a transaction that has none, beside the room for all transactions with a place.
     fn put_new<W: Weather>(
         &mut self,
@@ -164,6 +201,7 @@ impl Table {
         ensures memory { OnNoMemory result ((self.new ≡ self.old) × (weather.new ≡ weather.old)) }
     {
         self.pairs.reserve(self.places.len() + 1)?;
+        self.has_room = false;
         let fate = weather.next(Store::Table);
         place_under(&mut self.pairs, fate, txn, mark);
         Ok(answered_under(fate, Put::Placed)?)

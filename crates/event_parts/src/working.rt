@@ -49,7 +49,10 @@ impl Client {
 
     /// Before the step of a read, a fresh decision goes with those that are kept. Where memory is refused, all is as before.
     pub fn make_ready(&mut self) -> Result<(), NoMemory>
-        ensures ready { OnOk result (self.new ≡ client_ready self.old (work_of self.old)) }
+        ensures client { OnOk result (self.new ≡ client_ready self.old (work_of self.old)) }
+        ensures work { OnOk result (work_of self.new ≡ work_of self.old) }
+        ensures entry { OnOk result (self.new.entry ≡ self.old.entry) }
+        ensures ready { OnOk result (IsReady self.new (work_of self.new)) }
         ensures refused { OnErr result (self.new ≡ self.old) }
     {
         if self.is_reading() {

@@ -1,14 +1,16 @@
 // A session begins a read.
-ghost use Rattle.std.specs.Prelude.{◌≡◌, None};
+ghost use Rattle.std.specs.Prelude.{◌≡◌, ◌≤◌, ◌++◌, ◌∷◌, false, None};
 ghost use Rattle.stamp_base.specs.Setups.{numbers_of};
 ghost use Rattle.store_parts.specs.Rows.{fetched};
-ghost use Rattle.machine.specs.Events.Fetch.{fetch_on, fetch_by, fetch_asks, fetch_refused};
+ghost use Rattle.client_parts.specs.KeyRead.{AreFetched};
+ghost use Rattle.client_parts.specs.Recalled.{recalled_over};
+ghost use Rattle.machine.specs.Events.Fetch.{client_recalled, read_items, fetch_on, fetch_by, fetch_asks, fetch_refused};
 ghost use Rattle.event_parts.specs.Made.{Makes, Asks};
 
-use cell_store::{Cells, StoreError};
+use cell_store::{Cells, Front};
 use event_parts::{Client, Stopped, ledger};
 use history_book::{Actor, Book, Item, StoreStep};
-use port_io::Weather;
+use port_io::{Fate, Weather};
 use reader_resolve::ReadRun;
 use stamp_base::{KeyNo, SessionNo, Setup, Stamp, Store};
 
@@ -59,27 +61,50 @@ fn fetch_open<W: Weather>(
     ensures asked { Asks result (Some Store.Cells) (W.ahead weather.old) (W.ahead weather.new)
         (W.faults weather.old) (W.faults weather.new) }
 {
+    // All memory is taken before the store call and before anything changes.
     book.make_room(2)?;
-    match cells.fetch_front(weather, key, start) {
-        Ok(front) => {
-            let what = StoreStep::Fetch {
-                key,
-                cells: front.versions,
-            };
+    let front = cells.front(key, start)?;
+    client.put_fresh()?;
+    match ledger::fate_of(weather, Store::Cells) {
+        Fate::Works => {
             client.fetched(setup, key);
-            let (run, next) = ReadRun::start(key, start, epoch, front.cells);
-            book.append_in_room(Item::Step {
-                actor: Actor::Session(session),
-                what,
-            });
-            ledger::tell_read(book, session, start, key, &next);
-            client.reads(run, next);
+            read_begun(book, client, session, start, epoch, key, front);
             Ok(())
         }
-        Err(StoreError::StoreFault) => {
+        Fate::FailsUnchanged | Fate::FailsApplied => {
             client.offers_none();
             ledger::fail(book, Actor::Session(session), Store::Cells, None)
         }
-        Err(StoreError::NoMemory) => Err(Stopped::NoMemory),
     }
+}
+
+/// The cells were fetched: the read goes over them, as far as it comes by itself and by what its session keeps.
+#[tactic(auto, using(event_parts::proofs::Recalls::start_comes))]
+fn read_begun(
+    book: &mut Book,
+    client: &mut Client,
+    session: SessionNo,
+    start: Stamp,
+    epoch: u64,
+    key: KeyNo,
+    front: Front,
+)
+    requires room { 2 ≤ book.old.room }
+    requires fetched { AreFetched start front.cells.items }
+    ensures client { client.new ≡ client_recalled client.old (recalled_over false key start epoch front.cells.items client.old.cache) }
+    ensures items { book.new.items ≡ book.old.items ++ Item.Step (Actor.Session session) (StoreStep.Fetch key front.versions)
+        ∷ read_items session start key (recalled_over false key start epoch front.cells.items client.old.cache).0 }
+    ensures spare { book.new.spare ≡ book.old.spare }
+{
+    let what = StoreStep::Fetch {
+        key,
+        cells: front.versions,
+    };
+    book.append_in_room(Item::Step {
+        actor: Actor::Session(session),
+        what,
+    });
+    let (run, next) = ReadRun::start(key, start, epoch, front.cells);
+    let then = client.reads(run, next);
+    ledger::tell_read(book, session, start, key, &then);
 }

@@ -1,10 +1,10 @@
 use Rattle.std.proofs.Common.{◌≤◌}
 use Rattle.store_parts.specs.declared.rows.Cell.{Cell}
 use Rattle.store_parts.proofs.RowFetches.{fetched-falls, fetched-upto, front-falls, front-all}
-use Rattle.cell_store.proofs.Cells.fetch_front.Goals as goal
+use Rattle.cell_store.proofs.Cells.front.Goals as goal
 
 pub returns-clause-falling : goal.returns-clause-falling
-returns-clause-falling g c = rw (c.in_ok-answered_under.ensures.value, c.in_ok-front.ensures.cells) (front-falls c.args.start _ (fetched-falls _ c.args.key c.args.start c.in_ok-front.ensures.ordered))
+returns-clause-falling c = rw c.in_ok-front.ensures.cells (front-falls c.args.start _ (fetched-falls _ c.args.key c.args.start c.in_ok-front.ensures.ordered))
 
 pub returns-clause-upto : goal.returns-clause-upto
-returns-clause-upto g c = rw (c.in_ok-answered_under.ensures.value, c.in_ok-front.ensures.cells) (front-all (λ (cell : Cell). cell.version ≤ c.args.start) c.args.start _ (fetched-upto _ c.args.key c.args.start))
+returns-clause-upto c = rw c.in_ok-front.ensures.cells (front-all (λ (cell : Cell). cell.version ≤ c.args.start) c.args.start _ (fetched-upto _ c.args.key c.args.start))
