@@ -29,7 +29,7 @@ put_back w items session c new at only = PutBack session c new at refl (inl only
 left_only : (w : State) (k : CompletedOne w) → OnlyGone k.c k.left
 left_only w k = elim k.left_is [
   | inl goes ↦ subst (λ (new : Client). OnlyGone k.c new) (sym goes.0) (asks_only k.c k.asks)
-  | inr freed ↦ subst (λ (new : Client). OnlyGone k.c new) (sym freed) (freed_only k.c k.c)
+  | inr freed ↦ subst (λ (new : Client). OnlyGone k.c new) (sym freed.0) (freed_only k.c k.c)
 ]
 
 pub moved : (w : State) (o : Outcome w) → ClientsMoved w (left_by w o).clients (told_by_outcome w o)

@@ -22,6 +22,7 @@ use Rattle.isolation_laws.proofs.UnderWay.UnderWayKept.{under_way_kept}
 use Rattle.isolation_laws.proofs.Requests.BeginsKept.{begins_kept}
 use Rattle.isolation_laws.proofs.Reading.ReadsKept.{reads_kept, right_reads_kept}
 use Rattle.isolation_laws.proofs.Known.KnownKept.{known_kept}
+use Rattle.isolation_laws.proofs.Bare.BareKept.{owned_kept}
 use Rattle.isolation_laws.proofs.Inversions.InversionParts.{ComesBy}
 use Rattle.isolation_laws.proofs.Inversions.Inversion.{comes_to}
 use Rattle.isolation_laws.proofs.Inversions.InversionSound.{sound_kept, opening_sound}
@@ -46,6 +47,7 @@ holds_kept w h o holds = record {
   begins = begins_kept w h o holds;
   reads = reads_kept w h o holds;
   known = known_kept w h o holds;
+  owned = owned_kept w h o holds;
   isolated = record {
     apart = apart_kept w h o holds;
     stamped = stamped_kept w h o holds;

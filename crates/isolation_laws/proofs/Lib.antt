@@ -11,6 +11,7 @@ pub mod Memory
 pub mod Stores
 pub mod UnderWay
 pub mod Known
+pub mod Bare
 pub mod Reading
 pub mod Holding
 pub mod Inversions

@@ -12,6 +12,7 @@ use Rattle.isolation_laws.specs.UnderWay.{UnderWayFacts}
 use Rattle.isolation_laws.specs.Begins.{BeginFacts}
 use Rattle.isolation_laws.specs.Reads.{ReadFacts}
 use Rattle.isolation_laws.specs.Known.{KnownFacts}
+use Rattle.isolation_laws.specs.Bare.{AreOwned}
 
 pub record Holds (w : State) (h : List Item) : Type 0 where
   pub in_range : AreInRange w.setup
@@ -23,4 +24,5 @@ pub record Holds (w : State) (h : List Item) : Type 0 where
   pub begins : BeginFacts w.clients w.nodes h
   pub reads : ReadFacts w.setup w.clients w.nodes w.rows w.pairs h
   pub known : KnownFacts w.clients w.nodes w.pairs h
+  pub owned : AreOwned w.clients w.rows h
   pub isolated : Isolated h

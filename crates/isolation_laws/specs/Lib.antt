@@ -10,6 +10,7 @@ pub mod UnderWay
 pub mod Begins
 pub mod Reads
 pub mod Known
+pub mod Bare
 pub mod Holds
 pub mod Sound
 pub mod Laws

@@ -1,5 +1,5 @@
 -- All that ties state and history holds in the opening state, of an empty history.
-use Rattle.std.proofs.Common.{[], ◌≡◌, ℕ, true, false, Some, None, inl, inr, sym, ◌∙◌, ap, subst}
+use Rattle.std.proofs.Common.{arith, [], ◌≡◌, ℕ, true, false, Some, None, inl, inr, sym, ◌∙◌, ap, subst}
 use Rattle.std.specs.FinMap as map
 use Rattle.std.specs.Ordering.{nat_cmp}
 use Rattle.std.proofs.lemmas.Option.{none-some}
@@ -10,6 +10,7 @@ use Rattle.store_parts.specs.declared.rows.Cell.{Cell}
 use Rattle.store_parts.specs.Rows.{looked, AreOrdered}
 use Rattle.client_parts.specs.declared.session.State.TheVariants as phase
 use Rattle.machine.specs.State.{Nothing, Reads, Settles, Client, opening}
+use Rattle.isolation_laws.specs.Bare.{AreOwned}
 use Rattle.isolation_laws.specs.Words.{HasRecord}
 use Rattle.isolation_laws.specs.Pending.{Live}
 use Rattle.isolation_laws.specs.Cells.{CellFacts}
@@ -101,6 +102,13 @@ opening_isolated = record {
   reads = each_none (RightRead []);
 }
 
+opening_owned : (setup : SetupNumbers) → AreOwned (opening setup).clients (opening setup).rows []
+opening_owned setup = record {
+  lost = [];
+  few = omega arith;
+  each = λ k t b. absurd (none_looked k t b.cell b.there);
+}
+
 pub opening_holds : (setup : SetupNumbers) → AreInRange setup → Holds (opening setup) []
 opening_holds setup in_range = record {
   in_range = in_range;
@@ -112,5 +120,6 @@ opening_holds setup in_range = record {
   begins = opening_begins setup;
   reads = opening_reads setup;
   known = opening_known setup;
+  owned = opening_owned setup;
   isolated = opening_isolated;
 }

@@ -1,8 +1,11 @@
 -- What the next step of a session comes to: of a read, of the resolve of its own commit, of a completion.
-use Rattle.std.proofs.Common.{◌≡◌, ℕ, Bool, true, false, if◌then◌else◌, List, [], ◌∷◌, ◌++◌, Option, Some, None, ◌⊎◌, inl, inr, refl, ap}
+use Rattle.std.proofs.Common.{◌≡◌, ℕ, ◌≤◌, Bool, true, false, cond, if◌then◌else◌, List, [], ◌∷◌, ◌++◌, Option, Some, None, ◌⊎◌, inl, inr, refl, ap, arith}
 use Rattle.std.proofs.lemmas.List.Elements.{All-cons}
+use Rattle.std.proofs.lemmas.List.Sums.{sum_by-append}
+use Rattle.stamp_base.specs.declared.stores.Store.{Store}
 use Rattle.port_io.specs.declared.weather.Fate.{Fate}
 use Rattle.port_io.specs.declared.weather.Fate.TheVariants.{Works, FailsUnchanged, FailsApplied}
+use Rattle.history_book.specs.declared.item.Actor.{Actor}
 use Rattle.history_book.specs.declared.item.Actor.TheVariants.{Session}
 use Rattle.history_book.specs.declared.item.Ending.TheVariants.{Dead as DeadEnd}
 use Rattle.history_book.specs.declared.item.Item.{Item}
@@ -24,6 +27,7 @@ use Rattle.machine.specs.Events.Fetch.{client_recalled, client_put_fresh}
 use Rattle.machine.specs.Events.Step.{step_recall, StepParts, read_step, settle_items, client_settled, settle_step, complete_step, own_resolve, after_asks}
 use Rattle.isolation_laws.specs.Words.{ClientAt}
 use Rattle.isolation_laws.specs.Quiet.{Quiet, AllQuiet}
+use Rattle.isolation_laws.specs.Bare.{is_fault, faults_in}
 use Rattle.isolation_laws.proofs.Outcome.PlainItems.{Plain, AllPlain, all_quiet, all_silent, none_plain}
 use Rattle.isolation_laws.proofs.Outcome.OutcomesOfWork.{CompletedOne, MayHaveMarked}
 use Rattle.isolation_laws.proofs.Outcome.Outcomes.{OfReadStepped, OfReadDropped, OfOutcome, OfOutcomeFailed, OfCompleted}
@@ -138,8 +142,12 @@ pub record IsCompletion (c : Client) (asked : Ask) (asks : List Ask) : Type 0 wh
   pub under_way : c.under_way ≡ Completes (asked ∷ asks)
   pub no_list : NoList asked
 
+-- a failed step tells its fault
+fault_told : (effects : List Item) (actor : Actor) (store : Store) → 1 ≤ faults_in (effects ++ item.Fault actor store ∷ [])
+fault_told effects actor store = omega (arith, sum_by-append (λ (x : Item). cond (is_fault x) 1 0) effects (item.Fault actor store ∷ []))
+
 -- the outcome of a step of a completion
-abbrev completed : (w : State) (session : ℕ) (c : Client) (asked : Ask) (asks : List Ask) (applied : Bool) (left : Client) (items : List Item) → ClientAt w.clients session c → IsCompletion c asked asks → ((left ≡ after_asks c asks) × (applied ≡ true)) ⊎ (left ≡ client_freed c) → MarksTold w.pairs (if applied then pairs_after asked w.pairs else w.pairs) items → AllPlain items → CompletedOne w
+abbrev completed : (w : State) (session : ℕ) (c : Client) (asked : Ask) (asks : List Ask) (applied : Bool) (left : Client) (items : List Item) → ClientAt w.clients session c → IsCompletion c asked asks → ((left ≡ after_asks c asks) × (applied ≡ true)) ⊎ ((left ≡ client_freed c) × (1 ≤ faults_in items)) → MarksTold w.pairs (if applied then pairs_after asked w.pairs else w.pairs) items → AllPlain items → CompletedOne w
 completed w session c asked asks applied left items at is left_is told plain = record {
   session = session;
   undo = is.undo;
@@ -158,9 +166,9 @@ completed w session c asked asks applied left items at is left_is told plain = r
   silent = all_silent items plain;
 }
 
-complete_failed : (w : State) (session : ℕ) (c : Client) (asked : Ask) (asks : List Ask) (applied : Bool) (items : List Item) → ClientAt w.clients session c → IsCompletion c asked asks → MarksTold w.pairs (if applied then pairs_after asked w.pairs else w.pairs) items → AllPlain items → ComesTo w (record (with_client w session (client_freed c)) { rows = if applied then rows_after asked w.rows else w.rows; pairs = if applied then pairs_after asked w.pairs else w.pairs }) items
-complete_failed w session c asked asks applied items at is told plain = (
-  OfCompleted (completed w session c asked asks applied (client_freed c) items at is (inr refl) told plain),
+complete_failed : (w : State) (session : ℕ) (c : Client) (asked : Ask) (asks : List Ask) (applied : Bool) (items : List Item) → ClientAt w.clients session c → IsCompletion c asked asks → 1 ≤ faults_in items → MarksTold w.pairs (if applied then pairs_after asked w.pairs else w.pairs) items → AllPlain items → ComesTo w (record (with_client w session (client_freed c)) { rows = if applied then rows_after asked w.rows else w.rows; pairs = if applied then pairs_after asked w.pairs else w.pairs }) items
+complete_failed w session c asked asks applied items at is fault told plain = (
+  OfCompleted (completed w session c asked asks applied (client_freed c) items at is (inr (refl, fault)) told plain),
   refl,
   refl,
 )
@@ -171,5 +179,5 @@ complete_comes w session Works c asked asks at is = (
   refl,
   refl,
 )
-complete_comes w session FailsUnchanged c asked asks at is = complete_failed w session c asked asks false _ at is (met_marks (Session session) asked FailsUnchanged w.rows w.pairs) (failed_plain (Session session) asked (told_by asked w.rows w.pairs) FailsUnchanged (store_of asked))
-complete_comes w session FailsApplied c asked asks at is = complete_failed w session c asked asks true _ at is (met_marks (Session session) asked FailsApplied w.rows w.pairs) (failed_plain (Session session) asked (told_by asked w.rows w.pairs) FailsApplied (store_of asked))
+complete_comes w session FailsUnchanged c asked asks at is = complete_failed w session c asked asks false _ at is (fault_told (effect_items (Session session) asked (told_by asked w.rows w.pairs) FailsUnchanged) (Session session) (store_of asked)) (met_marks (Session session) asked FailsUnchanged w.rows w.pairs) (failed_plain (Session session) asked (told_by asked w.rows w.pairs) FailsUnchanged (store_of asked))
+complete_comes w session FailsApplied c asked asks at is = complete_failed w session c asked asks true _ at is (fault_told (effect_items (Session session) asked (told_by asked w.rows w.pairs) FailsApplied) (Session session) (store_of asked)) (met_marks (Session session) asked FailsApplied w.rows w.pairs) (failed_plain (Session session) asked (told_by asked w.rows w.pairs) FailsApplied (store_of asked))

@@ -1,6 +1,6 @@
 -- For cause_laws too.
 -- What an event comes to for the work of sessions: reads, outcomes that are open, completions.
-use Rattle.std.proofs.Common.{[], ◌≡◌, ℕ, Bool, true, false, if◌then◌else◌, List, ◌∷◌, Option, None, Some, ◌⊎◌}
+use Rattle.std.proofs.Common.{[], ◌≡◌, ℕ, ◌≤◌, Bool, true, false, if◌then◌else◌, List, ◌∷◌, Option, None, Some, ◌⊎◌}
 use Rattle.std.specs.Prelude.{slice_set}
 use Rattle.stamp_base.specs.declared.stores.Mark.TheVariants.{Invalid as InvalidMark}
 use Rattle.history_book.specs.declared.item.Item.{Item}
@@ -17,6 +17,7 @@ use Rattle.machine.specs.Clients.{is_reading, client_freed}
 use Rattle.machine.specs.StoreSteps.{rows_after, pairs_after, told_by}
 use Rattle.machine.specs.Events.Fetch.{client_put_fresh, fetch_recall, client_read, read_items, client_fetched, fetch_refused}
 use Rattle.machine.specs.Events.Step.{step_recall, client_settled, settle_items, own_resolve, after_asks}
+use Rattle.isolation_laws.specs.Bare.{faults_in}
 use Rattle.isolation_laws.specs.Words.{ClientAt}
 use Rattle.isolation_laws.specs.Quiet.{Quiet, AllQuiet}
 use Rattle.isolation_laws.proofs.Outcome.PlainItems.{Silent, AllSilent}
@@ -136,7 +137,7 @@ pub record OutcomeFailed (w : State) : Type 0 where
 abbrev pub outcome_failed_state : (w : State) → OutcomeFailed w → State
 outcome_failed_state w k = record w { clients = slice_set w.clients k.it.session (record k.it.c { under_way = Nothing }); pairs = k.pairs }
 
--- ---- completions: a step, which may have failed, with effect or without
+-- ---- completions: a step, which may have failed, with effect or without; then the fault is told
 pub record CompletedOne (w : State) : Type 0 where
   pub session : ℕ
   pub undo : Bool
@@ -148,8 +149,8 @@ pub record CompletedOne (w : State) : Type 0 where
   pub under_way : c.under_way ≡ Completes (asked ∷ asks)
   pub applied : Bool
   pub left : Client
-  pub left_is : ((left ≡ after_asks c asks) × (applied ≡ true)) ⊎ (left ≡ client_freed c)
   pub items : List Item
+  pub left_is : ((left ≡ after_asks c asks) × (applied ≡ true)) ⊎ ((left ≡ client_freed c) × (1 ≤ faults_in items))
   pub marks : MarksTold w.pairs (if applied then pairs_after asked w.pairs else w.pairs) items
   pub quiet : AllQuiet items
   pub silent : AllSilent items

@@ -186,7 +186,7 @@ reading_outcome_failed w k = fewer_reading_set w.clients k.it.session k.it.c _ k
 completed_reads : (w : State) (k : CompletedOne w) → ReadsNothing k.left
 completed_reads w k = elim k.left_is [
   | inl goes ↦ subst (λ (d : Client). ReadsNothing d) (sym goes.0) (asks_read k.c k.asks)
-  | inr freed ↦ subst (λ (d : Client). ReadsNothing d) (sym freed) nothing_reads
+  | inr freed ↦ subst (λ (d : Client). ReadsNothing d) (sym freed.0) nothing_reads
 ]
 
 pub reading_completed : (w : State) (k : CompletedOne w) → FewerReading w.clients (completed_state w k).clients

@@ -90,7 +90,7 @@ module _ {X : Type 0} (part : List ℕ → Cache → X) where
   completed_keeps : (w : State) (k : CompletedOne w) → SamePart k.left k.c
   completed_keeps w k = elim k.left_is [
     | inl goes ↦ ap (λ (x : Client). part x.reads x.cache) goes.0 ∙ asks_keep k.c k.asks
-    | inr freed ↦ ap (λ (x : Client). part x.reads x.cache) freed
+    | inr freed ↦ ap (λ (x : Client). part x.reads x.cache) freed.0
   ]
 
   -- a crash

@@ -91,7 +91,7 @@ fewer_open_outcome_failed w k = fewer_open_set w.clients k.it.session k.it.c _ k
 completed_opens : (w : State) (k : CompletedOne w) → OpensNothing k.c k.left
 completed_opens w k = elim k.left_is [
   | inl goes ↦ subst (λ (d : Client). OpensNothing k.c d) (sym goes.0) (asks_opens k.c k.asks)
-  | inr freed ↦ subst (λ (d : Client). OpensNothing k.c d) (sym freed) (inl not_free)
+  | inr freed ↦ subst (λ (d : Client). OpensNothing k.c d) (sym freed.0) (inl not_free)
 ]
 
 pub fewer_open_completed : (w : State) (k : CompletedOne w) → FewerOpen w.clients (completed_state w k).clients

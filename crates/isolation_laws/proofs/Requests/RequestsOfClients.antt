@@ -134,7 +134,7 @@ leaves_outcome_failed w h k holds = leaves_same w h k.it.session k.it.c _ k.it.c
 completed_becomes : (w : State) (h : List Item) (k : CompletedOne w) → Holds w h → Becomes h k.session k.c k.left
 completed_becomes w h k holds = elim k.left_is [
   | inl goes ↦ subst (λ (x : Client). Becomes h k.session k.c x) (sym goes.0) (record { begun = asks_keep k.c k.asks; keys = keys_asks h k.c k.asks (keys_of w h k.session k.c holds k.client_at) })
-  | inr freed ↦ subst (λ (x : Client). Becomes h k.session k.c x) (sym freed) (record { begun = freed_keeps k.c; keys = keys_freed h k.c })
+  | inr freed ↦ subst (λ (x : Client). Becomes h k.session k.c x) (sym freed.0) (record { begun = freed_keeps k.c; keys = keys_freed h k.c })
 ]
 
 pub leaves_completed : (w : State) (h : List Item) (k : CompletedOne w) → Holds w h → Leaves w h w.nodes (completed_state w k).clients

@@ -45,7 +45,7 @@ last_write-none h t k none = by (last_write h t k) refl
     by (Some value) e = let who = write_of h t k value e in absurd (none who.0 value who.1)
 
 -- ---- the keys that a transaction wrote
-added_stays : (keys : List ℕ) (k j : ℕ) → k ∈ keys → k ∈ key_added keys j
+pub added_stays : (keys : List ℕ) (k j : ℕ) → k ∈ keys → k ∈ key_added keys j
 added_stays keys k j m = elim (cases_Bool (has_key keys j)) [
   | inl has ↦ rw has m
   | inr has ↦ rw has (in_front k keys (j ∷ []) m)
@@ -59,7 +59,7 @@ has_key_in (j ∷ keys) k has = elim (cases_eq j k) [
   | inr other ↦ inr (has_key_in keys k (rw (ne_eqb j k other) at has))
 ]
 
-added_in : (keys : List ℕ) (k : ℕ) → k ∈ key_added keys k
+pub added_in : (keys : List ℕ) (k : ℕ) → k ∈ key_added keys k
 added_in keys k = elim (cases_Bool (has_key keys k)) [
   | inl has ↦ rw has (has_key_in keys k has)
   | inr has ↦ rw has (in_last k keys)

@@ -80,7 +80,7 @@ rows_if applied asked rows = if applied then rows_after asked rows else rows
 left_works : (w : State) (h : List Item) (k : CompletedOne w) → Holds w h → Works (rows_if k.applied k.asked w.rows) h k.left
 left_works w h k holds = elim k.left_is [
   | inl goes ↦ subst (λ (b : Bool). Works (rows_if b k.asked w.rows) h k.left) (sym goes.1) (subst (λ (x : Client). Works (rows_after k.asked w.rows) h x) (sym goes.0) (works_after_asks w h k.c k.asked k.asks k.undo holds k.completing k.under_way (work_of w h k.session k.c holds k.client_at)))
-  | inr freed ↦ subst (λ (x : Client). Works (rows_if k.applied k.asked w.rows) h x) (sym freed) (works_freed (rows_if k.applied k.asked w.rows) h k.c)
+  | inr freed ↦ subst (λ (x : Client). Works (rows_if k.applied k.asked w.rows) h x) (sym freed.0) (works_freed (rows_if k.applied k.asked w.rows) h k.c)
 ]
 
 pub keeps_if : (w : State) (h : List Item) (asked : Ask) (applied : Bool) → Holds w h → AskFits w h asked → KeepsPlaced w.rows (if applied then rows_after asked w.rows else w.rows) h h

@@ -1,0 +1,5 @@
+-- Cells without a shadow, and whose they are.
+pub mod BareClients
+pub mod BareRows
+pub mod BareKept
+pub mod FewBare
