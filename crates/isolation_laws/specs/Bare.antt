@@ -1,5 +1,6 @@
 -- Cells without a shadow, and whose they are: of a transaction that a session has, or of one that a session let go where a store failed.
 use Rattle.std.specs.Prelude.{◌≡◌, ℕ, ◌+◌, ◌≤◌, ◌⊎◌, Bool, true, false, List, length, count_by, is_some, not, Some, None}
+use Rattle.std.specs.List.{filter}
 use Rattle.history_book.specs.Members.{◌∈◌}
 use Rattle.history_book.specs.declared.item.Item.{Item}
 use Rattle.history_book.specs.declared.item.Item.TheVariants.{Fault}
@@ -62,4 +63,4 @@ is_bare c = not (is_some c.shadow)
 
 -- of the cells that a fetch of any key gives, one for each session and each fault have no shadow
 abbrev pub BareCellsAreFew : State → List Item → Type 0
-BareCellsAreFew w h = (key upto : ℕ) → count_by is_bare (fetched w.rows key upto) ≤ length w.clients + faults_in h
+BareCellsAreFew w h = (key upto : ℕ) → length (filter is_bare (fetched w.rows key upto)) ≤ length w.clients + faults_in h

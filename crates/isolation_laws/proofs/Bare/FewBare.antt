@@ -2,14 +2,12 @@
 -- Of the cells of one key as many as there are sessions and faults have no shadow, at most: their versions differ, and each is the
 -- start of a session or a transaction that was let go.
 use Rattle.std.proofs.Common.{[], ◌≡◌, ℕ, zero, suc, ◌+◌, ◌≤◌, ◌<◌, ◌==◌, true, false, All, List, ◌∷◌, ◌++◌, map, length, length-append, not, is_some, Option, Some, None, inl, inr, refl, sym, ◌∙◌, ap, subst, arith}
-use Rattle.std.specs.Prelude.{count_by}
 use Rattle.std.specs.Cmp.{IsEquivalence}
 use Rattle.std.specs.List.{IsDistinct, AllByRecursion, filter}
 use Rattle.std.specs.Set.{is_member}
 use Rattle.std.proofs.lemmas.Bool.{cases_Bool, cases_eq, eq-eqb, ne_eqb}
 use Rattle.std.proofs.lemmas.List.Elements.{All-head, All-tail}
 use Rattle.std.proofs.lemmas.List.{length-map}
-use Rattle.std.proofs.lemmas.List.Sums.{length-filter}
 use Rattle.std.proofs.lemmas.Map.Made.{length-le_from_is_member}
 use Rattle.history_book.specs.Members.{◌∈◌}
 use Rattle.history_book.specs.declared.item.Item.{Item}
@@ -133,14 +131,14 @@ owned_version w h key upto q holds is =
       | inr m ↦ in_back q (starts_of w.clients) holds.owned.lost m
     ]
 
-as_many : (cells : List Cell) → length (versions_of cells) ≡ count_by is_bare cells
+as_many : (cells : List Cell) → length (versions_of cells) ≡ length (filter is_bare cells)
 unfolding versions_of
-as_many cells = length-map (filter is_bare cells) (λ (c : Cell). c.version) ∙ length-filter is_bare cells
+as_many cells = length-map (filter is_bare cells) (λ (c : Cell). c.version)
 
 pub few_bare : (w : State) (h : List Item) → Holds w h → BareCellsAreFew w h
 few_bare w h holds key upto =
     let cells : List Cell = fetched w.rows key upto in
     let all : List ℕ = starts_of w.clients ++ holds.owned.lost in
     let fits : length (versions_of cells) ≤ length all = length-le_from_is_member same_laws (versions_of cells) all (distinct cells (are_fetched w h key upto holds).falling) (λ q is. member_of q all (owned_version w h key upto q holds is)) in
-    let counted : length (versions_of cells) ≡ count_by is_bare cells = as_many cells in
+    let counted : length (versions_of cells) ≡ length (filter is_bare cells) = as_many cells in
     omega (arith, fits, counted, length-append (starts_of w.clients) holds.owned.lost, few_starts w.clients, holds.owned.few)
