@@ -12,7 +12,7 @@ use Rattle.line_steps.specs.Laws.{EventsLowerWhatIsLeft, IsPlayable, IsReached}
 use Rattle.line_steps.proofs.AlwaysFit.{Fit, fit_stays, fit_at_first}
 use Rattle.line_steps.proofs.Ending.{lines_keep, opening_reached}
 use Rattle.grant_laws.specs.Granted.{IsBefore, Appends, Grants}
-use Rattle.grant_laws.proofs.LongerRuns.{appended_still, in_last, lines_longer}
+use Rattle.grant_laws.proofs.LongerRuns.{Longer, appended_still, in_last, lines_longer}
 
 -- ---- lines one after the other
 played_on : (script : ScriptData) (earlier later : List Line) (p : Played) → lines_played script (earlier ++ later) p ≡ lines_played script later (lines_played script earlier p)
@@ -36,6 +36,12 @@ script_goes_on script line p k =
     ∙ played_on script k.earlier (line ∷ k.later) (opening_played script)
     ∙ ap (λ (q : Played). lines_played script (line ∷ k.later) q) (sym k.played)
     ∙ first_line script line k.later p
+
+-- what stands before the line stays in front
+pub longer_whole : (script : ScriptData) (line : Line) (p : Played) → IsBefore script line p → Longer p.items (script_played script).items
+longer_whole script line p k =
+    let all : Longer p.items (lines_played script (line ∷ k.later) p).items = lines_longer script (line ∷ k.later) p in
+    subst (λ (q : Played). Longer p.items q.items) (first_line script line k.later p ∙ sym (script_goes_on script line p k)) all
 
 pub granted : (script : ScriptData) (line : Line) (p : Played) (x : Item) → IsBefore script line p → Appends p.items (line_run script line p).played.items x → Grants script line p x
 granted script line p x k appends =

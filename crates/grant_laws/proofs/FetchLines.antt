@@ -15,10 +15,9 @@ use Rattle.client_parts.specs.declared.key_read.Answer.{Answer}
 use Rattle.client_parts.specs.declared.session.State.{State as SessionState}
 use Rattle.client_parts.specs.declared.session.State.TheVariants as phase
 use Rattle.client_parts.specs.SessionSteps.{work_refusal}
-use Rattle.client_parts.specs.KeyRead.{Reading, ReadTurn, Asks, Answers, read_left}
+use Rattle.client_parts.specs.KeyRead.{Reading, ReadTurn, Asks, Answers}
 use Rattle.client_parts.specs.Cache.{Cache, put_fresh}
 use Rattle.client_parts.specs.Recalled.{Remembering}
-use Rattle.client_parts.specs.RecalledReads.{RecalledReadsEnd}
 use Rattle.machine.specs.State.{Reads as UnderRead, Client, State}
 use Rattle.machine.specs.Clients.{is_reading}
 use Rattle.machine.specs.Effect.{Effect}
@@ -49,7 +48,11 @@ use Rattle.line_steps.proofs.Fitting.{EpochFits, fit_at}
 use Rattle.grant_laws.proofs.ReadTurns.{CallsWork, works_on, works_now}
 use Rattle.std.specs.Option.{option_or}
 use Rattle.stamp_base.specs.SetupNumbers.{SetupNumbers}
-use Rattle.grant_laws.specs.Premises.{IsAtWork}
+use Rattle.grant_laws.specs.Premises.{IsAtWork, cells_to_read}
+use Rattle.grant_laws.proofs.BareReads.{BareReadsEnd}
+use Rattle.isolation_laws.specs.Bare.{is_bare}
+use Rattle.std.proofs.lemmas.List.Sums.{length-filter, count_by-le-length}
+use Rattle.grant_laws.specs.Turns.{read_steps}
 
 -- ---- the fetch
 -- an open transaction has an epoch
@@ -130,7 +133,7 @@ answers_at_once script number s key start many p c a cache so =
       appends = record { added = fetch ∷ x ∷ []; is = ap (λ (step : Step). p.items ++ step.items) so.is; has = in_last x (fetch ∷ []) (x ∷ []) (in_one x) };
     }
 
-answers_later : RecalledReadsEnd → (script : ScriptData) (number s key start many : ℕ) (p : Played) (c : Client) (r : Reading) (cache : Cache) → r.key ≡ key → r.start ≡ start → read_left r ≤ many → CallsWork script (many + 1) p.calls → FetchesSo script s key start p c (Asks r, cache) → HasAnswer script (line_of number (Session s) (verb.Read key)) s key start (many + 1) (opened p)
+answers_later : BareReadsEnd → (script : ScriptData) (number s key start many : ℕ) (p : Played) (c : Client) (r : Reading) (cache : Cache) → r.key ≡ key → r.start ≡ start → read_steps r ≤ many → CallsWork script (many + 1) p.calls → FetchesSo script s key start p c (Asks r, cache) → HasAnswer script (line_of number (Session s) (verb.Read key)) s key start (many + 1) (opened p)
 answers_later ends script number s key start many p c r cache key_is start_is few works so =
     let v : Verb = verb.Read key in
     let line : Line = line_of number (Session s) v in
@@ -157,24 +160,24 @@ answers_later ends script number s key start many p c r cache key_is start_is fe
       appends = appended_before p.items q.items on.next.played.items (item.Read s start key on.answer) (record { added = (step_of script p e).items; is = refl }) on.appends;
     }
 
-by_first : RecalledReadsEnd → (script : ScriptData) (number s key start many : ℕ) (p : Played) (c : Client) (turn : ReadTurn) (cache : Cache) → OfRead key start turn → ((r : Reading) → turn ≡ Asks r → read_left r ≤ many) → CallsWork script (many + 1) p.calls → FetchesSo script s key start p c (turn, cache) → HasAnswer script (line_of number (Session s) (verb.Read key)) s key start (many + 1) (opened p)
+by_first : BareReadsEnd → (script : ScriptData) (number s key start many : ℕ) (p : Played) (c : Client) (turn : ReadTurn) (cache : Cache) → OfRead key start turn → ((r : Reading) → turn ≡ Asks r → read_steps r ≤ many) → CallsWork script (many + 1) p.calls → FetchesSo script s key start p c (turn, cache) → HasAnswer script (line_of number (Session s) (verb.Read key)) s key start (many + 1) (opened p)
 by_first ends script number s key start many p c (Answers a) cache same few works so = answers_at_once script number s key start many p c a cache so
 by_first ends script number s key start many p c (Asks r) cache same few works so = answers_later ends script number s key start many p c r cache same.0 same.1 (few r refl) works so
 
 -- ---- the line
 -- the run of the line has room for all steps
-room_left : (number s key start : ℕ) (p : Played) (c : Client) → ClientAt p.state.clients s c → c.entry.start ≡ Some start → 3 * length (front_of start (fetched p.state.rows key start)) + 1 ≤ left_in (line_of number (Session s) (verb.Read key)) (opened p)
+room_left : (number s key start : ℕ) (p : Played) (c : Client) → ClientAt p.state.clients s c → c.entry.start ≡ Some start → 3 * cells_to_read p start key + 1 ≤ left_in (line_of number (Session s) (verb.Read key)) (opened p)
 room_left number s key start p c at begun =
     let is : left_in (line_of number (Session s) (verb.Read key)) (opened p) ≡ 1 + (3 * cells_by p.state.rows key c.entry.start + client_reads c) = ap (λ (found : Option Client). 1 + of_client found (client_fetches p.state.rows key)) at in
     let cells : cells_by p.state.rows key c.entry.start ≡ length (front_of start (fetched p.state.rows key start)) = ap (λ (from : Option ℕ). cells_by p.state.rows key from) begun in
-    omega (arith, is, cells)
+    omega (arith, is, cells, length-filter is_bare (front_of start (fetched p.state.rows key start)), count_by-le-length is_bare (front_of start (fetched p.state.rows key start)))
 
-pub reads_are_granted : EventsLowerWhatIsLeft → RecalledReadsEnd → ReadsAreGranted
+pub reads_are_granted : EventsLowerWhatIsLeft → BareReadsEnd → ReadsAreGranted
 reads_are_granted lowers ends script p number s key before can =
     let line : Line = line_of number (Session s) (verb.Read key) in
     let c : Client = can.work.client in
     let start : ℕ = can.work.start in
-    let many : ℕ = 3 * length (front_of start (fetched p.state.rows key start)) in
+    let many : ℕ = 3 * cells_to_read p start key in
     let known : Known script p = known_before lowers script line p before in
     let epoch : (e : ℕ) × (c.entry.epoch ≡ Some e) = has_epoch p s c known.fit can.work.session_is can.work.in_work in
     let works : CallsWork script (many + 1) p.calls = λ store n from less. can.reading store n from (omega (arith, less)) in

@@ -11,6 +11,7 @@ mod Facts
 mod CommitLines
 mod BeginLines
 mod ReadTurns
+mod BareReads
 mod ReadLines
 mod FetchLines
 mod WorkedScripts
@@ -39,3 +40,4 @@ mod ServedLines
 mod OtherTurns
 mod ReadSeats
 mod WholeReads
+mod ShortReads

@@ -17,10 +17,9 @@ use Rattle.client_parts.specs.SessionSteps.{step_refusal}
 use Rattle.client_parts.specs.declared.resolve.SettlePoint.{SettlePoint}
 use Rattle.client_parts.specs.declared.resolve.SettlePoint.TheVariants.{FirstLook, Table, Marking, LastLook}
 use Rattle.client_parts.specs.Resolve.{settle_left}
-use Rattle.client_parts.specs.KeyRead.{Reading, ReadTurn, Asks, Answers, read_ask, read_left}
+use Rattle.client_parts.specs.KeyRead.{Reading, ReadTurn, Asks, Answers, read_ask}
 use Rattle.client_parts.specs.Cache.{Cache}
 use Rattle.client_parts.specs.Recalled.{Remembering}
-use Rattle.client_parts.specs.RecalledReads.{RecalledReadsEnd}
 use Rattle.machine.specs.State.{UnderWay, Reads as UnderRead, Client, State}
 use Rattle.machine.specs.Clients.{is_reading, is_reading_by}
 use Rattle.machine.specs.Readers.{doing_at, doing_by}
@@ -45,6 +44,8 @@ use Rattle.line_steps.proofs.ReadLines.{OfRead, told_recalls}
 use Rattle.grant_laws.specs.Granted.{line_of, Appends, next_fate}
 use Rattle.grant_laws.proofs.LongerRuns.{in_one, in_last, appended_before, Leads, leads_on, leads_one, leads_to, run_at}
 use Rattle.grant_laws.proofs.ReadTurns.{CallsWork, works_on, works_now, read_from}
+use Rattle.grant_laws.proofs.BareReads.{BareReadsEnd}
+use Rattle.grant_laws.specs.Turns.{read_steps}
 
 -- ---- a read under way
 pub record IsReading (s key start : ℕ) (p : Played) (r : Reading) : Type 0 where
@@ -169,7 +170,7 @@ some_left Table = omega arith
 some_left Marking = omega arith
 some_left (LastLook met) = omega arith
 
-pub read_answers : RecalledReadsEnd → (most : ℕ) (script : ScriptData) (number s key start : ℕ) (p : Played) (r : Reading) → IsReading s key start p r → read_left r ≤ most → CallsWork script most p.calls → HasAnswer script (line_of number (Session s) (verb.Read key)) s key start most (run_at Reads p)
+pub read_answers : BareReadsEnd → (most : ℕ) (script : ScriptData) (number s key start : ℕ) (p : Played) (r : Reading) → IsReading s key start p r → read_steps r ≤ most → CallsWork script most p.calls → HasAnswer script (line_of number (Session s) (verb.Read key)) s key start most (run_at Reads p)
 read_answers ends zero script number s key start p r k few works = absurd (omega (arith, few, some_left r.point))
 read_answers ends (suc many) script number s key start p r k few works =
     let told : Told = told_now p r in

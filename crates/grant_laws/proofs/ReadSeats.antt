@@ -5,7 +5,7 @@ use Rattle.history_book.specs.declared.item.Actor.{Actor}
 use Rattle.history_book.specs.declared.item.Actor.TheVariants.{Session}
 use Rattle.client_parts.specs.declared.session.State.{State as SessionState}
 use Rattle.client_parts.specs.declared.session.State.TheVariants as phase
-use Rattle.client_parts.specs.KeyRead.{Reading, read_left}
+use Rattle.client_parts.specs.KeyRead.{Reading}
 use Rattle.machine.specs.State.{UnderWay, Client}
 use Rattle.machine.specs.Clients.{is_reading_by, is_reading}
 use Rattle.machine.specs.Readers.{doing_at, doing_by, doing_of}
@@ -35,7 +35,7 @@ use Rattle.turn_rules.specs.Carried.{Carried, seat_of, event_of, moved, with_eve
 use Rattle.turn_rules.proofs.OwnTurns.{present_own}
 use Rattle.turn_rules.proofs.SeatLists.{get_drop}
 use Rattle.turn_rules.proofs.SeatsOn.{seat_after, turned_seat, own_moved}
-use Rattle.grant_laws.specs.Turns.{ReadsKey}
+use Rattle.grant_laws.specs.Turns.{ReadsKey, read_steps}
 use Rattle.grant_laws.proofs.OwnLines.{seat_actor}
 
 -- ---- a read line under way
@@ -49,7 +49,7 @@ pub record IsUnder (script : ScriptData) (c : Carried) (s start key most : ℕ) 
   pub point_is : seat.point ≡ Reads
   pub r : Reading
   pub reads : ReadsKey c.played s start key r
-  pub few : read_left r ≤ most
+  pub few : read_steps r ≤ most
 
 -- the next event of such a line is a step
 step_is_next : (p : Played) (s start key : ℕ) (r : Reading) → ReadsKey p s start key r → read_next s (doing_of p.state s) ≡ Some (event.Step s)
@@ -84,7 +84,7 @@ seat_stays script c s start key r seat line mine present verb_is point_is k =
     ∙ not_passed clocks view line _ seat (ap (λ (x : Ahead). is_passed x) ahead)
 
 -- so the line is under way after the event
-pub under_after : (script : ScriptData) (c : Carried) (t : Turn) (e : Event) (s start key most : ℕ) (r : Reading) (old seat : Seat) (line : Line) → event_of script c t ≡ Some e → seat_of c.seats (Session s) ≡ Some old → moved script t (step_of script c.played e) old ≡ seat → seat.actor ≡ Session s → present_line script seat ≡ Some line → line.verb ≡ verb.Read key → seat.point ≡ Reads → ReadsKey (played script c.played e) s start key r → read_left r ≤ most → IsUnder script (turned script c t) s start key most
+pub under_after : (script : ScriptData) (c : Carried) (t : Turn) (e : Event) (s start key most : ℕ) (r : Reading) (old seat : Seat) (line : Line) → event_of script c t ≡ Some e → seat_of c.seats (Session s) ≡ Some old → moved script t (step_of script c.played e) old ≡ seat → seat.actor ≡ Session s → present_line script seat ≡ Some line → line.verb ≡ verb.Read key → seat.point ≡ Reads → ReadsKey (played script c.played e) s start key r → read_steps r ≤ most → IsUnder script (turned script c t) s start key most
 under_after script c t e s start key most r old seat line makes sits goes mine present verb_is point_is k few =
     let next : Carried = with_event script c t e in
     let stays : seat_passed script next seat ≡ seat = seat_stays script next s start key r seat line mine present verb_is point_is k in
@@ -98,7 +98,7 @@ under_after script c t e s start key most r old seat line makes sits goes mine p
 
 -- ---- an own turn of the line
 -- it goes on at the steps of the read where it did not stop
-pub own_under : (script : ScriptData) (c : Carried) (e : Event) (s start key most : ℕ) (r : Reading) (seat : Seat) (line : Line) → event_of script c (turn.Own (Session s)) ≡ Some e → seat_of c.seats (Session s) ≡ Some seat → present_line script seat ≡ Some line → line.verb ≡ verb.Read key → follows (verb.Read key) seat.point None ≡ Reads → (step_of script c.played e).stop ≡ None → ReadsKey (played script c.played e) s start key r → read_left r ≤ most → IsUnder script (turned script c (turn.Own (Session s))) s start key most
+pub own_under : (script : ScriptData) (c : Carried) (e : Event) (s start key most : ℕ) (r : Reading) (seat : Seat) (line : Line) → event_of script c (turn.Own (Session s)) ≡ Some e → seat_of c.seats (Session s) ≡ Some seat → present_line script seat ≡ Some line → line.verb ≡ verb.Read key → follows (verb.Read key) seat.point None ≡ Reads → (step_of script c.played e).stop ≡ None → ReadsKey (played script c.played e) s start key r → read_steps r ≤ most → IsUnder script (turned script c (turn.Own (Session s))) s start key most
 own_under script c e s start key most r seat line makes sits present verb_is goes_on stops k few =
     let step : Step = step_of script c.played e in
     let mine : seat.actor ≡ Session s = seat_actor c (Session s) seat sits in

@@ -7,10 +7,9 @@ use Rattle.history_book.specs.declared.item.Item.{Item}
 use Rattle.history_book.specs.declared.item.Item.TheVariants as item
 use Rattle.store_parts.specs.declared.rows.Cell.{Cell}
 use Rattle.store_parts.specs.Rows.{fetched, front_of}
-use Rattle.client_parts.specs.KeyRead.{Reading, ReadTurn, Asks, Answers, read_left, read_ask}
+use Rattle.client_parts.specs.KeyRead.{Reading, ReadTurn, Asks, Answers, read_ask}
 use Rattle.client_parts.specs.Cache.{Cache, put_fresh}
 use Rattle.client_parts.specs.Recalled.{Remembering}
-use Rattle.client_parts.specs.RecalledReads.{RecalledReadsEnd}
 use Rattle.machine.specs.State.{Reads as UnderRead, Client}
 use Rattle.machine.specs.StoreSteps.{store_of}
 use Rattle.machine.specs.declared.event.Event.TheVariants as event
@@ -26,7 +25,7 @@ use Rattle.grant_laws.specs.Granted.{next_fate}
 use Rattle.grant_laws.proofs.LongerRuns.{in_one, in_last}
 use Rattle.grant_laws.proofs.OwnCarried.{own_plays}
 use Rattle.grant_laws.proofs.ReadLines.{IsReading, told_now, recall_now, StepsSo, steps_so}
-use Rattle.grant_laws.specs.Turns.{ReadsKey, AnswersOr, ReadsAreCarried}
+use Rattle.grant_laws.specs.Turns.{ReadsKey, AnswersOr, ReadsAreCarried, read_steps}
 use Rattle.stamp_base.specs.SetupNumbers.{AreInRange}
 use Rattle.turn_rules.specs.declared.ahead.Ahead.TheVariants.{Makes}
 use Rattle.turn_rules.specs.declared.turn.Turn.{Turn}
@@ -36,12 +35,13 @@ use Rattle.turn_rules.proofs.Facts.{Facts, facts_all, facts_at_first}
 use Rattle.grant_laws.specs.Premises.{cells_to_read, CanFetch}
 use Rattle.grant_laws.proofs.FetchLines.{has_epoch, may_fetch, first_recall, FetchesSo, fetches_so}
 use Rattle.machine.specs.StoreSteps.{met}
+use Rattle.grant_laws.proofs.BareReads.{BareReadsEnd}
 
 -- ---- a step
 abbrev pub as_reading : (p : Played) (s start key : ℕ) (r : Reading) → ReadsKey p s start key r → IsReading s key start p r
 as_reading p s start key r k = record { client = k.client; session_is = k.session_is; in_work = k.in_work; under_way = k.under_way; key_is = k.key_is; start_is = k.start_is }
 
-step_by_turn : (script : ScriptData) (s start key : ℕ) (p : Played) (r : Reading) (k : IsReading s key start p r) (turn : ReadTurn) (cache : Cache) → OfRead r.key r.start turn → ((later : Reading) → turn ≡ Asks later → read_left later < read_left r) → StepsSo script s p k.client r (turn, cache) → AnswersOr p (played script p (event.Step s)) s start key (read_left r)
+step_by_turn : (script : ScriptData) (s start key : ℕ) (p : Played) (r : Reading) (k : IsReading s key start p r) (turn : ReadTurn) (cache : Cache) → OfRead r.key r.start turn → ((later : Reading) → turn ≡ Asks later → read_steps later < read_steps r) → StepsSo script s p k.client r (turn, cache) → AnswersOr p (played script p (event.Step s)) s start key (read_steps r)
 step_by_turn script s start key p r k (Answers a) cache is_of fewer so =
     let before : List Item = (met (Session s) (read_ask r) Works p.state.rows p.state.pairs).items in
     let x : Item = item.Read s start key (found_of a.found) in
@@ -63,20 +63,20 @@ step_by_turn script s start key p r k (Asks later) cache is_of fewer so =
       fewer = fewer later refl;
     })
 
-pub step_made : RecalledReadsEnd → (script : ScriptData) (s start key : ℕ) (p : Played) (r : Reading) (k : IsReading s key start p r) → StepsSo script s p k.client r (recall_now p k.client r) → AnswersOr p (played script p (event.Step s)) s start key (read_left r)
+pub step_made : BareReadsEnd → (script : ScriptData) (s start key : ℕ) (p : Played) (r : Reading) (k : IsReading s key start p r) → StepsSo script s p k.client r (recall_now p k.client r) → AnswersOr p (played script p (event.Step s)) s start key (read_steps r)
 step_made ends script s start key p r k so =
     let x : Remembering = recall_now p k.client r in
     step_by_turn script s start key p r k x.0 x.1 (told_recalls _ r (told_now p r)) (λ later. ends.falls _ r later (told_now p r)) so
 
-step_carried : RecalledReadsEnd → (script : ScriptData) (turns : List Turn) (s start key : ℕ) (r : Reading) → own_ahead script (carried script turns) (Session s) ≡ Makes (event.Step s) → ReadsKey (carried script turns).played s start key r → next_fate script (carried script turns).played (store_of (read_ask r)) ≡ Works → AnswersOr (carried script turns).played (turned script (carried script turns) (turn.Own (Session s))).played s start key (read_left r)
+step_carried : BareReadsEnd → (script : ScriptData) (turns : List Turn) (s start key : ℕ) (r : Reading) → own_ahead script (carried script turns) (Session s) ≡ Makes (event.Step s) → ReadsKey (carried script turns).played s start key r → next_fate script (carried script turns).played (store_of (read_ask r)) ≡ Works → AnswersOr (carried script turns).played (turned script (carried script turns) (turn.Own (Session s))).played s start key (read_steps r)
 step_carried ends script turns s start key r ahead reads works =
     let c : Carried = carried script turns in
     let k : IsReading s key start c.played r = as_reading c.played s start key r reads in
     let so : StepsSo script s c.played k.client r (recall_now c.played k.client r) = steps_so script s key start c.played r k works in
-    subst (λ (after : Played). AnswersOr c.played after s start key (read_left r)) (sym (own_plays script c s (event.Step s) ahead)) (step_made ends script s start key c.played r k so)
+    subst (λ (after : Played). AnswersOr c.played after s start key (read_steps r)) (sym (own_plays script c s (event.Step s) ahead)) (step_made ends script s start key c.played r k so)
 
 -- ---- the fetch
-fetch_by_turn : (script : ScriptData) (s start key most : ℕ) (p : Played) (c : Client) (turn : ReadTurn) (cache : Cache) → OfRead key start turn → ((r : Reading) → turn ≡ Asks r → read_left r ≤ most) → FetchesSo script s key start p c (turn, cache) → AnswersOr p (played script p (event.Fetch s key)) s start key (most + 1)
+fetch_by_turn : (script : ScriptData) (s start key most : ℕ) (p : Played) (c : Client) (turn : ReadTurn) (cache : Cache) → OfRead key start turn → ((r : Reading) → turn ≡ Asks r → read_steps r ≤ most) → FetchesSo script s key start p c (turn, cache) → AnswersOr p (played script p (event.Fetch s key)) s start key (most + 1)
 fetch_by_turn script s start key most p c (Answers a) cache is_of few so =
     let fetch : Item = item.Step (Session s) (store_step.Fetch key (length (fetched p.state.rows key start))) in
     let x : Item = item.Read s start key (found_of a.found) in
@@ -96,13 +96,13 @@ fetch_by_turn script s start key most p c (Asks r) cache is_of few so =
       fewer = omega (arith, few r refl);
     })
 
-pub fetch_made : RecalledReadsEnd → (script : ScriptData) (s start key epoch : ℕ) (p : Played) (c : Client) → FetchesSo script s key start p c (first_recall p c key start epoch) → AnswersOr p (played script p (event.Fetch s key)) s start key (3 * cells_to_read p start key + 1)
+pub fetch_made : BareReadsEnd → (script : ScriptData) (s start key epoch : ℕ) (p : Played) (c : Client) → FetchesSo script s key start p c (first_recall p c key start epoch) → AnswersOr p (played script p (event.Fetch s key)) s start key (3 * cells_to_read p start key + 1)
 fetch_made ends script s start key epoch p c so =
     let cells : List Cell = front_of start (fetched p.state.rows key start) in
     let x : Remembering = first_recall p c key start epoch in
     fetch_by_turn script s start key (3 * cells_to_read p start key) p c x.0 x.1 (over_recalls (marks_every p.state.setup) key start epoch cells (put_fresh c.cache)) (ends.begins (marks_every p.state.setup) key start epoch cells (put_fresh c.cache)) so
 
-fetch_carried : RecalledReadsEnd → (script : ScriptData) (turns : List Turn) (s key : ℕ) → AreInRange script.setup → IsPlayable script 0 script.lines → own_ahead script (carried script turns) (Session s) ≡ Makes (event.Fetch s key) → (can : CanFetch script (carried script turns).played s key) → AnswersOr (carried script turns).played (turned script (carried script turns) (turn.Own (Session s))).played s can.work.start key (3 * cells_to_read (carried script turns).played can.work.start key + 1)
+fetch_carried : BareReadsEnd → (script : ScriptData) (turns : List Turn) (s key : ℕ) → AreInRange script.setup → IsPlayable script 0 script.lines → own_ahead script (carried script turns) (Session s) ≡ Makes (event.Fetch s key) → (can : CanFetch script (carried script turns).played s key) → AnswersOr (carried script turns).played (turned script (carried script turns) (turn.Own (Session s))).played s can.work.start key (3 * cells_to_read (carried script turns).played can.work.start key + 1)
 fetch_carried ends script turns s key in_range playable ahead can =
     let c : Carried = carried script turns in
     let facts : Facts script c = facts_all script playable turns (all_passed script (at_first script)) (facts_at_first script in_range) in
@@ -110,7 +110,7 @@ fetch_carried ends script turns s key in_range playable ahead can =
     let so : FetchesSo script s key can.work.start c.played can.work.client (first_recall c.played can.work.client key can.work.start epoch.0) = fetches_so script s key can.work.start epoch.0 c.played can.work.client can.work.session_is can.work.in_work (may_fetch script c.played s key epoch.0 facts.reached.setup can.work can.room epoch.1) can.fetching in
     subst (λ (after : Played). AnswersOr c.played after s can.work.start key (3 * cells_to_read c.played can.work.start key + 1)) (sym (own_plays script c s (event.Fetch s key) ahead)) (fetch_made ends script s can.work.start key epoch.0 c.played can.work.client so)
 
-pub reads_are_carried : RecalledReadsEnd → ReadsAreCarried
+pub reads_are_carried : BareReadsEnd → ReadsAreCarried
 reads_are_carried ends = record {
   steps = λ script turns s start key r ahead reads works. step_carried ends script turns s start key r ahead reads works;
   fetches = λ script turns s key in_range playable ahead can. fetch_carried ends script turns s key in_range playable ahead can;

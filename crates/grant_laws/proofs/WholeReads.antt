@@ -8,7 +8,6 @@ use Rattle.history_book.specs.declared.item.Actor.TheVariants.{Session}
 use Rattle.history_book.specs.declared.item.Found.{Found}
 use Rattle.history_book.specs.declared.item.Item.TheVariants as item
 use Rattle.client_parts.specs.KeyRead.{read_ask}
-use Rattle.client_parts.specs.RecalledReads.{RecalledReadsEnd}
 use Rattle.machine.specs.State.{Client}
 use Rattle.machine.specs.StoreSteps.{store_of}
 use Rattle.machine.specs.declared.event.Event.{Event}
@@ -37,6 +36,7 @@ use Rattle.grant_laws.proofs.OwnLines.{seat_actor, seat_makes, line_makes}
 use Rattle.grant_laws.proofs.ReadLines.{IsReading, recall_now, StepsSo, steps_so, some_left}
 use Rattle.grant_laws.proofs.ReadTurnsMade.{as_reading, step_made, fetch_made}
 use Rattle.grant_laws.proofs.ReadSeats.{IsUnder, makes_step, own_under, under_after}
+use Rattle.grant_laws.proofs.BareReads.{BareReadsEnd}
 
 -- ---- turns while the line is under way
 -- the history has its answer
@@ -50,7 +50,7 @@ still_read script turns c s start key has = (has.0, still_has script turns c (it
 abbrev pub ReadOrUnder : ScriptData → Carried → ℕ → ℕ → ℕ → ℕ → Type 0
 ReadOrUnder script c s start key most = HasRead c s start key ⊎ IsUnder script c s start key most
 
-own_step : RecalledReadsEnd → (script : ScriptData) (c : Carried) (s start key many : ℕ) → (k : IsUnder script c s start key (many + 1)) → next_fate script c.played (store_of (read_ask k.r)) ≡ Works → ReadOrUnder script (turned script c (turn.Own (Session s))) s start key many
+own_step : BareReadsEnd → (script : ScriptData) (c : Carried) (s start key many : ℕ) → (k : IsUnder script c s start key (many + 1)) → next_fate script c.played (store_of (read_ask k.r)) ≡ Works → ReadOrUnder script (turned script c (turn.Own (Session s))) s start key many
 own_step ends script c s start key many k works =
     let e : Event = event.Step s in
     let makes : own_ahead script c (Session s) ≡ Makes e = seat_makes script c (Session s) k.seat k.line (verb.Read key) Reads k.sits k.present k.verb_is k.point_is ∙ makes_step (clocks_of script c.played) (name_posted c.names (verb.Read key)) k.seat.unawaited c.played s start key k.r k.reads in
@@ -88,7 +88,7 @@ own_ahead_of s turns = length (filter (is_own s) turns)
 own_first : (s : ℕ) (t : Turn) (turns : List Turn) (own : Bool) → is_own s t ≡ own → own_ahead_of s (t ∷ turns) ≡ length (cond own (t ∷ filter (is_own s) turns) (filter (is_own s) turns))
 own_first s t turns own is = ap (λ (b : Bool). length (cond b (t ∷ filter (is_own s) turns) (filter (is_own s) turns))) is
 
-own_on : RecalledReadsEnd → (script : ScriptData) (c : Carried) (t : Turn) (turns : List Turn) (s start key many : ℕ) → t ≡ turn.Own (Session s) → (k : IsUnder script c s start key (many + 1)) → next_fate script c.played (store_of (read_ask k.r)) ≡ Works → (IsUnder script (turned script c t) s start key many → HasRead (fold (turned script) (turned script c t) turns) s start key) → HasRead (fold (turned script) (turned script c t) turns) s start key
+own_on : BareReadsEnd → (script : ScriptData) (c : Carried) (t : Turn) (turns : List Turn) (s start key many : ℕ) → t ≡ turn.Own (Session s) → (k : IsUnder script c s start key (many + 1)) → next_fate script c.played (store_of (read_ask k.r)) ≡ Works → (IsUnder script (turned script c t) s start key many → HasRead (fold (turned script) (turned script c t) turns) s start key) → HasRead (fold (turned script) (turned script c t) turns) s start key
 own_on ends script c t turns s start key many is k works rest = elim (subst (λ (u : Turn). ReadOrUnder script (turned script c u) s start key many) (sym is) (own_step ends script c s start key many k works)) [
   | inl has ↦ still_read script turns (turned script c t) s start key has
   | inr under ↦ rest under
@@ -97,7 +97,7 @@ own_on ends script c t turns s start key many is k works rest = elim (subst (λ 
 few_left : (script : ScriptData) (c : Carried) (s start key : ℕ) → IsUnder script c s start key zero → ⊥
 few_left script c s start key k = omega (arith, k.few, some_left k.r.point)
 
-reads_by : RecalledReadsEnd → (script : ScriptData) → IsPlayable script 0 script.lines → (t : Turn) (turns : List Turn) (c : Carried) (s start key most : ℕ) (own : Bool) → is_own s t ≡ own → KnownTurns script c → IsUnder script c s start key most → StepsWork script s c (t ∷ turns) → most ≤ own_ahead_of s (t ∷ turns) → ((left : ℕ) → IsUnder script (turned script c t) s start key left → left ≤ own_ahead_of s turns → HasRead (fold (turned script) (turned script c t) turns) s start key) → HasRead (fold (turned script) (turned script c t) turns) s start key
+reads_by : BareReadsEnd → (script : ScriptData) → IsPlayable script 0 script.lines → (t : Turn) (turns : List Turn) (c : Carried) (s start key most : ℕ) (own : Bool) → is_own s t ≡ own → KnownTurns script c → IsUnder script c s start key most → StepsWork script s c (t ∷ turns) → most ≤ own_ahead_of s (t ∷ turns) → ((left : ℕ) → IsUnder script (turned script c t) s start key left → left ≤ own_ahead_of s turns → HasRead (fold (turned script) (turned script c t) turns) s start key) → HasRead (fold (turned script) (turned script c t) turns) s start key
 unfolding StepsWork
 reads_by ends script playable t turns c s start key zero own is known k works enough rest = absurd (few_left script c s start key k)
 reads_by ends script playable t turns c s start key (suc many) true is known k works enough rest =
@@ -105,13 +105,13 @@ reads_by ends script playable t turns c s start key (suc many) true is known k w
     own_on ends script c t turns s start key many (owned s t is) under (works.0 is start key k.r k.reads) (λ later. rest many later (omega (arith, enough, own_first s t turns true is)))
 reads_by ends script playable t turns c s start key (suc many) false is known k works enough rest = rest (suc many) (other_under script c t s start key (suc many) (event_of script c t) known refl is k) (omega (arith, enough, own_first s t turns false is))
 
-reads_through : RecalledReadsEnd → (script : ScriptData) → IsPlayable script 0 script.lines → (turns : List Turn) (c : Carried) (s start key most : ℕ) → KnownTurns script c → IsUnder script c s start key most → StepsWork script s c turns → most ≤ own_ahead_of s turns → HasRead (fold (turned script) c turns) s start key
+reads_through : BareReadsEnd → (script : ScriptData) → IsPlayable script 0 script.lines → (turns : List Turn) (c : Carried) (s start key most : ℕ) → KnownTurns script c → IsUnder script c s start key most → StepsWork script s c turns → most ≤ own_ahead_of s turns → HasRead (fold (turned script) c turns) s start key
 unfolding StepsWork
 reads_through ends script playable [] c s start key most known k works enough = absurd (omega (arith, k.few, some_left k.r.point, enough))
 reads_through ends script playable (t ∷ turns) c s start key most known k works enough = reads_by ends script playable t turns c s start key most (is_own s t) refl known k works enough (λ left under few. reads_through ends script playable turns (turned script c t) s start key left (known_turned script c t playable known) under works.1 few)
 
 -- ---- the fetch
-fetched_or : RecalledReadsEnd → (script : ScriptData) (c : Carried) (s key : ℕ) → KnownTurns script c → IsAhead script c (Session s) (verb.Read key) → (can : CanFetch script c.played s key) → ReadOrUnder script (turned script c (turn.Own (Session s))) s can.work.start key (3 * cells_to_read c.played can.work.start key)
+fetched_or : BareReadsEnd → (script : ScriptData) (c : Carried) (s key : ℕ) → KnownTurns script c → IsAhead script c (Session s) (verb.Read key) → (can : CanFetch script c.played s key) → ReadOrUnder script (turned script c (turn.Own (Session s))) s can.work.start key (3 * cells_to_read c.played can.work.start key)
 fetched_or ends script c s key known ahead can =
     let e : Event = event.Fetch s key in
     let start : ℕ = can.work.start in
@@ -129,7 +129,7 @@ fetched_or ends script c s key known ahead can =
     ]
 
 -- ---- the line
-pub runs_grant_reads : RecalledReadsEnd → RunsGrantReads
+pub runs_grant_reads : BareReadsEnd → RunsGrantReads
 runs_grant_reads ends script before turns later s key in_range playable ahead can works enough =
     let c : Carried = carried script before in
     let d : Carried = turned script c (turn.Own (Session s)) in

@@ -1,16 +1,22 @@
 -- What is asked for is granted, where its premises hold.
-use Rattle.std.specs.Prelude.{ℕ, ◌+◌, List, Option, MatchOption}
+use Rattle.std.specs.Prelude.{ℕ, ◌+◌, ◌*◌, ◌≤◌, List, length, Option, MatchOption}
+use Rattle.stamp_base.specs.SetupNumbers.{AreInRange}
 use Rattle.history_book.specs.declared.cause.Cause.TheVariants as cause
 use Rattle.history_book.specs.declared.item.Actor.TheVariants.{Node, Session}
 use Rattle.history_book.specs.declared.item.Found.{Found}
 use Rattle.history_book.specs.declared.item.Item.TheVariants as item
 use Rattle.oracle_parts.specs.Instance.{least_unsettled}
+use Rattle.script_data.specs.declared.limits.TheConstants.{FAULT_LIMIT}
+use Rattle.script_data.specs.declared.line.Line.{Line}
 use Rattle.script_data.specs.declared.line.Target.TheVariants as target
 use Rattle.script_data.specs.declared.line.Verb.TheVariants as verb
 use Rattle.script_data.specs.Data.{ScriptData}
+use Rattle.line_steps.specs.Laws.{IsPlayable}
 use Rattle.line_steps.specs.Runs.{Played}
+use Rattle.turn_rules.specs.declared.turn.Turn.{Turn}
+use Rattle.turn_rules.specs.Carried.{carried}
 use Rattle.grant_laws.specs.Granted.{line_of, IsBefore, reading_of, Grants}
-use Rattle.grant_laws.specs.Premises.{CanWrite, CanTake, CanBegin, CanCommit, CanRead}
+use Rattle.grant_laws.specs.Premises.{CanWrite, CanTake, CanBegin, CanCommit, CanRead, cells_to_read}
 
 -- a write line appends the write
 abbrev pub WritesAreGranted : Type 0
@@ -43,3 +49,15 @@ abbrev pub ReadsAreGranted : Type 0
 ReadsAreGranted =
     (script : ScriptData) (p : Played) (number session key : ℕ) → let line = line_of number (Session session) (verb.Read key) in IsBefore script line p → (can : CanRead script p session key) →
     (answer : Option Found) × Grants script line p (item.Read session can.work.start key answer)
+
+-- ---- how long a read can be
+-- a key has at most 48 cells without a shadow, one for each session and each fault, where the script plans no more faults than one
+-- that is read may: so what is granted to a read asks for at most 144 steps behind its fetch
+abbrev pub ReadsAreShort : Type 0
+ReadsAreShort = (script : ScriptData) (p : Played) (line : Line) (start key : ℕ) → IsBefore script line p → length script.faults ≤ FAULT_LIMIT → 3 * cells_to_read p start key ≤ 144
+
+-- on threads likewise, whatever turns were made
+abbrev pub ReadsOnThreadsAreShort : Type 0
+ReadsOnThreadsAreShort =
+    (script : ScriptData) (turns : List Turn) (start key : ℕ) → AreInRange script.setup → IsPlayable script 0 script.lines → length script.faults ≤ FAULT_LIMIT →
+    3 * cells_to_read (carried script turns).played start key ≤ 144

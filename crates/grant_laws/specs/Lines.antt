@@ -193,7 +193,7 @@ unfoldable pub StepsWork : ScriptData → ℕ → Carried → List Turn → Type
 StepsWork script session c [] = Unit {0}
 StepsWork script session c (t ∷ turns) = (is_own session t ≡ true → (start key : ℕ) (r : Reading) → ReadsKey c.played session start key r → next_fate script c.played (store_of (read_ask r)) ≡ Works) × StepsWork script session (turned script c t) turns
 
--- a read line has its answer once as many own turns are made as three for each cell, whatever turns of others are made in between
+-- a read line has its answer once as many own turns are made as three for each cell without a shadow, whatever turns of others are made in between
 abbrev pub RunsGrantReads : Type 0
 RunsGrantReads =
     (script : ScriptData) (before turns later : List Turn) (session key : ℕ) → let c = carried script before in let fetched = turned script c (turn.Own (Session session)) in AreInRange script.setup → IsPlayable script 0 script.lines → IsAhead script c (Session session) (verb.Read key) → (can : CanFetch script c.played session key) → StepsWork script session fetched turns → 3 * cells_to_read c.played can.work.start key ≤ length (filter (is_own session) turns) →

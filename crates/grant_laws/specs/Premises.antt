@@ -1,6 +1,7 @@
 -- What has to hold before a line so that what it asks for is granted: one field each, over the state that stands before the line,
 -- the reading of the node's clock and the fates that are planned for the calls that come next.
 use Rattle.std.specs.Prelude.{◌≡◌, ◌≢◌, ℕ, ◌+◌, ◌*◌, ◌<◌, ◌≤◌, ◌⊎◌, ◌^◌, false, [], length, slice_get, None, Some}
+use Rattle.std.specs.List.{filter}
 use Rattle.stamp_base.specs.declared.stores.Store.{Store}
 use Rattle.stamp_base.specs.declared.stores.Store.TheVariants.{Cells, Table, Master}
 use Rattle.port_io.specs.declared.weather.Fate.TheVariants.{Works}
@@ -16,6 +17,7 @@ use Rattle.machine.specs.Clients.{is_reading}
 use Rattle.machine.specs.Events.Fetch.{reads_refusal}
 use Rattle.script_data.specs.Data.{ScriptData}
 use Rattle.line_steps.specs.Runs.{Played, calls_on}
+use Rattle.isolation_laws.specs.Bare.{is_bare}
 use Rattle.isolation_laws.specs.Words.{InstanceAt, ClientAt, Marked}
 use Rattle.grant_laws.specs.Granted.{reading_of, next_fate, HasStamp}
 
@@ -94,15 +96,15 @@ IsReadFrom Cells = Unit {0}
 IsReadFrom Table = Unit {0}
 IsReadFrom Master = ⊥
 
--- the cells that a fetch of the key gives, down to the first that decides by itself
+-- the cells without a shadow that a fetch of the key gives, down to the first that decides by itself
 abbrev pub cells_to_read : Played → ℕ → ℕ → ℕ
-cells_to_read p start key = length (front_of start (fetched p.state.rows key start))
+cells_to_read p start key = length (filter is_bare (front_of start (fetched p.state.rows key start)))
 
 pub record CanRead (script : ScriptData) (p : Played) (session key : ℕ) : Type 0 where
   pub work : IsAtWork p session
   -- the key need not be kept, or is among those that are, or there is room for it
   pub room : reads_refusal script.setup work.client key ≡ None
-  -- on both stores the next calls work, as many as the read can make: the fetch, and three for each cell
+  -- on both stores the next calls work, as many as the read can make: the fetch, and three for each cell without a shadow
   pub reading : (store : Store) (n : ℕ) → IsReadFrom store → n ≤ 3 * cells_to_read p work.start key → planned_fate script.faults store (calls_on p.calls store + n + 1) ≡ Works
 
 -- ---- the fetch of a read alone

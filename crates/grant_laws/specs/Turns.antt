@@ -1,6 +1,7 @@
 -- What is granted to the lines of a script that is carried out by turns: an own turn that makes what its line asks for, and the
 -- turns by which the stages of a node serve a request, each under its premises when it is made, whatever turns came before.
-use Rattle.std.specs.Prelude.{◌≡◌, ℕ, ◌+◌, ◌<◌, ◌≤◌, ◌^◌, ◌*◌, ◌⊎◌, ◌==◌, ◌&&◌, Bool, false, List, [], ◌∷◌, ◌++◌, Option, None, IfSome}
+use Rattle.std.specs.Prelude.{length, ◌≡◌, ℕ, ◌+◌, ◌<◌, ◌≤◌, ◌^◌, ◌*◌, ◌⊎◌, ◌==◌, ◌&&◌, Bool, false, List, [], ◌∷◌, ◌++◌, Option, None, IfSome}
+use Rattle.std.specs.List.{filter}
 use Rattle.stamp_base.specs.SetupNumbers.{AreInRange}
 use Rattle.stamp_base.specs.declared.stores.Store.TheVariants.{Table, Master}
 use Rattle.port_io.specs.declared.weather.Fate.TheVariants.{Works}
@@ -9,7 +10,8 @@ use Rattle.history_book.specs.declared.item.Found.{Found}
 use Rattle.history_book.specs.declared.item.Item.{Item}
 use Rattle.history_book.specs.declared.item.Item.TheVariants as item
 use Rattle.client_parts.specs.declared.session.State.TheVariants as phase
-use Rattle.client_parts.specs.KeyRead.{Reading, read_ask, read_left}
+use Rattle.client_parts.specs.Resolve.{settle_left}
+use Rattle.client_parts.specs.KeyRead.{Reading, read_ask}
 use Rattle.oracle_parts.specs.declared.buckets.Verdict.TheVariants.{Free}
 use Rattle.oracle_parts.specs.declared.instance.Progress.{Progress}
 use Rattle.oracle_parts.specs.declared.instance.Progress.TheVariants as progress
@@ -24,6 +26,7 @@ use Rattle.machine.specs.declared.event.Event.{Event}
 use Rattle.machine.specs.declared.event.Event.TheVariants as event
 use Rattle.machine.specs.Events.Decide.{draw_item, both_verdict}
 use Rattle.script_data.specs.Data.{ScriptData}
+use Rattle.isolation_laws.specs.Bare.{is_bare}
 use Rattle.isolation_laws.specs.Words.{InstanceAt, HeldBy, ClientAt, Marked}
 use Rattle.line_steps.specs.Laws.{IsPlayable}
 use Rattle.line_steps.specs.Runs.{Played}
@@ -114,19 +117,23 @@ pub record ReadsKey (p : Played) (session start key : ℕ) (r : Reading) : Type 
   pub key_is : r.key ≡ key
   pub start_is : r.start ≡ start
 
+-- the steps that a read under way can make at most: those of its cell, and three for each cell behind it without a shadow
+abbrev pub read_steps : Reading → ℕ
+read_steps r = 3 * length (filter is_bare r.older) + settle_left r.point
+
 -- the turn has appended the read's answer, or fewer steps are left than these
 pub record GoesOn (p : Played) (session start key most : ℕ) : Type 0 where
   pub later : Reading
   pub reads : ReadsKey p session start key later
-  pub fewer : read_left later < most
+  pub fewer : read_steps later < most
 
 abbrev pub AnswersOr : Played → Played → ℕ → ℕ → ℕ → ℕ → Type 0
 AnswersOr before after session start key most = ((answer : Option Found) × Appends before.items after.items (item.Read session start key answer)) ⊎ GoesOn after session start key most
 
 -- an own turn that makes a step of a read, no call of which fails now, appends the answer or leaves fewer steps; so does the fetch
--- that begins it, which leaves at most three for each cell
+-- that begins it, which leaves at most three for each cell without a shadow
 pub record ReadsAreCarried : Type 0 where
   pub steps : (script : ScriptData) (turns : List Turn) (session start key : ℕ) (r : Reading) → let c = carried script turns in own_ahead script c (Session session) ≡ Makes (event.Step session) → ReadsKey c.played session start key r → next_fate script c.played (store_of (read_ask r)) ≡ Works →
-      AnswersOr c.played (turned script c (turn.Own (Session session))).played session start key (read_left r)
+      AnswersOr c.played (turned script c (turn.Own (Session session))).played session start key (read_steps r)
   pub fetches : (script : ScriptData) (turns : List Turn) (session key : ℕ) → let c = carried script turns in AreInRange script.setup → IsPlayable script 0 script.lines → own_ahead script c (Session session) ≡ Makes (event.Fetch session key) → (can : CanFetch script c.played session key) →
       AnswersOr c.played (turned script c (turn.Own (Session session))).played session can.work.start key (3 * cells_to_read c.played can.work.start key + 1)

@@ -1,8 +1,9 @@
 // What is asked for by a line of a script that is carried out in file order is granted.
-ghost use Rattle.grant_laws.specs.Laws.{WritesAreGranted, TakesAreGranted, BeginsAreGranted, CommitsAreGranted, ReadsAreGranted};
+ghost use Rattle.grant_laws.specs.Laws.{WritesAreGranted, TakesAreGranted, BeginsAreGranted, CommitsAreGranted, ReadsAreGranted, ReadsAreShort};
 
 use client_parts::recalled_reads_end;
 use line_steps::events_lower_what_is_left;
+use planned_laws::scripts_are_planned;
 
 /// A write line of an open transaction appends its write, in whatever state the lines before it have come to: all that is asked
 /// for is that no read is under way, that the key is written already or there is room for it, and that the cells' next call
@@ -40,10 +41,13 @@ pub fn commits_are_granted()
 }
 
 /// A read line of an open transaction appends its answer, where no other read is under way and no store call of it fails: the
-/// fetch, and at most three steps for each cell down to the first that decides by itself.
+/// fetch, and at most three steps for each cell without a shadow down to the first that decides by itself. These steps are at most
+/// 144 where the script plans at most 32 faults, as one that was read does.
 pub fn reads_are_granted()
-    ensures { ReadsAreGranted }
+    ensures granted { ReadsAreGranted }
+    ensures short { ReadsAreShort }
 {
     events_lower_what_is_left();
     recalled_reads_end();
+    scripts_are_planned();
 }

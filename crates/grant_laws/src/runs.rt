@@ -1,8 +1,10 @@
 // The same five on threads: a line that was served through to its answer ends with what it asked for, whatever turns of others
 // came before, between and after.
 ghost use Rattle.grant_laws.specs.Lines.{RunsGrantWrites, RunsGrantTakes, RunsGrantBegins, RunsGrantCommits, RunsGrantReads};
+ghost use Rattle.grant_laws.specs.Laws.{ReadsOnThreadsAreShort};
 
 use client_parts::recalled_reads_end;
+use turn_rules::turns_are_planned_so_far;
 
 /// A write line appends its write by its one turn, under the premises of a write line in file order.
 pub fn runs_grant_writes()
@@ -29,10 +31,13 @@ pub fn runs_grant_commits()
     ensures { RunsGrantCommits }
 {}
 
-/// A read line appends its answer once its session has made as many own turns as three for each cell down to the first that
-/// decides by itself, where each call of the read works.
+/// A read line appends its answer once its session has made as many own turns as three for each cell without a shadow down to the
+/// first that decides by itself, where each call of the read works. These turns are at most 144 where the script plans at most 32
+/// faults.
 pub fn runs_grant_reads()
-    ensures { RunsGrantReads }
+    ensures granted { RunsGrantReads }
+    ensures short { ReadsOnThreadsAreShort }
 {
     recalled_reads_end();
+    turns_are_planned_so_far();
 }

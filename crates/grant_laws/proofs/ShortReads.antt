@@ -1,0 +1,112 @@
+-- How long a read can be: a key has at most 48 cells without a shadow, one for each session and each fault that is planned.
+use Rattle.std.proofs.Common.{◌≡◌, ℕ, ◌+◌, ◌*◌, ◌≤◌, Bool, cond, List, [], ◌∷◌, length, inl, inr, refl, sym, ap, arith}
+use Rattle.std.specs.Prelude.{count_by}
+use Rattle.std.specs.List.{filter}
+use Rattle.std.proofs.lemmas.Bool.{cases_Bool}
+use Rattle.std.proofs.lemmas.List.Sums.{sum_by-append, sum_by-cons}
+use Rattle.stamp_base.specs.declared.stores.Store.{Store}
+use Rattle.stamp_base.specs.declared.stores.Store.TheVariants.{Cells, Table, Master}
+use Rattle.port_io.specs.Planned.{PlannedFault, same_store}
+use Rattle.history_book.specs.declared.item.Item.{Item}
+use Rattle.history_book.specs.declared.item.Item.TheVariants as item
+use Rattle.store_parts.specs.declared.rows.Cell.{Cell}
+use Rattle.store_parts.specs.Rows.{fetched, is_below, front_of}
+use Rattle.script_data.specs.declared.limits.TheConstants.{FAULT_LIMIT}
+use Rattle.script_data.specs.Data.{ScriptData}
+use Rattle.isolation_laws.specs.Bare.{is_fault, faults_in, is_bare}
+use Rattle.isolation_laws.proofs.Bare.FewBare.{few_bare}
+use Rattle.line_steps.specs.Planned.{is_fault_of, plans, FaultsArePlanned}
+use Rattle.line_steps.specs.Laws.{EventsLowerWhatIsLeft}
+use Rattle.line_steps.specs.Runs.{Played, calls_on, script_played}
+use Rattle.planned_laws.specs.Laws.{ScriptsArePlanned}
+use Rattle.planned_laws.proofs.FaultCounts.{due_planned}
+use Rattle.turn_rules.specs.Carried.{Carried, carried}
+use Rattle.turn_rules.specs.Laws.{TurnsArePlannedSoFar}
+use Rattle.grant_laws.specs.Laws.{ReadsAreShort, ReadsOnThreadsAreShort}
+use Rattle.grant_laws.specs.Premises.{cells_to_read}
+use Rattle.grant_laws.proofs.Before.{Known, known_before, longer_whole}
+use Rattle.grant_laws.proofs.KnownTurns.{KnownTurns, as_known, known_carried}
+use Rattle.grant_laws.proofs.LongerRuns.{Longer}
+
+abbrev one_if : Bool → ℕ
+one_if b = cond b 1 0
+
+-- ---- each fault is one of a store
+by_store : (store : Store) → one_if (same_store store Cells) + one_if (same_store store Table) + one_if (same_store store Master) ≡ 1
+by_store Cells = refl
+by_store Table = refl
+by_store Master = refl
+
+fault_by_store : (x : Item) → one_if (is_fault x) ≡ one_if (is_fault_of Cells x) + one_if (is_fault_of Table x) + one_if (is_fault_of Master x)
+fault_by_store (item.Fault actor store) = sym (by_store store)
+fault_by_store _ = refl
+
+faults_by_store : (h : List Item) → faults_in h ≡ count_by (is_fault_of Cells) h + count_by (is_fault_of Table) h + count_by (is_fault_of Master) h
+faults_by_store [] = refl
+faults_by_store (x ∷ xs) = omega (
+  arith,
+  faults_by_store xs,
+  fault_by_store x,
+  sum_by-cons (λ (y : Item). one_if (is_fault y)) x xs,
+  sum_by-cons (λ (y : Item). one_if (is_fault_of Cells y)) x xs,
+  sum_by-cons (λ (y : Item). one_if (is_fault_of Table y)) x xs,
+  sum_by-cons (λ (y : Item). one_if (is_fault_of Master y)) x xs,
+)
+
+planned_by_store : (faults : List PlannedFault) → count_by (plans Cells) faults + count_by (plans Table) faults + count_by (plans Master) faults ≡ length faults
+planned_by_store [] = refl
+planned_by_store (fault ∷ faults) = omega (
+  arith,
+  planned_by_store faults,
+  by_store fault.0,
+  sum_by-cons (λ (y : PlannedFault). one_if (plans Cells y)) fault faults,
+  sum_by-cons (λ (y : PlannedFault). one_if (plans Table y)) fault faults,
+  sum_by-cons (λ (y : PlannedFault). one_if (plans Master y)) fault faults,
+)
+
+few_faults : (script : ScriptData) (h : List Item) → FaultsArePlanned script h → faults_in h ≤ length script.faults
+few_faults script h planned = omega (arith, planned Cells, planned Table, planned Master, faults_by_store h, planned_by_store script.faults)
+
+-- ---- the cells down to the first that decides are among those that are fetched
+front_fewer : (start : ℕ) (cells : List Cell) → length (filter is_bare (front_of start cells)) ≤ length (filter is_bare cells)
+unfolding front_of
+front_fewer start [] = omega arith
+front_fewer start (c ∷ cs) = elim (cases_Bool (is_below start c.shadow)) [
+  | inl below ↦ rw below (one_front c cs)
+  | inr other ↦ rw other (elim (cases_Bool (is_bare c)) [
+    | inl bare ↦ rw bare (omega (arith, front_fewer start cs))
+    | inr shadowed ↦ rw shadowed (front_fewer start cs)
+  ])
+]
+  where
+    one_front : (c : Cell) (cs : List Cell) → length (filter is_bare (c ∷ [])) ≤ length (filter is_bare (c ∷ cs))
+    one_front c cs = elim (cases_Bool (is_bare c)) [
+      | inl bare ↦ rw bare (omega arith)
+      | inr shadowed ↦ rw shadowed (omega arith)
+    ]
+
+short : (script : ScriptData) (p : Played) (start key : ℕ) → Known script p → FaultsArePlanned script p.items → length script.faults ≤ FAULT_LIMIT → 3 * cells_to_read p start key ≤ 144
+short script p start key known planned few = omega (
+  arith,
+  front_fewer start (fetched p.state.rows key start),
+  few_bare p.state p.items known.reached.stands.holds key start,
+  known.tells.shows.sixteen,
+  few_faults script p.items planned,
+  few,
+)
+
+-- ---- in file order
+before_fewer : (script : ScriptData) (store : Store) (h whole : List Item) → Longer h whole → count_by (is_fault_of store) h ≤ count_by (is_fault_of store) whole
+before_fewer script store h whole longer = omega (arith, sum_by-append (λ (y : Item). one_if (is_fault_of store y)) h longer.added, ap (λ (xs : List Item). count_by (is_fault_of store) xs) longer.is)
+
+pub reads_are_short : EventsLowerWhatIsLeft → ScriptsArePlanned → ReadsAreShort
+reads_are_short lowers plan script p line start key before few =
+    let planned : FaultsArePlanned script (script_played script).items = (plan script before.in_range before.playable).faults in
+    short script p start key (known_before lowers script line p before) (λ store. omega (arith, planned store, before_fewer script store p.items (script_played script).items (longer_whole script line p before))) few
+
+-- ---- on threads
+pub reads_on_threads_are_short : TurnsArePlannedSoFar → ReadsOnThreadsAreShort
+reads_on_threads_are_short plan script turns start key in_range playable few =
+    let c : Carried = carried script turns in
+    let known : KnownTurns script c = known_carried script turns in_range playable in
+    short script c.played start key (as_known script c known) (λ store. omega (arith, (plan script turns in_range playable).planned.faults store, due_planned store (calls_on c.played.calls store) script.faults)) few
