@@ -38,7 +38,7 @@ use Rattle.line_steps.specs.Laws.{EventsLowerWhatIsLeft}
 use Rattle.line_steps.specs.Runs.{Calls, Played, one_more, calls_after, fate_by, fate_of, step_of, played, run_after, left_in, opened}
 use Rattle.line_steps.proofs.ReadLines.{OfRead, over_recalls}
 use Rattle.grant_laws.specs.Granted.{line_of, next_fate}
-use Rattle.grant_laws.proofs.LongerRuns.{in_one, in_last, appended_before, Leads, leads_on, leads_one, leads_to, line_appends, run_at}
+use Rattle.grant_laws.proofs.LongerRuns.{in_one, in_last, appended_before, Leads, leads_on, leads_one, leads_to, run_appends, line_appends, run_at}
 use Rattle.grant_laws.proofs.ReadLines.{IsReading, HasAnswer, read_answers}
 use Rattle.grant_laws.proofs.Before.{Known, known_before, granted}
 use Rattle.grant_laws.specs.Laws.{ReadsAreGranted}
@@ -53,6 +53,8 @@ use Rattle.grant_laws.proofs.BareReads.{BareReadsEnd}
 use Rattle.isolation_laws.specs.Bare.{is_bare}
 use Rattle.std.proofs.lemmas.List.Sums.{length-filter, count_by-le-length}
 use Rattle.grant_laws.specs.Turns.{read_steps}
+use Rattle.planned_laws.specs.Laws.{ScriptsArePlanned}
+use Rattle.grant_laws.proofs.ShortReads.{reads_are_short}
 
 -- ---- the fetch
 -- an open transaction has an epoch
@@ -172,8 +174,8 @@ room_left number s key start p c at begun =
     let cells : cells_by p.state.rows key c.entry.start ≡ length (front_of start (fetched p.state.rows key start)) = ap (λ (from : Option ℕ). cells_by p.state.rows key from) begun in
     omega (arith, is, cells, length-filter is_bare (front_of start (fetched p.state.rows key start)), count_by-le-length is_bare (front_of start (fetched p.state.rows key start)))
 
-pub reads_are_granted : EventsLowerWhatIsLeft → BareReadsEnd → ReadsAreGranted
-reads_are_granted lowers ends script p number s key before can =
+pub reads_are_granted : EventsLowerWhatIsLeft → ScriptsArePlanned → BareReadsEnd → ReadsAreGranted
+reads_are_granted lowers plan ends script p number s key before can =
     let line : Line = line_of number (Session s) (verb.Read key) in
     let c : Client = can.work.client in
     let start : ℕ = can.work.start in
@@ -185,5 +187,8 @@ reads_are_granted lowers ends script p number s key before can =
     let x : Remembering = first_recall p c key start epoch.0 in
     let so : FetchesSo script s key start p c x = fetches_so script s key start epoch.0 p c can.work.session_is can.work.in_work (may_fetch script p s key epoch.0 known.reached.setup can.work can.room epoch.1) (works_now script many p.calls Cells tt works) in
     let all : HasAnswer script line s key start (many + 1) (opened p) = by_first ends script number s key start many p c x.0 x.1 (over_recalls (marks_every p.state.setup) key start epoch.0 cells (put_fresh c.cache)) (ends.begins (marks_every p.state.setup) key start epoch.0 cells (put_fresh c.cache)) works so in
-    let read : Item = item.Read s start key all.answer in
-    (all.answer, granted script line p read before (line_appends script line p all.steps all.next read (omega (arith, all.few, room_left number s key start p c can.work.session_is can.work.begun)) all.leads all.appends))
+    let read : Item = item.Read s start key all.answer in (
+      all.answer,
+      granted script line p read before (line_appends script line p all.steps all.next read (omega (arith, all.few, room_left number s key start p c can.work.session_is can.work.begun)) all.leads all.appends),
+      λ few. run_appends script line p (1 + 144) all.steps all.next read (omega (arith, all.few, reads_are_short lowers plan script p line start key before few)) all.leads all.appends,
+    )

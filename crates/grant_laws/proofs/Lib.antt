@@ -13,6 +13,7 @@ mod BeginLines
 mod ReadTurns
 mod BareReads
 mod ReadLines
+mod ShortReads
 mod FetchLines
 mod WorkedScripts
 mod WorkedCrossing
@@ -40,4 +41,3 @@ mod ServedLines
 mod OtherTurns
 mod ReadSeats
 mod WholeReads
-mod ShortReads

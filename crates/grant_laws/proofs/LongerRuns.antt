@@ -91,10 +91,13 @@ run_at point p = record { point = point; played = p }
 pub leads_to : (script : ScriptData) (line : Line) (point next_point : Point) (p : Played) (e : Event) → next_in script line (run_at point p) ≡ Some e → follows line.verb point (halt_of (step_of script p e).stop) ≡ next_point → Leads script line 1 (run_at point p) (run_at next_point (played script p e))
 leads_to script line point next_point p e is follow most rest many = leads_one script line (run_at point p) e is most rest many ∙ ap (λ (at : Point). run_for rest script line (run_at at (played script p e))) follow
 
--- what the first events of a line have appended, the line has
-pub line_appends : (script : ScriptData) (line : Line) (p : Played) (n : ℕ) (r : Run) (x : Item) → n ≤ left_in line (opened p) → Leads script line n (opened p) r → Appends p.items r.played.items x → Appends p.items (line_run script line p).played.items x
-line_appends script line p n r x enough leads k =
-    let most : ℕ = left_in line (opened p) in
+-- what the first events of a line have appended, it has after more
+pub run_appends : (script : ScriptData) (line : Line) (p : Played) (most n : ℕ) (r : Run) (x : Item) → n ≤ most → Leads script line n (opened p) r → Appends p.items r.played.items x → Appends p.items (run_for most script line (opened p)).played.items x
+run_appends script line p most n r x enough leads k =
     let rest : ℕ = most - n in
     let is : most ≡ n + rest = omega (arith, enough) in
     subst (λ (s : Run). Appends p.items s.played.items x) (sym (leads most rest is)) (appended_still p.items r.played.items (run_for rest script line r).played.items x k (run_longer rest script line r))
+
+-- and so has the line
+pub line_appends : (script : ScriptData) (line : Line) (p : Played) (n : ℕ) (r : Run) (x : Item) → n ≤ left_in line (opened p) → Leads script line n (opened p) r → Appends p.items r.played.items x → Appends p.items (line_run script line p).played.items x
+line_appends script line p n r x enough leads k = run_appends script line p (left_in line (opened p)) n r x enough leads k

@@ -21,7 +21,7 @@ use Rattle.history_book.specs.declared.item.Item.TheVariants as item
 use Rattle.script_data.specs.Ticks.{ticks_of}
 use Rattle.grant_laws.specs.Granted.{reading_of, IsBefore, Grants}
 use Rattle.grant_laws.specs.Laws.{CommitsAreGranted}
-use Rattle.grant_laws.specs.Premises.{IsAtWork, CanServe, CanTake, CanBegin, CanWrite, CanRead, CanCommit}
+use Rattle.grant_laws.specs.Premises.{IsAtWork, CanServe, CanTake, CanBegin, CanWrite, CanRead, CanCommit, cells_to_read}
 use Rattle.grant_laws.specs.Worked as worked
 
 -- the client of a session, and the instance of a node, where they are known to be there
@@ -59,6 +59,14 @@ read_history = refl
 pub read_refused : replayed (worked.failing Cells worked.reading) ≡ worked.failed_read_items
 unfolding lines_played run_for planned_fate holder_from record_pairs kept_commit verdict least_unsettled put_row without_bare fetched front_of recalled_over
 read_refused = refl
+
+pub one_left : cells_to_read (worked.before_left worked.undoing) 3 0 ≡ 1
+unfolding lines_played run_for planned_fate holder_from record_pairs kept_commit verdict least_unsettled put_row without_bare fetched front_of recalled_over
+one_left = refl
+
+pub two_left : cells_to_read (worked.before_left worked.letting_go) 3 0 ≡ 2
+unfolding lines_played run_for planned_fate holder_from record_pairs kept_commit verdict least_unsettled put_row without_bare fetched front_of recalled_over
+two_left = refl
 
 pub commit_refused : replayed (worked.failing Table worked.committing) ≡ worked.failed_commit_items
 unfolding lines_played run_for planned_fate holder_from record_pairs kept_commit verdict least_unsettled put_row without_bare fetched front_of recalled_over

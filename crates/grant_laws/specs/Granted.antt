@@ -13,7 +13,7 @@ use Rattle.script_data.specs.declared.line.Line.{Line}
 use Rattle.script_data.specs.declared.line.Verb.{Verb}
 use Rattle.script_data.specs.Data.{ScriptData}
 use Rattle.line_steps.specs.Next.{reading_at}
-use Rattle.line_steps.specs.Runs.{Played, fate_by, clocks_of, line_run, lines_played, opening_played, replayed}
+use Rattle.line_steps.specs.Runs.{Played, fate_by, clocks_of, run_for, opened, line_run, lines_played, opening_played, replayed}
 use Rattle.line_steps.specs.Laws.{IsPlayable}
 
 -- ---- before a line
@@ -52,6 +52,10 @@ pub record Appends (before after : List Item) (x : Item) : Type 0 where
   pub added : List Item
   pub is : after ≡ before ++ added
   pub has : x ∈ added
+
+-- the line has appended the item after at most so many events
+abbrev pub AppendsWithin : ScriptData → Line → Played → ℕ → Item → Type 0
+AppendsWithin script line p most x = Appends p.items (run_for most script line (opened p)).played.items x
 
 -- the line appends the item, and the script's history has it whatever comes later
 pub record Grants (script : ScriptData) (line : Line) (p : Played) (x : Item) : Type 0 where

@@ -15,7 +15,7 @@ use Rattle.line_steps.specs.Laws.{IsPlayable}
 use Rattle.line_steps.specs.Runs.{Played}
 use Rattle.turn_rules.specs.declared.turn.Turn.{Turn}
 use Rattle.turn_rules.specs.Carried.{carried}
-use Rattle.grant_laws.specs.Granted.{line_of, IsBefore, reading_of, Grants}
+use Rattle.grant_laws.specs.Granted.{line_of, IsBefore, reading_of, AppendsWithin, Grants}
 use Rattle.grant_laws.specs.Premises.{CanWrite, CanTake, CanBegin, CanCommit, CanRead, cells_to_read}
 
 -- a write line appends the write
@@ -44,11 +44,12 @@ CommitsAreGranted =
     (script : ScriptData) (p : Played) (number session node : ℕ) → let line = line_of number (Session session) (verb.Commit (target.Node node)) in IsBefore script line p → (can : CanCommit script p session node) →
     Grants script line p (item.Committed session can.work.start (can.serving.oracle.last + 1))
 
--- a read line appends its answer; which one, the isolation of the history tells
+-- a read line appends its answer; which one, the isolation of the history tells. Where the script plans no more faults than one that
+-- is read may, it does so by its fetch and at most 144 steps
 abbrev pub ReadsAreGranted : Type 0
 ReadsAreGranted =
     (script : ScriptData) (p : Played) (number session key : ℕ) → let line = line_of number (Session session) (verb.Read key) in IsBefore script line p → (can : CanRead script p session key) →
-    (answer : Option Found) × Grants script line p (item.Read session can.work.start key answer)
+    (answer : Option Found) × Grants script line p (item.Read session can.work.start key answer) × (length script.faults ≤ FAULT_LIMIT → AppendsWithin script line p (1 + 144) (item.Read session can.work.start key answer))
 
 -- ---- how long a read can be
 -- a key has at most 48 cells without a shadow, one for each session and each fault, where the script plans no more faults than one

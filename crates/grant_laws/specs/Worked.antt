@@ -118,6 +118,23 @@ reading_items = beginning_items ++ item.Step (Session 0) (step.Fetch 0 0) ∷ it
 abbrev pub failed_read_items : List Item
 failed_read_items = beginning_items ++ item.Fault (Session 0) Cells ∷ []
 
+-- ---- a read that comes to cells without a shadow: of a transaction that was let go where its undo failed, and of its session's next
+abbrev other_begin : Line
+other_begin = line_of 0 (Session 1) (verb.Begin (target.Node 0))
+
+abbrev left_lines : List Line
+left_lines = take 0 ∷ begin ∷ write ∷ line_of 0 (Session 0) verb.Abort ∷ begin ∷ write ∷ other_begin ∷ []
+
+abbrev pub undoing : ScriptData
+undoing = of_lines (left_lines ++ line_of 0 (Session 1) (verb.Read 0) ∷ [])
+
+-- the second call on the cells is the one that erases
+abbrev pub letting_go : ScriptData
+letting_go = record undoing { faults = (Cells, 2, FailsUnchanged) ∷ [] }
+
+abbrev pub before_left : ScriptData → Played
+before_left script = after script left_lines
+
 -- ---- a commit
 abbrev pub committing : ScriptData
 committing = of_lines (take 0 ∷ begin ∷ write ∷ commit ∷ [])

@@ -22,7 +22,7 @@ pub use runs::{
     runs_grant_begins, runs_grant_commits, runs_grant_reads, runs_grant_takes, runs_grant_writes,
 };
 pub use waiting::stuck_runs_wait;
-pub use worked::{a_begin, a_commit, a_read, a_take, a_write};
+pub use worked::{a_begin, a_commit, a_left_cell, a_read, a_take, a_write};
 pub use worked_runs::{
     a_begin_on_threads, a_commit_on_threads, a_hold_on_threads, a_name_on_threads,
     a_read_on_threads, a_take_on_threads, a_write_on_threads, an_early_answer_on_threads,

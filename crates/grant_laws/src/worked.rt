@@ -5,7 +5,7 @@ ghost use Rattle.stamp_base.specs.declared.stores.Store.TheVariants.{Cells, Tabl
 ghost use Rattle.history_book.specs.declared.item.Item.TheVariants.{Committed};
 ghost use Rattle.line_steps.specs.Runs.{replayed};
 ghost use Rattle.grant_laws.specs.Granted.{Grants};
-ghost use Rattle.grant_laws.specs.Premises.{CanTake, CanBegin, CanWrite, CanRead, CanCommit};
+ghost use Rattle.grant_laws.specs.Premises.{CanTake, CanBegin, CanWrite, CanRead, CanCommit, cells_to_read};
 ghost use Rattle.grant_laws.specs.Worked as worked;
 
 use crate::granted::commits_are_granted;
@@ -38,6 +38,13 @@ pub fn a_read()
     ensures can { CanRead worked.reading worked.before_reading 0 0 }
     ensures granted { replayed worked.reading ≡ worked.reading_items }
     ensures refused { replayed (worked.failing Cells worked.reading) ≡ worked.failed_read_items }
+{}
+
+/// A read has one cell to resolve where another session has written the key, and two where that session has let a transaction go,
+/// whose undo a fault has ended: all else is the same.
+pub fn a_left_cell()
+    ensures one { cells_to_read (worked.before_left worked.undoing) 3 0 ≡ 1 }
+    ensures two { cells_to_read (worked.before_left worked.letting_go) 3 0 ≡ 2 }
 {}
 
 /// A commit is granted, by the law. Where its put fails, all else being the same, its outcome is open.
