@@ -1,10 +1,13 @@
 -- For cluster_core too.
 -- What a session's step needs: something is asked next, and it fits the session's state.
-use Rattle.std.proofs.Common.{◌≡◌, ◌≢◌, ℕ, Bool, true, false, IsTrue, if◌then◌else◌, List, [], ◌∷◌, Option, Some, None, inl, inr, refl, sym, ◌∙◌, ap, subst}
+use Rattle.std.proofs.Common.{◌≡◌, ◌≢◌, ℕ, Bool, true, false, IsTrue, if◌then◌else◌, List, [], ◌∷◌, Option, Some, None, inl, inr, refl, sym, ◌∙◌, ap, subst, arith}
 use Rattle.std.proofs.lemmas.Option.{same_Some}
+use Rattle.stamp_base.specs.declared.stores.Store.TheVariants.{Cells}
 use Rattle.history_book.specs.Isolation.{Committed}
 use Rattle.history_book.specs.declared.cause.Cause.TheVariants.{Idle}
+use Rattle.history_book.specs.declared.item.Actor.TheVariants.{Session}
 use Rattle.history_book.specs.declared.item.Item.{Item}
+use Rattle.history_book.specs.declared.item.Item.TheVariants.{Fault}
 use Rattle.client_parts.specs.declared.asks.Ask.{Ask}
 use Rattle.client_parts.specs.declared.asks.Ask.TheVariants.{Shadow}
 use Rattle.client_parts.specs.declared.resolve.SettlePoint.{SettlePoint}
@@ -20,8 +23,8 @@ use Rattle.machine.specs.Calls.{MayStep, CanWork}
 use Rattle.machine.specs.Events.Step.{own_resolve, work_by, work_of, next_of}
 use Rattle.isolation_laws.specs.Words.{ClientAt}
 use Rattle.isolation_laws.specs.Holds.{Holds}
-use Rattle.isolation_laws.proofs.Outcome.PlainItems.{none_silent}
-use Rattle.isolation_laws.proofs.Inversions.InversionParts.{none_quiet}
+use Rattle.isolation_laws.proofs.Pushed.{one_quiet}
+use Rattle.isolation_laws.proofs.Outcome.PlainItems.{one_silent}
 use Rattle.isolation_laws.proofs.Inversions.InversionOfWork.{IsWork, work_fits}
 use Rattle.isolation_laws.proofs.Stores.StoresStay.{completed_fills}
 use Rattle.isolation_laws.proofs.Stores.MarksTold.{marks_same}
@@ -113,11 +116,11 @@ work_shadow w h session c holds at (Completes (asked ∷ asks)) fits k t commit 
   under_way = fits.under_way;
   applied = false;
   left = client_freed c;
-  left_is = inr refl;
-  items = [];
-  marks = marks_same w.pairs [];
-  quiet = none_quiet;
-  silent = none_silent;
+  left_is = inr (refl, omega arith);
+  items = Fault (Session session) Cells ∷ [];
+  marks = marks_same w.pairs (Fault (Session session) Cells ∷ []);
+  quiet = one_quiet (Fault (Session session) Cells) refl;
+  silent = one_silent (Fault (Session session) Cells) refl;
 }) holds k t commit (same_Some asked (Shadow k t commit) is)
 
 -- ---- how it fits the state

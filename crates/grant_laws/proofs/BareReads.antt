@@ -58,11 +58,11 @@ few_over : (every : Bool) (key start epoch : ℕ) (cells : List Cell) (r : Readi
 few_over every key start epoch cells r e = omega (arith, few_at every key start epoch (after_passed start cells) r e, passed_fewer start cells)
 
 -- ---- one step
-left_some : (point : SettlePoint) → 1 ≤ settle_left point
-left_some FirstLook = omega arith
-left_some Table = omega arith
-left_some Marking = omega arith
-left_some (LastLook met) = omega arith
+pub some_left : (point : SettlePoint) → 1 ≤ settle_left point
+some_left FirstLook = omega arith
+some_left Table = omega arith
+some_left Marking = omega arith
+some_left (LastLook met) = omega arith
 
 -- a resolve that goes on is nearer to its end
 nearer : RecalledReadsEnd → (r : Reading) (told : Told) (point : SettlePoint) → settle_turn (settling_of r) told ≡ Goes point → settle_left point < settle_left r.point
@@ -76,7 +76,7 @@ goes_falls r s point less e =
     rw (← same) (omega (arith, less))
 
 over_falls : (r s : Reading) → read_over r.every r.key r.start r.epoch r.older ≡ Asks s → read_steps s < read_steps r
-over_falls r s e = omega (arith, few_over r.every r.key r.start r.epoch r.older s e, left_some r.point)
+over_falls r s e = omega (arith, few_over r.every r.key r.start r.epoch r.older s e, some_left r.point)
 
 late_falls : (r s : Reading) (c : ℕ) (by_table below : Bool) → cond below (Answers (found_by r.key r.cell c by_table)) (read_over r.every r.key r.start r.epoch r.older) ≡ Asks s → read_steps s < read_steps r
 late_falls r s c by_table true e = absurd (cc)

@@ -14,9 +14,6 @@ use Rattle.client_parts.specs.declared.key_read.Answer.{Answer}
 use Rattle.client_parts.specs.declared.session.State.{State as SessionState}
 use Rattle.client_parts.specs.declared.session.State.TheVariants as phase
 use Rattle.client_parts.specs.SessionSteps.{step_refusal}
-use Rattle.client_parts.specs.declared.resolve.SettlePoint.{SettlePoint}
-use Rattle.client_parts.specs.declared.resolve.SettlePoint.TheVariants.{FirstLook, Table, Marking, LastLook}
-use Rattle.client_parts.specs.Resolve.{settle_left}
 use Rattle.client_parts.specs.KeyRead.{Reading, ReadTurn, Asks, Answers, read_ask}
 use Rattle.client_parts.specs.Cache.{Cache}
 use Rattle.client_parts.specs.Recalled.{Remembering}
@@ -44,7 +41,7 @@ use Rattle.line_steps.proofs.ReadLines.{OfRead, told_recalls}
 use Rattle.grant_laws.specs.Granted.{line_of, Appends, next_fate}
 use Rattle.grant_laws.proofs.LongerRuns.{in_one, in_last, appended_before, Leads, leads_on, leads_one, leads_to, run_at}
 use Rattle.grant_laws.proofs.ReadTurns.{CallsWork, works_on, works_now, read_from}
-use Rattle.grant_laws.proofs.BareReads.{BareReadsEnd}
+use Rattle.grant_laws.proofs.BareReads.{BareReadsEnd, some_left}
 use Rattle.grant_laws.specs.Turns.{read_steps}
 
 -- ---- a read under way
@@ -163,12 +160,6 @@ goes_on script number s key start many p r later k cache key_is start_is so rest
 by_told : (script : ScriptData) (number s key start many : ℕ) (p : Played) (r : Reading) (k : IsReading s key start p r) (turn : ReadTurn) (cache : Cache) → OfRead r.key r.start turn → StepsSo script s p k.client r (turn, cache) → ((later : Reading) → turn ≡ Asks later → IsReading s key start (played script p (event.Step s)) later → HasAnswer script (line_of number (Session s) (verb.Read key)) s key start many (run_at Reads (played script p (event.Step s)))) → HasAnswer script (line_of number (Session s) (verb.Read key)) s key start (many + 1) (run_at Reads p)
 by_told script number s key start many p r k (Answers a) cache same so rest = answers_now script number s key start (many + 1) p r k a cache (omega arith) so
 by_told script number s key start many p r k (Asks later) cache same so rest = goes_on script number s key start many p r later k cache same.0 same.1 so (rest later refl)
-
-pub some_left : (point : SettlePoint) → 1 ≤ settle_left point
-some_left FirstLook = omega arith
-some_left Table = omega arith
-some_left Marking = omega arith
-some_left (LastLook met) = omega arith
 
 pub read_answers : BareReadsEnd → (most : ℕ) (script : ScriptData) (number s key start : ℕ) (p : Played) (r : Reading) → IsReading s key start p r → read_steps r ≤ most → CallsWork script most p.calls → HasAnswer script (line_of number (Session s) (verb.Read key)) s key start most (run_at Reads p)
 read_answers ends zero script number s key start p r k few works = absurd (omega (arith, few, some_left r.point))

@@ -3,7 +3,7 @@ use Rattle.std.proofs.Common.{◌≡◌, ℕ, ◌+◌, ◌*◌, ◌≤◌, Bool,
 use Rattle.std.specs.Prelude.{count_by}
 use Rattle.std.specs.List.{filter}
 use Rattle.std.proofs.lemmas.Bool.{cases_Bool}
-use Rattle.std.proofs.lemmas.List.Sums.{sum_by-append, sum_by-cons}
+use Rattle.std.proofs.lemmas.List.Sums.{sum_by-cons}
 use Rattle.stamp_base.specs.declared.stores.Store.{Store}
 use Rattle.stamp_base.specs.declared.stores.Store.TheVariants.{Cells, Table, Master}
 use Rattle.port_io.specs.Planned.{PlannedFault, same_store}
@@ -19,7 +19,7 @@ use Rattle.line_steps.specs.Planned.{is_fault_of, plans, FaultsArePlanned}
 use Rattle.line_steps.specs.Laws.{EventsLowerWhatIsLeft}
 use Rattle.line_steps.specs.Runs.{Played, calls_on, script_played}
 use Rattle.planned_laws.specs.Laws.{ScriptsArePlanned}
-use Rattle.planned_laws.proofs.FaultCounts.{due_planned}
+use Rattle.planned_laws.proofs.FaultCounts.{faults_append, due_planned}
 use Rattle.turn_rules.specs.Carried.{Carried, carried}
 use Rattle.turn_rules.specs.Laws.{TurnsArePlannedSoFar}
 use Rattle.grant_laws.specs.Laws.{ReadsAreShort, ReadsOnThreadsAreShort}
@@ -96,13 +96,13 @@ short script p start key known planned few = omega (
 )
 
 -- ---- in file order
-before_fewer : (script : ScriptData) (store : Store) (h whole : List Item) → Longer h whole → count_by (is_fault_of store) h ≤ count_by (is_fault_of store) whole
-before_fewer script store h whole longer = omega (arith, sum_by-append (λ (y : Item). one_if (is_fault_of store y)) h longer.added, ap (λ (xs : List Item). count_by (is_fault_of store) xs) longer.is)
+before_fewer : (store : Store) (h whole : List Item) → Longer h whole → count_by (is_fault_of store) h ≤ count_by (is_fault_of store) whole
+before_fewer store h whole longer = omega (arith, faults_append store h longer.added, ap (λ (xs : List Item). count_by (is_fault_of store) xs) longer.is)
 
 pub reads_are_short : EventsLowerWhatIsLeft → ScriptsArePlanned → ReadsAreShort
 reads_are_short lowers plan script p line start key before few =
     let planned : FaultsArePlanned script (script_played script).items = (plan script before.in_range before.playable).faults in
-    short script p start key (known_before lowers script line p before) (λ store. omega (arith, planned store, before_fewer script store p.items (script_played script).items (longer_whole script line p before))) few
+    short script p start key (known_before lowers script line p before) (λ store. omega (arith, planned store, before_fewer store p.items (script_played script).items (longer_whole script line p before))) few
 
 -- ---- on threads
 pub reads_on_threads_are_short : TurnsArePlannedSoFar → ReadsOnThreadsAreShort

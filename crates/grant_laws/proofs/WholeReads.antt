@@ -33,10 +33,10 @@ use Rattle.grant_laws.proofs.KnownTurns.{KnownTurns, known_turned, known_carried
 use Rattle.grant_laws.proofs.LongerTurns.{turns_on, carries, still_has, has_appended}
 use Rattle.grant_laws.proofs.OtherTurns.{read_left_by_event, seat_left}
 use Rattle.grant_laws.proofs.OwnLines.{seat_actor, seat_makes, line_makes}
-use Rattle.grant_laws.proofs.ReadLines.{IsReading, recall_now, StepsSo, steps_so, some_left}
+use Rattle.grant_laws.proofs.ReadLines.{IsReading, recall_now, StepsSo, steps_so}
 use Rattle.grant_laws.proofs.ReadTurnsMade.{as_reading, step_made, fetch_made}
 use Rattle.grant_laws.proofs.ReadSeats.{IsUnder, makes_step, own_under, under_after}
-use Rattle.grant_laws.proofs.BareReads.{BareReadsEnd}
+use Rattle.grant_laws.proofs.BareReads.{BareReadsEnd, some_left}
 
 -- ---- turns while the line is under way
 -- the history has its answer

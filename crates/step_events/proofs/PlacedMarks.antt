@@ -1,5 +1,5 @@
 -- A mark stands after a failed step that did not stand before it, exactly where the step placed it.
-use Rattle.std.proofs.Common.{◌≡◌, ℕ, Bool, List, [], ◌∷◌, ◌++◌, Option, None, Some, false, is_none, refl, sym, ◌∙◌, ap, append_assoc, subst, Err}
+use Rattle.std.proofs.Common.{◌≡◌, ℕ, Bool, List, [], ◌∷◌, ◌++◌, Option, None, Some, false, is_none, refl, sym, ◌∙◌, ap, append_assoc}
 use Rattle.std.proofs.lemmas.Option.{none-some}
 use Rattle.stamp_base.specs.declared.stores.Store.{Store}
 use Rattle.stamp_base.specs.declared.stores.Mark as mark
@@ -10,9 +10,6 @@ use Rattle.port_io.specs.Fates.{fated}
 use Rattle.history_book.specs.declared.item.Actor.{Actor}
 use Rattle.history_book.specs.declared.item.Item.{Item}
 use Rattle.history_book.specs.declared.item.Item.TheVariants.{Fault}
-use Rattle.store_parts.specs.declared.store_errors.StoreError.{StoreError}
-use Rattle.store_parts.specs.declared.store_errors.StoreError.TheVariants.{StoreFault}
-use Rattle.store_parts.specs.StoreCalls.{UnlessNoMemory}
 use Rattle.store_parts.specs.Rows.{Row}
 use Rattle.store_parts.specs.Pairs.{Pairs, mark_of}
 use Rattle.store_parts.proofs.PairLaws.{mark_of-put_pair}
@@ -45,10 +42,6 @@ items_failed : (actor : Actor) (asked : Ask) (fate : Fate) (answer : Told) → N
 items_failed actor asked Works answer fails = elim (none-some answer fails) [ ]
 items_failed actor asked FailsUnchanged answer fails = refl
 items_failed actor asked FailsApplied answer fails = refl
-
--- what a store call says where it failed
-pub of_fault : (P : Type 0) (why : StoreError) → why ≡ StoreFault → UnlessNoMemory {T = Told} (Err why) P → P
-of_fault P why is fact = subst (λ (e : StoreError). UnlessNoMemory {T = Told} (Err e) P) is fact
 
 -- the items that the code appends after a failed call
 pub items_of_failure : (actor : Actor) (asked : Ask) (pairs pairs_now : Pairs) (before after made : List Item) (unmarked still_unmarked : Bool) (store : Store) → after ≡ before ++ made ++ Fault actor store ∷ [] → made ≡ placed_items unmarked still_unmarked actor asked → unmarked ≡ places_mark asked pairs → still_unmarked ≡ places_mark asked pairs_now → store ≡ store_of asked → after ≡ before ++ placed_items (places_mark asked pairs) (places_mark asked pairs_now) actor asked ++ Fault actor (store_of asked) ∷ []

@@ -14,10 +14,11 @@ use Rattle.client_parts.specs.KeyRead.{Reading, read_ask}
 use Rattle.machine.specs.State.{UnderWay, Nothing, Reads, Settles, Completes, Client}
 use Rattle.machine.specs.Effect.{Effect, Faults}
 use Rattle.machine.specs.StoreSteps.{Met, met, store_of}
-use Rattle.machine.specs.Events.Step.{StepParts, step_at, stepped_on, step_failed, next_of, read_by, settle_by, complete_by}
+use Rattle.machine.specs.Events.Step.{StepParts, step_at, stepped_on, step_failed, next_of, work_of, read_by, settle_by, complete_by}
+use Rattle.machine.specs.Events.Fetch.{client_put_fresh}
 use Rattle.event_parts.specs.Made.{Leaves}
 use Rattle.step_events.specs.Meeting.{IsMet}
-use Rattle.event_parts.specs.Working.{client_told, told_items, client_failed}
+use Rattle.event_parts.specs.Working.{client_ready, client_told, told_items, client_failed}
 
 -- what a step comes to, by what it was told
 abbrev by_told : ℕ → Client → UnderWay → Ask → Met → Option Told → Effect StepParts
@@ -27,6 +28,9 @@ by_told session c work asked m (Some answer) = stepped_on (client_told c work an
 reads_by : (session : ℕ) (c : Client) (r : Reading) (m : Met) (told : Option Told) → read_by session c r m told ≡ by_told session c (Reads r) (read_ask r) m told
 reads_by session c r m None = refl
 reads_by session c r m (Some answer) = refl
+
+ready_by : (session : ℕ) (c : Client) (r : Reading) (m : Met) (told : Option Told) → read_by session (client_put_fresh c) r m told ≡ by_told session (client_ready c (Reads r)) (Reads r) (read_ask r) m told
+ready_by session c r m told = reads_by session (client_put_fresh c) r m told
 
 settles_by : (session : ℕ) (c : Client) (x : Settling) (m : Met) (told : Option Told) → settle_by session c x m told ≡ by_told session c (Settles x) (settle_ask x) m told
 settles_by session c x m None = refl
@@ -38,11 +42,11 @@ completes_by session c asked asks m (Some answer) = refl
 
 -- the step that meets this ask
 abbrev by_met : ℕ → Fate → Client → List Row → Pairs → UnderWay → Ask → Effect StepParts
-by_met session fate c rows pairs work asked = by_told session c work asked (met (Session session) asked fate rows pairs) (met (Session session) asked fate rows pairs).told
+by_met session fate c rows pairs work asked = by_told session (client_ready c work) work asked (met (Session session) asked fate rows pairs) (met (Session session) asked fate rows pairs).told
 
 step_is : (session : ℕ) (fate : Fate) (c : Client) (rows : List Row) (pairs : Pairs) (work : UnderWay) (asked : Ask) → next_of work ≡ Some asked → step_at session fate c rows pairs work ≡ by_met session fate c rows pairs work asked
 step_is session fate c rows pairs Nothing asked is = elim (none-some asked is) [ ]
-step_is session fate c rows pairs (Reads r) asked is = reads_by session c r (met (Session session) (read_ask r) fate rows pairs) _ ∙ ap (by_met session fate c rows pairs (Reads r)) (same_Some _ _ is)
+step_is session fate c rows pairs (Reads r) asked is = ready_by session c r (met (Session session) (read_ask r) fate rows pairs) _ ∙ ap (by_met session fate c rows pairs (Reads r)) (same_Some _ _ is)
 step_is session fate c rows pairs (Settles x) asked is = settles_by session c x (met (Session session) (settle_ask x) fate rows pairs) _ ∙ ap (by_met session fate c rows pairs (Settles x)) (same_Some _ _ is)
 step_is session fate c rows pairs (Completes []) asked is = elim (none-some asked is) [ ]
 step_is session fate c rows pairs (Completes (first ∷ asks)) asked is = completes_by session c first asks (met (Session session) first fate rows pairs) _ ∙ ap (by_met session fate c rows pairs (Completes (first ∷ asks))) (same_Some _ _ is)
@@ -50,24 +54,27 @@ step_is session fate c rows pairs (Completes (first ∷ asks)) asked is = comple
 left_parts : {a b : Client} {r s : List Row} {p q : Pairs} → a ≡ b → r ≡ s → p ≡ q → ◌≡◌ {A = StepParts} (a, r, p) (b, s, q)
 left_parts d e f = cc
 
-pub step_heard : (session : ℕ) (fate : Fate) (c c_now : Client) (rows rows_now : List Row) (pairs pairs_now : Pairs) (work : UnderWay) (asked : Ask) (answer : Told) (before between after : List Item) → next_of work ≡ Some asked → IsMet (met (Session session) asked fate rows pairs) rows_now pairs_now before between (Some answer) → c_now ≡ client_told c work answer → after ≡ between ++ told_items session c work answer → Leaves (step_at session fate c rows pairs work) (c_now, rows_now, pairs_now) before after None
-step_heard session fate c c_now rows rows_now pairs pairs_now work asked answer before between after is is_met of_client of_items =
+pub step_heard : (session : ℕ) (fate : Fate) (c c_ready c_now : Client) (rows rows_now : List Row) (pairs pairs_now : Pairs) (work : UnderWay) (asked : Ask) (answer : Told) (before between after : List Item) → next_of work ≡ Some asked → IsMet (met (Session session) asked fate rows pairs) rows_now pairs_now before between (Some answer) → c_ready ≡ client_ready c work → work_of c_ready ≡ work → c_now ≡ client_told c_ready (work_of c_ready) answer → after ≡ between ++ told_items session c_ready (work_of c_ready) answer → Leaves (step_at session fate c rows pairs work) (c_now, rows_now, pairs_now) before after None
+step_heard session fate c c_ready c_now rows rows_now pairs pairs_now work asked answer before between after is is_met ready works of_client of_items =
     let m : Met = met (Session session) asked fate rows pairs in
+    let told_client : c_now ≡ client_told (client_ready c work) work answer = rw (works, ready) at of_client in
+    let told : after ≡ between ++ told_items session (client_ready c work) work answer = rw (works, ready) at of_items in
     subst (λ (e : Effect StepParts). Leaves e (c_now, rows_now, pairs_now) before after None)
-    (sym (step_is session fate c rows pairs work asked is ∙ ap (by_told session c work asked m) is_met.told))
+    (sym (step_is session fate c rows pairs work asked is ∙ ap (by_told session (client_ready c work) work asked m) is_met.told))
     (record {
-      parts = left_parts of_client is_met.rows is_met.pairs;
-      items = of_items ∙ ap (λ (b : List Item). b ++ told_items session c work answer) is_met.items ∙ append_assoc before m.items (told_items session c work answer);
+      parts = left_parts told_client is_met.rows is_met.pairs;
+      items = told ∙ ap (λ (b : List Item). b ++ told_items session (client_ready c work) work answer) is_met.items ∙ append_assoc before m.items (told_items session (client_ready c work) work answer);
       stop = refl;
     })
 
-pub step_faulted : (session : ℕ) (fate : Fate) (c c_now : Client) (rows rows_now : List Row) (pairs pairs_now : Pairs) (work : UnderWay) (asked : Ask) (before after : List Item) (store : Store) → next_of work ≡ Some asked → IsMet (met (Session session) asked fate rows pairs) rows_now pairs_now before after None → c_now ≡ client_failed c work → store ≡ store_of asked → Leaves (step_at session fate c rows pairs work) (c_now, rows_now, pairs_now) before after (Some (Faults store))
-step_faulted session fate c c_now rows rows_now pairs pairs_now work asked before after store is is_met of_client of_store =
+pub step_faulted : (session : ℕ) (fate : Fate) (c c_ready c_now : Client) (rows rows_now : List Row) (pairs pairs_now : Pairs) (work : UnderWay) (asked : Ask) (before after : List Item) (store : Store) → next_of work ≡ Some asked → IsMet (met (Session session) asked fate rows pairs) rows_now pairs_now before after None → c_ready ≡ client_ready c work → work_of c_ready ≡ work → c_now ≡ client_failed c_ready (work_of c_ready) → store ≡ store_of asked → Leaves (step_at session fate c rows pairs work) (c_now, rows_now, pairs_now) before after (Some (Faults store))
+step_faulted session fate c c_ready c_now rows rows_now pairs pairs_now work asked before after store is is_met ready works of_client of_store =
     let m : Met = met (Session session) asked fate rows pairs in
+    let failed : c_now ≡ client_failed (client_ready c work) work = rw (works, ready) at of_client in
     subst (λ (e : Effect StepParts). Leaves e (c_now, rows_now, pairs_now) before after (Some (Faults store)))
-    (sym (step_is session fate c rows pairs work asked is ∙ ap (by_told session c work asked m) is_met.told))
+    (sym (step_is session fate c rows pairs work asked is ∙ ap (by_told session (client_ready c work) work asked m) is_met.told))
     (record {
-      parts = left_parts of_client is_met.rows is_met.pairs;
+      parts = left_parts failed is_met.rows is_met.pairs;
       items = is_met.items;
       stop = ap (λ s. Some (Faults s)) (sym of_store);
     })

@@ -33,6 +33,11 @@ abbrev pub placed_items : Bool → Bool → Actor → Ask → List Item
 placed_items true false actor (Mark txn) = item.Mark actor txn ∷ []
 placed_items _ _ actor _ = []
 
+-- there is room for a mark that the step may place
+abbrev pub HasRoomFor : Ask → Bool → Type 0
+HasRoomFor (Mark txn) has_room = has_room ≡ true
+HasRoomFor _ has_room = Unit {0}
+
 abbrev pub told_of_put : Put → Told
 told_of_put Placed = told.Marked
 told_of_put (Found mark) = told_entry (Some mark)

@@ -1,24 +1,36 @@
 // The asks of the step machines as calls on the stores, and the stores' answers back.
 ghost use Rattle.std.specs.Prelude.{◌≡◌, ◌≤◌, IfOk, OnOk, Some};
 ghost use Rattle.port_io.specs.Fates.{fated};
-ghost use Rattle.store_parts.specs.StoreCalls.{AsksOnce, UnlessNoMemory, OnNoMemory};
+ghost use Rattle.store_parts.specs.StoreCalls.{AsksOnce};
 ghost use Rattle.client_parts.specs.Asks.{Fits};
 ghost use Rattle.client_parts.specs.Sweep.{IsKeys};
 ghost use Rattle.machine.specs.StoreSteps as steps;
 ghost use Rattle.event_parts.specs.Kept.{made_items};
-ghost use Rattle.step_events.specs.Meeting.{KeepsShadow, IsMet, answer_of, places_mark, placed_items, told_of_put};
+ghost use Rattle.step_events.specs.Meeting.{HasRoomFor, KeepsShadow, IsMet, answer_of, places_mark, placed_items, told_of_put};
 
-use cell_store::Cells;
+use cell_store::{Cells, StoreFault};
 use client_parts::{Ask, Told};
-use commit_table::{Put, StoreError, Table};
+use commit_table::{Put, Table};
 use event_parts::ledger;
 use history_book::{Actor, Book, Item, Seen, StoreStep};
 use port_io::Weather;
-use stamp_base::{Mark, Store, TxnId};
+use stamp_base::{Mark, NoMemory, Store, TxnId};
 use store_parts::Cell;
 
+/// Makes room for the mark that the step may place, so that the step takes no memory. What the table has stays.
+pub(crate) fn make_room(ask: &Ask, table: &mut Table) -> Result<(), NoMemory>
+    ensures room { OnOk result (HasRoomFor ask.now table.new.has_room) }
+    ensures pairs { table.new.pairs ≡ table.old.pairs }
+    ensures places { table.new.places ≡ table.old.places }
+{
+    match ask {
+        Ask::Mark(_) => table.make_room(),
+        _ => Ok(()),
+    }
+}
+
 /// Makes the step, which lists no keys, by one call on its store, and appends its items. The answer fits the step, and leaves room for one more
-/// item. Of what a failed call did all the same only a mark that was placed is shown. After NoMemory all is as before.
+/// item. Of what a failed call did all the same only a mark that was placed is shown.
 pub(crate) fn meet<W: Weather>(
     weather: &mut W,
     book: &mut Book,
@@ -26,20 +38,19 @@ pub(crate) fn meet<W: Weather>(
     ask: &Ask,
     cells: &mut Cells,
     table: &mut Table,
-) -> Result<Told, StoreError>
+) -> Result<Told, StoreFault>
     requires room { 2 ≤ book.old.room }
+    requires mark { HasRoomFor ask.now table.old.has_room }
     requires shadow { KeepsShadow ask.now cells.old.rows }
     requires no_listing { IsKeys ask.now → ⊥ }
-    ensures met { UnlessNoMemory result (IsMet (steps.met actor ask.now (W.ahead weather.old (steps.store_of ask.now) 0)
-        cells.old.rows table.old.pairs) cells.new.rows table.new.pairs book.old.items book.new.items (answer_of result)) }
+    ensures met { IsMet (steps.met actor ask.now (W.ahead weather.old (steps.store_of ask.now) 0)
+        cells.old.rows table.old.pairs) cells.new.rows table.new.pairs book.old.items book.new.items (answer_of result) }
     ensures spare { book.new.spare ≡ book.old.spare }
     ensures fits { IfOk result (λ answer. Fits ask.now answer) }
     ensures room { OnOk result (1 ≤ book.new.room) }
     ensures places { table.new.places ≡ table.old.places }
-    ensures call { UnlessNoMemory result (AsksOnce (steps.store_of ask.now) (W.ahead weather.old) (W.ahead weather.new)
-        (W.faults weather.old) (W.faults weather.new)) }
-    ensures memory { OnNoMemory result ((cells.new ≡ cells.old) × (table.new ≡ table.old) × (weather.new ≡ weather.old)) }
-    ensures book { OnNoMemory result (book.new ≡ book.old) }
+    ensures call { AsksOnce (steps.store_of ask.now) (W.ahead weather.old) (W.ahead weather.new)
+        (W.faults weather.old) (W.faults weather.new) }
 {
     let unmarked = may_place(ask, table);
     match call(weather, ask, cells, table) {
@@ -48,13 +59,12 @@ pub(crate) fn meet<W: Weather>(
             book.append_in_room(item);
             Ok(answer)
         }
-        Err(StoreError::StoreFault) => {
+        Err(StoreFault) => {
             let still_unmarked = may_place(ask, table);
             let made = placed_item(unmarked, still_unmarked, &actor, ask);
             let _ = ledger::fail(book, actor, store_of(ask), made);
-            Err(StoreError::StoreFault)
+            Err(StoreFault)
         }
-        Err(StoreError::NoMemory) => Err(StoreError::NoMemory),
     }
 }
 
@@ -64,45 +74,45 @@ fn call<W: Weather>(
     ask: &Ask,
     cells: &mut Cells,
     table: &mut Table,
-) -> Result<Told, StoreError>
+) -> Result<Told, StoreFault>
+    requires mark { HasRoomFor ask.now table.old.has_room }
     requires shadow { KeepsShadow ask.now cells.old.rows }
     requires no_listing { IsKeys ask.now → ⊥ }
-    ensures rows { UnlessNoMemory result (cells.new.rows ≡ fated (W.ahead weather.old (steps.store_of ask.now) 0)
-        cells.old.rows (steps.rows_after ask.now cells.old.rows)) }
-    ensures pairs { UnlessNoMemory result (table.new.pairs ≡ fated (W.ahead weather.old (steps.store_of ask.now) 0)
-        table.old.pairs (steps.pairs_after ask.now table.old.pairs)) }
-    ensures answer { UnlessNoMemory result (answer_of result ≡ steps.told_under (W.ahead weather.old (steps.store_of ask.now) 0)
-        (steps.told_by ask.now cells.old.rows table.old.pairs)) }
+    ensures rows { cells.new.rows ≡ fated (W.ahead weather.old (steps.store_of ask.now) 0)
+        cells.old.rows (steps.rows_after ask.now cells.old.rows) }
+    ensures pairs { table.new.pairs ≡ fated (W.ahead weather.old (steps.store_of ask.now) 0)
+        table.old.pairs (steps.pairs_after ask.now table.old.pairs) }
+    ensures answer { answer_of result ≡ steps.told_under (W.ahead weather.old (steps.store_of ask.now) 0)
+        (steps.told_by ask.now cells.old.rows table.old.pairs) }
     ensures fits { IfOk result (λ answer. Fits ask.now answer) }
     ensures places { table.new.places ≡ table.old.places }
-    ensures call { UnlessNoMemory result (AsksOnce (steps.store_of ask.now) (W.ahead weather.old) (W.ahead weather.new)
-        (W.faults weather.old) (W.faults weather.new)) }
-    ensures memory { OnNoMemory result ((cells.new ≡ cells.old) × (table.new ≡ table.old) × (weather.new ≡ weather.old)) }
+    ensures call { AsksOnce (steps.store_of ask.now) (W.ahead weather.old) (W.ahead weather.new)
+        (W.faults weather.old) (W.faults weather.new) }
 {
     match ask {
         Ask::Get(txn) => match table.get(weather, *txn) {
             Ok(found) => Ok(told_entry(&found)),
-            Err(_) => Err(StoreError::StoreFault),
+            Err(_) => Err(StoreFault),
         },
-        Ask::Mark(txn) => match table.put_if_absent(weather, *txn, Mark::Invalid) {
+        Ask::Mark(txn) => match table.put_in_room(weather, *txn, Mark::Invalid) {
             Ok(put) => Ok(told_put(&put)),
-            Err(error) => Err(error),
+            Err(_) => Err(StoreFault),
         },
         Ask::Look(key, txn) => match cells.look(weather, *key, *txn) {
             Ok(found) => Ok(told_cell(&found)),
-            Err(_) => Err(StoreError::StoreFault),
+            Err(_) => Err(StoreFault),
         },
         Ask::Shadow(key, txn, commit) => match cells.set_shadow(weather, *key, *txn, *commit) {
             Ok(()) => Ok(Told::Done),
-            Err(_) => Err(StoreError::StoreFault),
+            Err(_) => Err(StoreFault),
         },
         Ask::Remove(txn) => match table.remove_committed(weather, *txn) {
             Ok(()) => Ok(Told::Done),
-            Err(_) => Err(StoreError::StoreFault),
+            Err(_) => Err(StoreFault),
         },
         Ask::Erase(key, txn) => match cells.remove_bare(weather, *key, *txn) {
             Ok(()) => Ok(Told::Done),
-            Err(_) => Err(StoreError::StoreFault),
+            Err(_) => Err(StoreFault),
         },
         Ask::Keys(_) => unreachable!(),
     }

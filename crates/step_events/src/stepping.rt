@@ -8,9 +8,9 @@ ghost use Rattle.step_events.specs.Meeting.{KeepsShadow, KeepsShadowNext};
 ghost use Rattle.event_parts.specs.Working.{CanWork, MayStep};
 
 use crate::asks;
-use cell_store::Cells;
+use cell_store::{Cells, StoreFault};
 use client_parts::Ask;
-use commit_table::{StoreError, Table};
+use commit_table::Table;
 use event_parts::{Client, Stopped, ledger};
 use history_book::{Actor, Book};
 use port_io::Weather;
@@ -67,15 +67,17 @@ fn step_asked<W: Weather>(
     ensures asked { Asks result (Some (steps.store_of ask.now)) (W.ahead weather.old) (W.ahead weather.new)
         (W.faults weather.old) (W.faults weather.new) }
 {
+    // All memory is taken before the store call and before anything changes.
+    asks::make_room(ask, table)?;
+    client.make_ready()?;
     match asks::meet(weather, book, Actor::Session(session), ask, cells, table) {
         Ok(answer) => {
             client.told(book, session, answer);
             Ok(())
         }
-        Err(StoreError::StoreFault) => {
+        Err(StoreFault) => {
             client.failed();
             Err(Stopped::StoreFault(asks::store_of(ask)))
         }
-        Err(StoreError::NoMemory) => Err(Stopped::NoMemory),
     }
 }

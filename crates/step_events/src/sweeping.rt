@@ -8,10 +8,10 @@ ghost use Rattle.machine.specs.StoreSteps as steps;
 ghost use Rattle.machine.specs.Events.SweepOpen.{sweep_open_on};
 ghost use Rattle.machine.specs.Events.SweepStep.{sweep_step_on, sweep_step_asks, sweep_at, sweep_lists, sweep_met, sweep_left, undecided_items, undecided_stop};
 ghost use Rattle.event_parts.specs.Made.{Makes, Asks, fate_ahead, ended};
-ghost use Rattle.step_events.specs.Meeting.{KeepsShadow, KeepsShadowNext, undecided_cause};
+ghost use Rattle.step_events.specs.Meeting.{HasRoomFor, KeepsShadow, KeepsShadowNext, undecided_cause};
 
 use crate::asks;
-use cell_store::Cells;
+use cell_store::{Cells, StoreFault};
 use client_parts::{Ask, Told};
 use commit_table::{StoreError, Table};
 use event_parts::{Stopped, ledger};
@@ -131,7 +131,7 @@ fn list_keys<W: Weather>(
     }
 }
 
-/// Any other step is met by one call.
+/// Any other step is met by one call, in room that is made for it.
 fn meet_asked<W: Weather>(
     weather: &mut W,
     book: &mut Book,
@@ -151,13 +151,36 @@ fn meet_asked<W: Weather>(
         (W.faults weather.old) (W.faults weather.new) }
 {
     book.make_room(2)?;
+    asks::make_room(ask, table)?;
+    meet_in_room(weather, book, sweep, cells, table, ask)
+}
+
+fn meet_in_room<W: Weather>(
+    weather: &mut W,
+    book: &mut Book,
+    sweep: &mut Option<Sweep>,
+    cells: &mut Cells,
+    table: &mut Table,
+    ask: &Ask,
+) -> Result<(), Stopped>
+    requires room { 2 ≤ book.old.room }
+    requires mark { HasRoomFor ask.now table.old.has_room }
+    requires next { IsSomeAnd sweep.old (λ s. sweep_ask s ≡ Some ask.now) }
+    requires shadow { KeepsShadow ask.now cells.old.rows }
+    requires no_listing { IsKeys ask.now → ⊥ }
+    ensures made { IfSome sweep.old (λ s. Makes (sweep_met s ask.now (steps.met Actor.Janitor ask.now (W.ahead weather.old (steps.store_of ask.now) 0) cells.old.rows table.old.pairs))
+        (sweep.old, cells.old.rows, table.old.pairs) (sweep.new, cells.new.rows, table.new.pairs) book.old.items book.new.items result) }
+    ensures spare { book.new.spare ≡ book.old.spare }
+    ensures places { table.new.places ≡ table.old.places }
+    ensures asked { Asks result (Some (steps.store_of ask.now)) (W.ahead weather.old) (W.ahead weather.new)
+        (W.faults weather.old) (W.faults weather.new) }
+{
     match asks::meet(weather, book, Actor::Janitor, ask, cells, table) {
         Ok(answer) => take_answer(book, sweep, answer),
-        Err(StoreError::StoreFault) => {
+        Err(StoreFault) => {
             *sweep = None;
             Err(Stopped::StoreFault(asks::store_of(ask)))
         }
-        Err(StoreError::NoMemory) => Err(Stopped::NoMemory),
     }
 }
 

@@ -28,6 +28,7 @@ use Rattle.isolation_laws.proofs.Lookups.{set_found, set_other, one_client}
 use Rattle.isolation_laws.proofs.Outcome.OutcomesOfStamps.{answered_client}
 use Rattle.isolation_laws.proofs.Requests.ClientsOpen.{gone_cases}
 use Rattle.isolation_laws.proofs.Requests.WrittenKeys.{added_stays, added_in}
+use Rattle.isolation_laws.proofs.Stores.CompletionSteps.{in_none}
 
 -- ---- one client
 abbrev pub Has : Client → ℕ → ℕ → Type 0
@@ -66,12 +67,8 @@ read_has c (Asks r) other k t of = of_work c.entry c.under_way _ k t other of
 read_has c (Answers a) other k t of = of_work c.entry c.under_way _ k t other of
 
 -- ---- a transaction that ends without a commit is undone where it wrote
-in_no : (k : ℕ) → k ∈ [] → ⊥
-unfolding ◌∈◌
-in_no k m = m
-
 aborted_of : (e : SessionEntry) (keys : List ℕ) (k t : ℕ) → e.start ≡ Some t → k ∈ keys → IsOf (aborted_by e keys) (undo_of (Some t) keys) k t
-aborted_of e [] k t start m = absurd (in_no k m)
+aborted_of e [] k t start m = absurd (in_none k [] refl m)
 aborted_of e (key ∷ keys) k t start m = (start, (key ∷ keys, refl, m))
 
 pub of_aborted : (c : Client) (k t : ℕ) → c.entry.start ≡ Some t → k ∈ c.entry.keys → Has (client_aborted c) k t

@@ -26,6 +26,7 @@ use Rattle.isolation_laws.proofs.Outcome.OutcomesOfWork.{fetched_client, fetched
 use Rattle.isolation_laws.proofs.Outcome.Outcomes.{Outcome, OfCrashed, OfAskedBegin, OfAskedCommit, OfEnded, OfAnsweredBegin, OfAnsweredCommit, OfEndedReadOnly, OfWrote, OfWriteFailed, OfAborted, OfVanished, OfHealed, OfFetched, OfReadDropped, OfReadStepped, OfOutcome, OfOutcomeFailed, OfCompleted, OfSwept, OfSweepFailed, left_by, told_by_outcome}
 use Rattle.isolation_laws.proofs.Requests.RequestsOfNodes.{waits_for}
 use Rattle.isolation_laws.proofs.Stores.CellsMove.{put_cases}
+use Rattle.isolation_laws.proofs.Stores.CompletionSteps.{in_none}
 use Rattle.isolation_laws.proofs.UnderWay.ClientWorks.{plain_reading}
 use Rattle.isolation_laws.proofs.UnderWay.WritesKept.{bare_row_of}
 use Rattle.isolation_laws.proofs.UnderWay.SessionMoves.{work_of, start_of}
@@ -63,12 +64,8 @@ open_other same = cc
 outcome_other : phase.OpenOutcome ≡ phase.Completing true → ⊥
 outcome_other same = cc
 
-in_no : (k : ℕ) → k ∈ [] → ⊥
-unfolding ◌∈◌
-in_no k m = m
-
 none_wrote : (c new : Client) → c.entry.state ≡ phase.Open → c.entry.keys ≡ [] → HasOn c new
-none_wrote c new is none k t of = absurd (in_no k (subst (λ (keys : List ℕ). k ∈ keys) none (has_in c k t phase.Open is of)))
+none_wrote c new is none k t of = absurd (in_none k c.entry.keys none (has_in c k t phase.Open is of))
 
 dropped_has : (w : State) (h : List Item) (k : ReadDropped w) → Holds w h → HasOn k.c (record k.c { under_way = k.under_way })
 dropped_has w h k holds j t of = elim k.under_way_is [

@@ -1,6 +1,6 @@
 -- A step on the stores leaves no more cells without a shadow, and a write one more at most; where a completion makes a step, what it
 -- has come to is not bare any longer.
-use Rattle.std.proofs.Common.{[], ◌≡◌, ℕ, Bool, true, false, if◌then◌else◌, List, ◌∷◌, Option, Some, None, ◌⊎◌, inl, inr, refl, sym, ◌∙◌, ap, subst}
+use Rattle.std.proofs.Common.{[], ◌≡◌, ℕ, Bool, true, false, if◌then◌else◌, List, ◌∷◌, Option, Some, None, inl, inr, refl, sym, ◌∙◌, ap, subst}
 use Rattle.std.proofs.lemmas.Option.{same_Some, none-some}
 use Rattle.history_book.specs.Members.{◌∈◌}
 use Rattle.history_book.specs.Isolation.{last_write}
@@ -24,7 +24,7 @@ use Rattle.isolation_laws.specs.Holds.{Holds}
 use Rattle.isolation_laws.proofs.Stores.CellsStay.{shadow_cases}
 use Rattle.isolation_laws.proofs.Stores.CellsMove.{bare_not_shadowed}
 use Rattle.isolation_laws.proofs.Stores.StoreMoves.{AskFits}
-use Rattle.isolation_laws.proofs.Stores.CompletionSteps.{finish_first, undo_first, finish_fits, no_asks}
+use Rattle.isolation_laws.proofs.Stores.CompletionSteps.{in_rest, finish_first, undo_first, finish_fits, no_asks}
 use Rattle.isolation_laws.proofs.UnderWay.ClientWorks.{asks_same}
 use Rattle.isolation_laws.proofs.UnderWay.SessionMoves.{work_of}
 use Rattle.isolation_laws.proofs.Bare.BareClients.{Has, has_in}
@@ -61,10 +61,6 @@ erased_none rows k t ordered b =
     is_bare_row rows k t cell found is there bare = rw there bare
 
 -- what is left to be erased
-in_rest : (j q : ℕ) (left ks : List ℕ) → left ≡ q ∷ ks → j ∈ left → (j ≡ q) ⊎ (j ∈ ks)
-unfolding ◌∈◌
-in_rest j q left ks is m = subst (λ (xs : List ℕ). j ∈ xs) is m
-
 none_left : (t j : ℕ) (ks : List ℕ) → [] ≡ undo_asks t ks → j ∈ ks → ⊥
 unfolding ◌∈◌
 none_left t j [] is m = m

@@ -52,7 +52,7 @@ all_shadowed w h t c holds covered d placed k = elim (holds.cells.placed.cells t
   | inr has ↦ has
 ]
 
-in_none : (k : ℕ) (left : List ℕ) → left ≡ [] → k ∈ left → ⊥
+pub in_none : (k : ℕ) (left : List ℕ) → left ≡ [] → k ∈ left → ⊥
 unfolding ◌∈◌
 in_none k [] is m = m
 in_none k (j ∷ left) is m = cc
@@ -75,7 +75,7 @@ pub placed_row : (w : State) (h : List Item) (t c k : ℕ) (value : List ℕ) �
 placed_row w h t c k value holds placed wrote = written_row w.rows h t c k value (holds.cells.placed.cells t c k placed) wrote
 
 -- the keys that are left after the first
-in_rest : (j k : ℕ) (left ks : List ℕ) → left ≡ k ∷ ks → j ∈ left → (j ≡ k) ⊎ (j ∈ ks)
+pub in_rest : (j k : ℕ) (left ks : List ℕ) → left ≡ k ∷ ks → j ∈ left → (j ≡ k) ⊎ (j ∈ ks)
 unfolding ◌∈◌
 in_rest j k left ks is m = subst (λ (xs : List ℕ). j ∈ xs) is m
 
