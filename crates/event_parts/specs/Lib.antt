@@ -6,5 +6,6 @@ pub mod Made
 pub mod Parts
 pub mod Kept
 pub mod Waiting
+pub mod Served
 pub mod Replies
 pub mod Working

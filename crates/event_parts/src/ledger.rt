@@ -1,5 +1,5 @@
 // How an event tells what it did: its items in the book, in room that was made for them.
-ghost use Rattle.std.specs.Prelude.{◌≡◌, ◌≤◌, ◌++◌, ◌∷◌, [], Err, if◌then◌else◌};
+ghost use Rattle.std.specs.Prelude.{◌≡◌, ◌+◌, ◌≤◌, ◌++◌, ◌∷◌, [], length, Err, if◌then◌else◌};
 ghost use Rattle.store_parts.specs.StoreCalls.{AsksOnce};
 ghost use Rattle.client_parts.specs.KeyRead.{ReadTurn, next_of};
 ghost use Rattle.machine.specs.Effect as effect;
@@ -35,17 +35,29 @@ pub fn tell(book: &mut Book, actor: Actor, cause: Cause) -> Result<(), Stopped>
     Err(Stopped::Refused(cause))
 }
 
-/// The same for a refusal that a request is told once: where it was told before, nothing is appended.
+/// The same of a request that was accepted, in room that was reserved for it.
+pub fn tell_reserved(book: &mut Book, actor: Actor, cause: Cause) -> Result<(), Stopped>
+    requires { 1 ≤ book.old.spare }
+    ensures items { book.new.items ≡ book.old.items ++ Item.Refused actor cause ∷ [] }
+    ensures spare { book.new.spare + length book.new.items ≡ book.old.spare + length book.old.items }
+    ensures answer { result ≡ Err (Stopped.Refused cause) }
+{
+    let told = cause;
+    book.append_reserved(Item::Refused { actor, cause: told });
+    Err(Stopped::Refused(cause))
+}
+
+/// The same for a refusal that such a request is told once: where it was told before, nothing is appended.
 pub fn tell_once(book: &mut Book, told: bool, actor: Actor, cause: Cause) -> Result<(), Stopped>
-    requires { 1 ≤ book.old.room }
+    requires { 1 ≤ book.old.spare }
     ensures items { book.new.items ≡ book.old.items ++ (if told then [] else Item.Refused actor cause ∷ []) }
-    ensures spare { book.new.spare ≡ book.old.spare }
+    ensures spare { book.new.spare + length book.new.items ≡ book.old.spare + length book.old.items }
     ensures answer { result ≡ Err (Stopped.Refused cause) }
 {
     if told {
         return Err(Stopped::Refused(cause));
     }
-    tell(book, actor, cause)
+    tell_reserved(book, actor, cause)
 }
 
 /// The actor's call on the store failed. The change that it made all the same stands before the fault.
@@ -59,6 +71,25 @@ pub fn fail(book: &mut Book, actor: Actor, store: Store, made: Option<Item>) -> 
         book.append_in_room(item);
     }
     book.append_in_room(Item::Fault { actor, store });
+    Err(Stopped::StoreFault(store))
+}
+
+/// The same of the call that places a commit, in room that was reserved for the commit.
+pub fn fail_reserved(
+    book: &mut Book,
+    actor: Actor,
+    store: Store,
+    made: Option<Item>,
+) -> Result<(), Stopped>
+    requires { 2 ≤ book.old.spare }
+    ensures items { book.new.items ≡ book.old.items ++ made_items made ++ Item.Fault actor store ∷ [] }
+    ensures spare { book.new.spare + length book.new.items ≡ book.old.spare + length book.old.items }
+    ensures answer { result ≡ Err (Stopped.StoreFault store) }
+{
+    if let Some(item) = made {
+        book.append_reserved(item);
+    }
+    book.append_reserved(Item::Fault { actor, store });
     Err(Stopped::StoreFault(store))
 }
 

@@ -1,4 +1,4 @@
-ghost use Rattle.std.specs.Prelude.{◌≡◌, ◌≤◌, ◌^◌, IfOk, IfSome, Ok, None, Some, length};
+ghost use Rattle.std.specs.Prelude.{◌≡◌, ◌≤◌, ◌^◌, IfOk, IfSome, Ok, None, Some, is_ok, length};
 ghost use Rattle.stamp_base.specs.Ranges.{IsStampRange};
 ghost use Rattle.oracle_parts.specs.Instance as entry;
 ghost use Rattle.oracle_parts.specs.InstanceSteps as step;
@@ -164,6 +164,22 @@ impl Instance {
             requests::just_asked(request),
         );
         Ok(())
+    }
+
+    /// Whether `accept` of this session at this reading would accept, and not refuse.
+    pub fn may_accept(&self, session: SessionNo, reading: u64) -> bool
+        ensures { result ≡ is_ok (step.instance_accept self.now session reading).answer }
+    {
+        match &self.requests[session.index()] {
+            Some(
+                Held {
+                    request,
+                    progress: Progress::Asked,
+                    ..
+                },
+            ) => self.accept_refusal(request, reading).is_none(),
+            _ => false,
+        }
     }
 
     /// Accepts a request that was asked. Refused as NoRequest unless one was, as Expired exactly where the reading is
