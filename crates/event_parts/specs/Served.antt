@@ -1,7 +1,7 @@
 -- Which calls serve a request that was accepted. Such a call appends in room that was reserved for the request, and takes no memory.
-use Rattle.std.specs.Prelude.{◌≡◌, ℕ, ◌+◌, ◌≤◌, Bool, true, false, length, Option, None, Some, is_some, Result, Err, IsTrue}
+use Rattle.std.specs.Prelude.{◌≡◌, ℕ, ◌+◌, ◌≤◌, Bool, true, false, List, length, Option, None, Some, is_some, Result, Err, IsTrue}
 use Rattle.std.specs.FinSet as set
-use Rattle.history_book.specs.Book.{BookContent}
+use Rattle.history_book.specs.declared.item.Item.{Item}
 use Rattle.store_parts.specs.Pairs.{Places}
 use Rattle.oracle_parts.specs.declared.instance.Held.{Held}
 use Rattle.oracle_parts.specs.declared.instance.Progress.{Progress}
@@ -44,9 +44,9 @@ HasRoomIf true n spare = n ≤ spare
 HasRoomIf false n spare = Unit {0}
 
 -- each item was appended in room that was reserved; a call that serves nothing leaves that room
-abbrev pub SpendsIf : Bool → BookContent → BookContent → Type 0
-SpendsIf true before now = now.spare + length now.items ≡ before.spare + length before.items
-SpendsIf false before now = now.spare ≡ before.spare
+abbrev pub SpendsIf : Bool → ℕ → List Item → ℕ → List Item → Type 0
+SpendsIf true spare items spare_now items_now = spare_now + length items_now ≡ spare + length items
+SpendsIf false spare items spare_now items_now = spare_now ≡ spare
 
 abbrev pub NeverLacks : Result Unit Stopped → Type 0
 NeverLacks (Err NoMemory) = ⊥

@@ -1,3 +1,4 @@
+pub mod Places
 mod KeptItems
 mod Losses
 mod Placed

@@ -9,15 +9,19 @@ use Rattle.oracle_parts.specs.declared.instance.Reply.TheVariants as reply
 use Rattle.oracle_parts.specs.declared.instance.Request.{Request}
 use Rattle.oracle_parts.specs.declared.instance.Request.TheVariants.{Begin, Commit}
 use Rattle.oracle_parts.specs.declared.instance.Settled.TheVariants as how
-use Rattle.oracle_parts.specs.Instance.{InstanceEntry, held_of, least_unsettled}
+use Rattle.oracle_parts.specs.Instance.{InstanceEntry, held_of, stamps_by, stamps_of_held, stamps_at, least_unsettled}
 use Rattle.oracle_parts.specs.InstanceSteps.{instance_answer, answer_begin, answer_if_ready, answer_held}
 use Rattle.history_book.specs.declared.item.Item.{Item}
 use Rattle.machine.specs.State.{Client}
-use Rattle.machine.specs.Events.Answer.{answer_by}
+use Rattle.machine.specs.Effect.{refused}
+use Rattle.machine.specs.Events.Answer.{answer_by, answer_request}
+use Rattle.history_book.specs.declared.cause.Cause.TheVariants as cause
+use Rattle.history_book.specs.declared.item.Actor.TheVariants.{Node}
 use Rattle.event_parts.specs.declared.stopped.Stopped.{Stopped}
 use Rattle.event_parts.specs.Made.{Makes, ended}
 use Rattle.event_parts.specs.Waiting.{Waits, WaitsFor}
 use Rattle.event_parts.specs.Replies.{WaitsForReply, replied, reply_told}
+use Rattle.node_events.specs.Ready.{ready_by, ready_start}
 
 begin_waits : (i : InstanceEntry) (session : ℕ) (e : SessionEntry) (r : Reply) (held : Held) (b start : ℕ) (least : Option ℕ) → Waits (Begin b) e → (answer_begin i session held start least).answer ≡ Ok r → WaitsForReply r e
 begin_waits i session e r held b start None waits told = grind arith
@@ -48,3 +52,21 @@ reply_made node session start c i left (reply.Begun begun epoch) before after re
 reply_made node session start c i left (reply.Committed commit) before after result items told = rw told (record { parts = refl; items = items; stop = refl })
 reply_made node session start c i left reply.Invalid before after result items told = rw told (record { parts = refl; items = items; stop = refl })
 reply_made node session start c i left reply.Open before after result items told = rw told (record { parts = refl; items = items; stop = refl })
+
+-- ---- a request that has no answer yet is refused, and stays
+refused_by : (node session : ℕ) (i : InstanceEntry) (c : Client) (held : Held) (request : Request) (progress : Progress) → held_of i session ≡ Some held → held.request ≡ request → held.progress ≡ progress → ready_by request progress ≡ None → answer_request node session i c (stamps_by request progress) ≡ refused (Some i, c) (Node node) (cause.NoRequest session)
+refused_by node session i c held (Begin b) Asked at asks stands none = refl
+refused_by node session i c held (Begin b) Accepted at asks stands none = refl
+refused_by node session i c held (Begin b) (Drawn start) at asks stands none = grind arith
+refused_by node session i c held (Begin b) (Settled commit how) at asks stands none = refl
+refused_by node session i c held (Commit s start keys) Asked at asks stands none = refl
+refused_by node session i c held (Commit s start keys) Accepted at asks stands none = refl
+refused_by node session i c held (Commit s start keys) (Drawn commit) at asks stands none = rw (at, asks, stands) refl
+refused_by node session i c held (Commit s start keys) (Settled commit how) at asks stands none = grind arith
+
+refused_held : (node session : ℕ) (i : InstanceEntry) (c : Client) (found : Option Held) → held_of i session ≡ found → ready_start found ≡ None → answer_request node session i c (stamps_of_held found) ≡ refused (Some i, c) (Node node) (cause.NoRequest session)
+refused_held node session i c None at none = refl
+refused_held node session i c (Some held) at none = refused_by node session i c held held.request held.progress at refl refl none
+
+pub not_ready : (node session : ℕ) (i : InstanceEntry) (c : Client) → ready_start (held_of i session) ≡ None → answer_request node session i c (stamps_at i session) ≡ refused (Some i, c) (Node node) (cause.NoRequest session)
+not_ready node session i c none = refused_held node session i c (held_of i session) refl none

@@ -6,3 +6,4 @@ pub use Rattle.event_parts.specs.Waiting
 pub use Rattle.event_parts.specs.Served
 pub mod Against
 pub mod Reserved
+pub mod Ready

@@ -1,22 +1,25 @@
 // A node answers a session's request.
-ghost use Rattle.std.specs.Prelude.{◌≡◌, ◌≤◌, ◌++◌, Some};
+ghost use Rattle.std.specs.Prelude.{◌≡◌, ◌+◌, ◌≤◌, ◌++◌, length, Some};
 ghost use Rattle.oracle_parts.specs.Instance.{held_of, stamps_at};
 ghost use Rattle.oracle_parts.specs.InstanceSteps.{instance_answer};
 ghost use Rattle.machine.specs.Events.Answer.{answer_on, answer_request, answer_by};
 ghost use Rattle.event_parts.specs.Made.{Makes, ended};
+ghost use Rattle.event_parts.specs.Served.{held_at, is_to_answer, HasRoomIf, SpendsIf, NeverLacks, NeverLacksIf};
 ghost use Rattle.event_parts.specs.Waiting.{WaitsFor, WaitsAt};
 ghost use Rattle.event_parts.specs.Replies.{reply_told};
+ghost use Rattle.node_events.specs.Ready.{ready_start};
 
 use event_parts::{Client, Stopped, ledger};
 use history_book::{Actor, Book, Cause, Item};
 use oracle_core::Instance;
-use oracle_parts::Reply;
+use oracle_parts::{Held, Progress, Reply, Request};
 use stamp_base::{NodeNo, SessionNo, Stamp};
 use takeover_core::Post;
 
 /// The node answers the session's request, which ends it: refused as NoOracle, then as NoRequest unless it is a begin that was
 /// drawn or a commit that was settled, or as NotYet while a commit that was drawn below a begin's start is not settled,
-/// which it is told once. A commit that is invalid or open is told as a refusal.
+/// which it is told once. A commit that is invalid or open is told as a refusal. What is told of a request that has its answer
+/// takes no memory.
 pub fn answer(
     book: &mut Book,
     post: &mut Post,
@@ -24,10 +27,12 @@ pub fn answer(
     node: NodeNo,
     session: SessionNo,
 ) -> Result<(), Stopped>
-    requires { WaitsAt post.old session client.old.entry }
+    requires waits { WaitsAt post.old session client.old.entry }
+    requires room { HasRoomIf (is_to_answer (held_at post.old session)) 1 book.old.spare }
     ensures made { Makes (answer_on node session post.old client.old) (post.old, client.old) (post.new, client.new)
         book.old.items book.new.items result }
-    ensures spare { book.new.spare ≡ book.old.spare }
+    ensures spare { SpendsIf (is_to_answer (held_at post.old session)) book.old.spare book.old.items book.new.spare book.new.items }
+    ensures served { NeverLacksIf (is_to_answer (held_at post.old session)) result }
 {
     match &mut post.instance {
         None => ledger::refuse(book, Actor::Node(node), Cause::NoOracle { node }),
@@ -35,6 +40,7 @@ pub fn answer(
     }
 }
 
+#[tactic(auto, using(crate::proofs::Replies::not_ready))]
 fn answer_at(
     book: &mut Book,
     instance: &mut Instance,
@@ -42,20 +48,23 @@ fn answer_at(
     node: NodeNo,
     session: SessionNo,
 ) -> Result<(), Stopped>
-    requires { WaitsFor (held_of instance.old session) client.old.entry }
+    requires waits { WaitsFor (held_of instance.old session) client.old.entry }
+    requires room { HasRoomIf (is_to_answer (held_of instance.old session)) 1 book.old.spare }
     ensures made { Makes (answer_request node session instance.old client.old (stamps_at instance.old session))
         (Some instance.old, client.old) (Some instance.new, client.new) book.old.items book.new.items result }
-    ensures spare { book.new.spare ≡ book.old.spare }
+    ensures spare { SpendsIf (is_to_answer (held_of instance.old session)) book.old.spare book.old.items book.new.spare book.new.items }
+    ensures served { NeverLacksIf (is_to_answer (held_of instance.old session)) result }
 {
-    match instance.drawn(session) {
+    // Read before the call, for a reply has no start.
+    match ready_start(&instance.held(session)) {
         None => ledger::refuse(book, Actor::Node(node), Cause::NoRequest { session }),
-        // Read before the call, for a reply has no start.
-        Some((start, _)) => answer_drawn(book, instance, client, node, session, start),
+        Some(start) => answer_ready(book, instance, client, node, session, start),
     }
 }
 
+/// The same of a request that has its answer, in room that was reserved for it.
 #[tactic(auto, using(crate::proofs::Replies::waits_for_reply, crate::proofs::Replies::reply_made))]
-fn answer_drawn(
+fn answer_ready(
     book: &mut Book,
     instance: &mut Instance,
     client: &mut Client,
@@ -63,12 +72,13 @@ fn answer_drawn(
     session: SessionNo,
     start: Stamp,
 ) -> Result<(), Stopped>
-    requires { WaitsFor (held_of instance.old session) client.old.entry }
+    requires waits { WaitsFor (held_of instance.old session) client.old.entry }
+    requires room { 1 ≤ book.old.spare }
     ensures made { Makes (answer_by node session start client.old instance.old (instance_answer instance.old session).left (instance_answer instance.old session).answer)
         (Some instance.old, client.old) (Some instance.new, client.new) book.old.items book.new.items result }
-    ensures spare { book.new.spare ≡ book.old.spare }
+    ensures spare { book.new.spare + length book.new.items ≡ book.old.spare + length book.old.items }
+    ensures served { NeverLacks result }
 {
-    book.make_room(1)?;
     let told = instance.told_not_yet(session);
     let answer = instance.answer(session);
     match &answer {
@@ -79,7 +89,30 @@ fn answer_drawn(
         Err(cause @ Cause::NotYet { .. }) => {
             ledger::tell_once(book, told, Actor::Session(session), *cause)
         }
-        Err(cause) => ledger::tell(book, Actor::Node(node), *cause),
+        Err(cause) => ledger::tell_reserved(book, Actor::Node(node), *cause),
+    }
+}
+
+/// The start of a request that has its answer: a begin that was drawn, or a commit that was settled.
+fn ready_start(held: &Option<Held>) -> Option<Stamp>
+    ensures { result ≡ ready_start held.now }
+{
+    match held {
+        Some(
+            Held {
+                request: Request::Begin { .. },
+                progress: Progress::Drawn { stamp },
+                ..
+            },
+        ) => Some(*stamp),
+        Some(
+            Held {
+                request: Request::Commit { start, .. },
+                progress: Progress::Settled { .. },
+                ..
+            },
+        ) => Some(*start),
+        _ => None,
     }
 }
 
@@ -90,28 +123,30 @@ fn tell_reply(
     start: Stamp,
     reply: &Reply,
 ) -> Result<(), Stopped>
-    requires { 1 ≤ book.old.room }
+    requires { 1 ≤ book.old.spare }
     ensures items { book.new.items ≡ book.old.items ++ (reply_told session start reply.now).items }
-    ensures spare { book.new.spare ≡ book.old.spare }
+    ensures spare { book.new.spare + length book.new.items ≡ book.old.spare + length book.old.items }
     ensures answer { result ≡ ended (reply_told session start reply.now).stop }
 {
     match reply {
         Reply::Begun { start, .. } => {
-            book.append_in_room(Item::Begin {
+            book.append_reserved(Item::Begin {
                 session,
                 start: *start,
             });
             Ok(())
         }
         Reply::Committed { commit } => {
-            book.append_in_room(Item::Committed {
+            book.append_reserved(Item::Committed {
                 session,
                 start,
                 commit: *commit,
             });
             Ok(())
         }
-        Reply::Invalid => ledger::tell(book, Actor::Session(session), Cause::Invalid { start }),
-        Reply::Open => ledger::tell(book, Actor::Session(session), Cause::Open { start }),
+        Reply::Invalid => {
+            ledger::tell_reserved(book, Actor::Session(session), Cause::Invalid { start })
+        }
+        Reply::Open => ledger::tell_reserved(book, Actor::Session(session), Cause::Open { start }),
     }
 }

@@ -1,9 +1,10 @@
 // A node decides a session's request.
-ghost use Rattle.std.specs.Prelude.{◌≡◌, Some};
+ghost use Rattle.std.specs.Prelude.{◌≡◌, ◌+◌, ◌≤◌, length, Some};
 ghost use Rattle.oracle_parts.specs.Instance.{held_of};
 ghost use Rattle.oracle_parts.specs.InstanceLaws.{stamp_of};
 ghost use Rattle.machine.specs.Events.Decide.{decide_on, decide_request, decide_by, decide_both as both_decided, draw_item as draw_item_of};
 ghost use Rattle.event_parts.specs.Made.{Makes};
+ghost use Rattle.event_parts.specs.Served.{held_at, decides_at, is_to_decide, HasRoomIf, SpendsIf, NeverLacks, NeverLacksIf};
 ghost use Rattle.event_parts.specs.Waiting.{Waits, WaitsFor, WaitsAt};
 ghost use Rattle.node_events.specs.Against.{verdict_against};
 
@@ -17,7 +18,8 @@ use takeover_core::Post;
 
 /// The node draws the stamp of the session's request: refused as NoOracle, then as NoRequest unless it was accepted, then as
 /// Conflict or Hidden by the keys that the transaction wrote and then by those of its read set, or by the record's refusal
-/// that the instance keeps, which end the request, or as NoStamp, which it is told once.
+/// that the instance keeps, which end the request, or as NoStamp, which it is told once. What is told of a request that was
+/// accepted takes no memory.
 pub fn decide(
     book: &mut Book,
     post: &mut Post,
@@ -25,10 +27,12 @@ pub fn decide(
     node: NodeNo,
     session: SessionNo,
 ) -> Result<(), Stopped>
-    requires { WaitsAt post.old session client.old.entry }
+    requires waits { WaitsAt post.old session client.old.entry }
+    requires room { HasRoomIf (is_to_decide (held_at post.old session)) 1 book.old.spare }
     ensures made { Makes (decide_on node session post.old client.old) (post.old, client.old) (post.new, client.new)
         book.old.items book.new.items result }
-    ensures spare { book.new.spare ≡ book.old.spare }
+    ensures spare { SpendsIf (is_to_decide (held_at post.old session)) book.old.spare book.old.items book.new.spare book.new.items }
+    ensures served { NeverLacksIf (is_to_decide (held_at post.old session)) result }
 {
     match &mut post.instance {
         None => ledger::refuse(book, Actor::Node(node), Cause::NoOracle { node }),
@@ -43,10 +47,12 @@ fn decide_at(
     node: NodeNo,
     session: SessionNo,
 ) -> Result<(), Stopped>
-    requires { WaitsFor (held_of instance.old session) client.old.entry }
+    requires waits { WaitsFor (held_of instance.old session) client.old.entry }
+    requires room { HasRoomIf (is_to_decide (held_of instance.old session)) 1 book.old.spare }
     ensures made { Makes (decide_request node session instance.old client.old (held_of instance.old session))
         (Some instance.old, client.old) (Some instance.new, client.new) book.old.items book.new.items result }
-    ensures spare { book.new.spare ≡ book.old.spare }
+    ensures spare { SpendsIf (is_to_decide (held_of instance.old session)) book.old.spare book.old.items book.new.spare book.new.items }
+    ensures served { NeverLacksIf (is_to_decide (held_of instance.old session)) result }
 {
     match instance.held(session) {
         None => ledger::refuse(book, Actor::Node(node), Cause::NoRequest { session }),
@@ -64,25 +70,53 @@ fn decide_held(
 ) -> Result<(), Stopped>
     requires held { held_of instance.old session ≡ Some held.now }
     requires waits { Waits held.now.request client.old.entry }
+    requires room { HasRoomIf (decides_at held.now.progress) 1 book.old.spare }
     ensures made { Makes (decide_by node session held.now (both_decided instance.old session client.old.reads).left client.old (both_decided instance.old session client.old.reads).answer)
         (Some instance.old, client.old) (Some instance.new, client.new) book.old.items book.new.items result }
-    ensures spare { book.new.spare ≡ book.old.spare }
+    ensures spare { SpendsIf (decides_at held.now.progress) book.old.spare book.old.items book.new.spare book.new.items }
+    ensures served { NeverLacksIf (decides_at held.now.progress) result }
 {
-    book.make_room(1)?;
+    match &held.progress {
+        Progress::Accepted => decide_accepted(book, instance, client, node, session, held),
+        Progress::Asked | Progress::Drawn { .. } | Progress::Settled { .. } => {
+            ledger::refuse(book, Actor::Node(node), Cause::NoRequest { session })
+        }
+    }
+}
+
+/// The same of a request that was accepted, in room that was reserved for it.
+fn decide_accepted(
+    book: &mut Book,
+    instance: &mut Instance,
+    client: &mut Client,
+    node: NodeNo,
+    session: SessionNo,
+    held: &Held,
+) -> Result<(), Stopped>
+    requires held { held_of instance.old session ≡ Some held.now }
+    requires waits { Waits held.now.request client.old.entry }
+    requires room { 1 ≤ book.old.spare }
+    ensures made { Makes (decide_by node session held.now (both_decided instance.old session client.old.reads).left client.old (both_decided instance.old session client.old.reads).answer)
+        (Some instance.old, client.old) (Some instance.new, client.new) book.old.items book.new.items result }
+    ensures spare { book.new.spare + length book.new.items ≡ book.old.spare + length book.old.items }
+    ensures served { NeverLacks result }
+{
     let decided = decide_both(instance, session, held, client.read_set());
     match &decided {
         Ok(drawn) => {
             let stamp = stamp_drawn(drawn);
-            book.append_in_room(draw_item(node, instance.term(), &held.request, stamp));
+            book.append_reserved(draw_item(node, instance.term(), &held.request, stamp));
             Ok(())
         }
-        Err(cause @ Cause::NoRequest { .. }) => ledger::tell(book, Actor::Node(node), *cause),
+        Err(cause @ Cause::NoRequest { .. }) => {
+            ledger::tell_reserved(book, Actor::Node(node), *cause)
+        }
         Err(cause @ Cause::NoStamp { .. }) => {
             ledger::tell_once(book, held.told_no_stamp, Actor::Session(session), *cause)
         }
         Err(cause) => {
             client.refused(&held.request);
-            ledger::tell(book, Actor::Session(session), *cause)
+            ledger::tell_reserved(book, Actor::Session(session), *cause)
         }
     }
 }

@@ -1,12 +1,14 @@
 // A node places the record of a session's commit.
-ghost use Rattle.std.specs.Prelude.{◌≡◌, Some};
+ghost use Rattle.std.specs.Prelude.{◌≡◌, ◌+◌, ◌≤◌, length, Some, IsTrue};
+ghost use Rattle.std.specs.FinSet as set;
 ghost use Rattle.oracle_parts.specs.Instance.{held_of};
 ghost use Rattle.oracle_parts.specs.InstanceSteps.{instance_settle};
 ghost use Rattle.machine.specs.Events.Put.{put_on, put_commit, put_asks, commit_asks, to_place as to_place_of};
 ghost use Rattle.event_parts.specs.Made.{Makes, Asks};
 ghost use Rattle.event_parts.specs.Kept.{made_items, placed_kept};
+ghost use Rattle.event_parts.specs.Served.{held_at, is_to_put, HasRoomIf, HasPlaceFor, SpendsIf, NeverLacks, NeverLacksIf, places_after};
 
-use commit_table::{Put, StoreError, Table};
+use commit_table::{Put, StoreFault, Table};
 use event_parts::{Stopped, ledger};
 use history_book::{Actor, Book, Cause, Item, StoreStep};
 use oracle_core::Instance;
@@ -16,7 +18,8 @@ use stamp_base::{Mark, NodeNo, SessionNo, Stamp, Store};
 use takeover_core::Post;
 
 /// The node places the record of the session's commit, unless a mark stands in its place: refused as NoOracle, then as
-/// NoRequest unless the commit was drawn and is not settled. The commit is settled in all ways, also where the call fails.
+/// NoRequest unless the commit was drawn and is not settled. The commit is settled in all ways, also where the call fails. It
+/// uses up its place in the table, and neither the table nor the book takes memory for it.
 pub fn put<W: Weather>(
     weather: &mut W,
     book: &mut Book,
@@ -25,10 +28,13 @@ pub fn put<W: Weather>(
     node: NodeNo,
     session: SessionNo,
 ) -> Result<(), Stopped>
+    requires room { HasRoomIf (is_to_put (held_at post.old session)) 2 book.old.spare }
+    requires place { HasPlaceFor (to_place_of (held_at post.old session)) table.old.places }
     ensures made { Makes (put_on node session (W.ahead weather.old Store.Table 0) post.old table.old.pairs)
         (post.old, table.old.pairs) (post.new, table.new.pairs) book.old.items book.new.items result }
-    ensures spare { book.new.spare ≡ book.old.spare }
-    ensures places { table.new.places ≡ table.old.places }
+    ensures spare { SpendsIf (is_to_put (held_at post.old session)) book.old.spare book.old.items book.new.spare book.new.items }
+    ensures places { table.new.places ≡ places_after (to_place_of (held_at post.old session)) table.old.places }
+    ensures served { NeverLacksIf (is_to_put (held_at post.old session)) result }
     ensures asked { Asks result (put_asks session post.old) (W.ahead weather.old) (W.ahead weather.new)
         (W.faults weather.old) (W.faults weather.new) }
 {
@@ -46,10 +52,13 @@ fn put_at<W: Weather>(
     node: NodeNo,
     session: SessionNo,
 ) -> Result<(), Stopped>
+    requires room { HasRoomIf (is_to_put (held_of instance.old session)) 2 book.old.spare }
+    requires place { HasPlaceFor (to_place_of (held_of instance.old session)) table.old.places }
     ensures made { Makes (put_commit node session (W.ahead weather.old Store.Table 0) instance.old table.old.pairs (to_place_of (held_of instance.old session)))
         (Some instance.old, table.old.pairs) (Some instance.new, table.new.pairs) book.old.items book.new.items result }
-    ensures spare { book.new.spare ≡ book.old.spare }
-    ensures places { table.new.places ≡ table.old.places }
+    ensures spare { SpendsIf (is_to_put (held_of instance.old session)) book.old.spare book.old.items book.new.spare book.new.items }
+    ensures places { table.new.places ≡ places_after (to_place_of (held_of instance.old session)) table.old.places }
+    ensures served { NeverLacksIf (is_to_put (held_of instance.old session)) result }
     ensures asked { Asks result (commit_asks (to_place_of (held_of instance.old session))) (W.ahead weather.old) (W.ahead weather.new)
         (W.faults weather.old) (W.faults weather.new) }
 {
@@ -61,6 +70,7 @@ fn put_at<W: Weather>(
     }
 }
 
+/// The same of a commit that was drawn, in room and in a place that were reserved for it.
 fn put_drawn<W: Weather>(
     weather: &mut W,
     book: &mut Book,
@@ -71,35 +81,36 @@ fn put_drawn<W: Weather>(
     start: Stamp,
     commit: Stamp,
 ) -> Result<(), Stopped>
+    requires room { 2 ≤ book.old.spare }
+    requires place { IsTrue (set.contains table.old.places start) }
     ensures made { Makes (put_commit node session (W.ahead weather.old Store.Table 0) instance.old table.old.pairs (Some (start, commit)))
         (Some instance.old, table.old.pairs) (Some instance.new, table.new.pairs) book.old.items book.new.items result }
-    ensures spare { book.new.spare ≡ book.old.spare }
-    ensures places { table.new.places ≡ table.old.places }
+    ensures spare { book.new.spare + length book.new.items ≡ book.old.spare + length book.old.items }
+    ensures places { table.new.places ≡ set.remove table.old.places start }
+    ensures served { NeverLacks result }
     ensures asked { Asks result (Some Store.Table) (W.ahead weather.old) (W.ahead weather.new)
         (W.faults weather.old) (W.faults weather.new) }
 {
-    book.make_room(2)?;
     let before = table.mark_of(start);
-    match table.put_if_absent(weather, start, Mark::Committed(commit)) {
+    match table.put_reserved(weather, start, Mark::Committed(commit)) {
         Ok(Put::Placed) => {
             settle(instance, session, Settled::Placed);
-            book.append_in_room(Item::Placed { start, commit });
+            book.append_reserved(Item::Placed { start, commit });
             Ok(())
         }
         Ok(Put::Found(_)) => {
             settle(instance, session, Settled::Invalid);
-            book.append_in_room(Item::Step {
+            book.append_reserved(Item::Step {
                 actor: Actor::Node(node),
                 what: StoreStep::PutFound { txn: start },
             });
             Ok(())
         }
-        Err(StoreError::StoreFault) => {
+        Err(StoreFault) => {
             settle(instance, session, Settled::Faulted);
             let made = placed_item(before, table.mark_of(start), start, commit);
-            ledger::fail(book, Actor::Node(node), Store::Table, made)
+            ledger::fail_reserved(book, Actor::Node(node), Store::Table, made)
         }
-        Err(StoreError::NoMemory) => Err(Stopped::NoMemory),
     }
 }
 
