@@ -6,3 +6,9 @@ pub mod StaysReached
 pub mod RequestHolders
 mod PostTerms
 mod AtRest
+mod Needs
+mod RequestMoves
+mod NodeMoves
+mod OneStart
+mod RoomKept
+mod RoomThere

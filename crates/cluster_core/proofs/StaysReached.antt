@@ -1,5 +1,5 @@
 -- A cluster's state is reached with its history: at the opening, and after each call. So the calls on its parts may be made.
-use Rattle.std.proofs.Common.{◌≡◌, ℕ, List, [], ◌++◌, Result, Ok, Err, sym, subst}
+use Rattle.std.proofs.Common.{◌≡◌, ℕ, List, [], ◌++◌, Result, Ok, Err, sym, ap, subst}
 use Rattle.stamp_base.specs.SetupNumbers.{SetupNumbers, AreInRange}
 use Rattle.stamp_base.specs.declared.stores.Store.{Store}
 use Rattle.port_io.specs.declared.weather.Fate.{Fate}
@@ -8,7 +8,7 @@ use Rattle.machine.specs.declared.event.Event.{Event}
 use Rattle.machine.specs.declared.event.Event.TheVariants as event
 use Rattle.machine.specs.State.{State, opening}
 use Rattle.machine.specs.Machine.{asks, IsSteadyAt, reading_of, stepped}
-use Rattle.event_parts.specs.Made.{fate_ahead}
+use Rattle.event_parts.specs.Made.{fate_ahead, ended}
 use Rattle.event_parts.specs.declared.stopped.Stopped.{Stopped}
 use Rattle.event_parts.specs.declared.stopped.Stopped.TheVariants.{Refused, StoreFault, NoMemory}
 use Rattle.cause_laws.proofs.AlwaysExplained.{tells_stay, tells_at_first}
@@ -19,28 +19,42 @@ use Rattle.call_laws.proofs.StoreCalls.{heals_only, writes_bare, sweeps_ask}
 use Rattle.call_laws.proofs.StepCalls.{steps_ask}
 use Rattle.cluster_core.specs.Whole.{Whole, MakesStep, step_under}
 use Rattle.cluster_core.specs.Required.{CanMake}
+use Rattle.cluster_core.specs.Served.{LeavesRoom, NeverLacksIf, is_served}
+use Rattle.cluster_core.proofs.RoomKept.{IsKept, made_kept, lacked_kept}
+use Rattle.cluster_core.proofs.RoomThere.{kept_first}
 use Rattle.cluster_core.specs.Reached.{IsReached}
 
-same_whole : (w : Whole) (state : State) (history : List Item) → w.state ≡ state → w.history ≡ history → IsReached (record { state = state; history = history }) → IsReached w
+same_whole : (w : Whole) (state : State) (history : List Item) → w.state ≡ state → w.history ≡ history → IsReached (record { state = state; history = history; spare = w.spare; places = w.places }) → IsReached w
 same_whole w state history at told reached =
-    subst (λ (s : State). IsReached (record { state = s; history = w.history })) (sym at) (subst (λ (h : List Item). IsReached (record { state = state; history = h })) (sym told) reached)
+    subst (λ (s : State). IsReached (record { state = s; history = w.history; spare = w.spare; places = w.places })) (sym at) (subst (λ (h : List Item). IsReached (record { state = state; history = h; spare = w.spare; places = w.places })) (sym told) reached)
+
+-- a state that is reached keeps what its requests need
+pub kept_in : (w : Whole) → IsReached w → IsKept w.state.nodes w.history w.spare w.places
+kept_in w reached = record { roomy = reached.roomy; kept = reached.places_kept }
 
 pub reached_first : (setup : SetupNumbers) (w : Whole) → AreInRange setup → w.state ≡ opening setup → w.history ≡ [] → IsReached w
-reached_first setup w fit at none = same_whole w (opening setup) [] at none (record { told = tells_at_first setup fit; bounded = bounded_first setup })
+reached_first setup w fit at none =
+    let kept = kept_first setup [] w.spare w.places in
+    same_whole w (opening setup) [] at none (record { told = tells_at_first setup fit; bounded = bounded_first setup; roomy = kept.roomy; places_kept = kept.kept })
 
 -- the event as the call made it
-after_event : (old now : Whole) (e : Event) (fate : Fate) → IsReached old → IsSteadyAt old.state.setup.skew old.state.seen (reading_of e) → now.state ≡ (stepped old.state e fate).state → now.history ≡ old.history ++ (stepped old.state e fate).items → IsReached now
-after_event old now e fate reached steady at told =
+after_event : (old now : Whole) (e : Event) (fate : Fate) (result : Result Unit Stopped) → IsReached old → IsSteadyAt old.state.setup.skew old.state.seen (reading_of e) → now.state ≡ (stepped old.state e fate).state → now.history ≡ old.history ++ (stepped old.state e fate).items → result ≡ ended (stepped old.state e fate).stop → LeavesRoom e old now result → IsReached now
+after_event old now e fate result reached steady at told is room =
+    let kept = made_kept old now e fate result reached.told.stands.holds (kept_in old reached) told is room in
     same_whole now (stepped old.state e fate).state (old.history ++ (stepped old.state e fate).items) at told (record {
       told = tells_stay old.state old.history e fate reached.told steady;
       bounded = bounds_stay old.state old.history e fate reached.told reached.bounded steady;
+      roomy = kept.roomy;
+      places_kept = kept.kept;
     })
 
-pub reached_after : (ahead : Store → ℕ → Fate) (old now : Whole) (e : Event) (result : Result Unit Stopped) → IsReached old → IsSteadyAt old.state.setup.skew old.state.seen (reading_of e) → MakesStep (step_under ahead old.state e) old now result → IsReached now
-reached_after ahead old now e (Ok _) reached steady made = after_event old now e (fate_ahead (asks old.state e) ahead) reached steady made.parts made.items
-reached_after ahead old now e (Err (Refused why)) reached steady made = after_event old now e (fate_ahead (asks old.state e) ahead) reached steady made.parts made.items
-reached_after ahead old now e (Err (StoreFault store)) reached steady made = after_event old now e (fate_ahead (asks old.state e) ahead) reached steady made.parts made.items
-reached_after ahead old now e (Err NoMemory) reached steady made = same_whole now old.state old.history made.0 made.1 reached
+pub reached_after : (ahead : Store → ℕ → Fate) (old now : Whole) (e : Event) (result : Result Unit Stopped) → IsReached old → IsSteadyAt old.state.setup.skew old.state.seen (reading_of e) → MakesStep (step_under ahead old.state e) old now result → LeavesRoom e old now result → NeverLacksIf (is_served old.state e) result → IsReached now
+reached_after ahead old now e (Ok _) reached steady made room served = after_event old now e (fate_ahead (asks old.state e) ahead) (Ok tt) reached steady made.parts made.items (sym (ap ended made.stop)) room
+reached_after ahead old now e (Err (Refused why)) reached steady made room served = after_event old now e (fate_ahead (asks old.state e) ahead) (Err (Refused why)) reached steady made.parts made.items (sym (ap ended made.stop)) room
+reached_after ahead old now e (Err (StoreFault store)) reached steady made room served = after_event old now e (fate_ahead (asks old.state e) ahead) (Err (StoreFault store)) reached steady made.parts made.items (sym (ap ended made.stop)) room
+reached_after ahead old now e (Err NoMemory) reached steady made room served =
+    let kept = lacked_kept old now e (kept_in old reached) made.1 served room in
+    same_whole now old.state old.history made.0 made.1 (record { told = reached.told; bounded = reached.bounded; roomy = kept.roomy; places_kept = kept.kept })
 
 pub calls_may_be_made : (w : Whole) (e : Event) → IsReached w → IsSteadyAt w.state.setup.skew w.state.seen (reading_of e) → CanMake w.state e
 calls_may_be_made w (event.Take node reading) reached steady = steady.0

@@ -5,7 +5,7 @@ use Rattle.stamp_base.specs.SetupNumbers.{SetupNumbers}
 use Rattle.history_book.specs.declared.item.Item.{Item}
 use Rattle.history_book.specs.contracts.item.Item as items
 use Rattle.store_parts.specs.Rows.{Row}
-use Rattle.store_parts.specs.Pairs.{Pairs, pairs_code}
+use Rattle.store_parts.specs.Pairs.{Pairs, Places, pairs_code, places_code}
 use Rattle.store_parts.specs.Record.{MasterRecord}
 use Rattle.cell_store.specs.Seen.{SeenCells}
 use Rattle.cell_store.specs.contracts.Cells as cells
@@ -45,4 +45,5 @@ state_code =
     code_by StateParts parts_code (λ w. (w.setup, (w.seen, (w.clients, (w.nodes, (w.sweep, (w.rows, (w.pairs, w.master)))))))) (λ p. record { setup = p.0; seen = p.1.0; clients = p.1.1.0; nodes = p.1.1.1.0; sweep = p.1.1.1.1.0; rows = p.1.1.1.1.1.0; pairs = p.1.1.1.1.1.1.0; master = p.1.1.1.1.1.1.1 }) (λ _. refl)
 
 abbrev pub whole_code : Coded Whole
-whole_code = code_by (State × List Item) (coded× state_code (coded_list items.the_row.coded)) (λ w. (w.state, w.history)) (λ p. record { state = p.0; history = p.1 }) (λ _. refl)
+whole_code =
+    code_by (State × (List Item × (ℕ × Places))) (coded× state_code (coded× (coded_list items.the_row.coded) (coded× coded_ℕ places_code))) (λ w. (w.state, (w.history, (w.spare, w.places)))) (λ p. record { state = p.0; history = p.1.0; spare = p.1.1.0; places = p.1.1.1 }) (λ _. refl)

@@ -18,6 +18,8 @@ whole_of e = record {
     master = e.master.state;
   };
   history = e.book.items;
+  spare = e.book.spare;
+  places = e.table.places;
 }
 
 -- there is a client for each session and a post for each node, and the master record leases by the setup

@@ -1,4 +1,6 @@
 pub mod Whole
+pub mod Room
+pub mod Served
 pub mod Codes
 pub mod Seen
 pub mod Holders

@@ -2,8 +2,12 @@
 use Rattle.cause_laws.specs.Shows.{Tells}
 use Rattle.call_laws.specs.Bounds.{Bounded}
 use Rattle.cluster_core.specs.Whole.{Whole}
+use Rattle.cluster_core.specs.Room.{AreRoomy, ArePlacesKept}
 
--- the state is reached with the history: all that the machine keeps holds, and the numbers are far from their ends
+-- the state is reached with the history: all that the machine keeps holds, the numbers are far from their ends, and all that
+-- requests in flight need is kept for them
 pub record IsReached (w : Whole) : Type 0 where
   pub told : Tells w.state w.history
   pub bounded : Bounded w.state
+  pub roomy : AreRoomy w.state.nodes w.history w.spare
+  pub places_kept : ArePlacesKept w.state.nodes w.places

@@ -3,6 +3,7 @@ use Rattle.std.specs.Prelude.{ℕ, List, Result}
 use Rattle.stamp_base.specs.declared.stores.Store.{Store}
 use Rattle.port_io.specs.declared.weather.Fate.{Fate}
 use Rattle.history_book.specs.declared.item.Item.{Item}
+use Rattle.store_parts.specs.Pairs.{Places}
 use Rattle.machine.specs.declared.event.Event.{Event}
 use Rattle.machine.specs.State.{State}
 use Rattle.machine.specs.Effect.{Effect}
@@ -10,10 +11,13 @@ use Rattle.machine.specs.Machine.{Step, stepped, asks}
 use Rattle.event_parts.specs.Made.{Makes, fate_ahead}
 use Rattle.event_parts.specs.declared.stopped.Stopped.{Stopped}
 
--- the state of the machine, and the history that led to it
+-- the state of the machine, the history that led to it, for how many items it has room that was reserved for requests, and the
+-- transactions for which the commit table has a place
 pub record Whole : Type 0 where
   pub state : State
   pub history : List Item
+  pub spare : ℕ
+  pub places : Places
 
 -- a step of the machine, as the effect of an event on all parts
 abbrev pub effect_of : Step → Effect State

@@ -3,6 +3,7 @@ ghost use Rattle.std.specs.Prelude.{◌≤◌, ◌+◌, ◌^◌};
 ghost use Rattle.port_io.specs.declared.weather.Fate.TheVariants.{Works};
 ghost use Rattle.machine.specs.Machine.{stepped, asks};
 ghost use Rattle.event_parts.specs.Made.{Asks};
+ghost use Rattle.cluster_core.specs.Served.{NeverLacksIf, is_served};
 ghost use Rattle.cluster_core.specs.Whole.{MakesStep, step_under};
 
 use crate::Cluster;
@@ -112,7 +113,8 @@ impl Cluster {
     /// The node draws the stamp of the session's request: refused as NoOracle or NoRequest, as Conflict, Hidden, or by the record's
     /// refusal that the oracle keeps, which end the request, or as NoStamp.
     pub fn decide(&mut self, node: NodeNo, session: SessionNo) -> Result<(), Stopped>
-        ensures { MakesStep (stepped self.old.state (Event.Decide node session) Works) self.old self.new result }
+        ensures made { MakesStep (stepped self.old.state (Event.Decide node session) Works) self.old self.new result }
+        ensures served { NeverLacksIf (is_served self.old.state (Event.Decide node session)) result }
     {
         self.make(&mut CalmWeather::new(), &Event::Decide { node, session })
     }
@@ -127,6 +129,7 @@ impl Cluster {
         ensures made { MakesStep (step_under (W.ahead weather.old) self.old.state (Event.Put node session)) self.old self.new result }
         ensures asked { Asks result (asks self.old.state (Event.Put node session)) (W.ahead weather.old) (W.ahead weather.new)
             (W.faults weather.old) (W.faults weather.new) }
+        ensures served { NeverLacksIf (is_served self.old.state (Event.Put node session)) result }
     {
         self.make(weather, &Event::Put { node, session })
     }
@@ -134,7 +137,8 @@ impl Cluster {
     /// The node answers the session's request: refused as NoOracle or NoRequest, or as NotYet while a commit below the start is
     /// not settled. A commit that a mark has ended is told as Invalid, and one whose put failed as Open.
     pub fn answer(&mut self, node: NodeNo, session: SessionNo) -> Result<(), Stopped>
-        ensures { MakesStep (stepped self.old.state (Event.Answer node session) Works) self.old self.new result }
+        ensures made { MakesStep (stepped self.old.state (Event.Answer node session) Works) self.old self.new result }
+        ensures served { NeverLacksIf (is_served self.old.state (Event.Answer node session)) result }
     {
         self.make(&mut CalmWeather::new(), &Event::Answer { node, session })
     }

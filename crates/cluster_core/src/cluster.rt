@@ -8,6 +8,7 @@ ghost use Rattle.machine.specs.State.{opening};
 ghost use Rattle.machine.specs.Machine.{IsSteadyAt, reading_of, asks};
 ghost use Rattle.machine.specs.Readers as read;
 ghost use Rattle.event_parts.specs.Made.{Asks};
+ghost use Rattle.cluster_core.specs.Served.{NeverLacksIf, is_served};
 ghost use Rattle.cluster_core.specs.Whole.{MakesStep, step_under};
 
 use crate::Engine;
@@ -55,13 +56,14 @@ impl Cluster {
     }
 
     /// The event is one step of the machine, under the fate that the weather has ahead for the one store that it asks. Where
-    /// memory is refused all is as before, and the weather was not asked. A reading is behind none before it by more than the
-    /// skew, and far from the end of the numbers.
+    /// memory is refused all is as before, and the weather was not asked; it is never refused to an event that serves a request
+    /// which was accepted. A reading is behind none before it by more than the skew, and far from the end of the numbers.
     pub fn make<W: Weather>(&mut self, weather: &mut W, event: &Event) -> Result<(), Stopped>
         requires { IsSteadyAt self.old.state.setup.skew self.old.state.seen (reading_of event.now) }
         ensures made { MakesStep (step_under (W.ahead weather.old) self.old.state event.now) self.old self.new result }
         ensures asked { Asks result (asks self.old.state event.now) (W.ahead weather.old) (W.ahead weather.new)
             (W.faults weather.old) (W.faults weather.new) }
+        ensures served { NeverLacksIf (is_served self.old.state event.now) result }
     {
         self.engine.make(weather, event)
     }

@@ -7,6 +7,7 @@ ghost use Rattle.event_parts.specs.Made.{Asks};
 ghost use Rattle.cluster_core.specs.Whole.{MakesStep, step_under};
 ghost use Rattle.cluster_core.specs.Required.{CanMake};
 ghost use Rattle.cluster_core.specs.Seen.{seen_made};
+ghost use Rattle.cluster_core.specs.Served.{HasRoomFor, LeavesRoom, NeverLacksIf, is_served};
 
 use cell_store::Cells;
 use commit_table::Table;
@@ -59,6 +60,7 @@ impl Engine {
     pub fn open(alloc: Global, setup: Setup) -> Result<Engine, NoMemory>
         ensures state { IfOk result (λ made. made.state ≡ opening (numbers_of setup)) }
         ensures history { IfOk result (λ made. made.history ≡ []) }
+        ensures spare { IfOk result (λ made. made.spare ≡ 0) }
     {
         Ok(Engine {
             alloc,
@@ -77,10 +79,13 @@ impl Engine {
     /// The event is one step of the machine, as far as its calls on the parts may be made. A node that is none of the setup's
     /// has no part in the system, and nothing happens there.
     pub fn make<W: Weather>(&mut self, weather: &mut W, event: &Event) -> Result<(), Stopped>
-        requires { CanMake self.old.state event.now }
+        requires may { CanMake self.old.state event.now }
+        requires room { HasRoomFor self.old event.now }
         ensures made { MakesStep (step_under (W.ahead weather.old) self.old.state event.now) self.old self.new result }
         ensures asked { Asks result (asks self.old.state event.now) (W.ahead weather.old) (W.ahead weather.new)
             (W.faults weather.old) (W.faults weather.new) }
+        ensures room { LeavesRoom event.now self.old self.new result }
+        ensures served { NeverLacksIf (is_served self.old.state event.now) result }
     {
         match event {
             Event::Tick { to } => self.tick(*to),

@@ -2,6 +2,7 @@
 ghost use Rattle.machine.specs.Machine.{asks};
 ghost use Rattle.event_parts.specs.Made.{Asks};
 ghost use Rattle.cluster_core.specs.Whole.{MakesStep, step_under};
+ghost use Rattle.cluster_core.specs.Served.{LeavesRoom};
 ghost use Rattle.cluster_core.specs.Required.{CanMake};
 
 use crate::Engine;
@@ -23,6 +24,7 @@ impl Engine {
         ensures made { MakesStep (step_under (W.ahead weather.old) self.old.state (Event.Take node reading)) self.old self.new result }
         ensures asked { Asks result (asks self.old.state (Event.Take node reading)) (W.ahead weather.old) (W.ahead weather.new)
             (W.faults weather.old) (W.faults weather.new) }
+        ensures room { LeavesRoom (Event.Take node reading) self.old self.new result }
     {
         if node.index() >= self.posts.len() {
             self.seen = self.seen.max(reading);
@@ -54,6 +56,7 @@ impl Engine {
         ensures made { MakesStep (step_under (W.ahead weather.old) self.old.state (Event.Renew node reading)) self.old self.new result }
         ensures asked { Asks result (asks self.old.state (Event.Renew node reading)) (W.ahead weather.old) (W.ahead weather.new)
             (W.faults weather.old) (W.faults weather.new) }
+        ensures room { LeavesRoom (Event.Renew node reading) self.old self.new result }
     {
         if node.index() >= self.posts.len() {
             self.seen = self.seen.max(reading);
@@ -82,6 +85,7 @@ impl Engine {
         ensures made { MakesStep (step_under (W.ahead weather.old) self.old.state (Event.Extend node)) self.old self.new result }
         ensures asked { Asks result (asks self.old.state (Event.Extend node)) (W.ahead weather.old) (W.ahead weather.new)
             (W.faults weather.old) (W.faults weather.new) }
+        ensures room { LeavesRoom (Event.Extend node) self.old self.new result }
     {
         if node.index() >= self.posts.len() {
             return Ok(());

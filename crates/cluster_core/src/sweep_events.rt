@@ -3,6 +3,7 @@ ghost use Rattle.port_io.specs.declared.weather.Fate.TheVariants.{Works};
 ghost use Rattle.machine.specs.Machine.{stepped, asks};
 ghost use Rattle.event_parts.specs.Made.{Asks};
 ghost use Rattle.cluster_core.specs.Whole.{MakesStep, step_under};
+ghost use Rattle.cluster_core.specs.Served.{LeavesRoom};
 ghost use Rattle.cluster_core.specs.Required.{CanMake};
 
 use crate::Engine;
@@ -14,7 +15,8 @@ use stamp_base::{NodeNo, TxnId};
 impl Engine {
     /// The janitor begins to sweep a transaction, by the epoch of the node's instance.
     pub(crate) fn sweep_open(&mut self, node: NodeNo, txn: TxnId) -> Result<(), Stopped>
-        ensures { MakesStep (stepped self.old.state (Event.SweepOpen node txn) Works) self.old self.new result }
+        ensures made { MakesStep (stepped self.old.state (Event.SweepOpen node txn) Works) self.old self.new result }
+        ensures room { LeavesRoom (Event.SweepOpen node txn) self.old self.new result }
     {
         if node.index() >= self.posts.len() {
             return Ok(());
@@ -29,6 +31,7 @@ impl Engine {
         ensures made { MakesStep (step_under (W.ahead weather.old) self.old.state Event.SweepStep) self.old self.new result }
         ensures asked { Asks result (asks self.old.state Event.SweepStep) (W.ahead weather.old) (W.ahead weather.new)
             (W.faults weather.old) (W.faults weather.new) }
+        ensures room { LeavesRoom Event.SweepStep self.old self.new result }
     {
         step_events::sweep_step(
             weather,

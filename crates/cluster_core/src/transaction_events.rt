@@ -3,6 +3,7 @@ ghost use Rattle.port_io.specs.declared.weather.Fate.TheVariants.{Works};
 ghost use Rattle.machine.specs.Machine.{stepped, asks};
 ghost use Rattle.event_parts.specs.Made.{Asks};
 ghost use Rattle.cluster_core.specs.Whole.{MakesStep, step_under};
+ghost use Rattle.cluster_core.specs.Served.{LeavesRoom};
 ghost use Rattle.cluster_core.specs.Required.{CanMake};
 
 use crate::Engine;
@@ -24,6 +25,7 @@ impl Engine {
         ensures made { MakesStep (step_under (W.ahead weather.old) self.old.state (Event.Write session key value)) self.old self.new result }
         ensures asked { Asks result (asks self.old.state (Event.Write session key value)) (W.ahead weather.old) (W.ahead weather.new)
             (W.faults weather.old) (W.faults weather.new) }
+        ensures room { LeavesRoom (Event.Write session key value) self.old self.new result }
     {
         let client = &mut self.clients[session.index()];
         session_events::write(
@@ -47,6 +49,7 @@ impl Engine {
         ensures made { MakesStep (step_under (W.ahead weather.old) self.old.state (Event.Fetch session key)) self.old self.new result }
         ensures asked { Asks result (asks self.old.state (Event.Fetch session key)) (W.ahead weather.old) (W.ahead weather.new)
             (W.faults weather.old) (W.faults weather.new) }
+        ensures room { LeavesRoom (Event.Fetch session key) self.old self.new result }
     {
         let client = &mut self.clients[session.index()];
         session_events::fetch(
@@ -70,6 +73,7 @@ impl Engine {
         ensures made { MakesStep (step_under (W.ahead weather.old) self.old.state (Event.Step session)) self.old self.new result }
         ensures asked { Asks result (asks self.old.state (Event.Step session)) (W.ahead weather.old) (W.ahead weather.new)
             (W.faults weather.old) (W.faults weather.new) }
+        ensures room { LeavesRoom (Event.Step session) self.old self.new result }
     {
         let client = &mut self.clients[session.index()];
         step_events::step(
@@ -92,6 +96,7 @@ impl Engine {
         ensures made { MakesStep (step_under (W.ahead weather.old) self.old.state (Event.Heal session)) self.old self.new result }
         ensures asked { Asks result (asks self.old.state (Event.Heal session)) (W.ahead weather.old) (W.ahead weather.new)
             (W.faults weather.old) (W.faults weather.new) }
+        ensures room { LeavesRoom (Event.Heal session) self.old self.new result }
     {
         let client = &mut self.clients[session.index()];
         step_events::heal(weather, &mut self.book, client, &mut self.cells, session)
@@ -99,7 +104,8 @@ impl Engine {
 
     /// The session ends its transaction without a commit.
     pub(crate) fn abort(&mut self, session: SessionNo) -> Result<(), Stopped>
-        ensures { MakesStep (stepped self.old.state (Event.Abort session) Works) self.old self.new result }
+        ensures made { MakesStep (stepped self.old.state (Event.Abort session) Works) self.old self.new result }
+        ensures room { LeavesRoom (Event.Abort session) self.old self.new result }
     {
         let client = &mut self.clients[session.index()];
         session_events::abort(&mut self.book, client, session)
@@ -107,7 +113,8 @@ impl Engine {
 
     /// The session is gone for good.
     pub(crate) fn vanish(&mut self, session: SessionNo) -> Result<(), Stopped>
-        ensures { MakesStep (stepped self.old.state (Event.Vanish session) Works) self.old self.new result }
+        ensures made { MakesStep (stepped self.old.state (Event.Vanish session) Works) self.old self.new result }
+        ensures room { LeavesRoom (Event.Vanish session) self.old self.new result }
     {
         let client = &mut self.clients[session.index()];
         session_events::vanish(&mut self.book, client, session)

@@ -10,13 +10,13 @@ crash-requires c =
     let may = rw (← c.self.view_is) at c.requires in
     rw c.deref_mut.ensures.value (may c.args.node _ at)
 
-pub returns-then-index-len : goal.returns-then-index-len
-returns-then-index-len c =
+pub returns-then-index-len-clause-made : goal.returns-then-index-len-clause-made
+returns-then-index-len-clause-made c =
     let none = missing c.self.inside.posts.items c.args.node (grind arith) in
     rw (← c.self.view_is) (rw none (nothing_made _ _))
 
-pub returns : goal.returns
-returns c =
+pub returns-clause-made : goal.returns-clause-made
+returns-clause-made c =
     let at = found c.self.inside.posts.items c.args.node c.index-2.result c.index_mut-post.result.now c.index-2.ensures.value (grind arith) c.index_mut-post.ensures.value in
     let kept : length c.crash.new.clients ≡ c.self.inside.clients.len = grind arith in
     let made = rw c.deref_mut.ensures.value at c.crash.ensures.made in

@@ -22,3 +22,33 @@ pub returns-clause-asked : goal.returns-clause-asked
 returns-clause-asked g c =
     let at = found c.self.inside.posts.items c.args.node c.index-2.result c.index_mut-post.result.now c.index-2.ensures.value (grind arith) c.index_mut-post.ensures.value in
     rw (← c.self.view_is) (rw at c.put.ensures.asked)
+
+pub put-requires-clause-room : goal.put-requires-clause-room
+put-requires-clause-room g c =
+    let at = found c.self.inside.posts.items c.args.node c.index-2.result c.index_mut-post.result.now c.index-2.ensures.value (grind arith) c.index_mut-post.ensures.value in
+    (rw (← c.self.view_is, at) at c.requires).0
+
+pub put-requires-clause-place : goal.put-requires-clause-place
+put-requires-clause-place g c =
+    let at = found c.self.inside.posts.items c.args.node c.index-2.result c.index_mut-post.result.now c.index-2.ensures.value (grind arith) c.index_mut-post.ensures.value in
+    (rw (← c.self.view_is, at) at c.requires).1
+
+pub returns-then-index-len-clause-room : goal.returns-then-index-len-clause-room
+returns-then-index-len-clause-room g c =
+    let none = missing c.self.inside.posts.items c.args.node (grind arith) in
+    rw (← c.self.view_is) (rw none (record { spare = refl; places = refl }))
+
+pub returns-clause-room : goal.returns-clause-room
+returns-clause-room g c =
+    let at = found c.self.inside.posts.items c.args.node c.index-2.result c.index_mut-post.result.now c.index-2.ensures.value (grind arith) c.index_mut-post.ensures.value in
+    rw (← c.self.view_is) (rw at (record { spare = c.put.ensures.spare; places = c.put.ensures.places }))
+
+pub returns-then-index-len-clause-served : goal.returns-then-index-len-clause-served
+returns-then-index-len-clause-served g c =
+    let none = missing c.self.inside.posts.items c.args.node (grind arith) in
+    rw (← c.self.view_is) (rw none tt)
+
+pub returns-clause-served : goal.returns-clause-served
+returns-clause-served g c =
+    let at = found c.self.inside.posts.items c.args.node c.index-2.result c.index_mut-post.result.now c.index-2.ensures.value (grind arith) c.index_mut-post.ensures.value in
+    rw (← c.self.view_is) (rw at c.put.ensures.served)
