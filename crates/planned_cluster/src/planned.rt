@@ -4,6 +4,7 @@ ghost use Rattle.port_io.specs.Planned.{OneEach};
 ghost use Rattle.history_book.specs.declared.item.Actor.TheVariants.{Session};
 ghost use Rattle.machine.specs.Machine.{IsSteadyAt, reading_of};
 ghost use Rattle.line_steps.specs.Views.{view_of};
+ghost use Rattle.cluster_core.specs.Served.{NeverLacksIf, is_served};
 ghost use Rattle.planned_cluster.specs.Fitting.{SessionIsThere};
 ghost use Rattle.planned_cluster.specs.Standing.{OpensFor, PlaysOn, clock_made};
 
@@ -42,12 +43,13 @@ impl PlannedCluster {
     }
 
     /// Makes the event, under the fate that is planned for the next call on the store that it asks. Where memory is refused all
-    /// is as before.
+    /// is as before; it is never refused to an event that serves a request which was accepted.
     pub fn make(&mut self, event: &Event) -> Result<(), Stopped>
         requires { IsSteadyAt self.old.cluster.state.setup.skew self.old.cluster.state.seen (reading_of event.now) }
-        ensures { PlaysOn event.now result
+        ensures played { PlaysOn event.now result
             self.old.cluster self.old.clock (⟦<PlannedWeather as Weather>⟧.ahead self.old.weather)
             self.new.cluster self.new.clock (⟦<PlannedWeather as Weather>⟧.ahead self.new.weather) }
+        ensures served { NeverLacksIf (is_served self.old.cluster.state event.now) result }
     {
         let answer = self.cluster.make(&mut self.weather, event);
         self.clock = clock_made(self.clock, event, &answer);

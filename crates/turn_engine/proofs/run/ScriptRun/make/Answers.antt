@@ -44,7 +44,7 @@ pub since-items-requires : goal.since-items-requires
 since-items-requires c =
     let s = c.self.inside in
     let h = stands s c.args.self.now c.args.turn c.args.event.now c.self.invariant c.self.view_is (record { event = c.requires.event; free = c.requires.free; in_place = c.requires.in_place }) in
-    let gone = has_gone (ran s) c.args.event.now c.make-answer.result c.in-Some.halt (length c.history-before.result.now) s.planned.cluster c.make-answer.new.self.cluster s.planned.clock c.make-answer.new.self.clock (ahead-value.it s.planned.weather) (ahead-value.it c.make-answer.new.self.weather) h.kept.stands (ap (λ (h : List Item). length h) c.history-before.ensures.value) c.make-answer.ensures (sym c.halted.ensures ∙ c.in-Some.is) in
+    let gone = has_gone (ran s) c.args.event.now c.make-answer.result c.in-Some.halt (length c.history-before.result.now) s.planned.cluster c.make-answer.new.self.cluster s.planned.clock c.make-answer.new.self.clock (ahead-value.it s.planned.weather) (ahead-value.it c.make-answer.new.self.weather) h.kept.stands (ap (λ (h : List Item). length h) c.history-before.ensures.value) c.make-answer.ensures.played (sym c.halted.ensures ∙ c.in-Some.is) in
     let same : length c.history.result.now ≡ length c.make-answer.new.self.cluster.history = ap (λ (h : List Item). length h) c.history.ensures.value in
     omega (arith, gone.grown.least, same)
 
@@ -52,7 +52,7 @@ pub invariant_of-self-then-not-is_told : goal.invariant_of-self-then-not-is_told
 invariant_of-self-then-not-is_told c =
     let s = c.self.inside in
     let h = stands s c.args.self.now c.args.turn c.args.event.now c.self.invariant c.self.view_is (record { event = c.requires.event; free = c.requires.free; in_place = c.requires.in_place }) in
-    let gone = has_gone (ran s) c.args.event.now c.make-answer.result c.in-Some.halt (length c.history-before.result.now) s.planned.cluster c.make-answer.new.self.cluster s.planned.clock c.make-answer.new.self.clock (ahead-value.it s.planned.weather) (ahead-value.it c.make-answer.new.self.weather) h.kept.stands (ap (λ (h : List Item). length h) c.history-before.ensures.value) c.make-answer.ensures (sym c.halted.ensures ∙ c.in-Some.is) in
+    let gone = has_gone (ran s) c.args.event.now c.make-answer.result c.in-Some.halt (length c.history-before.result.now) s.planned.cluster c.make-answer.new.self.cluster s.planned.clock c.make-answer.new.self.clock (ahead-value.it s.planned.weather) (ahead-value.it c.make-answer.new.self.weather) h.kept.stands (ap (λ (h : List Item). length h) c.history-before.ensures.value) c.make-answer.ensures.played (sym c.halted.ensures ∙ c.in-Some.is) in
     let quiet : is_told c.args.event.now c.since-items.result.now ≡ false = sym c.is_told.ensures ∙ c.if-not-is_told.true in
     let silent = is_silent (record { own = c.own_turns_are_told.ensures; stage = c.stage_turns_are_told.ensures; quiet = c.quiet_turns_change_nothing.ensures }) (ran s) c.args.turn c.args.event.now c.in-Some.halt (length c.history-before.result.now) c.since-items.result.now s.planned.cluster c.make-answer.new.self.cluster s.planned.clock c.make-answer.new.self.clock (ahead-value.it s.planned.weather) (ahead-value.it c.make-answer.new.self.weather) s.names.names s.held.items s.seated.items s.lacking.items h.kept h.can gone (c.since-items.ensures ∙ ap (λ (h : List Item). drop (length c.history-before.result.now) h) c.history.ensures.value) quiet in
     let kept = same_made (data_of s.script) s.turns.items c.make_room.new.turns.items c.make-answer.new.self.cluster c.make-answer.new.self.clock (ahead-value.it c.make-answer.new.self.weather) s.names.names c.make_room.new.names.names s.held.items s.held.items s.seated.items s.seated.items (lacking_after s.lacking.items c.args.turn c.in-Some.halt) c.note_lack.new.lacking.items silent c.make_room.ensures.turns c.make_room.ensures.names refl refl (c.note_lack.ensures ∙ ap (λ (ns : List ℕ). lacking_after ns c.args.turn c.in-Some.halt) c.make_room.ensures.lacking) in
@@ -62,22 +62,22 @@ pub returns-then-not-is_told : goal.returns-then-not-is_told
 returns-then-not-is_told c =
     let s = c.self.inside in
     let h = stands s c.args.self.now c.args.turn c.args.event.now c.self.invariant c.self.view_is (record { event = c.requires.event; free = c.requires.free; in_place = c.requires.in_place }) in
-    let gone = has_gone (ran s) c.args.event.now c.make-answer.result c.in-Some.halt (length c.history-before.result.now) s.planned.cluster c.make-answer.new.self.cluster s.planned.clock c.make-answer.new.self.clock (ahead-value.it s.planned.weather) (ahead-value.it c.make-answer.new.self.weather) h.kept.stands (ap (λ (h : List Item). length h) c.history-before.ensures.value) c.make-answer.ensures (sym c.halted.ensures ∙ c.in-Some.is) in
+    let gone = has_gone (ran s) c.args.event.now c.make-answer.result c.in-Some.halt (length c.history-before.result.now) s.planned.cluster c.make-answer.new.self.cluster s.planned.clock c.make-answer.new.self.clock (ahead-value.it s.planned.weather) (ahead-value.it c.make-answer.new.self.weather) h.kept.stands (ap (λ (h : List Item). length h) c.history-before.ensures.value) c.make-answer.ensures.played (sym c.halted.ensures ∙ c.in-Some.is) in
     let quiet : is_told c.args.event.now c.since-items.result.now ≡ false = sym c.is_told.ensures ∙ c.if-not-is_told.true in
-    leaves_out (ran s) c.args.self.now (record { script = data_of s.script; turns = c.make_room.new.turns.items }) c.args.turn c.args.event.now c.make-answer.result c.in-Some.halt (length c.history-before.result.now) c.since-items.result.now s.planned.cluster c.make-answer.new.self.cluster s.planned.clock c.make-answer.new.self.clock (ahead-value.it s.planned.weather) (ahead-value.it c.make-answer.new.self.weather) c.self.view_is gone (c.since-items.ensures ∙ ap (λ (h : List Item). drop (length c.history-before.result.now) h) c.history.ensures.value) quiet (ap (λ (ts : List Turn). record { script = data_of s.script; turns = ts }) c.make_room.ensures.turns) h.kept.stands c.make-answer.ensures (sym c.halted.ensures ∙ c.in-Some.is)
+    leaves_out (ran s) c.args.self.now (record { script = data_of s.script; turns = c.make_room.new.turns.items }) c.args.turn c.args.event.now c.make-answer.result c.in-Some.halt (length c.history-before.result.now) c.since-items.result.now s.planned.cluster c.make-answer.new.self.cluster s.planned.clock c.make-answer.new.self.clock (ahead-value.it s.planned.weather) (ahead-value.it c.make-answer.new.self.weather) c.self.view_is gone (c.since-items.ensures ∙ ap (λ (h : List Item). drop (length c.history-before.result.now) h) c.history.ensures.value) quiet (ap (λ (ts : List Turn). record { script = data_of s.script; turns = ts }) c.make_room.ensures.turns) h.kept.stands c.make-answer.ensures.played (sym c.halted.ensures ∙ c.in-Some.is)
 
 pub pass_all-requires : goal.pass_all-requires
 pass_all-requires c =
     let s = c.self.inside in
     let h = stands s c.args.self.now c.args.turn c.args.event.now c.self.invariant c.self.view_is (record { event = c.requires.event; free = c.requires.free; in_place = c.requires.in_place }) in
-    let gone = has_gone (ran s) c.args.event.now c.make-answer.result c.in-Some.halt (length c.history-before.result.now) s.planned.cluster c.make-answer.new.self.cluster s.planned.clock c.make-answer.new.self.clock (ahead-value.it s.planned.weather) (ahead-value.it c.make-answer.new.self.weather) h.kept.stands (ap (λ (h : List Item). length h) c.history-before.ensures.value) c.make-answer.ensures (sym c.halted.ensures ∙ c.in-Some.is) in
+    let gone = has_gone (ran s) c.args.event.now c.make-answer.result c.in-Some.halt (length c.history-before.result.now) s.planned.cluster c.make-answer.new.self.cluster s.planned.clock c.make-answer.new.self.clock (ahead-value.it s.planned.weather) (ahead-value.it c.make-answer.new.self.weather) h.kept.stands (ap (λ (h : List Item). length h) c.history-before.ensures.value) c.make-answer.ensures.played (sym c.halted.ensures ∙ c.in-Some.is) in
     may_pass (ran s) c.args.turn c.args.event.now c.in-Some.halt c.was_asked-asked.result (length c.history-before.result.now) c.since-items.result.now c.as_slice.result.now s.planned.cluster c.make-answer.new.self.cluster s.planned.clock c.make-answer.new.self.clock (ahead-value.it s.planned.weather) (ahead-value.it c.make-answer.new.self.weather) s.names.names s.held.items s.seated.items c.go_on.new.seated.items s.lacking.items h.kept h.can gone (c.since-items.ensures ∙ ap (λ (h : List Item). drop (length c.history-before.result.now) h) c.history.ensures.value) c.was_asked-asked.ensures c.as_slice.ensures.value c.go_on.ensures
 
 pub invariant_of-self-2 : goal.invariant_of-self-2
 invariant_of-self-2 c =
     let s = c.self.inside in
     let h = stands s c.args.self.now c.args.turn c.args.event.now c.self.invariant c.self.view_is (record { event = c.requires.event; free = c.requires.free; in_place = c.requires.in_place }) in
-    let gone = has_gone (ran s) c.args.event.now c.make-answer.result c.in-Some.halt (length c.history-before.result.now) s.planned.cluster c.make-answer.new.self.cluster s.planned.clock c.make-answer.new.self.clock (ahead-value.it s.planned.weather) (ahead-value.it c.make-answer.new.self.weather) h.kept.stands (ap (λ (h : List Item). length h) c.history-before.ensures.value) c.make-answer.ensures (sym c.halted.ensures ∙ c.in-Some.is) in
+    let gone = has_gone (ran s) c.args.event.now c.make-answer.result c.in-Some.halt (length c.history-before.result.now) s.planned.cluster c.make-answer.new.self.cluster s.planned.clock c.make-answer.new.self.clock (ahead-value.it s.planned.weather) (ahead-value.it c.make-answer.new.self.weather) h.kept.stands (ap (λ (h : List Item). length h) c.history-before.ensures.value) c.make-answer.ensures.played (sym c.halted.ensures ∙ c.in-Some.is) in
     let told : is_told c.args.event.now c.since-items.result.now ≡ true = sym c.is_told.ensures ∙ c.if-not-is_told.false in
     let made = is_made (ran s) c.args.turn c.args.event.now c.in-Some.halt c.was_asked-asked.result (length c.history-before.result.now) c.since-items.result.now c.as_slice.result.now s.planned.cluster c.make-answer.new.self.cluster s.planned.clock c.make-answer.new.self.clock (ahead-value.it s.planned.weather) (ahead-value.it c.make-answer.new.self.weather) s.names.names s.held.items s.seated.items c.go_on.new.seated.items s.lacking.items h.kept h.can gone (c.since-items.ensures ∙ ap (λ (h : List Item). drop (length c.history-before.result.now) h) c.history.ensures.value) c.was_asked-asked.ensures c.as_slice.ensures.value c.go_on.ensures told in
     let turns_are : c.push_reserved.new.self.items ≡ s.turns.items ++ c.args.turn ∷ [] = c.push_reserved.ensures.items ∙ ap (λ (ts : List Turn). ts ++ c.args.turn ∷ []) c.make_room.ensures.turns in
@@ -89,7 +89,7 @@ pub returns : goal.returns
 returns c =
     let s = c.self.inside in
     let h = stands s c.args.self.now c.args.turn c.args.event.now c.self.invariant c.self.view_is (record { event = c.requires.event; free = c.requires.free; in_place = c.requires.in_place }) in
-    let gone = has_gone (ran s) c.args.event.now c.make-answer.result c.in-Some.halt (length c.history-before.result.now) s.planned.cluster c.make-answer.new.self.cluster s.planned.clock c.make-answer.new.self.clock (ahead-value.it s.planned.weather) (ahead-value.it c.make-answer.new.self.weather) h.kept.stands (ap (λ (h : List Item). length h) c.history-before.ensures.value) c.make-answer.ensures (sym c.halted.ensures ∙ c.in-Some.is) in
+    let gone = has_gone (ran s) c.args.event.now c.make-answer.result c.in-Some.halt (length c.history-before.result.now) s.planned.cluster c.make-answer.new.self.cluster s.planned.clock c.make-answer.new.self.clock (ahead-value.it s.planned.weather) (ahead-value.it c.make-answer.new.self.weather) h.kept.stands (ap (λ (h : List Item). length h) c.history-before.ensures.value) c.make-answer.ensures.played (sym c.halted.ensures ∙ c.in-Some.is) in
     let told : is_told c.args.event.now c.since-items.result.now ≡ true = sym c.is_told.ensures ∙ c.if-not-is_told.false in
     let turns_are : c.push_reserved.new.self.items ≡ s.turns.items ++ c.args.turn ∷ [] = c.push_reserved.ensures.items ∙ ap (λ (ts : List Turn). ts ++ c.args.turn ∷ []) c.make_room.ensures.turns in
-    makes_turn (ran s) c.args.self.now (record { script = data_of s.script; turns = c.push_reserved.new.self.items }) c.args.turn c.args.event.now c.make-answer.result c.in-Some.halt (length c.history-before.result.now) c.since-items.result.now s.planned.cluster c.make-answer.new.self.cluster s.planned.clock c.make-answer.new.self.clock (ahead-value.it s.planned.weather) (ahead-value.it c.make-answer.new.self.weather) c.self.view_is h.can gone (c.since-items.ensures ∙ ap (λ (h : List Item). drop (length c.history-before.result.now) h) c.history.ensures.value) told (ap (λ (ts : List Turn). record { script = data_of s.script; turns = ts }) turns_are) h.kept.stands c.make-answer.ensures (sym c.halted.ensures ∙ c.in-Some.is)
+    makes_turn (ran s) c.args.self.now (record { script = data_of s.script; turns = c.push_reserved.new.self.items }) c.args.turn c.args.event.now c.make-answer.result c.in-Some.halt (length c.history-before.result.now) c.since-items.result.now s.planned.cluster c.make-answer.new.self.cluster s.planned.clock c.make-answer.new.self.clock (ahead-value.it s.planned.weather) (ahead-value.it c.make-answer.new.self.weather) c.self.view_is h.can gone (c.since-items.ensures ∙ ap (λ (h : List Item). drop (length c.history-before.result.now) h) c.history.ensures.value) told (ap (λ (ts : List Turn). record { script = data_of s.script; turns = ts }) turns_are) h.kept.stands c.make-answer.ensures.played (sym c.halted.ensures ∙ c.in-Some.is)
