@@ -4,6 +4,7 @@ use Rattle.std.specs.Prelude.{IsErrAnd}
 use Rattle.history_book.specs.declared.item.Item.{Item}
 use Rattle.history_book.specs.Isolation.{Isolated}
 use Rattle.cause_rules.specs.Explained.{Explained}
+use Rattle.cause_rules.specs.Strict.{SerialIfStrict}
 use Rattle.script_data.specs.Data.{ScriptData}
 use Rattle.script_lines.specs.declared.cause.ScriptCause.{ScriptCause}
 use Rattle.session_script.specs.declared.fault.ScriptFault.{ScriptFault}
@@ -14,9 +15,10 @@ use Rattle.line_steps.specs.Planned.{Planned}
 use Rattle.line_steps.specs.Runs.{replayed}
 use Rattle.omid_top.specs.Promise.{KeepsPromise}
 
-pub promise_kept : (script : ScriptData) (h : List Item) → h ≡ replayed script → Isolated h → Explained script.setup h → Answers script h → Planned script h → KeepsPromise script
-promise_kept script h is isolated explained answers planned = record {
+pub promise_kept : (script : ScriptData) (h : List Item) → h ≡ replayed script → Isolated h → SerialIfStrict script.setup h → Explained script.setup h → Answers script h → Planned script h → KeepsPromise script
+promise_kept script h is isolated serial explained answers planned = record {
   isolated = subst (λ (x : List Item). Isolated x) is isolated;
+  serial = subst (λ (x : List Item). SerialIfStrict script.setup x) is serial;
   explained = subst (λ (x : List Item). Explained script.setup x) is explained;
   answers = subst (λ (x : List Item). Answers script x) is answers;
   planned = subst (λ (x : List Item). Planned script x) is planned;

@@ -4,6 +4,7 @@ use Rattle.history_book.specs.declared.item.Item.{Item}
 use Rattle.history_book.specs.Isolation.{Isolated}
 use Rattle.history_json.specs.Json.{json_printed}
 use Rattle.cause_rules.specs.Explained.{Explained}
+use Rattle.cause_rules.specs.Strict.{SerialIfStrict}
 use Rattle.port_io.specs.Ports.{Gains}
 use Rattle.script_data.specs.Data.{ScriptData}
 use Rattle.session_script.specs.Script.{BadLine}
@@ -15,10 +16,11 @@ use Rattle.run_driver.specs.Runs.{RunsTo}
 use Rattle.history_text.specs.Text.{printed}
 use Rattle.omid_top.specs.Texts.{bad_line_text}
 
--- The history of the script, carried out in file order, is snapshot isolated, shows the cause of every refusal, answers every
--- line, and has the faults, times and readings that the script plans.
+-- The history of the script, carried out in file order, is snapshot isolated, is serial where the script asks for strict reads, shows
+-- the cause of every refusal, answers every line, and has the faults, times and readings that the script plans.
 pub record KeepsPromise (script : ScriptData) : Type 0 where
   pub isolated : Isolated (replayed script)
+  pub serial : SerialIfStrict script.setup (replayed script)
   pub explained : Explained script.setup (replayed script)
   pub answers : Answers script (replayed script)
   pub planned : Planned script (replayed script)

@@ -110,7 +110,7 @@ fn compacted<G: Gate>(
     snapshots_are_visible();
     compaction_keeps_snapshots();
     let cluster = replay_told(alloc, script, &TellsGate { gate })?;
-    // That the history is isolated and explained is known of the cluster alone, while it is whole.
+    // That the history is isolated, serial and explained is known of the cluster alone, while it is whole.
     let _history = cluster.history();
     let Stores { cells, table, .. } = cluster.into_stores();
     let archive = Archive::compact(alloc, cells, &table, water)?;

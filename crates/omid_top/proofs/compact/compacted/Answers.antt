@@ -1,6 +1,7 @@
 use Rattle.std.proofs.Common.{subst}
 use Rattle.stamp_base.specs.SetupNumbers.{SetupNumbers}
 use Rattle.cause_rules.specs.Explained.{Explained}
+use Rattle.cause_rules.specs.Strict.{SerialIfStrict}
 use Rattle.session_script.specs.Script.{data_of}
 use Rattle.omid_top.proofs.ArchiveTexts.{archive_told, compaction_kept, if_ok_more}
 use Rattle.omid_top.proofs.PromiseLemmas.{promise_kept}
@@ -19,5 +20,7 @@ returns-clause-keeps g c =
     let script = data_of c.args.script.now in
     let cluster = c.in_ok-cluster.cluster in
     let played = c.in_ok-cluster.ensures in
-    let promise = promise_kept script cluster.history played.history c.history-history.ensures.isolated (subst (λ (setup : SetupNumbers). Explained setup cluster.history) played.setup c.history-history.ensures.explained) played.answered played.planned in
+    let serial = subst (λ (setup : SetupNumbers). SerialIfStrict setup cluster.history) played.setup c.history-history.ensures.serial in
+    let explained = subst (λ (setup : SetupNumbers). Explained setup cluster.history) played.setup c.history-history.ensures.explained in
+    let promise = promise_kept script cluster.history played.history c.history-history.ensures.isolated serial explained played.answered played.planned in
     if_ok_more _ _ c.text_of.result (λ text is. compaction_kept c.snapshots_are_visible.ensures script c.args.water cluster.state cluster.history played.state played.history c.into_stores-cells.ensures.at_rest promise) c.text_of.ensures
