@@ -1,6 +1,7 @@
 //! The program `omid_view`: a history as a picture, or its refusals in words.
 #![tactic(auto)]
 
+mod breach;
 mod command;
 mod made;
 mod status;
