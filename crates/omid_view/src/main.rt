@@ -5,6 +5,8 @@ mod breach;
 mod command;
 mod made;
 mod status;
+#[cfg(test)]
+mod tests;
 mod view;
 
 use command::words_behind;
