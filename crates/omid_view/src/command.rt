@@ -1,7 +1,9 @@
 // The words behind the program's name.
-ghost use Rattle.std.specs.Prelude.{◌≡◌, ◌↔◌, ◌≤◌, IfSome, IsTrue};
-ghost use Rattle.omid_view.specs.Views.{IsInRange};
+ghost use Rattle.std.specs.Prelude.{◌≡◌, ◌≢◌, ◌↔◌, ◌≤◌, ◌^◌, ℕ, decimal, map, string_bytes, IsTrue, IfSome, MatchOption, IfOk, [], ◌<◌};
+ghost use Rattle.std.specs.Str.{IsUtf8};
+ghost use Rattle.omid_view.specs.Views.{IsInRange, IsKnown, IsPictureFor, IsSound, Names};
 
+use history_text::LineBuf;
 use stamp_base::NoMemory;
 use std::alloc::Global;
 use std::env::{Env, FillError};
@@ -11,7 +13,7 @@ use std::env::{Env, FillError};
 pub enum Command {
     /// A picture of the items of these numbers, of the first 2,000 of them.
     Picture { from: u64, to: u64 },
-    /// All refusals in words.
+    /// All refusals in words, and what is broken.
     Explain,
 }
 
@@ -33,7 +35,10 @@ pub fn words_behind<E: Env>(env: &E, alloc: Global) -> Result<Vec<String>, NoMem
 }
 
 /// The text that the bytes are, empty where they are none.
-fn text_of(alloc: Global, bytes: &[u8]) -> Result<String, NoMemory> {
+fn text_of(alloc: Global, bytes: &[u8]) -> Result<String, NoMemory>
+    ensures text { IfOk result (λ text. IsUtf8 bytes.now → string_bytes text ≡ bytes.now) }
+    ensures none { IfOk result (λ text. (IsUtf8 bytes.now → ⊥) → string_bytes text ≡ []) }
+{
     match str::from_utf8(bytes) {
         Ok(text) => Ok(text.to_string(alloc)?),
         Err(_) => Ok(String::new(alloc)),
@@ -42,32 +47,71 @@ fn text_of(alloc: Global, bytes: &[u8]) -> Result<String, NoMemory> {
 
 /// The command that the words name, where they name one.
 pub fn command_of(words: &[String]) -> Option<Command>
-    ensures { IfSome result IsInRange }
+    ensures known { MatchOption result (IsKnown (map string_bytes words.now) → ⊥) (λ command. Names command (map string_bytes words.now)) }
+    ensures sound { IfSome result IsSound }
 {
     match words {
-        [word] if word.as_str() == "picture" => part_of(1, 2_000),
-        [word] if word.as_str() == "explain" => Some(Command::Explain),
-        [word, from, to] if word.as_str() == "picture" => {
-            part_of(number_of(from.as_str())?, number_of(to.as_str())?)
+        [word] if is_word(word.as_str(), "picture") => Some(Command::Picture {
+            from: 1,
+            to: 2_000,
+        }),
+        [word] if is_word(word.as_str(), "explain") => Some(Command::Explain),
+        [word, from, to] if is_word(word.as_str(), "picture") => {
+            picture_of(from.as_str(), to.as_str())
         }
         _ => None,
     }
 }
 
-/// A picture of the items of these numbers, where there may be some: no history has more than 16,777,216.
-fn part_of(from: u64, to: u64) -> Option<Command>
-    ensures { IfSome result IsInRange }
+/// The picture of the items of these numbers, where there may be some: no history has more than 16,777,216.
+fn picture_of(from: &str, to: &str) -> Option<Command>
+    ensures { MatchOption result ((m n : ℕ) → IsInRange m n → from.now ≡ decimal m → to.now ≢ decimal n) (λ command. IsPictureFor command from.now to.now) }
 {
-    if 1 <= from && from <= to && to <= 16_777_216 {
-        Some(Command::Picture { from, to })
+    let first = number_of(from)?;
+    let last = number_of(to)?;
+    if is_in_range(first, last) {
+        Some(Command::Picture {
+            from: first,
+            to: last,
+        })
     } else {
         None
     }
 }
 
-fn number_of(word: &str) -> Option<u64> {
+fn is_in_range(from: u64, to: u64) -> bool
+    ensures { IsTrue result ↔ IsInRange from to }
+{
+    1 <= from && to <= 16_777_216 && from <= to
+}
+
+/// The number that the word is, in decimal, as it is printed.
+fn number_of(word: &str) -> Option<u64>
+    ensures { MatchOption result ((n : ℕ) → n < 2 ^ 64 → word.now ≢ decimal n) (λ n. (n < 2 ^ 64) × (word.now ≡ decimal n)) }
+{
     match word.parse::<u64>() {
-        Ok(number) => Some(number),
+        Ok(number) => {
+            if is_decimal(word, number) {
+                Some(number)
+            } else {
+                None
+            }
+        }
         Err(_) => None,
     }
+}
+
+/// Whether the word is the number in decimal, as it is printed.
+fn is_decimal(word: &str, number: u64) -> bool
+    ensures { IsTrue result ↔ (word.now ≡ decimal number) }
+{
+    let mut line = LineBuf::new();
+    line.push_number(number);
+    line.as_slice() == word.as_bytes()
+}
+
+fn is_word(word: &str, text: &str) -> bool
+    ensures { IsTrue result ↔ (word.now ≡ text.now) }
+{
+    word == text
 }

@@ -1,9 +1,12 @@
 //! The program `omid_view`: a history as a picture, or its refusals in words.
 #![tactic(auto)]
 
+mod breach;
 mod command;
 mod made;
 mod status;
+#[cfg(test)]
+mod tests;
 mod view;
 
 use command::words_behind;

@@ -12,3 +12,5 @@ pub const SOURCE_FAILED: u8 = 4;
 pub const SINK_FAILED: u8 = 5;
 /// Memory was refused.
 pub const NO_MEMORY: u8 = 6;
+/// The history is not isolated.
+pub const NOT_ISOLATED: u8 = 7;

@@ -1,0 +1,2 @@
+mod ViewLemmas
+mod WordLemmas
