@@ -66,7 +66,7 @@ impl Engine {
             alloc,
             setup,
             seen: 0,
-            clients: free_clients(alloc)?,
+            clients: free_clients(alloc, setup.cache)?,
             posts: vacant_posts(alloc, setup.nodes)?,
             sweep: None,
             cells: Cells::new(alloc),
@@ -127,13 +127,13 @@ impl Engine {
     }
 }
 
-/// A free client for each session.
-fn free_clients(alloc: Global) -> Result<Vec<Client>, NoMemory>
-    ensures { IfOk result (λ clients. clients.items ≡ replicate 16 client_new) }
+/// A free client for each session, which remembers so many decisions.
+fn free_clients(alloc: Global, cache: u64) -> Result<Vec<Client>, NoMemory>
+    ensures { IfOk result (λ clients. clients.items ≡ replicate 16 (client_new cache)) }
 {
     let mut clients = Vec::new(alloc);
     for i in 0..SessionNo::COUNT {
-        clients.push(Client::new())?;
+        clients.push(Client::new(alloc, cache)?)?;
     }
     Ok(clients)
 }
