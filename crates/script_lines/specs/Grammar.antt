@@ -85,7 +85,6 @@ setup_words Fault = 4
 
 -- lines of the form can be carried out
 abbrev pub is_built : SetupForm → Bool
-is_built (Number numbers.Cache) = false
 is_built (Flag Direct) = false
 is_built _ = true
 

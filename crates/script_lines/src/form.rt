@@ -69,7 +69,6 @@ impl SetupForm {
         ensures { result ≡ is_built self }
     {
         match self {
-            SetupForm::Number(SetupNumber::Cache) => false,
             SetupForm::Flag(SetupFlag::Direct) => false,
             _ => true,
         }

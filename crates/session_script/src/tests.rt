@@ -5,7 +5,7 @@ use std::alloc::Global;
 use std::test::Fail;
 
 /// A script, its first bad line and the cause, in either mode.
-static BAD: [(&str, u64, &str); 79] = [
+static BAD: [(&str, u64, &str); 78] = [
     // The first bad line.
     ("a\0take", 1, "bad byte"),
     ("\0", 1, "bad byte"),
@@ -91,8 +91,7 @@ static BAD: [(&str, u64, &str); 79] = [
     ("a post p\ns0 post p", 2, "posted twice"),
     ("a post p\na post q\njanitor post q", 3, "posted twice"),
     // Forms that wait.
-    ("cache 4", 1, "not yet"),
-    ("cache x", 1, "not yet"),
+    ("cache x", 1, "bad number"),
     ("commits direct", 1, "not yet"),
 ];
 

@@ -5,4 +5,5 @@ pub mod commits;
 pub mod conflicts;
 pub mod json;
 pub mod many_keys;
+pub mod remembered;
 pub mod strict;

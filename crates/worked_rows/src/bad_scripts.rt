@@ -56,7 +56,7 @@ static BAD_SCRIPTS: [(&str, &str); 31] = [
     ("a fly\n", "script line 1: unknown verb\n"),
     ("a\n", "script line 1: wrong number of words\n"),
     ("a take now\n", "script line 1: wrong number of words\n"),
-    ("cache 1\n", "script line 1: not yet\n"),
+    ("cache 1025\n", "script line 1: out of range\n"),
     ("commits direct\n", "script line 1: not yet\n"),
     (
         "clock tick 12345678901234567890\n",
