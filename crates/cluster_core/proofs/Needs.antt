@@ -15,7 +15,7 @@ use Rattle.oracle_parts.specs.declared.instance.Request.TheVariants.{Begin, Comm
 use Rattle.oracle_parts.specs.declared.instance.Settled.{Settled as How}
 use Rattle.oracle_parts.specs.declared.instance.Settled.TheVariants as how
 use Rattle.oracle_parts.specs.Instance.{InstanceEntry}
-use Rattle.cluster_core.specs.Room.{once, places, was_placed, told_besides, spent, need_by, need, needs_of}
+use Rattle.cluster_core.specs.Room.{once, is_record_of, was_placed, told_besides, spent, need_by, need, needs_of}
 
 -- ---- a commit that stands in the history stands in a longer one
 or_up : (a b c : Bool) → (b ≡ true → c ≡ true) → a || b ≡ true → a || c ≡ true
@@ -29,12 +29,12 @@ or_right false b is = is
 placed_longer : (h more : List Item) (t c : ℕ) → was_placed h t c ≡ true → was_placed (h ++ more) t c ≡ true
 unfolding was_placed
 placed_longer [] more t c is = absurd (cc)
-placed_longer (x ∷ h) more t c is = or_up (places t c x) (was_placed h t c) (was_placed (h ++ more) t c) (placed_longer h more t c) is
+placed_longer (x ∷ h) more t c is = or_up (is_record_of t c x) (was_placed h t c) (was_placed (h ++ more) t c) (placed_longer h more t c) is
 
 pub placed_now : (h more : List Item) (t c : ℕ) → was_placed (h ++ Placed t c ∷ more) t c ≡ true
 unfolding was_placed
 placed_now [] more t c = rw (eq-eqb t t refl, eq-eqb c c refl) refl
-placed_now (x ∷ h) more t c = or_right (places t c x) (was_placed (h ++ Placed t c ∷ more) t c) (placed_now h more t c)
+placed_now (x ∷ h) more t c = or_right (is_record_of t c x) (was_placed (h ++ Placed t c ∷ more) t c) (placed_now h more t c)
 
 -- ---- how much a request may append
 pub once_at_most : (b : Bool) → once b ≤ 1

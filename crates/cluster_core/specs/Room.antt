@@ -21,14 +21,14 @@ abbrev pub once : Bool → ℕ
 once true = 1
 once false = 0
 
-abbrev pub places : ℕ → ℕ → Item → Bool
-places txn commit (Placed start stamp) = (start == txn) && (stamp == commit)
-places txn commit _ = false
+abbrev pub is_record_of : ℕ → ℕ → Item → Bool
+is_record_of txn commit (Placed start stamp) = (start == txn) && (stamp == commit)
+is_record_of txn commit _ = false
 
 -- the commit of the transaction stands in the history
 unfoldable pub was_placed : List Item → ℕ → ℕ → Bool
 was_placed [] txn commit = false
-was_placed (item ∷ items) txn commit = places txn commit item || was_placed items txn commit
+was_placed (item ∷ items) txn commit = is_record_of txn commit item || was_placed items txn commit
 
 -- a put that failed told the commit besides its fault, where it was placed all the same
 abbrev pub told_besides : List Item → ℕ → ℕ → How → ℕ

@@ -88,6 +88,7 @@ fn a_commit_is_refused(rt: HostRuntime) -> Result<(), Fail> {
     let session = SessionNo::LAST;
     let none = Err(Cause::NoRequest { session });
     assert_eq!(rt; instance.refuse(session), none);
+    assert!(rt; !instance.may_accept(session, 9));
     assert_eq!(rt; accepted(&mut instance, commit()), Ok(()));
     assert_eq!(rt; instance.refuse(session), Ok(()));
     assert_eq!(rt; instance.refuse(session), none);
