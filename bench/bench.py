@@ -1,6 +1,6 @@
 #!/usr/bin/env python3
-"""Measures the program `omid` beside `sort`, its strict reads and audits beside the others, and its compactions and its threads
-beside its replay, and prints one table of each.
+"""Measures the program `omid` beside `sort`, its strict reads and audits and its caches beside the others, and its compactions and
+its threads beside its replay, and prints one table of each.
 
 usage: bench/bench.py [--program PATH] [--runs N] [--only WORD] [--quick]
 
@@ -103,6 +103,17 @@ def transactions(lines, sessions, nodes=1, takeovers=0):
     return script
 
 
+def hot_reader(lines):
+    """Fifteen sessions commit 64 keys each and vanish before they finish, and the last one reads all these keys over and over: none
+    of the cells has its shadow."""
+    script = list(HEAD)
+    for session in range(15):
+        script += [f"s{session} begin a", *(f"s{session} write k{64 * session + key} v" for key in range(64)),
+                   f"s{session} submit a", f"a put s{session}", f"a answer s{session}", f"s{session} vanish"]
+    script.append("s15 begin a")
+    return script + [f"s15 read k{turn % 960}" for turn in range(lines - len(script) - 1)]
+
+
 def posts(lines):
     """Every second line posts a name, every other awaits it."""
     return [line for number in range(lines // 2) for line in (f"a post p{number}", f"s0 await p{number}")]
@@ -167,6 +178,26 @@ def strictly(program, work, runs, loads):
               f"{at['audit']:8.3f} {at['strict audit']:8.3f} {at['strict audit'] / at['audit']:8.2f}", flush=True)
 
 
+def remembering(program, work, runs, lines):
+    """What a session saves that remembers what became of others' transactions: store calls, and time."""
+    print(f"{'a hot reader':28} {'store calls':>12} {'replay':>8} {'of plain':>8}")
+    files, costs, sizes = {}, {}, (0, 8, 64)
+    text = os.path.join(work, "text")
+    for size in sizes:
+        files[size], costs[size] = os.path.join(work, f"cache{size}"), []
+        with open(files[size], "w") as it:
+            it.write("\n".join([f"cache {size}", *hot_reader(lines)]) + "\n")
+    for _ in range(runs):
+        for size in sizes:
+            costs[size].append(ran([program, "replay"], files[size], text))
+    plain = median(costs[0]) or 1e-6
+    for size in sizes:
+        ran([program, "replay"], files[size], text)
+        with open(text) as it:
+            calls = sum(line.startswith("step s15 ") for line in it)
+        print(f"{f'cache {size}':28} {calls:12} {median(costs[size]):8.3f} {median(costs[size]) / plain:8.2f}", flush=True)
+
+
 def storms(program, work, runs):
     for count in (10_000, 20_000):
         costs = [ran([program, "storm", str(count)], None, os.path.join(work, "other")) for _ in range(runs)]
@@ -209,6 +240,8 @@ def main():
             beside_sort(said.program, work, said.runs, picked[0])
             compactions(said.program, work, said.runs, picked[0][:2])
             strictly(said.program, work, said.runs, picked[0])
+        if said.only in "hot reader":
+            remembering(said.program, work, said.runs, lines)
         if not said.only:
             storms(said.program, work, said.runs)
         if picked[1]:
