@@ -1,5 +1,5 @@
 // What a replay writes for a script, byte for byte, and that it is isolated, and serial where reads are strict.
-use crate::calls::{is_isolated, is_serial, joined, tells};
+use crate::calls::{answer_of, is_isolated, is_serial, joined, tells};
 use std::alloc::{AllocError, Global};
 use std::sync::Wait;
 use std::test::Fail;
@@ -58,6 +58,34 @@ fn strict_histories_are_serial(rt: HostRuntime) -> Result<(), Fail> {
     for replay in strict::replays() {
         let history = joined(rt.alloc(), replay.history)?;
         assert!(rt; is_serial(&rt, rt.alloc(), &history)?, "{}", replay.name);
+    }
+    Ok(())
+}
+
+/// Whether the example's script, behind more setup lines, is replayed to a history that is isolated and serial.
+fn is_serial_behind<R: Threads + Wait + Sync>(
+    rt: &R,
+    alloc: Global,
+    setup: &str,
+    replay: &Replay,
+) -> Result<bool, AllocError> {
+    let mut script = joined(alloc, &[setup])?;
+    script.extend_from_slice(&joined(alloc, replay.script)?)?;
+    let (history, status) = answer_of(rt, alloc, &["replay"], &script)?;
+    Ok(status == 0 && is_serial(rt, alloc, &history)?)
+}
+
+#[test]
+fn takeovers_with_a_memory_are_serial(rt: HostRuntime) -> Result<(), Fail> {
+    for replays in [takeovers::replays(), leases::replays()] {
+        for replay in replays {
+            let setup = "cache 2\nreads strict\n";
+            assert!(rt;
+                is_serial_behind(&rt, rt.alloc(), setup, replay)?,
+                "{}",
+                replay.name
+            );
+        }
     }
     Ok(())
 }
