@@ -105,7 +105,7 @@ by_step old new by e step.Fault some tells = tells
 pub done_serves : (old new : Ran) (by : Turn) (e : Event) (before : ℕ) (result : StageStep) → event_of old.script (reached_by old) by ≡ Some e → before ≡ length (items_of old) → result ≡ done_by by (drop before (items_of new)) → MakesTurn old by e None new → ServesBy old by e result new
 done_serves old new by e before result is length_is told made =
     by_step old new by e result (ap is_answer told ∙ done_answer by (drop before (items_of new)))
-        (record { stop = None; made = made; told = told ∙ ap (λ (xs : List Item). done_by by xs) (has_grown old new by e before is length_is made.made).since })
+    (record { stop = None; made = made; told = told ∙ ap (λ (xs : List Item). done_by by xs) (has_grown old new by e before is length_is made.made).since })
 
 -- ---- an actor's turn
 own_by : (old new : Ran) (actor : Actor) (e : Event) (asked : Option (ℕ × ℕ)) → event_of old.script (reached_by old) (turn.Own actor) ≡ Some e → IsTold old.script (reached_by old).played e → asked ≡ asked_of (state_of new) (node_asked (step_in old e).items) → TurnsBy old (turn.Own actor) e new → MakesOwn old actor asked new
