@@ -24,13 +24,14 @@ mod run;
 mod standard;
 mod status;
 mod usage;
+mod waiting;
 mod words;
 
 use form::Form;
 use port_io::{Sink, Source};
 pub use process::{program, words_behind};
 pub use progress::ShowingGate;
-pub use run_driver::{Gate, GatePlace, OpenGate};
+pub use run_driver::{Gate, GatePlace, OpenGate, WaitsFor};
 use standard::Standard;
 pub use status::Status;
 use std::alloc::Global;

@@ -1,6 +1,7 @@
-// Showing how far a replay is.
+// Showing how far a replay is, and what the lines of a run wait for that goes on no more.
+use crate::waiting::show_wait;
 use replay_driver::Progress;
-use run_driver::{Gate, GatePlace};
+use run_driver::{Gate, GatePlace, WaitsFor};
 use std::io::{IsTerminal, Stderr};
 use std::sync::Wait;
 
@@ -10,8 +11,8 @@ const LONG: usize = 10_000;
 /// How often progress is shown of one script, at most.
 const TIMES: usize = 100;
 
-/// The program's gate: it is always open, and shows on standard error how far the replay of a long script is, where that is a
-/// terminal. Nobody hears of what standard error does not take.
+/// The program's gate: it is always open, and shows on standard error how far the replay of a long script is, and what the lines of
+/// a run wait for while nobody makes an event, where that is a terminal. Nobody hears of what standard error does not take.
 #[derive(Drop)]
 pub struct ShowingGate {
     terminal: Option<Stderr>,
@@ -37,6 +38,16 @@ impl Gate for ShowingGate {
             if is_shown(lines, of) {
                 show(errors, lines, of);
             }
+        }
+    }
+
+    fn hears_waits(&self) -> bool {
+        self.terminal.is_some()
+    }
+
+    fn waits(&self, line: u64, on: WaitsFor) {
+        if let Some(errors) = &self.terminal {
+            show_wait(errors, line, on);
         }
     }
 }

@@ -44,6 +44,10 @@ IsUnused node p = (tickets_at p node ≡ []) × (batches_at p node ≡ [])
 abbrev pub ticket_of : Entry → Ticket
 ticket_of entry = record { session = entry.session; term = entry.term }
 
+-- the entry of a ticket whose request is drawn
+abbrev pub entry_of : Ticket → ℕ → Option ℕ → Entry
+entry_of ticket start commit = record { session = ticket.session; term = ticket.term; start = start; commit = commit }
+
 abbrev pub tickets_of : List Entry → List Ticket
 tickets_of entries = map ticket_of entries
 

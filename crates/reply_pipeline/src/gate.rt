@@ -1,4 +1,4 @@
-use stamp_base::{NodeNo, Stage};
+use stamp_base::{Name, NodeNo, Stage};
 use std::sync::Wait;
 
 /// A stage of a node.
@@ -6,6 +6,15 @@ use std::sync::Wait;
 pub struct GatePlace {
     pub node: NodeNo,
     pub stage: Stage,
+}
+
+/// What an actor's line waits for.
+#[derive(Clone, Copy, Debug, PartialEq, Eq)]
+pub enum WaitsFor {
+    /// That the name is posted.
+    Name(Name),
+    /// What becomes of its request at the node, of which this stage is held, if one is.
+    Reply { node: NodeNo, held: Option<Stage> },
 }
 
 /// Is passed before each step of a stage, outside all locks. It may keep a stage waiting. And it is told how far a replay is,
@@ -16,6 +25,14 @@ pub trait Gate: Sync {
     /// So many lines of a script were carried out in file order, of all that it has. What a gate does with that is no part of
     /// any promise: by default, nothing.
     fn carried_out(&self, _lines: usize, _of: usize) {}
+
+    /// Whether it wants to hear of lines that wait while nobody makes an event. By default, no.
+    fn hears_waits(&self) -> bool {
+        false
+    }
+
+    /// The line of this number waits, and nobody has made an event for two seconds. By default, it does nothing.
+    fn waits(&self, _line: u64, _on: WaitsFor) {}
 }
 
 /// A gate that is always open, and says nothing.

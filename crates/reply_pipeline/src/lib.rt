@@ -11,12 +11,12 @@ mod request;
 mod tickets;
 
 pub use ending::StageEnd;
-pub use gate::{Gate, GatePlace, OpenGate};
+pub use gate::{Gate, GatePlace, OpenGate, WaitsFor};
 pub use persist::persist_worker;
 pub use reply::reply_stage;
 pub use request::request_stage;
 pub use thread_steps::{StageStep, Steps};
-pub use tickets::{offer_ticket, send_ticket};
+pub use tickets::offer_ticket;
 
 #[cfg(test)]
 mod tests;

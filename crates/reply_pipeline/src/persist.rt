@@ -64,7 +64,10 @@ fn turn<R: Wait, B: Steps, G: Gate>(
     ensures { IsPersisting desk.now.queues.now desk.now.node [] pass.new }
 {
     match receive(rt, desk, pass) {
-        Some(batch) => settle(rt, desk, worker, pass, batch),
+        Some(batch) => {
+            desk.tell_room(Stage::Persist);
+            settle(rt, desk, worker, pass, batch)
+        }
         None => desk.wait(rt, Stage::Persist, worker),
     }
 }
@@ -80,7 +83,7 @@ fn settle<R: Wait, B: Steps, G: Gate>(
     ensures { IsPersisting desk.now.queues.now desk.now.node [] pass.new }
 {
     match put_all(rt, desk, worker, batch.batch.entries()) {
-        Ok(()) => send_on(rt, desk, pass, batch),
+        Ok(()) => send_on(rt, desk, worker, pass, batch),
         Err(end) => {
             give_back(rt, desk, pass, batch);
             Err(end)
@@ -103,10 +106,11 @@ fn put_all<R: Wait, B: Steps, G: Gate>(
     Ok(())
 }
 
-// Sends a batch on as settled, again and again while the queue is full, or gives it back where the queues are closed.
+// Sends a batch on as settled, and waits while the queue is full, or gives it back where the queues are closed.
 fn send_on<R: Wait, B: Steps, G: Gate>(
     rt: &R,
     desk: &Desk<'_, B, G>,
+    worker: u64,
     pass: &mut StagePass,
     batch: Numbered,
 ) -> Result<(), StageEnd>
@@ -114,15 +118,17 @@ fn send_on<R: Wait, B: Steps, G: Gate>(
     ensures { IsPersisting desk.now.queues.now desk.now.node [] pass.new }
 {
     let mut batch = batch;
+    let mut asked = false;
     for _ in rt.forever() {
         match send(rt, desk, pass, batch) {
             Ok(()) => return Ok(()),
             Err(back) => batch = back,
         }
-        if let Err(end) = desk.make_way() {
+        if let Err(end) = desk.wait_for_room(rt, Stage::Persist, worker, asked) {
             give_back(rt, desk, pass, batch);
             return Err(end);
         }
+        asked = !asked;
     }
     unreachable!()
 }

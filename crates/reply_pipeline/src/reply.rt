@@ -106,7 +106,10 @@ fn take_in<R: Wait, B: Steps, G: Gate>(
 {
     for _ in rt.forever() {
         match receive(rt, desk, pass) {
-            Some(batch) => place(rt, desk, pass, order, batch),
+            Some(batch) => {
+                desk.tell_room(Stage::Reply);
+                place(rt, desk, pass, order, batch);
+            }
             None => return,
         }
     }

@@ -1,7 +1,8 @@
 // The request stage: serves tickets until each request is drawn or has ended, and sends what was drawn on in batches. What is drawn
 // does not wait for a stage that is held.
 ghost use Rattle.std.specs.Prelude.{◌≡◌, ◌≢◌, ◌+◌, ◌<◌, ◌∷◌, ◌++◌, [], length, IfOk, IfSome, MatchResult};
-ghost use Rattle.reply_pipeline.specs.Requesting.{IsRequestPass, IsUnused, EntersTickets, IsRequesting, HasRequested, Enters, EntersLeft, MayEnter, MayStill, GoesOnWith, KeepsLeft, IsServed, ticket_of};
+ghost use Rattle.reply_pipeline.specs.Requesting.{IsRequestPass, IsUnused, EntersTickets, IsRequesting, HasRequested, Enters, EntersLeft, MayEnter, MayStill, GoesOnWith, KeepsLeft, IsServed, ticket_of, entry_of};
+ghost use Rattle.reply_pipeline.specs.Serving.{goes_on};
 
 use crate::desk::Desk;
 use crate::ending::StageEnd;
@@ -10,7 +11,7 @@ use batch_pool::{Batch, Entry};
 use history_book::Cause;
 use persist_batches::Numbered;
 use stage_queues::{Queues, StagePass, Ticket};
-use stamp_base::{NodeNo, Stage};
+use stamp_base::{NodeNo, Stage, Stamp};
 use std::sync::Wait;
 use thread_steps::{StageStep, Steps};
 
@@ -154,6 +155,7 @@ fn fill<R: Wait, B: Steps, G: Gate>(
         let Some(ticket) = receive(rt, desk, pass) else {
             return Ok(None);
         };
+        desk.tell_room(Stage::Request);
         match try_ticket(rt, desk, &ticket)? {
             Served::Drawn(entry) => enter(&mut batch.batch, entry),
             Served::Ended => {}
@@ -186,6 +188,7 @@ fn next_entry<R: Wait, B: Steps, G: Gate>(
     for _ in rt.forever() {
         match receive(rt, desk, pass) {
             Some(ticket) => {
+                desk.tell_room(Stage::Request);
                 if let Some(entry) = serve_ticket(rt, desk, &ticket)? {
                     return Ok(Some(entry));
                 }
@@ -226,12 +229,7 @@ fn try_ticket<R: Wait, B: Steps, G: Gate>(
         match desk.step(rt, Stage::Request, ticket.session, ticket.term) {
             StageStep::Did { start, commit } => {
                 desk.wake_session(ticket.session);
-                return Ok(Served::Drawn(Entry {
-                    session: ticket.session,
-                    term: ticket.term,
-                    start,
-                    commit,
-                }));
+                return Ok(Served::Drawn(entry_of(ticket, start, commit)));
             }
             StageStep::Held => return Ok(Served::Held),
             StageStep::NoMemory => return Err(StageEnd::NoMemory),
@@ -246,9 +244,23 @@ fn try_ticket<R: Wait, B: Steps, G: Gate>(
     unreachable!()
 }
 
+// The entry of a ticket whose request is drawn.
+fn entry_of(ticket: &Ticket, start: Stamp, commit: Option<Stamp>) -> Entry
+    ensures { result ≡ entry_of ticket.now start commit }
+{
+    Entry {
+        session: ticket.session,
+        term: ticket.term,
+        start,
+        commit,
+    }
+}
+
 // Whether the request may be there after this step. A refused or faulted extension leaves it where it was. The causes of a refused
 // extension also end a request, which its next step then does not find.
-fn goes_on(step: &StageStep) -> bool {
+fn goes_on(step: &StageStep) -> bool
+    ensures { result ≡ goes_on step.now }
+{
     match step {
         StageStep::Went | StageStep::Fault => true,
         StageStep::Refused(cause) => matches!(
@@ -279,7 +291,7 @@ fn empty_batch<R: Wait, B: Steps, G: Gate>(
     unreachable!()
 }
 
-// Sends a batch, again and again while the queue is full, or gives it back where the queues are closed.
+// Sends a batch, and waits while the queue is full, or gives it back where the queues are closed.
 fn send<R: Wait, B: Steps, G: Gate>(
     rt: &R,
     desk: &Desk<'_, B, G>,
@@ -291,15 +303,17 @@ fn send<R: Wait, B: Steps, G: Gate>(
     ensures left { IfOk result (λ _. KeepsLeft desk.now.queues.now desk.now.node batch pass.old pass.new) }
 {
     let mut batch = batch;
+    let mut asked = false;
     for _ in rt.forever() {
         match try_send(rt, desk, pass, batch) {
             Ok(()) => return Ok(()),
             Err(back) => batch = back,
         }
-        if let Err(end) = desk.make_way() {
+        if let Err(end) = desk.wait_for_room(rt, Stage::Request, 0, asked) {
             give_back(rt, desk, pass, batch);
             return Err(end);
         }
+        asked = !asked;
     }
     unreachable!()
 }

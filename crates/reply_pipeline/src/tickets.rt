@@ -5,36 +5,6 @@ ghost use Rattle.reply_pipeline.specs.Seats.{IsSenderPass, SendsOrGivesBack};
 use stage_queues::{Queues, StagePass, Ticket};
 use stamp_base::NodeNo;
 use std::sync::Wait;
-use std::thread;
-
-/// Sends a ticket to the node's request stage, again and again while the queue is full. Err only where the queues are closed; the
-/// ticket is handed back then, and nothing was sent.
-pub fn send_ticket<R: Wait>(
-    rt: &R,
-    node: NodeNo,
-    queues: &Queues,
-    pass: &mut StagePass,
-    ticket: Ticket,
-) -> Result<(), Ticket>
-    requires node { node < length queues.now.nodes }
-    requires pass { IsSenderPass queues.now pass.old }
-    ensures sent { SendsOrGivesBack node ticket pass.old pass.new result }
-    ensures pass { IsSenderPass queues.now pass.new }
-    ensures held { pass.new.held ≡ pass.old.held }
-{
-    let mut ticket = ticket;
-    for _ in rt.forever() {
-        match offer_ticket(rt, node, queues, pass, ticket) {
-            Ok(()) => return Ok(()),
-            Err(back) => ticket = back,
-        }
-        if queues.closed() {
-            return Err(ticket);
-        }
-        thread::yield_now();
-    }
-    unreachable!()
-}
 
 /// Sends a ticket to the node's request stage, unless its queue is full; the ticket is handed back then, and nothing was sent.
 pub fn offer_ticket<R: Wait>(

@@ -1,3 +1,4 @@
+mod Advancing
 mod Kept
 mod Counted
 mod Closing

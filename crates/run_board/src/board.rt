@@ -122,4 +122,19 @@ impl<L: Ledger> Steps for Board<L> {
     ) -> StageStep {
         self.play.lock(rt).stage_step(node, term, stage, session)
     }
+
+    /// The term of the node's oracle, if it has one, as `Play::term_of` tells it.
+    fn term_of<R: Wait>(&self, rt: &R, node: NodeNo) -> Option<Term> {
+        self.play.lock(rt).term_of(node)
+    }
+
+    /// Whether the node's stage is held, as `Play::is_held` tells it.
+    fn is_held<R: Wait>(&self, rt: &R, node: NodeNo, stage: Stage) -> bool {
+        self.play.lock(rt).is_held(node, stage)
+    }
+
+    /// How many turns were made so far, as `Play::turns_made` tells it.
+    fn turns_made<R: Wait>(&self, rt: &R) -> usize {
+        self.play.lock(rt).turns_made()
+    }
 }

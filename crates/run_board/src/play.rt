@@ -12,7 +12,8 @@ ghost use Rattle.line_shares.specs.Done.{all_done, first_cursor};
 ghost use Rattle.thread_scripts.specs.Actors.{actors_of, AreBehind, AreAtTheirEnds};
 ghost use Rattle.turn_rules.specs.Laws.{IsPlannedSoFar};
 ghost use Rattle.turn_engine.specs.Run.{reached_by};
-ghost use Rattle.turn_engine.specs.Steps.{place_of};
+ghost use Rattle.machine.specs.Readers.{term_of};
+ghost use Rattle.turn_engine.specs.Steps.{place_of, state_of, IsStageHeld};
 ghost use Rattle.thread_steps.specs.Going.{GoesOn};
 ghost use Rattle.run_board.specs.Playing.{Advances, Serves, AreCounted, IsOver, IsResult};
 ghost use Rattle.run_board.specs.SoFar.{AreAnsweredSoFar};
@@ -119,6 +120,27 @@ impl<L: Ledger> Play<L> {
     {
         stage_steps_go_further();
         self.run.stage_step(node, term, stage, session)
+    }
+
+    /// The term of the node's oracle, if it has one.
+    pub fn term_of(&self, node: NodeNo) -> Option<Term>
+        ensures { result ≡ term_of (state_of self.now.ran) node }
+    {
+        self.run.term_of(node)
+    }
+
+    /// Whether the node's stage is held.
+    pub fn is_held(&self, node: NodeNo, stage: Stage) -> bool
+        ensures { result ≡ IsStageHeld self.now.ran node stage }
+    {
+        self.run.is_held(node, stage)
+    }
+
+    /// How many turns were made.
+    pub fn turns_made(&self) -> usize
+        ensures { result ≡ length self.now.ran.turns }
+    {
+        self.run.turns_made()
     }
 
     /// The cluster and the turns that led there. Err exactly where a share is missing, a cursor is not at its end, or the script

@@ -6,5 +6,5 @@ mod rest;
 
 pub use cluster_core::Cluster;
 pub use driver::run;
-pub use reply_pipeline::{Gate, GatePlace, OpenGate};
+pub use reply_pipeline::{Gate, GatePlace, OpenGate, WaitsFor};
 pub use turn_rules::Turn;

@@ -4,12 +4,13 @@ ghost use Rattle.session_script.specs.Script.{data_of};
 ghost use Rattle.run_driver.specs.Runs.{RunsTo};
 
 use cluster_core::Cluster;
+use history_book::Cause;
 use line_shares::ActorShare;
 use run_board::{Advance, Board};
-use stamp_base::{NoMemory, NodeNo, SessionNo, Setup, Stage, Term};
+use stamp_base::{NoMemory, NodeNo, SessionNo, Setup, Stage};
 use std::sync::Wait;
 use std::sync::ledger::Ledger;
-use std::thread;
+use std::thread::Parker;
 use thread_steps::{StageStep, Steps};
 use turn_rules::Turn;
 
@@ -32,39 +33,50 @@ pub fn finish<L: Ledger, R: Wait>(
                 shares = rest;
             }
         }
-        make_rest(rt, setup, &board, shares.as_mut_slice())?;
-        thread::yield_now();
+        if !make_rest(rt, setup, &board, shares.as_mut_slice())? {
+            wait_for_ever(rt);
+        }
     }
     unreachable!()
 }
 
-// Every turn that may be made now.
+// Nobody is there who makes what is waited for.
+fn wait_for_ever<R: Wait>(rt: &R) {
+    let parker = Parker::new();
+    for _ in rt.forever() {
+        parker.park(rt);
+    }
+}
+
+// Every turn that may be made now. False where there is none.
 fn make_rest<L: Ledger, R: Wait>(
     rt: &R,
     setup: &Setup,
     board: &Board<L>,
     shares: &mut [ActorShare<L>],
-) -> Result<(), NoMemory> {
+) -> Result<bool, NoMemory> {
+    let mut made = false;
     for share in shares.iter_mut() {
-        make_own(rt, board, share)?;
+        made |= make_own(rt, board, share)?;
     }
     for number in 0..setup.nodes {
         if let Some(node) = NodeNo::new(number) {
-            serve_node(rt, board, node)?;
+            made |= serve_node(rt, board, node)?;
         }
     }
-    Ok(())
+    Ok(made)
 }
 
 fn make_own<L: Ledger, R: Wait>(
     rt: &R,
     board: &Board<L>,
     share: &mut ActorShare<L>,
-) -> Result<(), NoMemory> {
+) -> Result<bool, NoMemory> {
+    let mut made = false;
     for _ in rt.forever() {
         match board.advance(rt, share) {
-            Advance::Did { .. } => {}
-            Advance::Waits(_) | Advance::Ended => return Ok(()),
+            Advance::Did { .. } => made = true,
+            Advance::Waits(_) | Advance::Ended => return Ok(made),
             Advance::NoMemory => return Err(NoMemory),
         }
     }
@@ -72,31 +84,43 @@ fn make_own<L: Ledger, R: Wait>(
 }
 
 // A step of each stage of the node for each session.
-fn serve_node<L: Ledger, R: Wait>(rt: &R, board: &Board<L>, node: NodeNo) -> Result<(), NoMemory> {
+fn serve_node<L: Ledger, R: Wait>(
+    rt: &R,
+    board: &Board<L>,
+    node: NodeNo,
+) -> Result<bool, NoMemory> {
+    let mut made = false;
     for number in 0..SessionNo::COUNT as u64 {
         if let Some(session) = SessionNo::new(number) {
-            serve_session(rt, board, node, Stage::Request, session)?;
-            serve_session(rt, board, node, Stage::Persist, session)?;
-            serve_session(rt, board, node, Stage::Reply, session)?;
+            for stage in [Stage::Request, Stage::Persist, Stage::Reply] {
+                made |= serve_session(rt, board, node, stage, session)?;
+            }
         }
     }
-    Ok(())
+    Ok(made)
 }
 
-// Under the term of the node's oracle, which a step under another term tells.
+// Under the term of the node's oracle.
 fn serve_session<L: Ledger, R: Wait>(
     rt: &R,
     board: &Board<L>,
     node: NodeNo,
     stage: Stage,
     session: SessionNo,
-) -> Result<(), NoMemory> {
-    let mut step = board.stage_step(rt, node, Term::FIRST, stage, session);
-    if let StageStep::Stale { found: Some(term) } = step {
-        step = board.stage_step(rt, node, term, stage, session);
-    }
-    match step {
+) -> Result<bool, NoMemory> {
+    let Some(term) = board.term_of(rt, node) else {
+        return Ok(false);
+    };
+    match board.stage_step(rt, node, term, stage, session) {
         StageStep::NoMemory => Err(NoMemory),
-        _ => Ok(()),
+        step => Ok(is_made(&step)),
     }
+}
+
+// A request that waits for an earlier commit makes nothing by itself.
+fn is_made(step: &StageStep) -> bool {
+    !matches!(
+        step,
+        StageStep::Held | StageStep::Stale { .. } | StageStep::Refused(Cause::NotYet { .. })
+    )
 }

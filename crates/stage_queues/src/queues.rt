@@ -17,6 +17,7 @@ use std::marker::Model;
 use std::sync::Wait;
 use std::sync::atomic::{AtomicBool, Ordering};
 use std::thread::Parker;
+use std::time::Duration;
 
 /// The queues and pools of all nodes, and where their threads wait.
 #[derive(Drop)]
@@ -102,6 +103,15 @@ impl Queues {
         }
     }
 
+    /// Parks the waiter until it is woken, as `wait` does, but no longer than this.
+    pub fn wait_a_while<R: Wait>(&self, rt: &R, waiter: Waiter, most: Duration) {
+        if let Some(parker) = self.parker(waiter) {
+            if !self.closed() {
+                parker.park_timeout(rt, most);
+            }
+        }
+    }
+
     /// Wakes the waiter. Where it does not wait, its next wait ends at once.
     pub fn wake(&self, waiter: Waiter) {
         if let Some(parker) = self.parker(waiter) {
@@ -129,17 +139,15 @@ impl Queues {
         }
     }
 
-    /// For a sender that found the queue from which the node's stage receives full: parks the waiter until it is woken, as where there
-    /// is room. It may not wait at all, and is to try again after each wait.
-    pub fn wait_for_room<R: Wait>(&self, rt: &R, node: NodeNo, stage: Stage, waiter: Waiter) {
+    /// For a sender that found the queue from which the node's stage receives full: the senders are woken once there is room. Who
+    /// asks is to try once more before it waits, since the room may have come before.
+    pub fn ask_for_room(&self, node: NodeNo, stage: Stage) {
         if let Some(crowd) = self.crowd(node, stage) {
-            if crowd.join() {
-                self.wait(rt, waiter);
-            }
+            crowd.ask();
         }
     }
 
-    /// There is room in the queue from which the node's stage receives: wakes the senders, if one waits for it.
+    /// There is room in the queue from which the node's stage receives: wakes the senders, if one has asked for it.
     pub fn tell_room(&self, node: NodeNo, stage: Stage) {
         if let Some(crowd) = self.crowd(node, stage) {
             if crowd.leave() {

@@ -31,29 +31,28 @@ pub fn actor_place(actor: Actor) -> usize
     }
 }
 
-/// Whether senders wait for room in a queue.
+/// Whether a sender has asked for room in a queue.
 #[derive(Drop)]
 pub struct Crowd {
-    waits: AtomicBool,
+    asks: AtomicBool,
 }
 
 impl Crowd {
-    /// Nobody waits.
+    /// Nobody has asked.
     pub fn none() -> Crowd {
         Crowd {
-            waits: AtomicBool::new(false),
+            asks: AtomicBool::new(false),
         }
     }
 
-    /// A sender found the queue full. Whether one had said so before, since the senders were last woken: who did not have to say it
-    /// tries once more before it waits, since there may be room again that nobody tells.
-    pub fn join(&self) -> bool {
-        self.waits.swap(true, Ordering::SeqCst)
+    /// A sender found the queue full.
+    pub fn ask(&self) {
+        self.asks.store(true, Ordering::SeqCst);
     }
 
-    /// There is room in the queue. Whether senders wait for it, who are to be woken.
+    /// There is room in the queue. Whether one has asked for it since the last time, so that the senders are to be woken.
     pub fn leave(&self) -> bool {
-        self.waits.load(Ordering::SeqCst) && self.waits.swap(false, Ordering::SeqCst)
+        self.asks.load(Ordering::SeqCst) && self.asks.swap(false, Ordering::SeqCst)
     }
 }
 

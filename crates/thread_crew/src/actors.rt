@@ -4,20 +4,17 @@ ghost use Rattle.reply_pipeline.specs.Seats.{IsSenderPass};
 ghost use Rattle.thread_steps.specs.Going.{GoesOn};
 
 use crate::lines::LinesLeft;
+use crate::quiet::{Quiet, wait_quietly};
 use crate::shared::Shared;
 use crate::waking::wake_for;
 use history_book::Actor;
 use line_shares::ActorShare;
-use reply_pipeline::{Gate, offer_ticket, send_ticket};
-use stage_queues::{StagePass, Ticket, Waiter};
-use stamp_base::{NodeNo, Term};
+use reply_pipeline::{Gate, offer_ticket};
+use stage_queues::{StagePass, Ticket};
+use stamp_base::{NodeNo, Stage, Term};
 use std::sync::Wait;
 use std::sync::ledger::Ledger;
-use std::thread;
 use thread_steps::{ActorStep, ActorSteps, Steps};
-
-/// So often a ticket is offered to a full queue before the board is asked again.
-const OFFERS: u64 = 64;
 
 /// A ticket for which the queue of the node had no room.
 #[derive(Clone, Copy)]
@@ -41,12 +38,20 @@ pub fn act<L: Ledger, R: Wait, B: Steps + ActorSteps<L> + Sync, G: Gate>(
     let mut pass = pass;
     let mut left = LinesLeft::after(mine.actor(), shared.lines, mine.done());
     let mut unsent = None;
+    let mut quiet = Quiet::none();
     for _ in rt.forever() {
-        if !turn(rt, shared, &mut left, &mut mine, &mut pass, &mut unsent) {
+        if !turn(
+            rt,
+            shared,
+            &mut left,
+            &mut mine,
+            &mut pass,
+            &mut unsent,
+            &mut quiet,
+        ) {
             break;
         }
     }
-    send_last(rt, shared, &mut pass, unsent);
     mine
 }
 
@@ -58,6 +63,7 @@ fn turn<L: Ledger, R: Wait, B: Steps + ActorSteps<L> + Sync, G: Gate>(
     mine: &mut ActorShare<L>,
     pass: &mut StagePass,
     unsent: &mut Option<Unsent>,
+    quiet: &mut Quiet,
 ) -> bool
     requires pass { IsSenderPass shared.now.queues.now pass.old }
     requires nodes { length shared.now.queues.now.nodes ≡ shared.now.setup.nodes }
@@ -69,12 +75,13 @@ fn turn<L: Ledger, R: Wait, B: Steps + ActorSteps<L> + Sync, G: Gate>(
     wake_others(shared, left, mine.done() - before);
     match step {
         ActorStep::Did { asked } => {
-            // A session asks again only once its last request has ended, so a ticket of that one is let go.
-            *unsent = asked_ticket(mine.actor(), asked).or(*unsent);
+            // A session goes on once its request is drawn or has ended, so that no stage waits for a ticket of it that is not sent.
+            *unsent = asked_ticket(mine.actor(), asked);
+            quiet.heed(node_asked(unsent));
             offer(rt, shared, pass, unsent);
             true
         }
-        ActorStep::Waits => wait(rt, shared, mine.actor(), pass, unsent),
+        ActorStep::Waits => wait(rt, shared, left, pass, unsent, quiet),
         ActorStep::Ended => false,
         ActorStep::NoMemory => {
             shared.give_up();
@@ -109,6 +116,14 @@ fn asked_ticket(actor: Actor, asked: Option<(NodeNo, Term)>) -> Option<Unsent> {
     }
 }
 
+// The node of an ask, as long as its ticket is at hand.
+fn node_asked(unsent: &Option<Unsent>) -> Option<NodeNo> {
+    match unsent {
+        Some(Unsent { node, .. }) => Some(*node),
+        None => None,
+    }
+}
+
 // Sends the ticket if the queue of its node has room.
 fn offer<R: Wait, B: Steps + Sync, G: Gate>(
     rt: &R,
@@ -130,32 +145,15 @@ fn offer<R: Wait, B: Steps + Sync, G: Gate>(
     }
 }
 
-// Sends the ticket of an actor with no line left, however long the queue is full. Where the queues are closed it is not sent, and
-// nobody serves the request here.
-fn send_last<R: Wait, B: Steps + Sync, G: Gate>(
-    rt: &R,
-    shared: &Shared<'_, B, G>,
-    pass: &mut StagePass,
-    unsent: Option<Unsent>,
-)
-    requires pass { IsSenderPass shared.now.queues.now pass.old }
-    requires nodes { length shared.now.queues.now.nodes ≡ shared.now.setup.nodes }
-{
-    if let Some(Unsent { node, ticket }) = unsent {
-        if node.value() < shared.setup.nodes {
-            let _unsent = send_ticket(rt, node, shared.queues, pass, ticket);
-        }
-    }
-}
-
-// Waits until the actor is woken, or, with a ticket that is not sent, for a while, since nobody wakes who waits for room. A wake since
-// the actor's last step ends the wait at once. False where the queues are closed.
+// Waits until the actor is woken, also where there is room for a ticket that is not sent; the board is then asked whether its request
+// is still there. A wake since the actor's last step ends the wait at once. False where the queues are closed.
 fn wait<R: Wait, B: Steps + Sync, G: Gate>(
     rt: &R,
     shared: &Shared<'_, B, G>,
-    actor: Actor,
+    left: &LinesLeft<'_>,
     pass: &mut StagePass,
     unsent: &mut Option<Unsent>,
+    quiet: &mut Quiet,
 ) -> bool
     requires pass { IsSenderPass shared.now.queues.now pass.old }
     requires nodes { length shared.now.queues.now.nodes ≡ shared.now.setup.nodes }
@@ -164,29 +162,11 @@ fn wait<R: Wait, B: Steps + Sync, G: Gate>(
     if shared.queues.closed() {
         return false;
     }
-    offer_for_a_while(rt, shared, pass, unsent);
-    if unsent.is_none() {
-        shared.queues.wait(rt, Waiter::Actor(actor));
-    }
-    true
-}
-
-// Offers the ticket again and again, and then lets the board be asked whether its request is still there.
-fn offer_for_a_while<R: Wait, B: Steps + Sync, G: Gate>(
-    rt: &R,
-    shared: &Shared<'_, B, G>,
-    pass: &mut StagePass,
-    unsent: &mut Option<Unsent>,
-)
-    requires pass { IsSenderPass shared.now.queues.now pass.old }
-    requires nodes { length shared.now.queues.now.nodes ≡ shared.now.setup.nodes }
-    ensures { IsSenderPass shared.now.queues.now pass.new }
-{
-    for _ in 0..OFFERS {
-        if unsent.is_none() {
-            return;
-        }
-        thread::yield_now();
+    offer(rt, shared, pass, unsent);
+    if let Some(Unsent { node, .. }) = *unsent {
+        shared.queues.ask_for_room(node, Stage::Request);
         offer(rt, shared, pass, unsent);
     }
+    wait_quietly(rt, shared, left, quiet);
+    true
 }

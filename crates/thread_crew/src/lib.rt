@@ -7,6 +7,7 @@ mod before;
 mod crew;
 mod lines;
 mod playing;
+mod quiet;
 mod sending;
 mod sent;
 mod shared;

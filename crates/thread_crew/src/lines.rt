@@ -18,6 +18,13 @@ impl<'a> LinesLeft<'a> {
         left
     }
 
+    /// The next of them.
+    pub fn present(&self) -> Option<Line> {
+        let actor = self.actor;
+        let place = self.lines.iter().position(|line| line.actor == actor)?;
+        Some(self.lines[place])
+    }
+
     /// What the next of them asks for. It is done from now on.
     pub fn next(&mut self) -> Option<Verb> {
         let actor = self.actor;

@@ -36,4 +36,13 @@ pub trait Steps {
         stage: Stage,
         session: SessionNo,
     ) -> StageStep;
+
+    /// The term of the node's oracle, if it has one. A request of another term is not there any more.
+    fn term_of<R: Wait>(&self, rt: &R, node: NodeNo) -> Option<Term>;
+
+    /// Whether the node's stage is held.
+    fn is_held<R: Wait>(&self, rt: &R, node: NodeNo, stage: Stage) -> bool;
+
+    /// How many turns were made so far, by stages and actors.
+    fn turns_made<R: Wait>(&self, rt: &R) -> usize;
 }

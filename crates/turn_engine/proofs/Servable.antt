@@ -1,6 +1,6 @@
 -- The turn by which a stage serves a request is one of that stage, and the request stands where it is made.
-use Rattle.std.proofs.Common.{◌≡◌, ℕ, zero, suc, ◌==◌, ◌||◌, Bool, true, false, cond, List, [], ◌∷◌, Option, Some, None, All, inr, refl, sym, ◌∙◌, ap, subst}
-use Rattle.std.specs.Prelude.{slice_get, slice_index_or}
+use Rattle.std.proofs.Common.{◌≡◌, ℕ, zero, suc, ◌==◌, ◌||◌, Bool, true, false, cond, List, [], ◌∷◌, Option, Some, None, All, inl, inr, refl, sym, ◌∙◌, ap, subst}
+use Rattle.std.specs.Prelude.{MatchOption, slice_get, slice_index_or}
 use Rattle.std.specs.List.{list_any}
 use Rattle.std.proofs.lemmas.Bool.{true≢false, eqb-true}
 use Rattle.std.proofs.lemmas.List.Elements.{All-head, All-tail}
@@ -116,3 +116,15 @@ extends_first r lacking stage node s n other out lacks is =
       in_place = lacks_stamps w (reached_by r).played.items node s (facts r.script r.turns out.sound out.few).reached.stands k.in_place (used_at w node lacking out.used_up lacks);
       of_session = inr (refl, decides_it);
     }
+
+serves_itself : (r : Ran) (stage : Stage) (node s : ℕ) (by : Turn) → stage_turn stage node s (session_view (state_of r) s) ≡ Some by → IsServable r node stage s by
+serves_itself r stage node s by is =
+    let k : IsOfStage (state_of r) stage node by = of_stage_turn (state_of r) stage node s by is in
+    record { of_stage = k.of_stage; in_place = k.in_place; of_session = inl is }
+
+pub serves_there : (r x : Ran) (stage : Stage) (node s : ℕ) (by : Turn) → r ≡ x → stage_turn stage node s (session_view (state_of r) s) ≡ Some by → IsServable x node stage s by
+serves_there r x stage node s by same is = subst (λ (y : Ran). IsServable y node stage s by) same (serves_itself r stage node s by is)
+
+pub serves_found : (r : Ran) (stage : Stage) (node s : ℕ) (found : Option Turn) → stage_turn stage node s (session_view (state_of r) s) ≡ found → MatchOption found (stage_turn stage node s (session_view (state_of r) s) ≡ None) (λ by. IsServable r node stage s by)
+serves_found r stage node s None is = is
+serves_found r stage node s (Some by) is = serves_itself r stage node s by is

@@ -1,13 +1,15 @@
 -- The items that a turn has appended are those of the history from the old length on.
-use Rattle.std.proofs.Common.{◌≡◌, ℕ, ◌+◌, ◌≤◌, List, [], ◌++◌, Some, inl, inr, drop, length, sym, ◌∙◌, ap, arith}
+use Rattle.std.proofs.Common.{◌≡◌, ℕ, ◌+◌, ◌≤◌, List, [], ◌++◌, Some, Result, Ok, Err, inl, inr, drop, length, sym, ◌∙◌, ap, arith}
 use Rattle.std.proofs.lemmas.List.{length-append}
 use Rattle.std.proofs.Math.Seq.{drop-append_seam, drop-length}
 use Rattle.history_book.specs.declared.item.Item.{Item}
 use Rattle.machine.specs.declared.event.Event.{Event}
+use Rattle.event_parts.specs.declared.stopped.Stopped.{Stopped}
+use Rattle.event_parts.specs.declared.stopped.Stopped.TheVariants.{Refused, StoreFault, NoMemory}
 use Rattle.line_steps.specs.Runs.{Played}
 use Rattle.turn_rules.specs.declared.turn.Turn.{Turn}
 use Rattle.turn_rules.specs.Carried.{event_of, carried_items}
-use Rattle.turn_engine.specs.Making.{step_in, TurnsBy}
+use Rattle.turn_engine.specs.Making.{step_in, TurnsBy, Makes}
 use Rattle.turn_engine.specs.Run.{Ran, reached_by, with_turn}
 use Rattle.turn_engine.proofs.TurnMade.{played_on}
 
@@ -41,3 +43,12 @@ turn_items old t e is = ap (λ (p : Played). p.items) (played_on old.script old.
 pub has_grown : (old new : Ran) (t : Turn) (e : Event) (before : ℕ) → event_of old.script (reached_by old) t ≡ Some e → before ≡ length (items_of old) → TurnsBy old t e new → HasGrown before (step_in old e).items (items_of new)
 has_grown old new t e before is length_is (inl made) = by_append before (items_of old) (step_in old e).items (items_of new) length_is (ap items_of made.1 ∙ turn_items old t e is)
 has_grown old new t e before is length_is (inr quiet) = by_none before (items_of old) (step_in old e).items (items_of new) length_is quiet.none (ap items_of quiet.same)
+
+-- also where memory was refused the history is no shorter
+pub grown_least : (old new : Ran) (t : Turn) (e : Event) (answer : Result Unit Stopped) (before : ℕ) → event_of old.script (reached_by old) t ≡ Some e → before ≡ length (items_of old) → Makes old t e answer new → before ≤ length (items_of new)
+grown_least old new t e (Ok done) before is length_is made = (has_grown old new t e before is length_is made.made).least
+grown_least old new t e (Err (Refused why)) before is length_is made = (has_grown old new t e before is length_is made.made).least
+grown_least old new t e (Err (StoreFault store)) before is length_is made = (has_grown old new t e before is length_is made.made).least
+grown_least old new t e (Err NoMemory) before is length_is made =
+    let same : length (items_of new) ≡ length (items_of old) = ap (λ (r : Ran). length (items_of r)) made in
+    omega (arith, same, length_is)

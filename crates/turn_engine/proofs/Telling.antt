@@ -44,6 +44,22 @@ told_plain by items None = done_plain by items
 told_plain by items (Some (Refuses why)) = refl
 told_plain by items (Some (Faults store)) = refl
 
+abbrev is_answer : StageStep → Bool
+is_answer step.NoMemory = false
+is_answer _ = true
+
+did_answer : (stamps : Option (ℕ × Option ℕ)) → is_answer (did stamps) ≡ true
+did_answer None = refl
+did_answer (Some stamps) = refl
+
+done_answer : (by : Turn) (items : List Item) → is_answer (done_by by items) ≡ true
+done_answer (turn.Decide node session) items = did_answer (drawn_in items)
+done_answer (turn.Put node session) items = refl
+done_answer (turn.Answer node session) items = refl
+done_answer (turn.Own actor) items = refl
+done_answer (turn.Accept node session) items = refl
+done_answer (turn.Extend node) items = refl
+
 -- what a stage made for the session's request
 pub record Served (old : Ran) (node term : ℕ) (stage : Stage) (session : ℕ) (by : Turn) (e : Event) : Type 0 where
   pub free : IsStageHeld old node stage ≡ false
@@ -73,6 +89,23 @@ serves old new node term stage session by e step.Settled k made = once old new n
 serves old new node term stage session by e step.Answered k made = once old new node term stage session by e step.Answered k made
 serves old new node term stage session by e (step.Refused why) k made = once old new node term stage session by e (step.Refused why) k made
 serves old new node term stage session by e step.Fault k made = once old new node term stage session by e step.Fault k made
+
+-- a turn that was done
+by_step : (old new : Ran) (by : Turn) (e : Event) (result : StageStep) → is_answer result ≡ true → TellsTurn old by e result new → ServesBy old by e result new
+by_step old new by e step.NoMemory some tells = absurd (true≢false (sym some))
+by_step old new by e step.Held some tells = tells
+by_step old new by e (step.Stale found) some tells = tells
+by_step old new by e step.Went some tells = tells
+by_step old new by e (step.Did start commit) some tells = tells
+by_step old new by e step.Settled some tells = tells
+by_step old new by e step.Answered some tells = tells
+by_step old new by e (step.Refused why) some tells = tells
+by_step old new by e step.Fault some tells = tells
+
+pub done_serves : (old new : Ran) (by : Turn) (e : Event) (before : ℕ) (result : StageStep) → event_of old.script (reached_by old) by ≡ Some e → before ≡ length (items_of old) → result ≡ done_by by (drop before (items_of new)) → MakesTurn old by e None new → ServesBy old by e result new
+done_serves old new by e before result is length_is told made =
+    by_step old new by e result (ap is_answer told ∙ done_answer by (drop before (items_of new)))
+    (record { stop = None; made = made; told = told ∙ ap (λ (xs : List Item). done_by by xs) (has_grown old new by e before is length_is made.made).since })
 
 -- ---- an actor's turn
 own_by : (old new : Ran) (actor : Actor) (e : Event) (asked : Option (ℕ × ℕ)) → event_of old.script (reached_by old) (turn.Own actor) ≡ Some e → IsTold old.script (reached_by old).played e → asked ≡ asked_of (state_of new) (node_asked (step_in old e).items) → TurnsBy old (turn.Own actor) e new → MakesOwn old actor asked new

@@ -1,5 +1,5 @@
 // What a script run tells of actors and stages.
-ghost use Rattle.std.specs.Prelude.{◌≡◌, ◌<◌, Some, None, true, MatchOption, IfSome};
+ghost use Rattle.std.specs.Prelude.{◌≡◌, ◌<◌, Some, None, true, length, MatchOption, IfSome};
 ghost use Rattle.machine.specs.Readers as read;
 ghost use Rattle.line_steps.specs.Clocks.{HaveRoom};
 ghost use Rattle.line_steps.specs.Next.{reading_at};
@@ -72,14 +72,21 @@ impl ScriptRun {
     }
 
     /// Whether the node's stage is held.
-    pub(crate) fn is_held(&self, node: NodeNo, stage: Stage) -> bool
+    pub fn is_held(&self, node: NodeNo, stage: Stage) -> bool
         ensures { result ≡ IsStageHeld self.now node stage }
     {
         holds_at(self.held.as_slice(), node).is_held(stage)
     }
 
+    /// How many turns were made.
+    pub fn turns_made(&self) -> usize
+        ensures { result ≡ length self.now.turns }
+    {
+        self.turns.len()
+    }
+
     /// The term of the node's oracle.
-    pub(crate) fn term_of(&self, node: NodeNo) -> Option<Term>
+    pub fn term_of(&self, node: NodeNo) -> Option<Term>
         ensures { result ≡ read.term_of (state_of self.now) node }
     {
         self.planned.cluster.term_of(node)

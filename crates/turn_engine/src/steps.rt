@@ -8,6 +8,7 @@ ghost use Rattle.turn_engine.specs.Steps.{Advances, Serves, ServesBy, state_of, 
 
 use crate::ScriptRun;
 use crate::answers::Advance;
+use crate::making::since;
 use history_book::{Actor, Item};
 use machine::Event;
 use planned_cluster::Stopped;
@@ -87,7 +88,7 @@ impl ScriptRun {
     {
         let before = self.history().len();
         match self.make(turn, event) {
-            Ok(()) => done(&turn, &self.history()[before..]),
+            Ok(()) => done(&turn, since(self.history(), before)),
             Err(Stopped::Refused(cause)) => StageStep::Refused(cause),
             Err(Stopped::StoreFault(_)) => StageStep::Fault,
             Err(Stopped::NoMemory) => StageStep::NoMemory,

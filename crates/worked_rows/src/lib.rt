@@ -10,6 +10,8 @@ mod calls;
 #[cfg(test)]
 mod compactions;
 #[cfg(test)]
+mod crowd;
+#[cfg(test)]
 mod drips;
 #[cfg(test)]
 mod faults;

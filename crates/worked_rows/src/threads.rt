@@ -1,6 +1,7 @@
 // Scripts carried out on threads: those with one order are carried out in that of the file, and whatever comes of the others is
 // isolated.
 use crate::calls::{answer_of, is_isolated, tells};
+use crate::crowd::CROWD;
 use crate::faults::{keeps_lines, open_sink, open_source, reads_nothing};
 use omid_top::{Gate, GatePlace, omid};
 use stamp_base::{NodeNo, Stage};
@@ -23,7 +24,7 @@ fn scripts_with_one_order_are_run_in_it(rt: HostRuntime) -> Result<(), Fail> {
 }
 
 /// Scripts that threads carry out in many orders.
-static FREE: [&str; 6] = [
+static FREE: [&str; 9] = [
     PLAIN_PATH,
     "\
 a take
@@ -117,6 +118,57 @@ s1 read k1
 s1 write k1 x
 s1 commit b
 ",
+    // A request that is drawn is answered, though the request stage is held meanwhile.
+    "\
+a take
+a post t
+s0 await t
+s0 begin a
+s0 write k0 v
+s0 submit a
+s0 post drawn
+a await drawn
+a hold request
+a post held
+s0 await held
+s1 await held
+s0 collect
+s0 post done
+s1 begin a
+a await done
+a free request
+",
+    // A held persist stage keeps nothing of an instance that is gone: the next one's begin is served before the stage is freed.
+    "\
+a take
+a post t
+s0 await t
+s0 begin a
+s0 write k0 v
+s0 post w
+a await w
+a hold persist
+a post h
+s0 await h
+s0 submit a
+s0 post sub
+a await sub
+a crash
+clock await sub
+clock tick 20
+clock post ticked
+a await ticked
+a take
+a post again
+s1 await again
+s1 begin a
+s1 post began
+a await began
+a free persist
+s0 finish
+s1 commit a
+",
+    CROWD,
 ];
 
 /// Behind a function, a proof that goes over the scripts does not look into their texts.

@@ -126,7 +126,7 @@ fn two_stages_meet(rt: HostRuntime) -> Result<(), Fail> {
         mut stages,
         mut session,
     } = opened(rt.alloc())?;
-    let sent = send_ticket(
+    let sent = offer_ticket(
         &rt,
         NodeNo::FIRST,
         &queues,
@@ -134,7 +134,7 @@ fn two_stages_meet(rt: HostRuntime) -> Result<(), Fail> {
         ticket_of(SessionNo::FIRST),
     );
     assert!(rt; sent.is_ok());
-    let sent = send_ticket(
+    let sent = offer_ticket(
         &rt,
         other,
         &queues,

@@ -82,6 +82,18 @@ impl Steps for Fake {
         }
         answer
     }
+
+    fn term_of<R: Wait>(&self, _rt: &R, _node: NodeNo) -> Option<Term> {
+        Some(Term::FIRST)
+    }
+
+    fn is_held<R: Wait>(&self, _rt: &R, _node: NodeNo, _stage: Stage) -> bool {
+        false
+    }
+
+    fn turns_made<R: Wait>(&self, _rt: &R) -> usize {
+        0
+    }
 }
 
 // The step of a commit of which so many steps were made: it is accepted, decided, put and answered.

@@ -51,7 +51,7 @@ fn a_stale_ticket_is_passed_over(rt: HostRuntime) -> Result<(), Fail> {
         mut session,
     } = opened(rt.alloc())?;
     for _ in 0..2 {
-        let sent = send_ticket(
+        let sent = offer_ticket(
             &rt,
             NodeNo::FIRST,
             &queues,
@@ -79,7 +79,7 @@ fn what_is_drawn_does_not_wait_for_a_held_stage(rt: HostRuntime) -> Result<(), F
         mut session,
     } = opened(rt.alloc())?;
     for waits in [SessionNo::FIRST, SessionNo::LAST] {
-        let sent = send_ticket(&rt, NodeNo::FIRST, &queues, &mut session, ticket_of(waits));
+        let sent = offer_ticket(&rt, NodeNo::FIRST, &queues, &mut session, ticket_of(waits));
         assert!(rt; sent.is_ok());
     }
     queues.close();

@@ -68,5 +68,8 @@ fn a_wake_before_the_wait_is_kept(rt: HostRuntime) -> Result<(), Fail> {
     queues.wake(waiter(3));
     queues.wait(&rt, waiter(3));
     queues.wait(&rt, Waiter::Stage(NodeNo::FIRST, Stage::Persist, 100));
+    queues.ask_for_room(NodeNo::FIRST, Stage::Request);
+    queues.tell_room(NodeNo::FIRST, Stage::Request);
+    queues.wait(&rt, waiter(7));
     Ok(())
 }

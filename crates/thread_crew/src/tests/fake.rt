@@ -141,4 +141,16 @@ impl<L: Ledger> Steps for Fake<L> {
         }
         StageStep::Stale { found: None }
     }
+
+    fn term_of<R: Wait>(&self, _rt: &R, _node: NodeNo) -> Option<Term> {
+        None
+    }
+
+    fn is_held<R: Wait>(&self, _rt: &R, _node: NodeNo, _stage: Stage) -> bool {
+        false
+    }
+
+    fn turns_made<R: Wait>(&self, _rt: &R) -> usize {
+        0
+    }
 }

@@ -1,9 +1,12 @@
-use Rattle.std.proofs.Common.{List, sym, ap, ◌∙◌, subst}
+use Rattle.std.proofs.Common.{◌≡◌, ℕ, List, sym, ap, ◌∙◌, subst}
 use Rattle.history_book.specs.declared.item.Actor.{Actor}
 use Rattle.line_shares.specs.declared.cursor.Cursor.{Cursor}
 use Rattle.thread_scripts.proofs.Behind.{can_come_up}
 use Rattle.turn_engine.specs.Steps.{place_of, Advances}
-use Rattle.run_board.specs.Playing.{IsKeptPlay}
+use Rattle.line_shares.specs.Done.{caught_up}
+use Rattle.run_board.specs.Playing as playing
+use Rattle.run_board.specs.Playing.{Played, Counts, IsKeptPlay}
+use Rattle.run_board.proofs.Advancing.{advances}
 use Rattle.run_board.proofs.Kept.{kept_further, place_is_small, kept_up}
 use Rattle.run_board.proofs.Counted.{counted_advanced}
 use Rattle.run_board.proofs.play.Play.advance.Goals as goal
@@ -30,3 +33,19 @@ invariant_of-self-in_default g c =
     let up = kept_up new c.self.inside.cursors c.args.mine.now.actor c.place-place.result at kept in
     let counted = counted_advanced old new c.args.mine.now.actor c.advance.result c.self.inside.cursors c.place-place.result advanced at low c.self.invariant.counted in
     subst (λ (cursors : List Cursor). IsKeptPlay new cursors) (sym c.catch_up.ensures.cursors) (record { kept = up; counted = counted })
+
+pub returns-in_default : goal.returns-in_default
+returns-in_default g c =
+    let old : Played = record { ran = c.self.inside.run; cursors = c.self.inside.cursors } in
+    let new : Played = record { ran = c.advance.new.self; cursors = c.catch_up.new.self } in
+    let at = c.place-place.ensures ∙ ap (place_of new.ran) c.actor-actor.ensures in
+    let made = subst (λ (actor : Actor). Advances old.ran actor c.advance.result new.ran) c.actor-actor.ensures c.advance.ensures in
+    let counts : Counts old new c.args.mine.now c.catch_up.new.mine = record {
+      actor = c.catch_up.ensures.actor;
+      cursors = c.catch_up.ensures.cursors ∙ ap (λ (place : ℕ). caught_up c.args.mine.now.actor place old.cursors) at;
+      counted = c.catch_up.ensures.counted;
+    } in
+    record {
+      made = subst (λ (p : Played). playing.Advances p c.args.mine.now c.advance.result new c.catch_up.new.mine) c.self.view_is (advances old new c.args.mine.now c.catch_up.new.mine c.advance.result c.in_default.not-NoMemory made counts);
+      goes_on = record { actor = c.catch_up.ensures.actor; amount = c.catch_up.ensures.rises };
+    }

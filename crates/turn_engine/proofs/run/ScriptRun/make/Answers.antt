@@ -12,6 +12,7 @@ use Rattle.turn_engine.specs.Making.{is_told, lacking_after}
 use Rattle.turn_engine.specs.Names.{with_name}
 use Rattle.turn_engine.specs.Run.{Ran, SitsAt, IsCarriedOut}
 use Rattle.turn_engine.proofs.Called.{CanTurn, can_turn, is_steady, has_gone, same_made, may_pass, is_made, makes_turn, is_silent, leaves_out}
+use Rattle.turn_engine.proofs.Stopping.{stood}
 use Rattle.turn_engine.proofs.TurnMade.{IsMade}
 use Rattle.turn_engine.proofs.run.ScriptRun.make.Goals as goal
 
@@ -33,6 +34,23 @@ stands s self t e holds same can = record {
   kept = record { stands = holds.0; sits = holds.1; out = holds.2 };
   can = can_turn (ran s) self t e same can;
 }
+
+pub invariant_of-self : goal.invariant_of-self
+invariant_of-self c =
+    let s = c.self.inside in
+    let h = stands s c.args.self.now c.args.turn c.args.event.now c.self.invariant c.self.view_is (record { event = c.requires.event; free = c.requires.free; in_place = c.requires.in_place }) in
+    let kept = same_made (data_of s.script) s.turns.items c.make_room.new.turns.items s.planned.cluster s.planned.clock (ahead-value.it s.planned.weather) s.names.names c.make_room.new.names.names s.held.items s.held.items s.seated.items s.seated.items s.lacking.items c.make_room.new.lacking.items h.kept c.make_room.ensures.turns c.make_room.ensures.names refl refl c.make_room.ensures.lacking in
+    (kept.stands, kept.sits, kept.out)
+
+-- memory was refused
+pub invariant_of-self-in_default-halted : goal.invariant_of-self-in_default-halted
+invariant_of-self-in_default-halted c =
+    let s = c.self.inside in
+    let h = stands s c.args.self.now c.args.turn c.args.event.now c.self.invariant c.self.view_is (record { event = c.requires.event; free = c.requires.free; in_place = c.requires.in_place }) in
+    let same = stood _ c.make-answer.result _ _ (c.make-answer.ensures.played (data_of s.script) (carried (data_of s.script) s.turns.items).played h.kept.stands) (sym c.halted.ensures ∙ c.in_default-halted.is) in
+    let whole : IsMade (data_of s.script) s.turns.items c.make-answer.new.self.cluster c.make-answer.new.self.clock (ahead-value.it c.make-answer.new.self.weather) s.names.names s.held.items s.seated.items s.lacking.items = record { stands = same; sits = h.kept.sits; out = h.kept.out } in
+    let kept = same_made (data_of s.script) s.turns.items c.make_room.new.turns.items c.make-answer.new.self.cluster c.make-answer.new.self.clock (ahead-value.it c.make-answer.new.self.weather) s.names.names c.make_room.new.names.names s.held.items s.held.items s.seated.items s.seated.items s.lacking.items c.make_room.new.lacking.items whole c.make_room.ensures.turns c.make_room.ensures.names refl refl c.make_room.ensures.lacking in
+    (kept.stands, kept.sits, kept.out)
 
 pub make-answer-requires : goal.make-answer-requires
 make-answer-requires c =

@@ -7,9 +7,14 @@ use Rattle.turn_rules.specs.declared.turn.Turn.TheVariants as turn
 use Rattle.turn_rules.specs.Lawful.{IsTold}
 use Rattle.session_script.specs.Script.{data_of}
 use Rattle.turn_engine.specs.Run.{Ran, reached_by}
-use Rattle.turn_engine.proofs.Since.{items_of}
+use Rattle.turn_engine.proofs.Since.{items_of, grown_least}
 use Rattle.turn_engine.proofs.Telling.{own_made}
 use Rattle.turn_engine.proofs.run.ScriptRun.make_own.Goals as goal
+
+pub asked_since-requires : goal.asked_since-requires
+asked_since-requires c =
+    let before = ap (λ (items : List Item). length items) (c.history-before.ensures.value ∙ c.self.invariant.0.history ∙ ap items_of c.self.view_is) in
+    grown_least c.args.self.now c.make.new.self (turn.Own c.args.actor.now) c.args.event.now c.make.result (length c.history-before.result.now) (ap made_by c.requires) before c.make.ensures
 
 pub returns-in-Ok : goal.returns-in-Ok
 returns-in-Ok c =

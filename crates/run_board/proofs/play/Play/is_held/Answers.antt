@@ -1,0 +1,7 @@
+use Rattle.std.proofs.Common.{◌∙◌, ap}
+use Rattle.turn_engine.specs.Steps.{IsStageHeld}
+use Rattle.run_board.specs.Playing.{Played}
+use Rattle.run_board.proofs.play.Play.is_held.Goals as goal
+
+pub returns : goal.returns
+returns g c = c.is_held.ensures ∙ ap (λ (p : Played). IsStageHeld p.ran c.args.node c.args.stage) c.self.view_is
