@@ -6,7 +6,7 @@ use Rattle.stamp_base.specs.declared.limits.TheConstants.{KEY_LIMIT}
 use Rattle.history_book.specs.declared.cause.Cause.{Cause}
 use Rattle.history_book.specs.declared.cause.Cause.TheVariants.{Gone as CauseGone, NoTransaction, Busy, TooManyKeys, Idle}
 use Rattle.client_parts.specs.declared.session.State.{State}
-use Rattle.client_parts.specs.declared.session.State.TheVariants.{Free, Asking, Open, Committing, OpenOutcome, Completing, Gone}
+use Rattle.client_parts.specs.declared.session.State.TheVariants.{Free, Asking, Open, Committing, Placing, OpenOutcome, Completing, Gone}
 
 -- a session: the start, the keys written and the commit are those of its transaction, the epoch that of the last begin
 pub record SessionEntry : Type 0 where
@@ -40,6 +40,7 @@ work_refusal _ reading = Some Busy
 -- why there is no step to make
 abbrev pub step_refusal : State → Bool → Option Cause
 step_refusal Gone reading = Some CauseGone
+step_refusal Placing reading = None
 step_refusal OpenOutcome reading = None
 step_refusal (Completing undo) reading = None
 step_refusal _ reading = if reading then None else Some Idle
@@ -100,7 +101,7 @@ CanFree e = EndsFrom e.state e.keys
 
 -- the transaction ends without a commit, wherever it stands
 abbrev pub CanAbort : SessionEntry → Type 0
-CanAbort e = (e.state ≡ Open) ⊎ (e.state ≡ Committing) ⊎ (e.state ≡ OpenOutcome)
+CanAbort e = (e.state ≡ Open) ⊎ (e.state ≡ Committing) ⊎ (e.state ≡ Placing) ⊎ (e.state ≡ OpenOutcome)
 
 -- what was written is undone; where nothing was, the session is free
 abbrev pub aborted_by : SessionEntry → List ℕ → SessionEntry
@@ -110,16 +111,31 @@ aborted_by e (key ∷ keys) = record e { state = Completing true }
 abbrev pub session_aborted : SessionEntry → SessionEntry
 session_aborted e = aborted_by e e.keys
 
--- the commit was answered, or found out where its outcome was open
+-- the commit was drawn, and the session is to place it
+abbrev pub CanHand : SessionEntry → Type 0
+CanHand e = e.state ≡ Committing
+
+abbrev pub session_handed : SessionEntry → ℕ → SessionEntry
+session_handed e commit = record e { state = Placing; commit = Some commit }
+
+-- the start and the commit of the record that the session is to place
+abbrev pub handed_by : State → Option ℕ → Option ℕ → Option (ℕ × ℕ)
+handed_by Placing (Some start) (Some commit) = Some (start, commit)
+handed_by _ start commit = None
+
+abbrev pub handed_commit : SessionEntry → Option (ℕ × ℕ)
+handed_commit e = handed_by e.state e.start e.commit
+
+-- the commit was answered or placed, or found out where its outcome was open
 abbrev pub CanCommit : SessionEntry → Type 0
-CanCommit e = (e.state ≡ Committing) ⊎ (e.state ≡ OpenOutcome)
+CanCommit e = (e.state ≡ Committing) ⊎ (e.state ≡ Placing) ⊎ (e.state ≡ OpenOutcome)
 
 abbrev pub session_committed : SessionEntry → ℕ → SessionEntry
 session_committed e commit = record e { state = Completing false; commit = Some commit }
 
--- a commit was asked, and its outcome is not known
+-- a commit was asked or was to be placed, and its outcome is not known
 abbrev pub CanOpen : SessionEntry → Type 0
-CanOpen e = e.state ≡ Committing
+CanOpen e = (e.state ≡ Committing) ⊎ (e.state ≡ Placing)
 
 abbrev pub session_opened : SessionEntry → SessionEntry
 session_opened e = record e { state = OpenOutcome }
@@ -133,12 +149,14 @@ session_vanished e = record e { state = Gone }
 abbrev pub has_transaction : State → Bool
 has_transaction Open = true
 has_transaction Committing = true
+has_transaction Placing = true
 has_transaction OpenOutcome = true
 has_transaction (Completing undo) = true
 has_transaction _ = false
 
 abbrev pub has_written : State → Bool
 has_written Committing = true
+has_written Placing = true
 has_written OpenOutcome = true
 has_written (Completing undo) = true
 has_written _ = false
@@ -148,6 +166,7 @@ pub record MakesSense (e : SessionEntry) : Type 0 where
   pub started : IsTrue (has_transaction e.state) → IsSome e.start × IsSome e.epoch
   pub written : IsTrue (has_written e.state) → e.keys ≢ []
   pub committed : e.state ≡ Completing false → IsSome e.commit
+  pub handed : e.state ≡ Placing → IsSome e.commit
 
 -- each call keeps it
 pub record KeepsSense (e : SessionEntry) : Type 0 where
@@ -156,6 +175,7 @@ pub record KeepsSense (e : SessionEntry) : Type 0 where
   pub asked : CanAsk e → MakesSense (session_asked e)
   pub aborted : CanAbort e → MakesSense (session_aborted e)
   pub committed : (commit : ℕ) → CanCommit e → MakesSense (session_committed e commit)
+  pub handed : (commit : ℕ) → CanHand e → MakesSense (session_handed e commit)
   pub opened : CanOpen e → MakesSense (session_opened e)
   pub freed : MakesSense (session_freed e)
   pub vanished : MakesSense (session_vanished e)

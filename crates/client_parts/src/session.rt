@@ -12,6 +12,8 @@ pub enum State {
     Open,
     /// A commit was asked.
     Committing,
+    /// The oracle has drawn the commit, and the session is to place its record.
+    Placing,
     /// It is not known whether the commit was placed.
     OpenOutcome,
     /// The cells of a transaction that has ended are erased, or those of a committed one get their shadows.

@@ -1,7 +1,7 @@
 -- What becomes of a client when its transaction or its request ends, or goes on.
 use Rattle.std.specs.Prelude.{ℕ, Bool, true, false, List, [], ◌∷◌, Option, None, Some}
 use Rattle.client_parts.specs.declared.session.State as state
-use Rattle.client_parts.specs.SessionSteps.{session_begun, session_asked, session_freed, session_aborted, session_committed, session_opened, session_vanished}
+use Rattle.client_parts.specs.SessionSteps.{session_begun, session_asked, session_freed, session_aborted, session_handed, session_committed, session_opened, session_vanished}
 use Rattle.client_parts.specs.Cache.{cache_new}
 use Rattle.client_parts.specs.Completion.{finish_asks, undo_asks}
 use Rattle.oracle_parts.specs.declared.instance.Request.{Request}
@@ -43,6 +43,10 @@ client_freed c = record (emptied c) { entry = session_freed c.entry }
 -- the transaction ends without a commit
 abbrev pub client_aborted : Client → Client
 client_aborted c = record (emptied c) { entry = session_aborted c.entry; under_way = undo_of c.entry.start c.entry.keys }
+
+-- it is to place its commit
+abbrev pub client_handed : Client → ℕ → Client
+client_handed c commit = record (emptied c) { entry = session_handed c.entry commit }
 
 -- the transaction has its commit
 abbrev pub client_committed : Client → ℕ → Client

@@ -12,6 +12,7 @@ pub mod Put
 pub mod Answer
 pub mod Write
 pub mod Fetch
+pub mod Place
 pub mod Step
 pub mod Heal
 pub mod Abort

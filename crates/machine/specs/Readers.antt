@@ -21,6 +21,7 @@ doing_by state.TheVariants.Free reading = doing.Free
 doing_by state.TheVariants.Asking reading = doing.Waiting
 doing_by state.TheVariants.Open reading = open_doing reading
 doing_by state.TheVariants.Committing reading = doing.Waiting
+doing_by state.TheVariants.Placing reading = doing.Placing
 doing_by state.TheVariants.OpenOutcome reading = doing.OpenOutcome
 doing_by (state.TheVariants.Completing undo) reading = doing.Completing
 doing_by state.TheVariants.Gone reading = doing.Gone

@@ -109,6 +109,8 @@ pub enum Doing {
     Open,
     /// Its transaction is open, and a read is under way.
     Reading,
+    /// Its commit is drawn, and it is to place the record.
+    Placing,
     /// It is not known whether its commit was placed.
     OpenOutcome,
     /// Its cells get their shadows, or are erased.

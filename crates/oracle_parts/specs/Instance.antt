@@ -7,12 +7,12 @@ use Rattle.oracle_parts.specs.declared.instance.Request.TheVariants.{Begin, Comm
 use Rattle.oracle_parts.specs.declared.instance.Place.{Place}
 use Rattle.oracle_parts.specs.declared.instance.Place.TheVariants as place
 use Rattle.oracle_parts.specs.declared.instance.Progress.{Progress}
-use Rattle.oracle_parts.specs.declared.instance.Progress.TheVariants.{Asked, Accepted, Drawn, Settled}
+use Rattle.oracle_parts.specs.declared.instance.Progress.TheVariants.{Asked, Accepted, Drawn, Settled, Handed}
 use Rattle.oracle_parts.specs.declared.instance.Held.{Held}
 use Rattle.oracle_parts.specs.Buckets.{Bucket, contents}
 
--- an instance: what its grant gave it, the last stamp that it drew, the first refusal of the master record that it
--- keeps, and for each of the 16 sessions the request that it holds
+-- an instance: what its grant gave it, the last stamp that it drew, the first refusal of the master record that it keeps,
+-- whether commits are handed to their sessions to be placed, and for each of the 16 sessions the request that it holds
 pub record InstanceEntry : Type 0 where
   pub node : ℕ
   pub term : ℕ
@@ -23,11 +23,12 @@ pub record InstanceEntry : Type 0 where
   pub buckets : List Bucket
   pub stop : Option Cause
   pub slots : ℕ
+  pub direct : Bool
   pub requests : List (Option Held)
 
 -- an instance as it is granted, with so many buckets of a width
-abbrev pub instance_new : Grant → ℕ → ℕ → ℕ → ℕ → InstanceEntry
-instance_new grant node count width slots = record {
+abbrev pub instance_new : Grant → ℕ → ℕ → ℕ → ℕ → Bool → InstanceEntry
+instance_new grant node count width slots direct = record {
   node = node;
   term = grant.term;
   epoch = grant.epoch;
@@ -37,6 +38,7 @@ instance_new grant node count width slots = record {
   buckets = contents count width [];
   stop = None;
   slots = slots;
+  direct = direct;
   requests = replicate 16 None;
 }
 
@@ -61,6 +63,7 @@ place_of_progress Asked = place.Asked
 place_of_progress Accepted = place.Accepted
 place_of_progress (Drawn stamp) = place.Drawn
 place_of_progress (Settled commit how) = place.Settled
+place_of_progress (Handed commit) = place.Settled
 
 abbrev pub place_of_held : Option Held → Option Place
 place_of_held None = None
@@ -99,6 +102,7 @@ abbrev pub stamps_by : Request → Progress → Option (ℕ × Option ℕ)
 stamps_by (Begin session) (Drawn stamp) = Some (stamp, None)
 stamps_by (Commit session start keys) (Drawn stamp) = Some (start, Some stamp)
 stamps_by (Commit session start keys) (Settled commit how) = Some (start, Some commit)
+stamps_by (Commit session start keys) (Handed commit) = Some (start, Some commit)
 stamps_by request progress = None
 
 abbrev pub stamps_of_held : Option Held → Option (ℕ × Option ℕ)
@@ -108,7 +112,7 @@ stamps_of_held (Some held) = stamps_by held.request held.progress
 abbrev pub stamps_at : InstanceEntry → ℕ → Option (ℕ × Option ℕ)
 stamps_at i session = stamps_of_held (held_of i session)
 
--- a commit that was drawn and is not settled
+-- a commit that was drawn and that the oracle is to place
 abbrev pub unsettled_by : Request → Progress → Option ℕ
 unsettled_by (Commit session start keys) (Drawn stamp) = Some stamp
 unsettled_by request progress = None
@@ -126,7 +130,7 @@ lesser None other = other
 lesser (Some a) None = Some a
 lesser (Some a) (Some b) = Some (min a b)
 
--- the least commit below a start that was drawn and is not settled
+-- the least commit below a start that was drawn and that the oracle is to place
 unfoldable pub least_unsettled : List (Option Held) → ℕ → Option ℕ
 least_unsettled [] start = None
 least_unsettled (held ∷ others) start = lesser (only_below start (unsettled_commit held)) (least_unsettled others start)

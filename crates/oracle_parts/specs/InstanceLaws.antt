@@ -5,7 +5,7 @@ use Rattle.oracle_parts.specs.declared.buckets.Recorded.{Recorded}
 use Rattle.oracle_parts.specs.declared.instance.Request.{Request}
 use Rattle.oracle_parts.specs.declared.instance.Request.TheVariants.{Begin, Commit}
 use Rattle.oracle_parts.specs.declared.instance.Progress.{Progress}
-use Rattle.oracle_parts.specs.declared.instance.Progress.TheVariants.{Drawn, Settled}
+use Rattle.oracle_parts.specs.declared.instance.Progress.TheVariants.{Drawn, Settled, Handed}
 use Rattle.oracle_parts.specs.declared.instance.Held.{Held}
 use Rattle.oracle_parts.specs.declared.instance.Settled.{Settled as How}
 use Rattle.oracle_parts.specs.declared.instance.Decided.{Decided}
@@ -112,6 +112,7 @@ pub record IsLeastUnsettled (start commit : ℕ) (requests : List (Option Held))
 abbrev pub progress_stamp : Progress → Option ℕ
 progress_stamp (Drawn stamp) = Some stamp
 progress_stamp (Settled commit how) = Some commit
+progress_stamp (Handed commit) = Some commit
 progress_stamp _ = None
 
 -- what was drawn for a request lies above the epoch, and is at most the last stamp

@@ -1,5 +1,5 @@
 -- What each call of an oracle's instance answers and leaves, in the order of its checks.
-use Rattle.std.specs.Prelude.{◌≡◌, ℕ, ◌+◌, ◌==◌, nat_lt, nat_le, max, true, false, List, [], Option, None, Some, Result, Ok, Err, if◌then◌else◌}
+use Rattle.std.specs.Prelude.{◌≡◌, ℕ, ◌+◌, ◌==◌, nat_lt, nat_le, max, Bool, true, false, List, [], Option, None, Some, Result, Ok, Err, if◌then◌else◌}
 use Rattle.std.specs.Option.{option_or}
 use Rattle.history_book.specs.declared.cause.Cause.{Cause}
 use Rattle.history_book.specs.declared.cause.Cause.TheVariants as cause
@@ -9,7 +9,7 @@ use Rattle.oracle_parts.specs.declared.buckets.Verdict.TheVariants.{Free, Confli
 use Rattle.oracle_parts.specs.declared.instance.Request.{Request}
 use Rattle.oracle_parts.specs.declared.instance.Request.TheVariants.{Begin, Commit}
 use Rattle.oracle_parts.specs.declared.instance.Progress.{Progress}
-use Rattle.oracle_parts.specs.declared.instance.Progress.TheVariants.{Asked, Accepted, Drawn, Settled}
+use Rattle.oracle_parts.specs.declared.instance.Progress.TheVariants.{Asked, Accepted, Drawn, Settled, Handed}
 use Rattle.oracle_parts.specs.declared.instance.Held.{Held}
 use Rattle.oracle_parts.specs.declared.instance.Settled.{Settled as How}
 use Rattle.oracle_parts.specs.declared.instance.Settled.TheVariants as how
@@ -104,9 +104,14 @@ abbrev pub pairs_by : Request → ℕ → List Recorded
 pairs_by (Begin session) stamp = []
 pairs_by (Commit session start keys) stamp = pairs_of keys stamp
 
+-- a commit that its session is to place is to be handed over
+abbrev pub drawn_as : Bool → Request → ℕ → Progress
+drawn_as true (Commit session start keys) stamp = Handed stamp
+drawn_as direct request stamp = Drawn stamp
+
 abbrev pub decide_drawn : InstanceEntry → ℕ → Held → ℕ → InstanceStep Decided
 decide_drawn i session held stamp = record {
-  left = record (moved i session held (Drawn stamp)) { last = stamp; buckets = record_pairs i.buckets (pairs_by held.request stamp) };
+  left = record (moved i session held (drawn_as i.direct held.request stamp)) { last = stamp; buckets = record_pairs i.buckets (pairs_by held.request stamp) };
   answer = Ok (decided_by held.request stamp);
 }
 
@@ -158,7 +163,7 @@ settle_held i session how (Some held) = settle_if_drawn i session how held (unse
 abbrev pub instance_settle : InstanceEntry → ℕ → How → InstanceStep (Unit {0})
 instance_settle i session how = settle_held i session how (held_of i session)
 
--- ---- answer: a begin waits for the commits drawn below it
+-- ---- answer: a begin waits for the commits drawn below it that the oracle is to place
 abbrev pub reply_of : ℕ → How → Reply
 reply_of commit how.Placed = reply.Committed commit
 reply_of commit how.Invalid = reply.Invalid
@@ -171,6 +176,7 @@ answer_begin i session held start (Some commit) = record { left = not_yet_told i
 abbrev pub answer_if_ready : InstanceEntry → ℕ → Held → Request → Progress → InstanceStep Reply
 answer_if_ready i session held (Begin s) (Drawn start) = answer_begin i session held start (least_unsettled i.requests start)
 answer_if_ready i session held (Commit s start keys) (Settled commit how) = record { left = without_request i session; answer = Ok (reply_of commit how) }
+answer_if_ready i session held (Commit s start keys) (Handed commit) = record { left = without_request i session; answer = Ok (reply.Handed commit) }
 answer_if_ready i session held request progress = no_request i session
 
 abbrev pub answer_held : InstanceEntry → ℕ → Option Held → InstanceStep Reply

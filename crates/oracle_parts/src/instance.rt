@@ -22,7 +22,7 @@ pub enum Place {
     Asked,
     /// It waits for its stamp.
     Accepted,
-    /// It has its stamp. A commit waits for its record.
+    /// It has its stamp. A commit waits for its record, which the oracle places.
     Drawn,
     /// A commit waits for its answer.
     Settled,
@@ -47,6 +47,8 @@ pub enum Progress {
     /// The stamp is the start of a begin, or the commit.
     Drawn { stamp: Stamp },
     Settled { commit: Stamp, how: Settled },
+    /// The commit is drawn, and its session places it once it is answered.
+    Handed { commit: Stamp },
 }
 
 /// A request that an instance holds.
@@ -80,4 +82,6 @@ pub enum Reply {
     Invalid,
     /// It is not known whether the commit was placed.
     Open,
+    /// The commit is drawn, and the session is to place its record itself.
+    Handed { commit: Stamp },
 }

@@ -46,9 +46,10 @@ abbrev pub read_items : ℕ → ℕ → ℕ → ReadTurn → List Item
 read_items session start key (Asks r) = []
 read_items session start key (Answers a) = item.Read session start key (found_of a.found) ∷ []
 
--- whether a read may mark every version that it resolves: it marks those alone that are at most the epoch
+-- whether a read may mark every version that it resolves, and not those alone that are at most the epoch: where sessions place
+-- their commits, no epoch tells which of them may still come
 abbrev pub marks_every : SetupNumbers → Bool
-marks_every setup = false
+marks_every setup = setup.direct
 
 -- ---- what the transaction has read: kept in the strict form alone, and of keys alone that it has not written itself
 abbrev pub keeps_read : SetupNumbers → Client → ℕ → Bool

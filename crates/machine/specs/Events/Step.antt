@@ -1,7 +1,8 @@
 -- A session makes the next step of what it has under way, which is one call on a store: a step of a read, of the resolve
--- of its own commit, or of a completion.
+-- of its own commit, or of a completion, or the placing of a commit that was handed to it.
 use Rattle.std.specs.Prelude.{ℕ, List, [], ◌∷◌, ◌++◌, Option, None, Some}
 use Rattle.stamp_base.specs.declared.stores.Store.{Store}
+use Rattle.stamp_base.specs.declared.stores.Store.TheVariants.{Table}
 use Rattle.port_io.specs.declared.weather.Fate.{Fate}
 use Rattle.history_book.specs.declared.cause.Cause.{Cause}
 use Rattle.history_book.specs.declared.item.Actor.TheVariants.{Session}
@@ -14,7 +15,7 @@ use Rattle.client_parts.specs.declared.asks.Ask.{Ask}
 use Rattle.client_parts.specs.declared.asks.Told.{Told}
 use Rattle.client_parts.specs.declared.resolve.Outcome.TheVariants as outcome
 use Rattle.client_parts.specs.declared.session.State as state
-use Rattle.client_parts.specs.SessionSteps.{SessionEntry, step_refusal}
+use Rattle.client_parts.specs.SessionSteps.{SessionEntry, step_refusal, handed_commit}
 use Rattle.client_parts.specs.Resolve.{Settling, own_settling, settle_ask, SettleTurn, Goes, Decides, settle_turn}
 use Rattle.client_parts.specs.KeyRead.{Reading, read_ask}
 use Rattle.client_parts.specs.Cache.{cache_learnt, learnt_by}
@@ -25,6 +26,7 @@ use Rattle.machine.specs.Effect.{Effect, Faults, done, refused}
 use Rattle.machine.specs.StoreSteps.{Met, met, store_of}
 use Rattle.machine.specs.Clients.{is_reading, client_freed, client_aborted, client_committed}
 use Rattle.machine.specs.Events.Fetch.{client_recalled, client_put_fresh, read_items}
+use Rattle.machine.specs.Events.Place.{place_on}
 
 abbrev pub StepParts : Type 0
 StepParts = Client × List Row × Pairs
@@ -108,9 +110,18 @@ step_at session fate c rows pairs (Settles x) = settle_step session c x (met (Se
 step_at session fate c rows pairs (Completes []) = done (c, rows, pairs) []
 step_at session fate c rows pairs (Completes (asked ∷ asks)) = complete_step c asked asks (met (Session session) asked fate rows pairs)
 
+-- a placing changes no cell
+abbrev pub placed_among : List Row → Effect (Client × Pairs) → Effect StepParts
+placed_among rows placed = record { parts = (placed.parts.0, rows, placed.parts.1); items = placed.items; stop = placed.stop }
+
+-- a commit to place comes before all else
+abbrev pub step_due : ℕ → Fate → Client → List Row → Pairs → Option (ℕ × ℕ) → Effect StepParts
+step_due session fate c rows pairs None = step_at session fate c rows pairs (work_of c)
+step_due session fate c rows pairs (Some stamps) = placed_among rows (place_on session stamps.0 stamps.1 fate c pairs)
+
 abbrev pub step_by : ℕ → Fate → Client → List Row → Pairs → Option Cause → Effect StepParts
 step_by session fate c rows pairs (Some why) = refused (c, rows, pairs) (Session session) why
-step_by session fate c rows pairs None = step_at session fate c rows pairs (work_of c)
+step_by session fate c rows pairs None = step_due session fate c rows pairs (handed_commit c.entry)
 
 abbrev pub step_on : ℕ → Fate → Client → List Row → Pairs → Effect StepParts
 step_on session fate c rows pairs = step_by session fate c rows pairs (step_refusal c.entry.state (is_reading c))
@@ -119,9 +130,13 @@ abbrev pub store_asked : Option Ask → Option Store
 store_asked None = None
 store_asked (Some asked) = Some (store_of asked)
 
+abbrev pub asked_next : Client → Option (ℕ × ℕ) → Option Store
+asked_next c None = store_asked (next_of (work_of c))
+asked_next c (Some stamps) = Some Table
+
 abbrev pub step_asks_by : Client → Option Cause → Option Store
 step_asks_by c (Some why) = None
-step_asks_by c None = store_asked (next_of (work_of c))
+step_asks_by c None = asked_next c (handed_commit c.entry)
 
 abbrev pub step_asks : Client → Option Store
 step_asks c = step_asks_by c (step_refusal c.entry.state (is_reading c))

@@ -23,7 +23,7 @@ rules_of setup = record { lease = setup.lease; skew = setup.skew; range = setup.
 
 -- the instance that a grant makes
 abbrev pub instance_of : SetupNumbers → ℕ → Grant → InstanceEntry
-instance_of setup node grant = instance_new grant node setup.buckets setup.width setup.slots
+instance_of setup node grant = instance_new grant node setup.buckets setup.width setup.slots setup.direct
 
 abbrev pub take_item : ℕ → ℕ → Grant → Item
 take_item node reading grant = Take node reading grant.term grant.epoch grant.until grant.ceiling
