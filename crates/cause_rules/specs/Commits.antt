@@ -1,12 +1,12 @@
 -- What shows the refusals of a request: by its ask, its node, its term and its start. Where the session asked of no node, none
 -- of them is shown.
-use Rattle.std.specs.Prelude.{◌≡◌, ℕ, ◌<◌, ◌≤◌, false, List, ◌⊎◌, None, Some, Contains}
+use Rattle.std.specs.Prelude.{◌≡◌, ℕ, ◌<◌, ◌≤◌, Bool, true, false, List, ◌⊎◌, None, Some, Contains}
 use Rattle.stamp_base.specs.SetupNumbers.{SetupNumbers}
 use Rattle.stamp_base.specs.declared.stores.Store.TheVariants.{Table}
 use Rattle.history_book.specs.Members.{◌∈◌}
 use Rattle.history_book.specs.Isolation.{Committed}
 use Rattle.history_book.specs.declared.item.Actor.{Actor}
-use Rattle.history_book.specs.declared.item.Actor.TheVariants.{Node}
+use Rattle.history_book.specs.declared.item.Actor.TheVariants.{Node, Session}
 use Rattle.history_book.specs.declared.item.Item.{Item}
 use Rattle.history_book.specs.declared.item.Item.TheVariants.{Draw, Mark, Fault, Crash}
 use Rattle.oracle_parts.specs.Buckets.{place_of, bucket_of, contents, kept_commit}
@@ -97,20 +97,26 @@ pub record ShownInvalid (h : List Item) (s start : ℕ) : Type 0 where
   pub actor : Actor
   pub marked : Mark actor start ∈ h
 
--- its node's call on the commit table failed after the draw, or its node crashed after the ask
-pub record ShownOpen (h : List Item) (s start : ℕ) : Type 0 where
+-- who places a commit: its session, where commits are direct, and otherwise its node
+abbrev pub placer : Bool → ℕ → ℕ → Actor
+placer true node s = Session s
+placer false node s = Node node
+
+-- the call on the commit table failed after the draw, or its node crashed after the ask
+pub record ShownOpen (setup : SetupNumbers) (h : List Item) (s start : ℕ) : Type 0 where
   pub start_is : its_start h s ≡ Some start
   pub node : ℕ
   pub node_is : its_node h s ≡ Some node
-  pub lost : ((commit : ℕ) × (its_draw h s ≡ Some (start, Some commit)) × (Fault (Node node) Table ∈ since_draw h s)) ⊎ ((term : ℕ) × (Crash node term ∈ since_ask h s))
+  pub lost : ((commit : ℕ) × (its_draw h s ≡ Some (start, Some commit)) × (Fault (placer setup.direct node s) Table ∈ since_draw h s)) ⊎ ((term : ℕ) × (Crash node term ∈ since_ask h s))
 
 -- its node crashed after the ask
 pub record ShownCrashed (h : List Item) (s node term : ℕ) : Type 0 where
   pub node_is : its_node h s ≡ Some node
   pub crashed : Crash node term ∈ since_ask h s
 
--- a commit was drawn below its start in its term, and is not placed
-pub record ShownNotYet (h : List Item) (s commit : ℕ) : Type 0 where
+-- a commit was drawn below its start in its term, and is not placed; where sessions place their commits, none is waited for
+pub record ShownNotYet (setup : SetupNumbers) (h : List Item) (s commit : ℕ) : Type 0 where
+  pub waits : setup.direct ≡ false
   pub node : ℕ
   pub node_is : its_node h s ≡ Some node
   pub start : ℕ

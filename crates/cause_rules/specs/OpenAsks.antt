@@ -1,10 +1,11 @@
--- How many asks at a node are open: asked, and neither answered, refused for good, nor lost by a crash.
+-- How many asks at a node are open: asked, and neither answered, handed over, refused for good, nor lost by a crash.
 use Rattle.std.specs.Prelude.{ℕ, zero, suc, ◌+◌, ◌==◌, Bool, true, false, ◌&&◌, if◌then◌else◌, List}
 use Rattle.std.specs.List.{fold}
 use Rattle.history_book.specs.declared.cause.Cause.{Cause}
 use Rattle.history_book.specs.declared.cause.Cause.TheVariants as cause
 use Rattle.history_book.specs.declared.item.Actor.{Actor}
 use Rattle.history_book.specs.declared.item.Actor.TheVariants.{Session}
+use Rattle.history_book.specs.declared.item.StoreStep.TheVariants.{Handed}
 use Rattle.history_book.specs.declared.item.Item.{Item}
 use Rattle.history_book.specs.declared.item.Item.TheVariants as item
 
@@ -29,6 +30,7 @@ is_session s _ = false
 abbrev pub closes : ℕ → ℕ → Item → Bool
 closes n s (item.Begin session start) = session == s
 closes n s (item.Committed session start commit) = session == s
+closes n s (item.Step actor (Handed start commit)) = is_session s actor
 closes n s (item.Refused actor why) = is_session s actor && ends_request why
 closes n s (item.Crash node term) = node == n
 closes n s _ = false

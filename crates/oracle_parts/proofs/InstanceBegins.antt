@@ -10,12 +10,12 @@ use Rattle.history_book.specs.declared.cause.Cause.TheVariants as cause
 use Rattle.oracle_parts.specs.declared.instance.Request.{Request}
 use Rattle.oracle_parts.specs.declared.instance.Request.TheVariants.{Begin, Commit}
 use Rattle.oracle_parts.specs.declared.instance.Progress.{Progress}
-use Rattle.oracle_parts.specs.declared.instance.Progress.TheVariants.{Drawn, Settled}
+use Rattle.oracle_parts.specs.declared.instance.Progress.TheVariants.{Drawn, Settled, Handed}
 use Rattle.oracle_parts.specs.declared.instance.Held.{Held}
 use Rattle.oracle_parts.specs.declared.instance.Settled.{Settled as How}
 use Rattle.oracle_parts.specs.declared.instance.Settled.TheVariants as how
 use Rattle.oracle_parts.specs.declared.instance.Reply.{Reply}
-use Rattle.oracle_parts.specs.declared.instance.Reply.TheVariants.{Begun, Committed, Invalid, Open}
+use Rattle.oracle_parts.specs.declared.instance.Reply.TheVariants.{Begun, Committed, Invalid, Open, Handed as HandedOver}
 use Rattle.oracle_parts.specs.Instance.{InstanceEntry, held_of, unsettled_commit, only_below, lesser, least_unsettled}
 use Rattle.oracle_parts.specs.InstanceSteps.{reply_of, answer_begin, answer_if_ready, answer_held, instance_answer}
 use Rattle.oracle_parts.specs.InstanceLaws.{IsNotBelow, IsLeastUnsettled}
@@ -74,6 +74,7 @@ no_begun commit start epoch how.Faulted e = let same = ok_same Open (Begun start
 ready_rests : (i : InstanceEntry) (session start epoch : ℕ) (held : Held) (request : Request) (progress : Progress) → (answer_if_ready i session held request progress).answer ≡ Ok (Begun start epoch) → Begins i start epoch
 ready_rests i session start epoch held (Begin s) (Drawn drawn) e = begin_rests i session held drawn start epoch (least_unsettled i.requests drawn) refl e
 ready_rests i session start epoch held (Commit s from keys) (Settled commit how) e = absurd (no_begun commit start epoch how e)
+ready_rests i session start epoch held (Commit s from keys) (Handed commit) e = let same = ok_same (HandedOver commit) (Begun start epoch) e in absurd (cc)
 ready_rests i session start epoch held request progress e = absurd (err_ok (cause.NoRequest session) (Begun start epoch) e)
 
 held_rests : (i : InstanceEntry) (session start epoch : ℕ) (held : Option Held) → (answer_held i session held).answer ≡ Ok (Begun start epoch) → Begins i start epoch

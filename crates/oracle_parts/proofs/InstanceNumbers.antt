@@ -1,5 +1,5 @@
 -- Laws for the crates above: the stamps, the range and the lease of an instance.
-use Rattle.std.proofs.Common.{◌≡◌, ◌≢◌, ℕ, ◌+◌, ◌≤◌, Option, Some, None, Result, Ok, inl, inr, refl, sym, ap, ◌∙◌, arith}
+use Rattle.std.proofs.Common.{◌≡◌, ◌≢◌, ℕ, ◌+◌, ◌≤◌, Bool, Option, Some, None, Result, Ok, inl, inr, refl, sym, ap, ◌∙◌, arith}
 use Rattle.history_book.specs.declared.cause.Cause.{Cause}
 use Rattle.store_parts.specs.declared.record.Grant.{Grant}
 use Rattle.oracle_parts.specs.declared.instance.Request.{Request}
@@ -21,13 +21,14 @@ quiet_goes_up i j q =
       term = ap (λ (e : InstanceEntry). e.term) q;
       epoch = ap (λ (e : InstanceEntry). e.epoch) q;
       slots = ap (λ (e : InstanceEntry). e.slots) q;
+      direct = ap (λ (e : InstanceEntry). e.direct) q;
       last = omega arith;
       ceiling = omega arith;
       until = omega arith;
     }
 
 drawn_goes_up : (i : InstanceEntry) (session : ℕ) (held : Held) → GoesUp i (decide_drawn i session held (i.last + 1)).left
-drawn_goes_up i session held = record { node = refl; term = refl; epoch = refl; slots = refl; last = omega arith; ceiling = omega arith; until = omega arith }
+drawn_goes_up i session held = record { node = refl; term = refl; epoch = refl; slots = refl; direct = refl; last = omega arith; ceiling = omega arith; until = omega arith }
 
 draws_goes_up : (i : InstanceEntry) (session : ℕ) (held : Option Held) (step : InstanceStep Decided) → DrawsFor i session held step → GoesUp i step.left
 draws_goes_up i session None step d = absurd d
@@ -43,9 +44,9 @@ goes_up i (Decides session) can = elim (held_cases i session (held_of i session)
 goes_up i (Refuses session) can = quiet_goes_up i (after_call i (Refuses session)) (quiet_refuse i session)
 goes_up i (Settles session how) can = quiet_goes_up i (after_call i (Settles session how)) (quiet_settle i session how)
 goes_up i (Answers session) can = quiet_goes_up i (after_call i (Answers session)) (quiet_answer i session)
-goes_up i (Widens ceiling) can = record { node = refl; term = refl; epoch = refl; slots = refl; last = omega arith; ceiling = can; until = omega arith }
-goes_up i (Renews until) can = record { node = refl; term = refl; epoch = refl; slots = refl; last = omega arith; ceiling = omega arith; until = omega arith }
-goes_up i (Stops why) can = record { node = refl; term = refl; epoch = refl; slots = refl; last = omega arith; ceiling = omega arith; until = omega arith }
+goes_up i (Widens ceiling) can = record { node = refl; term = refl; epoch = refl; slots = refl; direct = refl; last = omega arith; ceiling = can; until = omega arith }
+goes_up i (Renews until) can = record { node = refl; term = refl; epoch = refl; slots = refl; direct = refl; last = omega arith; ceiling = omega arith; until = omega arith }
+goes_up i (Stops why) can = record { node = refl; term = refl; epoch = refl; slots = refl; direct = refl; last = omega arith; ceiling = omega arith; until = omega arith }
 
 -- ---- the range
 quiet_in_range : (i j : InstanceEntry) → ChangesRequestsAlone i j → IsInRange i → IsInRange j
@@ -104,5 +105,5 @@ stays_in_range i (Widens ceiling) can r = record { above = r.above; within = ome
 stays_in_range i (Renews until) can r = record { above = r.above; within = r.within }
 stays_in_range i (Stops why) can r = record { above = r.above; within = r.within }
 
-pub new_in_range : (grant : Grant) (node count width slots : ℕ) → grant.epoch ≤ grant.ceiling → IsInRange (instance_new grant node count width slots)
-new_in_range grant node count width slots within = record { above = omega arith; within = within }
+pub new_in_range : (grant : Grant) (node count width slots : ℕ) (direct : Bool) → grant.epoch ≤ grant.ceiling → IsInRange (instance_new grant node count width slots direct)
+new_in_range grant node count width slots direct within = record { above = omega arith; within = within }

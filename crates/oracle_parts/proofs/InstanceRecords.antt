@@ -1,5 +1,5 @@
 -- Laws for the crates above: what an instance records rises, and a commit is drawn only where nothing was recorded above its start.
-use Rattle.std.proofs.Common.{◌≡◌, ℕ, ◌+◌, ◌≤◌, List, [], ◌∷◌, ◌++◌, replicate, Option, Some, None, Result, Ok, inl, inr, refl, sym, subst, ap, ◌∙◌, arith, All}
+use Rattle.std.proofs.Common.{◌≡◌, ℕ, ◌+◌, ◌≤◌, Bool, List, [], ◌∷◌, ◌++◌, replicate, Option, Some, None, Result, Ok, inl, inr, refl, sym, subst, ap, ◌∙◌, arith, All}
 use Rattle.std.specs.Prelude.{slice_index_or}
 use Rattle.std.proofs.lemmas.List.{append-nil}
 use Rattle.std.proofs.lemmas.List.Elements.{All-nil, All-head, All-tail, All-append, All-map}
@@ -123,8 +123,8 @@ drawn_free count width pairs i session d c w r e = elim (held_cases i session (h
   | inr drew ↦ draws_free count width pairs i session (held_of i session) (instance_decide i session) c w r drew
 ]
 
-pub new_records : (grant : Grant) (node count width slots : ℕ) → IsRecordedIn count width [] (instance_new grant node count width slots)
-new_records grant node count width slots = record {
+pub new_records : (grant : Grant) (node count width slots : ℕ) (direct : Bool) → IsRecordedIn count width [] (instance_new grant node count width slots direct)
+new_records grant node count width slots direct = record {
   holds = refl;
   rise = λ i j d lt within. absurd (omega arith);
   up_to = All-nil (λ (pair : Recorded). pair.commit ≤ grant.epoch);

@@ -13,11 +13,11 @@ use Rattle.store_parts.specs.declared.record.Grant.{Grant}
 use Rattle.oracle_parts.specs.declared.instance.Request.{Request}
 use Rattle.oracle_parts.specs.declared.instance.Request.TheVariants.{Begin, Commit}
 use Rattle.oracle_parts.specs.declared.instance.Progress.{Progress}
-use Rattle.oracle_parts.specs.declared.instance.Progress.TheVariants.{Asked, Accepted, Drawn, Settled}
+use Rattle.oracle_parts.specs.declared.instance.Progress.TheVariants.{Asked, Accepted, Drawn, Settled, Handed}
 use Rattle.oracle_parts.specs.declared.instance.Held.{Held}
 use Rattle.oracle_parts.specs.declared.instance.Settled.{Settled as How}
 use Rattle.oracle_parts.specs.Instance.{InstanceEntry, instance_new, held_of, in_flight, with_request, session_of, unsettled_by, least_unsettled}
-use Rattle.oracle_parts.specs.InstanceSteps.{stays, just_asked, accept_refusal, accept_unless, accept_if_asked, accept_held, out_of_stamps, decide_drawn, decide_by, request_verdict, decide_if_accepted, decide_held, refuse_if_accepted, refuse_held, settle_if_drawn, settle_held, answer_begin, answer_if_ready, answer_held}
+use Rattle.oracle_parts.specs.InstanceSteps.{stays, just_asked, accept_refusal, accept_unless, accept_if_asked, accept_held, out_of_stamps, drawn_as, decide_drawn, decide_by, request_verdict, decide_if_accepted, decide_held, refuse_if_accepted, refuse_held, settle_if_drawn, settle_held, answer_begin, answer_if_ready, answer_held}
 use Rattle.oracle_parts.specs.InstanceLaws.{InstanceCall, Asks, Accepts, Decides, Refuses, Settles, Answers, Widens, Renews, Stops, after_call, call_session, FitsItsSlots}
 use Rattle.oracle_parts.proofs.InstanceNumbers.{goes_up}
 
@@ -28,10 +28,10 @@ held_of-with_request_same i session now within = get_or-set_same i.requests sess
 pub held_of-with_request_other : (i : InstanceEntry) (session other : ℕ) (now : Option Held) → other ≢ session → held_of (with_request i session now) other ≡ held_of i other
 held_of-with_request_other i session other now ne = get_or-set_other i.requests session other now None ne
 
-pub held_of-instance_new : (grant : Grant) (node count width slots session : ℕ) → held_of (instance_new grant node count width slots) session ≡ None
-held_of-instance_new grant node count width slots session = elim (cases_lt session 16) [
+pub held_of-instance_new : (grant : Grant) (node count width slots session : ℕ) (direct : Bool) → held_of (instance_new grant node count width slots direct) session ≡ None
+held_of-instance_new grant node count width slots session direct = elim (cases_lt session 16) [
   | inl within ↦ get_or-replicate 16 session None None within
-  | inr past ↦ get_or_past (instance_new grant node count width slots).requests session None past
+  | inr past ↦ get_or_past (instance_new grant node count width slots direct).requests session None past
 ]
 
 -- ---- what a call on a session makes of the requests
@@ -63,7 +63,7 @@ out_of_stamps_changes i session held (Some why) there = Ends refl
 
 decide_free_changes : (i : InstanceEntry) (session : ℕ) (held : Held) (out : Bool) → held_of i session ≡ Some held → Changes i session (if out then out_of_stamps i session held i.stop else decide_drawn i session held (i.last + 1)).left
 decide_free_changes i session held true there = out_of_stamps_changes i session held i.stop there
-decide_free_changes i session held false there = Moves held (record held { progress = Drawn (i.last + 1) }) there refl
+decide_free_changes i session held false there = Moves held (record held { progress = drawn_as i.direct held.request (i.last + 1) }) there refl
 
 decide_by_changes : (i : InstanceEntry) (session : ℕ) (held : Held) (v : Verdict) → held_of i session ≡ Some held → Changes i session (decide_by i session held v).left
 decide_by_changes i session held Free there = decide_free_changes i session held (i.last == i.ceiling) there
@@ -101,6 +101,7 @@ answer_begin_changes i session held start (Some commit) there = Moves held (reco
 answer_if_ready_changes : (i : InstanceEntry) (session : ℕ) (held : Held) (request : Request) (progress : Progress) → held_of i session ≡ Some held → Changes i session (answer_if_ready i session held request progress).left
 answer_if_ready_changes i session held (Begin s) (Drawn start) there = answer_begin_changes i session held start (least_unsettled i.requests start) there
 answer_if_ready_changes i session held (Commit s start keys) (Settled commit how) there = Ends refl
+answer_if_ready_changes i session held (Commit s start keys) (Handed commit) there = Ends refl
 answer_if_ready_changes i session held request progress there = Leaves refl
 
 answer_changes : (i : InstanceEntry) (session : ℕ) (held : Option Held) → held_of i session ≡ held → Changes i session (answer_held i session held).left
@@ -200,5 +201,5 @@ slots_stay i (Stops why) = refl
 pub fits-after_call : (i : InstanceEntry) (call : InstanceCall) → FitsItsSlots i → FitsItsSlots (after_call i call)
 fits-after_call i call fits = rw (slots_stay i call) (own_changes_fit i (after_call i call) (call_session call) fits (call_changes i call))
 
-pub fits-instance_new : (grant : Grant) (node count width slots : ℕ) → FitsItsSlots (instance_new grant node count width slots)
-fits-instance_new grant node count width slots = omega arith
+pub fits-instance_new : (grant : Grant) (node count width slots : ℕ) (direct : Bool) → FitsItsSlots (instance_new grant node count width slots direct)
+fits-instance_new grant node count width slots direct = omega arith

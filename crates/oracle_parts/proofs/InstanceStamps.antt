@@ -10,11 +10,11 @@ use Rattle.store_parts.specs.declared.record.Grant.{Grant}
 use Rattle.oracle_parts.specs.declared.instance.Request.{Request}
 use Rattle.oracle_parts.specs.declared.instance.Request.TheVariants.{Begin, Commit}
 use Rattle.oracle_parts.specs.declared.instance.Progress.{Progress}
-use Rattle.oracle_parts.specs.declared.instance.Progress.TheVariants.{Asked, Accepted, Drawn, Settled}
+use Rattle.oracle_parts.specs.declared.instance.Progress.TheVariants.{Asked, Accepted, Drawn, Settled, Handed}
 use Rattle.oracle_parts.specs.declared.instance.Held.{Held}
 use Rattle.oracle_parts.specs.declared.instance.Settled.{Settled as How}
 use Rattle.oracle_parts.specs.Instance.{InstanceEntry, instance_new, held_of, in_flight, with_request, session_of, unsettled_by, least_unsettled}
-use Rattle.oracle_parts.specs.InstanceSteps.{stays, just_asked, accept_refusal, accept_unless, accept_if_asked, accept_held, out_of_stamps, decide_drawn, decide_by, request_verdict, decide_if_accepted, decide_held, refuse_if_accepted, refuse_held, settle_if_drawn, settle_held, answer_begin, answer_if_ready, answer_held}
+use Rattle.oracle_parts.specs.InstanceSteps.{stays, just_asked, accept_refusal, accept_unless, accept_if_asked, accept_held, out_of_stamps, drawn_as, decide_drawn, decide_by, request_verdict, decide_if_accepted, decide_held, refuse_if_accepted, refuse_held, settle_if_drawn, settle_held, answer_begin, answer_if_ready, answer_held}
 use Rattle.oracle_parts.specs.InstanceLaws.{InstanceCall, Asks, Accepts, Decides, Refuses, Settles, Answers, Widens, Renews, Stops, after_call, progress_stamp, IsDrawnWithin, AreDrawnWithin}
 
 abbrev Between : ℕ → ℕ → ℕ → Type 0
@@ -56,9 +56,14 @@ later_within : (epoch last : ℕ) (held : Option Held) → IsDrawnWithin epoch l
 later_within epoch last None h = tt
 later_within epoch last (Some held) h = later_stamp epoch last (progress_stamp held.progress) h
 
+drawn_within : (epoch last : ℕ) (direct : Bool) (request : Request) → epoch ≤ last → IfSome (progress_stamp (drawn_as direct request (last + 1))) (Between epoch (last + 1))
+drawn_within epoch last true (Begin session) above = (omega arith, omega arith)
+drawn_within epoch last true (Commit session start keys) above = (omega arith, omega arith)
+drawn_within epoch last false request above = (omega arith, omega arith)
+
 decide_drawn_within : (i : InstanceEntry) (session : ℕ) (held : Held) → i.epoch ≤ i.last → AreDrawnWithin i → AreDrawnWithin (decide_drawn i session held (i.last + 1)).left
 decide_drawn_within i session held above all =
-    All-set (IsDrawnWithin i.epoch (i.last + 1)) i.requests session (Some (record held { progress = Drawn (i.last + 1) })) (omega arith, omega arith)
+    All-set (IsDrawnWithin i.epoch (i.last + 1)) i.requests session (Some (record held { progress = drawn_as i.direct held.request (i.last + 1) })) (drawn_within i.epoch i.last i.direct held.request above)
     (λ k d within. later_within i.epoch i.last (slice_index_or i.requests k d) (all k d within))
 
 out_of_stamps_within : (i : InstanceEntry) (session : ℕ) (held : Held) (stop : Option Cause) → IsDrawnWithin i.epoch i.last (Some held) → AreDrawnWithin i → AreDrawnWithin (out_of_stamps i session held stop).left
@@ -111,6 +116,7 @@ answer_begin_within i session held start (Some commit) here all = set_within i s
 answer_if_ready_within : (i : InstanceEntry) (session : ℕ) (held : Held) (request : Request) (progress : Progress) → IsDrawnWithin i.epoch i.last (Some held) → AreDrawnWithin i → AreDrawnWithin (answer_if_ready i session held request progress).left
 answer_if_ready_within i session held (Begin s) (Drawn start) here all = answer_begin_within i session held start (least_unsettled i.requests start) here all
 answer_if_ready_within i session held (Commit s start keys) (Settled commit how) here all = set_within i session None tt all
+answer_if_ready_within i session held (Commit s start keys) (Handed commit) here all = set_within i session None tt all
 answer_if_ready_within i session held request progress here all = all
 
 answer_held_within : (i : InstanceEntry) (session : ℕ) (held : Option Held) → IsDrawnWithin i.epoch i.last held → AreDrawnWithin i → AreDrawnWithin (answer_held i session held).left
@@ -129,5 +135,5 @@ call_within i (Widens ceiling) above all = all
 call_within i (Renews until) above all = all
 call_within i (Stops why) above all = all
 
-pub new_within : (grant : Grant) (node count width slots : ℕ) → AreDrawnWithin (instance_new grant node count width slots)
-new_within grant node count width slots = All-replicate (IsDrawnWithin grant.epoch grant.epoch) 16 None tt
+pub new_within : (grant : Grant) (node count width slots : ℕ) (direct : Bool) → AreDrawnWithin (instance_new grant node count width slots direct)
+new_within grant node count width slots direct = All-replicate (IsDrawnWithin grant.epoch grant.epoch) 16 None tt

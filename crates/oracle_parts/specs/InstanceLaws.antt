@@ -82,6 +82,7 @@ pub record GoesUp (old new : InstanceEntry) : Type 0 where
   pub term : new.term ≡ old.term
   pub epoch : new.epoch ≡ old.epoch
   pub slots : new.slots ≡ old.slots
+  pub direct : new.direct ≡ old.direct
   pub last : old.last ≤ new.last
   pub ceiling : old.ceiling ≤ new.ceiling
   pub until : old.until ≤ new.until

@@ -1,5 +1,5 @@
 // The laws of an oracle's instance, over every state and every call.
-ghost use Rattle.std.specs.Prelude.{◌≡◌, ◌≢◌, ◌<◌, ◌≤◌, ◌++◌, ℕ, List, [], length, All, Option, None, Some, Ok, Err};
+ghost use Rattle.std.specs.Prelude.{◌≡◌, ◌≢◌, ◌<◌, ◌≤◌, ◌++◌, ℕ, Bool, List, [], length, All, Option, None, Some, Ok, Err};
 ghost use Rattle.history_book.specs.declared.cause.Cause.{Cause};
 ghost use Rattle.oracle_parts.specs.declared.instance.Held.{Held};
 ghost use Rattle.oracle_parts.specs.declared.buckets.Recorded.{Recorded};
@@ -18,7 +18,7 @@ pub fn requests_stand_apart()
 
 /// A new instance holds no request. Each session keeps its place, and a call on one leaves the requests of the others.
 pub fn calls_leave_other_requests()
-    ensures granted { (grant : Grant) (node count width slots session : ℕ) → held_of (instance_new grant node count width slots) session ≡ None }
+    ensures granted { (grant : Grant) (node count width slots session : ℕ) (direct : Bool) → held_of (instance_new grant node count width slots direct) session ≡ None }
     ensures places { (i : InstanceEntry) (call : law.InstanceCall) → length (law.after_call i call).requests ≡ length i.requests }
     ensures others { (i : InstanceEntry) (call : law.InstanceCall) (other : ℕ) → law.call_session call ≢ Some other → held_of (law.after_call i call) other ≡ held_of i other }
 {}
@@ -31,7 +31,7 @@ pub fn decisions_alone_draw()
 
 /// No more requests are held than there are slots.
 pub fn requests_fit_the_slots()
-    ensures granted { (grant : Grant) (node count width slots : ℕ) → law.FitsItsSlots (instance_new grant node count width slots) }
+    ensures granted { (grant : Grant) (node count width slots : ℕ) (direct : Bool) → law.FitsItsSlots (instance_new grant node count width slots direct) }
     ensures kept { (i : InstanceEntry) (call : law.InstanceCall) → law.FitsItsSlots i → law.FitsItsSlots (law.after_call i call) }
 {}
 
@@ -42,7 +42,7 @@ pub fn instances_go_up()
 
 /// The last stamp is at least the epoch, and at most the end of the range.
 pub fn last_stamps_stay_in_range()
-    ensures granted { (grant : Grant) (node count width slots : ℕ) → grant.epoch ≤ grant.ceiling → law.IsInRange (instance_new grant node count width slots) }
+    ensures granted { (grant : Grant) (node count width slots : ℕ) (direct : Bool) → grant.epoch ≤ grant.ceiling → law.IsInRange (instance_new grant node count width slots direct) }
     ensures kept { (i : InstanceEntry) (call : law.InstanceCall) → law.CanCall i call → law.IsInRange i → law.IsInRange (law.after_call i call) }
 {}
 
@@ -54,7 +54,7 @@ pub fn drawn_stamps_are_next()
 
 /// What was drawn for a request that is held lies above the epoch, and is at most the last stamp.
 pub fn stamps_of_requests_stay_between()
-    ensures granted { (grant : Grant) (node count width slots : ℕ) → law.AreDrawnWithin (instance_new grant node count width slots) }
+    ensures granted { (grant : Grant) (node count width slots : ℕ) (direct : Bool) → law.AreDrawnWithin (instance_new grant node count width slots direct) }
     ensures kept { (i : InstanceEntry) (call : law.InstanceCall) → i.epoch ≤ i.last → law.AreDrawnWithin i → law.AreDrawnWithin (law.after_call i call) }
 {}
 
@@ -74,7 +74,7 @@ pub fn begins_wait_for_commits()
 /// The buckets hold the pairs that decisions recorded, whose commits rise and are at most the last stamp: so what the
 /// buckets tell of such pairs holds of an instance.
 pub fn recorded_commits_rise()
-    ensures granted { (grant : Grant) (node count width slots : ℕ) → law.IsRecordedIn count width [] (instance_new grant node count width slots) }
+    ensures granted { (grant : Grant) (node count width slots : ℕ) (direct : Bool) → law.IsRecordedIn count width [] (instance_new grant node count width slots direct) }
     ensures kept { (count width : ℕ) (pairs : List Recorded) (i : InstanceEntry) (call : law.InstanceCall) → law.IsRecordedIn count width pairs i →
         law.IsRecordedIn count width (pairs ++ law.call_pairs i call) (law.after_call i call) }
 {}
