@@ -154,6 +154,7 @@ decide_gone node session (Some i) c gone = decide_request_gone node session i c 
 answer_by_gone : (node session start : ℕ) (c : Client) (i left : InstanceEntry) (answer : Result Reply Cause) → StaysGone c (answer_by node session start c i left answer).parts.1
 answer_by_gone node session start c i left (Ok (reply.Begun begun epoch)) gone = unheard c _ gone
 answer_by_gone node session start c i left (Ok (reply.Committed commit)) gone = unheard c _ gone
+answer_by_gone node session start c i left (Ok (reply.Handed commit)) gone = unheard c _ gone
 answer_by_gone node session start c i left (Ok reply.Invalid) gone = unheard c _ gone
 answer_by_gone node session start c i left (Ok reply.Open) gone = unheard c _ gone
 answer_by_gone node session start c i left (Err (cause.NotYet commit)) gone = gone

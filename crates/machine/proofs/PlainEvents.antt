@@ -6,6 +6,7 @@ use Rattle.history_book.specs.declared.cause.Cause.TheVariants as cause
 use Rattle.history_book.specs.declared.item.Actor.TheVariants.{Node, Session, Janitor}
 use Rattle.history_book.specs.declared.item.Item.{Item}
 use Rattle.history_book.specs.declared.item.Ending.TheVariants.{Aborted, ReadOnly}
+use Rattle.history_book.specs.declared.item.StoreStep.TheVariants.{Handed}
 use Rattle.history_book.specs.declared.item.Item.TheVariants as item
 use Rattle.client_parts.specs.SessionSteps.{begin_refusal, work_refusal, vanish_refusal}
 use Rattle.client_parts.specs.Sweep.{Sweeping, sweep_open}
@@ -18,7 +19,7 @@ use Rattle.oracle_parts.specs.declared.instance.Request.TheVariants.{Begin, Comm
 use Rattle.oracle_parts.specs.Instance.{InstanceEntry, held_of, in_flight, with_request, session_of, stamps_at}
 use Rattle.oracle_parts.specs.InstanceSteps.{InstanceStep, stays, just_asked, instance_ask, instance_accept, instance_answer}
 use Rattle.machine.specs.State.{Client}
-use Rattle.machine.specs.Clients.{is_reading, client_aborted, client_asked, client_freed, client_vanished, unless_gone, client_begun, client_committed}
+use Rattle.machine.specs.Clients.{is_reading, client_aborted, client_asked, client_freed, client_vanished, unless_gone, client_begun, client_handed, client_committed}
 use Rattle.machine.specs.Events.Crash.{crashed_clients, all_crashed_items, crash_on}
 use Rattle.machine.specs.Events.AskBegin.{asked_by, begin_asked, ask_begin_by, ask_begin_on}
 use Rattle.machine.specs.Events.AskCommit.{commit_asked, commit_of, ask_commit_by, ask_commit_on}
@@ -141,6 +142,8 @@ plain_answer_by node session start c i left (Ok (reply.Begun begun epoch)) stand
     plain_done (Some i, c) (Some left, unless_gone c (client_begun c begun epoch)) (item.Begin session begun ∷ [])
 plain_answer_by node session start c i left (Ok (reply.Committed commit)) stands =
     plain_done (Some i, c) (Some left, unless_gone c (client_committed c commit)) (item.Committed session start commit ∷ [])
+plain_answer_by node session start c i left (Ok (reply.Handed commit)) stands =
+    plain_done (Some i, c) (Some left, unless_gone c (client_handed c commit)) (item.Step (Session session) (Handed start commit) ∷ [])
 plain_answer_by node session start c i left (Ok reply.Invalid) stands =
     plain_ending (Some i, c) (answer_by node session start c i left (Ok reply.Invalid)) (cause.Invalid start) refl (λ is. cc)
 plain_answer_by node session start c i left (Ok reply.Open) stands =

@@ -8,7 +8,7 @@ use Rattle.oracle_parts.specs.declared.buckets.Verdict.TheVariants.{Free, Confli
 use Rattle.oracle_parts.specs.declared.instance.Held.{Held}
 use Rattle.oracle_parts.specs.declared.instance.Decided.{Decided}
 use Rattle.oracle_parts.specs.declared.instance.Progress.{Progress}
-use Rattle.oracle_parts.specs.declared.instance.Progress.TheVariants.{Asked, Accepted, Drawn, Settled}
+use Rattle.oracle_parts.specs.declared.instance.Progress.TheVariants.{Asked, Accepted, Drawn, Settled, Handed}
 use Rattle.oracle_parts.specs.declared.instance.Request.{Request}
 use Rattle.oracle_parts.specs.declared.instance.Request.TheVariants.{Begin, Commit}
 use Rattle.oracle_parts.specs.Instance.{InstanceEntry, least_unsettled}
@@ -75,6 +75,7 @@ stands_begin i session held start (Some commit) = λ is. absurd (cc)
 stands_ready : (i : InstanceEntry) (session : ℕ) (held : Held) (request : Request) (progress : Progress) → Stands i (answer_if_ready i session held request progress).left (answer_if_ready i session held request progress).answer
 stands_ready i session held (Begin s) (Drawn start) = stands_begin i session held start (least_unsettled i.requests start)
 stands_ready i session held (Commit s start keys) (Settled commit how) = tt
+stands_ready i session held (Commit s start keys) (Handed commit) = tt
 stands_ready i session held _ _ = λ is. (refl, tt)
 
 pub stands_answer : (i : InstanceEntry) (session : ℕ) (held : Option Held) → Stands i (answer_held i session held).left (answer_held i session held).answer

@@ -153,6 +153,7 @@ put_keeps node session fate (Some i) pairs keeps = put_keeps_at node session fat
 answer_keeps_by : (node session start : ℕ) (c : Client) (i left : InstanceEntry) (answer : Result Reply Cause) → KeepsStop left → PostKeeps (answer_by node session start c i left answer).parts.0
 answer_keeps_by node session start c i left (Ok (reply.Begun begun epoch)) keeps = keeps
 answer_keeps_by node session start c i left (Ok (reply.Committed commit)) keeps = keeps
+answer_keeps_by node session start c i left (Ok (reply.Handed commit)) keeps = keeps
 answer_keeps_by node session start c i left (Ok reply.Invalid) keeps = keeps
 answer_keeps_by node session start c i left (Ok reply.Open) keeps = keeps
 answer_keeps_by node session start c i left (Err (cause.NotYet commit)) keeps = keeps

@@ -14,7 +14,7 @@ use Rattle.store_parts.specs.Pairs.{Pairs, mark_of, put_pair}
 use Rattle.client_parts.specs.declared.asks.Ask.{Ask}
 use Rattle.client_parts.specs.declared.asks.Ask.TheVariants as ask
 use Rattle.client_parts.specs.declared.asks.Told.{Told}
-use Rattle.client_parts.specs.SessionSteps.{step_refusal}
+use Rattle.client_parts.specs.SessionSteps.{step_refusal, handed_commit}
 use Rattle.client_parts.specs.Resolve.{settle_ask}
 use Rattle.client_parts.specs.KeyRead.{read_ask}
 use Rattle.client_parts.specs.Sweep.{Sweeping, sweep_ask, sweep_told, is_undecided}
@@ -26,7 +26,8 @@ use Rattle.machine.specs.Clients.{is_reading}
 use Rattle.machine.specs.Events.Put.{to_place, put_by, put_commit, put_on, commit_asks, put_asks}
 use Rattle.machine.specs.Events.Write.{write_refused, write_open, write_on, open_asks, write_asks}
 use Rattle.machine.specs.Events.Fetch.{fetch_refused, fetch_open, fetch_on, epoch_asks, fetch_asks}
-use Rattle.machine.specs.Events.Step.{StepParts, work_of, next_of, step_at, step_by, step_on, store_asked, step_asks_by, step_asks}
+use Rattle.machine.specs.Events.Place.{place_by}
+use Rattle.machine.specs.Events.Step.{StepParts, work_of, next_of, step_at, placed_among, step_due, step_by, step_on, store_asked, asked_next, step_asks_by, step_asks}
 use Rattle.machine.specs.Events.Heal.{offer_of, no_offer_cause, heal_at, heal_on, offer_asks, heal_asks}
 use Rattle.machine.specs.Events.SweepStep.{SweepParts, undecided_stop, sweep_by, sweep_met, sweep_lists, sweep_at, sweep_step_on, sweep_step_asks}
 use Rattle.machine.proofs.Refusals.{LeavesAll, ending_leaves, going_leaves}
@@ -91,9 +92,26 @@ asked_work session c rows pairs (Completes []) = goes (c, rows, pairs) (done (c,
 asked_work session c rows pairs (Completes (asking ∷ asks)) =
     asked (c, rows, pairs) (store_of asking) (λ fate. step_at session fate c rows pairs (Completes (asking ∷ asks))) (going_leaves (c, rows, pairs) (step_at session Works c rows pairs (Completes (asking ∷ asks))) refl) refl refl (λ store stop. absurd (cc))
 
+-- a placing that finds a mark changes its client, so that its refusal is none of those that leave all
+placing_leaves : (session start commit : ℕ) (found : Option Mark) (c : Client) (rows : List Row) (pairs after : Pairs) → LeavesAll {P = StepParts} (c, rows, pairs) (placed_among rows (place_by session start commit Works found c after))
+placing_leaves session start commit None c rows pairs after = going_leaves (c, rows, pairs) (placed_among rows (place_by session start commit Works None c after)) refl
+placing_leaves session start commit (Some mark) c rows pairs after =
+    ending_leaves (c, rows, pairs) (placed_among rows (place_by session start commit Works (Some mark) c after)) (cause.Invalid start) refl (λ is. cc)
+
+placing_works : (session start commit : ℕ) (found : Option Mark) (c : Client) (after : Pairs) (store : Store) → (place_by session start commit Works found c after).stop ≡ Some (Faults store) → ⊥
+placing_works session start commit None c after store stop = absurd (cc)
+placing_works session start commit (Some mark) c after store stop = absurd (cc)
+
+asked_due : (session : ℕ) (c : Client) (rows : List Row) (pairs : Pairs) (due : Option (ℕ × ℕ)) → AskedOnce {P = StepParts} (c, rows, pairs) (asked_next c due) (λ fate. step_due session fate c rows pairs due)
+asked_due session c rows pairs None = asked_work session c rows pairs (work_of c)
+asked_due session c rows pairs (Some stamps) =
+    let after : Pairs = put_pair pairs stamps.0 (Committed stamps.1) in
+    let found : Option Mark = mark_of pairs stamps.0 in
+    asked (c, rows, pairs) Table (λ fate. step_due session fate c rows pairs (Some stamps)) (placing_leaves session stamps.0 stamps.1 found c rows pairs after) refl refl (placing_works session stamps.0 stamps.1 found c after)
+
 asked_step_by : (session : ℕ) (c : Client) (rows : List Row) (pairs : Pairs) (why : Option Cause) → AskedOnce {P = StepParts} (c, rows, pairs) (step_asks_by c why) (λ fate. step_by session fate c rows pairs why)
 asked_step_by session c rows pairs (Some why) = refuses (c, rows, pairs) (Session session) why
-asked_step_by session c rows pairs None = asked_work session c rows pairs (work_of c)
+asked_step_by session c rows pairs None = asked_due session c rows pairs (handed_commit c.entry)
 
 pub asked_step : (session : ℕ) (c : Client) (rows : List Row) (pairs : Pairs) → AskedOnce {P = StepParts} (c, rows, pairs) (step_asks c) (λ fate. step_on session fate c rows pairs)
 asked_step session c rows pairs = asked_step_by session c rows pairs (step_refusal c.entry.state (is_reading c))

@@ -115,6 +115,7 @@ decide_tells_held node session last i c (Some held) =
 answer_tells_by : (node session start commit : ℕ) (c : Client) (i made : InstanceEntry) (answer : Result Reply Cause) → Waits session answer made → Tells (Unit {0}) (cause.NotYet commit) (was_told_not_yet i session) (λ j. was_told_not_yet j session) (answer_by node session start c i made answer)
 answer_tells_by node session start commit c i made (Ok (reply.Begun begun epoch)) waited = record { once = λ told stop. absurd (cc); kept = λ can left stop is. absurd (cc) }
 answer_tells_by node session start commit c i made (Ok (reply.Committed n)) waited = record { once = λ told stop. absurd (cc); kept = λ can left stop is. absurd (cc) }
+answer_tells_by node session start commit c i made (Ok (reply.Handed n)) waited = record { once = λ told stop. absurd (cc); kept = λ can left stop is. absurd (cc) }
 answer_tells_by node session start commit c i made (Ok reply.Invalid) waited = record { once = λ told stop. absurd (cc); kept = λ can left stop is. absurd (cc) }
 answer_tells_by node session start commit c i made (Ok reply.Open) waited = record { once = λ told stop. absurd (cc); kept = λ can left stop is. absurd (cc) }
 answer_tells_by node session start commit c i made (Err (cause.NotYet n)) waited = record {
