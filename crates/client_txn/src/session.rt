@@ -123,7 +123,7 @@ impl Session {
         &self.keys
     }
 
-    /// The commit that is completed.
+    /// The commit that is to be placed, or that is completed.
     pub fn commit(&self) -> Option<Stamp>
         ensures { result ≡ self.now.entry.commit }
     {
@@ -160,7 +160,7 @@ impl Session {
     {
         match self.state {
             State::Gone => Err(Cause::Gone),
-            State::OpenOutcome | State::Completing { .. } => Ok(()),
+            State::Placing | State::OpenOutcome | State::Completing { .. } => Ok(()),
             _ if reading => Ok(()),
             _ => Err(Cause::Idle),
         }
@@ -228,6 +228,15 @@ impl Session {
         } else {
             self.state = State::Completing { undo: true };
         }
+    }
+
+    /// The commit that was asked is drawn, and the session is to place its record.
+    pub fn handed(&mut self, commit: Stamp)
+        requires { step.CanHand self.old.entry }
+        ensures { self.new ≡ record self.old { entry = step.session_handed self.old.entry commit } }
+    {
+        self.state = State::Placing;
+        self.commit = Some(commit);
     }
 
     /// The transaction has committed, and is to be finished.

@@ -74,6 +74,31 @@ fn commits(rt: &impl Abort, mut session: Session, commit: Stamp)
 }
 
 #[test]
+fn handed_commits(rt: HostRuntime) -> Result<(), Fail> {
+    let mut session = opened()?;
+    assert_eq!(rt; session.wrote(key(0)?), Ok(()));
+    if !session.keys().as_slice().is_empty() {
+        places(&rt, session, stamp(2)?);
+    }
+    Ok(())
+}
+
+/// Takes an open transaction with a write to a commit that the session is to place, and that is not placed.
+fn places(rt: &impl Abort, mut session: Session, commit: Stamp)
+    requires open { session.entry.state ≡ State.Open }
+    requires wrote { session.entry.keys ≢ [] }
+{
+    session.asked();
+    session.handed(commit);
+    assert_eq!(rt; session.state(), State::Placing);
+    assert_eq!(rt; session.commit(), Some(commit));
+    assert_eq!(rt; session.check_step(false), Ok(()));
+    assert_eq!(rt; session.check_work(false), Err(Cause::Busy));
+    session.opened();
+    assert_eq!(rt; session.state(), State::OpenOutcome);
+}
+
+#[test]
 fn refusals_of_order(rt: HostRuntime) -> Result<(), Fail> {
     let mut session = opened()?;
     assert_eq!(rt; session.check_begin(), Err(Cause::Busy));

@@ -1,4 +1,4 @@
-ghost use Rattle.std.specs.Prelude.{◌≡◌, ◌≤◌, ◌^◌, IfOk, IfSome, Ok, None, Some, is_ok, length};
+ghost use Rattle.std.specs.Prelude.{◌≡◌, ◌≤◌, ◌^◌, ℕ, List, IfOk, IfSome, Ok, None, Some, is_ok, length};
 ghost use Rattle.stamp_base.specs.Ranges.{IsStampRange};
 ghost use Rattle.oracle_parts.specs.Instance as entry;
 ghost use Rattle.oracle_parts.specs.InstanceSteps as step;
@@ -15,7 +15,7 @@ use std::marker::Model;
 use store_parts::Grant;
 
 /// One oracle, made by one grant of the master record. A request goes from place to place by `ask`, `accept`,
-/// `decide`, for a commit `settle`, and `answer`.
+/// `decide`, for a commit that it places itself `settle`, and `answer`.
 #[derive(Drop)]
 pub struct Instance {
     node: NodeNo,
@@ -27,6 +27,8 @@ pub struct Instance {
     // The first refusal of the master record that ends requests.
     stop: Option<Cause>,
     slots: u64,
+    // Commits are handed to their sessions, which place them.
+    direct: bool,
     // One for each session, by its number.
     requests: Vec<Option<Held>>,
 }
@@ -37,7 +39,7 @@ impl Model for Instance {
 
     ghost Value = { InstanceEntry };
 
-    ghost view = { λ i. record { node = i.node; term = i.term; epoch = i.epoch; last = i.range.last; ceiling = i.range.ceiling; until = i.lease; buckets = i.buckets; stop = i.stop; slots = i.slots; requests = i.requests.items } };
+    ghost view = { λ i. record { node = i.node; term = i.term; epoch = i.epoch; last = i.range.last; ceiling = i.range.ceiling; until = i.lease; buckets = i.buckets; stop = i.stop; slots = i.slots; direct = i.direct; requests = i.requests.items } };
 
     ghost invariant = { λ i. vec_len i.requests ≡ 16 };
 }
@@ -51,7 +53,7 @@ impl Instance {
         setup: &Setup,
     ) -> Result<Instance, NoMemory>
         requires { IsStampRange grant.epoch grant.ceiling }
-        ensures { IfOk result (λ opened. opened ≡ entry.instance_new grant node setup.now.buckets setup.now.width setup.now.slots) }
+        ensures { IfOk result (λ opened. opened ≡ entry.instance_new grant node setup.now.buckets setup.now.width setup.now.slots setup.now.direct) }
     {
         Ok(Instance {
             node,
@@ -62,6 +64,7 @@ impl Instance {
             buckets: Buckets::open(alloc, setup.buckets, setup.width)?,
             stop: None,
             slots: setup.slots,
+            direct: setup.direct,
             requests: Vec::from_array(alloc, [None; SessionNo::COUNT])?,
         })
     }
@@ -211,7 +214,8 @@ impl Instance {
         }
     }
 
-    /// Draws the stamp of a request that was accepted; a commit records its keys. Refused as NoRequest unless one was,
+    /// Draws the stamp of a request that was accepted; a commit records its keys, and is to be handed over where commits are
+    /// direct. Refused as NoRequest unless one was,
     /// as Conflict or Hidden exactly by the buckets' verdict on a commit, which ends it. Where the range is used up,
     /// the refusal of the master record that is kept ends the request, and without one it stays and is refused as
     /// NoStamp.
@@ -277,9 +281,9 @@ impl Instance {
         }
     }
 
-    /// Answers a begin that was drawn or a commit that was settled, which ends it. Refused as NoRequest unless the
-    /// session has one, and as NotYet exactly where a commit below the begin's start was drawn and is not settled: the
-    /// least is named, and the request stays.
+    /// Answers a begin that was drawn or a commit that was settled, or hands a direct commit over, which ends it. Refused as
+    /// NoRequest unless the session has one, and as NotYet exactly where a commit below the begin's start was drawn, is not
+    /// direct and is not settled: the least is named, and the request stays.
     pub fn answer(&mut self, session: SessionNo) -> Result<Reply, Cause>
         ensures left { self.new ≡ (step.instance_answer self.old session).left }
         ensures answer { result ≡ (step.instance_answer self.old session).answer }
@@ -303,6 +307,17 @@ impl Instance {
                 },
             ) => {
                 let reply = reply_of(*commit, *how);
+                self.end(session);
+                Ok(reply)
+            }
+            Some(
+                Held {
+                    request: Request::Commit { .. },
+                    progress: Progress::Handed { commit },
+                    ..
+                },
+            ) => {
+                let reply = Reply::Handed { commit: *commit };
                 self.end(session);
                 Ok(reply)
             }
@@ -398,7 +413,7 @@ impl Instance {
         ensures left { IfSome (entry.held_of self.old session) (λ held. self.new ≡ (step.decide_drawn self.old session held stamp).left) }
         ensures answer { IfSome (entry.held_of self.old session) (λ held. Ok result ≡ (step.decide_drawn self.old session held stamp).answer) }
     {
-        let decided = match &self.requests[session.index()] {
+        let (decided, progress) = match &self.requests[session.index()] {
             Some(
                 Held {
                     request: Request::Commit { keys, .. },
@@ -406,11 +421,11 @@ impl Instance {
                 },
             ) => {
                 self.buckets.keep(keys, stamp);
-                Decided::Drawn(stamp)
+                (Decided::Drawn(stamp), drawn_commit(self.direct, stamp))
             }
-            _ => Decided::Started(stamp),
+            _ => (Decided::Started(stamp), Progress::Drawn { stamp }),
         };
-        self.advance(session, Progress::Drawn { stamp });
+        self.advance(session, progress);
         decided
     }
 
@@ -456,6 +471,17 @@ impl Instance {
         ensures { self.new ≡ step.without_request self.old session }
     {
         self.requests[session.index()] = None;
+    }
+}
+
+/// How far a commit has come with its stamp.
+fn drawn_commit(direct: bool, stamp: Stamp) -> Progress
+    ensures { (session start : ℕ) (keys : List ℕ) → result ≡ step.drawn_as direct (Request.Commit session start keys) stamp }
+{
+    if direct {
+        Progress::Handed { commit: stamp }
+    } else {
+        Progress::Drawn { stamp }
     }
 }
 

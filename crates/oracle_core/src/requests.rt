@@ -43,7 +43,7 @@ fn place_of_progress(progress: &Progress) -> Place
         Progress::Asked => Place::Asked,
         Progress::Accepted => Place::Accepted,
         Progress::Drawn { .. } => Place::Drawn,
-        Progress::Settled { .. } => Place::Settled,
+        Progress::Settled { .. } | Progress::Handed { .. } => Place::Settled,
     }
 }
 
@@ -83,12 +83,12 @@ fn commit_stamps(start: Stamp, progress: &Progress) -> Option<(Stamp, Option<Sta
 {
     match progress {
         Progress::Drawn { stamp } => Some((start, Some(*stamp))),
-        Progress::Settled { commit, .. } => Some((start, Some(*commit))),
+        Progress::Settled { commit, .. } | Progress::Handed { commit } => Some((start, Some(*commit))),
         _ => None,
     }
 }
 
-/// The commit of a request that is drawn and is not settled.
+/// The commit of a request that is drawn, and that the oracle is to place.
 pub fn unsettled_commit(held: &Held) -> Option<Stamp>
     ensures { result ≡ entry.unsettled_by held.now.request held.now.progress }
 {
@@ -102,7 +102,7 @@ pub fn unsettled_commit(held: &Held) -> Option<Stamp>
     }
 }
 
-/// The commit of the request that is held, where it is drawn and not settled.
+/// The commit of the request that is held, where it is drawn and the oracle is to place it.
 pub fn unsettled_of(held: &Option<Held>) -> Option<Stamp>
     ensures { result ≡ entry.unsettled_commit held.now }
 {
@@ -112,7 +112,7 @@ pub fn unsettled_of(held: &Option<Held>) -> Option<Stamp>
     }
 }
 
-/// The least commit below a start that was drawn and is not settled.
+/// The least commit below a start that was drawn and that the oracle is to place.
 #[tactic(auto, unfolding(oracle_parts::specs::Instance::least_unsettled))]
 pub fn least_unsettled(requests: &[Option<Held>], start: Stamp) -> Option<Stamp>
     ensures { result ≡ entry.least_unsettled requests.now start }
