@@ -2,6 +2,7 @@ mod WorkedRefusals
 mod WorkedConflicts
 mod WorkedHidden
 mod WorkedLosses
+mod WorkedPlacings
 mod WorkedPosts
 mod WorkedTerms
 mod WorkedRequests

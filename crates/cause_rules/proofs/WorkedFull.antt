@@ -9,7 +9,7 @@ use Rattle.cause_rules.specs.OpenAsks.{open_asks, open_asks_from}
 use Rattle.cause_rules.specs.Refusals.{ShownFull}
 use Rattle.cause_rules.specs.Explained.{Explained}
 use Rattle.cause_rules.specs.WorkedHistories.{crash_of}
-use Rattle.cause_rules.specs.WorkedRequests.{two_slots, before_full, full_told, begun, begin_refused, committed, asked}
+use Rattle.cause_rules.specs.WorkedRequests.{two_slots, before_full, full_told, begun, begin_refused, committed, handed, asked}
 use Rattle.cause_rules.proofs.WorkedRefusals.{shown_explains, explained_shows}
 
 -- ---- two asks are open at the node 0
@@ -70,6 +70,13 @@ open_committed = record { here = λ n is. rw (is) refl; elsewhere = λ n is. rw 
 
 pub commit_answered : Explained two_slots (full_told 0 committed 2) → ⊥
 commit_answered = not_full committed 1 (omega arith) open_committed
+
+open_handed : OpenAt (before_full 0 handed) 1
+unfolding open_asks_from
+open_handed = record { here = λ n is. rw (is) refl; elsewhere = λ n is. rw (is) refl }
+
+pub commit_handed : Explained two_slots (full_told 0 handed 2) → ⊥
+commit_handed = not_full handed 1 (omega arith) open_handed
 
 open_crashed : OpenAt (before_full 0 (crash_of 0)) 0
 unfolding open_asks_from

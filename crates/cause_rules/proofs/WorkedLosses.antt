@@ -2,7 +2,7 @@
 use Rattle.std.proofs.Common.{◌≡◌, ℕ, ◌==◌, not, Bool, true, false, List, [], ◌∷◌, Some, inl, inr, refl, sym, ◌∙◌, subst, arith}
 use Rattle.std.specs.List.{list_all}
 use Rattle.std.proofs.lemmas.Option.{same_Some}
-use Rattle.stamp_base.specs.SetupNumbers.{default_numbers}
+use Rattle.stamp_base.specs.SetupNumbers.{SetupNumbers, default_numbers}
 use Rattle.stamp_base.specs.declared.stores.Store.TheVariants.{Table}
 use Rattle.history_book.specs.Members.{◌∈◌}
 use Rattle.history_book.specs.declared.cause.Cause.TheVariants as cause
@@ -10,9 +10,9 @@ use Rattle.history_book.specs.declared.item.Actor.TheVariants.{Node, Session}
 use Rattle.history_book.specs.declared.item.Item.{Item}
 use Rattle.history_book.specs.declared.item.Item.TheVariants.{AskCommit, Mark, Fault, Crash}
 use Rattle.cause_rules.specs.Asks.{its_node, since_ask, since_draw}
-use Rattle.cause_rules.specs.Commits.{ShownInvalid, ShownOpen, ShownCrashed}
+use Rattle.cause_rules.specs.Commits.{placer, ShownInvalid, ShownOpen, ShownCrashed}
 use Rattle.cause_rules.specs.Explained.{Explained}
-use Rattle.cause_rules.specs.WorkedHistories.{crash_of, table_fault, master_fault}
+use Rattle.cause_rules.specs.WorkedHistories.{crash_of, table_fault, master_fault, session_fault}
 use Rattle.cause_rules.specs.WorkedCommits.{before_invalid, invalid_told, invalid_told_first, before_open, open_told}
 use Rattle.cause_rules.specs.WorkedRequests.{before_crashed, crashed_told}
 use Rattle.cause_rules.proofs.WorkedRefusals.{of_each, passes, shown_explains, explained_shows, explained_between}
@@ -85,24 +85,27 @@ abbrev no_table_fault : Item → Bool
 no_table_fault (Fault (Node node) Table) = not (node == 0)
 no_table_fault _ = true
 
-abbrev no_crash : Item → Bool
+abbrev pub no_crash : Item → Bool
 no_crash (Crash node term) = not (node == 0)
 no_crash _ = true
 
--- neither stands where it would have to
-none_lost : (first between last : List Item) → its_node (before_open first between last) 0 ≡ Some 0 → list_all no_table_fault (since_draw (before_open first between last) 0) ≡ true → list_all no_crash (since_ask (before_open first between last) 0) ≡ true → Explained default_numbers (open_told first between last 1) → ⊥
-none_lost first between last own no_fault none e =
+-- neither stands where it would have to; who places the commit has no fault that passes the test
+pub not_lost : (setup : SetupNumbers) (test : Item → Bool) (first between last : List Item) → test (Fault (placer setup.direct 0 0) Table) ≡ false → its_node (before_open first between last) 0 ≡ Some 0 → list_all test (since_draw (before_open first between last) 0) ≡ true → list_all no_crash (since_ask (before_open first between last) 0) ≡ true → Explained setup (open_told first between last 1) → ⊥
+not_lost setup test first between last fails own no_fault none e =
     let h : List Item = before_open first between last in
-    let shown : ShownOpen h 0 1 = explained_shows default_numbers h (Session 0) (cause.Open 1) e in
+    let shown : ShownOpen setup h 0 1 = explained_shows setup h (Session 0) (cause.Open 1) e in
     let node : shown.node ≡ 0 = same_Some _ _ (sym shown.node_is ∙ own) in
     elim shown.lost [
       | inl fault ↦
-          let passed : false ≡ true = passes no_table_fault (Fault (Node 0) Table) (since_draw h 0) no_fault (subst (λ (n : ℕ). Fault (Node n) Table ∈ since_draw h 0) node fault.2) in
-          absurd (cc)
+          let passed = passes test (Fault (placer setup.direct 0 0) Table) (since_draw h 0) no_fault (subst (λ (n : ℕ). Fault (placer setup.direct n 0) Table ∈ since_draw h 0) node fault.2) in
+          absurd (let same = sym fails ∙ passed in cc)
       | inr crash ↦
           let passed : false ≡ true = passes no_crash (Crash 0 crash.0) (since_ask h 0) none (subst (λ (n : ℕ). Crash n crash.0 ∈ since_ask h 0) node crash.1) in
           absurd (cc)
     ]
+
+none_lost : (first between last : List Item) → its_node (before_open first between last) 0 ≡ Some 0 → list_all no_table_fault (since_draw (before_open first between last) 0) ≡ true → list_all no_crash (since_ask (before_open first between last) 0) ≡ true → Explained default_numbers (open_told first between last 1) → ⊥
+none_lost first between last = not_lost default_numbers no_table_fault first between last refl
 
 pub neither : Explained default_numbers (open_told [] [] [] 1) → ⊥
 neither = none_lost [] [] [] refl refl refl
@@ -116,6 +119,9 @@ fault_of_another = none_lost [] [] (table_fault 1) refl refl refl
 pub fault_of_the_record : Explained default_numbers (open_told [] [] (master_fault 0) 1) → ⊥
 fault_of_the_record = none_lost [] [] (master_fault 0) refl refl refl
 
+pub fault_of_the_session : Explained default_numbers (open_told [] [] (session_fault 0) 1) → ⊥
+fault_of_the_session = none_lost [] [] (session_fault 0) refl refl refl
+
 pub crashed_before_the_ask : Explained default_numbers (open_told (crash_of 0) [] [] 1) → ⊥
 crashed_before_the_ask = none_lost (crash_of 0) [] [] refl refl refl
 
@@ -124,7 +130,7 @@ crash_of_another = none_lost [] [] (crash_of 1) refl refl refl
 
 pub other_open : Explained default_numbers (open_told [] [] (table_fault 0) 2) → ⊥
 other_open e =
-    let shown : ShownOpen (before_open [] [] (table_fault 0)) 0 2 = explained_shows default_numbers (before_open [] [] (table_fault 0)) (Session 0) (cause.Open 2) e in
+    let shown : ShownOpen default_numbers (before_open [] [] (table_fault 0)) 0 2 = explained_shows default_numbers (before_open [] [] (table_fault 0)) (Session 0) (cause.Open 2) e in
     let same : 1 ≡ 2 = same_Some _ _ shown.start_is in
     absurd (omega (arith, same))
 

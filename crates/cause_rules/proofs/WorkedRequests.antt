@@ -1,5 +1,5 @@
 -- The short histories of begins that wait and of sessions that are gone.
-use Rattle.std.proofs.Common.{◌≡◌, ℕ, ◌<◌, [], ◌∷◌, Some, inl, inr, refl, sym, ◌∙◌, subst, arith}
+use Rattle.std.proofs.Common.{◌≡◌, ℕ, ◌<◌, true, false, [], ◌∷◌, Some, inl, inr, refl, sym, ◌∙◌, subst, arith}
 use Rattle.std.proofs.lemmas.Option.{same_Some}
 use Rattle.stamp_base.specs.SetupNumbers.{default_numbers}
 use Rattle.history_book.specs.Members.{◌∈◌}
@@ -10,6 +10,7 @@ use Rattle.history_book.specs.declared.item.Item.{Item}
 use Rattle.history_book.specs.declared.item.Item.TheVariants.{Draw, Placed, Vanish}
 use Rattle.cause_rules.specs.Commits.{ShownNotYet}
 use Rattle.cause_rules.specs.Explained.{Explained}
+use Rattle.cause_rules.specs.WorkedCommits.{directly}
 use Rattle.cause_rules.specs.WorkedRequests.{Waiting, waiting, before_not_yet, not_yet_told, gone_told, vanishes_later}
 use Rattle.cause_rules.proofs.WorkedRefusals.{of_each, shown_explains, explained_shows, explained_between}
 
@@ -26,6 +27,7 @@ not_placed t placed =
 pub unplaced_below : Explained default_numbers (not_yet_told waiting)
 unfolding ◌∈◌
 unplaced_below = shown_explains default_numbers (before_not_yet waiting) (Session 1) (cause.NotYet 2) refl (record {
+  waits = refl;
   node = 0;
   node_is = refl;
   start = 6;
@@ -49,7 +51,7 @@ OnlyCommit drawn_in _ = Unit {0}
 
 not_yet_of : (c : Waiting) → Explained default_numbers (not_yet_told c) → ToldNotYet c
 not_yet_of c e =
-    let shown : ShownNotYet (before_not_yet c) 1 c.commit = explained_shows default_numbers (before_not_yet c) (Session 1) (cause.NotYet c.commit) e in
+    let shown : ShownNotYet default_numbers (before_not_yet c) 1 c.commit = explained_shows default_numbers (before_not_yet c) (Session 1) (cause.NotYet c.commit) e in
     let drawn : (shown.term ≡ c.drawn_in) × (c.commit ≡ 2) =
     of_each (OnlyCommit c.drawn_in) (Draw shown.drawn.0 shown.drawn.1 shown.term shown.writer (Some c.commit)) (before_not_yet c) ((refl, refl), (tt, (tt, (tt, (tt, tt))))) shown.drawn.2 in
     record {
@@ -73,6 +75,12 @@ other_term e = let same : 1 ≡ 2 = (not_yet_of (record waiting { drawn_in = 2 }
 
 pub not_drawn : Explained default_numbers (not_yet_told (record waiting { commit = 3 })) → ⊥
 not_drawn e = let same : 3 ≡ 2 = (not_yet_of (record waiting { commit = 3 }) e).drawn.1 in absurd (omega (arith, same))
+
+pub placed_by_sessions : Explained (directly default_numbers) (not_yet_told waiting) → ⊥
+placed_by_sessions e =
+    let shown : ShownNotYet (directly default_numbers) (before_not_yet waiting) 1 2 = explained_shows (directly default_numbers) (before_not_yet waiting) (Session 1) (cause.NotYet 2) e in
+    let waits : true ≡ false = shown.waits in
+    absurd cc
 
 -- ---- sessions that are gone
 pub vanished : Explained default_numbers (gone_told 0)

@@ -52,5 +52,5 @@ spent_unasked e =
 -- ---- begins that wait
 pub not_yet_unasked : Explained default_numbers not_yet_told_unasked → ⊥
 not_yet_unasked e =
-    let shown : ShownNotYet before_not_yet_unasked 1 2 = explained_shows default_numbers before_not_yet_unasked (Session 1) (cause.NotYet 2) e in
+    let shown : ShownNotYet default_numbers before_not_yet_unasked 1 2 = explained_shows default_numbers before_not_yet_unasked (Session 1) (cause.NotYet 2) e in
     no_node before_not_yet_unasked 1 shown.node refl shown.node_is

@@ -102,12 +102,16 @@ abbrev pub placer : Bool → ℕ → ℕ → Actor
 placer true node s = Session s
 placer false node s = Node node
 
--- the call on the commit table failed after the draw, or its node crashed after the ask
+-- a call on the commit table of who places the commit failed after its draw, or its node crashed after the ask
+abbrev pub IsLost : SetupNumbers → List Item → ℕ → ℕ → ℕ → Type 0
+IsLost setup h s start node = ((commit : ℕ) × (its_draw h s ≡ Some (start, Some commit)) × (Fault (placer setup.direct node s) Table ∈ since_draw h s)) ⊎ ((term : ℕ) × (Crash node term ∈ since_ask h s))
+
+-- whether the session's commit was placed is not known: what would have told it got lost
 pub record ShownOpen (setup : SetupNumbers) (h : List Item) (s start : ℕ) : Type 0 where
   pub start_is : its_start h s ≡ Some start
   pub node : ℕ
   pub node_is : its_node h s ≡ Some node
-  pub lost : ((commit : ℕ) × (its_draw h s ≡ Some (start, Some commit)) × (Fault (placer setup.direct node s) Table ∈ since_draw h s)) ⊎ ((term : ℕ) × (Crash node term ∈ since_ask h s))
+  pub lost : IsLost setup h s start node
 
 -- its node crashed after the ask
 pub record ShownCrashed (h : List Item) (s node term : ℕ) : Type 0 where

@@ -11,6 +11,10 @@ use Rattle.cause_rules.specs.WorkedHistories.{told, told_between, v}
 abbrev pub strictly : SetupNumbers → SetupNumbers
 strictly setup = record setup { strict = true }
 
+-- a session places its commit itself, and its node none
+abbrev pub directly : SetupNumbers → SetupNumbers
+directly setup = record setup { direct = true }
+
 -- ---- a conflict on the key 0
 -- the transaction 1 wrote a key, and its commit 3 was drawn in a term; another one wrote a key, and asks to commit in the
 -- term 1; it is told of a commit

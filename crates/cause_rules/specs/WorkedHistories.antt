@@ -3,7 +3,7 @@ use Rattle.std.specs.Prelude.{ℕ, List, [], ◌∷◌, ◌++◌}
 use Rattle.stamp_base.specs.declared.stores.Store.TheVariants.{Table, Master}
 use Rattle.history_book.specs.declared.cause.Cause.{Cause}
 use Rattle.history_book.specs.declared.item.Actor.{Actor}
-use Rattle.history_book.specs.declared.item.Actor.TheVariants.{Node}
+use Rattle.history_book.specs.declared.item.Actor.TheVariants.{Node, Session}
 use Rattle.history_book.specs.declared.item.Item.{Item}
 use Rattle.history_book.specs.declared.item.Item.TheVariants.{Fault, Crash, Refused}
 
@@ -27,3 +27,7 @@ table_fault node = Fault (Node node) Table ∷ []
 
 abbrev pub master_fault : ℕ → List Item
 master_fault node = Fault (Node node) Master ∷ []
+
+-- a session's fault on the commit table
+abbrev pub session_fault : ℕ → List Item
+session_fault session = Fault (Session session) Table ∷ []

@@ -4,7 +4,8 @@ use Rattle.stamp_base.specs.SetupNumbers.{SetupNumbers, default_numbers}
 use Rattle.history_book.specs.declared.cause.Cause.TheVariants as cause
 use Rattle.history_book.specs.declared.item.Actor.TheVariants.{Session}
 use Rattle.history_book.specs.declared.item.Item.{Item}
-use Rattle.history_book.specs.declared.item.Item.TheVariants.{Take, AskBegin, AskCommit, Accept, Draw, Begin, Placed, Committed, Refused, Vanish}
+use Rattle.history_book.specs.declared.item.Item.TheVariants.{Take, AskBegin, AskCommit, Accept, Draw, Begin, Placed, Committed, Refused, Vanish, Step}
+use Rattle.history_book.specs.declared.item.StoreStep.TheVariants.{Handed}
 use Rattle.cause_rules.specs.WorkedHistories.{told, told_between}
 
 -- ---- a begin that is lost
@@ -54,7 +55,7 @@ before_full node later = Take 0 0 1 0 10 100 ∷ AskBegin 0 0 ∷ AskCommit 1 no
 abbrev pub full_told : ℕ → List Item → ℕ → List Item
 full_told node later in_flight = told (before_full node later) (Session 2) (cause.Full in_flight)
 
--- the begin is answered or refused for good, the commit is answered, or another session asks
+-- the begin is answered or refused for good, the commit is answered or handed over, or another session asks
 abbrev pub begun : List Item
 begun = Begin 0 2 ∷ []
 
@@ -63,6 +64,9 @@ begin_refused = Refused (Session 0) (cause.Expired 10 10) ∷ []
 
 abbrev pub committed : List Item
 committed = Placed 1 2 ∷ Committed 1 1 2 ∷ []
+
+abbrev pub handed : List Item
+handed = Step (Session 1) (Handed 1 2) ∷ []
 
 abbrev pub asked : List Item
 asked = AskBegin 3 0 ∷ []

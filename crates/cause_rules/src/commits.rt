@@ -2,8 +2,8 @@
 ghost use Rattle.std.specs.Prelude.{[]};
 ghost use Rattle.stamp_base.specs.SetupNumbers.{default_numbers};
 ghost use Rattle.cause_rules.specs.Explained.{Explained};
-ghost use Rattle.cause_rules.specs.WorkedHistories.{crash_of, table_fault, master_fault};
-ghost use Rattle.cause_rules.specs.WorkedCommits.{strictly, conflicting, conflict_told, conflict_told_first, conflict_told_unasked, buckets_of, hiding, hidden_told, hidden_told_unasked, invalid_told, invalid_told_first, invalid_told_unasked, open_told};
+ghost use Rattle.cause_rules.specs.WorkedHistories.{crash_of, table_fault, master_fault, session_fault};
+ghost use Rattle.cause_rules.specs.WorkedCommits.{strictly, directly, conflicting, conflict_told, conflict_told_first, conflict_told_unasked, buckets_of, hiding, hidden_told, hidden_told_unasked, invalid_told, invalid_told_first, invalid_told_unasked, open_told};
 
 /// A conflict is a commit above the start, drawn in the term of the request, of a transaction that wrote the key that was
 /// written here too. With strict reads it need not have been written here.
@@ -59,5 +59,15 @@ pub fn lost_commits_are_open()
     ensures fault_of_the_record { Explained default_numbers (open_told [] [] (master_fault 0) 1) → ⊥ }
     ensures crashed_before_the_ask { Explained default_numbers (open_told (crash_of 0) [] [] 1) → ⊥ }
     ensures crash_of_another { Explained default_numbers (open_told [] [] (crash_of 1) 1) → ⊥ }
+    ensures fault_of_the_session { Explained default_numbers (open_told [] [] (session_fault 0) 1) → ⊥ }
     ensures other_told { Explained default_numbers (open_told [] [] (table_fault 0) 2) → ⊥ }
+{}
+
+/// Where commits are direct, the call that failed is one of the session, which places its own record.
+pub fn lost_placings_are_open()
+    ensures faulted { Explained (directly default_numbers) (open_told [] [] (session_fault 0) 1) }
+    ensures crashed_before_the_draw { Explained (directly default_numbers) (open_told [] (crash_of 0) [] 1) }
+    ensures fault_of_the_node { Explained (directly default_numbers) (open_told [] [] (table_fault 0) 1) → ⊥ }
+    ensures fault_of_another { Explained (directly default_numbers) (open_told [] [] (session_fault 1) 1) → ⊥ }
+    ensures faulted_before_the_draw { Explained (directly default_numbers) (open_told [] (session_fault 0) [] 1) → ⊥ }
 {}
