@@ -11,6 +11,7 @@ pub mod InversionOfAnswers
 pub mod InversionOfCalls
 pub mod InversionOfSweeps
 pub mod InversionOfSteps
+pub mod InversionOfPlacings
 pub mod InversionOfWork
 pub mod Inversion
 pub mod InversionSound

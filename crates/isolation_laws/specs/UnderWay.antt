@@ -78,9 +78,14 @@ IsSweptAt rows pairs h t Undecided = Unit {0}
 pub record IsSweeping (sweep : Option Sweeping) (rows : List Row) (pairs : Pairs) (h : List Item) : Type 0 where
   pub knows : (s : Sweeping) → sweep ≡ Some s → IsSweptAt rows pairs h s.txn s.point
 
+-- a session that is to place its commit knows it
+pub record AreHanded (clients : List Client) : Type 0 where
+  pub commit : (s : ℕ) (c : Client) → ClientAt clients s c → c.entry.state ≡ phase.Placing → (commit : ℕ) × (c.entry.commit ≡ Some commit)
+
 pub record UnderWayFacts (clients : List Client) (sweep : Option Sweeping) (rows : List Row) (pairs : Pairs) (h : List Item) : Type 0 where
   pub finishing : AreFinishing clients rows h
   pub undoing : AreUndoing clients h
   pub settling : AreSettling clients rows h
+  pub handed : AreHanded clients
   pub heals : AreHeals clients h
   pub sweeping : IsSweeping sweep rows pairs h

@@ -68,6 +68,7 @@ opening_under_way setup = record {
     resolve = λ s c at is. let clash : phase.Free ≡ phase.OpenOutcome = not_in setup s c phase.OpenOutcome at is in absurd (cc);
     only = λ s c x at is. let clash : Nothing ≡ Settles x = not_under_way setup s c (Settles x) at is in absurd (cc);
   };
+  handed = record { commit = λ s c at is. let clash : phase.Free ≡ phase.Placing = not_in setup s c phase.Placing at is in absurd (cc) };
   heals = record { placed = λ s k t commit c at offer. let clash : None ≡ Some (k, t, commit) = ap (λ (x : Client). x.heal) (sym (is_new setup s c at)) ∙ offer in absurd (cc) };
   sweeping = record { knows = λ s is. absurd (cc) };
 }

@@ -10,7 +10,7 @@ use Rattle.port_io.specs.declared.weather.Fate.TheVariants.{Works, FailsUnchange
 use Rattle.port_io.specs.Fates.{fated}
 use Rattle.history_book.specs.declared.cause.Cause.TheVariants as cause
 use Rattle.history_book.specs.declared.item.Actor.TheVariants.{Node, Session}
-use Rattle.history_book.specs.declared.item.StoreStep.TheVariants.{PutFound}
+use Rattle.history_book.specs.declared.item.StoreStep.TheVariants.{PutFound, Handed}
 use Rattle.history_book.specs.declared.item.Item.{Item}
 use Rattle.history_book.specs.declared.item.Item.TheVariants as item
 use Rattle.store_parts.specs.Pairs.{Pairs, mark_of, put_over}
@@ -26,7 +26,7 @@ use Rattle.oracle_parts.specs.Instance.{InstanceEntry, held_of, was_told_not_yet
 use Rattle.oracle_parts.specs.InstanceSteps.{InstanceStep, without_request, moved, not_yet_told, settle_if_drawn, settle_held, instance_settle, answer_begin, answer_if_ready, answer_held}
 use Rattle.machine.specs.State.{Client, State}
 use Rattle.machine.specs.Effect.{Effect, refused}
-use Rattle.machine.specs.Clients.{unless_gone}
+use Rattle.machine.specs.Clients.{client_handed, unless_gone}
 use Rattle.machine.specs.Machine.{Step, step_by, with_post, with_client}
 use Rattle.machine.specs.Events.Put.{to_place_by, to_place, put_by, put_commit, put_on}
 use Rattle.machine.specs.Events.Answer.{answer_by, answer_on}
@@ -35,7 +35,7 @@ use Rattle.isolation_laws.specs.Quiet.{Quiet, AllQuiet}
 use Rattle.isolation_laws.proofs.Outcome.PlainItems.{node_plain, once_silent}
 use Rattle.isolation_laws.proofs.Outcome.OutcomesOfRecord.{Told}
 use Rattle.isolation_laws.proofs.Outcome.OutcomesOfStamps.{AtDrawn, fault_of, found_items, answered_client, answered_item}
-use Rattle.isolation_laws.proofs.Outcome.Outcomes.{OfPlaced, OfNotPlaced, OfAnsweredBegin, OfAnsweredCommit}
+use Rattle.isolation_laws.proofs.Outcome.Outcomes.{OfPlaced, OfNotPlaced, OfAnsweredBegin, OfAnsweredCommit, OfHanded}
 use Rattle.isolation_laws.proofs.Inversions.InversionParts.{ComesTo, ComesBy, none_quiet, told_quiet, tells, still_post, client_back}
 use Rattle.isolation_laws.proofs.Inversions.InversionOfRequests.{for_request, Served, decide_still}
 use Rattle.isolation_laws.proofs.Pushed.{one_quiet}
@@ -83,6 +83,7 @@ put_request w node session fate i held at has (Commit asker start keys) asks (pr
     put_fated w it fate (mark_of w.pairs start) refl
 put_request w node session fate i held at has (Commit asker start keys) asks progress.Asked stands = put_none w node session i at
 put_request w node session fate i held at has (Commit asker start keys) asks progress.Accepted stands = put_none w node session i at
+put_request w node session fate i held at has (Commit asker start keys) asks (progress.Handed commit) stands = put_none w node session i at
 put_request w node session fate i held at has (Commit asker start keys) asks (progress.Settled commit by) stands = put_none w node session i at
 put_request w node session fate i held at has (Begin asker) asks p stands = put_none w node session i at
 
@@ -164,14 +165,41 @@ answer_settled w node session asker start commit keys by i held c served asks se
   refl,
 )
 
+answer_handed : (w : State) (node session asker start commit : ℕ) (keys : List ℕ) (i : InstanceEntry) (held : Held) (c : Client) → Served w node session i held c → held.request ≡ Commit asker start keys → held.progress ≡ progress.Handed commit → ComesTo w (with_client (with_post w node (Some (without_request i session))) session (unless_gone c (client_handed c commit))) (item.Step (Session session) (Handed start commit) ∷ [])
+answer_handed w node session asker start commit keys i held c served asks drawn = (
+  OfHanded (record {
+    node = node;
+    session = session;
+    asker = asker;
+    start = start;
+    commit = commit;
+    keys = keys;
+    i = i;
+    held = held;
+    c = c;
+    at = served.at;
+    has = served.has;
+    request_is = asks;
+    drawn = drawn;
+    client_at = served.client_at;
+    items = item.Step (Session session) (Handed start commit) ∷ [];
+    tells = refl;
+    quiet = one_quiet (item.Step (Session session) (Handed start commit)) refl;
+  }),
+  refl,
+  refl,
+)
+
 answer_held_request : (w : State) (node session : ℕ) (i : InstanceEntry) (held : Held) (c : Client) → Served w node session i held c → (request : Request) → held.request ≡ request → (p : Progress) → held.progress ≡ p → ComesBy w (answer_step w node session i c (answer_if_ready i session held request p) (stamps_by request p))
 answer_held_request w node session i held c served (Begin asker) asks (progress.Drawn start) stands = answer_waits w node session asker start i held c served asks stands (least_unsettled i.requests start) refl
 answer_held_request w node session i held c served (Begin asker) asks progress.Asked stands = answer_none w node session i c served.at served.client_at
 answer_held_request w node session i held c served (Begin asker) asks progress.Accepted stands = answer_none w node session i c served.at served.client_at
+answer_held_request w node session i held c served (Begin asker) asks (progress.Handed commit) stands = answer_none w node session i c served.at served.client_at
 answer_held_request w node session i held c served (Begin asker) asks (progress.Settled commit by) stands = answer_none w node session i c served.at served.client_at
 answer_held_request w node session i held c served (Commit asker start keys) asks progress.Asked stands = answer_none w node session i c served.at served.client_at
 answer_held_request w node session i held c served (Commit asker start keys) asks progress.Accepted stands = answer_none w node session i c served.at served.client_at
 answer_held_request w node session i held c served (Commit asker start keys) asks (progress.Drawn commit) stands = answer_none w node session i c served.at served.client_at
+answer_held_request w node session i held c served (Commit asker start keys) asks (progress.Handed commit) stands = answer_handed w node session asker start commit keys i held c served asks stands
 answer_held_request w node session i held c served (Commit asker start keys) asks (progress.Settled commit how.Placed) stands = answer_settled w node session asker start commit keys how.Placed i held c served asks stands (item.Committed session start commit) refl refl
 answer_held_request w node session i held c served (Commit asker start keys) asks (progress.Settled commit how.Invalid) stands = answer_settled w node session asker start commit keys how.Invalid i held c served asks stands (item.Refused (Session session) (cause.Invalid start)) refl refl
 answer_held_request w node session i held c served (Commit asker start keys) asks (progress.Settled commit how.Faulted) stands = answer_settled w node session asker start commit keys how.Faulted i held c served asks stands (item.Refused (Session session) (cause.Open start)) refl refl

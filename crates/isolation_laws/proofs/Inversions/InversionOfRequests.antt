@@ -118,6 +118,7 @@ accept_progress : (w : State) (node session reading : ℕ) (i : InstanceEntry) (
 accept_progress w node session reading i held c served steady progress.Asked is = accept_timely w node session reading i held c served is steady (nat_lt reading i.until) refl
 accept_progress w node session reading i held c served steady progress.Accepted is = accept_still w node session reading (Some i) c (cause.NoRequest session) served.at served.client_at
 accept_progress w node session reading i held c served steady (progress.Drawn stamp) is = accept_still w node session reading (Some i) c (cause.NoRequest session) served.at served.client_at
+accept_progress w node session reading i held c served steady (progress.Handed commit) is = accept_still w node session reading (Some i) c (cause.NoRequest session) served.at served.client_at
 accept_progress w node session reading i held c served steady (progress.Settled commit how) is = accept_still w node session reading (Some i) c (cause.NoRequest session) served.at served.client_at
 
 accept_found : (w : State) (node session reading : ℕ) (i : InstanceEntry) (c : Client) → InstanceAt w.nodes node i → ClientAt w.clients session c → w.seen ≤ reading + w.setup.skew → (found : Option Held) → held_of i session ≡ found → ComesBy w (for_request (with_reading w reading) node session (accept_request node session reading i c found))
@@ -197,6 +198,7 @@ decide_progress : (w : State) (node session : ℕ) (i : InstanceEntry) (held : H
 decide_progress w node session i held c served stop progress.Accepted is = decide_verdict w node session i held c served stop is (both_verdict i.buckets c.reads held.request) refl
 decide_progress w node session i held c served stop progress.Asked is = decide_still w node session (Some i) c (cause.NoRequest session) served.at served.client_at
 decide_progress w node session i held c served stop (progress.Drawn stamp) is = decide_still w node session (Some i) c (cause.NoRequest session) served.at served.client_at
+decide_progress w node session i held c served stop (progress.Handed commit) is = decide_still w node session (Some i) c (cause.NoRequest session) served.at served.client_at
 decide_progress w node session i held c served stop (progress.Settled commit how) is = decide_still w node session (Some i) c (cause.NoRequest session) served.at served.client_at
 
 decide_found : (w : State) (node session : ℕ) (i : InstanceEntry) (c : Client) → InstanceAt w.nodes node i → ClientAt w.clients session c → StopOf i.stop → (found : Option Held) → held_of i session ≡ found → ComesBy w (for_request w node session (decide_request node session i c found))

@@ -1,7 +1,7 @@
 -- For call_laws too.
 -- What a session has under way fits its state, so that its next step comes to an outcome.
 use Rattle.std.proofs.Common.{◌≡◌, ℕ, Bool, true, false, IsTrue, if◌then◌else◌, List, [], ◌∷◌, Option, Some, None, ◌⊎◌, inl, inr, refl, sym, ◌∙◌, ap, subst}
-use Rattle.std.proofs.lemmas.Option.{same_Some}
+use Rattle.std.proofs.lemmas.Option.{same_Some, none-some}
 use Rattle.port_io.specs.declared.weather.Fate.{Fate}
 use Rattle.history_book.specs.declared.cause.Cause.{Cause}
 use Rattle.history_book.specs.declared.cause.Cause.TheVariants.{Idle}
@@ -12,15 +12,16 @@ use Rattle.client_parts.specs.declared.session.State.{State as SessionState}
 use Rattle.client_parts.specs.declared.session.State.TheVariants as phase
 use Rattle.client_parts.specs.Completion.{finish_asks, undo_asks, first_ask}
 use Rattle.client_parts.specs.Resolve.{Settling, own_settling}
-use Rattle.client_parts.specs.SessionSteps.{SessionEntry, step_refusal, has_transaction}
+use Rattle.client_parts.specs.SessionSteps.{SessionEntry, step_refusal, has_transaction, handed_by, handed_commit}
 use Rattle.machine.specs.State.{UnderWay, Nothing, Reads, Settles, Completes, Client, State}
 use Rattle.machine.specs.Clients.{is_reading, is_reading_by}
-use Rattle.machine.specs.Events.Step.{own_resolve, work_by, work_of, step_at, step_on, step_by as step_unless}
+use Rattle.machine.specs.Events.Step.{own_resolve, work_by, work_of, step_at, step_due, step_on, step_by as step_unless}
 use Rattle.isolation_laws.specs.Words.{ClientAt}
 use Rattle.isolation_laws.specs.Holds.{Holds}
 use Rattle.isolation_laws.proofs.Outcome.PlainItems.{none_plain, Mild, session_plain, mild_is}
 use Rattle.isolation_laws.proofs.Inversions.InversionParts.{ComesBy, still_client}
 use Rattle.isolation_laws.proofs.Inversions.InversionOfCalls.{NoList}
+use Rattle.isolation_laws.proofs.Inversions.InversionOfPlacings.{placing_comes}
 use Rattle.isolation_laws.proofs.Inversions.InversionOfSteps.{for_stores, read_comes, IsResolve, settle_comes, IsCompletion, complete_comes}
 
 -- what is done next is what is under way, and fits the state
@@ -87,31 +88,48 @@ no_step : (reading : Bool) → (if reading then None else Some Idle) ≡ None �
 no_step true go none = cc
 no_step false go none = cc
 
-completes_only : (w : State) (h : List Item) (session : ℕ) (c : Client) (asked : Ask) (asks : List Ask) → Holds w h → ClientAt w.clients session c → c.under_way ≡ Completes (asked ∷ asks) → (state : SessionState) → c.entry.state ≡ state → step_refusal state (is_reading c) ≡ None → IsCompletion c asked asks
-completes_only w h session c asked asks holds at under_way (phase.Completing undo) is go = record {
+-- a session that is to place its commit knows its start and the commit
+has_handed : (state : SessionState) (t commit : ℕ) (start due : Option ℕ) → state ≡ phase.Placing → start ≡ Some t → due ≡ Some commit → handed_by state start due ≡ Some (t, commit)
+has_handed state t commit start due placing begun known = cc
+
+placing_handed : (w : State) (h : List Item) (session : ℕ) (c : Client) → Holds w h → ClientAt w.clients session c → c.entry.state ≡ phase.Placing → (stamps : ℕ × ℕ) × (handed_commit c.entry ≡ Some stamps)
+placing_handed w h session c holds at placing =
+    let begun = holds.requests.have_begun.begun session c at (subst (λ (state : SessionState). IsTrue (has_transaction state)) (sym placing) refl) in
+    let known = holds.under_way.handed.commit session c at placing in
+    ((begun.0, known.0), has_handed c.entry.state begun.0 known.0 c.entry.start c.entry.commit placing begun.1 known.1)
+
+not_placing : (w : State) (h : List Item) (session : ℕ) (c : Client) → Holds w h → ClientAt w.clients session c → handed_commit c.entry ≡ None → c.entry.state ≡ phase.Placing → ⊥
+not_placing w h session c holds at none placing =
+    let handed = placing_handed w h session c holds at placing in
+    none-some handed.0 (sym none ∙ handed.1)
+
+completes_only : (w : State) (h : List Item) (session : ℕ) (c : Client) (asked : Ask) (asks : List Ask) → Holds w h → ClientAt w.clients session c → handed_commit c.entry ≡ None → c.under_way ≡ Completes (asked ∷ asks) → (state : SessionState) → c.entry.state ≡ state → step_refusal state (is_reading c) ≡ None → IsCompletion c asked asks
+completes_only w h session c asked asks holds at none under_way (phase.Completing undo) is go = record {
   undo = undo;
   completing = is;
   under_way = under_way;
   no_list = completes_no_list w h session c undo asked asks holds at is under_way;
 }
-completes_only w h session c asked asks holds at under_way phase.OpenOutcome is go = elim (holds.under_way.settling.resolve session c at is) [
-  | inl none ↦ let clash : Nothing ≡ Completes (asked ∷ asks) = sym none ∙ under_way in absurd (cc)
+completes_only w h session c asked asks holds at none under_way phase.Placing is go = absurd (not_placing w h session c holds at none is)
+completes_only w h session c asked asks holds at none under_way phase.OpenOutcome is go = elim (holds.under_way.settling.resolve session c at is) [
+  | inl idle ↦ let clash : Nothing ≡ Completes (asked ∷ asks) = sym idle ∙ under_way in absurd (cc)
   | inr (x, t, settles, start, own) ↦ let clash : Settles x ≡ Completes (asked ∷ asks) = sym settles ∙ under_way in absurd (cc)
 ]
-completes_only w h session c asked asks holds at under_way phase.Free is go = absurd (no_step (is_reading c) go (ap is_reading_by under_way))
-completes_only w h session c asked asks holds at under_way phase.Asking is go = absurd (no_step (is_reading c) go (ap is_reading_by under_way))
-completes_only w h session c asked asks holds at under_way phase.Open is go = absurd (no_step (is_reading c) go (ap is_reading_by under_way))
-completes_only w h session c asked asks holds at under_way phase.Committing is go = absurd (no_step (is_reading c) go (ap is_reading_by under_way))
-completes_only w h session c asked asks holds at under_way phase.Gone is go = absurd (cc)
+completes_only w h session c asked asks holds at none under_way phase.Free is go = absurd (no_step (is_reading c) go (ap is_reading_by under_way))
+completes_only w h session c asked asks holds at none under_way phase.Asking is go = absurd (no_step (is_reading c) go (ap is_reading_by under_way))
+completes_only w h session c asked asks holds at none under_way phase.Open is go = absurd (no_step (is_reading c) go (ap is_reading_by under_way))
+completes_only w h session c asked asks holds at none under_way phase.Committing is go = absurd (no_step (is_reading c) go (ap is_reading_by under_way))
+completes_only w h session c asked asks holds at none under_way phase.Gone is go = absurd (cc)
 
-under_way_fits : (w : State) (h : List Item) (session : ℕ) (c : Client) → Holds w h → ClientAt w.clients session c → step_refusal c.entry.state (is_reading c) ≡ None → (work : UnderWay) → c.under_way ≡ work → IsWork c work
-under_way_fits w h session c holds at go Nothing is = tt
-under_way_fits w h session c holds at go (Reads r) is = is
-under_way_fits w h session c holds at go (Settles x) is = settles_only w h session c x holds at is
-under_way_fits w h session c holds at go (Completes []) is = tt
-under_way_fits w h session c holds at go (Completes (asked ∷ asks)) is = completes_only w h session c asked asks holds at is c.entry.state refl go
+under_way_fits : (w : State) (h : List Item) (session : ℕ) (c : Client) → Holds w h → ClientAt w.clients session c → handed_commit c.entry ≡ None → step_refusal c.entry.state (is_reading c) ≡ None → (work : UnderWay) → c.under_way ≡ work → IsWork c work
+under_way_fits w h session c holds at none go Nothing is = tt
+under_way_fits w h session c holds at none go (Reads r) is = is
+under_way_fits w h session c holds at none go (Settles x) is = settles_only w h session c x holds at is
+under_way_fits w h session c holds at none go (Completes []) is = tt
+under_way_fits w h session c holds at none go (Completes (asked ∷ asks)) is = completes_only w h session c asked asks holds at none is c.entry.state refl go
 
 work_cases : (state : SessionState) (e : SessionEntry) (work : UnderWay) → ((state ≡ phase.OpenOutcome) × (work ≡ Nothing)) ⊎ (work_by state e work ≡ work)
+work_cases phase.Placing e work = inr refl
 work_cases phase.OpenOutcome e Nothing = inl (refl, refl)
 work_cases phase.OpenOutcome e (Reads r) = inr refl
 work_cases phase.OpenOutcome e (Settles x) = inr refl
@@ -123,10 +141,10 @@ work_cases phase.Committing e work = inr refl
 work_cases (phase.Completing undo) e work = inr refl
 work_cases phase.Gone e work = inr refl
 
-pub work_fits : (w : State) (h : List Item) (session : ℕ) (c : Client) → Holds w h → ClientAt w.clients session c → step_refusal c.entry.state (is_reading c) ≡ None → IsWork c (work_of c)
-work_fits w h session c holds at go = elim (work_cases c.entry.state c.entry c.under_way) [
+pub work_fits : (w : State) (h : List Item) (session : ℕ) (c : Client) → Holds w h → ClientAt w.clients session c → handed_commit c.entry ≡ None → step_refusal c.entry.state (is_reading c) ≡ None → IsWork c (work_of c)
+work_fits w h session c holds at none go = elim (work_cases c.entry.state c.entry c.under_way) [
   | inl due ↦ subst (λ (state : SessionState). IsWork c (work_by state c.entry c.under_way)) (sym due.0) (subst (λ (work : UnderWay). IsWork c (work_by phase.OpenOutcome c.entry work)) (sym due.1) (own_work c due.0 due.1))
-  | inr same ↦ subst (λ (work : UnderWay). IsWork c work) (sym same) (under_way_fits w h session c holds at go c.under_way refl)
+  | inr same ↦ subst (λ (work : UnderWay). IsWork c work) (sym same) (under_way_fits w h session c holds at none go c.under_way refl)
 ]
 
 idle_mild : (reading : Bool) → Mild (if reading then None else Some Idle)
@@ -135,13 +153,18 @@ idle_mild false = refl
 
 step_mild : (state : SessionState) (reading : Bool) → Mild (step_refusal state reading)
 step_mild phase.Gone reading = refl
+step_mild phase.Placing reading = tt
 step_mild phase.OpenOutcome reading = tt
 step_mild (phase.Completing undo) reading = tt
 step_mild _ reading = idle_mild reading
 
+due_comes : (w : State) (h : List Item) (session : ℕ) (fate : Fate) (c : Client) → Holds w h → ClientAt w.clients session c → step_refusal c.entry.state (is_reading c) ≡ None → (due : Option (ℕ × ℕ)) → handed_commit c.entry ≡ due → ComesBy w (for_stores w session (step_due session fate c w.rows w.pairs due))
+due_comes w h session fate c holds at go None is = work_comes w session fate c at (work_of c) (work_fits w h session c holds at is go)
+due_comes w h session fate c holds at go (Some stamps) is = placing_comes w session fate c stamps at is
+
 step_comes : (w : State) (h : List Item) (session : ℕ) (fate : Fate) (c : Client) → Holds w h → ClientAt w.clients session c → (why : Option Cause) → step_refusal c.entry.state (is_reading c) ≡ why → ComesBy w (for_stores w session (step_unless session fate c w.rows w.pairs why))
 step_comes w h session fate c holds at (Some why) go = still_client w session c _ at (session_plain session why (mild_is (step_refusal c.entry.state (is_reading c)) why go (step_mild c.entry.state (is_reading c))))
-step_comes w h session fate c holds at None go = work_comes w session fate c at (work_of c) (work_fits w h session c holds at go)
+step_comes w h session fate c holds at None go = due_comes w h session fate c holds at go (handed_commit c.entry) refl
 
 pub step_at_client : (w : State) (h : List Item) (session : ℕ) (fate : Fate) (c : Client) → Holds w h → ClientAt w.clients session c → ComesBy w (for_stores w session (step_on session fate c w.rows w.pairs))
 step_at_client w h session fate c holds at = step_comes w h session fate c holds at (step_refusal c.entry.state (is_reading c)) refl

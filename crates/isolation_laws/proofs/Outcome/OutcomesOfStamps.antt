@@ -7,7 +7,7 @@ use Rattle.stamp_base.specs.declared.stores.Mark.{Mark}
 use Rattle.stamp_base.specs.declared.stores.Store.TheVariants.{Table}
 use Rattle.history_book.specs.declared.cause.Cause.TheVariants as cause
 use Rattle.history_book.specs.declared.item.Actor.TheVariants.{Node, Session}
-use Rattle.history_book.specs.declared.item.StoreStep.TheVariants.{PutFound}
+use Rattle.history_book.specs.declared.item.StoreStep.TheVariants.{PutFound, Handed}
 use Rattle.history_book.specs.declared.item.Item.{Item}
 use Rattle.history_book.specs.declared.item.Item.TheVariants as item
 use Rattle.store_parts.specs.Pairs.{mark_of, put_pair}
@@ -19,9 +19,9 @@ use Rattle.oracle_parts.specs.declared.instance.Settled.{Settled}
 use Rattle.oracle_parts.specs.declared.instance.Settled.TheVariants as how
 use Rattle.oracle_parts.specs.Buckets.{verdict, record_pairs}
 use Rattle.oracle_parts.specs.Instance.{InstanceEntry, held_of, least_unsettled}
-use Rattle.oracle_parts.specs.InstanceSteps.{without_request, moved, pairs_by, request_verdict}
+use Rattle.oracle_parts.specs.InstanceSteps.{without_request, moved, drawn_as, pairs_by, request_verdict}
 use Rattle.machine.specs.State.{Client, State}
-use Rattle.machine.specs.Clients.{client_begun, client_aborted, client_committed, client_opened, unless_gone}
+use Rattle.machine.specs.Clients.{client_begun, client_handed, client_aborted, client_committed, client_opened, unless_gone}
 use Rattle.machine.specs.Events.Decide.{draw_item}
 use Rattle.isolation_laws.specs.Words.{InstanceAt, ClientAt}
 use Rattle.isolation_laws.specs.Quiet.{AllQuiet}
@@ -43,7 +43,7 @@ pub record Drew (w : State) : Type 0 where
   pub reads_free : (asker start : ℕ) (keys : List ℕ) → held.request ≡ Commit asker start keys → verdict i.buckets start c.reads ≡ Free
 
 abbrev pub drew_instance : (w : State) → Drew w → InstanceEntry
-drew_instance w k = record (moved k.i k.session k.held (progress.Drawn (k.i.last + 1))) { last = k.i.last + 1; buckets = record_pairs k.i.buckets (pairs_by k.held.request (k.i.last + 1)) }
+drew_instance w k = record (moved k.i k.session k.held (drawn_as k.i.direct k.held.request (k.i.last + 1))) { last = k.i.last + 1; buckets = record_pairs k.i.buckets (pairs_by k.held.request (k.i.last + 1)) }
 
 abbrev pub drew_state : (w : State) → Drew w → State
 drew_state w k = record w { nodes = slice_set w.nodes k.node (Some (drew_instance w k)) }
@@ -164,3 +164,26 @@ pub record AnsweredCommit (w : State) : Type 0 where
 
 abbrev pub answered_commit_state : (w : State) → AnsweredCommit w → State
 answered_commit_state w k = record w { nodes = slice_set w.nodes k.node (Some (without_request k.i k.session)); clients = slice_set w.clients k.session (unless_gone k.c (answered_client k.by k.c k.commit)) }
+
+-- a commit that was drawn is handed to its session, which is to place it
+pub record HandedOver (w : State) : Type 0 where
+  pub node : ℕ
+  pub session : ℕ
+  pub asker : ℕ
+  pub start : ℕ
+  pub commit : ℕ
+  pub keys : List ℕ
+  pub i : InstanceEntry
+  pub held : Held
+  pub c : Client
+  pub at : InstanceAt w.nodes node i
+  pub has : held_of i session ≡ Some held
+  pub request_is : held.request ≡ Commit asker start keys
+  pub drawn : held.progress ≡ progress.Handed commit
+  pub client_at : ClientAt w.clients session c
+  pub items : List Item
+  pub tells : items ≡ item.Step (Session session) (Handed start commit) ∷ []
+  pub quiet : AllQuiet items
+
+abbrev pub handed_over_state : (w : State) → HandedOver w → State
+handed_over_state w k = record w { nodes = slice_set w.nodes k.node (Some (without_request k.i k.session)); clients = slice_set w.clients k.session (unless_gone k.c (client_handed k.c k.commit)) }

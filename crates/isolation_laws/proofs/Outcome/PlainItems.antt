@@ -6,6 +6,7 @@ use Rattle.std.specs.Prelude.{ℕ, IsTrue, if◌then◌else◌, All}
 use Rattle.std.proofs.lemmas.List.Elements.{All-nil, All-cons, All-weaker}
 use Rattle.history_book.specs.declared.cause.Cause.{Cause}
 use Rattle.history_book.specs.declared.item.Actor.TheVariants.{Node, Session}
+use Rattle.history_book.specs.declared.item.StoreStep.TheVariants.{Handed}
 use Rattle.history_book.specs.declared.item.Item.{Item}
 use Rattle.history_book.specs.declared.item.Item.TheVariants as item
 use Rattle.cause_rules.specs.OpenAsks.{ends_request}
@@ -21,6 +22,7 @@ is_silent (item.Begin session start) = false
 is_silent (item.Committed session start commit) = false
 is_silent (item.Take node reading term epoch until ceiling) = false
 is_silent (item.Crash node term) = false
+is_silent (item.Step actor (Handed start commit)) = false
 is_silent (item.Refused (Node node) why) = true
 is_silent (item.Refused actor why) = if ends_request why then false else true
 is_silent _ = true

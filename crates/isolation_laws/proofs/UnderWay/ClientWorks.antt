@@ -15,43 +15,58 @@ use Rattle.client_parts.specs.Completion.{finish_asks, undo_asks}
 use Rattle.client_parts.specs.Resolve.{Settling}
 use Rattle.client_parts.specs.KeyRead.{Reading, ReadTurn, Asks, Answers, after_passed, turn_at, read_over}
 use Rattle.machine.specs.State.{Nothing, Reads, Settles, Completes, Client}
-use Rattle.machine.specs.Clients.{emptied, undo_of, finish_of, client_begun, client_asked, client_freed, client_aborted, client_committed, client_opened, client_vanished, unless_gone, unless_gone_by}
+use Rattle.machine.specs.Clients.{emptied, undo_of, finish_of, client_begun, client_asked, client_freed, client_aborted, client_handed, client_committed, client_opened, client_vanished, unless_gone, unless_gone_by}
 use Rattle.machine.specs.Events.Fetch.{client_read}
 use Rattle.isolation_laws.specs.Words.{written_keys}
 use Rattle.isolation_laws.proofs.Requests.WrittenKeys.{wrote_in_keys}
-use Rattle.isolation_laws.proofs.UnderWay.Works.{Works, works_idle, no_settling}
+use Rattle.isolation_laws.proofs.UnderWay.Works.{KnowsCommit, Works, works_idle, no_settling}
 
 -- ---- nothing under way
 pub works_freed : (rows : List Row) (h : List Item) (c : Client) → Works rows h (client_freed c)
-works_freed rows h c = works_idle rows h (client_freed c) (record { no_work = refl; no_heal = refl; not_completing = λ undo is. cc })
+works_freed rows h c = works_idle rows h (client_freed c) (record { no_work = refl; no_heal = refl; not_completing = λ undo is. cc; handed = λ is. absurd (cc) })
 
 pub works_opened : (rows : List Row) (h : List Item) (c : Client) → Works rows h (client_opened c)
-works_opened rows h c = works_idle rows h (client_opened c) (record { no_work = refl; no_heal = refl; not_completing = λ undo is. cc })
+works_opened rows h c = works_idle rows h (client_opened c) (record { no_work = refl; no_heal = refl; not_completing = λ undo is. cc; handed = λ is. absurd (cc) })
 
 pub works_vanished : (rows : List Row) (h : List Item) (c : Client) → Works rows h (client_vanished c)
-works_vanished rows h c = works_idle rows h (client_vanished c) (record { no_work = refl; no_heal = refl; not_completing = λ undo is. cc })
+works_vanished rows h c = works_idle rows h (client_vanished c) (record { no_work = refl; no_heal = refl; not_completing = λ undo is. cc; handed = λ is. absurd (cc) })
 
 pub works_begun : (rows : List Row) (h : List Item) (c : Client) (start epoch : ℕ) → Works rows h (client_begun c start epoch)
-works_begun rows h c start epoch = works_idle rows h (client_begun c start epoch) (record { no_work = refl; no_heal = refl; not_completing = λ undo is. cc })
+works_begun rows h c start epoch = works_idle rows h (client_begun c start epoch) (record { no_work = refl; no_heal = refl; not_completing = λ undo is. cc; handed = λ is. absurd (cc) })
 
 asked_completing : (state : SessionState) (undo : Bool) → asked_state state ≡ phase.Completing undo → ⊥
 asked_completing phase.Free undo is = cc
 asked_completing phase.Asking undo is = cc
 asked_completing phase.Open undo is = cc
 asked_completing phase.Committing undo is = cc
+asked_completing phase.Placing undo is = cc
 asked_completing phase.OpenOutcome undo is = cc
 asked_completing (phase.Completing other) undo is = cc
 asked_completing phase.Gone undo is = cc
 
+asked_placing : (state : SessionState) → asked_state state ≡ phase.Placing → ⊥
+asked_placing phase.Free is = cc
+asked_placing phase.Asking is = cc
+asked_placing phase.Open is = cc
+asked_placing phase.Committing is = cc
+asked_placing phase.Placing is = cc
+asked_placing phase.OpenOutcome is = cc
+asked_placing (phase.Completing other) is = cc
+asked_placing phase.Gone is = cc
+
 pub works_asked : (rows : List Row) (h : List Item) (c : Client) → Works rows h (client_asked c)
-works_asked rows h c = works_idle rows h (client_asked c) (record { no_work = refl; no_heal = refl; not_completing = λ undo is. asked_completing c.entry.state undo is })
+works_asked rows h c = works_idle rows h (client_asked c) (record { no_work = refl; no_heal = refl; not_completing = λ undo is. asked_completing c.entry.state undo is; handed = λ is. absurd (asked_placing c.entry.state is) })
+
+-- ---- the commit is to be placed
+pub works_handed : (rows : List Row) (h : List Item) (c : Client) (commit : ℕ) → Works rows h (client_handed c commit)
+works_handed rows h c commit = works_idle rows h (client_handed c commit) (record { no_work = refl; no_heal = refl; not_completing = λ undo is. cc; handed = λ is. (commit, refl) })
 
 -- ---- a transaction that ends without a commit
 pub asks_same : (a b : List Ask) → Completes a ≡ Completes b → a ≡ b
 asks_same a b same = cc
 
 aborted_works : (rows : List Row) (h : List Item) (c : Client) (e : SessionEntry) (t : ℕ) (keys : List ℕ) → e.start ≡ Some t → ((d : ℕ) → Committed h t d → ⊥) → Works rows h (record (emptied c) { entry = aborted_by e keys; under_way = undo_of (Some t) keys })
-aborted_works rows h c e t [] start unplaced = works_idle rows h _ (record { no_work = refl; no_heal = refl; not_completing = λ undo is. cc })
+aborted_works rows h c e t [] start unplaced = works_idle rows h _ (record { no_work = refl; no_heal = refl; not_completing = λ undo is. cc; handed = λ is. absurd (cc) })
 aborted_works rows h c e t (key ∷ keys) start unplaced = record {
   finish = λ asks is busy. absurd (cc);
   finish_busy = λ is. absurd (cc);
@@ -64,6 +79,7 @@ aborted_works rows h c e t (key ∷ keys) start unplaced = record {
   unplaced = λ u d is other placed. unplaced d (subst (λ q. Committed h q d) (same_Some u t (sym other ∙ start)) placed);
   resolve = λ is. absurd (cc);
   only = λ x busy. absurd (cc);
+  handed = λ is. absurd (cc);
   heal = λ k u d offer. absurd (none-some (k, u, d) offer);
 }
 
@@ -91,6 +107,7 @@ committed_works rows h c e t commit start keys placed = record {
   unplaced = λ u d is other done. cc;
   resolve = λ is. absurd (cc);
   only = λ x busy. absurd (cc);
+  handed = λ is. absurd (cc);
   heal = λ k u d offer. absurd (none-some (k, u, d) offer);
 }
 
@@ -104,6 +121,7 @@ unless_works rows h old new phase.Free was works = works (λ is. cc)
 unless_works rows h old new phase.Asking was works = works (λ is. cc)
 unless_works rows h old new phase.Open was works = works (λ is. cc)
 unless_works rows h old new phase.Committing was works = works (λ is. cc)
+unless_works rows h old new phase.Placing was works = works (λ is. cc)
 unless_works rows h old new phase.OpenOutcome was works = works (λ is. cc)
 unless_works rows h old new (phase.Completing undo) was works = works (λ is. cc)
 
@@ -114,9 +132,10 @@ works_unless rows h old new was works = unless_works rows h old new old.entry.st
 pub record IsPlain (c : Client) : Type 0 where
   pub not_completing : (undo : Bool) → c.entry.state ≡ phase.Completing undo → ⊥
   pub not_outcome : c.entry.state ≡ phase.OpenOutcome → ⊥
+  pub handed : KnowsCommit c
 
 pub plain_open : (c : Client) → c.entry.state ≡ phase.Open → IsPlain c
-plain_open c is = record { not_completing = λ undo other. cc; not_outcome = λ other. cc }
+plain_open c is = record { not_completing = λ undo other. cc; not_outcome = λ other. cc; handed = λ other. absurd (cc) }
 
 pub works_plain : (rows : List Row) (h : List Item) (c : Client) → IsPlain c → ((x : Settling) → c.under_way ≡ Settles x → ⊥) → ((k t d : ℕ) → c.heal ≡ Some (k, t, d) → Committed h t d) → Works rows h c
 works_plain rows h c plain other heals = record {
@@ -127,12 +146,13 @@ works_plain rows h c plain other heals = record {
   unplaced = λ t d is start placed. plain.not_completing true is;
   resolve = λ is. absurd (plain.not_outcome is);
   only = λ x busy. absurd (other x busy);
+  handed = plain.handed;
   heal = heals;
 }
 
 -- one that reads
 pub plain_reading : (rows : List Row) (h : List Item) (c : Client) (r : Reading) → Works rows h c → c.under_way ≡ Reads r → IsPlain c
-plain_reading rows h c r work reads = record { not_completing = λ undo is. by undo is; not_outcome = λ is. outcome is }
+plain_reading rows h c r work reads = record { not_completing = λ undo is. by undo is; not_outcome = λ is. outcome is; handed = work.handed }
   where
     by : (undo : Bool) → c.entry.state ≡ phase.Completing undo → ⊥
     by true is = let busy = work.undo_busy is in let both : Reads r ≡ Completes busy.0 = sym reads ∙ busy.1 in cc
@@ -163,5 +183,5 @@ reads_is_settles : (r : Reading) (x : Settling) → Reads r ≡ Settles x → �
 reads_is_settles r x same = cc
 
 pub works_read : (rows : List Row) (h : List Item) (c : Client) (turn : ReadTurn) → IsPlain c → TurnHeals h turn → Works rows h (client_read c turn)
-works_read rows h c (Asks r) plain heals = works_plain rows h (record c { under_way = Reads r; heal = None }) (record { not_completing = plain.not_completing; not_outcome = plain.not_outcome }) (reads_is_settles r) (λ k t d offer. absurd (none-some (k, t, d) offer))
-works_read rows h c (Answers a) plain heals = works_plain rows h (record c { under_way = Nothing; heal = a.heal }) (record { not_completing = plain.not_completing; not_outcome = plain.not_outcome }) no_settling heals
+works_read rows h c (Asks r) plain heals = works_plain rows h (record c { under_way = Reads r; heal = None }) (record { not_completing = plain.not_completing; not_outcome = plain.not_outcome; handed = plain.handed }) (reads_is_settles r) (λ k t d offer. absurd (none-some (k, t, d) offer))
+works_read rows h c (Answers a) plain heals = works_plain rows h (record c { under_way = Nothing; heal = a.heal }) (record { not_completing = plain.not_completing; not_outcome = plain.not_outcome; handed = plain.handed }) no_settling heals

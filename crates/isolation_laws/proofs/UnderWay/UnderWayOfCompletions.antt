@@ -66,6 +66,7 @@ works_next w h c asked a more undo holds is busy work = record {
   unplaced = work.unplaced;
   resolve = λ state. absurd (not_outcome undo (sym is ∙ state));
   only = λ x now. absurd (completes_settles (a ∷ more) x now);
+  handed = work.handed;
   heal = work.heal;
 }
 

@@ -71,6 +71,7 @@ works_resolving rows h c t x work is start own = record {
   unplaced = work.unplaced;
   resolve = λ other. inr (x, t, refl, start, own);
   only = λ y busy. is;
+  handed = work.handed;
   heal = work.heal;
 }
 
@@ -111,6 +112,7 @@ starts_over rows h c is work = record {
   unplaced = work.unplaced;
   resolve = λ other. inl refl;
   only = λ y busy. is;
+  handed = work.handed;
   heal = work.heal;
 }
 

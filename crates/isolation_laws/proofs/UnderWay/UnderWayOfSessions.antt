@@ -94,6 +94,7 @@ works_heal rows h c heal cache is work = record {
   unplaced = work.unplaced;
   resolve = work.resolve;
   only = work.only;
+  handed = work.handed;
   heal = λ k t d offer. elim is [
     | inl same ↦ work.heal k t d (sym same ∙ offer)
     | inr none ↦ heals_none k t d h heal none offer
@@ -111,7 +112,7 @@ dropped_works w h k holds =
       | inl goes ↦ subst (λ (u : UnderWay). Works w.rows h (record k.c { under_way = u; heal = k.heal; cache = put_fresh k.c.cache })) (sym goes.0) (works_heal w.rows h k.c k.heal (put_fresh k.c.cache) k.heal_is work)
       | inr ends ↦ subst (λ (u : UnderWay). Works w.rows h (record k.c { under_way = u; heal = k.heal; cache = put_fresh k.c.cache })) (sym ends.1)
           (let plain = plain_reading w.rows h k.c ends.0.0 work ends.0.1 in
-          works_plain w.rows h (record k.c { under_way = Nothing; heal = k.heal; cache = put_fresh k.c.cache }) (record { not_completing = plain.not_completing; not_outcome = plain.not_outcome }) no_settling (offered w.rows h k.c k.heal k.heal_is work))
+          works_plain w.rows h (record k.c { under_way = Nothing; heal = k.heal; cache = put_fresh k.c.cache }) (record { not_completing = plain.not_completing; not_outcome = plain.not_outcome; handed = plain.handed }) no_settling (offered w.rows h k.c k.heal k.heal_is work))
     ]
 
 pub under_way_dropped : (w : State) (h : List Item) (k : ReadDropped w) → Holds w h → UnderWayFacts (read_dropped_state w k).clients w.sweep w.rows k.pairs (h ++ k.items)
@@ -137,6 +138,6 @@ under_way_read w h k holds =
     let turn : ReadTurn = read_turn w k in
     let told : Told = told_by (read_ask k.r) w.rows w.pairs in
     let was = plain_reading w.rows h k.c k.r (work_of w h k.session k.c holds k.client_at) k.under_way in
-    let plain : IsPlain (read_client w k) = record { not_completing = was.not_completing; not_outcome = was.not_outcome } in
+    let plain : IsPlain (read_client w k) = record { not_completing = was.not_completing; not_outcome = was.not_outcome; handed = was.handed } in
     under_way_moved w h (h ++ read_stepped_items w k) k.session (client_read (read_client w k) turn) w.rows (read_stepped_state w k).pairs holds (calm_keeps w h) (λ t marked. marks_stepped (read_ask k.r) w.pairs t marked) (calm_turn h k.first k.session k.r.start k.r.key turn k.quiet)
     (works_read w.rows h (read_client w k) turn plain (told_holds (TurnHeals h) AnyCache (recalls_heal h) _ k.r told tt (turn_heals w h k.r (settle_turn (settling_of k.r) told) holds refl)).0)

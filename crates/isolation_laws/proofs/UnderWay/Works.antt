@@ -30,6 +30,10 @@ Finishes rows h c asks = (t : ℕ) × (commit : ℕ) × (c.entry.start ≡ Some 
 abbrev pub Resolves : List Row → List Item → Client → Type 0
 Resolves rows h c = (x : Settling) × (t : ℕ) × (c.under_way ≡ Settles x) × (c.entry.start ≡ Some t) × IsOwnResolve rows h t c.entry.keys x
 
+-- it knows the commit that it is to place
+abbrev pub KnowsCommit : Client → Type 0
+KnowsCommit c = c.entry.state ≡ phase.Placing → (commit : ℕ) × (c.entry.commit ≡ Some commit)
+
 pub record Works (rows : List Row) (h : List Item) (c : Client) : Type 0 where
   pub finish : (asks : List Ask) → c.entry.state ≡ phase.Completing false → c.under_way ≡ Completes asks → Finishes rows h c asks
   pub finish_busy : c.entry.state ≡ phase.Completing false → (asks : List Ask) × (c.under_way ≡ Completes asks)
@@ -38,6 +42,7 @@ pub record Works (rows : List Row) (h : List Item) (c : Client) : Type 0 where
   pub unplaced : (t d : ℕ) → c.entry.state ≡ phase.Completing true → c.entry.start ≡ Some t → Committed h t d → ⊥
   pub resolve : c.entry.state ≡ phase.OpenOutcome → (c.under_way ≡ Nothing) ⊎ Resolves rows h c
   pub only : (x : Settling) → c.under_way ≡ Settles x → c.entry.state ≡ phase.OpenOutcome
+  pub handed : KnowsCommit c
   pub heal : (k t d : ℕ) → c.heal ≡ Some (k, t, d) → Committed h t d
 
 abbrev pub AllWork : List Client → List Row → List Item → Type 0
@@ -52,6 +57,7 @@ all_work clients sweep rows pairs h facts s c at = record {
   unplaced = λ t d is start placed. facts.undoing.unplaced s t d (record { client = c; at = at; state_is = is; start_is = start }) placed;
   resolve = λ is. facts.settling.resolve s c at is;
   only = λ x work. facts.settling.only s c x at work;
+  handed = λ is. facts.handed.commit s c at is;
   heal = λ k t d offer. facts.heals.placed s k t d c at offer;
 }
 
@@ -70,6 +76,7 @@ under_way clients sweep rows pairs h work sweeping = record {
     resolve = λ s c at is. (work s c at).resolve is;
     only = λ s c x at busy. (work s c at).only x busy;
   };
+  handed = record { commit = λ s c at is. (work s c at).handed is };
   heals = record { placed = λ s k t d c at offer. (work s c at).heal k t d offer };
   sweeping = sweeping;
 }
@@ -128,6 +135,7 @@ works_on rows new h g c keeps unplaced work = record {
     | inr r ↦ inr (r.0, r.1, r.2, r.3, own_resolve_on rows new h g r.1 c.entry.keys r.0 keeps (λ d placed. unplaced r.1 d r.3 (inr is) placed) r.4)
   ];
   only = work.only;
+  handed = work.handed;
   heal = λ k t d offer. keeps.on (Placed t d) (work.heal k t d offer);
 }
 
@@ -158,6 +166,7 @@ pub record IsIdle (c : Client) : Type 0 where
   pub no_work : c.under_way ≡ Nothing
   pub no_heal : c.heal ≡ None
   pub not_completing : (undo : Bool) → c.entry.state ≡ phase.Completing undo → ⊥
+  pub handed : KnowsCommit c
 
 pub no_settling : (x : Settling) → Nothing ≡ Settles x → ⊥
 no_settling x same = cc
@@ -171,5 +180,6 @@ works_idle rows h c idle = record {
   unplaced = λ t d is start placed. idle.not_completing true is;
   resolve = λ is. inl idle.no_work;
   only = λ x busy. absurd (no_settling x (sym idle.no_work ∙ busy));
+  handed = idle.handed;
   heal = λ k t d offer. absurd (none-some (k, t, d) (sym idle.no_heal ∙ offer));
 }

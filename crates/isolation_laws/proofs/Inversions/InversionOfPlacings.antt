@@ -1,0 +1,84 @@
+-- For cause_laws and call_laws too.
+-- What it comes to that a session places its commit.
+use Rattle.std.proofs.Common.{◌≡◌, ℕ, List, [], ◌∷◌, ◌++◌, Option, Some, None, ◌⊎◌, inl, inr, refl, sym, ap}
+use Rattle.stamp_base.specs.declared.stores.Mark.{Mark}
+use Rattle.stamp_base.specs.declared.stores.Mark.TheVariants.{Committed as CommittedMark}
+use Rattle.stamp_base.specs.declared.stores.Store.TheVariants.{Table}
+use Rattle.port_io.specs.declared.weather.Fate.{Fate}
+use Rattle.port_io.specs.declared.weather.Fate.TheVariants.{Works, FailsUnchanged, FailsApplied}
+use Rattle.port_io.specs.Fates.{fated}
+use Rattle.history_book.specs.declared.cause.Cause.TheVariants as cause
+use Rattle.history_book.specs.declared.item.Actor.TheVariants.{Session}
+use Rattle.history_book.specs.declared.item.StoreStep.TheVariants.{PutFound}
+use Rattle.history_book.specs.declared.item.Item.{Item}
+use Rattle.history_book.specs.declared.item.Item.TheVariants as item
+use Rattle.store_parts.specs.Pairs.{Pairs, mark_of, put_over}
+use Rattle.client_parts.specs.declared.session.State.{State as SessionState}
+use Rattle.client_parts.specs.declared.session.State.TheVariants as phase
+use Rattle.client_parts.specs.SessionSteps.{handed_by, handed_commit}
+use Rattle.oracle_parts.specs.declared.instance.Settled.{Settled}
+use Rattle.oracle_parts.specs.declared.instance.Settled.TheVariants as how
+use Rattle.machine.specs.State.{Client, State}
+use Rattle.machine.specs.Events.Place.{place_by, place_on}
+use Rattle.machine.specs.Events.Step.{placed_among}
+use Rattle.isolation_laws.specs.Words.{ClientAt}
+use Rattle.isolation_laws.specs.Quiet.{AllQuiet}
+use Rattle.isolation_laws.proofs.Pushed.{one_quiet}
+use Rattle.isolation_laws.proofs.Outcome.OutcomesOfPlacings.{AtPlacing, own_clients, own_told}
+use Rattle.isolation_laws.proofs.Outcome.Outcomes.{OfOwnPlaced, OfOwnNotPlaced}
+use Rattle.isolation_laws.proofs.Inversions.InversionParts.{ComesTo, ComesBy, two_quiet}
+use Rattle.isolation_laws.proofs.Inversions.InversionOfSteps.{for_stores}
+use Rattle.isolation_laws.proofs.Inversions.InversionOfAnswers.{not_invalid}
+
+-- ---- what a session has to place
+pub record IsHanded (state : SessionState) (start commit : Option ℕ) (stamps : ℕ × ℕ) : Type 0 where
+  pub placing : state ≡ phase.Placing
+  pub start_is : start ≡ Some stamps.0
+  pub commit_is : commit ≡ Some stamps.1
+
+start_of : Option (ℕ × ℕ) → Option ℕ
+start_of None = None
+start_of (Some stamps) = Some stamps.0
+
+commit_of : Option (ℕ × ℕ) → Option ℕ
+commit_of None = None
+commit_of (Some stamps) = Some stamps.1
+
+pub is_handed : (state : SessionState) (start commit : Option ℕ) (stamps : ℕ × ℕ) → handed_by state start commit ≡ Some stamps → IsHanded state start commit stamps
+is_handed phase.Placing (Some start) (Some commit) stamps is = record { placing = refl; start_is = ap start_of is; commit_is = ap commit_of is }
+is_handed phase.Placing (Some start) None stamps is = absurd (cc)
+is_handed phase.Placing None commit stamps is = absurd (cc)
+is_handed phase.Free start commit stamps is = absurd (cc)
+is_handed phase.Asking start commit stamps is = absurd (cc)
+is_handed phase.Open start commit stamps is = absurd (cc)
+is_handed phase.Committing start commit stamps is = absurd (cc)
+is_handed phase.OpenOutcome start commit stamps is = absurd (cc)
+is_handed (phase.Completing undo) start commit stamps is = absurd (cc)
+is_handed phase.Gone start commit stamps is = absurd (cc)
+
+-- ---- the placing
+own_placed : (w : State) (it : AtPlacing w) (by : Settled) → (by ≡ how.Placed) ⊎ (by ≡ how.Faulted) → mark_of w.pairs it.start ≡ None → AllQuiet (own_told by it.session it.start it.commit) → ComesTo w (record w { clients = own_clients w it by; pairs = put_over w.pairs it.start (CommittedMark it.commit) None }) (item.Placed it.start it.commit ∷ own_told by it.session it.start it.commit)
+own_placed w it by by_is free quiet = (
+  OfOwnPlaced (record { it = it; free = free; by = by; by_is = by_is; items = own_told by it.session it.start it.commit; tells = refl; quiet = quiet }),
+  ap (λ (m : Option Mark). record w { clients = own_clients w it by; pairs = put_over w.pairs it.start (CommittedMark it.commit) m }) (sym free),
+  refl,
+)
+
+own_unplaced : (w : State) (it : AtPlacing w) (by : Settled) → (by ≡ how.Invalid) ⊎ (by ≡ how.Faulted) → (by ≡ how.Invalid → (mark : Mark) × (mark_of w.pairs it.start ≡ Some mark)) → AllQuiet (own_told by it.session it.start it.commit) → ComesTo w (record w { clients = own_clients w it by }) (own_told by it.session it.start it.commit)
+own_unplaced w it by by_is found quiet = (OfOwnNotPlaced (record { it = it; by = by; by_is = by_is; found = found; items = own_told by it.session it.start it.commit; tells = refl; quiet = quiet }), refl, refl)
+
+fault_quiet : (session start : ℕ) → AllQuiet (item.Fault (Session session) Table ∷ item.Refused (Session session) (cause.Open start) ∷ [])
+fault_quiet session start = two_quiet (item.Fault (Session session) Table) (item.Refused (Session session) (cause.Open start)) refl refl
+
+placing_fated : (w : State) (it : AtPlacing w) (fate : Fate) (mark : Option Mark) → mark_of w.pairs it.start ≡ mark → ComesBy w (for_stores w it.session (placed_among w.rows (place_by it.session it.start it.commit fate mark it.c (fated fate w.pairs (put_over w.pairs it.start (CommittedMark it.commit) mark)))))
+placing_fated w it Works None is = own_placed w it how.Placed (inl refl) is (one_quiet (item.Committed it.session it.start it.commit) refl)
+placing_fated w it Works (Some found) is = own_unplaced w it how.Invalid (inl refl) (λ by. (found, is)) (two_quiet (item.Step (Session it.session) (PutFound it.start)) (item.Refused (Session it.session) (cause.Invalid it.start)) refl refl)
+placing_fated w it FailsUnchanged mark is = own_unplaced w it how.Faulted (inr refl) (λ by. absurd (not_invalid by)) (fault_quiet it.session it.start)
+placing_fated w it FailsApplied None is = own_placed w it how.Faulted (inr refl) is (fault_quiet it.session it.start)
+placing_fated w it FailsApplied (Some found) is = own_unplaced w it how.Faulted (inr refl) (λ by. absurd (not_invalid by)) (fault_quiet it.session it.start)
+
+pub placing_comes : (w : State) (session : ℕ) (fate : Fate) (c : Client) (stamps : ℕ × ℕ) → ClientAt w.clients session c → handed_commit c.entry ≡ Some stamps → ComesBy w (for_stores w session (placed_among w.rows (place_on session stamps.0 stamps.1 fate c w.pairs)))
+placing_comes w session fate c stamps at is =
+    let handed : IsHanded c.entry.state c.entry.start c.entry.commit stamps = is_handed c.entry.state c.entry.start c.entry.commit stamps is in
+    let it : AtPlacing w = record { session = session; start = stamps.0; commit = stamps.1; c = c; client_at = at; placing = handed.placing; start_is = handed.start_is; commit_is = handed.commit_is } in
+    placing_fated w it fate (mark_of w.pairs stamps.0) refl
