@@ -46,6 +46,12 @@ abbrev pub after_extending : Option Halt → Point
 after_extending (Some Faulted) = Over
 after_extending _ = Drives
 
+-- a placing that met a mark leaves cells to erase
+abbrev pub after_stepping : Option Halt → Point
+after_stepping None = Steps
+after_stepping (Some Refused) = Finishes
+after_stepping (Some _) = Over
+
 -- after the first event of a line
 abbrev pub after_opening : Verb → Option Halt → Point
 after_opening (verb.Begin target) halt = unless_halted Drives halt
@@ -55,7 +61,7 @@ after_opening verb.Collect halt = after_serving halt
 after_opening (verb.Write key value) halt = after_write halt
 after_opening (verb.Read key) halt = unless_halted Reads halt
 after_opening verb.Abort halt = unless_halted Finishes halt
-after_opening verb.Finish halt = unless_halted Steps halt
+after_opening verb.Finish halt = after_stepping halt
 after_opening (verb.Sweep node txn) halt = unless_halted Steps halt
 after_opening _ halt = Over
 
@@ -66,5 +72,5 @@ follows verb Drives halt = after_serving halt
 follows verb Extends halt = after_extending halt
 follows verb Finishes halt = unless_halted Finishes halt
 follows verb Reads halt = unless_halted Reads halt
-follows verb Steps halt = unless_halted Steps halt
+follows verb Steps halt = after_stepping halt
 follows verb Over halt = Over

@@ -3,6 +3,7 @@ use Rattle.std.specs.Prelude.{ℕ, ◌+◌, ◌*◌, ◌==◌, Bool, false, ◌&
 use Rattle.history_book.specs.declared.item.Actor.{Actor}
 use Rattle.history_book.specs.declared.item.Actor.TheVariants.{Clock, Node, Session, Janitor}
 use Rattle.store_parts.specs.Rows.{Row, fetched, front_of, keys_of_version}
+use Rattle.client_parts.specs.SessionSteps.{handed_commit}
 use Rattle.client_parts.specs.Resolve.{settle_left}
 use Rattle.client_parts.specs.KeyRead.{read_left}
 use Rattle.client_parts.specs.Sweep.{SweepPoint, Table, Marking, Listing, Left, Undecided, Sweeping}
@@ -35,6 +36,11 @@ steps_left keys (UnderRead r) = read_left r
 steps_left keys (Settles x) = settle_left x.point + keys + 1
 steps_left keys (Completes asks) = length asks
 
+-- a placing is followed by a completion of the keys
+abbrev pub steps_due : ℕ → Option (ℕ × ℕ) → ℕ → ℕ
+steps_due keys None left = left
+steps_due keys (Some stamps) left = keys + 2
+
 -- a client is asked for a number, which is 0 where there is none
 abbrev pub of_client : Option Client → (Client → ℕ) → ℕ
 of_client None f = 0
@@ -46,15 +52,19 @@ keys_of c = length c.entry.keys
 abbrev pub client_completes : Client → ℕ
 client_completes c = asks_left c.under_way
 
--- what may come of a client once its request or its transaction ends: a completion of its keys
+-- what may come of a client once its request or its transaction ends: a placing, and a completion of its keys
 abbrev pub client_ends : Client → ℕ
-client_ends c = keys_of c + 1 + client_completes c
+client_ends c = keys_of c + 2 + client_completes c
+
+-- what is left to a client without a request
+abbrev pub client_settles : Client → ℕ
+client_settles c = steps_due (keys_of c) (handed_commit c.entry) (client_completes c)
 
 abbrev pub client_reads : Client → ℕ
 client_reads c = reads_left c.under_way
 
 abbrev pub client_steps : Client → ℕ
-client_steps c = steps_left (keys_of c) (work_of c)
+client_steps c = steps_due (keys_of c) (handed_commit c.entry) (steps_left (keys_of c) (work_of c))
 
 -- the cells that a fetch of the key would give the client
 abbrev pub cells_by : List Row → ℕ → Option ℕ → ℕ
@@ -84,9 +94,9 @@ abbrev pub request_left : State → Option (ℕ × Place) → ℕ
 request_left w None = 0
 request_left w (Some request) = place_left (lacks_at (slice_get w.nodes request.0)) request.1
 
--- with what may come after the request has ended; where there is none, only the completion
+-- with what may come after the request has ended; where there is none, only the placing and the completion
 abbrev pub drive_left_by : State → Option Client → Option (ℕ × Place) → ℕ
-drive_left_by w c None = of_client c client_completes
+drive_left_by w c None = of_client c client_settles
 drive_left_by w c (Some request) = request_left w (Some request) + of_client c client_ends
 
 abbrev pub drive_left : State → ℕ → ℕ

@@ -53,9 +53,19 @@ abbrev pub finish_next : ℕ → Doing → Option Event
 finish_next session doing.Completing = Some (event.Step session)
 finish_next session _ = None
 
--- where no request is left, a completion follows
+-- a line that only submits its commit leaves the placing to a later line
+abbrev pub places : Verb → Bool
+places (verb.Submit to) = false
+places _ = true
+
+-- a commit that was handed over is placed, and then a completion goes on
+abbrev pub placing_next : ℕ → Doing → Bool → Option Event
+placing_next session doing.Placing true = Some (event.Step session)
+placing_next session doing placed = finish_next session doing
+
+-- where no request is left, a placing and a completion follow
 abbrev pub drive_next : Clocks → ℕ → Verb → View → Option (ℕ × Place) → Option Event
-drive_next clocks session verb view None = finish_next session view.doing
+drive_next clocks session verb view None = placing_next session view.doing (places verb)
 drive_next clocks session verb view (Some request) =
     if is_served verb request.1 then Some (serves clocks session request.0 view.commit request.1) else None
 
@@ -86,6 +96,7 @@ read_next session _ = None
 
 abbrev pub steps_next : ℕ → Doing → Option Event
 steps_next session doing.Reading = Some (event.Step session)
+steps_next session doing.Placing = Some (event.Step session)
 steps_next session doing.OpenOutcome = Some (event.Step session)
 steps_next session doing.Completing = Some (event.Step session)
 steps_next session _ = None

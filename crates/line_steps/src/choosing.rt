@@ -188,7 +188,7 @@ fn name_opens(actor: Actor, verb: &Verb) -> Option<Event>
 
 // ---- serving a request
 
-/// The next event that serves the session's request; where none is left, a completion goes on.
+/// The next event that serves the session's request; where none is left, a placing and then a completion goes on.
 fn drive_next(
     base: u64,
     leads: &[u64],
@@ -200,7 +200,7 @@ fn drive_next(
     ensures { result ≡ next.drive_next (clocks base leads.now) session verb.now view.now view.now.request }
 {
     match view.request {
-        None => finish_next(session, view.doing),
+        None => placing_next(session, view.doing, places(verb)),
         Some((node, place)) if is_served(verb, place) => {
             Some(serves(base, leads, session, node, view.commit, place))
         }
@@ -295,12 +295,29 @@ fn extend_next(request: Option<(NodeNo, Place)>) -> Option<Event>
 // ---- what is under way
 
 /// A completion goes on.
-pub fn finish_next(session: SessionNo, doing: Doing) -> Option<Event>
+fn finish_next(session: SessionNo, doing: Doing) -> Option<Event>
     ensures { result ≡ next.finish_next session doing }
 {
     match doing {
         Doing::Completing => Some(Event::Step { session }),
         _ => None,
+    }
+}
+
+/// Whether a line of this verb places a commit that was handed over.
+pub fn places(verb: &Verb) -> bool
+    ensures { result ≡ next.places verb.now }
+{
+    !matches!(verb, Verb::Submit { .. })
+}
+
+/// A commit that was handed over is placed, where the line places it, and a completion goes on.
+pub fn placing_next(session: SessionNo, doing: Doing, places: bool) -> Option<Event>
+    ensures { result ≡ next.placing_next session doing places }
+{
+    match doing {
+        Doing::Placing if places => Some(Event::Step { session }),
+        _ => finish_next(session, doing),
     }
 }
 
@@ -327,7 +344,9 @@ fn steps_next(session: SessionNo, doing: Doing) -> Option<Event>
     ensures { result ≡ next.steps_next session doing }
 {
     match doing {
-        Doing::Reading | Doing::OpenOutcome | Doing::Completing => Some(Event::Step { session }),
+        Doing::Reading | Doing::Placing | Doing::OpenOutcome | Doing::Completing => {
+            Some(Event::Step { session })
+        }
         _ => None,
     }
 }

@@ -13,7 +13,8 @@ pub fn follows(verb: &Verb, point: Point, halt: Option<Halt>) -> Point
         Point::Opens => after_opening(verb, halt),
         Point::Drives => after_serving(halt),
         Point::Extends => after_extending(halt),
-        Point::Finishes | Point::Reads | Point::Steps => unless_halted(point, halt),
+        Point::Steps => after_stepping(halt),
+        Point::Finishes | Point::Reads => unless_halted(point, halt),
         Point::Over => Point::Over,
     }
 }
@@ -29,7 +30,8 @@ fn after_opening(verb: &Verb, halt: Option<Halt>) -> Point
         Verb::Write { .. } => after_write(halt),
         Verb::Read { .. } => unless_halted(Point::Reads, halt),
         Verb::Abort => unless_halted(Point::Finishes, halt),
-        Verb::Finish | Verb::Sweep { .. } => unless_halted(Point::Steps, halt),
+        Verb::Finish => after_stepping(halt),
+        Verb::Sweep { .. } => unless_halted(Point::Steps, halt),
         _ => Point::Over,
     }
 }
@@ -60,6 +62,16 @@ fn after_serving(halt: Option<Halt>) -> Point
         Some(Halt::NoStamp) => Point::Extends,
         Some(Halt::NotYet) => Point::Over,
         Some(Halt::Refused) => Point::Finishes,
+    }
+}
+
+fn after_stepping(halt: Option<Halt>) -> Point
+    ensures { result ≡ halts.after_stepping halt }
+{
+    match halt {
+        None => Point::Steps,
+        Some(Halt::Refused) => Point::Finishes,
+        Some(_) => Point::Over,
     }
 }
 

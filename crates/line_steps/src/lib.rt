@@ -6,7 +6,7 @@ mod following;
 mod laws;
 mod point;
 
-pub use choosing::{finish_next, idle_next, is_served, next_event};
+pub use choosing::{idle_next, is_served, next_event, places, placing_next};
 pub use following::follows;
 pub use laws::{
     events_lower_what_is_left, lines_are_answered, lines_keep_facts, runs_end, scripts_are_reached,

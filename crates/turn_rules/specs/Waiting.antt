@@ -10,7 +10,7 @@ use Rattle.script_data.specs.declared.line.Verb.TheVariants as verb
 use Rattle.line_steps.specs.declared.point.Point.{Point}
 use Rattle.line_steps.specs.declared.point.Point.TheVariants.{Opens, Drives, Extends}
 use Rattle.line_steps.specs.declared.point.View.{View}
-use Rattle.line_steps.specs.Next.{Clocks, is_served, finish_next, idle_next, next}
+use Rattle.line_steps.specs.Next.{Clocks, is_served, places, placing_next, idle_next, next}
 use Rattle.turn_rules.specs.declared.ahead.Why.TheVariants.{Reply, Name}
 use Rattle.turn_rules.specs.declared.ahead.Ahead.{Ahead}
 use Rattle.turn_rules.specs.declared.ahead.Ahead.TheVariants.{Makes, Waits, Passes}
@@ -20,16 +20,16 @@ abbrev pub made_next : Option Event → Ahead
 made_next None = Passes
 made_next (Some e) = Makes e
 
--- a request that the line has served is waited for; once it has ended, a completion follows
+-- a request that the line has served is waited for; once it has ended, a placing and a completion follow
 abbrev pub drive_ahead : ℕ → Verb → View → Option (ℕ × Place) → Ahead
-drive_ahead session verb view None = made_next (finish_next session view.doing)
+drive_ahead session verb view None = made_next (placing_next session view.doing (places verb))
 drive_ahead session verb view (Some request) = if is_served verb request.1 then Waits Reply else Passes
 
 -- a session with no request in flight has come too late to collect it where no line has waited for it, and has nothing to
 -- collect otherwise
 abbrev pub collect_ahead : ℕ → View → Bool → Option (ℕ × Place) → Ahead
 collect_ahead session view unawaited (Some request) = Waits Reply
-collect_ahead session view true None = made_next (finish_next session view.doing)
+collect_ahead session view true None = made_next (placing_next session view.doing true)
 collect_ahead session view false None = made_next (idle_next session view.doing)
 
 -- a name is awaited until it is posted

@@ -5,7 +5,7 @@ ghost use Rattle.turn_rules.specs.Waiting as waiting;
 
 use crate::ahead::{Ahead, Why};
 use history_book::Actor;
-use line_steps::{Point, View, finish_next, idle_next, is_served, next_event};
+use line_steps::{Point, View, idle_next, is_served, next_event, places, placing_next};
 use machine::Event;
 use script_data::{Line, Verb};
 use stamp_base::SessionNo;
@@ -55,7 +55,7 @@ fn drive_ahead(session: SessionNo, verb: &Verb, view: &View) -> Ahead
     ensures { result ≡ waiting.drive_ahead session verb.now view.now view.now.request }
 {
     match view.request {
-        None => made_next(finish_next(session, view.doing)),
+        None => made_next(placing_next(session, view.doing, places(verb))),
         Some((_, place)) if is_served(verb, place) => Ahead::Waits(Why::Reply),
         Some(_) => Ahead::Passes,
     }
@@ -67,7 +67,7 @@ fn collect_ahead(session: SessionNo, view: &View, unawaited: bool) -> Ahead
 {
     match view.request {
         Some(_) => Ahead::Waits(Why::Reply),
-        None if unawaited => made_next(finish_next(session, view.doing)),
+        None if unawaited => made_next(placing_next(session, view.doing, true)),
         None => made_next(idle_next(session, view.doing)),
     }
 }
