@@ -7,6 +7,7 @@ pub mod OpenAfter
 pub mod ClientsAfter
 pub mod RequestsAfter
 pub mod CommitsInFlight
+pub mod OtherCommits
 pub mod Standing
 pub mod Silent
 pub mod RequestsKept

@@ -41,8 +41,9 @@ numbers_asked_begin w h k holds =
 numbers_placed : (w : State) (h : List Item) (p : PlacedPending w) (nodes : List (Option InstanceEntry)) (items : List Item) → AllQuiet items → SameNumbers w.nodes nodes → Holds w h → NumberFacts w.setup w.seen nodes w.master (h ++ placed_item w p ∷ items)
 numbers_placed w h p nodes items quiet same holds =
     let q = p.coming in
+    let drew = (placed_drew w h p holds).0 in
     loud_numbers w.setup w.seen w.nodes nodes w.master h (placed_item w p) items same (placed_is_no_draw q.start p.commit) (fits_placed h q.start p.commit)
-    (λ t c is. placed_fits h q.start p.commit t c q.session q.node q.term (placed_drew w h p holds).0 is) quiet holds.numbers
+    (λ t c is. placed_fits h q.start p.commit t c q.session drew.0 drew.1 drew.2 is) quiet holds.numbers
 
 numbers_answered_begin : (w : State) (h : List Item) (k : AnsweredBegin w) → Holds w h → NumberFacts w.setup w.seen (answered_begin_state w k).nodes w.master (h ++ answered_begin_items w k)
 numbers_answered_begin w h k holds =

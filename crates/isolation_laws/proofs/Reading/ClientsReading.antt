@@ -30,6 +30,7 @@ use Rattle.isolation_laws.proofs.Outcome.OutcomesOfSessions.{EndedReadOnly, read
 use Rattle.isolation_laws.proofs.Outcome.OutcomesOfWork.{ReadDropped, read_dropped_state, OutcomeStepped, outcome_state, OutcomeFailed, outcome_failed_state, CompletedOne, completed_state}
 use Rattle.isolation_laws.proofs.Requests.ClientsOpen.{gone_cases}
 use Rattle.isolation_laws.proofs.Requests.OpenAfter.{crashed_at}
+use Rattle.isolation_laws.proofs.Reading.ReadersRely.{ReadingBy}
 
 abbrev pub FewerReading : List Client → List Client → Type 0
 FewerReading old new = (s : ℕ) (c : Client) (r : Reading) → ClientAt new s c → c.under_way ≡ Reads r → ClientAt old s c
@@ -42,11 +43,11 @@ still_open old new s b e c at now o =
     let same : o.client ≡ c = one_client old s o.client c o.at at in
     record { client = o.client; at = subst (λ (d : Client). ClientAt new s d) (sym same) now; state_is = o.state_is; start_is = o.start_is; epoch_is = o.epoch_is }
 
-pub reading_fewer : (setup : SetupNumbers) (old new : List Client) (nodes : List (Option InstanceEntry)) (rows : List Row) (pairs : Pairs) (h : List Item) → FewerReading old new → AreReading setup old nodes rows pairs h → AreReading setup new nodes rows pairs h
+pub reading_fewer : (setup : SetupNumbers) (old new : List Client) (nodes : List (Option InstanceEntry)) (rows : List Row) (pairs : Pairs) (h : List Item) → FewerReading old new → ReadingBy setup old new nodes rows pairs h → AreReading setup new nodes rows pairs h
 reading_fewer setup old new nodes rows pairs h fewer reading = record {
   reads = λ s c r at reads.
       let was : ClientAt old s c = fewer s c r at reads in
-      let is = reading.reads s c r was reads in
+      let is = reading s c r was reads in
       (is.0, is.1, still_open old new s is.0 is.1 c was at is.2, is.3);
 }
 

@@ -21,10 +21,10 @@ use Rattle.isolation_laws.proofs.Requests.RequestsOfBegins.{requests_answered_be
 use Rattle.isolation_laws.proofs.Requests.RequestsOfWrites.{requests_wrote}
 
 -- with quiet items behind
-quietly : (w : State) (h items : List Item) (nodes : List (Option InstanceEntry)) (clients : List Client) → AllQuiet items → Leaves w h nodes clients → Holds w h → RequestFacts nodes clients (h ++ items)
+quietly : (w : State) (h items : List Item) (nodes : List (Option InstanceEntry)) (clients : List Client) → AllQuiet items → Leaves w h nodes clients → Holds w h → RequestFacts w.setup nodes clients (h ++ items)
 quietly w h items nodes clients quiet left holds = requests_silent w h (h ++ items) nodes clients (silent_quiet h items quiet) left holds
 
-pub requests_kept : (w : State) (h : List Item) (o : Outcome w) → Holds w h → RequestFacts (left_by w o).nodes (left_by w o).clients (h ++ told_by_outcome w o)
+pub requests_kept : (w : State) (h : List Item) (o : Outcome w) → Holds w h → RequestFacts (left_by w o).setup (left_by w o).nodes (left_by w o).clients (h ++ told_by_outcome w o)
 requests_kept w h (OfGranted k) holds = quietly w h k.items _ _ k.quiet (leaves_granted w h k holds) holds
 requests_kept w h (OfRenewed k) holds = quietly w h k.items _ _ k.quiet (leaves_renewed w h k holds) holds
 requests_kept w h (OfExtended k) holds = quietly w h k.items _ _ k.quiet (leaves_extended w h k holds) holds
