@@ -6,4 +6,5 @@ pub mod OutcomesOfStamps
 pub mod OutcomesOfSessions
 pub mod OutcomesOfWork
 pub mod OutcomesOfSweeps
+pub mod OutcomesOfPlacings
 pub mod Outcomes

@@ -18,6 +18,7 @@ pub mod RequestsOfMoves
 pub mod RequestsOfDraws
 pub mod SettledNow
 pub mod RequestsOfSettled
+pub mod RequestsOfPlacings
 pub mod RequestsOfBegins
 pub mod RequestsOfWrites
 pub mod RequestsOfAll

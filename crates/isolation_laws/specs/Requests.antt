@@ -73,7 +73,7 @@ pub record AreOpen (clients : List Client) (h : List Item) : Type 0 where
 
 -- the session's transaction is in flight or of open outcome
 abbrev pub HasAsked : SessionState → Type 0
-HasAsked state = (state ≡ phase.Committing) ⊎ (state ≡ phase.OpenOutcome)
+HasAsked state = (state ≡ phase.Committing) ⊎ ((state ≡ phase.OpenOutcome) ⊎ (is_placing state ≡ true))
 
 -- a session's write list has the keys that its transaction wrote; one that has asked for its commit has written
 pub record AreKeys (clients : List Client) (h : List Item) : Type 0 where

@@ -81,7 +81,8 @@ free_has state is has = let clash : has_transaction phase.Free ≡ true = ap has
 
 not_asked : (setup : SetupNumbers) (s : ℕ) (c : Client) → ClientAt (opening setup).clients s c → HasAsked c.entry.state → ⊥
 not_asked setup s c at (inl is) = let clash : phase.Free ≡ phase.Committing = not_in setup s c phase.Committing at is in cc
-not_asked setup s c at (inr is) = let clash : phase.Free ≡ phase.OpenOutcome = not_in setup s c phase.OpenOutcome at is in cc
+not_asked setup s c at (inr (inl is)) = let clash : phase.Free ≡ phase.OpenOutcome = not_in setup s c phase.OpenOutcome at is in cc
+not_asked setup s c at (inr (inr is)) = not_placing setup s c at is
 
 not_working : (setup : SetupNumbers) (s : ℕ) (c : Client) → ClientAt (opening setup).clients s c → (c.entry.state ≡ phase.Open) ⊎ HasAsked c.entry.state → ⊥
 not_working setup s c at (inl is) = let clash : phase.Free ≡ phase.Open = not_in setup s c phase.Open at is in cc

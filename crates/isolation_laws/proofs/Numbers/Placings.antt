@@ -7,10 +7,11 @@ use Rattle.stamp_base.specs.declared.stores.Mark.TheVariants.{Committed as Commi
 use Rattle.store_parts.specs.Pairs.{Pairs, mark_of, put_pair}
 use Rattle.machine.specs.State.{State}
 use Rattle.isolation_laws.specs.Words.{DrewCommit}
-use Rattle.isolation_laws.specs.Pending.{InFlight, Has, Pending, Live}
+use Rattle.isolation_laws.specs.Pending.{InFlight, Has, PlacingAt, Pending, Live}
 use Rattle.isolation_laws.specs.Holds.{Holds}
 use Rattle.isolation_laws.proofs.Owners.{has_drew}
 use Rattle.isolation_laws.proofs.Outcome.OutcomesOfStamps.{PlacedOne}
+use Rattle.isolation_laws.proofs.Outcome.OutcomesOfPlacings.{AtPlacing, OwnPlaced}
 use Rattle.isolation_laws.proofs.Numbers.NumbersKept.{in_flight_of, drawn_pending}
 
 pub record PlacedPending (w : State) : Type 0 where
@@ -31,6 +32,32 @@ abbrev pub by_its_node : (w : State) (h : List Item) (k : PlacedOne w) → Holds
 by_its_node w h k holds = record {
   coming = in_flight_of w k.it;
   pending = inl (drawn_pending w k.it holds.requests.requests);
+  commit = k.it.commit;
+  has = refl;
+  free = k.free;
+}
+
+-- a session that is placing its commit has it in flight
+abbrev pub own_in_flight : (w : State) → AtPlacing w → InFlight
+own_in_flight w it = record { session = it.session; start = it.start; keys = it.c.entry.keys; stage = Has it.commit }
+
+abbrev pub own_placing : (w : State) (it : AtPlacing w) → PlacingAt w.clients (own_in_flight w it)
+own_placing w it = record {
+  client = it.c;
+  at = it.client_at;
+  state_is = it.placing;
+  start_is = it.start_is;
+  keys_are = refl;
+  commit_of = it.commit;
+  commit_is = it.commit_is;
+  stage_is = refl;
+}
+
+-- and places it itself
+abbrev pub by_its_session : (w : State) → OwnPlaced w → PlacedPending w
+by_its_session w k = record {
+  coming = own_in_flight w k.it;
+  pending = inr (own_placing w k.it);
   commit = k.it.commit;
   has = refl;
   free = k.free;

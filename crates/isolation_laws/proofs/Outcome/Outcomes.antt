@@ -8,6 +8,7 @@ use Rattle.isolation_laws.proofs.Outcome.OutcomesOfRequests.{Crashed, crashed_st
 use Rattle.isolation_laws.proofs.Outcome.OutcomesOfStamps.{Drew, drew_state, drew_items, PlacedOne, placed_state, placed_items, NotPlaced, not_placed_state, AnsweredBegin, answered_begin_state, answered_begin_items, AnsweredCommit, answered_commit_state}
 use Rattle.isolation_laws.proofs.Outcome.OutcomesOfSessions.{EndedReadOnly, read_only_state, WroteOne, wrote_state, wrote_items, WriteFailed, write_failed_state, Aborted, aborted_state, Vanished, vanished_state, Healed, healed_state}
 use Rattle.isolation_laws.proofs.Outcome.OutcomesOfWork.{Fetched, fetched_state, fetched_items, ReadDropped, read_dropped_state, ReadStepped, read_stepped_state, read_stepped_items, OutcomeStepped, outcome_state, OutcomeFailed, outcome_failed_state, CompletedOne, completed_state}
+use Rattle.isolation_laws.proofs.Outcome.OutcomesOfPlacings.{OwnPlaced, own_placed_state, own_placed_items, OwnNotPlaced, own_not_placed_state}
 use Rattle.isolation_laws.proofs.Outcome.OutcomesOfSweeps.{SweepOpened, sweep_opened_state, SweptOne, swept_state, SweepListed, sweep_listed_state, sweep_listed_items, SweepFailed, sweep_failed_state}
 pub use Rattle.isolation_laws.proofs.Outcome.OutcomesOfStamps.{AtDrawn}
 
@@ -27,6 +28,8 @@ pub data Outcome (w : State) : Type 0 where
   OfNotPlaced : NotPlaced w → Outcome w
   OfAnsweredBegin : AnsweredBegin w → Outcome w
   OfAnsweredCommit : AnsweredCommit w → Outcome w
+  OfOwnPlaced : OwnPlaced w → Outcome w
+  OfOwnNotPlaced : OwnNotPlaced w → Outcome w
   OfEndedReadOnly : EndedReadOnly w → Outcome w
   OfWrote : WroteOne w → Outcome w
   OfWriteFailed : WriteFailed w → Outcome w
@@ -59,6 +62,8 @@ left_by w (OfPlaced k) = placed_state w k
 left_by w (OfNotPlaced k) = not_placed_state w k
 left_by w (OfAnsweredBegin k) = answered_begin_state w k
 left_by w (OfAnsweredCommit k) = answered_commit_state w k
+left_by w (OfOwnPlaced k) = own_placed_state w k
+left_by w (OfOwnNotPlaced k) = own_not_placed_state w k
 left_by w (OfEndedReadOnly k) = read_only_state w k
 left_by w (OfWrote k) = wrote_state w k
 left_by w (OfWriteFailed k) = write_failed_state w k
@@ -91,6 +96,8 @@ told_by_outcome w (OfPlaced k) = placed_items w k
 told_by_outcome w (OfNotPlaced k) = k.items
 told_by_outcome w (OfAnsweredBegin k) = answered_begin_items w k
 told_by_outcome w (OfAnsweredCommit k) = k.items
+told_by_outcome w (OfOwnPlaced k) = own_placed_items w k
+told_by_outcome w (OfOwnNotPlaced k) = k.items
 told_by_outcome w (OfEndedReadOnly k) = k.items
 told_by_outcome w (OfWrote k) = wrote_items w k
 told_by_outcome w (OfWriteFailed k) = k.items

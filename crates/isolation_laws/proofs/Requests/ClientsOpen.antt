@@ -164,10 +164,13 @@ pub loss_rests : (request : Request) (c : Client) → WorksNoMore c (after_loss 
 loss_rests (Begin s) c = unless_gone_rests c (client_freed c) free_rests
 loss_rests (Commit s t keys) c = unless_gone_rests c (client_opened c) outcome_rests
 
+pub answered_rests : (by : Settled) (c : Client) (commit : ℕ) → IsAtRest (answered_client by c commit).entry.state
+answered_rests how.Placed c commit = completing_rests false
+answered_rests how.Invalid c commit = aborted_rests c
+answered_rests how.Faulted c commit = outcome_rests
+
 pub answer_rests : (by : Settled) (c : Client) (commit : ℕ) → WorksNoMore c (unless_gone c (answered_client by c commit))
-answer_rests how.Placed c commit = unless_gone_rests c (client_committed c commit) (completing_rests false)
-answer_rests how.Invalid c commit = unless_gone_rests c (client_aborted c) (aborted_rests c)
-answer_rests how.Faulted c commit = unless_gone_rests c (client_opened c) outcome_rests
+answer_rests by c commit = unless_gone_rests c (answered_client by c commit) (answered_rests by c commit)
 
 pub settled_rests : (c : Client) (x : Settling) (turn : SettleTurn) → WorksNoMore c (client_settled c x turn)
 settled_rests c x (Goes point) = inr refl

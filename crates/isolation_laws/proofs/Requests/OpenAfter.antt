@@ -18,8 +18,9 @@ use Rattle.isolation_laws.proofs.Lookups.{client_set}
 use Rattle.isolation_laws.proofs.Outcome.OutcomesOfRequests.{Crashed, crashed_state, AskedBegin, asked_begin_state, AskedCommit, asked_commit_state, Ended, ended_state}
 use Rattle.isolation_laws.proofs.Outcome.OutcomesOfStamps.{AnsweredBegin, answered_begin_state, AnsweredCommit, answered_commit_state}
 use Rattle.isolation_laws.proofs.Outcome.OutcomesOfSessions.{EndedReadOnly, read_only_state, WroteOne, wrote_state, WriteFailed, write_failed_state, Aborted, aborted_state, Vanished, vanished_state, Healed, healed_state}
+use Rattle.isolation_laws.proofs.Outcome.OutcomesOfPlacings.{OwnPlaced, own_placed_state, OwnNotPlaced, own_not_placed_state}
 use Rattle.isolation_laws.proofs.Outcome.OutcomesOfWork.{Fetched, fetched_turn, fetched_client, fetched_state, ReadDropped, read_dropped_state, read_turn, read_client, ReadStepped, read_stepped_state, OutcomeStepped, outcome_state, OutcomeFailed, outcome_failed_state, CompletedOne, completed_state}
-use Rattle.isolation_laws.proofs.Requests.ClientsOpen.{FewerOpen, FewerPlacing, FewerAtWork, WorksNoMore, fewer_open_set, fewer_placing_set, fewer_set, rests_as, free_rests, asking_rests, committing_rests, gone_rests, open_not_placing, aborted_rests, gone_cases, refusal_rests, loss_rests, answer_rests, settled_rests, asks_rest, read_rests}
+use Rattle.isolation_laws.proofs.Requests.ClientsOpen.{FewerOpen, FewerPlacing, FewerAtWork, WorksNoMore, fewer_open_set, fewer_placing_set, fewer_set, rests_as, free_rests, asking_rests, committing_rests, gone_rests, open_not_placing, aborted_rests, gone_cases, refusal_rests, loss_rests, answered_rests, answer_rests, settled_rests, asks_rest, read_rests}
 
 -- ---- a crash: each client is as it was, or heard of the loss of its request
 pub crashed_at : (requests : List (Option Held)) (clients : List Client) (s : ℕ) (c : Client) → ClientAt (crashed_clients requests clients) s c → (old : Client) × ClientAt clients s old × ((c ≡ old) ⊎ ((held : Held) × (slice_index_or requests s None ≡ Some held) × (c ≡ after_loss held.request old)))
@@ -109,6 +110,12 @@ completed_rests w k = elim k.left_is [
 
 pub at_work_completed : (w : State) (k : CompletedOne w) → FewerAtWork w.clients (completed_state w k).clients
 at_work_completed w k = fewer_set w.clients k.session k.c k.left k.client_at (completed_rests w k)
+
+pub at_work_own_placed : (w : State) (k : OwnPlaced w) → FewerAtWork w.clients (own_placed_state w k).clients
+at_work_own_placed w k = fewer_set w.clients k.it.session k.it.c _ k.it.client_at (inl (answered_rests k.by k.it.c k.it.commit))
+
+pub at_work_own_not_placed : (w : State) (k : OwnNotPlaced w) → FewerAtWork w.clients (own_not_placed_state w k).clients
+at_work_own_not_placed w k = fewer_set w.clients k.it.session k.it.c _ k.it.client_at (inl (answered_rests k.by k.it.c k.it.commit))
 
 -- a begin that was answered opens its transaction, where its session has not vanished
 pub open_answered_begin : (w : State) (k : AnsweredBegin w) (s t e : ℕ) → OpenAt (answered_begin_state w k).clients s t e → OpenAt w.clients s t e ⊎ ((s ≡ k.session) × (t ≡ k.start) × (e ≡ k.i.epoch))

@@ -19,7 +19,7 @@ use Rattle.isolation_laws.proofs.Lookups.{held_by, instance_changed, heldby_ende
 use Rattle.isolation_laws.proofs.OnceEach.{drawn_once}
 use Rattle.isolation_laws.proofs.Outcome.OutcomesOfStamps.{AnsweredBegin, answered_begin_state, answered_begin_items}
 use Rattle.isolation_laws.proofs.Requests.PendingFewer.{pending_answered_begin}
-use Rattle.isolation_laws.proofs.Requests.ClientsOpen.{gone_cases}
+use Rattle.isolation_laws.proofs.Requests.ClientsOpen.{open_not_placing, gone_cases}
 use Rattle.isolation_laws.proofs.Requests.OpenAfter.{open_answered_begin, placing_answered_begin}
 use Rattle.isolation_laws.proofs.Requests.RequestsKept.{form_fewer}
 use Rattle.isolation_laws.proofs.Numbers.NumbersKept.{drew_start}
@@ -56,7 +56,8 @@ start_unbegun w h k r holds begun = holds.requests.starting.unbegun k.node k.ses
 
 pub open_not_asked : HasAsked phase.Open → ⊥
 open_not_asked (inl is) = cc
-open_not_asked (inr is) = cc
+open_not_asked (inr (inl is)) = cc
+open_not_asked (inr (inr is)) = open_not_placing is
 
 keys_longer : (w : State) (h : List Item) (k : AnsweredBegin w) (c : Client) → KeysClient h c → KeysClient (h ++ answered_begin_items w k) c
 keys_longer w h k c keys = record { written = λ t is start. keys.written t is start ∙ sym (begin_writes_none h k.session k.start t); some = keys.some }

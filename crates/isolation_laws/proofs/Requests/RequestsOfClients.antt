@@ -48,7 +48,7 @@ leaves_client w h s c new client becomes work requests holds = record {
 }
 
 -- a client that waits for no request changed
-leaves_idle : (w : State) (h : List Item) (s : ℕ) (c new : Client) (state : SessionState) → ClientAt w.clients s c → c.entry.state ≡ state → WaitsForNone state → Becomes h s c new → FewerAtWork w.clients (slice_set w.clients s new) → Holds w h → Leaves w h w.nodes (slice_set w.clients s new)
+pub leaves_idle : (w : State) (h : List Item) (s : ℕ) (c new : Client) (state : SessionState) → ClientAt w.clients s c → c.entry.state ≡ state → WaitsForNone state → Becomes h s c new → FewerAtWork w.clients (slice_set w.clients s new) → Holds w h → Leaves w h w.nodes (slice_set w.clients s new)
 leaves_idle w h s c new state client is none becomes work holds =
     leaves_client w h s c new client becomes work (requests_idle w.nodes w.clients s c new state client is none holds.requests.requests) holds
 

@@ -9,15 +9,15 @@ use Rattle.isolation_laws.specs.Requests.{ArePending, IsSettled, AreSettled, Req
 use Rattle.isolation_laws.specs.Holds.{Holds}
 use Rattle.isolation_laws.proofs.Owners.{has_drew}
 use Rattle.isolation_laws.proofs.Outcome.OutcomesOfStamps.{AtDrawn, PlacedOne, placed_state, placed_items, NotPlaced, not_placed_state}
-use Rattle.isolation_laws.proofs.Requests.PendingFewer.{StaysPut, stays_pending, pending_settled, fewer_settled}
+use Rattle.isolation_laws.proofs.Requests.PendingFewer.{stays_pending, pending_settled, fewer_settled}
 use Rattle.isolation_laws.proofs.Requests.ClientsAfter.{have_on}
 use Rattle.isolation_laws.proofs.Requests.RequestsAfter.{requests_fewer}
 use Rattle.isolation_laws.proofs.Requests.Standing.{standing_settled, held_settled}
 use Rattle.isolation_laws.proofs.Numbers.NumbersKept.{in_flight_of, drawn_pending}
-use Rattle.isolation_laws.proofs.Requests.CommitsInFlight.{pending_one, pending_on, are_pending, here_fewer, IsAcceptedNow, IsDrawnNow, SettledAt, SettledOne, settled_one, settled_on, are_settled, accepted_fewer, starting_fewer, open_fewer}
+use Rattle.isolation_laws.proofs.Requests.CommitsInFlight.{IsAcceptedNow, IsDrawnNow, SettledAt, SettledOne, settled_one, settled_on, are_settled, accepted_fewer, starting_fewer, open_fewer}
 use Rattle.isolation_laws.proofs.Requests.Silent.{Silent, silent_quiet}
 use Rattle.isolation_laws.proofs.Requests.RequestsKept.{have_silent, keys_silent, pending_silent, starting_silent, open_silent}
-use Rattle.isolation_laws.proofs.Requests.SettledNow.{Places, places, places_drawn, other_than, settled_other, settled_now, settled_here}
+use Rattle.isolation_laws.proofs.Requests.SettledNow.{Places, places, places_drawn, pending_places, other_than, settled_other, settled_now, settled_here}
 
 -- ---- placed
 is_placed_so : (g : List Item) (t c : ℕ) (by : Settled) → (by ≡ how.Placed) ⊎ (by ≡ how.Faulted) → Committed g t c → IsSettled g t c by
@@ -38,18 +38,9 @@ placed_settled w h k holds =
 
 placed_pending : (w : State) (h : List Item) (k : PlacedOne w) → Holds w h → ArePending w.clients (placed_state w k).nodes (h ++ placed_items w k)
 placed_pending w h k holds =
-    let g : List Item = h ++ placed_items w k in
-    let all : Places h g k.it.start k.it.commit = places h k.items k.it.start k.it.commit k.quiet in
-    are_pending w.clients (placed_state w k).nodes g (λ q p.
-    let stays : StaysPut w.clients w.nodes k.it.node k.it.session q = pending_settled w k.it k.by q p in
-    pending_on h g q all.on (record {
-      alone = record {
-        undrawn = λ drew. places_drawn h g k.it.start k.it.commit q.start all drew;
-        unplaced = λ c placed. elim (all.placed q.start c placed) [ inl old ↦ old | inr new ↦ absurd (other_than w h k.it q holds stays new.0) ];
-      };
-      keys = all.keys q.start;
-    }) (pending_one w.clients w.nodes h q holds.requests.pending (stays_pending w.clients w.nodes k.it.node k.it.session q stays)))
-    (here_fewer w.nodes (placed_state w k).nodes h g (standing_settled IsDrawnNow w k.it k.by (λ is. is)) all.on holds.requests.pending.here)
+    pending_places w.clients w.clients w.nodes (placed_state w k).nodes h (h ++ placed_items w k) k.it.start k.it.commit
+    (λ q p. let stays = pending_settled w k.it k.by q p in (stays_pending w.clients w.nodes k.it.node k.it.session q stays, other_than w h k.it q holds stays))
+    (standing_settled IsDrawnNow w k.it k.by (λ is. is)) (places h k.items k.it.start k.it.commit k.quiet) holds.requests.pending
 
 pub requests_placed : (w : State) (h : List Item) (k : PlacedOne w) → Holds w h → RequestFacts w.setup (placed_state w k).nodes w.clients (h ++ placed_items w k)
 requests_placed w h k holds =

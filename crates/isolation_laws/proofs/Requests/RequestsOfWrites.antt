@@ -23,7 +23,7 @@ use Rattle.isolation_laws.proofs.Requests.PendingAfter.{fewer_pending}
 use Rattle.isolation_laws.proofs.Requests.PendingFewer.{same_served}
 use Rattle.isolation_laws.proofs.Requests.RequestsKept.{form_fewer}
 use Rattle.isolation_laws.proofs.Numbers.NumbersKept.{open_begun}
-use Rattle.isolation_laws.proofs.Requests.ClientsAfter.{begun_kept, have_on, written_keys-own, written_keys-other}
+use Rattle.isolation_laws.proofs.Requests.ClientsAfter.{begun_kept, placing_has, have_on, written_keys-own, written_keys-other}
 use Rattle.isolation_laws.proofs.Requests.RequestsAfter.{requests_idle, open_waits}
 use Rattle.isolation_laws.proofs.Requests.Standing.{standing_same}
 use Rattle.isolation_laws.proofs.Requests.CommitsInFlight.{GoesOn, goes_on, pending_fewer, IsSettledNow, IsDrawnNow, settled_fewer, starting_fewer, open_fewer}
@@ -50,7 +50,8 @@ write_no_drawn h s t k value u (r, n, term, c, m) = (r, n, term, c, in_old (Draw
 has_in : (state : SessionState) → (state ≡ phase.Open) ⊎ HasAsked state → IsTrue (has_transaction state)
 has_in state (inl is) = subst (λ s. IsTrue (has_transaction s)) (sym is) refl
 has_in state (inr (inl is)) = subst (λ s. IsTrue (has_transaction s)) (sym is) refl
-has_in state (inr (inr is)) = subst (λ s. IsTrue (has_transaction s)) (sym is) refl
+has_in state (inr (inr (inl is))) = subst (λ s. IsTrue (has_transaction s)) (sym is) refl
+has_in state (inr (inr (inr is))) = placing_has state is
 
 has_begun_so : (w : State) (h : List Item) (s t : ℕ) (c : Client) → Holds w h → ClientAt w.clients s c → (c.entry.state ≡ phase.Open) ⊎ HasAsked c.entry.state → c.entry.start ≡ Some t → Begun h s t
 has_begun_so w h s t c holds at is start =

@@ -12,21 +12,21 @@ use Rattle.oracle_parts.specs.declared.instance.Request.TheVariants.{Commit}
 use Rattle.oracle_parts.specs.declared.instance.Settled.{Settled}
 use Rattle.oracle_parts.specs.Instance.{InstanceEntry, held_of}
 use Rattle.oracle_parts.specs.InstanceSteps.{moved}
-use Rattle.machine.specs.State.{State}
+use Rattle.machine.specs.State.{Client, State}
 use Rattle.isolation_laws.specs.Words.{InstanceAt, HeldBy, Begun, HasDrawn, written_keys}
 use Rattle.isolation_laws.specs.Pending.{InFlight, Pending}
 use Rattle.isolation_laws.specs.Quiet.{AllQuiet}
-use Rattle.isolation_laws.specs.Requests.{IsSettled}
+use Rattle.isolation_laws.specs.Requests.{ArePending, IsSettled}
 use Rattle.isolation_laws.specs.Holds.{Holds}
 use Rattle.isolation_laws.proofs.Lookups.{held_by, held_set, one_held, instance_changed, one_instance}
 use Rattle.isolation_laws.proofs.OnceEach.{begun_once}
 use Rattle.isolation_laws.proofs.Outcome.OutcomesOfStamps.{AtDrawn}
-use Rattle.isolation_laws.proofs.Requests.OtherCommits.{other_commit}
+use Rattle.isolation_laws.proofs.Requests.OtherCommits.{other_commit, PendingBut}
 use Rattle.isolation_laws.proofs.Requests.PendingFewer.{StaysPut}
 use Rattle.isolation_laws.proofs.Pushed.{old_begin, old_draw, old_placed, written_keys-quiet}
 use Rattle.isolation_laws.proofs.Requests.ClientsAfter.{written_keys-no_write}
 use Rattle.isolation_laws.proofs.Numbers.NumbersKept.{in_flight_of, drawn_pending, drew_commit}
-use Rattle.isolation_laws.proofs.Requests.CommitsInFlight.{GoesOn, SettledAt, SettledOne}
+use Rattle.isolation_laws.proofs.Requests.CommitsInFlight.{GoesOn, pending_one, pending_on, are_pending, here_fewer, FewerStanding, IsDrawnNow, SettledAt, SettledOne}
 
 -- ---- the item that places it
 -- a longer history has that commit placed, and nothing else
@@ -66,6 +66,19 @@ places h items t c quiet =
 
 pub places_drawn : (h g : List Item) (t c u : ℕ) → Places h g t c → HasDrawn g u → HasDrawn h u
 places_drawn h g t c u places (s, n, term, d, m) = (s, n, term, d, places.draws s n term u (Some d) m)
+
+-- ---- commits in flight that are left
+pub pending_places : (clients new_clients : List Client) (nodes new_nodes : List (Option InstanceEntry)) (h g : List Item) (t c : ℕ) → PendingBut clients nodes new_clients new_nodes t → FewerStanding IsDrawnNow nodes new_nodes → Places h g t c → ArePending clients nodes h → ArePending new_clients new_nodes g
+pending_places clients new_clients nodes new_nodes h g t c but standing all pending = are_pending new_clients new_nodes g (λ q p.
+    let was = but q p in
+    pending_on h g q all.on (record {
+      alone = record {
+        undrawn = λ drew. places_drawn h g t c q.start all drew;
+        unplaced = λ d placed. elim (all.placed q.start d placed) [ inl old ↦ old | inr new ↦ absurd (was.1 new.0) ];
+      };
+      keys = all.keys q.start;
+    }) (pending_one clients nodes h q pending was.0))
+    (here_fewer nodes new_nodes h g standing all.on pending.here)
 
 -- ---- another commit in flight is of another transaction
 pub other_than : (w : State) (h : List Item) (k : AtDrawn w) (q : InFlight) → Holds w h → StaysPut w.clients w.nodes k.node k.session q → q.start ≢ k.start

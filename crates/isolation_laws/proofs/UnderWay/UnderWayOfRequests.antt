@@ -156,17 +156,26 @@ placed_elsewhere w h p s u c state holds at is has none start same =
     not_in_flight w.nodes w.clients h state s p.coming.start c holds.isolated.stamped holds.requests.requests holds.requests.pending at is none (subst (λ q. Begun h s q) own begun.2)
     (record { coming = p.coming; pending = p.pending; start_is = refl })
 
-pub under_way_placed : (w : State) (h : List Item) (p : PlacedPending w) (items : List Item) → AllQuiet items → Holds w h → UnderWayFacts w.clients w.sweep w.rows (placed_pairs w p) (h ++ placed_item w p ∷ items)
-under_way_placed w h p items quiet holds =
-    let g : List Item = h ++ placed_item w p ∷ items in
-    let places_it : IsPlacing h g p.coming.start p.commit = is_placing h items p.coming.start p.commit quiet in
-    let keeps : KeepsPlaced w.rows w.rows h g = record { on = places_it.on; writes = λ t c j is. places_it.writes t j; shadows = λ t c j is has. has } in
-    under_way w.clients w.sweep w.rows (placed_pairs w p) g
-    (λ s c at. works_on w.rows w.rows h g c keeps (λ t d start is placed. elim (places_it.placed t d placed) [
+-- all clients' work stays right, and so does the sweep
+pub placed_keeps : (w : State) (h : List Item) (p : PlacedPending w) (items : List Item) → AllQuiet items → KeepsPlaced w.rows w.rows h (h ++ placed_item w p ∷ items)
+placed_keeps w h p items quiet =
+    let places_it : IsPlacing h (h ++ placed_item w p ∷ items) p.coming.start p.commit = is_placing h items p.coming.start p.commit quiet in
+    record { on = places_it.on; writes = λ t c j is. places_it.writes t j; shadows = λ t c j is has. has }
+
+pub placed_works : (w : State) (h : List Item) (p : PlacedPending w) (items : List Item) → AllQuiet items → Holds w h → AllWork w.clients w.rows (h ++ placed_item w p ∷ items)
+placed_works w h p items quiet holds s c at =
+    works_on w.rows w.rows h (h ++ placed_item w p ∷ items) c (placed_keeps w h p items quiet) (λ t d start is placed. elim ((is_placing h items p.coming.start p.commit quiet).placed t d placed) [
       | inl old ↦ old
       | inr now ↦ elim is [
         | inl undoes ↦ absurd (placed_elsewhere w h p s t c (phase.Completing true) holds at undoes refl (completing_in_none true) start now.0)
         | inr resolves ↦ absurd (placed_elsewhere w h p s t c phase.OpenOutcome holds at resolves refl outcome_in_none start now.0)
       ]
-    ]) (work_of w h s c holds at))
-    (sweeping_on w.sweep w.rows w.rows w.pairs (placed_pairs w p) h g keeps (λ t marked. entry_stays-put_pair w.pairs p.coming.start t (CommittedMark p.commit) InvalidMark marked) holds.under_way.sweeping)
+    ]) (work_of w h s c holds at)
+
+pub under_way_placing : (w : State) (h : List Item) (p : PlacedPending w) (clients : List Client) (items : List Item) → AllQuiet items → AllWork clients w.rows (h ++ placed_item w p ∷ items) → Holds w h → UnderWayFacts clients w.sweep w.rows (placed_pairs w p) (h ++ placed_item w p ∷ items)
+under_way_placing w h p clients items quiet work holds =
+    under_way clients w.sweep w.rows (placed_pairs w p) (h ++ placed_item w p ∷ items) work
+    (sweeping_on w.sweep w.rows w.rows w.pairs (placed_pairs w p) h (h ++ placed_item w p ∷ items) (placed_keeps w h p items quiet) (λ t marked. entry_stays-put_pair w.pairs p.coming.start t (CommittedMark p.commit) InvalidMark marked) holds.under_way.sweeping)
+
+pub under_way_placed : (w : State) (h : List Item) (p : PlacedPending w) (items : List Item) → AllQuiet items → Holds w h → UnderWayFacts w.clients w.sweep w.rows (placed_pairs w p) (h ++ placed_item w p ∷ items)
+under_way_placed w h p items quiet holds = under_way_placing w h p w.clients items quiet (placed_works w h p items quiet holds) holds
