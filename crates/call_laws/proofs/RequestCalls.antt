@@ -118,7 +118,7 @@ drawn_by start commit (Begin asker) p is = absurd (cc)
 
 drawn_unplaced : (w : State) (h : List Item) (k : AtDrawn w) (other : ℕ) → Holds w h → HasRecord w.pairs k.start other → ⊥
 drawn_unplaced w h k other holds there =
-    pending_unplaced w.nodes h k.start other holds.numbers.placed holds.requests.pending (record { coming = in_flight_of w k; pending = drawn_pending w k holds.requests.requests; start_is = refl }) (holds.cells.pairs_are.placed k.start other there)
+    pending_unplaced w.clients w.nodes h k.start other holds.numbers.placed holds.requests.pending (record { coming = in_flight_of w k; pending = inl (drawn_pending w k holds.requests.requests); start_is = refl }) (holds.cells.pairs_are.placed k.start other there)
 
 put_finds : (w : State) (h : List Item) (session node start commit other : ℕ) (i : InstanceEntry) → Holds w h → InstanceAt w.nodes node i → (found : Option Held) → held_of i session ≡ found → to_place found ≡ Some (start, commit) → HasRecord w.pairs start other → ⊥
 put_finds w h session node start commit other i holds at None has is there = none-some (start, commit) is

@@ -102,7 +102,7 @@ marks_old : (w : State) (h : List Item) (k b : ℕ) (every : Bool) (e t epoch : 
 marks_old w h k b every e t epoch point same resolved is =
     subst (λ x. IsTrue (may_mark every t x)) same (subst (λ (p : SettlePoint). IsResolvedTo w.pairs w.rows h k b every e t p) is resolved)
 
-reading_fetched : (w : State) (h : List Item) (b e : ℕ) (r : Reading) → IsReading w.setup w.nodes w.rows w.pairs h b e r → ReadsFetched r
+reading_fetched : (w : State) (h : List Item) (b e : ℕ) (r : Reading) → IsReading w.setup w.clients w.nodes w.rows w.pairs h b e r → ReadsFetched r
 reading_fetched w h b e r is = record {
   fetched = record { falling = is.sees.falling; upto = all_upto b r.start (r.cell ∷ r.older) (sym is.start_is) is.sees.below };
   marks = marks_old w h r.key b r.every e r.cell.version r.epoch r.point (sym is.epoch_is) is.resolved;

@@ -79,7 +79,7 @@ serving w node session i held at has = record { node = node; session = session; 
 -- what is there in the place of a commit in flight is a mark
 is_marked : (w : State) (h : List Item) (it : AtDrawn w) (mark : Mark) → Holds w h → mark_of w.pairs it.start ≡ Some mark → Marked w.pairs it.start
 is_marked w h it InvalidMark holds is = is
-is_marked w h it (CommittedMark commit) holds is = absurd ((has_drew w.nodes h (in_flight_of w it) it.commit holds.requests.pending (drawn_pending w it holds.requests.requests) refl).1 commit (holds.cells.pairs_are.placed it.start commit is))
+is_marked w h it (CommittedMark commit) holds is = absurd ((has_drew w.clients w.nodes h (in_flight_of w it) it.commit holds.requests.pending (inl (drawn_pending w it holds.requests.requests)) refl).1 commit (holds.cells.pairs_are.placed it.start commit is))
 
 settles : (w : State) (it : AtDrawn w) (by : Settled) (effects items : List Item) → AllSilent effects → (by ≡ how.Invalid → Marked w.pairs it.start) → items ≡ effects ++ fault_of by it.node → DeedOf w (settled_nodes w it by) items
 settles w it by effects items silent found same = record {

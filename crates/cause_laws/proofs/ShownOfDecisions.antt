@@ -22,7 +22,7 @@ use Rattle.cause_rules.specs.Posts.{CeilingGiven}
 use Rattle.cause_rules.specs.Commits.{StampDrawn, ShownReplaced, ShownNoStamp, ShownInvalid, ShownOpen, ShownNotYet}
 use Rattle.cause_rules.specs.Refusals.{ShownSpent}
 use Rattle.isolation_laws.specs.Words.{InstanceAt, HeldBy, DrewCommit}
-use Rattle.isolation_laws.specs.Pending.{InFlight, Pending, Has}
+use Rattle.isolation_laws.specs.Pending.{InFlight, HeldPending, Has}
 use Rattle.isolation_laws.specs.Sound.{Stands}
 use Rattle.isolation_laws.proofs.Owners.{drawn_once}
 use Rattle.cause_laws.specs.Nodes.{ShownStop}
@@ -135,9 +135,10 @@ not_yet_shown w h s commit stands shows due =
     let waits = waiting due.i due.start commit least in
     let own : waits.asker ≡ waits.session = stands.holds.requests.requests.own n waits.session due.i (Commit waits.asker waits.start waits.keys) (progress.Drawn commit) due.serves.at waits.holds in
     let held : HeldBy due.i waits.session (Commit waits.session waits.start waits.keys) (progress.Drawn commit) = subst (λ r. HeldBy due.i waits.session (Commit r waits.start waits.keys) (progress.Drawn commit)) own waits.holds in
-    let q : InFlight = record { session = waits.session; node = n; term = due.i.term; start = waits.start; keys = waits.keys; stage = Has commit } in
-    let pending : Pending w.nodes q = record { instance_of = due.i; progress_of = progress.Drawn commit; at = due.serves.at; held = held; term_is = refl; stage_is = refl } in
-    let so_far = stands.holds.requests.pending.so_far q pending in
+    let q : InFlight = record { session = waits.session; start = waits.start; keys = waits.keys; stage = Has commit } in
+    let pending : HeldPending w.nodes q = record { node = n; instance_of = due.i; progress_of = progress.Drawn commit; at = due.serves.at; held = held; stage_is = refl } in
+    let so_far = stands.holds.requests.pending.so_far q (inl pending) in
+    let drew : DrewCommit h waits.session n due.i.term waits.start commit = stands.holds.requests.pending.here n waits.session waits.start commit waits.keys due.i due.serves.at held in
     record {
       node = n;
       node_is = node_of w h s due.i (Begin due.asker) (progress.Drawn due.start) shows due.serves;
@@ -146,7 +147,7 @@ not_yet_shown w h s commit stands shows due =
       term = due.i.term;
       term_is = term_of w h s due.i (Begin due.asker) (progress.Drawn due.start) shows due.serves (drawn_not_asked due.start);
       writer = waits.start;
-      drawn = (waits.session, n, so_far.0);
+      drawn = (waits.session, n, drew);
       below = least.below;
-      unplaced = λ t placed. so_far.1 commit (subst (λ u. Committed h u commit) (same_writer h t waits.session n due.i.term waits.start commit stands placed so_far.0) placed);
+      unplaced = λ t placed. so_far.1 commit (subst (λ u. Committed h u commit) (same_writer h t waits.session n due.i.term waits.start commit stands placed drew) placed);
     }

@@ -18,7 +18,7 @@ use Rattle.cause_rules.specs.Written.{written_keys, recorded}
 use Rattle.cause_rules.specs.Commits.{ShownConflict, ShownHidden, ShownOldEpoch, ShownExpired}
 use Rattle.cause_rules.specs.Posts.{TookLast, LeasedUntil}
 use Rattle.isolation_laws.specs.Words.{HeldBy}
-use Rattle.isolation_laws.specs.Pending.{InFlight, Pending, Taken}
+use Rattle.isolation_laws.specs.Pending.{InFlight, HeldPending, Taken}
 use Rattle.isolation_laws.specs.Sound.{Stands}
 use Rattle.isolation_laws.proofs.Memory.RecordedCommits.{recorded_rise}
 use Rattle.cause_laws.specs.Requests.{ask_for}
@@ -61,9 +61,9 @@ keys_of : (w : State) (h : List Item) (s asker start : ℕ) (keys : List ℕ) (i
 keys_of w h s asker start keys i stands serves =
     let own : asker ≡ s = stands.holds.requests.requests.own serves.node s i (Commit asker start keys) progress.Accepted serves.at serves.holds in
     let held : HeldBy i s (Commit s start keys) progress.Accepted = subst (λ r. HeldBy i s (Commit r start keys) progress.Accepted) own serves.holds in
-    let q : InFlight = record { session = s; node = serves.node; term = i.term; start = start; keys = keys; stage = Taken i.last } in
-    let pending : Pending w.nodes q = record { instance_of = i; progress_of = progress.Accepted; at = serves.at; held = held; term_is = refl; stage_is = refl } in
-    (stands.holds.requests.pending.keys q pending).0
+    let q : InFlight = record { session = s; start = start; keys = keys; stage = Taken i.last } in
+    let pending : HeldPending w.nodes q = record { node = serves.node; instance_of = i; progress_of = progress.Accepted; at = serves.at; held = held; stage_is = refl } in
+    (stands.holds.requests.pending.keys q (inl pending)).0
 
 -- ---- the keys that a refusal is of: those that the commit writes, or with strict reads those that its client has read
 record Refused (w : State) (i : InstanceEntry) (start : ℕ) (keys : List ℕ) (why : Verdict) : Type 0 where

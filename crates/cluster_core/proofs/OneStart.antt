@@ -1,5 +1,5 @@
 -- A commit that is accepted or drawn has its start for itself.
-use Rattle.std.proofs.Common.{◌≡◌, ℕ, List, Option, Some, None, refl, ap, subst, ◌∙◌}
+use Rattle.std.proofs.Common.{◌≡◌, ℕ, List, Option, Some, None, inl, refl, ap, subst, ◌∙◌}
 use Rattle.std.proofs.lemmas.Option.{same_Some, none-some}
 use Rattle.history_book.specs.declared.item.Item.{Item}
 use Rattle.oracle_parts.specs.declared.instance.Held.{Held}
@@ -10,7 +10,7 @@ use Rattle.oracle_parts.specs.declared.instance.Request.TheVariants.{Begin, Comm
 use Rattle.oracle_parts.specs.Instance.{InstanceEntry, held_of}
 use Rattle.machine.specs.State.{State}
 use Rattle.isolation_laws.specs.Words.{InstanceAt, HeldBy, Begun}
-use Rattle.isolation_laws.specs.Pending.{Taken, Has, InFlight, Pending}
+use Rattle.isolation_laws.specs.Pending.{Taken, Has, InFlight, HeldPending}
 use Rattle.isolation_laws.specs.Holds.{Holds}
 use Rattle.isolation_laws.proofs.Lookups.{held_by, commit_own}
 use Rattle.isolation_laws.proofs.OnceEach.{begun_once}
@@ -25,7 +25,7 @@ record IsInFlight (nodes : List (Option InstanceEntry)) (n s t : ℕ) : Type 0 w
   pub at : InstanceAt nodes n i
   pub held : HeldBy i s (Commit s t keys) progress_of
   pub coming : InFlight
-  pub pending : Pending nodes coming
+  pub pending : HeldPending nodes coming
   pub session_is : coming.session ≡ s
   pub start_is : coming.start ≡ t
 
@@ -41,8 +41,8 @@ in_flight_by w h n s t i held (Commit r u keys) Accepted holds at has asks stand
       i = i;
       at = at;
       held = by;
-      coming = record { session = s; node = n; term = i.term; start = t; keys = keys; stage = Taken i.last };
-      pending = record { instance_of = i; progress_of = Accepted; at = at; held = by; term_is = refl; stage_is = refl };
+      coming = record { session = s; start = t; keys = keys; stage = Taken i.last };
+      pending = record { node = n; instance_of = i; progress_of = Accepted; at = at; held = by; stage_is = refl };
       session_is = refl;
       start_is = refl;
     }
@@ -55,8 +55,8 @@ in_flight_by w h n s t i held (Commit r u keys) (Drawn c) holds at has asks stan
       i = i;
       at = at;
       held = by;
-      coming = record { session = s; node = n; term = i.term; start = t; keys = keys; stage = Has c };
-      pending = record { instance_of = i; progress_of = Drawn c; at = at; held = by; term_is = refl; stage_is = refl };
+      coming = record { session = s; start = t; keys = keys; stage = Has c };
+      pending = record { node = n; instance_of = i; progress_of = Drawn c; at = at; held = by; stage_is = refl };
       session_is = refl;
       start_is = refl;
     }
@@ -71,7 +71,7 @@ in_flight w h n s t holds k = in_flight_as w h n s t k.i (held_of k.i s) holds k
 
 begun_in : (w : State) (h : List Item) (n s t : ℕ) → Holds w h → (k : IsInFlight w.nodes n s t) → Begun h s t
 begun_in w h n s t holds k =
-    subst (λ r. Begun h r t) k.session_is (subst (λ u. Begun h k.coming.session u) k.start_is (holds.requests.pending.begun k.coming k.pending))
+    subst (λ r. Begun h r t) k.session_is (subst (λ u. Begun h k.coming.session u) k.start_is (holds.requests.pending.begun k.coming (inl k.pending)))
 
 -- two of them with one start are one
 pub one_start : (w : State) (h : List Item) (n s m r t : ℕ) → Holds w h → StartsAt w.nodes n s t → StartsAt w.nodes m r t → (n ≡ m) × (s ≡ r)

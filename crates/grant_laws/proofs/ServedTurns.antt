@@ -35,7 +35,7 @@ use Rattle.machine.specs.Events.Answer.{answer_by, answer_request, answer_on}
 use Rattle.script_data.specs.Data.{ScriptData}
 use Rattle.isolation_laws.specs.Words.{InstanceAt, ClientAt, Marked}
 use Rattle.isolation_laws.specs.Sound.{Stands}
-use Rattle.isolation_laws.specs.Pending.{Has, InFlight, Pending}
+use Rattle.isolation_laws.specs.Pending.{Has, InFlight, HeldPending}
 use Rattle.isolation_laws.specs.Requests.{WaitsFor}
 use Rattle.isolation_laws.proofs.Lookups.{set_found}
 use Rattle.line_steps.specs.Runs.{Played, step_of, played}
@@ -130,9 +130,9 @@ pub unplaced_by : (p : Played) (node s start commit : ℕ) (keys : List ℕ) (k 
 unplaced_by p node s start commit keys k None stands unmarked is = refl
 unplaced_by p node s start commit keys k (Some InvalidMark) stands unmarked is = absurd (unmarked is)
 unplaced_by p node s start commit keys k (Some (CommittedMark other)) stands unmarked is =
-    let q : InFlight = record { session = s; node = node; term = k.oracle.term; start = start; keys = keys; stage = Has commit } in
-    let pending : Pending p.state.nodes q = record { instance_of = k.oracle; progress_of = progress.Drawn commit; at = k.node_has; held = k.held; term_is = refl; stage_is = refl } in
-    absurd ((stands.holds.requests.pending.so_far q pending).1 other (stands.holds.cells.pairs_are.placed start other is))
+    let q : InFlight = record { session = s; start = start; keys = keys; stage = Has commit } in
+    let pending : HeldPending p.state.nodes q = record { node = node; instance_of = k.oracle; progress_of = progress.Drawn commit; at = k.node_has; held = k.held; stage_is = refl } in
+    absurd ((stands.holds.requests.pending.so_far q (inl pending)).1 other (stands.holds.cells.pairs_are.placed start other is))
 
 pub places_so : (node s start commit : ℕ) (keys : List ℕ) (fate : Fate) (i : InstanceEntry) (pairs : Pairs) (held : Held) → held_of i s ≡ Some held → held.request ≡ Commit s start keys → held.progress ≡ progress.Drawn commit → mark_of pairs start ≡ None → fate ≡ Works → put_on node s fate (Some i) pairs ≡ done (Some (moved i s held (progress.Settled commit how.Placed)), put_pair pairs start (CommittedMark commit)) (item.Placed start commit ∷ [])
 places_so node s start commit keys fate i pairs held has asks stands absent works =

@@ -7,4 +7,5 @@ pub mod OutcomesOfPlacings
 pub mod OutcomesOfSessions
 pub mod OutcomesOfWork
 pub mod OutcomesOfSweeps
+pub mod OutcomesOfPlacings
 pub mod Outcomes

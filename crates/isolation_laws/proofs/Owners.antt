@@ -1,7 +1,7 @@
 -- For cause_laws and call_laws too.
 -- What follows from several facts at once: whose a transaction is, what still may be placed, and what an instance with the
 -- record's term has seen.
-use Rattle.std.proofs.Common.{◌≡◌, ℕ, ◌+◌, ◌<◌, ◌≤◌, List, Option, Some, None, inl, inr, refl, sym, ◌∙◌, ap, subst, arith}
+use Rattle.std.proofs.Common.{◌≡◌, ℕ, ◌+◌, ◌<◌, ◌≤◌, true, List, Option, Some, None, inl, inr, refl, sym, ◌∙◌, ap, subst, arith}
 use Rattle.history_book.specs.Members.{◌∈◌}
 use Rattle.history_book.specs.Isolation.{Committed, Stamped}
 use Rattle.history_book.specs.declared.item.Item.{Item}
@@ -16,7 +16,7 @@ use Rattle.oracle_parts.specs.declared.instance.Request.TheVariants.{Commit}
 use Rattle.oracle_parts.specs.Instance.{InstanceEntry}
 use Rattle.machine.specs.State.{Client}
 use Rattle.isolation_laws.specs.Words.{InstanceAt, HeldBy, ClientAt, OpenAt, Begun, DrewCommit, drawn_stamp}
-use Rattle.isolation_laws.specs.Pending.{Stage, Waits, Taken, Has, InFlight, stage_of, Pending, IsPending, IsOpen, Live}
+use Rattle.isolation_laws.specs.Pending.{Stage, Waits, Taken, Has, InFlight, stage_of, HeldPending, is_placing, Pending, IsPending, IsOpen, Live}
 use Rattle.isolation_laws.specs.Numbers.{AreRanges, AreLeases, AreDrawn, AreBegun, ArePlaced}
 use Rattle.isolation_laws.specs.Requests.{AreRequests, WaitsFor, IsDrawnSoFar, ArePending, AreAccepted, AreOpen}
 use Rattle.isolation_laws.proofs.Lookups.{one_client}
@@ -29,24 +29,35 @@ waits_no : (state : SessionState) (s t : ℕ) (keys : List ℕ) (c : Client) →
 waits_no state s t keys c is gone asked (inl left) = gone (sym is ∙ left)
 waits_no state s t keys c is gone asked (inr (asks, start)) = asked (sym is ∙ asks)
 
--- the session of a commit in flight is committing or gone, so no other state has its transaction
-pub not_in_flight : (nodes : List (Option InstanceEntry)) (clients : List Client) (h : List Item) (state : SessionState) (s t : ℕ) (c : Client) → Stamped h → AreRequests nodes clients → ArePending nodes h → ClientAt clients s c → c.entry.state ≡ state → (state ≡ phase.Gone → ⊥) → (state ≡ phase.Committing → ⊥) → Begun h s t → IsPending nodes t → ⊥
-not_in_flight nodes clients h state s t c stamped requests pending at is gone asked begun p =
+-- a state that no session has whose commit is in flight
+pub record NoneInFlight (state : SessionState) : Type 0 where
+  pub gone : state ≡ phase.Gone → ⊥
+  pub committing : state ≡ phase.Committing → ⊥
+  pub placing : is_placing state ≡ true → ⊥
+
+-- the session of a commit in flight is committing, placing it or gone
+held_not_in : (nodes : List (Option InstanceEntry)) (clients : List Client) (state : SessionState) (q : InFlight) (c : Client) → AreRequests nodes clients → ClientAt clients q.session c → c.entry.state ≡ state → NoneInFlight state → Pending clients nodes q → ⊥
+held_not_in nodes clients state q c requests at is none (inl p) =
+    let waiting = requests.waits p.node q.session p.instance_of (Commit q.session q.start q.keys) p.progress_of p.at p.held in
+    let same : waiting.0 ≡ c = one_client clients q.session waiting.0 c waiting.1 at in
+    waits_no state q.session q.start q.keys waiting.0 (ap (λ d. d.entry.state) same ∙ is) none.gone none.committing waiting.2
+held_not_in nodes clients state q c requests at is none (inr p) =
+    let same : p.client ≡ c = one_client clients q.session p.client c p.at at in
+    none.placing (ap is_placing (sym is) ∙ (ap (λ d. is_placing d.entry.state) (sym same) ∙ p.state_is))
+
+-- so no other state has its transaction
+pub not_in_flight : (nodes : List (Option InstanceEntry)) (clients : List Client) (h : List Item) (state : SessionState) (s t : ℕ) (c : Client) → Stamped h → AreRequests nodes clients → ArePending clients nodes h → ClientAt clients s c → c.entry.state ≡ state → NoneInFlight state → Begun h s t → IsPending clients nodes t → ⊥
+not_in_flight nodes clients h state s t c stamped requests pending at is none begun p =
     let q = p.coming in
     let mine : q.session ≡ s = begun_once h q.session s t stamped (subst (Begun h q.session) p.start_is (pending.begun q p.pending)) begun in
-    let waiting = requests.waits q.node q.session p.pending.instance_of (Commit q.session q.start q.keys) p.pending.progress_of p.pending.at p.pending.held in
-    let same : waiting.0 ≡ c = one_client clients s waiting.0 c (subst (λ r. ClientAt clients r waiting.0) mine waiting.1) at in
-    waits_no state q.session q.start q.keys waiting.0 (ap (λ d. d.entry.state) same ∙ is) gone asked waiting.2
+    held_not_in nodes clients state q c requests (subst (λ r. ClientAt clients r c) (sym mine) at) is none p.pending
 
-open_not_gone : phase.Open ≡ phase.Gone → ⊥
-open_not_gone same = cc
+pub open_in_none : NoneInFlight phase.Open
+open_in_none = record { gone = λ is. cc; committing = λ is. cc; placing = λ is. cc }
 
-open_not_committing : phase.Open ≡ phase.Committing → ⊥
-open_not_committing same = cc
-
-pub open_not_pending : (nodes : List (Option InstanceEntry)) (clients : List Client) (h : List Item) (s t e : ℕ) → Stamped h → AreRequests nodes clients → ArePending nodes h → Begun h s t → OpenAt clients s t e → IsPending nodes t → ⊥
+pub open_not_pending : (nodes : List (Option InstanceEntry)) (clients : List Client) (h : List Item) (s t e : ℕ) → Stamped h → AreRequests nodes clients → ArePending clients nodes h → Begun h s t → OpenAt clients s t e → IsPending clients nodes t → ⊥
 open_not_pending nodes clients h s t e stamped requests pending begun o p =
-    not_in_flight nodes clients h phase.Open s t o.client stamped requests pending o.at o.state_is open_not_gone open_not_committing begun p
+    not_in_flight nodes clients h phase.Open s t o.client stamped requests pending o.at o.state_is open_in_none begun p
 
 -- ---- what may still be placed is not placed
 pub so_far_unplaced : (h : List Item) (q : InFlight) (stage : Stage) (c : ℕ) → ArePlaced h → IsDrawnSoFar h q stage → Committed h q.start c → ⊥
@@ -54,15 +65,15 @@ so_far_unplaced h q Waits c placed so_far is = let drew = placed.drawn q.start c
 so_far_unplaced h q (Taken last) c placed so_far is = let drew = placed.drawn q.start c is in so_far (drew.0, drew.1, drew.2, c, drew.3)
 so_far_unplaced h q (Has commit) c placed so_far is = so_far.1 c is
 
-pub pending_unplaced : (nodes : List (Option InstanceEntry)) (h : List Item) (t c : ℕ) → ArePlaced h → ArePending nodes h → IsPending nodes t → Committed h t c → ⊥
-pending_unplaced nodes h t c placed pending p is = so_far_unplaced h p.coming p.coming.stage c placed (pending.so_far p.coming p.pending) (subst (λ u. Committed h u c) (sym p.start_is) is)
+pub pending_unplaced : (clients : List Client) (nodes : List (Option InstanceEntry)) (h : List Item) (t c : ℕ) → ArePlaced h → ArePending clients nodes h → IsPending clients nodes t → Committed h t c → ⊥
+pending_unplaced clients nodes h t c placed pending p is = so_far_unplaced h p.coming p.coming.stage c placed (pending.so_far p.coming p.pending) (subst (λ u. Committed h u c) (sym p.start_is) is)
 
 pub open_unplaced : (clients : List Client) (h : List Item) (t c : ℕ) → ArePlaced h → AreOpen clients h → IsOpen clients t → Committed h t c → ⊥
 open_unplaced clients h t c placed opened o is = let drew = placed.drawn t c is in opened.undrawn o.session t o.epoch o.open_at (drew.0, drew.1, drew.2, c, drew.3)
 
-pub live_unplaced : (clients : List Client) (nodes : List (Option InstanceEntry)) (h : List Item) (t c : ℕ) → ArePlaced h → ArePending nodes h → AreOpen clients h → Live clients nodes t → Committed h t c → ⊥
+pub live_unplaced : (clients : List Client) (nodes : List (Option InstanceEntry)) (h : List Item) (t c : ℕ) → ArePlaced h → ArePending clients nodes h → AreOpen clients h → Live clients nodes t → Committed h t c → ⊥
 live_unplaced clients nodes h t c placed pending opened (inl o) is = open_unplaced clients h t c placed opened o is
-live_unplaced clients nodes h t c placed pending opened (inr p) is = pending_unplaced nodes h t c placed pending p is
+live_unplaced clients nodes h t c placed pending opened (inr p) is = pending_unplaced clients nodes h t c placed pending p is
 
 -- ---- an instance that accepts has the record's term
 pub accepts_now : (setup : SetupNumbers) (seen reading n : ℕ) (nodes : List (Option InstanceEntry)) (master : MasterRecord) (i : InstanceEntry) → AreRanges nodes master → AreLeases setup seen nodes master → InstanceAt nodes n i → seen ≤ reading + setup.skew → reading < i.until → i.term ≡ master.term
@@ -105,15 +116,27 @@ has_progress last (progress.Drawn c) x is = cc
 has_progress last (progress.Settled c by) x is = absurd (cc)
 
 -- what an instance has accepted began within its range
-pub taken_within : (nodes : List (Option InstanceEntry)) (q : InFlight) (x : ℕ) (p : Pending nodes q) → AreAccepted nodes → q.stage ≡ Taken x → (q.start ≤ x) × (p.instance_of.last ≡ x)
+pub taken_within : (nodes : List (Option InstanceEntry)) (q : InFlight) (x : ℕ) (p : HeldPending nodes q) → AreAccepted nodes → q.stage ≡ Taken x → (q.start ≤ x) × (p.instance_of.last ≡ x)
 taken_within nodes q x p accepted is =
     let now = taken_progress p.instance_of.last p.progress_of x (p.stage_is ∙ ap Some is) in
     let held : HeldBy p.instance_of q.session (Commit q.session q.start q.keys) progress.Accepted = subst (HeldBy p.instance_of q.session (Commit q.session q.start q.keys)) now.0 p.held in
-    let within = accepted.within q.node q.session q.start q.keys p.instance_of p.at held in
+    let within = accepted.within p.node q.session q.start q.keys p.instance_of p.at held in
     (omega (arith, within.1, now.1), now.1)
 
-pub has_held : (nodes : List (Option InstanceEntry)) (q : InFlight) (x : ℕ) (p : Pending nodes q) → q.stage ≡ Has x → HeldBy p.instance_of q.session (Commit q.session q.start q.keys) (progress.Drawn x)
+pub has_held : (nodes : List (Option InstanceEntry)) (q : InFlight) (x : ℕ) (p : HeldPending nodes q) → q.stage ≡ Has x → HeldBy p.instance_of q.session (Commit q.session q.start q.keys) (progress.Drawn x)
 has_held nodes q x p is = subst (HeldBy p.instance_of q.session (Commit q.session q.start q.keys)) (has_progress p.instance_of.last p.progress_of x (p.stage_is ∙ ap Some is)) p.held
 
-pub has_drew : (nodes : List (Option InstanceEntry)) (h : List Item) (q : InFlight) (x : ℕ) → ArePending nodes h → Pending nodes q → q.stage ≡ Has x → DrewCommit h q.session q.node q.term q.start x × ((c : ℕ) → Committed h q.start c → ⊥)
-has_drew nodes h q x pending p is = subst (IsDrawnSoFar h q) is (pending.so_far q p)
+-- what an instance has drawn for it was drawn there
+pub held_drew : (clients : List Client) (nodes : List (Option InstanceEntry)) (h : List Item) (q : InFlight) (x : ℕ) (p : HeldPending nodes q) → ArePending clients nodes h → q.stage ≡ Has x → DrewCommit h q.session p.node p.instance_of.term q.start x
+held_drew clients nodes h q x p pending is = pending.here p.node q.session q.start x q.keys p.instance_of p.at (has_held nodes q x p is)
+
+-- what a session is placing has its commit, so what waits or is taken is held
+taken_not_has : (x c : ℕ) → Taken x ≡ Has c → ⊥
+taken_not_has x c same = cc
+
+pub taken_held : (clients : List Client) (nodes : List (Option InstanceEntry)) (q : InFlight) (x : ℕ) → Pending clients nodes q → q.stage ≡ Taken x → HeldPending nodes q
+taken_held clients nodes q x (inl p) is = p
+taken_held clients nodes q x (inr p) is = absurd (taken_not_has x p.commit_of (sym is ∙ p.stage_is))
+
+pub has_drew : (clients : List Client) (nodes : List (Option InstanceEntry)) (h : List Item) (q : InFlight) (x : ℕ) → ArePending clients nodes h → Pending clients nodes q → q.stage ≡ Has x → ((n : ℕ) × (term : ℕ) × DrewCommit h q.session n term q.start x) × ((c : ℕ) → Committed h q.start c → ⊥)
+has_drew clients nodes h q x pending p is = subst (IsDrawnSoFar h q) is (pending.so_far q p)

@@ -7,6 +7,7 @@ pub mod OpenAfter
 pub mod ClientsAfter
 pub mod RequestsAfter
 pub mod CommitsInFlight
+pub mod OtherCommits
 pub mod Standing
 pub mod Silent
 pub mod RequestsKept
@@ -17,6 +18,7 @@ pub mod RequestsOfMoves
 pub mod RequestsOfDraws
 pub mod SettledNow
 pub mod RequestsOfSettled
+pub mod RequestsOfPlacings
 pub mod RequestsOfBegins
 pub mod RequestsOfWrites
 pub mod RequestsOfAll

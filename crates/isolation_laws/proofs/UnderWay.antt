@@ -4,6 +4,7 @@ pub mod ClientWorks
 pub mod Settled
 pub mod SessionMoves
 pub mod UnderWayOfRequests
+pub mod UnderWayOfPlacings
 pub mod UnderWayOfSessions
 pub mod UnderWayOfOutcomes
 pub mod UnderWayOfCompletions

@@ -1,5 +1,6 @@
 -- Begins in flight and open transactions, against what was placed and what can still be drawn.
-use Rattle.std.specs.Prelude.{◌≡◌, ℕ, ◌<◌, ◌≤◌, ◌⊎◌, true, List, Option}
+use Rattle.std.specs.Prelude.{◌≡◌, ℕ, ◌<◌, ◌≤◌, ◌⊎◌, true, false, List, Option}
+use Rattle.stamp_base.specs.SetupNumbers.{SetupNumbers}
 use Rattle.history_book.specs.Isolation.{Committed, before_ask, has_ask}
 use Rattle.history_book.specs.declared.item.Item.{Item}
 use Rattle.oracle_parts.specs.declared.instance.Progress.{Progress}
@@ -7,6 +8,7 @@ use Rattle.oracle_parts.specs.declared.instance.Progress.TheVariants as progress
 use Rattle.oracle_parts.specs.declared.instance.Request.TheVariants.{Begin, Commit}
 use Rattle.oracle_parts.specs.Instance.{InstanceEntry}
 use Rattle.machine.specs.State.{Client}
+use Rattle.machine.specs.Events.Fetch.{marks_every}
 use Rattle.isolation_laws.specs.Words.{InstanceAt, HeldBy, OpenAt}
 
 -- what was placed before the ask of a begin is below the start that it got, or will get
@@ -24,6 +26,6 @@ pub record IsPast (i : InstanceEntry) (b : ℕ) : Type 0 where
 pub record AreSettledBelow (clients : List Client) (nodes : List (Option InstanceEntry)) : Type 0 where
   pub below : (s b e n : ℕ) (i : InstanceEntry) → OpenAt clients s b e → InstanceAt nodes n i → (i.ceiling ≤ e) ⊎ IsPast i b
 
-pub record BeginFacts (clients : List Client) (nodes : List (Option InstanceEntry)) (h : List Item) : Type 0 where
+pub record BeginFacts (setup : SetupNumbers) (clients : List Client) (nodes : List (Option InstanceEntry)) (h : List Item) : Type 0 where
   pub fresh : AreFreshBegins nodes h
-  pub below : AreSettledBelow clients nodes
+  pub below : marks_every setup ≡ false → AreSettledBelow clients nodes

@@ -17,11 +17,11 @@ use Rattle.isolation_laws.specs.Bare.{AreOwned}
 pub record Holds (w : State) (h : List Item) : Type 0 where
   pub in_range : AreInRange w.setup
   pub numbers : NumberFacts w.setup w.seen w.nodes w.master h
-  pub requests : RequestFacts w.nodes w.clients h
+  pub requests : RequestFacts w.setup w.nodes w.clients h
   pub memory : MemoryFacts w.setup w.nodes h
   pub cells : CellFacts w.clients w.nodes w.rows w.pairs h
   pub under_way : UnderWayFacts w.clients w.sweep w.rows w.pairs h
-  pub begins : BeginFacts w.clients w.nodes h
+  pub begins : BeginFacts w.setup w.clients w.nodes h
   pub reads : ReadFacts w.setup w.clients w.nodes w.rows w.pairs h
   pub known : KnownFacts w.clients w.nodes w.pairs h
   pub owned : AreOwned w.clients w.rows h

@@ -1,11 +1,12 @@
 -- What may still be placed: commits in flight, by how far they have come, and what can still arrive below a start.
-use Rattle.std.specs.Prelude.{◌≡◌, ℕ, ◌<◌, ◌⊎◌, List, Option, None, Some}
+use Rattle.std.specs.Prelude.{◌≡◌, ℕ, ◌<◌, ◌⊎◌, Bool, true, false, List, Option, None, Some}
+use Rattle.client_parts.specs.declared.session.State.{State as SessionState}
 use Rattle.oracle_parts.specs.declared.instance.Progress.{Progress}
 use Rattle.oracle_parts.specs.declared.instance.Progress.TheVariants as progress
 use Rattle.oracle_parts.specs.declared.instance.Request.TheVariants.{Commit}
 use Rattle.oracle_parts.specs.Instance.{InstanceEntry}
 use Rattle.machine.specs.State.{Client}
-use Rattle.isolation_laws.specs.Words.{InstanceAt, HeldBy, OpenAt}
+use Rattle.isolation_laws.specs.Words.{InstanceAt, HeldBy, ClientAt, OpenAt}
 
 pub data Stage : Type 0 where
   -- it waits to be accepted
@@ -15,11 +16,9 @@ pub data Stage : Type 0 where
   -- it has its commit, which is not settled
   Has : (commit : ℕ) → Stage
 
--- a commit in flight: whose it is, the node and the term that serve it, its start, its keys and its stage
+-- a commit in flight: whose it is, its start, its keys and its stage
 pub record InFlight : Type 0 where
   pub session : ℕ
-  pub node : ℕ
-  pub term : ℕ
   pub start : ℕ
   pub keys : List ℕ
   pub stage : Stage
@@ -30,14 +29,32 @@ stage_of last progress.Accepted = Some (Taken last)
 stage_of last (progress.Drawn commit) = Some (Has commit)
 stage_of last (progress.Settled commit how) = None
 
--- the commit is in flight: some instance holds it, and it is not settled
-pub record Pending (nodes : List (Option InstanceEntry)) (q : InFlight) : Type 0 where
+-- an instance holds it, and it is not settled
+pub record HeldPending (nodes : List (Option InstanceEntry)) (q : InFlight) : Type 0 where
+  pub node : ℕ
   pub instance_of : InstanceEntry
   pub progress_of : Progress
-  pub at : InstanceAt nodes q.node instance_of
+  pub at : InstanceAt nodes node instance_of
   pub held : HeldBy instance_of q.session (Commit q.session q.start q.keys) progress_of
-  pub term_is : instance_of.term ≡ q.term
   pub stage_is : stage_of instance_of.last progress_of ≡ Some q.stage
+
+-- the session has its commit, and places it itself
+abbrev pub is_placing : SessionState → Bool
+is_placing _ = false
+
+pub record PlacingAt (clients : List Client) (q : InFlight) : Type 0 where
+  pub client : Client
+  pub at : ClientAt clients q.session client
+  pub state_is : is_placing client.entry.state ≡ true
+  pub start_is : client.entry.start ≡ Some q.start
+  pub keys_are : client.entry.keys ≡ q.keys
+  pub commit_of : ℕ
+  pub commit_is : client.entry.commit ≡ Some commit_of
+  pub stage_is : q.stage ≡ Has commit_of
+
+-- the commit is in flight: an instance holds it, or its session is placing it
+abbrev pub Pending : List Client → List (Option InstanceEntry) → InFlight → Type 0
+Pending clients nodes q = HeldPending nodes q ⊎ PlacingAt clients q
 
 -- it can be placed, and then counts against a reader with the start b
 abbrev pub IsStageBelow : ℕ → Stage → Type 0
@@ -46,16 +63,16 @@ IsStageBelow b (Taken last) = last < b
 IsStageBelow b (Has commit) = commit < b
 
 -- a commit of t may still arrive below the start b
-pub record ComesBelow (nodes : List (Option InstanceEntry)) (b t : ℕ) : Type 0 where
+pub record ComesBelow (clients : List Client) (nodes : List (Option InstanceEntry)) (b t : ℕ) : Type 0 where
   pub coming : InFlight
-  pub pending : Pending nodes coming
+  pub pending : Pending clients nodes coming
   pub start_is : coming.start ≡ t
   pub below : IsStageBelow b coming.stage
 
 -- a commit of t is in flight
-pub record IsPending (nodes : List (Option InstanceEntry)) (t : ℕ) : Type 0 where
+pub record IsPending (clients : List Client) (nodes : List (Option InstanceEntry)) (t : ℕ) : Type 0 where
   pub coming : InFlight
-  pub pending : Pending nodes coming
+  pub pending : Pending clients nodes coming
   pub start_is : coming.start ≡ t
 
 -- the transaction is open in a session
@@ -66,4 +83,4 @@ pub record IsOpen (clients : List Client) (t : ℕ) : Type 0 where
 
 -- the transaction may still be placed: it is open, or its commit is in flight
 abbrev pub Live : List Client → List (Option InstanceEntry) → ℕ → Type 0
-Live clients nodes t = IsOpen clients t ⊎ IsPending nodes t
+Live clients nodes t = IsOpen clients t ⊎ IsPending clients nodes t

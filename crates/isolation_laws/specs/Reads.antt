@@ -44,14 +44,14 @@ HasLastWrite h k c = last_write h c.version k ≡ Some c.value
 
 -- what is still to be seen of the key k by a read with the start b goes over these cells: all that is placed below b or
 -- will be, down to the floor, with its value
-pub record SeesAll (nodes : List (Option InstanceEntry)) (pairs : Pairs) (h : List Item) (b k : ℕ) (cells : List Cell) : Type 0 where
+pub record SeesAll (clients : List Client) (nodes : List (Option InstanceEntry)) (pairs : Pairs) (h : List Item) (b k : ℕ) (cells : List Cell) : Type 0 where
   pub falling : AreFalling cells
   pub below : All (λ (c : Cell). c.version < b) cells
   pub shadows : All (λ (c : Cell). (commit : ℕ) → c.shadow ≡ Some commit → Committed h c.version commit) cells
   pub found : (u d : ℕ) (value : List ℕ) → Committed h u d → d < b → Wrote h u k value → IsCovered b u cells
   pub values : All (λ (c : Cell). (d : ℕ) → Committed h c.version d → d < b → HasLastWrite h k c) cells
-  pub coming : (u : ℕ) (value : List ℕ) → ComesBelow nodes b u → (Marked pairs u → ⊥) → Wrote h u k value → IsCovered b u cells
-  pub coming_values : All (λ (c : Cell). ComesBelow nodes b c.version → (Marked pairs c.version → ⊥) → HasLastWrite h k c) cells
+  pub coming : (u : ℕ) (value : List ℕ) → ComesBelow clients nodes b u → (Marked pairs u → ⊥) → Wrote h u k value → IsCovered b u cells
+  pub coming_values : All (λ (c : Cell). ComesBelow clients nodes b c.version → (Marked pairs c.version → ⊥) → HasLastWrite h k c) cells
 
 -- what is known at each point of the resolve of a version t by a reader with the start b and the epoch e, which may mark every
 -- version or not: at the last look a mark that was met stands, and where none was met none may be placed
@@ -63,16 +63,16 @@ IsResolvedTo pairs rows h k b every e t (LastLook met) = (met ≡ true → Marke
 
 -- a read under way is that of an open transaction, by its start and its epoch, marks what the setup lets it mark, and sees all
 -- that it may answer with
-pub record IsReading (setup : SetupNumbers) (nodes : List (Option InstanceEntry)) (rows : List Row) (pairs : Pairs) (h : List Item) (b e : ℕ) (r : Reading) : Type 0 where
+pub record IsReading (setup : SetupNumbers) (clients : List Client) (nodes : List (Option InstanceEntry)) (rows : List Row) (pairs : Pairs) (h : List Item) (b e : ℕ) (r : Reading) : Type 0 where
   pub start_is : r.start ≡ b
   pub epoch_is : r.epoch ≡ e
   pub every_is : r.every ≡ marks_every setup
   pub own : (value : List ℕ) → Wrote h b r.key value → WasListed h b
-  pub sees : SeesAll nodes pairs h b r.key (r.cell ∷ r.older)
+  pub sees : SeesAll clients nodes pairs h b r.key (r.cell ∷ r.older)
   pub resolved : IsResolvedTo pairs rows h r.key b r.every e r.cell.version r.point
 
 pub record AreReading (setup : SetupNumbers) (clients : List Client) (nodes : List (Option InstanceEntry)) (rows : List Row) (pairs : Pairs) (h : List Item) : Type 0 where
-  pub reads : (s : ℕ) (c : Client) (r : Reading) → ClientAt clients s c → c.under_way ≡ Reads r → (b : ℕ) × (e : ℕ) × OpenAt clients s b e × IsReading setup nodes rows pairs h b e r
+  pub reads : (s : ℕ) (c : Client) (r : Reading) → ClientAt clients s c → c.under_way ≡ Reads r → (b : ℕ) × (e : ℕ) × OpenAt clients s b e × IsReading setup clients nodes rows pairs h b e r
 
 -- a commit u that can still arrive below the start b does not change the answer: it is an own one, or u is marked, or the
 -- answer's version is above u
@@ -80,10 +80,10 @@ abbrev pub Outlasts : Pairs → ℕ → ℕ → Option Found → Type 0
 Outlasts pairs b u None = Marked pairs u
 Outlasts pairs b u (Some found) = (found.from ≡ b) ⊎ Marked pairs u ⊎ (u < found.from)
 
-pub record AreLastingReads (nodes : List (Option InstanceEntry)) (pairs : Pairs) (h : List Item) : Type 0 where
-  pub lasts : (s b k u : ℕ) (answer : Option Found) (value : List ℕ) → Read s b k answer ∈ h → ComesBelow nodes b u → Wrote h u k value → Outlasts pairs b u answer
+pub record AreLastingReads (clients : List Client) (nodes : List (Option InstanceEntry)) (pairs : Pairs) (h : List Item) : Type 0 where
+  pub lasts : (s b k u : ℕ) (answer : Option Found) (value : List ℕ) → Read s b k answer ∈ h → ComesBelow clients nodes b u → Wrote h u k value → Outlasts pairs b u answer
 
 pub record ReadFacts (setup : SetupNumbers) (clients : List Client) (nodes : List (Option InstanceEntry)) (rows : List Row) (pairs : Pairs) (h : List Item) : Type 0 where
   pub reading : AreReading setup clients nodes rows pairs h
-  pub lasting : AreLastingReads nodes pairs h
+  pub lasting : AreLastingReads clients nodes pairs h
   pub read_sets : AreReadSets setup clients nodes h

@@ -1,5 +1,6 @@
 -- Sessions and the requests that instances hold of them.
-use Rattle.std.specs.Prelude.{◌≡◌, ◌≢◌, ℕ, ◌<◌, ◌≤◌, ◌⊎◌, IsTrue, List, [], Option, Some}
+use Rattle.std.specs.Prelude.{◌≡◌, ◌≢◌, ℕ, ◌<◌, ◌≤◌, ◌⊎◌, true, false, IsTrue, List, [], Option, Some}
+use Rattle.stamp_base.specs.SetupNumbers.{SetupNumbers}
 use Rattle.history_book.specs.Isolation.{Committed}
 use Rattle.history_book.specs.declared.item.Item.{Item}
 use Rattle.client_parts.specs.declared.session.State.{State as SessionState}
@@ -13,8 +14,9 @@ use Rattle.oracle_parts.specs.declared.instance.Settled.{Settled}
 use Rattle.oracle_parts.specs.declared.instance.Settled.TheVariants as how
 use Rattle.oracle_parts.specs.Instance.{InstanceEntry, session_of}
 use Rattle.machine.specs.State.{Client}
+use Rattle.machine.specs.Events.Fetch.{marks_every}
 use Rattle.isolation_laws.specs.Words.{InstanceAt, HeldBy, ClientAt, OpenAt, Begun, DrewStart, DrewCommit, HasDrawn, written_keys}
-use Rattle.isolation_laws.specs.Pending.{Stage, Waits, Taken, Has, InFlight, Pending}
+use Rattle.isolation_laws.specs.Pending.{Stage, Waits, Taken, Has, InFlight, is_placing, Pending}
 
 -- a session with a transaction began it itself
 pub record HaveBegun (clients : List Client) (h : List Item) : Type 0 where
@@ -40,13 +42,14 @@ pub record AreStarting (nodes : List (Option InstanceEntry)) (h : List Item) : T
 abbrev pub IsDrawnSoFar : List Item → InFlight → Stage → Type 0
 IsDrawnSoFar h q Waits = HasDrawn h q.start → ⊥
 IsDrawnSoFar h q (Taken last) = HasDrawn h q.start → ⊥
-IsDrawnSoFar h q (Has commit) = DrewCommit h q.session q.node q.term q.start commit × ((c : ℕ) → Committed h q.start c → ⊥)
+IsDrawnSoFar h q (Has commit) = ((n : ℕ) × (term : ℕ) × DrewCommit h q.session n term q.start commit) × ((c : ℕ) → Committed h q.start c → ⊥)
 
--- a commit in flight was begun by its session, and asks for all keys that it wrote
-pub record ArePending (nodes : List (Option InstanceEntry)) (h : List Item) : Type 0 where
-  pub begun : (q : InFlight) → Pending nodes q → Begun h q.session q.start
-  pub keys : (q : InFlight) → Pending nodes q → (q.keys ≡ written_keys h q.start) × (q.keys ≢ [])
-  pub so_far : (q : InFlight) → Pending nodes q → IsDrawnSoFar h q q.stage
+-- a commit in flight was begun by its session, and asks for all keys that it wrote; one that an instance holds was drawn there
+pub record ArePending (clients : List Client) (nodes : List (Option InstanceEntry)) (h : List Item) : Type 0 where
+  pub begun : (q : InFlight) → Pending clients nodes q → Begun h q.session q.start
+  pub keys : (q : InFlight) → Pending clients nodes q → (q.keys ≡ written_keys h q.start) × (q.keys ≢ [])
+  pub so_far : (q : InFlight) → Pending clients nodes q → IsDrawnSoFar h q q.stage
+  pub here : (n s t c : ℕ) (keys : List ℕ) (i : InstanceEntry) → InstanceAt nodes n i → HeldBy i s (Commit s t keys) (progress.Drawn c) → DrewCommit h s n i.term t c
 
 -- how a settled commit stands in the history; a faulted put owes nothing
 abbrev pub IsSettled : List Item → ℕ → ℕ → Settled → Type 0
@@ -70,19 +73,24 @@ pub record AreOpen (clients : List Client) (h : List Item) : Type 0 where
 
 -- the session's transaction is in flight or of open outcome
 abbrev pub HasAsked : SessionState → Type 0
-HasAsked state = (state ≡ phase.Committing) ⊎ (state ≡ phase.OpenOutcome)
+HasAsked state = (state ≡ phase.Committing) ⊎ ((state ≡ phase.OpenOutcome) ⊎ (is_placing state ≡ true))
 
 -- a session's write list has the keys that its transaction wrote; one that has asked for its commit has written
 pub record AreKeys (clients : List Client) (h : List Item) : Type 0 where
   pub written : (s t : ℕ) (c : Client) → ClientAt clients s c → (c.entry.state ≡ phase.Open) ⊎ HasAsked c.entry.state → c.entry.start ≡ Some t → c.entry.keys ≡ written_keys h t
   pub some : (s : ℕ) (c : Client) → ClientAt clients s c → HasAsked c.entry.state → c.entry.keys ≢ []
 
-pub record RequestFacts (nodes : List (Option InstanceEntry)) (clients : List Client) (h : List Item) : Type 0 where
+-- where reads may not mark every version, no session places its own commit
+pub record AreForm (setup : SetupNumbers) (clients : List Client) : Type 0 where
+  pub plain : marks_every setup ≡ false → (s : ℕ) (c : Client) → ClientAt clients s c → is_placing c.entry.state ≡ true → ⊥
+
+pub record RequestFacts (setup : SetupNumbers) (nodes : List (Option InstanceEntry)) (clients : List Client) (h : List Item) : Type 0 where
   pub have_begun : HaveBegun clients h
   pub requests : AreRequests nodes clients
   pub starting : AreStarting nodes h
-  pub pending : ArePending nodes h
+  pub pending : ArePending clients nodes h
   pub settled : AreSettled nodes h
   pub accepted : AreAccepted nodes
   pub opened : AreOpen clients h
   pub keys : AreKeys clients h
+  pub form : AreForm setup clients

@@ -7,7 +7,7 @@ ghost use Rattle.port_io.specs.declared.weather.Fate.TheVariants.{FailsUnchanged
 ghost use Rattle.machine.specs.declared.event.Event.TheVariants.{Crash, Put};
 ghost use Rattle.machine.specs.State.{State};
 ghost use Rattle.machine.specs.Machine.{Move, Steady, AreSteady, stepped, items_after, history_after};
-ghost use Rattle.isolation_laws.specs.Pending.{InFlight, Pending, Has};
+ghost use Rattle.isolation_laws.specs.Pending.{InFlight, HeldPending, Has};
 ghost use Rattle.isolation_laws.specs.Sound.{Stands};
 ghost use Rattle.isolation_laws.specs.Laws.{Unplaced, IsMarkedFirst, IsLost, ReadsWhatCommits, DrawsKeepTerms, LeasesAreOfTheTerm};
 
@@ -39,14 +39,14 @@ pub fn lost_is_never_placed()
         Unplaced (h ++ items_after w moves) t }
 {}
 
-/// A commit in flight is lost where its instance crashes.
+/// A commit that an instance holds is lost where that instance crashes.
 pub fn crashes_lose_commits()
-    ensures { (w : State) (h : List Item) (q : InFlight) (fate : Fate) → Stands w h → Pending w.nodes q →
-        IsLost (stepped w (Crash q.node) fate).state (h ++ (stepped w (Crash q.node) fate).items) q.start }
+    ensures { (w : State) (h : List Item) (q : InFlight) (fate : Fate) → Stands w h → (p : HeldPending w.nodes q) →
+        IsLost (stepped w (Crash p.node) fate).state (h ++ (stepped w (Crash p.node) fate).items) q.start }
 {}
 
 /// A commit that was drawn is lost where its put fails without effect.
 pub fn faulted_puts_lose_commits()
-    ensures { (w : State) (h : List Item) (q : InFlight) (c : ℕ) → Stands w h → Pending w.nodes q → q.stage ≡ Has c →
-        IsLost (stepped w (Put q.node q.session) FailsUnchanged).state (h ++ (stepped w (Put q.node q.session) FailsUnchanged).items) q.start }
+    ensures { (w : State) (h : List Item) (q : InFlight) (c : ℕ) → Stands w h → (p : HeldPending w.nodes q) → q.stage ≡ Has c →
+        IsLost (stepped w (Put p.node q.session) FailsUnchanged).state (h ++ (stepped w (Put p.node q.session) FailsUnchanged).items) q.start }
 {}

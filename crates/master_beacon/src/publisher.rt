@@ -66,7 +66,7 @@ impl Publisher {
     }
 
     /// A pass that has seen all that was published.
-    pub fn pass(&mut self, beacon: &Beacon) -> BeaconPass
+    pub fn pass<R: Wait>(&mut self, _rt: &R, beacon: &Beacon) -> BeaconPass
         requires { self.old.beacon ≡ beacon.now }
         ensures same { self.new ≡ self.old }
         ensures pass { result ≡ sight beacon.now self.old.list }

@@ -17,12 +17,12 @@ fn term(number: u64) -> Result<Term, Fail> {
 fn looks_answer_the_last_pair(rt: HostRuntime) -> Result<(), Fail> {
     let (one, two) = (term(1)?, term(2)?);
     let (beacon, mut publisher) = Beacon::open(rt.alloc())?;
-    let mut early = publisher.pass(&beacon);
+    let mut early = publisher.pass(&rt, &beacon);
     assert_eq!(rt; beacon.see(&rt, &mut early), None);
     assert!(rt; publisher.publish(&rt, &beacon, two, NodeNo::LAST));
     assert!(rt; !publisher.publish(&rt, &beacon, one, NodeNo::FIRST));
     assert_eq!(rt; beacon.see(&rt, &mut early), Some((two, NodeNo::LAST)));
-    let late = publisher.pass(&beacon);
+    let late = publisher.pass(&rt, &beacon);
     let mut both = early.join(&rt, &beacon, late);
     publisher.tell(&rt, &beacon, &mut both);
     assert_eq!(rt; beacon.see(&rt, &mut both), Some((two, NodeNo::LAST)));
@@ -80,7 +80,7 @@ fn watch_beside<R: Threads + Wait + Sync>(
 #[test]
 fn a_pass_on_another_thread_never_goes_back(rt: HostRuntime) -> Result<(), Fail> {
     let (beacon, mut publisher) = Beacon::open(rt.alloc())?;
-    let pass = publisher.pass(&beacon);
+    let pass = publisher.pass(&rt, &beacon);
     let desk = Mutex::new(Desk::new(&beacon, publisher));
     let (mut pass, fell) = watch_beside(&rt, &beacon, &desk, pass);
     assert!(rt; !fell);

@@ -23,6 +23,7 @@ use Rattle.machine.specs.Events.Step.{client_settled}
 use Rattle.machine.specs.Events.Write.{client_wrote}
 use Rattle.isolation_laws.specs.Words.{ClientAt}
 use Rattle.isolation_laws.specs.Requests.{WaitsFor}
+use Rattle.isolation_laws.specs.Pending.{is_placing}
 use Rattle.isolation_laws.specs.Bare.{MayHave, IsOf, IsOwned}
 use Rattle.isolation_laws.proofs.Lookups.{set_found, set_other, one_client}
 use Rattle.isolation_laws.proofs.Outcome.OutcomesOfStamps.{answered_client}
@@ -123,6 +124,13 @@ answer_of how.Faulted c commit k t start m = (start, m)
 
 pub answer_has : (by : Settled) (c : Client) (commit s u : ℕ) (keys : List ℕ) → WaitsFor (Commit s u keys) c → HasOn c (unless_gone c (answered_client by c commit))
 answer_has by c commit s u keys waits k t of = of_unless c (answered_client by c commit) k t of (of_commit c (answered_client by c commit) s u k t keys waits of (λ m. answer_of by c commit k t of.0 m))
+
+-- a session that is placing its commit has those that it wrote
+placing_in : (state : SessionState) (keys : List ℕ) (work : UnderWay) (t k : ℕ) → is_placing state ≡ true → MayHave state keys work t k → k ∈ keys
+placing_in state keys work t k is has = absurd (cc)
+
+pub placing_answered : (by : Settled) (c : Client) (commit : ℕ) → is_placing c.entry.state ≡ true → HasOn c (answered_client by c commit)
+placing_answered by c commit is k t of = answer_of by c commit k t of.0 (placing_in c.entry.state c.entry.keys c.under_way t k is of.1)
 
 -- ---- an outcome that is open
 outcome_other : phase.OpenOutcome ≡ phase.Completing true → ⊥

@@ -10,7 +10,8 @@ use Rattle.isolation_laws.specs.Cells.{CellFacts}
 use Rattle.isolation_laws.specs.UnderWay.{UnderWayFacts}
 use Rattle.isolation_laws.specs.Holds.{Holds}
 use Rattle.isolation_laws.proofs.Outcome.Outcomes.{Outcome, OfGranted, OfRenewed, OfExtended, OfAskedCommit, OfAccepted, left_by, told_by_outcome}
-use Rattle.isolation_laws.proofs.Requests.PendingAfter.{FewerPending}
+use Rattle.isolation_laws.proofs.Requests.PendingAfter.{FewerServed, FewerPending, fewer_pending}
+use Rattle.isolation_laws.proofs.Requests.ClientsOpen.{same_at_work}
 use Rattle.isolation_laws.proofs.Requests.PendingFewer.{fewer_granted, fewer_renewed, fewer_extended}
 use Rattle.isolation_laws.proofs.Requests.PendingMoved.{comes_asked_commit}
 use Rattle.isolation_laws.proofs.Reading.ClientsReading.{FewerReading, same_reading, reading_asked_commit}
@@ -28,7 +29,7 @@ use Rattle.isolation_laws.proofs.Holding.Framed.{is_framed, framed}
 pub record Calmed (w : State) (h : List Item) (left : State) (items : List Item) : Type 0 where
   pub quiet : AllQuiet items
   pub live : FewerLive w.clients w.nodes left.clients left.nodes
-  pub comes : NoneComes w h left.nodes
+  pub comes : NoneComes w h left.clients left.nodes
   pub reading : FewerReading w.clients left.clients
   pub shadows : ShadowsStay h w.rows left.rows
   pub marks : MarksStay w.pairs left.pairs
@@ -40,7 +41,7 @@ calm_frame : (w : State) (h : List Item) (left : State) (items : List Item) → 
 calm_frame w h left items f = record {
   quiet = f.quiet;
   live = live_framed w h left items f;
-  comes = none_comes w h left.nodes f.nodes.pending;
+  comes = none_comes w h left.clients left.nodes f.pending;
   reading = f.clients.reading;
   shadows = f.shadows;
   marks = f.marks;
@@ -49,7 +50,7 @@ calm_frame w h left items f = record {
 }
 
 -- the stores and the sweep stay
-calm_stores : (w : State) (h : List Item) (seen : ℕ) (clients : List Client) (nodes : List (Option InstanceEntry)) (master : MasterRecord) (items : List Item) → AllQuiet items → FewerLive w.clients w.nodes clients nodes → NoneComes w h nodes → FewerReading w.clients clients → UnderWayFacts clients w.sweep w.rows w.pairs (h ++ items) → Holds w h → Calmed w h (record w { seen = seen; clients = clients; nodes = nodes; master = master }) items
+calm_stores : (w : State) (h : List Item) (seen : ℕ) (clients : List Client) (nodes : List (Option InstanceEntry)) (master : MasterRecord) (items : List Item) → AllQuiet items → FewerLive w.clients w.nodes clients nodes → NoneComes w h clients nodes → FewerReading w.clients clients → UnderWayFacts clients w.sweep w.rows w.pairs (h ++ items) → Holds w h → Calmed w h (record w { seen = seen; clients = clients; nodes = nodes; master = master }) items
 calm_stores w h seen clients nodes master items quiet live comes reading under_way holds = record {
   quiet = quiet;
   live = live;
@@ -62,9 +63,10 @@ calm_stores w h seen clients nodes master items quiet live comes reading under_w
 }
 
 -- the clients stay too, and no request is new or has gone on
-calm_nodes : (w : State) (h : List Item) (seen : ℕ) (nodes : List (Option InstanceEntry)) (master : MasterRecord) (items : List Item) → AllQuiet items → FewerPending w.nodes nodes → Holds w h → Calmed w h (record w { seen = seen; nodes = nodes; master = master }) items
-calm_nodes w h seen nodes master items quiet fewer holds =
-    calm_stores w h seen w.clients nodes master items quiet (live_by_nodes w.clients w.nodes nodes fewer) (none_comes w h nodes fewer) (same_reading w.clients) (under_way_same w h (h ++ items) holds (calm_quiet h items quiet)) holds
+calm_nodes : (w : State) (h : List Item) (seen : ℕ) (nodes : List (Option InstanceEntry)) (master : MasterRecord) (items : List Item) → AllQuiet items → FewerServed w.nodes nodes → Holds w h → Calmed w h (record w { seen = seen; nodes = nodes; master = master }) items
+calm_nodes w h seen nodes master items quiet served holds =
+    let fewer : FewerPending w.clients w.nodes w.clients nodes = fewer_pending w.clients w.clients w.nodes nodes (same_at_work w.clients).placing served in
+    calm_stores w h seen w.clients nodes master items quiet (live_by_nodes w.clients w.nodes nodes fewer) (none_comes w h w.clients nodes fewer) (same_reading w.clients) (under_way_same w h (h ++ items) holds (calm_quiet h items quiet)) holds
 
 -- ---- which outcomes are calm
 abbrev pub is_calm : {w : State} → Outcome w → Bool
@@ -87,4 +89,4 @@ calmed w h o holds is = calm_frame w h (left_by w o) (told_by_outcome w o) (fram
 pub reads_calmed : (w : State) (h : List Item) (left : State) (items : List Item) → Calmed w h left items → Holds w h → ReadsRight w.setup left.clients left.nodes left.rows left.pairs (h ++ items)
 reads_calmed w h left items k holds =
     reads_stay w h items left.nodes left.rows left.pairs left.clients (quiet_no_reads items k.quiet)
-    (rely_calm w h (h ++ items) left.nodes left.rows left.pairs (calm_quiet h items k.quiet) k.comes k.shadows k.marks) k.reading holds
+    (rely_calm w h (h ++ items) left.clients left.nodes left.rows left.pairs (calm_quiet h items k.quiet) k.comes k.shadows k.marks) k.reading holds

@@ -1,5 +1,5 @@
 -- Which outcomes have a frame, and what it is of each.
-use Rattle.std.proofs.Common.{◌≡◌, ℕ, Bool, true, false, if◌then◌else◌, List, ◌++◌, [], Option, refl, subst, arith}
+use Rattle.std.proofs.Common.{◌≡◌, ◌≤◌, ℕ, Bool, true, false, if◌then◌else◌, List, ◌++◌, [], refl, subst, arith}
 use Rattle.std.proofs.lemmas.List.Elements.{All-nil}
 use Rattle.history_book.specs.declared.item.Item.{Item}
 use Rattle.store_parts.specs.Rows.{with_shadow}
@@ -8,21 +8,18 @@ use Rattle.client_parts.specs.declared.asks.Ask.{Ask}
 use Rattle.client_parts.specs.declared.resolve.SettlePoint.{SettlePoint}
 use Rattle.client_parts.specs.declared.resolve.SettlePoint.TheVariants as point
 use Rattle.client_parts.specs.Resolve.{Settling, ask_at, settle_ask}
-use Rattle.oracle_parts.specs.Instance.{InstanceEntry}
 use Rattle.store_parts.specs.Rows.{Row}
 use Rattle.machine.specs.State.{Client, State}
 use Rattle.machine.specs.StoreSteps.{rows_after, pairs_after}
 use Rattle.isolation_laws.specs.Quiet.{Quiet, AllQuiet}
-use Rattle.isolation_laws.specs.Requests.{RequestFacts}
 use Rattle.isolation_laws.specs.Cells.{CellFacts}
 use Rattle.isolation_laws.specs.UnderWay.{UnderWayFacts}
 use Rattle.isolation_laws.specs.Holds.{Holds}
 use Rattle.isolation_laws.proofs.Outcome.OutcomesOfSessions.{Healed}
 use Rattle.isolation_laws.proofs.Outcome.OutcomesOfWork.{MayHaveMarked}
-use Rattle.isolation_laws.proofs.Outcome.Outcomes.{Outcome, OfStill, OfGranted, OfRenewed, OfExtended, OfCrashed, OfAskedBegin, OfAskedCommit, OfAccepted, OfEnded, OfDrew, OfPlaced, OfNotPlaced, OfAnsweredBegin, OfAnsweredCommit, OfEndedReadOnly, OfWrote, OfWriteFailed, OfAborted, OfVanished, OfHealed, OfFetched, OfReadDropped, OfReadStepped, OfOutcome, OfOutcomeFailed, OfCompleted, OfSweepOpened, OfSwept, OfSweepListed, OfSweepFailed, left_by, told_by_outcome}
-use Rattle.isolation_laws.proofs.Requests.PendingFewer.{fewer_still, fewer_crashed, fewer_ended_one, fewer_answered_commit}
-use Rattle.isolation_laws.proofs.Requests.OpenAfter.{fewer_open_crashed, fewer_open_ended, fewer_open_answered_commit, fewer_open_read_only, fewer_open_write_failed, fewer_open_aborted, fewer_open_vanished, fewer_open_healed, fewer_open_dropped, fewer_open_outcome, fewer_open_outcome_failed, fewer_open_completed}
-use Rattle.isolation_laws.proofs.Reading.ClientsReading.{reading_crashed, reading_ended, reading_answered_commit, reading_read_only, reading_write_failed, reading_aborted, reading_vanished, reading_healed, reading_dropped, reading_outcome, reading_outcome_failed, reading_completed}
+use Rattle.isolation_laws.proofs.Outcome.Outcomes.{Outcome, OfStill, OfGranted, OfRenewed, OfExtended, OfCrashed, OfAskedBegin, OfAskedCommit, OfAccepted, OfEnded, OfDrew, OfPlaced, OfNotPlaced, OfAnsweredBegin, OfAnsweredCommit, OfOwnPlaced, OfOwnNotPlaced, OfEndedReadOnly, OfWrote, OfWriteFailed, OfAborted, OfVanished, OfHealed, OfFetched, OfReadDropped, OfReadStepped, OfOutcome, OfOutcomeFailed, OfCompleted, OfSweepOpened, OfSwept, OfSweepListed, OfSweepFailed, left_by, told_by_outcome}
+use Rattle.isolation_laws.proofs.Requests.PendingFewer.{fewer_settled}
+use Rattle.isolation_laws.proofs.Reading.ClientsReading.{FewerReading, same_reading, reading_crashed, reading_ended, reading_answered_commit, reading_own_not_placed, reading_read_only, reading_write_failed, reading_aborted, reading_vanished, reading_healed, reading_dropped, reading_outcome, reading_outcome_failed, reading_completed}
 use Rattle.isolation_laws.proofs.Stores.Calm.{calm_quiet}
 use Rattle.isolation_laws.proofs.Stores.CellsStay.{cells_shadow}
 use Rattle.isolation_laws.proofs.Stores.StoreMoves.{AskFits, never_live, cells_stepped}
@@ -34,14 +31,16 @@ use Rattle.isolation_laws.proofs.Requests.Silent.{silent_quiet}
 use Rattle.isolation_laws.proofs.Requests.RequestsKept.{Leaves, requests_silent}
 use Rattle.isolation_laws.proofs.Requests.RequestsOfNodes.{leaves_still, leaves_crashed, leaves_ended, leaves_answered_commit, leaves_alone}
 use Rattle.isolation_laws.proofs.Requests.RequestsOfClients.{leaves_read_only, leaves_write_failed, leaves_aborted, leaves_healed, leaves_dropped, leaves_vanished, leaves_outcome, leaves_outcome_failed, leaves_completed}
+use Rattle.isolation_laws.proofs.Requests.RequestsOfPlacings.{leaves_own_not_placed}
 use Rattle.isolation_laws.proofs.Requests.RequestsOfSettled.{requests_not_placed}
 use Rattle.isolation_laws.proofs.UnderWay.UnderWayOfRequests.{under_way_crashed, under_way_ended, under_way_answered_commit}
+use Rattle.isolation_laws.proofs.UnderWay.UnderWayOfPlacings.{under_way_own_not_placed}
 use Rattle.isolation_laws.proofs.UnderWay.UnderWayOfSessions.{heal_placed, under_way_read_only, under_way_aborted, under_way_vanished, under_way_healed, under_way_dropped}
 use Rattle.isolation_laws.proofs.UnderWay.UnderWayOfOutcomes.{under_way_outcome, under_way_outcome_failed}
 use Rattle.isolation_laws.proofs.UnderWay.UnderWayOfCompletions.{completed_fits, under_way_completed}
 use Rattle.isolation_laws.proofs.UnderWay.UnderWayOfSweeps.{under_way_sweep_opened, under_way_swept, under_way_sweep_failed}
 use Rattle.isolation_laws.proofs.UnderWay.WritesKept.{cells_write_failed, under_way_write_failed}
-use Rattle.isolation_laws.proofs.Holding.Frames.{nodes_stay, nodes_alike, nodes_ended, nodes_over, nodes_settled, ClientsFrame, clients_stay, StoresFrame, stores_stay, Frame, frame}
+use Rattle.isolation_laws.proofs.Holding.Frames.{NodesFrame, nodes_stay, nodes_alike, nodes_ended, nodes_over, nodes_settled, clients_stay, StoresFrame, stores_stay, Frame, frame}
 
 -- ---- stores
 -- the table may have got a mark
@@ -101,6 +100,7 @@ is_framed (OfAskedCommit k) = false
 is_framed (OfAccepted k) = false
 is_framed (OfDrew k) = false
 is_framed (OfPlaced k) = false
+is_framed (OfOwnPlaced k) = false
 is_framed (OfAnsweredBegin k) = false
 is_framed (OfWrote k) = false
 is_framed (OfFetched k) = false
@@ -108,46 +108,50 @@ is_framed (OfReadStepped k) = false
 is_framed (OfSweepListed k) = false
 is_framed _ = true
 
--- requests stay where nothing of them is told
-untold : (w : State) (h items : List Item) (nodes : List (Option InstanceEntry)) (clients : List Client) → AllQuiet items → Leaves w h nodes clients → Holds w h → RequestFacts nodes clients (h ++ items)
-untold w h items nodes clients quiet left holds = requests_silent w h (h ++ items) nodes clients (silent_quiet h items quiet) left holds
+-- by what it leaves of requests and sessions, where nothing of them is told
+untold : (w : State) (h : List Item) (left : State) (items : List Item) → AllQuiet items → w.seen ≤ left.seen → NodesFrame w.nodes left.nodes → FewerReading w.clients left.clients → StoresFrame w h left.rows left.pairs → Leaves w h left.nodes left.clients → UnderWayFacts left.clients left.sweep left.rows left.pairs (h ++ items) → Holds w h → Frame w h left items
+untold w h left items quiet up nodes reading stores leaves under_way holds =
+    frame w h left items quiet up nodes leaves.pending (record { opened = leaves.opened; reading = reading }) stores
+    (requests_silent w h (h ++ items) left.nodes left.clients (silent_quiet h items quiet) leaves holds) under_way
 
 -- a client alone changes, and the stores
-by_client : (w : State) (h items : List Item) (clients : List Client) (rows : List Row) (pairs : Pairs) → AllQuiet items → ClientsFrame w.clients clients → StoresFrame w h rows pairs → Leaves w h w.nodes clients → UnderWayFacts clients w.sweep rows pairs (h ++ items) → Holds w h → Frame w h (record w { clients = clients; rows = rows; pairs = pairs }) items
-by_client w h items clients rows pairs quiet kept stores left under_way holds =
-    frame w h (record w { clients = clients; rows = rows; pairs = pairs }) items quiet (omega arith) (nodes_stay w.nodes) kept stores (untold w h items w.nodes clients quiet left holds) under_way
+by_client : (w : State) (h items : List Item) (clients : List Client) (rows : List Row) (pairs : Pairs) → AllQuiet items → FewerReading w.clients clients → StoresFrame w h rows pairs → Leaves w h w.nodes clients → UnderWayFacts clients w.sweep rows pairs (h ++ items) → Holds w h → Frame w h (record w { clients = clients; rows = rows; pairs = pairs }) items
+by_client w h items clients rows pairs quiet reading stores leaves under_way holds =
+    untold w h (record w { clients = clients; rows = rows; pairs = pairs }) items quiet (omega arith) (nodes_stay w.nodes) reading stores leaves under_way holds
 
 -- the sweep alone changes, and the stores
 by_sweep : (w left : State) (h items : List Item) → AllQuiet items → StoresFrame w h left.rows left.pairs → UnderWayFacts w.clients left.sweep left.rows left.pairs (h ++ items) → Holds w h → Frame w h (record w { sweep = left.sweep; rows = left.rows; pairs = left.pairs }) items
 by_sweep w left h items quiet stores under_way holds =
-    frame w h (record w { sweep = left.sweep; rows = left.rows; pairs = left.pairs }) items quiet (omega arith) (nodes_stay w.nodes) (clients_stay w.clients) stores (untold w h items w.nodes w.clients quiet (leaves_alone w h holds) holds) under_way
+    untold w h (record w { sweep = left.sweep; rows = left.rows; pairs = left.pairs }) items quiet (omega arith) (nodes_stay w.nodes) (same_reading w.clients) stores (leaves_alone w h holds) under_way holds
 
 -- ---- the frame of each
 pub framed : (w : State) (h : List Item) (o : Outcome w) → Holds w h → is_framed o ≡ true → Frame w h (left_by w o) (told_by_outcome w o)
-framed w h (OfStill k) holds is = frame w h (left_by w (OfStill k)) k.items k.quiet k.up (nodes_alike w.nodes k.nodes k.alike (fewer_still w k)) (clients_stay w.clients) (stores_stay w h holds) (untold w h k.items _ _ k.quiet (leaves_still w h k holds) holds) (under_way_same w h _ holds (calm_quiet h k.items k.quiet))
-framed w h (OfCrashed k) holds is = frame w h (left_by w (OfCrashed k)) k.items k.quiet (omega arith) (nodes_ended w.nodes k.node (fewer_crashed w k)) (record { opened = fewer_open_crashed w k; reading = reading_crashed w k }) (stores_stay w h holds) (untold w h k.items _ _ k.quiet (leaves_crashed w h k holds) holds) (under_way_crashed w h k holds)
-framed w h (OfEnded k) holds is = frame w h (left_by w (OfEnded k)) k.items k.quiet k.up (nodes_over w.nodes k.node k.session k.i k.at (fewer_ended_one w k)) (record { opened = fewer_open_ended w k; reading = reading_ended w k }) (stores_stay w h holds) (untold w h k.items _ _ k.quiet (leaves_ended w h k holds) holds) (under_way_ended w h k holds)
-framed w h (OfNotPlaced k) holds is = frame w h (left_by w (OfNotPlaced k)) k.items k.quiet (omega arith) (nodes_settled w k.it k.by) (clients_stay w.clients) (stores_stay w h holds) (requests_not_placed w h k holds) (under_way_same w h _ holds (calm_quiet h k.items k.quiet))
-framed w h (OfAnsweredCommit k) holds is = frame w h (left_by w (OfAnsweredCommit k)) k.items k.quiet (omega arith) (nodes_over w.nodes k.node k.session k.i k.at (fewer_answered_commit w k)) (record { opened = fewer_open_answered_commit w k; reading = reading_answered_commit w k }) (stores_stay w h holds) (untold w h k.items _ _ k.quiet (leaves_answered_commit w h k holds) holds) (under_way_answered_commit w h k holds)
-framed w h (OfEndedReadOnly k) holds is = by_client w h k.items _ w.rows w.pairs k.quiet (record { opened = fewer_open_read_only w k; reading = reading_read_only w k }) (stores_stay w h holds) (leaves_read_only w h k holds) (under_way_read_only w h k holds) holds
+framed w h (OfStill k) holds is = untold w h (left_by w (OfStill k)) k.items k.quiet k.up (nodes_alike w.nodes k.nodes k.alike) (same_reading w.clients) (stores_stay w h holds) (leaves_still w h k holds) (under_way_same w h _ holds (calm_quiet h k.items k.quiet)) holds
+framed w h (OfCrashed k) holds is = untold w h (left_by w (OfCrashed k)) k.items k.quiet (omega arith) (nodes_ended w.nodes k.node) (reading_crashed w k) (stores_stay w h holds) (leaves_crashed w h k holds) (under_way_crashed w h k holds) holds
+framed w h (OfEnded k) holds is = untold w h (left_by w (OfEnded k)) k.items k.quiet k.up (nodes_over w.nodes k.node k.session k.i k.at) (reading_ended w k) (stores_stay w h holds) (leaves_ended w h k holds) (under_way_ended w h k holds) holds
+framed w h (OfNotPlaced k) holds is = frame w h (left_by w (OfNotPlaced k)) k.items k.quiet (omega arith) (nodes_settled w k.it k.by) (fewer_settled w k.it k.by) (clients_stay w.clients) (stores_stay w h holds) (requests_not_placed w h k holds) (under_way_same w h _ holds (calm_quiet h k.items k.quiet))
+framed w h (OfAnsweredCommit k) holds is = untold w h (left_by w (OfAnsweredCommit k)) k.items k.quiet (omega arith) (nodes_over w.nodes k.node k.session k.i k.at) (reading_answered_commit w k) (stores_stay w h holds) (leaves_answered_commit w h k holds) (under_way_answered_commit w h k holds) holds
+framed w h (OfOwnNotPlaced k) holds is = by_client w h k.items _ w.rows w.pairs k.quiet (reading_own_not_placed w k) (stores_stay w h holds) (leaves_own_not_placed w h k holds) (under_way_own_not_placed w h k holds) holds
+framed w h (OfEndedReadOnly k) holds is = by_client w h k.items _ w.rows w.pairs k.quiet (reading_read_only w k) (stores_stay w h holds) (leaves_read_only w h k holds) (under_way_read_only w h k holds) holds
 framed w h (OfWriteFailed k) holds is = record {
   quiet = k.quiet;
   up = omega arith;
   nodes = nodes_stay w.nodes;
-  clients = record { opened = fewer_open_write_failed w k; reading = reading_write_failed w k };
+  pending = (leaves_write_failed w h k holds).pending;
+  clients = record { opened = (leaves_write_failed w h k holds).opened; reading = reading_write_failed w k };
   shadows = shadows_failed w h k holds;
   marks = marks_same w.pairs;
   cells = cells_write_failed w h k holds;
-  requests = untold w h k.items _ _ k.quiet (leaves_write_failed w h k holds) holds;
+  requests = requests_silent w h (h ++ k.items) _ _ (silent_quiet h k.items k.quiet) (leaves_write_failed w h k holds) holds;
   under_way = under_way_write_failed w h k holds;
 }
-framed w h (OfAborted k) holds is = by_client w h k.items _ w.rows w.pairs k.quiet (record { opened = fewer_open_aborted w k; reading = reading_aborted w k }) (stores_stay w h holds) (leaves_aborted w h k holds) (under_way_aborted w h k holds) holds
-framed w h (OfVanished k) holds is = by_client w h k.items _ w.rows w.pairs k.quiet (record { opened = fewer_open_vanished w k; reading = reading_vanished w k }) (stores_stay w h holds) (leaves_vanished w h k holds) (under_way_vanished w h k holds) holds
-framed w h (OfHealed k) holds is = by_client w h k.items _ _ w.pairs k.quiet (record { opened = fewer_open_healed w k; reading = reading_healed w k }) (stores_healed w h k holds) (leaves_healed w h k holds) (under_way_healed w h k holds) holds
-framed w h (OfReadDropped k) holds is = by_client w h k.items _ w.rows k.pairs k.quiet (record { opened = fewer_open_dropped w k; reading = reading_dropped w k }) (stores_marked w h k.pairs k.pairs_are holds) (leaves_dropped w h k holds) (under_way_dropped w h k holds) holds
-framed w h (OfOutcome k) holds is = by_client w h k.items _ w.rows _ k.quiet (record { opened = fewer_open_outcome w k; reading = reading_outcome w k }) (stores_settled w h k.x holds) (leaves_outcome w h k holds) (under_way_outcome w h k holds) holds
-framed w h (OfOutcomeFailed k) holds is = by_client w h k.items _ w.rows k.pairs k.quiet (record { opened = fewer_open_outcome_failed w k; reading = reading_outcome_failed w k }) (stores_marked w h k.pairs k.pairs_are holds) (leaves_outcome_failed w h k holds) (under_way_outcome_failed w h k holds) holds
-framed w h (OfCompleted k) holds is = by_client w h k.items _ _ _ k.quiet (record { opened = fewer_open_completed w k; reading = reading_completed w k }) (stores_if w h k.asked k.applied holds (completed_fits w h k holds) (completed_fills w h k holds)) (leaves_completed w h k holds) (under_way_completed w h k holds) holds
+framed w h (OfAborted k) holds is = by_client w h k.items _ w.rows w.pairs k.quiet (reading_aborted w k) (stores_stay w h holds) (leaves_aborted w h k holds) (under_way_aborted w h k holds) holds
+framed w h (OfVanished k) holds is = by_client w h k.items _ w.rows w.pairs k.quiet (reading_vanished w k) (stores_stay w h holds) (leaves_vanished w h k holds) (under_way_vanished w h k holds) holds
+framed w h (OfHealed k) holds is = by_client w h k.items _ _ w.pairs k.quiet (reading_healed w k) (stores_healed w h k holds) (leaves_healed w h k holds) (under_way_healed w h k holds) holds
+framed w h (OfReadDropped k) holds is = by_client w h k.items _ w.rows k.pairs k.quiet (reading_dropped w k) (stores_marked w h k.pairs k.pairs_are holds) (leaves_dropped w h k holds) (under_way_dropped w h k holds) holds
+framed w h (OfOutcome k) holds is = by_client w h k.items _ w.rows _ k.quiet (reading_outcome w k) (stores_settled w h k.x holds) (leaves_outcome w h k holds) (under_way_outcome w h k holds) holds
+framed w h (OfOutcomeFailed k) holds is = by_client w h k.items _ w.rows k.pairs k.quiet (reading_outcome_failed w k) (stores_marked w h k.pairs k.pairs_are holds) (leaves_outcome_failed w h k holds) (under_way_outcome_failed w h k holds) holds
+framed w h (OfCompleted k) holds is = by_client w h k.items _ _ _ k.quiet (reading_completed w k) (stores_if w h k.asked k.applied holds (completed_fits w h k holds) (completed_fills w h k holds)) (leaves_completed w h k holds) (under_way_completed w h k holds) holds
 framed w h (OfSweepOpened k) holds is = by_sweep w (left_by w (OfSweepOpened k)) h [] (All-nil Quiet) (stores_stay w h holds) (under_way_sweep_opened w h k holds) holds
 framed w h (OfSwept k) holds is = by_sweep w (left_by w (OfSwept k)) h k.items k.quiet (stores_if w h k.asked true holds (sweep_fits w h k.s k.asked holds k.is_open k.asks) (swept_fills w h k.s k.asked holds k.is_open k.asks)) (under_way_swept w h k holds) holds
 framed w h (OfSweepFailed k) holds is = by_sweep w (left_by w (OfSweepFailed k)) h k.items k.quiet (stores_if w h k.asked k.applied holds (sweep_fits w h k.s k.asked holds k.is_open k.asks) (swept_fills w h k.s k.asked holds k.is_open k.asks)) (under_way_sweep_failed w h k holds) holds

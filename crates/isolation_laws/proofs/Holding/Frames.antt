@@ -24,11 +24,10 @@ use Rattle.isolation_laws.proofs.Numbers.NumbersStay.{SameNumbers, numbered_same
 use Rattle.isolation_laws.proofs.Numbers.NumbersKept.{quiet_one}
 use Rattle.isolation_laws.proofs.Memory.MemoryStays.{SameMemory, remembered_same, remembered_alike, remembered_ended, remembered_set, nothing_quiet, memory_same}
 use Rattle.isolation_laws.proofs.Requests.PendingAfter.{FewerPending}
-use Rattle.isolation_laws.proofs.Requests.PendingFewer.{same_pending, fewer_settled}
 use Rattle.isolation_laws.proofs.Requests.RequestsAfter.{FewerHeld, held_ended_at, held_changed, held_over}
 use Rattle.isolation_laws.proofs.Requests.CommitsInFlight.{FewerStanding, IsAcceptedNow, IsDrawnNow}
 use Rattle.isolation_laws.proofs.Requests.Standing.{standing_same, standing_alike, standing_ended, standing_over, standing_settled, held_same, held_alike, held_settled}
-use Rattle.isolation_laws.proofs.Requests.ClientsOpen.{FewerOpen, same_open}
+use Rattle.isolation_laws.proofs.Requests.ClientsOpen.{FewerOpen, same_at_work}
 use Rattle.isolation_laws.proofs.Reading.ClientsReading.{FewerReading, same_reading}
 use Rattle.isolation_laws.proofs.Stores.LiveAfter.{FewerLive, fewer_live}
 use Rattle.isolation_laws.proofs.Stores.Calm.{calm_quiet}
@@ -42,7 +41,6 @@ use Rattle.isolation_laws.proofs.Stores.StoresStay.{ShadowsStay, shadows_same, M
 pub record NodesFrame (old new : List (Option InstanceEntry)) : Type 0 where
   pub numbers : SameNumbers old new
   pub memory : SameMemory old new
-  pub pending : FewerPending old new
   pub held : FewerHeld old new
   pub accepted : FewerStanding IsAcceptedNow old new
   pub drawn : FewerStanding IsDrawnNow old new
@@ -51,39 +49,35 @@ pub nodes_stay : (nodes : List (Option InstanceEntry)) → NodesFrame nodes node
 nodes_stay nodes = record {
   numbers = numbered_same nodes;
   memory = remembered_same nodes;
-  pending = same_pending nodes;
   held = held_same nodes;
   accepted = standing_same IsAcceptedNow nodes;
   drawn = standing_same IsDrawnNow nodes;
 }
 
-pub nodes_alike : (old new : List (Option InstanceEntry)) → AlikeNodes old new → FewerPending old new → NodesFrame old new
-nodes_alike old new alike pending = record {
+pub nodes_alike : (old new : List (Option InstanceEntry)) → AlikeNodes old new → NodesFrame old new
+nodes_alike old new alike = record {
   numbers = numbered_alike old new alike;
   memory = remembered_alike old new alike;
-  pending = pending;
   held = held_alike old new alike;
   accepted = standing_alike IsAcceptedNow old new alike;
   drawn = standing_alike IsDrawnNow old new alike;
 }
 
 -- an instance has ended
-pub nodes_ended : (nodes : List (Option InstanceEntry)) (n : ℕ) → FewerPending nodes (slice_set nodes n None) → NodesFrame nodes (slice_set nodes n None)
-nodes_ended nodes n pending = record {
+pub nodes_ended : (nodes : List (Option InstanceEntry)) (n : ℕ) → NodesFrame nodes (slice_set nodes n None)
+nodes_ended nodes n = record {
   numbers = numbered_ended nodes n;
   memory = remembered_ended nodes n;
-  pending = pending;
   held = held_ended_at nodes n;
   accepted = standing_ended IsAcceptedNow nodes n;
   drawn = standing_ended IsDrawnNow nodes n;
 }
 
 -- a request is over
-pub nodes_over : (nodes : List (Option InstanceEntry)) (n s : ℕ) (i : InstanceEntry) → InstanceAt nodes n i → FewerPending nodes (slice_set nodes n (Some (without_request i s))) → NodesFrame nodes (slice_set nodes n (Some (without_request i s)))
-nodes_over nodes n s i at pending = record {
+pub nodes_over : (nodes : List (Option InstanceEntry)) (n s : ℕ) (i : InstanceEntry) → InstanceAt nodes n i → NodesFrame nodes (slice_set nodes n (Some (without_request i s)))
+nodes_over nodes n s i at = record {
   numbers = numbered_set nodes n i (without_request i s) at (numbered i _ refl refl refl refl refl);
   memory = remembered_set nodes n i (without_request i s) at (record { term = refl; buckets = refl });
-  pending = pending;
   held = held_changed nodes n i (without_request i s) at (held_over i s);
   accepted = standing_over IsAcceptedNow nodes n s i at;
   drawn = standing_over IsDrawnNow nodes n s i at;
@@ -94,7 +88,6 @@ pub nodes_settled : (w : State) (it : AtDrawn w) (by : Settled) → NodesFrame w
 nodes_settled w it by = record {
   numbers = numbered_set w.nodes it.node it.i _ it.at (numbered it.i _ refl refl refl refl refl);
   memory = remembered_set w.nodes it.node it.i _ it.at (record { term = refl; buckets = refl });
-  pending = fewer_settled w it by;
   held = held_settled w it by;
   accepted = standing_settled IsAcceptedNow w it by (λ is. is);
   drawn = standing_settled IsDrawnNow w it by (λ is. is);
@@ -106,7 +99,7 @@ pub record ClientsFrame (old new : List Client) : Type 0 where
   pub reading : FewerReading old new
 
 pub clients_stay : (clients : List Client) → ClientsFrame clients clients
-clients_stay clients = record { opened = same_open clients; reading = same_reading clients }
+clients_stay clients = record { opened = (same_at_work clients).opened; reading = same_reading clients }
 
 -- ---- stores: shadows and marks stay, and the cells fit what was there before
 pub record StoresFrame (w : State) (h : List Item) (rows : List Row) (pairs : Pairs) : Type 0 where
@@ -122,25 +115,24 @@ pub record Frame (w : State) (h : List Item) (left : State) (items : List Item) 
   pub quiet : AllQuiet items
   pub up : w.seen ≤ left.seen
   pub nodes : NodesFrame w.nodes left.nodes
+  pub pending : FewerPending w.clients w.nodes left.clients left.nodes
   pub clients : ClientsFrame w.clients left.clients
   pub shadows : ShadowsStay h w.rows left.rows
   pub marks : MarksStay w.pairs left.pairs
   pub cells : CellFacts left.clients left.nodes left.rows left.pairs (h ++ items)
-  pub requests : RequestFacts left.nodes left.clients (h ++ items)
+  pub requests : RequestFacts w.setup left.nodes left.clients (h ++ items)
   pub under_way : UnderWayFacts left.clients left.sweep left.rows left.pairs (h ++ items)
 
-pub live_by : (old new : List Client) (nodes left : List (Option InstanceEntry)) → ClientsFrame old new → NodesFrame nodes left → FewerLive old nodes new left
-live_by old new nodes left clients kept = fewer_live old new nodes left clients.opened kept.pending
-
-pub frame : (w : State) (h : List Item) (left : State) (items : List Item) → AllQuiet items → w.seen ≤ left.seen → NodesFrame w.nodes left.nodes → ClientsFrame w.clients left.clients → StoresFrame w h left.rows left.pairs → RequestFacts left.nodes left.clients (h ++ items) → UnderWayFacts left.clients left.sweep left.rows left.pairs (h ++ items) → Frame w h left items
-frame w h left items quiet up nodes clients stores requests under_way = record {
+pub frame : (w : State) (h : List Item) (left : State) (items : List Item) → AllQuiet items → w.seen ≤ left.seen → NodesFrame w.nodes left.nodes → FewerPending w.clients w.nodes left.clients left.nodes → ClientsFrame w.clients left.clients → StoresFrame w h left.rows left.pairs → RequestFacts w.setup left.nodes left.clients (h ++ items) → UnderWayFacts left.clients left.sweep left.rows left.pairs (h ++ items) → Frame w h left items
+frame w h left items quiet up nodes pending clients stores requests under_way = record {
   quiet = quiet;
   up = up;
   nodes = nodes;
+  pending = pending;
   clients = clients;
   shadows = stores.shadows;
   marks = stores.marks;
-  cells = cells_calm w.clients left.clients w.nodes left.nodes left.rows left.pairs h (h ++ items) (λ t live. inl (live_by w.clients left.clients w.nodes left.nodes clients nodes t live)) (calm_quiet h items quiet) stores.cells;
+  cells = cells_calm w.clients left.clients w.nodes left.nodes left.rows left.pairs h (h ++ items) (λ t live. inl (fewer_live w.clients left.clients w.nodes left.nodes clients.opened pending t live)) (calm_quiet h items quiet) stores.cells;
   requests = requests;
   under_way = under_way;
 }
@@ -153,14 +145,14 @@ pub memory_framed : (w : State) (h : List Item) (left : State) (items : List Ite
 memory_framed w h left items f holds = memory_same w.setup w.nodes left.nodes h (h ++ items) f.nodes.memory (nothing_quiet h items f.quiet) holds.memory
 
 -- also behind items that are no asks for a start
-pub begins_on : (w : State) (h items : List Item) (nodes : List (Option InstanceEntry)) (clients : List Client) → NodesFrame w.nodes nodes → FewerOpen w.clients clients → ((s : ℕ) → AsksNothing s items) → Holds w h → BeginFacts clients nodes (h ++ items)
+pub begins_on : (w : State) (h items : List Item) (nodes : List (Option InstanceEntry)) (clients : List Client) → NodesFrame w.nodes nodes → FewerOpen w.clients clients → ((s : ℕ) → AsksNothing s items) → Holds w h → BeginFacts w.setup clients nodes (h ++ items)
 begins_on w h items nodes clients kept opens none holds = record {
   fresh = fresh_fewer w.nodes nodes h items (begins_of w.nodes nodes kept.held) kept.accepted kept.drawn none holds.begins.fresh;
-  below = below_fewer w.clients clients w.nodes nodes opens (numbers_keep w.nodes nodes kept.numbers) kept.drawn holds.begins.below;
+  below = λ flag. below_fewer w.clients clients w.nodes nodes opens (numbers_keep w.nodes nodes kept.numbers) kept.drawn (holds.begins.below flag);
 }
 
-pub begins_framed : (w : State) (h : List Item) (left : State) (items : List Item) → Frame w h left items → Holds w h → BeginFacts left.clients left.nodes (h ++ items)
+pub begins_framed : (w : State) (h : List Item) (left : State) (items : List Item) → Frame w h left items → Holds w h → BeginFacts w.setup left.clients left.nodes (h ++ items)
 begins_framed w h left items f holds = begins_on w h items left.nodes left.clients f.nodes f.clients.opened (λ s. quiet_no_ask s items f.quiet) holds
 
 pub live_framed : (w : State) (h : List Item) (left : State) (items : List Item) → Frame w h left items → FewerLive w.clients w.nodes left.clients left.nodes
-live_framed w h left items f = live_by w.clients left.clients w.nodes left.nodes f.clients f.nodes
+live_framed w h left items f = fewer_live w.clients left.clients w.nodes left.nodes f.clients.opened f.pending

@@ -21,8 +21,8 @@ use Rattle.isolation_laws.specs.Holds.{Holds}
 use Rattle.isolation_laws.proofs.Pushed.{in_append}
 use Rattle.isolation_laws.proofs.Outcome.OutcomesOfStamps.{AnsweredBegin, answered_begin_items}
 use Rattle.isolation_laws.proofs.Outcome.OutcomesOfWork.{fetched_turn, read_turn}
-use Rattle.isolation_laws.proofs.Outcome.Outcomes.{Outcome, OfAskedBegin, OfDrew, OfPlaced, OfAnsweredBegin, OfWrote, OfFetched, OfReadStepped, OfSweepListed, told_by_outcome}
-use Rattle.isolation_laws.proofs.Numbers.Placings.{PlacedPending, placed_item, by_its_node}
+use Rattle.isolation_laws.proofs.Outcome.Outcomes.{Outcome, OfAskedBegin, OfDrew, OfPlaced, OfOwnPlaced, OfAnsweredBegin, OfWrote, OfFetched, OfReadStepped, OfSweepListed, told_by_outcome}
+use Rattle.isolation_laws.proofs.Numbers.Placings.{PlacedPending, placed_item, by_its_node, by_its_session}
 use Rattle.isolation_laws.proofs.Holding.Calmed.{calmed}
 
 -- the item is a begin or a placed commit
@@ -71,6 +71,7 @@ pub stamping : (w : State) (h : List Item) (o : Outcome w) → Holds w h → Sta
 stamping w h (OfAskedBegin k) holds = StampsNone (one_no_stamp (item.AskBegin k.session k.node) refl)
 stamping w h (OfDrew k) holds = StampsNone (one_no_stamp (draw_item k.node k.i.term k.held.request (k.i.last + 1)) (draw_no_stamp k.node k.i.term (k.i.last + 1) k.held.request))
 stamping w h (OfPlaced k) holds = StampsPlaced (by_its_node w h k holds) k.items k.quiet refl
+stamping w h (OfOwnPlaced k) holds = StampsPlaced (by_its_session w k) k.items k.quiet refl
 stamping w h (OfAnsweredBegin k) holds = StampsBegin k refl
 stamping w h (OfWrote k) holds = StampsNone (one_no_stamp (item.Write k.it.session k.start k.key k.value) refl)
 stamping w h (OfFetched k) holds = StampsNone (first_no_stamps k.first (read_items k.it.session k.start k.key (fetched_turn w k)) k.quiet (turn_no_stamps k.it.session k.start k.key (fetched_turn w k)))

@@ -59,12 +59,12 @@ placed_new w h p holds u d placed =
     let drew = placed_drew w h p holds in
     let other : u ≢ p.coming.start = λ same. drew.1 d (subst (λ t. Committed h t d) same placed) in
     let was = holds.numbers.placed.drawn u d placed in
-    (other, λ same. other (draws_differ was.0 p.coming.session was.1 p.coming.node was.2 p.coming.term u p.coming.start d p.commit (drawn_once h was.0 p.coming.session was.1 p.coming.node was.2 p.coming.term u p.coming.start (Some d) (Some p.commit) holds.numbers.new was.3 drew.0 same)))
+    (other, λ same. other (draws_differ was.0 p.coming.session was.1 drew.0.0 was.2 drew.0.1 u p.coming.start d p.commit (drawn_once h was.0 p.coming.session was.1 drew.0.0 was.2 drew.0.1 u p.coming.start (Some d) (Some p.commit) holds.numbers.new was.3 drew.0.2 same)))
 
 stamped_placed_one : (w : State) (h : List Item) (p : PlacedPending w) → Holds w h → Stamped (h ++ item.Placed p.coming.start p.commit ∷ [])
 stamped_placed_one w h p holds =
     let stamped : Stamped h = holds.isolated.stamped in
-    let drew : DrewCommit h p.coming.session p.coming.node p.coming.term p.coming.start p.commit = (placed_drew w h p holds).0 in
+    let drew = (placed_drew w h p holds).0 in
     let x : Item = item.Placed p.coming.start p.commit in
     let commits : (t c : ℕ) → Committed (h ++ x ∷ []) t c → Committed h t c ⊎ ((t ≡ p.coming.start) × (c ≡ p.commit)) = λ t c m. elim (in_push (item.Placed t c) x h m) [
       | inl old ↦ inl old
@@ -74,11 +74,11 @@ stamped_placed_one w h p holds =
       distinct = AtEach-push NewStamps h x stamped.distinct (placed_new w h p holds);
       no_start_commits = λ s t u begun placed. let was : Begun h s t = in_old (item.Begin s t) x h (λ is. cc) begun in elim (commits u t placed) [
         | inl old ↦ stamped.no_start_commits s t u was old
-        | inr now ↦ commit_no_start h s p.coming.session p.coming.node p.coming.term p.coming.start p.commit holds.numbers.new holds.numbers.begun drew (subst (λ c. Begun h s c) now.1 was)
+        | inr now ↦ commit_no_start h s p.coming.session drew.0 drew.1 p.coming.start p.commit holds.numbers.new holds.numbers.begun drew.2 (subst (λ c. Begun h s c) now.1 was)
       ];
       start_below_commit = λ t c placed. elim (commits t c placed) [
         | inl old ↦ stamped.start_below_commit t c old
-        | inr now ↦ subst (λ u. u < c) (sym now.0) (subst (λ d. p.coming.start < d) (sym now.1) (commit_above_start h p.coming.session p.coming.node p.coming.term p.coming.start p.commit holds.numbers.new drew))
+        | inr now ↦ subst (λ u. u < c) (sym now.0) (subst (λ d. p.coming.start < d) (sym now.1) (commit_above_start h p.coming.session drew.0 drew.1 p.coming.start p.commit holds.numbers.new drew.2))
       ];
     }
 

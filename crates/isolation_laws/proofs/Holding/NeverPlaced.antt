@@ -16,11 +16,11 @@ use Rattle.isolation_laws.specs.Pending.{Live}
 use Rattle.isolation_laws.specs.Holds.{Holds}
 use Rattle.isolation_laws.specs.Laws.{IsMarkedFirst, IsLost}
 use Rattle.isolation_laws.proofs.Pushed.{old_placed}
-use Rattle.isolation_laws.proofs.Outcome.Outcomes.{Outcome, OfAskedBegin, OfDrew, OfPlaced, OfAnsweredBegin, OfWrote, OfFetched, OfReadDropped, OfReadStepped, OfOutcome, OfOutcomeFailed, OfCompleted, OfSwept, OfSweepListed, OfSweepFailed, left_by, told_by_outcome}
+use Rattle.isolation_laws.proofs.Outcome.Outcomes.{Outcome, OfAskedBegin, OfDrew, OfPlaced, OfOwnPlaced, OfAnsweredBegin, OfWrote, OfFetched, OfReadDropped, OfReadStepped, OfOutcome, OfOutcomeFailed, OfCompleted, OfSwept, OfSweepListed, OfSweepFailed, left_by, told_by_outcome}
 use Rattle.isolation_laws.proofs.Holding.IsolatedItems.{Stamping, StampsNone, StampsPlaced, StampsBegin, stamping, placed_old}
 use Rattle.isolation_laws.proofs.Stores.StoresStay.{MarksStay, marks_put, marks_after, marks_may, marks_if}
-use Rattle.isolation_laws.proofs.Requests.PendingFewer.{fewer_asked_begin, fewer_settled}
-use Rattle.isolation_laws.proofs.Requests.OpenAfter.{fewer_open_asked_begin, fewer_open_wrote, fewer_open_fetched, fewer_open_read}
+use Rattle.isolation_laws.proofs.Requests.PendingFewer.{pending_asked_begin, fewer_settled}
+use Rattle.isolation_laws.proofs.Requests.OpenAfter.{at_work_own_placed, at_work_asked_begin, at_work_wrote, at_work_fetched, at_work_read}
 use Rattle.isolation_laws.proofs.Stores.LiveAfter.{fewer_live, live_by_clients, live_by_nodes, live_drew, live_answered_begin}
 use Rattle.isolation_laws.proofs.Numbers.Placings.{PlacedPending, placed_item, placed_live}
 use Rattle.isolation_laws.specs.Quiet.{AllQuiet}
@@ -57,6 +57,7 @@ placed_by w h items t c (StampsBegin k is) m = inl (begin_places h k.session k.s
 -- ---- marks stay
 marks_kept : (w : State) (o : Outcome w) → MarksStay w.pairs (left_by w o).pairs
 marks_kept w (OfPlaced k) = marks_put w.pairs k.it.start _
+marks_kept w (OfOwnPlaced k) = marks_put w.pairs k.it.start _
 marks_kept w (OfReadDropped k) = marks_may w.pairs k.pairs k.pairs_are
 marks_kept w (OfReadStepped k) = marks_after (read_ask k.r) w.pairs
 marks_kept w (OfOutcome k) = marks_after (settle_ask k.x) w.pairs
@@ -68,16 +69,17 @@ marks_kept w _ = λ u marked. marked
 
 -- ---- nothing becomes live again
 live_kept : (w : State) (h : List Item) (o : Outcome w) (s t : ℕ) → Holds w h → Begun h s t → Live (left_by w o).clients (left_by w o).nodes t → Live w.clients w.nodes t
-live_kept w h (OfAskedBegin k) s t holds begun live = fewer_live w.clients _ w.nodes _ (fewer_open_asked_begin w k) (fewer_asked_begin w k) t live
+live_kept w h (OfAskedBegin k) s t holds begun live = fewer_live w.clients _ w.nodes _ (at_work_asked_begin w k).opened (pending_asked_begin w k) t live
 live_kept w h (OfDrew k) s t holds begun live = live_drew w k t live
 live_kept w h (OfPlaced k) s t holds begun live = live_by_nodes w.clients w.nodes _ (fewer_settled w k.it k.by) t live
+live_kept w h (OfOwnPlaced k) s t holds begun live = live_by_clients w.clients _ w.nodes (at_work_own_placed w k) t live
 live_kept w h (OfAnsweredBegin k) s t holds begun live = elim (live_answered_begin w k t live) [
   | inl old ↦ old
   | inr now ↦ absurd (start_unbegun w h k s holds (subst (Begun h s) now begun))
 ]
-live_kept w h (OfWrote k) s t holds begun live = live_by_clients w.clients _ w.nodes (fewer_open_wrote w k) t live
-live_kept w h (OfFetched k) s t holds begun live = live_by_clients w.clients _ w.nodes (fewer_open_fetched w k) t live
-live_kept w h (OfReadStepped k) s t holds begun live = live_by_clients w.clients _ w.nodes (fewer_open_read w k) t live
+live_kept w h (OfWrote k) s t holds begun live = live_by_clients w.clients _ w.nodes (at_work_wrote w k) t live
+live_kept w h (OfFetched k) s t holds begun live = live_by_clients w.clients _ w.nodes (at_work_fetched w k) t live
+live_kept w h (OfReadStepped k) s t holds begun live = live_by_clients w.clients _ w.nodes (at_work_read w k) t live
 live_kept w h (OfSweepListed k) s t holds begun live = live
 live_kept w h o s t holds begun live = (calmed w h o holds refl).live t live
 

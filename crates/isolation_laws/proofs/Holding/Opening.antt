@@ -20,12 +20,12 @@ use Rattle.isolation_laws.specs.Known.{IsTrueCache, KnownFacts}
 use Rattle.isolation_laws.specs.Holds.{Holds}
 use Rattle.isolation_laws.proofs.Inversions.InversionSound.{none_at}
 use Rattle.isolation_laws.proofs.Known.TrueCaches.{true_new}
-use Rattle.isolation_laws.proofs.Holding.OpeningSessions.{in_none, each_none, is_new, not_in, not_under_way, not_open, opening_numbers, opening_requests, opening_memory, opening_begins}
+use Rattle.isolation_laws.proofs.Holding.OpeningSessions.{in_none, each_none, is_new, not_in, not_under_way, not_open, not_pending, opening_numbers, opening_requests, opening_memory, opening_begins}
 
 -- ---- the stores and what is under way
 not_live : (setup : SetupNumbers) (t : ℕ) → Live (opening setup).clients (opening setup).nodes t → ⊥
 not_live setup t (inl o) = not_open setup o.session t o.epoch o.open_at
-not_live setup t (inr p) = none_at setup.nodes p.coming.node p.pending.instance_of p.pending.at
+not_live setup t (inr p) = not_pending setup p.coming p.pending
 
 none_looked : (k t : ℕ) (cell : Cell) → looked [] k t ≡ Some cell → ⊥
 unfolding looked

@@ -7,11 +7,13 @@ use Rattle.client_parts.specs.declared.session.State.TheVariants as phase
 use Rattle.client_parts.specs.SessionSteps.{has_transaction}
 use Rattle.machine.specs.State.{UnderWay, Nothing, Client, client_new, opening}
 use Rattle.isolation_laws.specs.Words.{ClientAt, OpenAt}
+use Rattle.isolation_laws.specs.Pending.{InFlight, is_placing, Pending}
 use Rattle.isolation_laws.specs.Numbers.{IsNewDraw, NumberFacts}
 use Rattle.isolation_laws.specs.Requests.{HasAsked, RequestFacts}
 use Rattle.isolation_laws.specs.Memory.{MemoryFacts}
 use Rattle.isolation_laws.specs.Begins.{BeginFacts}
 use Rattle.isolation_laws.proofs.Inversions.InversionSound.{found_copy, none_at}
+use Rattle.isolation_laws.proofs.Requests.ClientsOpen.{free_rests}
 
 -- ---- nothing is there
 pub in_none : {X : Type 0} (x : X) → x ∈ [] → ⊥
@@ -33,6 +35,13 @@ not_under_way setup s c work at is = ap (λ (x : Client). x.under_way) (sym (is_
 
 pub not_open : (setup : SetupNumbers) (s t e : ℕ) → OpenAt (opening setup).clients s t e → ⊥
 not_open setup s t e o = let clash : phase.Free ≡ phase.Open = not_in setup s o.client phase.Open o.at o.state_is in cc
+
+not_placing : (setup : SetupNumbers) (s : ℕ) (c : Client) → ClientAt (opening setup).clients s c → is_placing c.entry.state ≡ true → ⊥
+not_placing setup s c at placing = free_rests.not_placing (ap is_placing (not_in setup s c c.entry.state at refl) ∙ placing)
+
+pub not_pending : (setup : SetupNumbers) (q : InFlight) → Pending (opening setup).clients (opening setup).nodes q → ⊥
+not_pending setup q (inl p) = none_at setup.nodes p.node p.instance_of p.at
+not_pending setup q (inr p) = not_placing setup q.session p.client p.at p.state_is
 
 -- ---- numbers
 pub opening_numbers : (setup : SetupNumbers) → NumberFacts setup 0 (opening setup).nodes (opening setup).master []
@@ -72,13 +81,14 @@ free_has state is has = let clash : has_transaction phase.Free ≡ true = ap has
 
 not_asked : (setup : SetupNumbers) (s : ℕ) (c : Client) → ClientAt (opening setup).clients s c → HasAsked c.entry.state → ⊥
 not_asked setup s c at (inl is) = let clash : phase.Free ≡ phase.Committing = not_in setup s c phase.Committing at is in cc
-not_asked setup s c at (inr is) = let clash : phase.Free ≡ phase.OpenOutcome = not_in setup s c phase.OpenOutcome at is in cc
+not_asked setup s c at (inr (inl is)) = let clash : phase.Free ≡ phase.OpenOutcome = not_in setup s c phase.OpenOutcome at is in cc
+not_asked setup s c at (inr (inr is)) = not_placing setup s c at is
 
 not_working : (setup : SetupNumbers) (s : ℕ) (c : Client) → ClientAt (opening setup).clients s c → (c.entry.state ≡ phase.Open) ⊎ HasAsked c.entry.state → ⊥
 not_working setup s c at (inl is) = let clash : phase.Free ≡ phase.Open = not_in setup s c phase.Open at is in cc
 not_working setup s c at (inr asked) = not_asked setup s c at asked
 
-pub opening_requests : (setup : SetupNumbers) → RequestFacts (opening setup).nodes (opening setup).clients []
+pub opening_requests : (setup : SetupNumbers) → RequestFacts setup (opening setup).nodes (opening setup).clients []
 opening_requests setup = record {
   have_begun = record { begun = λ s c at has. absurd (free_has c.entry.state (not_in setup s c c.entry.state at refl) has) };
   requests = record {
@@ -91,9 +101,10 @@ opening_requests setup = record {
     unbegun = λ n s t r i at. absurd (none_at setup.nodes n i at);
   };
   pending = record {
-    begun = λ q p. absurd (none_at setup.nodes q.node p.instance_of p.at);
-    keys = λ q p. absurd (none_at setup.nodes q.node p.instance_of p.at);
-    so_far = λ q p. absurd (none_at setup.nodes q.node p.instance_of p.at);
+    begun = λ q p. absurd (not_pending setup q p);
+    keys = λ q p. absurd (not_pending setup q p);
+    so_far = λ q p. absurd (not_pending setup q p);
+    here = λ n s t c keys i at. absurd (none_at setup.nodes n i at);
   };
   settled = record {
     begun = λ n s t c keys by i at. absurd (none_at setup.nodes n i at);
@@ -109,6 +120,7 @@ opening_requests setup = record {
     written = λ s t c at working. absurd (not_working setup s c at working);
     some = λ s c at asked. absurd (not_asked setup s c at asked);
   };
+  form = record { plain = λ flag s c at placing. not_placing setup s c at placing };
 }
 
 -- ---- the conflict memory, begins and reads
@@ -119,12 +131,12 @@ opening_memory setup = record {
   serial = λ strict. record { stood = λ r s n m term other t d u c k value one. absurd (in_none _ one) };
 }
 
-pub opening_begins : (setup : SetupNumbers) → BeginFacts (opening setup).clients (opening setup).nodes []
+pub opening_begins : (setup : SetupNumbers) → BeginFacts setup (opening setup).clients (opening setup).nodes []
 opening_begins setup = record {
   fresh = record {
     asked = λ n s i p at. absurd (none_at setup.nodes n i at);
     accepted = λ n s t c i at. absurd (none_at setup.nodes n i at);
     drawn = λ n s b t c i at. absurd (none_at setup.nodes n i at);
   };
-  below = record { below = λ s b e n i o. absurd (not_open setup s b e o) };
+  below = λ flag. record { below = λ s b e n i o. absurd (not_open setup s b e o) };
 }

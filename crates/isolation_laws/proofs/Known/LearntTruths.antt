@@ -48,8 +48,8 @@ decision_true w h pairs k b every e v point (Goes next) tells dead = tt
 decision_true w h pairs k b every e v point (Decides (CommittedAt c by_table)) tells dead = tells
 decision_true w h pairs k b every e v point (Decides Dead) tells dead = dead refl
 
-pub learnt_true : (w : State) (h : List Item) (s : ℕ) (r : Reading) → Holds w h → OpenAt w.clients s r.start r.epoch → IsReading w.setup w.nodes w.rows w.pairs h r.start r.epoch r → All (IsWrittenCell w.clients w.nodes h r.key) (r.cell ∷ r.older) → IfSome (learnt_by r (told_by (read_ask r) w.rows w.pairs)) (IsTruePair (pairs_after (read_ask r) w.pairs) h)
+pub learnt_true : (w : State) (h : List Item) (s : ℕ) (r : Reading) → Holds w h → OpenAt w.clients s r.start r.epoch → IsReading w.setup w.clients w.nodes w.rows w.pairs h r.start r.epoch r → All (IsWrittenCell w.clients w.nodes h r.key) (r.cell ∷ r.older) → IfSome (learnt_by r (told_by (read_ask r) w.rows w.pairs)) (IsTruePair (pairs_after (read_ask r) w.pairs) h)
 learnt_true w h s r holds o is written =
     decision_true w h (pairs_after (read_ask r) w.pairs) r.key r.start r.every r.epoch r.cell.version r.point (settle_turn_at (may_mark r.every r.cell.version r.epoch) r.point (told_by (read_ask r) w.rows w.pairs))
-    (tells_at w h s r.key r.start r.every r.epoch r.cell r.older r.point holds o is.sees is.resolved)
+    (tells_at w h s r.key r.start r.every r.epoch r.cell r.older r.point is.every_is holds o is.sees is.resolved)
     (λ dead. dead_true w h r.key r.start r.every r.epoch r.cell r.point holds is.resolved (written 0 r.cell (omega arith)) dead)

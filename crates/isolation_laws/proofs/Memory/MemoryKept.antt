@@ -29,7 +29,7 @@ use Rattle.isolation_laws.specs.Words.{epoch_or_none}
 use Rattle.isolation_laws.proofs.Outcome.OutcomesOfRecord.{Granted, granted_nodes, granted_state, Renewed, renewed_nodes, renewed_state, Extended, extended_nodes, extended_state}
 use Rattle.isolation_laws.proofs.Outcome.OutcomesOfSessions.{WroteOne, wrote_items}
 use Rattle.isolation_laws.proofs.Outcome.OutcomesOfWork.{Fetched, fetched_turn, fetched_items, ReadStepped, read_turn, read_stepped_items}
-use Rattle.isolation_laws.proofs.Outcome.Outcomes.{Outcome, OfGranted, OfRenewed, OfExtended, OfAskedBegin, OfAskedCommit, OfAccepted, OfDrew, OfPlaced, OfAnsweredBegin, OfWrote, OfFetched, OfReadStepped, OfSweepListed, left_by, told_by_outcome}
+use Rattle.isolation_laws.proofs.Outcome.Outcomes.{Outcome, OfGranted, OfRenewed, OfExtended, OfAskedBegin, OfAskedCommit, OfAccepted, OfDrew, OfPlaced, OfOwnPlaced, OfAnsweredBegin, OfWrote, OfFetched, OfReadStepped, OfSweepListed, left_by, told_by_outcome}
 use Rattle.isolation_laws.proofs.Pushed.{one_quiet}
 
 -- ---- the record
@@ -122,6 +122,7 @@ memory_kept w h (OfAskedCommit k) holds = on_quiet w h _ k.items (at_node w k.no
 memory_kept w h (OfAccepted k) holds = on_quiet w h _ k.items (at_node w k.node k.i _ k.at refl refl) k.quiet holds
 memory_kept w h (OfDrew k) holds = memory_drew w h k holds
 memory_kept w h (OfPlaced k) holds = loud w h _ (Placed k.it.start k.it.commit) k.items (at_node w k.it.node k.it.i _ k.it.at refl refl) (placed_is_no_draw k.it.start k.it.commit) (λ s t key value same. cc) (λ s t key answer same. cc) k.quiet holds
+memory_kept w h (OfOwnPlaced k) holds = loud w h w.nodes (Placed k.it.start k.it.commit) k.items (remembered_same w.nodes) (placed_is_no_draw k.it.start k.it.commit) (λ s t key value same. cc) (λ s t key answer same. cc) k.quiet holds
 memory_kept w h (OfAnsweredBegin k) holds = loud w h _ (Begin k.session k.start) [] (at_node w k.node k.i _ k.at refl refl) (begin_is_no_draw k.session k.start) (λ s t key value same. cc) (λ s t key answer same. cc) (All-nil Quiet) holds
 memory_kept w h (OfWrote k) holds = memory_wrote w h k holds
 memory_kept w h (OfFetched k) holds = memory_fetched w h k holds

@@ -27,14 +27,14 @@ use Rattle.isolation_laws.proofs.Pushed.{recorded-push}
 use Rattle.isolation_laws.proofs.Memory.RecordedCommits.{recorded_contains, recorded_rise, recorded_by_own, recorded_by_other, wrote_key}
 use Rattle.isolation_laws.proofs.Memory.MemoryStays.{unwritten}
 use Rattle.isolation_laws.proofs.Numbers.NumbersOfDraws.{start_drawn, commit_drawn, asker_of, draw_item_is, drew_cases, drew_room}
-use Rattle.isolation_laws.proofs.Numbers.NewStamps.{new_draw, drew_within}
+use Rattle.isolation_laws.proofs.Numbers.NewStamps.{new_draw, drew_taken, drew_within}
 use Rattle.isolation_laws.proofs.Numbers.NewDraws.{drew_or}
-use Rattle.isolation_laws.proofs.Requests.RequestsOfDraws.{drew_keys, DrawsFor, draws_commit, drawing, drawing_pending}
+use Rattle.isolation_laws.proofs.Requests.RequestsOfDraws.{drew_keys, DrawsFor, draws_commit, drawing}
 use Rattle.isolation_laws.proofs.Orders.{three_ways}
 
 -- ---- what the draw records
 own_keys : (w : State) (h : List Item) (k : Drew w) (r t : ℕ) (keys : List ℕ) → Holds w h → k.held.request ≡ Commit r t keys → keys ≡ written_keys h t
-own_keys w h k r t keys holds is = (holds.requests.pending.keys (drawing w k t keys) (drawing_pending w h k r t keys holds is)).0
+own_keys w h k r t keys holds is = (holds.requests.pending.keys (drawing w k t keys) (inl (drew_taken w k r t keys holds.requests.requests is))).0
 
 now_recorded : (w : State) (h : List Item) (k : Drew w) (request : Request) → Holds w h → k.held.request ≡ request → recorded_by (h ++ drew_items w k) k.i.term (Draw (asker_of request) k.node k.i.term (start_drawn request (k.i.last + 1)) (commit_drawn request (k.i.last + 1))) ≡ pairs_by request (k.i.last + 1)
 now_recorded w h k (BeginRequest r) holds is = refl
@@ -101,7 +101,7 @@ start_is_no_commit s n term t r m other u d same = cc
 
 apart_stamps : (w : State) (h : List Item) (k : Drew w) (r t : ℕ) (keys : List ℕ) (s m other u d : ℕ) → Holds w h → k.held.request ≡ Commit r t keys → DrewCommit h s m other u d → d ≡ t → ⊥
 apart_stamps w h k r t keys s m other u d holds is drew same =
-    let begun = holds.requests.pending.begun (drawing w k t keys) (drawing_pending w h k r t keys holds is) in
+    let begun = holds.requests.pending.begun (drawing w k t keys) (inl (drew_taken w k r t keys holds.requests.requests is)) in
     let start = holds.numbers.begun.drawn k.session t begun in
     start_is_no_commit k.session start.0 start.1 t s m other u d (drawn_once h k.session s start.0 m start.1 other t u None (Some d) holds.numbers.new start.2 drew (sym same))
 

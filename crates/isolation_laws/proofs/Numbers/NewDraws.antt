@@ -109,7 +109,7 @@ drew_new w k h holds = record {
 drew_begins : (w : State) (k : Drew w) (h : List Item) (request : Request) (t c : ℕ) → k.held.request ≡ request → Holds w h → t ≡ start_drawn request (k.i.last + 1) → Some c ≡ commit_drawn request (k.i.last + 1) → (r : ℕ) × Begun h r t
 drew_begins w k h (BeginRequest r) t c is holds start commit = absurd (none-some c (sym commit))
 drew_begins w k h (Commit r u keys) t c is holds start commit =
-    (k.session, subst (Begun h k.session) (sym start) (holds.requests.pending.begun (record { session = k.session; node = k.node; term = k.i.term; start = u; keys = keys; stage = Taken k.i.last }) (drew_taken w k r u keys holds.requests.requests is)))
+    (k.session, subst (Begun h k.session) (sym start) (holds.requests.pending.begun (record { session = k.session; start = u; keys = keys; stage = Taken k.i.last }) (inl (drew_taken w k r u keys holds.requests.requests is))))
 
 drew_begun : (w : State) (k : Drew w) (h : List Item) → Holds w h → AreBegun (h ++ drew_items w k)
 drew_begun w k h holds = record {

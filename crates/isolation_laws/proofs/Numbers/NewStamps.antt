@@ -11,7 +11,7 @@ use Rattle.oracle_parts.specs.declared.instance.Request.TheVariants.{Begin as Be
 use Rattle.machine.specs.State.{State}
 use Rattle.machine.specs.Events.Decide.{draw_item}
 use Rattle.isolation_laws.specs.Words.{HasDrawn, drawn_stamp}
-use Rattle.isolation_laws.specs.Pending.{Taken, Pending}
+use Rattle.isolation_laws.specs.Pending.{Taken, HeldPending}
 use Rattle.isolation_laws.specs.Numbers.{AreRanges, AreDrawn, IsNewDraw}
 use Rattle.isolation_laws.specs.Requests.{AreRequests, AreAccepted}
 use Rattle.isolation_laws.specs.Holds.{Holds}
@@ -25,18 +25,17 @@ abbrev pub new_draw : (w : State) → Drew w → Item
 new_draw w k = draw_item k.node k.i.term k.held.request (k.i.last + 1)
 
 -- ---- the commit that draws was taken by its instance
-pub drew_taken : (w : State) (k : Drew w) (r t : ℕ) (keys : List ℕ) → AreRequests w.nodes w.clients → k.held.request ≡ Commit r t keys → Pending w.nodes (record { session = k.session; node = k.node; term = k.i.term; start = t; keys = keys; stage = Taken k.i.last })
+abbrev pub drew_taken : (w : State) (k : Drew w) (r t : ℕ) (keys : List ℕ) → AreRequests w.nodes w.clients → k.held.request ≡ Commit r t keys → HeldPending w.nodes (record { session = k.session; start = t; keys = keys; stage = Taken k.i.last })
 drew_taken w k r t keys requests is = record {
+  node = k.node;
   instance_of = k.i;
   progress_of = progress.Accepted;
   at = k.at;
   held = record { held = k.held; has = k.has; asks = commit_own k.held.request k.session r t keys is (requests.own k.node k.session k.i k.held.request k.held.progress k.at (held_by k.i k.session k.held k.has)); stands = k.accepted };
-  term_is = refl;
   stage_is = refl;
 }
 
 pub drew_within : (w : State) (k : Drew w) (r t : ℕ) (keys : List ℕ) → AreRequests w.nodes w.clients → AreAccepted w.nodes → k.held.request ≡ Commit r t keys → (k.i.epoch < t) × (t ≤ k.i.last)
-unfolding drew_taken
 drew_within w k r t keys requests accepted is = let p = drew_taken w k r t keys requests is in accepted.within k.node k.session t keys k.i k.at p.held
 
 -- the start that is drawn for lies above the epoch
@@ -56,7 +55,7 @@ commit_new : (w : State) (k : Drew w) (h : List Item) (request : Request) → k.
 commit_new w k h (BeginRequest r) is holds c drawn = absurd (none-some c drawn)
 commit_new w k h (Commit r t keys) is holds c drawn = (
   omega (arith, (drew_within w k r t keys holds.requests.requests holds.requests.accepted is).1, same_Some (k.i.last + 1) c drawn),
-  holds.requests.pending.so_far (record { session = k.session; node = k.node; term = k.i.term; start = t; keys = keys; stage = Taken k.i.last }) (drew_taken w k r t keys holds.requests.requests is),
+  holds.requests.pending.so_far (record { session = k.session; start = t; keys = keys; stage = Taken k.i.last }) (inl (drew_taken w k r t keys holds.requests.requests is)),
 )
 
 pub new_now : (w : State) (k : Drew w) (h : List Item) (request : Request) → k.held.request ≡ request → Holds w h → IsNewDraw h (Draw (asker_of request) k.node k.i.term (start_drawn request (k.i.last + 1)) (commit_drawn request (k.i.last + 1)))

@@ -19,13 +19,13 @@ use Rattle.oracle_parts.specs.Instance.{InstanceEntry}
 use Rattle.machine.specs.State.{Client, State}
 use Rattle.machine.specs.Events.Fetch.{read_items, found_of}
 use Rattle.isolation_laws.specs.Words.{InstanceAt, ClientAt, Begun, DrewStart, DrewCommit}
-use Rattle.isolation_laws.specs.Pending.{InFlight, Has, Pending}
+use Rattle.isolation_laws.specs.Pending.{InFlight, Has, HeldPending}
 use Rattle.isolation_laws.specs.Quiet.{Quiet, AllQuiet}
 use Rattle.isolation_laws.specs.Numbers.{NumberFacts}
 use Rattle.isolation_laws.specs.Requests.{HaveBegun, AreRequests}
 use Rattle.isolation_laws.specs.Holds.{Holds}
 use Rattle.isolation_laws.proofs.Lookups.{held_by, commit_own, begin_own}
-use Rattle.isolation_laws.proofs.Owners.{has_drew}
+use Rattle.isolation_laws.proofs.Owners.{held_drew}
 use Rattle.isolation_laws.proofs.Outcome.OutcomesOfStamps.{AtDrawn, AnsweredBegin}
 use Rattle.isolation_laws.proofs.Numbers.NumbersStay.{SameNumbers, IsNumberedAs, numbered_same, numbered_set, numbers_quiet}
 use Rattle.isolation_laws.proofs.Numbers.NumbersOfItems.{NoDraw, read_is_no_draw, drawn_push, new_push, FitsBegun, begun_push, fits_read, placed_push}
@@ -68,20 +68,20 @@ drew_start w h k holds =
 
 -- a commit that was drawn is in flight
 abbrev pub in_flight_of : (w : State) → AtDrawn w → InFlight
-in_flight_of w k = record { session = k.session; node = k.node; term = k.i.term; start = k.start; keys = k.keys; stage = Has k.commit }
+in_flight_of w k = record { session = k.session; start = k.start; keys = k.keys; stage = Has k.commit }
 
-pub drawn_pending : (w : State) (k : AtDrawn w) → AreRequests w.nodes w.clients → Pending w.nodes (in_flight_of w k)
+abbrev pub drawn_pending : (w : State) (k : AtDrawn w) → AreRequests w.nodes w.clients → HeldPending w.nodes (in_flight_of w k)
 drawn_pending w k requests = record {
+  node = k.node;
   instance_of = k.i;
   progress_of = progress.Drawn k.commit;
   at = k.at;
   held = record { held = k.held; has = k.has; asks = commit_own k.held.request k.session k.asker k.start k.keys k.request_is (requests.own k.node k.session k.i k.held.request k.held.progress k.at (held_by k.i k.session k.held k.has)); stands = k.drawn };
-  term_is = refl;
   stage_is = refl;
 }
 
 pub drew_commit : (w : State) (h : List Item) (k : AtDrawn w) → Holds w h → DrewCommit h k.session k.node k.i.term k.start k.commit
-drew_commit w h k holds = (has_drew w.nodes h (in_flight_of w k) k.commit holds.requests.pending (drawn_pending w k holds.requests.requests) refl).0
+drew_commit w h k holds = held_drew w.clients w.nodes h (in_flight_of w k) k.commit (drawn_pending w k holds.requests.requests) holds.requests.pending refl
 
 -- ---- reads
 read_item_numbers : (setup : SetupNumbers) (seen : ℕ) (nodes : List (Option InstanceEntry)) (master : MasterRecord) (h : List Item) (s b k r : ℕ) (turn : ReadTurn) → Begun h r b → NumberFacts setup seen nodes master h → NumberFacts setup seen nodes master (h ++ read_items s b k turn)

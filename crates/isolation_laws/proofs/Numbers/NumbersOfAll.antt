@@ -18,7 +18,7 @@ use Rattle.isolation_laws.proofs.Outcome.OutcomesOfStamps.{AnsweredBegin, answer
 use Rattle.isolation_laws.proofs.Outcome.OutcomesOfSessions.{WroteOne, wrote_items}
 use Rattle.isolation_laws.proofs.Outcome.OutcomesOfWork.{Fetched, ReadStepped, fetched_turn, read_turn, fetched_items, read_stepped_items}
 use Rattle.isolation_laws.proofs.Outcome.OutcomesOfSweeps.{SweepListed, sweep_listed_items}
-use Rattle.isolation_laws.proofs.Outcome.Outcomes.{Outcome, OfGranted, OfRenewed, OfExtended, OfAskedBegin, OfAskedCommit, OfAccepted, OfDrew, OfPlaced, OfAnsweredBegin, OfWrote, OfFetched, OfReadStepped, OfSweepListed, left_by, told_by_outcome}
+use Rattle.isolation_laws.proofs.Outcome.Outcomes.{Outcome, OfGranted, OfRenewed, OfExtended, OfAskedBegin, OfAskedCommit, OfAccepted, OfDrew, OfPlaced, OfOwnPlaced, OfAnsweredBegin, OfWrote, OfFetched, OfReadStepped, OfSweepListed, left_by, told_by_outcome}
 use Rattle.isolation_laws.proofs.Numbers.NumbersStay.{SameNumbers, numbered_same, numbered}
 use Rattle.isolation_laws.proofs.Numbers.NumbersOfTakes.{numbers_granted}
 use Rattle.isolation_laws.proofs.Numbers.NumbersOfRenewals.{numbers_renewed}
@@ -27,7 +27,7 @@ use Rattle.isolation_laws.proofs.Numbers.NewDraws.{numbers_drew}
 use Rattle.isolation_laws.proofs.Numbers.NumbersOfItems.{begin_is_no_draw, write_is_no_draw, placed_is_no_draw, fits_begin, fits_write, fits_placed, placed_fits}
 use Rattle.isolation_laws.proofs.Numbers.NumbersKept.{loud_numbers, open_begun, drew_start, first_then, quiet_one, at_node}
 use Rattle.isolation_laws.proofs.Orders.{max_left}
-use Rattle.isolation_laws.proofs.Numbers.Placings.{PlacedPending, placed_item, placed_drew, by_its_node}
+use Rattle.isolation_laws.proofs.Numbers.Placings.{PlacedPending, placed_item, placed_drew, by_its_node, by_its_session}
 
 -- ---- every outcome
 numbers_asked_begin : (w : State) (h : List Item) (k : AskedBegin w) → Holds w h → NumberFacts w.setup w.seen (asked_begin_state w k).nodes w.master (h ++ asked_begin_items w k)
@@ -41,8 +41,9 @@ numbers_asked_begin w h k holds =
 numbers_placed : (w : State) (h : List Item) (p : PlacedPending w) (nodes : List (Option InstanceEntry)) (items : List Item) → AllQuiet items → SameNumbers w.nodes nodes → Holds w h → NumberFacts w.setup w.seen nodes w.master (h ++ placed_item w p ∷ items)
 numbers_placed w h p nodes items quiet same holds =
     let q = p.coming in
+    let drew = (placed_drew w h p holds).0 in
     loud_numbers w.setup w.seen w.nodes nodes w.master h (placed_item w p) items same (placed_is_no_draw q.start p.commit) (fits_placed h q.start p.commit)
-    (λ t c is. placed_fits h q.start p.commit t c q.session q.node q.term (placed_drew w h p holds).0 is) quiet holds.numbers
+    (λ t c is. placed_fits h q.start p.commit t c q.session drew.0 drew.1 drew.2 is) quiet holds.numbers
 
 numbers_answered_begin : (w : State) (h : List Item) (k : AnsweredBegin w) → Holds w h → NumberFacts w.setup w.seen (answered_begin_state w k).nodes w.master (h ++ answered_begin_items w k)
 numbers_answered_begin w h k holds =
@@ -84,6 +85,7 @@ numbers_kept w h (OfAskedCommit k) holds = quiet_one w h _ w.seen k.items (at_no
 numbers_kept w h (OfAccepted k) holds = quiet_one w h _ (max w.seen k.reading) k.items (at_node w k.node k.i _ k.at (numbered k.i _ refl refl refl refl refl)) (max_left w.seen k.reading) k.quiet holds
 numbers_kept w h (OfDrew k) holds = numbers_drew w h k holds
 numbers_kept w h (OfPlaced k) holds = numbers_placed w h (by_its_node w h k holds) _ k.items k.quiet (at_node w k.it.node k.it.i _ k.it.at (numbered k.it.i _ refl refl refl refl refl)) holds
+numbers_kept w h (OfOwnPlaced k) holds = numbers_placed w h (by_its_session w k) w.nodes k.items k.quiet (numbered_same w.nodes) holds
 numbers_kept w h (OfAnsweredBegin k) holds = numbers_answered_begin w h k holds
 numbers_kept w h (OfWrote k) holds = numbers_wrote w h k holds
 numbers_kept w h (OfFetched k) holds = numbers_fetched w h k holds

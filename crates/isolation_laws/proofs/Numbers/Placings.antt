@@ -1,5 +1,5 @@
 -- A commit that is pending and has no mark is placed. Who places it does not matter here.
-use Rattle.std.proofs.Common.{◌≡◌, ℕ, List, None, inr, refl}
+use Rattle.std.proofs.Common.{◌≡◌, ℕ, List, None, inl, inr, refl}
 use Rattle.history_book.specs.Isolation.{Committed}
 use Rattle.history_book.specs.declared.item.Item.{Item}
 use Rattle.history_book.specs.declared.item.Item.TheVariants.{Placed}
@@ -7,15 +7,16 @@ use Rattle.stamp_base.specs.declared.stores.Mark.TheVariants.{Committed as Commi
 use Rattle.store_parts.specs.Pairs.{Pairs, mark_of, put_pair}
 use Rattle.machine.specs.State.{State}
 use Rattle.isolation_laws.specs.Words.{DrewCommit}
-use Rattle.isolation_laws.specs.Pending.{InFlight, Has, Pending, Live}
+use Rattle.isolation_laws.specs.Pending.{InFlight, Has, PlacingAt, Pending, Live}
 use Rattle.isolation_laws.specs.Holds.{Holds}
 use Rattle.isolation_laws.proofs.Owners.{has_drew}
 use Rattle.isolation_laws.proofs.Outcome.OutcomesOfStamps.{PlacedOne}
+use Rattle.isolation_laws.proofs.Outcome.OutcomesOfPlacings.{AtPlacing, OwnPlaced}
 use Rattle.isolation_laws.proofs.Numbers.NumbersKept.{in_flight_of, drawn_pending}
 
 pub record PlacedPending (w : State) : Type 0 where
   pub coming : InFlight
-  pub pending : Pending w.nodes coming
+  pub pending : Pending w.clients w.nodes coming
   pub commit : ℕ
   pub has : coming.stage ≡ Has commit
   pub free : mark_of w.pairs coming.start ≡ None
@@ -30,15 +31,41 @@ placed_pairs w p = put_pair w.pairs p.coming.start (CommittedMark p.commit)
 abbrev pub by_its_node : (w : State) (h : List Item) (k : PlacedOne w) → Holds w h → PlacedPending w
 by_its_node w h k holds = record {
   coming = in_flight_of w k.it;
-  pending = drawn_pending w k.it holds.requests.requests;
+  pending = inl (drawn_pending w k.it holds.requests.requests);
+  commit = k.it.commit;
+  has = refl;
+  free = k.free;
+}
+
+-- a session that is placing its commit has it in flight
+abbrev pub own_in_flight : (w : State) → AtPlacing w → InFlight
+own_in_flight w it = record { session = it.session; start = it.start; keys = it.c.entry.keys; stage = Has it.commit }
+
+abbrev pub own_placing : (w : State) (it : AtPlacing w) → PlacingAt w.clients (own_in_flight w it)
+own_placing w it = record {
+  client = it.c;
+  at = it.client_at;
+  state_is = it.placing;
+  start_is = it.start_is;
+  keys_are = refl;
+  commit_of = it.commit;
+  commit_is = it.commit_is;
+  stage_is = refl;
+}
+
+-- and places it itself
+abbrev pub by_its_session : (w : State) → OwnPlaced w → PlacedPending w
+by_its_session w k = record {
+  coming = own_in_flight w k.it;
+  pending = inr (own_placing w k.it);
   commit = k.it.commit;
   has = refl;
   free = k.free;
 }
 
 -- it was drawn, and was not placed
-pub placed_drew : (w : State) (h : List Item) (p : PlacedPending w) → Holds w h → DrewCommit h p.coming.session p.coming.node p.coming.term p.coming.start p.commit × ((c : ℕ) → Committed h p.coming.start c → ⊥)
-placed_drew w h p holds = has_drew w.nodes h p.coming p.commit holds.requests.pending p.pending p.has
+pub placed_drew : (w : State) (h : List Item) (p : PlacedPending w) → Holds w h → ((n : ℕ) × (term : ℕ) × DrewCommit h p.coming.session n term p.coming.start p.commit) × ((c : ℕ) → Committed h p.coming.start c → ⊥)
+placed_drew w h p holds = has_drew w.clients w.nodes h p.coming p.commit holds.requests.pending p.pending p.has
 
 pub placed_live : (w : State) (p : PlacedPending w) → Live w.clients w.nodes p.coming.start
 placed_live w p = inr (record { coming = p.coming; pending = p.pending; start_is = refl })

@@ -27,9 +27,11 @@ use Rattle.isolation_laws.proofs.Lookups.{client_set, one_client}
 use Rattle.isolation_laws.proofs.Outcome.OutcomesOfRequests.{Crashed, crashed_state, AskedBegin, asked_begin_state, AskedCommit, asked_commit_state, Ended, ended_state}
 use Rattle.isolation_laws.proofs.Outcome.OutcomesOfStamps.{AnsweredBegin, answered_begin_state, answered_client, AnsweredCommit, answered_commit_state}
 use Rattle.isolation_laws.proofs.Outcome.OutcomesOfSessions.{EndedReadOnly, read_only_state, WroteOne, wrote_state, WriteFailed, write_failed_state, Aborted, aborted_state, Vanished, vanished_state, Healed, healed_state}
+use Rattle.isolation_laws.proofs.Outcome.OutcomesOfPlacings.{OwnPlaced, own_placed_state, OwnNotPlaced, own_not_placed_state}
 use Rattle.isolation_laws.proofs.Outcome.OutcomesOfWork.{ReadDropped, read_dropped_state, OutcomeStepped, outcome_state, OutcomeFailed, outcome_failed_state, CompletedOne, completed_state}
 use Rattle.isolation_laws.proofs.Requests.ClientsOpen.{gone_cases}
 use Rattle.isolation_laws.proofs.Requests.OpenAfter.{crashed_at}
+use Rattle.isolation_laws.proofs.Reading.ReadersRely.{ReadingBy}
 
 abbrev pub FewerReading : List Client → List Client → Type 0
 FewerReading old new = (s : ℕ) (c : Client) (r : Reading) → ClientAt new s c → c.under_way ≡ Reads r → ClientAt old s c
@@ -42,11 +44,11 @@ still_open old new s b e c at now o =
     let same : o.client ≡ c = one_client old s o.client c o.at at in
     record { client = o.client; at = subst (λ (d : Client). ClientAt new s d) (sym same) now; state_is = o.state_is; start_is = o.start_is; epoch_is = o.epoch_is }
 
-pub reading_fewer : (setup : SetupNumbers) (old new : List Client) (nodes : List (Option InstanceEntry)) (rows : List Row) (pairs : Pairs) (h : List Item) → FewerReading old new → AreReading setup old nodes rows pairs h → AreReading setup new nodes rows pairs h
+pub reading_fewer : (setup : SetupNumbers) (old new : List Client) (nodes : List (Option InstanceEntry)) (rows : List Row) (pairs : Pairs) (h : List Item) → FewerReading old new → ReadingBy setup old new nodes rows pairs h → AreReading setup new nodes rows pairs h
 reading_fewer setup old new nodes rows pairs h fewer reading = record {
   reads = λ s c r at reads.
       let was : ClientAt old s c = fewer s c r at reads in
-      let is = reading.reads s c r was reads in
+      let is = reading s c r was reads in
       (is.0, is.1, still_open old new s is.0 is.1 c was at is.2, is.3);
 }
 
@@ -116,10 +118,13 @@ loss_reads : (request : Request) (c : Client) → (after_loss request c ≡ c) �
 loss_reads (Begin s) c = gone_reads c (client_freed c) nothing_reads
 loss_reads (Commit s t keys) c = gone_reads c (client_opened c) nothing_reads
 
+answered_reads : (by : Settled) (c : Client) (commit : ℕ) → ReadsNothing (answered_client by c commit)
+answered_reads how.Placed c commit r same = committed_reads c commit r same
+answered_reads how.Invalid c commit r same = aborted_reads c r same
+answered_reads how.Faulted c commit r same = nothing_reads r same
+
 answer_reads : (by : Settled) (c : Client) (commit : ℕ) → (unless_gone c (answered_client by c commit) ≡ c) ⊎ ReadsNothing (unless_gone c (answered_client by c commit))
-answer_reads how.Placed c commit = gone_reads c (client_committed c commit) (committed_reads c commit)
-answer_reads how.Invalid c commit = gone_reads c (client_aborted c) (aborted_reads c)
-answer_reads how.Faulted c commit = gone_reads c (client_opened c) nothing_reads
+answer_reads by c commit = gone_reads c (answered_client by c commit) (answered_reads by c commit)
 
 -- ---- a crash
 lost_reads : (old c : Client) (r : Reading) (requests : List (Option Held)) (s : ℕ) → (c ≡ old) ⊎ ((held : Held) × (slice_index_or requests s None ≡ Some held) × (c ≡ after_loss held.request old)) → c.under_way ≡ Reads r → c ≡ old
@@ -149,6 +154,12 @@ reading_answered_begin w k = fewer_reading_set w.clients k.session k.c _ k.clien
 
 pub reading_answered_commit : (w : State) (k : AnsweredCommit w) → FewerReading w.clients (answered_commit_state w k).clients
 reading_answered_commit w k = fewer_reading_set w.clients k.session k.c _ k.client_at (answer_reads k.by k.c k.commit)
+
+pub reading_own_placed : (w : State) (k : OwnPlaced w) → FewerReading w.clients (own_placed_state w k).clients
+reading_own_placed w k = fewer_reading_set w.clients k.it.session k.it.c _ k.it.client_at (inr (answered_reads k.by k.it.c k.it.commit))
+
+pub reading_own_not_placed : (w : State) (k : OwnNotPlaced w) → FewerReading w.clients (own_not_placed_state w k).clients
+reading_own_not_placed w k = fewer_reading_set w.clients k.it.session k.it.c _ k.it.client_at (inr (answered_reads k.by k.it.c k.it.commit))
 
 pub reading_read_only : (w : State) (k : EndedReadOnly w) → FewerReading w.clients (read_only_state w k).clients
 reading_read_only w k = fewer_reading_set w.clients k.it.session k.it.c _ k.it.client_at (inr nothing_reads)

@@ -22,7 +22,7 @@ use Rattle.isolation_laws.proofs.Lookups.{client_set}
 use Rattle.isolation_laws.proofs.Outcome.OutcomesOfRequests.{Crashed, crashed_state}
 use Rattle.isolation_laws.proofs.Outcome.OutcomesOfStamps.{answered_client}
 use Rattle.isolation_laws.proofs.Outcome.OutcomesOfWork.{read_turn, read_client, CompletedOne}
-use Rattle.isolation_laws.proofs.Outcome.Outcomes.{Outcome, OfCrashed, OfAskedBegin, OfAskedCommit, OfEnded, OfAnsweredBegin, OfAnsweredCommit, OfEndedReadOnly, OfWrote, OfWriteFailed, OfAborted, OfVanished, OfHealed, OfFetched, OfReadDropped, OfReadStepped, OfOutcome, OfOutcomeFailed, OfCompleted, left_by}
+use Rattle.isolation_laws.proofs.Outcome.Outcomes.{Outcome, OfCrashed, OfAskedBegin, OfAskedCommit, OfEnded, OfAnsweredBegin, OfAnsweredCommit, OfOwnPlaced, OfOwnNotPlaced, OfEndedReadOnly, OfWrote, OfWriteFailed, OfAborted, OfVanished, OfHealed, OfFetched, OfReadDropped, OfReadStepped, OfOutcome, OfOutcomeFailed, OfCompleted, left_by}
 use Rattle.isolation_laws.proofs.Requests.ClientsOpen.{gone_cases}
 use Rattle.isolation_laws.proofs.Requests.OpenAfter.{crashed_at}
 
@@ -69,10 +69,13 @@ module _ {X : Type 0} (part : List ℕ → Cache → X) where
   loss_keeps (Begin s) c = gone_keeps c (client_freed c) refl
   loss_keeps (Commit s t keys) c = gone_keeps c (client_opened c) refl
 
+  answered_keeps : (by : Settled) (c : Client) (commit : ℕ) → SamePart (answered_client by c commit) c
+  answered_keeps how.Placed c commit = refl
+  answered_keeps how.Invalid c commit = refl
+  answered_keeps how.Faulted c commit = refl
+
   answer_keeps : (by : Settled) (c : Client) (commit : ℕ) → SamePart (unless_gone c (answered_client by c commit)) c
-  answer_keeps how.Placed c commit = gone_keeps c (client_committed c commit) refl
-  answer_keeps how.Invalid c commit = gone_keeps c (client_aborted c) refl
-  answer_keeps how.Faulted c commit = gone_keeps c (client_opened c) refl
+  answer_keeps by c commit = gone_keeps c (answered_client by c commit) (answered_keeps by c commit)
 
   settled_keeps : (c : Client) (x : Settling) (turn : SettleTurn) → SamePart (client_settled c x turn) c
   settled_keeps c x (Goes point) = refl
@@ -111,6 +114,8 @@ module _ {X : Type 0} (part : List ℕ → Cache → X) where
   parts_keep w (OfEnded k) is = same_set w.clients k.session k.c _ k.client_at (refusal_keeps k.held.request k.c)
   parts_keep w (OfAnsweredBegin k) is = absurd (cc)
   parts_keep w (OfAnsweredCommit k) is = same_set w.clients k.session k.c _ k.client_at (answer_keeps k.by k.c k.commit)
+  parts_keep w (OfOwnPlaced k) is = same_set w.clients k.it.session k.it.c _ k.it.client_at (answered_keeps k.by k.it.c k.it.commit)
+  parts_keep w (OfOwnNotPlaced k) is = same_set w.clients k.it.session k.it.c _ k.it.client_at (answered_keeps k.by k.it.c k.it.commit)
   parts_keep w (OfEndedReadOnly k) is = same_set w.clients k.it.session k.it.c _ k.it.client_at refl
   parts_keep w (OfWrote k) is = same_set w.clients k.it.session k.it.c _ k.it.client_at refl
   parts_keep w (OfWriteFailed k) is = same_set w.clients k.it.session k.it.c _ k.it.client_at refl

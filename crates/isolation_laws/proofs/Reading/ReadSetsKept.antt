@@ -18,14 +18,14 @@ use Rattle.machine.specs.Events.Fetch.{marks_every, keeps_read, reads_after}
 use Rattle.isolation_laws.specs.ReadSets.{AreReadSets}
 use Rattle.isolation_laws.specs.Holds.{Holds}
 use Rattle.isolation_laws.proofs.Outcome.OutcomesOfWork.{Fetched, fetched_turn, fetched_client, fetched_state, fetched_items, ReadStepped, read_turn, read_client, read_stepped_state, read_stepped_items}
-use Rattle.isolation_laws.proofs.Outcome.Outcomes.{Outcome, OfGranted, OfRenewed, OfExtended, OfAskedBegin, OfAskedCommit, OfAccepted, OfDrew, OfPlaced, OfAnsweredBegin, OfWrote, OfFetched, OfReadStepped, OfSweepListed, left_by, told_by_outcome}
-use Rattle.isolation_laws.proofs.Requests.ClientsOpen.{same_open}
-use Rattle.isolation_laws.proofs.Requests.OpenAfter.{fewer_open_wrote}
+use Rattle.isolation_laws.proofs.Outcome.Outcomes.{Outcome, OfGranted, OfRenewed, OfExtended, OfAskedBegin, OfAskedCommit, OfAccepted, OfDrew, OfPlaced, OfOwnPlaced, OfAnsweredBegin, OfWrote, OfFetched, OfReadStepped, OfSweepListed, left_by, told_by_outcome}
+use Rattle.isolation_laws.proofs.Requests.ClientsOpen.{same_at_work}
+use Rattle.isolation_laws.proofs.Requests.OpenAfter.{at_work_own_placed, at_work_wrote}
 use Rattle.isolation_laws.proofs.Requests.RequestsAfter.{FewerHeld}
 use Rattle.isolation_laws.proofs.Requests.Standing.{held_same, held_granted, held_renewed, held_extended, held_accepted, held_drew, held_settled}
 use Rattle.isolation_laws.proofs.Requests.WrittenKeys.{has_key_in, key_was_written}
 use Rattle.isolation_laws.proofs.Memory.RecordedCommits.{added_there, added_keeps}
-use Rattle.isolation_laws.proofs.Reading.ClientsReading.{same_reading, reading_wrote}
+use Rattle.isolation_laws.proofs.Reading.ClientsReading.{same_reading, reading_own_placed, reading_wrote}
 use Rattle.isolation_laws.proofs.Reading.ReadsStay.{NoReads, quiet_no_reads, then_no_reads, one_no_reads, draw_no_reads}
 use Rattle.isolation_laws.proofs.Reading.ReadsOfReads.{fetched_open, stepped_open}
 use Rattle.isolation_laws.proofs.Reading.KeptReads.{SameReads, same_reads, reads_keep}
@@ -82,7 +82,7 @@ sets_stepped w h k holds =
 
 -- ---- the clients stay
 by_nodes : (w : State) (h items : List Item) (nodes : List (Option InstanceEntry)) → NoReads items → FewerHeld w.nodes nodes → Holds w h → AreReadSets w.setup w.clients nodes (h ++ items)
-by_nodes w h items nodes none held holds = read_sets_stay w h items w.clients nodes (same_reads w.clients) (same_open w.clients) (same_reading w.clients) (fewer_commits w.nodes nodes held) (none_more h items none) holds
+by_nodes w h items nodes none held holds = read_sets_stay w h items w.clients nodes (same_reads w.clients) (same_at_work w.clients).opened (same_reading w.clients) (fewer_commits w.nodes nodes held) (none_more h items none) holds
 
 by_frame : (w : State) (h : List Item) (left : State) (items : List Item) → Frame w h left items → SameReads w.clients left.clients → Holds w h → AreReadSets w.setup left.clients left.nodes (h ++ items)
 by_frame w h left items f same holds = read_sets_stay w h items left.clients left.nodes same f.clients.opened f.clients.reading (fewer_commits w.nodes left.nodes f.nodes.held) (none_more h items (quiet_no_reads items f.quiet)) holds
@@ -97,8 +97,10 @@ read_sets_kept w h (OfAskedCommit k) holds = sets_asked_commit w h k holds
 read_sets_kept w h (OfAccepted k) holds = by_nodes w h k.items _ (quiet_no_reads k.items k.quiet) (held_accepted w k) holds
 read_sets_kept w h (OfDrew k) holds = by_nodes w h _ _ (draw_no_reads k.node k.i.term k.held.request (k.i.last + 1)) (held_drew w k) holds
 read_sets_kept w h (OfPlaced k) holds = by_nodes w h _ _ (then_no_reads (Placed k.it.start k.it.commit) k.items (λ s b key answer is. cc) (quiet_no_reads k.items k.quiet)) (held_settled w k.it k.by) holds
+read_sets_kept w h (OfOwnPlaced k) holds = read_sets_stay w h _ _ w.nodes (reads_keep w (OfOwnPlaced k) refl) (at_work_own_placed w k).opened (reading_own_placed w k) (fewer_commits w.nodes w.nodes (held_same w.nodes))
+    (none_more h _ (then_no_reads (Placed k.it.start k.it.commit) k.items (λ s b key answer is. cc) (quiet_no_reads k.items k.quiet))) holds
 read_sets_kept w h (OfAnsweredBegin k) holds = sets_answered_begin w h k holds
-read_sets_kept w h (OfWrote k) holds = read_sets_stay w h _ _ w.nodes (reads_keep w (OfWrote k) refl) (fewer_open_wrote w k) (reading_wrote w k) (fewer_commits w.nodes w.nodes (held_same w.nodes))
+read_sets_kept w h (OfWrote k) holds = read_sets_stay w h _ _ w.nodes (reads_keep w (OfWrote k) refl) (at_work_wrote w k).opened (reading_wrote w k) (fewer_commits w.nodes w.nodes (held_same w.nodes))
     (none_more h _ (one_no_reads (Write k.it.session k.start k.key k.value) (λ s b key answer is. cc))) holds
 read_sets_kept w h (OfFetched k) holds = sets_fetched w h k holds
 read_sets_kept w h (OfReadStepped k) holds = sets_stepped w h k holds

@@ -42,8 +42,8 @@ use Rattle.isolation_laws.proofs.Reading.ReadSetsStay.{key_kept}
 -- ---- a commit that was asked for, however far it has come, is of its session's transaction
 pending_as : (w : State) (h : List Item) (n s t : ℕ) (keys : List ℕ) (p : Progress) (i : InstanceEntry) (stage : Stage) → Holds w h → InstanceAt w.nodes n i → HeldBy i s (Commit s t keys) p → stage_of i.last p ≡ Some stage → Begun h s t
 pending_as w h n s t keys p i stage holds at held is =
-    holds.requests.pending.begun (record { session = s; node = n; term = i.term; start = t; keys = keys; stage = stage })
-    (record { instance_of = i; progress_of = p; at = at; held = held; term_is = refl; stage_is = is })
+    holds.requests.pending.begun (record { session = s; start = t; keys = keys; stage = stage })
+    (inl (record { node = n; instance_of = i; progress_of = p; at = at; held = held; stage_is = is }))
 
 commit_begun : (w : State) (h : List Item) (n s t : ℕ) (keys : List ℕ) (p : Progress) (i : InstanceEntry) → Holds w h → InstanceAt w.nodes n i → HeldBy i s (Commit s t keys) p → Begun h s t
 commit_begun w h n s t keys progress.Asked i holds at held = pending_as w h n s t keys progress.Asked i Waits holds at held refl

@@ -2,6 +2,7 @@
 -- came before. Then reads under way see all that they saw, and past reads stay right.
 use Rattle.std.proofs.Common.{◌≡◌, ℕ, ◌<◌, ◌≤◌, Bool, true, false, List, ◌∷◌, Option, Some, None, ◌⊎◌, inl, inr, refl, sym, ◌∙◌, arith}
 use Rattle.std.specs.Bool.{IsTrue}
+use Rattle.stamp_base.specs.SetupNumbers.{SetupNumbers}
 use Rattle.history_book.specs.Members.{◌∈◌, AtEach}
 use Rattle.history_book.specs.Isolation.{Committed, Wrote, last_write, Candidate, Newest, Visible, RightAnswer, RightRead}
 use Rattle.history_book.specs.declared.item.Found.{Found}
@@ -16,10 +17,11 @@ use Rattle.client_parts.specs.declared.resolve.SettlePoint.TheVariants.{FirstLoo
 use Rattle.client_parts.specs.KeyRead.{Reading, may_mark}
 use Rattle.oracle_parts.specs.Instance.{InstanceEntry}
 use Rattle.machine.specs.State.{Reads, Client, State}
+use Rattle.machine.specs.Events.Fetch.{marks_every}
 use Rattle.isolation_laws.specs.Words.{ClientAt, OpenAt, Begun, DrewCommit, Marked}
 use Rattle.isolation_laws.specs.Pending.{ComesBelow, IsPending}
 use Rattle.isolation_laws.specs.UnderWay.{HasShadow}
-use Rattle.isolation_laws.specs.Reads.{IsCovered, SeesAll, IsResolvedTo, IsReading, AreReading, Outlasts}
+use Rattle.isolation_laws.specs.Reads.{IsCovered, SeesAll, IsResolvedTo, IsReading, Outlasts}
 use Rattle.isolation_laws.specs.Holds.{Holds}
 use Rattle.isolation_laws.proofs.ComingBelow.{coming_is_markable}
 use Rattle.isolation_laws.proofs.Requests.CommitsInFlight.{GoesOn}
@@ -28,7 +30,7 @@ use Rattle.isolation_laws.proofs.Stores.Calm.{listed_goes_on}
 
 -- a commit that is placed now came below the start, and no mark stood against it
 pub record WasComing (w : State) (h : List Item) (b u d : ℕ) : Type 0 where
-  pub comes : ComesBelow w.nodes b u
+  pub comes : ComesBelow w.clients w.nodes b u
   pub unmarked : Marked w.pairs u → ⊥
   pub drew : (s : ℕ) × (n : ℕ) × (term : ℕ) × DrewCommit h s n term u d
 
@@ -44,18 +46,18 @@ pub record IsReader (clients : List Client) (b : ℕ) : Type 0 where
 
 -- the transaction has nothing more to write
 abbrev pub IsWritten : State → List Item → ℕ → Type 0
-IsWritten w h u = ((c : ℕ) × Committed h u c) ⊎ (IsPending w.nodes u ⊎ IsReader w.clients u)
+IsWritten w h u = ((c : ℕ) × Committed h u c) ⊎ (IsPending w.clients w.nodes u ⊎ IsReader w.clients u)
 
-pub record RelyOn (w : State) (h : List Item) (nodes : List (Option InstanceEntry)) (rows : List Row) (pairs : Pairs) (g : List Item) : Type 0 where
+pub record RelyOn (w : State) (h : List Item) (clients : List Client) (nodes : List (Option InstanceEntry)) (rows : List Row) (pairs : Pairs) (g : List Item) : Type 0 where
   pub on : GoesOn h g
   pub placed : (b u d : ℕ) → Committed g u d → d < b → Committed h u d ⊎ WasComing w h b u d
-  pub comes : (r b u : ℕ) → Begun h r b → ComesBelow nodes b u → ComesBelow w.nodes b u
+  pub comes : (r b u : ℕ) → Begun h r b → ComesBelow clients nodes b u → ComesBelow w.clients w.nodes b u
   pub marks : (u : ℕ) → Marked w.pairs u → Marked pairs u
   pub writes : (u k : ℕ) → IsWritten w h u → last_write g u k ≡ last_write h u k
   pub shadows : (k t c : ℕ) → Committed h t c → HasShadow w.rows k t c → HasShadow rows k t c
 
 -- ---- what comes is written
-pub written_coming : (w : State) (h : List Item) (b u : ℕ) → ComesBelow w.nodes b u → IsWritten w h u
+pub written_coming : (w : State) (h : List Item) (b u : ℕ) → ComesBelow w.clients w.nodes b u → IsWritten w h u
 written_coming w h b u c = inr (inl (record { coming = c.coming; pending = c.pending; start_is = c.start_is }))
 
 written_placed : (w : State) (h : List Item) (u c : ℕ) → Committed h u c → IsWritten w h u
@@ -66,12 +68,12 @@ was_written w h b u d (inl old) = written_placed w h u d old
 was_written w h b u d (inr new) = written_coming w h b u new.comes
 
 -- ---- what a read sees
-covered_by : (w : State) (h : List Item) (b k u d : ℕ) (value : List ℕ) (cells : List Cell) → SeesAll w.nodes w.pairs h b k cells → d < b → Wrote h u k value → Committed h u d ⊎ WasComing w h b u d → IsCovered b u cells
+covered_by : (w : State) (h : List Item) (b k u d : ℕ) (value : List ℕ) (cells : List Cell) → SeesAll w.clients w.nodes w.pairs h b k cells → d < b → Wrote h u k value → Committed h u d ⊎ WasComing w h b u d → IsCovered b u cells
 covered_by w h b k u d value cells sees less wrote (inl old) = sees.found u d value old less wrote
 covered_by w h b k u d value cells sees less wrote (inr new) = sees.coming u value new.comes new.unmarked wrote
 
-pub sees_on : (w : State) (h : List Item) (nodes : List (Option InstanceEntry)) (rows : List Row) (pairs : Pairs) (g : List Item) (r b k : ℕ) (cells : List Cell) → RelyOn w h nodes rows pairs g → Begun h r b → SeesAll w.nodes w.pairs h b k cells → SeesAll nodes pairs g b k cells
-sees_on w h nodes rows pairs g r b k cells rely begun sees = record {
+pub sees_on : (w : State) (h : List Item) (clients : List Client) (nodes : List (Option InstanceEntry)) (rows : List Row) (pairs : Pairs) (g : List Item) (r b k : ℕ) (cells : List Cell) → RelyOn w h clients nodes rows pairs g → Begun h r b → SeesAll w.clients w.nodes w.pairs h b k cells → SeesAll clients nodes pairs g b k cells
+sees_on w h clients nodes rows pairs g r b k cells rely begun sees = record {
   falling = sees.falling;
   below = sees.below;
   shadows = λ i x lt commit is. rely.on (Placed _ commit) (sees.shadows i x lt commit is);
@@ -83,7 +85,7 @@ sees_on w h nodes rows pairs g r b k cells rely begun sees = record {
     | inr new ↦ rely.writes _ k (written_coming w h b _ new.comes) ∙ sees.coming_values i x lt new.comes new.unmarked
   ];
   coming = λ u value comes unmarked wrote.
-      let was : ComesBelow w.nodes b u = rely.comes r b u begun comes in
+      let was : ComesBelow w.clients w.nodes b u = rely.comes r b u begun comes in
       sees.coming u value was (λ m. unmarked (rely.marks u m)) (sym (rely.writes u k (written_coming w h b u was)) ∙ wrote);
   coming_values = λ i x lt comes unmarked.
       let was = rely.comes r b _ begun comes in
@@ -91,47 +93,49 @@ sees_on w h nodes rows pairs g r b k cells rely begun sees = record {
 }
 
 -- what comes below the start of an open transaction may be marked by it
-pub markable : (w : State) (h : List Item) (every : Bool) (s b e u : ℕ) → Holds w h → OpenAt w.clients s b e → ComesBelow w.nodes b u → IsTrue (may_mark every u e)
-markable w h every s b e u holds o c = coming_is_markable every w.nodes w.clients w.master h s b e u holds.numbers.ranges holds.numbers.drawn holds.numbers.new holds.requests.accepted holds.requests.pending holds.begins.below o c
+pub markable : (w : State) (h : List Item) (every : Bool) (s b e u : ℕ) → every ≡ marks_every w.setup → Holds w h → OpenAt w.clients s b e → ComesBelow w.clients w.nodes b u → IsTrue (may_mark every u e)
+markable w h every s b e u every_is holds o c = coming_is_markable w.setup every w.nodes w.clients w.master h s b e u every_is holds.requests.form holds.numbers.ranges holds.numbers.drawn holds.numbers.new holds.requests.accepted holds.requests.pending holds.begins.below o c
 
 -- so at a last look, what still comes was marked
-pub marked_before : (w : State) (h : List Item) (every : Bool) (s b e t : ℕ) (met : Bool) → Holds w h → OpenAt w.clients s b e → (met ≡ true → Marked w.pairs t) → (met ≡ false → IsTrue (may_mark every t e) → ⊥) → ComesBelow w.nodes b t → Marked w.pairs t
-marked_before w h every s b e t true holds o marked none comes = marked refl
-marked_before w h every s b e t false holds o marked none comes = absurd (none refl (markable w h every s b e t holds o comes))
+pub marked_before : (w : State) (h : List Item) (every : Bool) (s b e t : ℕ) (met : Bool) → every ≡ marks_every w.setup → Holds w h → OpenAt w.clients s b e → (met ≡ true → Marked w.pairs t) → (met ≡ false → IsTrue (may_mark every t e) → ⊥) → ComesBelow w.clients w.nodes b t → Marked w.pairs t
+marked_before w h every s b e t true every_is holds o marked none comes = marked refl
+marked_before w h every s b e t false every_is holds o marked none comes = absurd (none refl (markable w h every s b e t every_is holds o comes))
 
-resolved_on : (w : State) (h : List Item) (nodes : List (Option InstanceEntry)) (rows : List Row) (pairs : Pairs) (g : List Item) (s k b : ℕ) (every : Bool) (e t : ℕ) (point : SettlePoint) → RelyOn w h nodes rows pairs g → Holds w h → OpenAt w.clients s b e → IsResolvedTo w.pairs w.rows h k b every e t point → IsResolvedTo pairs rows g k b every e t point
-resolved_on w h nodes rows pairs g s k b every e t FirstLook rely holds o is = is
-resolved_on w h nodes rows pairs g s k b every e t Table rely holds o is = tt
-resolved_on w h nodes rows pairs g s k b every e t Marking rely holds o is = is
-resolved_on w h nodes rows pairs g s k b every e t (LastLook met) rely holds o is = (
+resolved_on : (w : State) (h : List Item) (clients : List Client) (nodes : List (Option InstanceEntry)) (rows : List Row) (pairs : Pairs) (g : List Item) (s k b : ℕ) (every : Bool) (e t : ℕ) (point : SettlePoint) → every ≡ marks_every w.setup → RelyOn w h clients nodes rows pairs g → Holds w h → OpenAt w.clients s b e → IsResolvedTo w.pairs w.rows h k b every e t point → IsResolvedTo pairs rows g k b every e t point
+resolved_on w h clients nodes rows pairs g s k b every e t FirstLook every_is rely holds o is = is
+resolved_on w h clients nodes rows pairs g s k b every e t Table every_is rely holds o is = tt
+resolved_on w h clients nodes rows pairs g s k b every e t Marking every_is rely holds o is = is
+resolved_on w h clients nodes rows pairs g s k b every e t (LastLook met) every_is rely holds o is = (
   (λ was. rely.marks t (is.0 was)),
   is.1,
   (λ c placed less. elim (rely.placed b t c placed less) [
     | inl old ↦ rely.shadows k t c old (is.2 c old less)
-    | inr new ↦ absurd (new.unmarked (marked_before w h every s b e t met holds o is.0 is.1 new.comes))
+    | inr new ↦ absurd (new.unmarked (marked_before w h every s b e t met every_is holds o is.0 is.1 new.comes))
   ]),
 )
 
 pub open_now_begun : (w : State) (h : List Item) (s b e : ℕ) → Holds w h → OpenAt w.clients s b e → Begun h s b
 open_now_begun w h s b e holds o = open_begun w.clients h s b o.client holds.requests.have_begun o.at o.state_is o.start_is
 
-pub reading_on : (w : State) (h : List Item) (nodes : List (Option InstanceEntry)) (rows : List Row) (pairs : Pairs) (g : List Item) (s b e : ℕ) (r : Reading) → RelyOn w h nodes rows pairs g → ((k : ℕ) → last_write g b k ≡ last_write h b k) → Holds w h → OpenAt w.clients s b e → IsReading w.setup w.nodes w.rows w.pairs h b e r → IsReading w.setup nodes rows pairs g b e r
-reading_on w h nodes rows pairs g s b e r rely own holds o is = record {
+pub reading_on : (w : State) (h : List Item) (clients : List Client) (nodes : List (Option InstanceEntry)) (rows : List Row) (pairs : Pairs) (g : List Item) (s b e : ℕ) (r : Reading) → RelyOn w h clients nodes rows pairs g → ((k : ℕ) → last_write g b k ≡ last_write h b k) → Holds w h → OpenAt w.clients s b e → IsReading w.setup w.clients w.nodes w.rows w.pairs h b e r → IsReading w.setup clients nodes rows pairs g b e r
+reading_on w h clients nodes rows pairs g s b e r rely own holds o is = record {
   start_is = is.start_is;
   epoch_is = is.epoch_is;
   every_is = is.every_is;
   own = λ value wrote. listed_goes_on h g b rely.on (is.own value (sym (own r.key) ∙ wrote));
-  sees = sees_on w h nodes rows pairs g s b r.key (r.cell ∷ r.older) rely (open_now_begun w h s b e holds o) is.sees;
-  resolved = resolved_on w h nodes rows pairs g s r.key b r.every e r.cell.version r.point rely holds o is.resolved;
+  sees = sees_on w h clients nodes rows pairs g s b r.key (r.cell ∷ r.older) rely (open_now_begun w h s b e holds o) is.sees;
+  resolved = resolved_on w h clients nodes rows pairs g s r.key b r.every e r.cell.version r.point is.every_is rely holds o is.resolved;
 }
 
-pub reading_kept : (w : State) (h : List Item) (nodes : List (Option InstanceEntry)) (rows : List Row) (pairs : Pairs) (g : List Item) → RelyOn w h nodes rows pairs g → Holds w h → AreReading w.setup w.clients nodes rows pairs g
-reading_kept w h nodes rows pairs g rely holds = record {
-  reads = λ s c r at reads.
-      let is = holds.reads.reading.reads s c r at reads in
-      let reader : IsReader w.clients is.0 = record { session = s; epoch = is.1; client = c; reading = r; at = at; reads = reads; is_open = is.2 } in
-      (is.0, is.1, is.2, reading_on w h nodes rows pairs g s is.0 is.1 r rely (λ k. rely.writes is.0 k (inr (inr reader))) holds is.2 is.3);
-}
+-- what each of these readers has under way, against what can still arrive with those clients
+abbrev pub ReadingBy : SetupNumbers → List Client → List Client → List (Option InstanceEntry) → List Row → Pairs → List Item → Type 0
+ReadingBy setup readers clients nodes rows pairs h = (s : ℕ) (c : Client) (r : Reading) → ClientAt readers s c → c.under_way ≡ Reads r → (b : ℕ) × (e : ℕ) × OpenAt readers s b e × IsReading setup clients nodes rows pairs h b e r
+
+pub reading_kept : (w : State) (h : List Item) (clients : List Client) (nodes : List (Option InstanceEntry)) (rows : List Row) (pairs : Pairs) (g : List Item) → RelyOn w h clients nodes rows pairs g → Holds w h → ReadingBy w.setup w.clients clients nodes rows pairs g
+reading_kept w h clients nodes rows pairs g rely holds s c r at reads =
+    let is = holds.reads.reading.reads s c r at reads in
+    let reader : IsReader w.clients is.0 = record { session = s; epoch = is.1; client = c; reading = r; at = at; reads = reads; is_open = is.2 } in
+    (is.0, is.1, is.2, reading_on w h clients nodes rows pairs g s is.0 is.1 r rely (λ k. rely.writes is.0 k (inr (inr reader))) holds is.2 is.3)
 
 -- ---- past reads
 outlasts_on : (before after : Pairs) (b u : ℕ) (answer : Option Found) → (Marked before u → Marked after u) → Outlasts before b u answer → Outlasts after b u answer
@@ -140,15 +144,15 @@ outlasts_on before after b u (Some found) marks (inl own) = inl own
 outlasts_on before after b u (Some found) marks (inr (inl marked)) = inr (inl (marks marked))
 outlasts_on before after b u (Some found) marks (inr (inr above)) = inr (inr above)
 
-pub lasts_on : (w : State) (h : List Item) (nodes : List (Option InstanceEntry)) (rows : List Row) (pairs : Pairs) (g : List Item) (s b k u : ℕ) (answer : Option Found) (value : List ℕ) → RelyOn w h nodes rows pairs g → Holds w h → Read s b k answer ∈ h → ComesBelow nodes b u → Wrote g u k value → Outlasts pairs b u answer
-lasts_on w h nodes rows pairs g s b k u answer value rely holds read comes wrote =
+pub lasts_on : (w : State) (h : List Item) (clients : List Client) (nodes : List (Option InstanceEntry)) (rows : List Row) (pairs : Pairs) (g : List Item) (s b k u : ℕ) (answer : Option Found) (value : List ℕ) → RelyOn w h clients nodes rows pairs g → Holds w h → Read s b k answer ∈ h → ComesBelow clients nodes b u → Wrote g u k value → Outlasts pairs b u answer
+lasts_on w h clients nodes rows pairs g s b k u answer value rely holds read comes wrote =
     let begun = holds.numbers.begun.reads s b k answer read in
-    let was : ComesBelow w.nodes b u = rely.comes begun.0 b u begun.1 comes in
+    let was : ComesBelow w.clients w.nodes b u = rely.comes begun.0 b u begun.1 comes in
     outlasts_on w.pairs pairs b u answer (rely.marks u) (holds.reads.lasting.lasts s b k u answer value read was (sym (rely.writes u k (written_coming w h b u was)) ∙ wrote))
 
 -- a candidate was one, or is placed now
-candidate_was : (w : State) (h : List Item) (nodes : List (Option InstanceEntry)) (rows : List Row) (pairs : Pairs) (g : List Item) (b k t c : ℕ) → RelyOn w h nodes rows pairs g → Candidate g b k t c → Candidate h b k t c ⊎ (WasComing w h b t c × ((value : List ℕ) × Wrote h t k value))
-candidate_was w h nodes rows pairs g b k t c rely is = elim (rely.placed b t c is.committed is.below) [
+candidate_was : (w : State) (h : List Item) (clients : List Client) (nodes : List (Option InstanceEntry)) (rows : List Row) (pairs : Pairs) (g : List Item) (b k t c : ℕ) → RelyOn w h clients nodes rows pairs g → Candidate g b k t c → Candidate h b k t c ⊎ (WasComing w h b t c × ((value : List ℕ) × Wrote h t k value))
+candidate_was w h clients nodes rows pairs g b k t c rely is = elim (rely.placed b t c is.committed is.below) [
   | inl old ↦ inl (record { committed = old; below = is.below; wrote = (is.wrote.0, sym (rely.writes t k (written_placed w h t c old)) ∙ is.wrote.1) })
   | inr new ↦ inr (new, (is.wrote.0, sym (rely.writes t k (written_coming w h b t new.comes)) ∙ is.wrote.1))
 ]
@@ -168,31 +172,31 @@ greatest_on w h b k t c found holds was (inl own) new wrote n = absurd (omega (a
 greatest_on w h b k t c found holds was (inr (inl marked)) new wrote n = absurd (new.unmarked marked)
 greatest_on w h b k t c found holds was (inr (inr above)) new wrote n = placed_lower w h b k found.from n.commit t c found.value wrote.0 holds n.candidate.committed new n.value wrote.1 above
 
-pub visible_on : (w : State) (h : List Item) (nodes : List (Option InstanceEntry)) (rows : List Row) (pairs : Pairs) (g : List Item) (s b k : ℕ) (answer : Option Found) → RelyOn w h nodes rows pairs g → Holds w h → Read s b k answer ∈ h → Visible h b k answer → Visible g b k answer
-visible_on w h nodes rows pairs g s b k None rely holds read is = λ t c candidate. elim (candidate_was w h nodes rows pairs g b k t c rely candidate) [
+pub visible_on : (w : State) (h : List Item) (clients : List Client) (nodes : List (Option InstanceEntry)) (rows : List Row) (pairs : Pairs) (g : List Item) (s b k : ℕ) (answer : Option Found) → RelyOn w h clients nodes rows pairs g → Holds w h → Read s b k answer ∈ h → Visible h b k answer → Visible g b k answer
+visible_on w h clients nodes rows pairs g s b k None rely holds read is = λ t c candidate. elim (candidate_was w h clients nodes rows pairs g b k t c rely candidate) [
   | inl old ↦ is t c old
   | inr (new, (value, wrote)) ↦ new.unmarked (holds.reads.lasting.lasts s b k t None value read new.comes wrote)
 ]
-visible_on w h nodes rows pairs g s b k (Some found) rely holds read is =
+visible_on w h clients nodes rows pairs g s b k (Some found) rely holds read is =
     let same : last_write g found.from k ≡ last_write h found.from k = rely.writes found.from k (written_placed w h found.from is.commit is.candidate.committed) in
     record {
       commit = is.commit;
       candidate = record { committed = rely.on (Placed found.from is.commit) is.candidate.committed; below = is.candidate.below; wrote = (is.candidate.wrote.0, same ∙ is.candidate.wrote.1) };
       value = same ∙ is.value;
-      greatest = λ t c candidate. elim (candidate_was w h nodes rows pairs g b k t c rely candidate) [
+      greatest = λ t c candidate. elim (candidate_was w h clients nodes rows pairs g b k t c rely candidate) [
         | inl old ↦ is.greatest t c old
         | inr (new, (value, wrote)) ↦ greatest_on w h b k t c found holds is (holds.reads.lasting.lasts s b k t (Some found) value read new.comes wrote) new (value, wrote) is
       ];
     }
 
-right_answer_on : (w : State) (h : List Item) (nodes : List (Option InstanceEntry)) (rows : List Row) (pairs : Pairs) (g before : List Item) (s b k : ℕ) (answer : Option Found) (own : Option (List ℕ)) → RelyOn w h nodes rows pairs g → Holds w h → Read s b k answer ∈ h → RightAnswer h before b k answer own → RightAnswer g before b k answer own
-right_answer_on w h nodes rows pairs g before s b k answer None rely holds read is = visible_on w h nodes rows pairs g s b k answer rely holds read is
-right_answer_on w h nodes rows pairs g before s b k answer (Some own) rely holds read (inl mine) = inl mine
-right_answer_on w h nodes rows pairs g before s b k answer (Some own) rely holds read (inr (listed, seen)) = inr (listed, visible_on w h nodes rows pairs g s b k answer rely holds read seen)
+right_answer_on : (w : State) (h : List Item) (clients : List Client) (nodes : List (Option InstanceEntry)) (rows : List Row) (pairs : Pairs) (g before : List Item) (s b k : ℕ) (answer : Option Found) (own : Option (List ℕ)) → RelyOn w h clients nodes rows pairs g → Holds w h → Read s b k answer ∈ h → RightAnswer h before b k answer own → RightAnswer g before b k answer own
+right_answer_on w h clients nodes rows pairs g before s b k answer None rely holds read is = visible_on w h clients nodes rows pairs g s b k answer rely holds read is
+right_answer_on w h clients nodes rows pairs g before s b k answer (Some own) rely holds read (inl mine) = inl mine
+right_answer_on w h clients nodes rows pairs g before s b k answer (Some own) rely holds read (inr (listed, seen)) = inr (listed, visible_on w h clients nodes rows pairs g s b k answer rely holds read seen)
 
-right_on : (w : State) (h : List Item) (nodes : List (Option InstanceEntry)) (rows : List Row) (pairs : Pairs) (g before : List Item) (x : Item) → RelyOn w h nodes rows pairs g → Holds w h → x ∈ h → RightRead h before x → RightRead g before x
-right_on w h nodes rows pairs g before (Read s b k answer) rely holds read is = right_answer_on w h nodes rows pairs g before s b k answer (last_write before b k) rely holds read is
-right_on w h nodes rows pairs g before _ rely holds read is = is
+right_on : (w : State) (h : List Item) (clients : List Client) (nodes : List (Option InstanceEntry)) (rows : List Row) (pairs : Pairs) (g before : List Item) (x : Item) → RelyOn w h clients nodes rows pairs g → Holds w h → x ∈ h → RightRead h before x → RightRead g before x
+right_on w h clients nodes rows pairs g before (Read s b k answer) rely holds read is = right_answer_on w h clients nodes rows pairs g before s b k answer (last_write before b k) rely holds read is
+right_on w h clients nodes rows pairs g before _ rely holds read is = is
 
-pub right_kept : (w : State) (h : List Item) (nodes : List (Option InstanceEntry)) (rows : List Row) (pairs : Pairs) (g : List Item) → RelyOn w h nodes rows pairs g → Holds w h → AtEach (RightRead g) h
-right_kept w h nodes rows pairs g rely holds = AtEach-weaker (RightRead h) (RightRead g) h holds.isolated.reads (λ before x m is. right_on w h nodes rows pairs g before x rely holds m is)
+pub right_kept : (w : State) (h : List Item) (clients : List Client) (nodes : List (Option InstanceEntry)) (rows : List Row) (pairs : Pairs) (g : List Item) → RelyOn w h clients nodes rows pairs g → Holds w h → AtEach (RightRead g) h
+right_kept w h clients nodes rows pairs g rely holds = AtEach-weaker (RightRead h) (RightRead g) h holds.isolated.reads (λ before x m is. right_on w h clients nodes rows pairs g before x rely holds m is)

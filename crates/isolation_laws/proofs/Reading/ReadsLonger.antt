@@ -18,7 +18,7 @@ use Rattle.isolation_laws.specs.Words.{ClientAt, epoch_or_none, OpenAt, Begun}
 use Rattle.isolation_laws.specs.Reads.{SeesAll, IsResolvedTo, IsReading, AreReading}
 use Rattle.isolation_laws.proofs.Lookups.{set_found, set_other, client_set, one_client}
 use Rattle.isolation_laws.proofs.Requests.CommitsInFlight.{GoesOn}
-use Rattle.isolation_laws.proofs.Reading.ReadersRely.{RelyOn}
+use Rattle.isolation_laws.proofs.Reading.ReadersRely.{RelyOn, ReadingBy}
 use Rattle.isolation_laws.proofs.Stores.Calm.{Calm, listed_goes_on}
 use Rattle.isolation_laws.specs.Pending.{ComesBelow}
 use Rattle.isolation_laws.proofs.Stores.StoresStay.{MarksStay, ShadowsStay}
@@ -43,15 +43,15 @@ right_longer h g before b k answer None un on is = visible_longer h g b k answer
 right_longer h g before b k answer (Some own) un on (inl mine) = inl mine
 right_longer h g before b k answer (Some own) un on (inr (listed, visible)) = inr (listed_goes_on h before b on listed, visible_longer h g b k answer un visible)
 
-sees_longer : (nodes : List (Option InstanceEntry)) (pairs : Pairs) (h g : List Item) (b k : ℕ) (cells : List Cell) → Calm h g → SeesAll nodes pairs h b k cells → SeesAll nodes pairs g b k cells
-sees_longer nodes pairs h g b k cells un sees = record {
+sees_longer : (clients new : List Client) (nodes : List (Option InstanceEntry)) (pairs : Pairs) (h g : List Item) (b k : ℕ) (cells : List Cell) → ((u : ℕ) → ComesBelow new nodes b u → ComesBelow clients nodes b u) → Calm h g → SeesAll clients nodes pairs h b k cells → SeesAll new nodes pairs g b k cells
+sees_longer clients new nodes pairs h g b k cells comes un sees = record {
   falling = sees.falling;
   below = sees.below;
   shadows = λ i x lt commit is. un.on (Placed _ commit) (sees.shadows i x lt commit is);
   found = λ u d value placed less wrote. sees.found u d value (un.placed u d placed) less (sym (un.writes u k) ∙ wrote);
   values = λ i x lt d placed less. un.writes _ k ∙ sees.values i x lt d (un.placed _ d placed) less;
-  coming = λ u value comes unmarked wrote. sees.coming u value comes unmarked (sym (un.writes u k) ∙ wrote);
-  coming_values = λ i x lt comes unmarked. un.writes _ k ∙ sees.coming_values i x lt comes unmarked;
+  coming = λ u value now unmarked wrote. sees.coming u value (comes u now) unmarked (sym (un.writes u k) ∙ wrote);
+  coming_values = λ i x lt now unmarked. un.writes _ k ∙ sees.coming_values i x lt (comes _ now) unmarked;
 }
 
 resolved_longer : (pairs : Pairs) (rows : List Row) (h g : List Item) (k b : ℕ) (every : Bool) (e t : ℕ) (point : SettlePoint) → Calm h g → IsResolvedTo pairs rows h k b every e t point → IsResolvedTo pairs rows g k b every e t point
@@ -60,19 +60,19 @@ resolved_longer pairs rows h g k b every e t Table un is = tt
 resolved_longer pairs rows h g k b every e t Marking un is = is
 resolved_longer pairs rows h g k b every e t (LastLook met) un is = (is.0, is.1, λ c placed less. is.2 c (un.placed t c placed) less)
 
-pub reading_longer : (setup : SetupNumbers) (nodes : List (Option InstanceEntry)) (rows : List Row) (pairs : Pairs) (h g : List Item) (b e : ℕ) (r : Reading) → Calm h g → IsReading setup nodes rows pairs h b e r → IsReading setup nodes rows pairs g b e r
-reading_longer setup nodes rows pairs h g b e r un is = record {
+pub reading_longer : (setup : SetupNumbers) (clients new : List Client) (nodes : List (Option InstanceEntry)) (rows : List Row) (pairs : Pairs) (h g : List Item) (b e : ℕ) (r : Reading) → ((u : ℕ) → ComesBelow new nodes b u → ComesBelow clients nodes b u) → Calm h g → IsReading setup clients nodes rows pairs h b e r → IsReading setup new nodes rows pairs g b e r
+reading_longer setup clients new nodes rows pairs h g b e r comes un is = record {
   start_is = is.start_is;
   epoch_is = is.epoch_is;
   every_is = is.every_is;
   own = λ value wrote. listed_goes_on h g b un.on (is.own value (sym (un.writes b r.key) ∙ wrote));
-  sees = sees_longer nodes pairs h g b r.key (r.cell ∷ r.older) un is.sees;
+  sees = sees_longer clients new nodes pairs h g b r.key (r.cell ∷ r.older) comes un is.sees;
   resolved = resolved_longer pairs rows h g r.key b r.every e r.cell.version r.point un is.resolved;
 }
 
 -- ---- what readers rely on
-pub rely_calm : (w : State) (h g : List Item) (nodes : List (Option InstanceEntry)) (rows : List Row) (pairs : Pairs) → Calm h g → ((r b u : ℕ) → Begun h r b → ComesBelow nodes b u → ComesBelow w.nodes b u) → ShadowsStay h w.rows rows → MarksStay w.pairs pairs → RelyOn w h nodes rows pairs g
-rely_calm w h g nodes rows pairs un comes shadows marks = record {
+pub rely_calm : (w : State) (h g : List Item) (clients : List Client) (nodes : List (Option InstanceEntry)) (rows : List Row) (pairs : Pairs) → Calm h g → ((r b u : ℕ) → Begun h r b → ComesBelow clients nodes b u → ComesBelow w.clients w.nodes b u) → ShadowsStay h w.rows rows → MarksStay w.pairs pairs → RelyOn w h clients nodes rows pairs g
+rely_calm w h g clients nodes rows pairs un comes shadows marks = record {
   on = un.on;
   placed = λ b u d placed less. inl (un.placed u d placed);
   comes = comes;
@@ -97,15 +97,15 @@ other_open : (clients : List Client) (s r b e : ℕ) (c : Client) → r ≢ s �
 other_open clients s r b e c other o = record { client = o.client; at = set_other clients s r c other ∙ o.at; state_is = o.state_is; start_is = o.start_is; epoch_is = o.epoch_is }
 
 -- what the client reads now
-abbrev pub ReadsNow : SetupNumbers → List (Option InstanceEntry) → List Row → Pairs → List Item → ℕ → ℕ → Client → Type 0
-ReadsNow setup nodes rows pairs g b e c = (r : Reading) → c.under_way ≡ Reads r → IsReading setup nodes rows pairs g b e r
+abbrev pub ReadsNow : SetupNumbers → List Client → List (Option InstanceEntry) → List Row → Pairs → List Item → ℕ → ℕ → Client → Type 0
+ReadsNow setup clients nodes rows pairs g b e c = (r : Reading) → c.under_way ≡ Reads r → IsReading setup clients nodes rows pairs g b e r
 
-pub reading_set : (setup : SetupNumbers) (clients : List Client) (nodes : List (Option InstanceEntry)) (rows : List Row) (pairs : Pairs) (g : List Item) (s b e : ℕ) (old c : Client) → ClientAt clients s old → c.entry ≡ old.entry → OpenAt clients s b e → ReadsNow setup nodes rows pairs g b e c → AreReading setup clients nodes rows pairs g → AreReading setup (slice_set clients s c) nodes rows pairs g
+pub reading_set : (setup : SetupNumbers) (clients : List Client) (nodes : List (Option InstanceEntry)) (rows : List Row) (pairs : Pairs) (g : List Item) (s b e : ℕ) (old c : Client) → ClientAt clients s old → c.entry ≡ old.entry → OpenAt clients s b e → ReadsNow setup (slice_set clients s c) nodes rows pairs g b e c → ReadingBy setup clients (slice_set clients s c) nodes rows pairs g → AreReading setup (slice_set clients s c) nodes rows pairs g
 reading_set setup clients nodes rows pairs g s b e old c at same o now reading = record {
   reads = λ q d r there reads. elim (client_set clients s q c d there) [
     | inl here ↦ (b, e, subst (λ p. OpenAt (slice_set clients s c) p b e) (sym here.0) (same_open clients s b e old c at same o), now r (sym (ap (λ (x : Client). x.under_way) here.1) ∙ reads))
     | inr other ↦
-        let was = reading.reads q d r other.1 reads in
+        let was = reading q d r other.1 reads in
         (was.0, was.1, other_open clients s q was.0 was.1 c other.0 was.2, was.3)
   ];
 }

@@ -30,12 +30,14 @@ use Rattle.isolation_laws.specs.Known.{IsTrueCache}
 use Rattle.isolation_laws.specs.Holds.{Holds}
 use Rattle.isolation_laws.proofs.Outcome.OutcomesOfWork.{Fetched, fetched_recall, fetched_turn, fetched_client, fetched_state, fetched_items, ReadStepped, read_recall, read_turn, read_client, read_stepped_state, read_stepped_items}
 use Rattle.isolation_laws.proofs.Pushed.{not_true, in_append, one_quiet}
-use Rattle.isolation_laws.proofs.Requests.ClientsOpen.{read_keeps_entry}
+use Rattle.isolation_laws.proofs.Requests.ClientsOpen.{fewer_set, read_keeps_entry}
+use Rattle.isolation_laws.proofs.Requests.PendingAfter.{FewerPending, fewer_pending}
+use Rattle.isolation_laws.proofs.Requests.PendingFewer.{same_served, fewer_comes}
 use Rattle.isolation_laws.proofs.Reading.ClientsReading.{nothing_reads}
 use Rattle.isolation_laws.proofs.Stores.StoresStay.{MarksStay, marks_same, marks_after, shadows_same}
 use Rattle.isolation_laws.proofs.Stores.Calm.{Calm, calm_quiet, calm_turn}
 use Rattle.isolation_laws.proofs.Reading.ReadersRely.{RelyOn, reading_kept, lasts_on, right_kept}
-use Rattle.isolation_laws.proofs.Reading.ReadsStay.{ReadsRight, quiet_no_reads, rights_more, same_comes}
+use Rattle.isolation_laws.proofs.Reading.ReadsStay.{ReadsRight, quiet_no_reads, rights_more, none_comes}
 use Rattle.isolation_laws.proofs.Reading.SeesFetched.{AreCellsOf, are_fetched, sees_fetched, sees_front, none_own, own_or_listed, own_value}
 use Rattle.isolation_laws.proofs.Reading.SeesPassed.{TurnRight, OwnListed, over_right}
 use Rattle.isolation_laws.proofs.Reading.ReadsLonger.{right_longer, reading_longer, ReadsNow, reading_set, reads_same, rely_calm}
@@ -46,10 +48,10 @@ use Rattle.isolation_laws.proofs.Known.LearntTruths.{learnt_true}
 -- ---- an answer that is right
 pub record GoodAnswer (w : State) (h : List Item) (pairs : Pairs) (b k : ℕ) (answer : Option Found) : Type 0 where
   pub right : RightAnswer h h b k answer (last_write h b k)
-  pub lasts : (u : ℕ) (value : List ℕ) → ComesBelow w.nodes b u → Wrote h u k value → Outlasts pairs b u answer
+  pub lasts : (u : ℕ) (value : List ℕ) → ComesBelow w.clients w.nodes b u → Wrote h u k value → Outlasts pairs b u answer
 
 abbrev pub GoodTurn : State → List Item → Pairs → ℕ → ℕ → ℕ → ReadTurn → Type 0
-GoodTurn w h pairs b e k (Asks r) = IsReading w.setup w.nodes w.rows pairs h b e r
+GoodTurn w h pairs b e k (Asks r) = IsReading w.setup w.clients w.nodes w.rows pairs h b e r
 GoodTurn w h pairs b e k (Answers a) = GoodAnswer w h pairs b k (found_of a.found)
 
 right_by : (h : List Item) (b k : ℕ) (answer : Option Found) (own : Option (List ℕ)) → last_write h b k ≡ own → OwnListed h b k → Visible h b k answer → RightAnswer h h b k answer own
@@ -60,10 +62,14 @@ good_turn : (w : State) (h : List Item) (pairs : Pairs) (b e k : ℕ) (turn : Re
 good_turn w h pairs b e k (Asks r) own right = right.0
 good_turn w h pairs b e k (Answers a) own right = record { right = right_by h b k (found_of a.found) (last_write h b k) refl own right.visible; lasts = right.lasts }
 
+-- no more comes below the start
+abbrev pub NoneComesMore : State → List Client → ℕ → Type 0
+NoneComesMore w clients b = (u : ℕ) → ComesBelow clients w.nodes b u → ComesBelow w.clients w.nodes b u
+
 -- what the client reads after a turn
-turn_reads : (w : State) (h g : List Item) (pairs : Pairs) (b e k : ℕ) (c : Client) (turn : ReadTurn) → Calm h g → GoodTurn w h pairs b e k turn → ReadsNow w.setup w.nodes w.rows pairs g b e (client_read c turn)
-turn_reads w h g pairs b e k c (Asks x) un good r is = subst (λ (y : Reading). IsReading w.setup w.nodes w.rows pairs g b e y) (reads_same x r is) (reading_longer w.setup w.nodes w.rows pairs h g b e x un good)
-turn_reads w h g pairs b e k c (Answers a) un good r is = absurd (nothing_reads r is)
+turn_reads : (w : State) (h g : List Item) (pairs : Pairs) (clients : List Client) (b e k : ℕ) (c : Client) (turn : ReadTurn) → NoneComesMore w clients b → Calm h g → GoodTurn w h pairs b e k turn → ReadsNow w.setup clients w.nodes w.rows pairs g b e (client_read c turn)
+turn_reads w h g pairs clients b e k c (Asks x) comes un good r is = subst (λ (y : Reading). IsReading w.setup clients w.nodes w.rows pairs g b e y) (reads_same x r is) (reading_longer w.setup w.clients clients w.nodes w.rows pairs h g b e x comes un good)
+turn_reads w h g pairs clients b e k c (Answers a) comes un good r is = absurd (nothing_reads r is)
 
 -- ---- the answer stands in the history
 read_is : (s b k r c j : ℕ) (answer other : Option Found) → Read r c j other ≡ Read s b k answer → (c ≡ b) × (j ≡ k) × (other ≡ answer)
@@ -89,17 +95,17 @@ given_in x s b k r c j answer (Answers a) quiet (inr (inl here)) =
     record { a = a; turn_is = refl; start_is = same.0; key_is = same.1; answer_is = same.2 }
 given_in x s b k r c j answer (Answers a) quiet (inr (inr none)) = absurd none
 
-given_lasts : (w : State) (h g : List Item) (pairs : Pairs) (b e k c j u : ℕ) (answer : Option Found) (value : List ℕ) (turn : ReadTurn) → Calm h g → GoodTurn w h pairs b e k turn → IsGiven b k c j turn answer → ComesBelow w.nodes c u → Wrote g u j value → Outlasts pairs c u answer
+given_lasts : (w : State) (h g : List Item) (pairs : Pairs) (b e k c j u : ℕ) (answer : Option Found) (value : List ℕ) (turn : ReadTurn) → Calm h g → GoodTurn w h pairs b e k turn → IsGiven b k c j turn answer → ComesBelow w.clients w.nodes c u → Wrote g u j value → Outlasts pairs c u answer
 given_lasts w h g pairs b e k c j u answer value turn un good given comes wrote =
     let now : GoodAnswer w h pairs b k (found_of given.a.found) = subst (λ (t : ReadTurn). GoodTurn w h pairs b e k t) given.turn_is good in
     let written : Wrote h u k value = sym (un.writes u k) ∙ (ap (last_write g u) (sym given.key_is) ∙ wrote) in
-    subst (λ x. Outlasts pairs x u answer) (sym given.start_is) (subst (λ (y : Option Found). Outlasts pairs b u y) (sym given.answer_is) (now.lasts u value (subst (λ x. ComesBelow w.nodes x u) given.start_is comes) written))
+    subst (λ x. Outlasts pairs x u answer) (sym given.start_is) (subst (λ (y : Option Found). Outlasts pairs b u y) (sym given.answer_is) (now.lasts u value (subst (λ x. ComesBelow w.clients w.nodes x u) given.start_is comes) written))
 
-turn_lasting : (w : State) (h : List Item) (pairs : Pairs) (x : Item) (s b e k : ℕ) (turn : ReadTurn) → Quiet x → RelyOn w h w.nodes w.rows pairs (h ++ x ∷ read_items s b k turn) → Calm h (h ++ x ∷ read_items s b k turn) → GoodTurn w h pairs b e k turn → Holds w h → AreLastingReads w.nodes pairs (h ++ x ∷ read_items s b k turn)
-turn_lasting w h pairs x s b e k turn quiet rely un good holds = record {
+turn_lasting : (w : State) (h : List Item) (pairs : Pairs) (x : Item) (clients : List Client) (s b e k : ℕ) (turn : ReadTurn) → ((c : ℕ) → NoneComesMore w clients c) → Quiet x → RelyOn w h clients w.nodes w.rows pairs (h ++ x ∷ read_items s b k turn) → Calm h (h ++ x ∷ read_items s b k turn) → GoodTurn w h pairs b e k turn → Holds w h → AreLastingReads clients w.nodes pairs (h ++ x ∷ read_items s b k turn)
+turn_lasting w h pairs x clients s b e k turn none quiet rely un good holds = record {
   lasts = λ r c j u answer value m comes wrote. elim (in_append (Read r c j answer) h (x ∷ read_items s b k turn) m) [
-    | inl old ↦ lasts_on w h w.nodes w.rows pairs (h ++ x ∷ read_items s b k turn) r c j u answer value rely holds old comes wrote
-    | inr new ↦ given_lasts w h (h ++ x ∷ read_items s b k turn) pairs b e k c j u answer value turn un good (given_in x s b k r c j answer turn quiet new) comes wrote
+    | inl old ↦ lasts_on w h clients w.nodes w.rows pairs (h ++ x ∷ read_items s b k turn) r c j u answer value rely holds old comes wrote
+    | inr new ↦ given_lasts w h (h ++ x ∷ read_items s b k turn) pairs b e k c j u answer value turn un good (given_in x s b k r c j answer turn quiet new) (none c u comes) wrote
   ];
 }
 
@@ -115,28 +121,33 @@ pub reads_turn : (w : State) (h : List Item) (pairs : Pairs) (x : Item) (s b e k
 reads_turn w h pairs x s b e k c kept turn quiet at same o marks good holds =
     let g : List Item = h ++ x ∷ read_items s b k turn in
     let un : Calm h g = calm_turn h x s b k turn quiet in
-    let rely : RelyOn w h w.nodes w.rows pairs g = rely_calm w h g w.nodes w.rows pairs un (same_comes w h) (shadows_same h w.rows) marks in
+    let new : Client = client_read kept turn in
+    let clients : List Client = slice_set w.clients s new in
+    let entry : new.entry ≡ c.entry = read_keeps_entry kept turn ∙ same in
+    let fewer : FewerPending w.clients w.nodes clients w.nodes = fewer_pending w.clients clients w.nodes w.nodes (fewer_set w.clients s c new at (inr (sym entry))).placing (same_served w.nodes) in
+    let none : (d : ℕ) → NoneComesMore w clients d = λ d u comes. fewer_comes w.clients clients w.nodes w.nodes d u fewer comes in
+    let rely : RelyOn w h clients w.nodes w.rows pairs g = rely_calm w h g clients w.nodes w.rows pairs un (none_comes w h clients w.nodes fewer) (shadows_same h w.rows) marks in
     record {
-      reading = reading_set w.setup w.clients w.nodes w.rows pairs g s b e c (client_read kept turn) at (read_keeps_entry kept turn ∙ same) o (turn_reads w h g pairs b e k kept turn un good) (reading_kept w h w.nodes w.rows pairs g rely holds);
-      lasting = turn_lasting w h pairs x s b e k turn quiet rely un good holds;
+      reading = reading_set w.setup w.clients w.nodes w.rows pairs g s b e c new at entry o (turn_reads w h g pairs clients b e k kept turn (none b) un good) (reading_kept w h clients w.nodes w.rows pairs g rely holds);
+      lasting = turn_lasting w h pairs x clients s b e k turn none quiet rely un good holds;
       rights = subst (AtEach (RightRead g)) (append_assoc h (x ∷ []) (read_items s b k turn))
           (turn_rights w h g pairs (h ++ x ∷ []) s b e k turn un (calm_quiet h (x ∷ []) (one_quiet x quiet)) good
-          (rights_more g h (x ∷ []) (quiet_no_reads (x ∷ []) (one_quiet x quiet)) (right_kept w h w.nodes w.rows pairs g rely holds)));
+          (rights_more g h (x ∷ []) (quiet_no_reads (x ∷ []) (one_quiet x quiet)) (right_kept w h clients w.nodes w.rows pairs g rely holds)));
     }
 
 -- ---- a step of a read
 open_by : (w : State) (s b e c d : ℕ) → b ≡ c → e ≡ d → OpenAt w.clients s b e → OpenAt w.clients s c d
 open_by w s b e c d start epoch o = subst (λ x. OpenAt w.clients s x d) start (subst (λ y. OpenAt w.clients s b y) epoch o)
 
-reading_by : (w : State) (h : List Item) (b e c d : ℕ) (r : Reading) → b ≡ c → e ≡ d → IsReading w.setup w.nodes w.rows w.pairs h b e r → IsReading w.setup w.nodes w.rows w.pairs h c d r
-reading_by w h b e c d r start epoch is = subst (λ x. IsReading w.setup w.nodes w.rows w.pairs h x d r) start (subst (λ y. IsReading w.setup w.nodes w.rows w.pairs h b y r) epoch is)
+reading_by : (w : State) (h : List Item) (b e c d : ℕ) (r : Reading) → b ≡ c → e ≡ d → IsReading w.setup w.clients w.nodes w.rows w.pairs h b e r → IsReading w.setup w.clients w.nodes w.rows w.pairs h c d r
+reading_by w h b e c d r start epoch is = subst (λ x. IsReading w.setup w.clients w.nodes w.rows w.pairs h x d r) start (subst (λ y. IsReading w.setup w.clients w.nodes w.rows w.pairs h b y r) epoch is)
 
 pub stepped_open : (w : State) (h : List Item) (k : ReadStepped w) → Holds w h → OpenAt w.clients k.session k.r.start k.r.epoch
 stepped_open w h k holds =
     let was = holds.reads.reading.reads k.session k.c k.r k.client_at k.under_way in
     open_by w k.session was.0 was.1 k.r.start k.r.epoch (sym was.3.start_is) (sym was.3.epoch_is) was.2
 
-stepped_reading : (w : State) (h : List Item) (k : ReadStepped w) → Holds w h → IsReading w.setup w.nodes w.rows w.pairs h k.r.start k.r.epoch k.r
+stepped_reading : (w : State) (h : List Item) (k : ReadStepped w) → Holds w h → IsReading w.setup w.clients w.nodes w.rows w.pairs h k.r.start k.r.epoch k.r
 stepped_reading w h k holds =
     let was = holds.reads.reading.reads k.session k.c k.r k.client_at k.under_way in
     reading_by w h was.0 was.1 k.r.start k.r.epoch k.r (sym was.3.start_is) (sym was.3.epoch_is) was.3
@@ -147,7 +158,7 @@ stepped_right w h k holds =
     let pairs : Pairs = pairs_after (read_ask k.r) w.pairs in
     let told : Told = told_by (read_ask k.r) w.rows w.pairs in
     let o : OpenAt w.clients k.session k.r.start k.r.epoch = stepped_open w h k holds in
-    let is : IsReading w.setup w.nodes w.rows w.pairs h k.r.start k.r.epoch k.r = stepped_reading w h k holds in
+    let is : IsReading w.setup w.clients w.nodes w.rows w.pairs h k.r.start k.r.epoch k.r = stepped_reading w h k holds in
     let put : IsTrueCache pairs h (put_fresh k.c.cache) = true_put pairs h k.c.cache (true_marked w.pairs pairs h k.c.cache (marks_after (read_ask k.r) w.pairs) (holds.known.known.each k.session k.c k.client_at)) in
     told_holds (TurnRight w h pairs k.r.start k.r.epoch k.r.key) (IsTrueCache pairs h) (recalls_right w h pairs k.r.start k.r.epoch k.r.key holds) (cache_learnt (put_fresh k.c.cache) (learnt_by k.r told)) k.r told
     (true_learnt pairs h (put_fresh k.c.cache) (learnt_by k.r told) (learnt_true w h k.session k.r holds o is (holds.known.written.written k.session k.c k.r k.client_at k.under_way)) put)
@@ -197,7 +208,7 @@ other_good : (w : State) (h : List Item) (s k b e : ℕ) (cells : List Cell) (ca
 other_good w h s k b e cells cache holds o are all below =
     let own : OwnListed h b k = λ value wrote. own_or_listed w h s k b e cells value holds o are below wrote in
     let both = over_holds (TurnRight w h w.pairs b e k) (IsTrueCache w.pairs h) (recalls_right w h w.pairs b e k holds) (marks_every w.setup) k b e (front_of b cells) cache all
-    (over_right w h w.pairs (marks_every w.setup) b e k (front_of b cells) refl holds own (sees_front w.nodes w.pairs h b k cells (sees_fetched w h k b cells holds are below))) in
+    (over_right w h w.pairs (marks_every w.setup) b e k (front_of b cells) refl holds own (sees_front w.clients w.nodes w.pairs h b k cells (sees_fetched w h k b cells holds are below))) in
     (good_turn w h w.pairs b e k (recalled_over (marks_every w.setup) k b e (front_of b cells) cache).0 own both.0, both.1)
 
 cells_good : (w : State) (h : List Item) (s k b e : ℕ) (cells : List Cell) (cache : Cache) → Holds w h → OpenAt w.clients s b e → AreCellsOf w.rows k b cells → IsTrueCache w.pairs h cache → IsGoodRead w h b e k cells cache

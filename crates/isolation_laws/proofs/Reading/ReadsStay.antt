@@ -32,8 +32,9 @@ use Rattle.isolation_laws.proofs.Outcome.OutcomesOfSessions.{AtOpen, WroteOne, w
 use Rattle.isolation_laws.proofs.OnceEach.{begun_once}
 use Rattle.isolation_laws.proofs.Owners.{open_unplaced, accepts_now, begun_below_last}
 use Rattle.isolation_laws.proofs.Pushed.{not_true, in_append, quiet_in, last_write-quiet}
-use Rattle.isolation_laws.proofs.Requests.PendingAfter.{FewerPending}
-use Rattle.isolation_laws.proofs.Requests.PendingFewer.{fewer_comes}
+use Rattle.isolation_laws.proofs.Requests.PendingAfter.{FewerPending, fewer_pending}
+use Rattle.isolation_laws.proofs.Requests.OpenAfter.{at_work_wrote}
+use Rattle.isolation_laws.proofs.Requests.PendingFewer.{same_served, fewer_comes}
 use Rattle.isolation_laws.proofs.Requests.PendingMoved.{comes_accepted}
 use Rattle.isolation_laws.proofs.Requests.CommitsInFlight.{goes_on}
 use Rattle.isolation_laws.proofs.Requests.SettledNow.{Places, places}
@@ -84,33 +85,33 @@ rights_more g h (x ∷ items) none rights = subst (AtEach (RightRead g)) (append
 -- ---- what an outcome leaves of reads
 pub record ReadsRight (setup : SetupNumbers) (clients : List Client) (nodes : List (Option InstanceEntry)) (rows : List Row) (pairs : Pairs) (g : List Item) : Type 0 where
   pub reading : AreReading setup clients nodes rows pairs g
-  pub lasting : AreLastingReads nodes pairs g
+  pub lasting : AreLastingReads clients nodes pairs g
   pub rights : AtEach (RightRead g) g
 
-pub reads_stay : (w : State) (h items : List Item) (nodes : List (Option InstanceEntry)) (rows : List Row) (pairs : Pairs) (clients : List Client) → NoReads items → RelyOn w h nodes rows pairs (h ++ items) → FewerReading w.clients clients → Holds w h → ReadsRight w.setup clients nodes rows pairs (h ++ items)
+pub reads_stay : (w : State) (h items : List Item) (nodes : List (Option InstanceEntry)) (rows : List Row) (pairs : Pairs) (clients : List Client) → NoReads items → RelyOn w h clients nodes rows pairs (h ++ items) → FewerReading w.clients clients → Holds w h → ReadsRight w.setup clients nodes rows pairs (h ++ items)
 reads_stay w h items nodes rows pairs clients none rely fewer holds = record {
-  reading = reading_fewer w.setup w.clients clients nodes rows pairs (h ++ items) fewer (reading_kept w h nodes rows pairs (h ++ items) rely holds);
+  reading = reading_fewer w.setup w.clients clients nodes rows pairs (h ++ items) fewer (reading_kept w h clients nodes rows pairs (h ++ items) rely holds);
   lasting = record {
     lasts = λ s b k u answer value m comes wrote. elim (in_append (Read s b k answer) h items m) [
-      | inl old ↦ lasts_on w h nodes rows pairs (h ++ items) s b k u answer value rely holds old comes wrote
+      | inl old ↦ lasts_on w h clients nodes rows pairs (h ++ items) s b k u answer value rely holds old comes wrote
       | inr new ↦ absurd (none s b k answer new)
     ];
   };
-  rights = rights_more (h ++ items) h items none (right_kept w h nodes rows pairs (h ++ items) rely holds);
+  rights = rights_more (h ++ items) h items none (right_kept w h clients nodes rows pairs (h ++ items) rely holds);
 }
 
 -- ---- what comes below a start
-abbrev pub NoneComes : State → List Item → List (Option InstanceEntry) → Type 0
-NoneComes w h nodes = (r b u : ℕ) → Begun h r b → ComesBelow nodes b u → ComesBelow w.nodes b u
+abbrev pub NoneComes : State → List Item → List Client → List (Option InstanceEntry) → Type 0
+NoneComes w h clients nodes = (r b u : ℕ) → Begun h r b → ComesBelow clients nodes b u → ComesBelow w.clients w.nodes b u
 
-pub none_comes : (w : State) (h : List Item) (nodes : List (Option InstanceEntry)) → FewerPending w.nodes nodes → NoneComes w h nodes
-none_comes w h nodes fewer r b u begun c = fewer_comes w.nodes nodes b u fewer c
+pub none_comes : (w : State) (h : List Item) (clients : List Client) (nodes : List (Option InstanceEntry)) → FewerPending w.clients w.nodes clients nodes → NoneComes w h clients nodes
+none_comes w h clients nodes fewer r b u begun c = fewer_comes w.clients clients w.nodes nodes b u fewer c
 
-pub same_comes : (w : State) (h : List Item) → NoneComes w h w.nodes
+pub same_comes : (w : State) (h : List Item) → NoneComes w h w.clients w.nodes
 same_comes w h r b u begun c = c
 
 -- what is accepted comes below no start that was begun
-pub none_comes_accepted : (w : State) (h : List Item) (k : Accepted w) → Holds w h → NoneComes w h (accepted_state w k).nodes
+pub none_comes_accepted : (w : State) (h : List Item) (k : Accepted w) → Holds w h → NoneComes w h w.clients (accepted_state w k).nodes
 none_comes_accepted w h k holds r b u begun c = elim (comes_accepted w k b u c) [
   | inl old ↦ old
   | inr (q, taken, start, below) ↦
@@ -127,6 +128,7 @@ placed_writes h items t c u k quiet =
 placed_comes : (w : State) (h : List Item) (p : PlacedPending w) (b u d : ℕ) → Holds w h → u ≡ p.coming.start → d ≡ p.commit → d < b → WasComing w h b u d
 placed_comes w h p b u d holds start commit below =
     let q = p.coming in
+    let drew = (placed_drew w h p holds).0 in
     record {
       comes = record {
         coming = q;
@@ -135,11 +137,11 @@ placed_comes w h p b u d holds start commit below =
         below = subst (IsStageBelow b) (sym p.has) (subst (λ x. x < b) commit below);
       };
       unmarked = λ marked. none-some InvalidMark (sym p.free ∙ (ap (mark_of w.pairs) (sym start) ∙ marked));
-      drew = (q.session, q.node, q.term, subst (λ x. Draw q.session q.node q.term x (Some d) ∈ h) (sym start) (subst (λ y. Draw q.session q.node q.term q.start (Some y) ∈ h) (sym commit) (placed_drew w h p holds).0));
+      drew = (q.session, drew.0, drew.1, subst (λ x. Draw q.session drew.0 drew.1 x (Some d) ∈ h) (sym start) (subst (λ y. Draw q.session drew.0 drew.1 q.start (Some y) ∈ h) (sym commit) drew.2));
     }
 
-pub rely_placed : (w : State) (h : List Item) (p : PlacedPending w) (nodes : List (Option InstanceEntry)) (items : List Item) → AllQuiet items → FewerPending w.nodes nodes → Holds w h → RelyOn w h nodes w.rows (placed_pairs w p) (h ++ placed_item w p ∷ items)
-rely_placed w h p nodes items quiet fewer holds =
+pub rely_placed : (w : State) (h : List Item) (p : PlacedPending w) (clients : List Client) (nodes : List (Option InstanceEntry)) (items : List Item) → AllQuiet items → FewerPending w.clients w.nodes clients nodes → Holds w h → RelyOn w h clients nodes w.rows (placed_pairs w p) (h ++ placed_item w p ∷ items)
+rely_placed w h p clients nodes items quiet fewer holds =
     let t = p.coming.start in
     let now : Places h (h ++ placed_item w p ∷ items) t p.commit = places h items t p.commit quiet in
     record {
@@ -148,7 +150,7 @@ rely_placed w h p nodes items quiet fewer holds =
         | inl old ↦ inl old
         | inr new ↦ inr (placed_comes w h p b u d holds new.0 new.1 less)
       ];
-      comes = none_comes w h nodes fewer;
+      comes = none_comes w h clients nodes fewer;
       marks = marks_put w.pairs t (CommittedMark p.commit);
       writes = λ u key written. placed_writes h items t p.commit u key quiet;
       shadows = shadows_same h w.rows;
@@ -175,14 +177,14 @@ idle_no_reader w h k holds reader =
 
 written_other : (w : State) (h : List Item) (k : WroteOne w) (u : ℕ) → Holds w h → IsWritten w h u → k.start ≢ u
 written_other w h k u holds (inl (c, placed)) same = open_not_placed w h k.it k.start c holds k.start_is (subst (λ t. Committed h t c) (sym same) placed)
-written_other w h k u holds (inr (inl pending)) same = wrote_not_pending w h k holds (subst (IsPending w.nodes) (sym same) pending)
+written_other w h k u holds (inr (inl pending)) same = wrote_not_pending w h k holds (subst (IsPending w.clients w.nodes) (sym same) pending)
 written_other w h k u holds (inr (inr reader)) same = idle_no_reader w h k holds (subst (IsReader w.clients) (sym same) reader)
 
-pub rely_wrote : (w : State) (h : List Item) (k : WroteOne w) → Holds w h → RelyOn w h w.nodes (wrote_state w k).rows w.pairs (h ++ wrote_items w k)
+pub rely_wrote : (w : State) (h : List Item) (k : WroteOne w) → Holds w h → RelyOn w h (wrote_state w k).clients w.nodes (wrote_state w k).rows w.pairs (h ++ wrote_items w k)
 rely_wrote w h k holds = record {
   on = goes_on h (wrote_items w k);
   placed = λ b u d placed less. inl (write_places_none h k.it.session k.start k.key k.value u d placed);
-  comes = same_comes w h;
+  comes = none_comes w h (wrote_state w k).clients w.nodes (fewer_pending w.clients (wrote_state w k).clients w.nodes w.nodes (at_work_wrote w k).placing (same_served w.nodes));
   marks = λ u marked. marked;
   writes = λ u key written. last_write-push h (Write k.it.session k.start k.key k.value) u key ∙ ap (λ o. option_or o (last_write h u key)) (other_write k.start u k.key key k.value k.it.session (written_other w h k u holds written));
   shadows = shadows_put h w.rows k.key k.start k.value (λ c placed. open_not_placed w h k.it k.start c holds k.start_is placed);

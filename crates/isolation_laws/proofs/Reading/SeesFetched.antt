@@ -12,7 +12,7 @@ use Rattle.store_parts.specs.Pairs.{Pairs}
 use Rattle.store_parts.proofs.RowLaws.{looked-version}
 use Rattle.store_parts.proofs.RowFetches.{fetched-upto, fetched-falls, Contains-fetched, front-all, front-falls}
 use Rattle.oracle_parts.specs.Instance.{InstanceEntry}
-use Rattle.machine.specs.State.{State}
+use Rattle.machine.specs.State.{Client, State}
 use Rattle.isolation_laws.specs.Words.{OpenAt, Marked, cell_with}
 use Rattle.isolation_laws.specs.Pending.{ComesBelow, IsPending}
 use Rattle.isolation_laws.specs.Reads.{IsCovered, HasLastWrite, SeesAll}
@@ -50,11 +50,11 @@ pub cell_value : (t : ℕ) (shadow : Option ℕ) (value : Option (List ℕ)) (c 
 cell_value t shadow None c is = absurd (none-some c is)
 cell_value t shadow (Some value) c is = ap Some (ap (λ (x : Cell). x.value) (same_Some (record { version = t; value = value; shadow = shadow }) c is))
 
-pub pending_coming : (nodes : List (Option InstanceEntry)) (b u : ℕ) → ComesBelow nodes b u → IsPending nodes u
-pending_coming nodes b u c = record { coming = c.coming; pending = c.pending; start_is = c.start_is }
+pub pending_coming : (clients : List Client) (nodes : List (Option InstanceEntry)) (b u : ℕ) → ComesBelow clients nodes b u → IsPending clients nodes u
+pending_coming clients nodes b u c = record { coming = c.coming; pending = c.pending; start_is = c.start_is }
 
-comes_lower : (w : State) (h : List Item) (b u : ℕ) → Holds w h → ComesBelow w.nodes b u → u < b
-comes_lower w h b u holds c = coming_is_below w.nodes h b u holds.numbers.new holds.requests.accepted holds.requests.pending c
+comes_lower : (w : State) (h : List Item) (b u : ℕ) → Holds w h → ComesBelow w.clients w.nodes b u → u < b
+comes_lower w h b u holds c = coming_is_below w.clients w.nodes h b u holds.numbers.new holds.requests.accepted holds.requests.pending c
 
 -- a cell that was written stands among them
 among_with : (w : State) (k b u : ℕ) (shadow : Option ℕ) (value : List ℕ) (written : Option (List ℕ)) (cells : List Cell) → AreCellsOf w.rows k b cells → u ≤ b → written ≡ Some value → looked w.rows k u ≡ cell_with u shadow written → IsCovered b u cells
@@ -77,20 +77,20 @@ placed_value w h k d c holds there placed = elim (holds.cells.placed.cells c.ver
   | inr shadowed ↦ cell_value c.version (Some d) (last_write h c.version k) c (sym shadowed ∙ there)
 ]
 
-coming_found : (w : State) (h : List Item) (k b u : ℕ) (value : List ℕ) (cells : List Cell) → Holds w h → AreCellsOf w.rows k b cells → ComesBelow w.nodes b u → (Marked w.pairs u → ⊥) → Wrote h u k value → IsCovered b u cells
-coming_found w h k b u value cells holds are comes unmarked wrote = elim (holds.cells.live.bare u k (inr (pending_coming w.nodes b u comes))) [
+coming_found : (w : State) (h : List Item) (k b u : ℕ) (value : List ℕ) (cells : List Cell) → Holds w h → AreCellsOf w.rows k b cells → ComesBelow w.clients w.nodes b u → (Marked w.pairs u → ⊥) → Wrote h u k value → IsCovered b u cells
+coming_found w h k b u value cells holds are comes unmarked wrote = elim (holds.cells.live.bare u k (inr (pending_coming w.clients w.nodes b u comes))) [
   | inl bare ↦ among_with w k b u None value (last_write h u k) cells are (omega (arith, comes_lower w h b u holds comes)) wrote bare
   | inr swept ↦ absurd (unmarked swept.1.marked)
 ]
 
-coming_value : (w : State) (h : List Item) (k b : ℕ) (c : Cell) → Holds w h → looked w.rows k c.version ≡ Some c → ComesBelow w.nodes b c.version → (Marked w.pairs c.version → ⊥) → HasLastWrite h k c
-coming_value w h k b c holds there comes unmarked = elim (holds.cells.live.bare c.version k (inr (pending_coming w.nodes b c.version comes))) [
+coming_value : (w : State) (h : List Item) (k b : ℕ) (c : Cell) → Holds w h → looked w.rows k c.version ≡ Some c → ComesBelow w.clients w.nodes b c.version → (Marked w.pairs c.version → ⊥) → HasLastWrite h k c
+coming_value w h k b c holds there comes unmarked = elim (holds.cells.live.bare c.version k (inr (pending_coming w.clients w.nodes b c.version comes))) [
   | inl bare ↦ cell_value c.version None (last_write h c.version k) c (sym bare ∙ there)
   | inr swept ↦ absurd (unmarked swept.1.marked)
 ]
 
 -- where none is the reader's own
-pub sees_fetched : (w : State) (h : List Item) (k b : ℕ) (cells : List Cell) → Holds w h → AreCellsOf w.rows k b cells → All (λ (c : Cell). c.version < b) cells → SeesAll w.nodes w.pairs h b k cells
+pub sees_fetched : (w : State) (h : List Item) (k b : ℕ) (cells : List Cell) → Holds w h → AreCellsOf w.rows k b cells → All (λ (c : Cell). c.version < b) cells → SeesAll w.clients w.nodes w.pairs h b k cells
 sees_fetched w h k b cells holds are below = record {
   falling = are.falling;
   below = below;
@@ -102,15 +102,15 @@ sees_fetched w h k b cells holds are below = record {
 }
 
 -- ---- the front of them
-pub sees_front : (nodes : List (Option InstanceEntry)) (pairs : Pairs) (h : List Item) (b k : ℕ) (cells : List Cell) → SeesAll nodes pairs h b k cells → SeesAll nodes pairs h b k (front_of b cells)
-sees_front nodes pairs h b k cells sees = record {
+pub sees_front : (clients : List Client) (nodes : List (Option InstanceEntry)) (pairs : Pairs) (h : List Item) (b k : ℕ) (cells : List Cell) → SeesAll clients nodes pairs h b k cells → SeesAll clients nodes pairs h b k (front_of b cells)
+sees_front clients nodes pairs h b k cells sees = record {
   falling = front-falls b cells sees.falling;
   below = front-all (λ (c : Cell). c.version < b) b cells sees.below;
   shadows = front-all (λ (c : Cell). (commit : ℕ) → c.shadow ≡ Some commit → Committed h c.version commit) b cells sees.shadows;
   found = λ u d value placed less wrote. covered_front b u cells sees.falling (sees.found u d value placed less wrote);
   values = front-all (λ (c : Cell). (d : ℕ) → Committed h c.version d → d < b → HasLastWrite h k c) b cells sees.values;
   coming = λ u value comes unmarked wrote. covered_front b u cells sees.falling (sees.coming u value comes unmarked wrote);
-  coming_values = front-all (λ (c : Cell). ComesBelow nodes b c.version → (Marked pairs c.version → ⊥) → HasLastWrite h k c) b cells sees.coming_values;
+  coming_values = front-all (λ (c : Cell). ComesBelow clients nodes b c.version → (Marked pairs c.version → ⊥) → HasLastWrite h k c) b cells sees.coming_values;
 }
 
 -- ---- the reader's own cell

@@ -16,6 +16,7 @@ use Rattle.machine.specs.State.{Client}
 use Rattle.machine.specs.Clients.{client_freed, client_aborted, client_committed, client_opened}
 use Rattle.machine.specs.Events.Step.{client_settled, after_asks}
 use Rattle.isolation_laws.specs.Words.{ClientAt, Begun, keys_with, keys_from, written_keys}
+use Rattle.isolation_laws.specs.Pending.{is_placing}
 use Rattle.isolation_laws.specs.Requests.{HaveBegun, HasAsked, AreKeys}
 use Rattle.isolation_laws.proofs.Lookups.{client_set}
 use Rattle.isolation_laws.proofs.Pushed.{written_keys-push}
@@ -54,6 +55,10 @@ has_none state (inr (inr is)) has = let none : IsTrue false = subst (λ s. IsTru
 
 pub has_by : (old state : SessionState) → old ≡ state → IsTrue (has_transaction state) → IsTrue (has_transaction old)
 has_by old state is has = subst (λ s. IsTrue (has_transaction s)) (sym is) has
+
+-- a session that places its commit has one
+pub placing_has : (state : SessionState) → is_placing state ≡ true → IsTrue (has_transaction state)
+placing_has state is = absurd (cc)
 
 aborted_keeps_by : (e : SessionEntry) (keys : List ℕ) → IsTrue (has_transaction e.state) → IsTrue (has_transaction (aborted_by e keys).state) → IsTrue (has_transaction e.state) × ((aborted_by e keys).start ≡ e.start)
 aborted_keeps_by e [] had has = absurd (has_none phase.Free (inl refl) has)
@@ -112,22 +117,26 @@ keys_closed h c closed = record { written = λ t is start. absurd (closed is); s
 pub free_closed : IsClosed phase.Free
 free_closed (inl is) = cc
 free_closed (inr (inl is)) = cc
-free_closed (inr (inr is)) = cc
+free_closed (inr (inr (inl is))) = cc
+free_closed (inr (inr (inr is))) = cc
 
 pub asking_closed : IsClosed phase.Asking
 asking_closed (inl is) = cc
 asking_closed (inr (inl is)) = cc
-asking_closed (inr (inr is)) = cc
+asking_closed (inr (inr (inl is))) = cc
+asking_closed (inr (inr (inr is))) = cc
 
 pub gone_closed : IsClosed phase.Gone
 gone_closed (inl is) = cc
 gone_closed (inr (inl is)) = cc
-gone_closed (inr (inr is)) = cc
+gone_closed (inr (inr (inl is))) = cc
+gone_closed (inr (inr (inr is))) = cc
 
 pub completing_closed : (undo : Bool) → IsClosed (phase.Completing undo)
 completing_closed undo (inl is) = cc
 completing_closed undo (inr (inl is)) = cc
-completing_closed undo (inr (inr is)) = cc
+completing_closed undo (inr (inr (inl is))) = cc
+completing_closed undo (inr (inr (inr is))) = cc
 
 aborted_closed_by : (e : SessionEntry) (keys : List ℕ) → IsClosed (aborted_by e keys).state
 aborted_closed_by e [] is = free_closed is

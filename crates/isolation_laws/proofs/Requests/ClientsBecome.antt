@@ -1,5 +1,5 @@
 -- What becomes of the client of a request that is lost, refused or answered.
-use Rattle.std.proofs.Common.{◌≡◌, ℕ, IsTrue, List, ◌⊎◌, inl, inr, refl, sym, ap, subst}
+use Rattle.std.proofs.Common.{◌≡◌, ℕ, true, IsTrue, List, ◌⊎◌, inl, inr, refl, sym, ap, subst}
 use Rattle.history_book.specs.declared.item.Item.{Item}
 use Rattle.client_parts.specs.declared.session.State.{State as SessionState}
 use Rattle.client_parts.specs.declared.session.State.TheVariants as phase
@@ -11,10 +11,11 @@ use Rattle.oracle_parts.specs.declared.instance.Settled.TheVariants as how
 use Rattle.machine.specs.State.{Client}
 use Rattle.machine.specs.Clients.{client_freed, client_aborted, client_committed, client_opened, unless_gone, unless_gone_by, after_refusal}
 use Rattle.machine.specs.Events.Crash.{after_loss}
+use Rattle.isolation_laws.specs.Pending.{is_placing}
 use Rattle.isolation_laws.specs.Requests.{WaitsFor}
 use Rattle.isolation_laws.proofs.Outcome.OutcomesOfStamps.{answered_client}
 use Rattle.isolation_laws.proofs.Requests.ClientsOpen.{gone_cases}
-use Rattle.isolation_laws.proofs.Requests.ClientsAfter.{KeepsStart, has_by, aborted_keeps, committed_keeps, opened_keeps, freed_keeps, KeysClient, keys_aborted, keys_freed, keys_committed, keys_opened}
+use Rattle.isolation_laws.proofs.Requests.ClientsAfter.{KeepsStart, has_by, placing_has, aborted_keeps, committed_keeps, opened_keeps, freed_keeps, KeysClient, keys_aborted, keys_freed, keys_committed, keys_opened}
 
 -- ---- the client of a request that is lost, refused or answered
 -- what a client becomes keeps its start, and its list stands for it
@@ -79,3 +80,9 @@ answer_becomes h s r t commit ks how.Faulted c keys waits = unless_becomes h s c
   | inl gone ↦ absurd (here gone)
   | inr asked ↦ record { begun = opened_keeps c (committing_has c asked.0); keys = keys_opened h c (inl asked.0) keys }
 ])
+
+-- and of a session that was placing its commit
+pub placing_becomes : (h : List Item) (s commit : ℕ) (by : Settled) (c : Client) → is_placing c.entry.state ≡ true → KeysClient h c → Becomes h s c (answered_client by c commit)
+placing_becomes h s commit how.Placed c placing keys = record { begun = committed_keeps c commit (placing_has c.entry.state placing); keys = keys_committed h c commit }
+placing_becomes h s commit how.Invalid c placing keys = record { begun = aborted_keeps c (placing_has c.entry.state placing); keys = keys_aborted h c }
+placing_becomes h s commit how.Faulted c placing keys = record { begun = opened_keeps c (placing_has c.entry.state placing); keys = keys_opened h c (inr (inr placing)) keys }

@@ -1,4 +1,4 @@
--- What clients become when they have an open transaction no more, or as before.
+-- What clients become when they have no transaction open and none to place, or as before.
 use Rattle.std.proofs.Common.{[], ◌≡◌, ℕ, Bool, true, false, List, ◌∷◌, ◌⊎◌, inl, inr, refl, sym, ◌∙◌, ap, subst}
 use Rattle.std.specs.Prelude.{slice_set}
 use Rattle.client_parts.specs.declared.asks.Ask.{Ask}
@@ -18,12 +18,37 @@ use Rattle.machine.specs.Events.Crash.{after_loss}
 use Rattle.machine.specs.Events.Fetch.{client_read}
 use Rattle.machine.specs.Events.Step.{client_settled, after_asks}
 use Rattle.isolation_laws.specs.Words.{ClientAt, epoch_or_none, OpenAt}
+use Rattle.isolation_laws.specs.Pending.{InFlight, is_placing, PlacingAt}
 use Rattle.isolation_laws.proofs.Lookups.{client_set}
 use Rattle.isolation_laws.proofs.Outcome.OutcomesOfStamps.{answered_client}
 
 abbrev pub FewerOpen : List Client → List Client → Type 0
 FewerOpen old new = (s t e : ℕ) → OpenAt new s t e → OpenAt old s t e
 
+-- each client that is placing a commit had the same entry
+abbrev pub FewerPlacing : List Client → List Client → Type 0
+FewerPlacing old new = (s : ℕ) (c : Client) → ClientAt new s c → is_placing c.entry.state ≡ true → (d : Client) × ClientAt old s d × (d.entry ≡ c.entry)
+
+pub placing_was : (old new : List Client) (q : InFlight) → FewerPlacing old new → PlacingAt new q → PlacingAt old q
+placing_was old new q fewer p =
+    let was = fewer q.session p.client p.at p.state_is in
+    record {
+      client = was.0;
+      at = was.1;
+      state_is = ap (λ e. is_placing e.state) was.2 ∙ p.state_is;
+      start_is = ap (λ e. e.start) was.2 ∙ p.start_is;
+      keys_are = ap (λ e. e.keys) was.2 ∙ p.keys_are;
+      commit_of = p.commit_of;
+      commit_is = ap (λ e. e.commit) was.2 ∙ p.commit_is;
+      stage_is = p.stage_is;
+    }
+
+-- both
+pub record FewerAtWork (old new : List Client) : Type 0 where
+  pub opened : FewerOpen old new
+  pub placing : FewerPlacing old new
+
+-- ---- one client changes
 -- the client is not open, or was open with the same transaction
 abbrev pub OpensNothing : Client → Client → Type 0
 OpensNothing old new = (new.entry.state ≡ phase.Open → ⊥) ⊎ ((new.entry.state ≡ old.entry.state) × (new.entry.start ≡ old.entry.start) × (new.entry.epoch ≡ old.entry.epoch))
@@ -44,31 +69,73 @@ fewer_open_set clients s old new at (inr same) r t e o = elim (client_set client
   | inr there ↦ record { client = o.client; at = there.1; state_is = o.state_is; start_is = o.start_is; epoch_is = o.epoch_is }
 ]
 
+-- the client is not placing, or has the entry that it had
+abbrev pub PlacesNothing : Client → Client → Type 0
+PlacesNothing old new = (is_placing new.entry.state ≡ true → ⊥) ⊎ (old.entry ≡ new.entry)
+
+pub fewer_placing_set : (clients : List Client) (s : ℕ) (old new : Client) → ClientAt clients s old → PlacesNothing old new → FewerPlacing clients (slice_set clients s new)
+fewer_placing_set clients s old new at (inl idle) r c there placing = elim (client_set clients s r new c there) [
+  | inl here ↦ absurd (idle (ap (λ x. is_placing x.entry.state) (sym here.1) ∙ placing))
+  | inr other ↦ (c, other.1, refl)
+]
+fewer_placing_set clients s old new at (inr same) r c there placing = elim (client_set clients s r new c there) [
+  | inl here ↦ (old, subst (λ q. ClientAt clients q old) (sym here.0) at, same ∙ ap (λ x. x.entry) (sym here.1))
+  | inr other ↦ (c, other.1, refl)
+]
+
+-- a state with no transaction open and none to place
+pub record IsAtRest (state : SessionState) : Type 0 where
+  pub not_open : state ≡ phase.Open → ⊥
+  pub not_placing : is_placing state ≡ true → ⊥
+
+-- the client is in such a state, or has the entry that it had
+abbrev pub WorksNoMore : Client → Client → Type 0
+WorksNoMore old new = IsAtRest new.entry.state ⊎ (old.entry ≡ new.entry)
+
+pub fewer_set : (clients : List Client) (s : ℕ) (old new : Client) → ClientAt clients s old → WorksNoMore old new → FewerAtWork clients (slice_set clients s new)
+fewer_set clients s old new at (inl rests) = record {
+  opened = fewer_open_set clients s old new at (inl rests.not_open);
+  placing = fewer_placing_set clients s old new at (inl rests.not_placing);
+}
+fewer_set clients s old new at (inr same) = record {
+  opened = fewer_open_set clients s old new at (inr (ap (λ e. e.state) (sym same), ap (λ e. e.start) (sym same), ap (λ e. e.epoch) (sym same)));
+  placing = fewer_placing_set clients s old new at (inr same);
+}
+
+pub same_at_work : (clients : List Client) → FewerAtWork clients clients
+same_at_work clients = record { opened = λ s t e o. o; placing = λ s c at placing. (c, at, refl) }
+
 -- ---- what clients become
-pub not_free : phase.Free ≡ phase.Open → ⊥
-not_free same = cc
+pub rests_as : (old state : SessionState) → old ≡ state → IsAtRest state → IsAtRest old
+rests_as old state is rests = subst IsAtRest (sym is) rests
 
-pub not_asking : phase.Asking ≡ phase.Open → ⊥
-not_asking same = cc
+pub free_rests : IsAtRest phase.Free
+free_rests = record { not_open = λ is. cc; not_placing = λ is. cc }
 
-pub not_committing : phase.Committing ≡ phase.Open → ⊥
-not_committing same = cc
+pub asking_rests : IsAtRest phase.Asking
+asking_rests = record { not_open = λ is. cc; not_placing = λ is. cc }
 
-not_outcome : phase.OpenOutcome ≡ phase.Open → ⊥
-not_outcome same = cc
+pub committing_rests : IsAtRest phase.Committing
+committing_rests = record { not_open = λ is. cc; not_placing = λ is. cc }
 
-not_completing : (undo : Bool) → phase.Completing undo ≡ phase.Open → ⊥
-not_completing undo same = cc
+pub outcome_rests : IsAtRest phase.OpenOutcome
+outcome_rests = record { not_open = λ is. cc; not_placing = λ is. cc }
 
-pub not_gone : phase.Gone ≡ phase.Open → ⊥
-not_gone same = cc
+pub completing_rests : (undo : Bool) → IsAtRest (phase.Completing undo)
+completing_rests undo = record { not_open = λ is. cc; not_placing = λ is. cc }
 
-pub aborted_closed_by : (e : SessionEntry) (keys : List ℕ) → (aborted_by e keys).state ≡ phase.Open → ⊥
-aborted_closed_by e [] same = not_free same
-aborted_closed_by e (key ∷ keys) same = not_completing true same
+pub gone_rests : IsAtRest phase.Gone
+gone_rests = record { not_open = λ is. cc; not_placing = λ is. cc }
 
-pub aborted_closed : (c : Client) → (client_aborted c).entry.state ≡ phase.Open → ⊥
-aborted_closed c same = aborted_closed_by c.entry c.entry.keys same
+pub open_not_placing : is_placing phase.Open ≡ true → ⊥
+open_not_placing is = cc
+
+aborted_rests_by : (e : SessionEntry) (keys : List ℕ) → IsAtRest (aborted_by e keys).state
+aborted_rests_by e [] = free_rests
+aborted_rests_by e (key ∷ keys) = completing_rests true
+
+pub aborted_rests : (c : Client) → IsAtRest (client_aborted c).entry.state
+aborted_rests c = aborted_rests_by c.entry c.entry.keys
 
 -- a client that has vanished stays as it is, and any other is what it becomes
 pub unless_gone_cases : (old new : Client) (state : SessionState) → ((unless_gone_by state old new ≡ old) × (state ≡ phase.Gone)) ⊎ (unless_gone_by state old new ≡ new)
@@ -83,40 +150,40 @@ unless_gone_cases old new (phase.Completing undo) = inr refl
 pub gone_cases : (old new : Client) → ((unless_gone old new ≡ old) × (old.entry.state ≡ phase.Gone)) ⊎ (unless_gone old new ≡ new)
 gone_cases old new = unless_gone_cases old new old.entry.state
 
-unless_gone_opens : (old new : Client) → (new.entry.state ≡ phase.Open → ⊥) → OpensNothing old (unless_gone old new)
-unless_gone_opens old new closed = elim (gone_cases old new) [
-  | inl stays ↦ inr (ap (λ c. c.entry.state) stays.0, ap (λ c. c.entry.start) stays.0, ap (λ c. c.entry.epoch) stays.0)
-  | inr moves ↦ inl (λ same. closed (ap (λ c. c.entry.state) (sym moves) ∙ same))
+unless_gone_rests : (old new : Client) → IsAtRest new.entry.state → WorksNoMore old (unless_gone old new)
+unless_gone_rests old new rests = elim (gone_cases old new) [
+  | inl stays ↦ inr (ap (λ c. c.entry) (sym stays.0))
+  | inr moves ↦ inl (subst (λ (c : Client). IsAtRest c.entry.state) (sym moves) rests)
 ]
 
-pub refusal_opens : (request : Request) (c : Client) → OpensNothing c (after_refusal request c)
-refusal_opens (Begin s) c = unless_gone_opens c (client_freed c) not_free
-refusal_opens (Commit s t keys) c = unless_gone_opens c (client_aborted c) (aborted_closed c)
+pub refusal_rests : (request : Request) (c : Client) → WorksNoMore c (after_refusal request c)
+refusal_rests (Begin s) c = unless_gone_rests c (client_freed c) free_rests
+refusal_rests (Commit s t keys) c = unless_gone_rests c (client_aborted c) (aborted_rests c)
 
-pub loss_opens : (request : Request) (c : Client) → OpensNothing c (after_loss request c)
-loss_opens (Begin s) c = unless_gone_opens c (client_freed c) not_free
-loss_opens (Commit s t keys) c = unless_gone_opens c (client_opened c) not_outcome
+pub loss_rests : (request : Request) (c : Client) → WorksNoMore c (after_loss request c)
+loss_rests (Begin s) c = unless_gone_rests c (client_freed c) free_rests
+loss_rests (Commit s t keys) c = unless_gone_rests c (client_opened c) outcome_rests
 
-pub answer_opens : (by : Settled) (c : Client) (commit : ℕ) → OpensNothing c (unless_gone c (answered_client by c commit))
-answer_opens how.Placed c commit = unless_gone_opens c (client_committed c commit) (not_completing false)
-answer_opens how.Invalid c commit = unless_gone_opens c (client_aborted c) (aborted_closed c)
-answer_opens how.Faulted c commit = unless_gone_opens c (client_opened c) not_outcome
+pub answered_rests : (by : Settled) (c : Client) (commit : ℕ) → IsAtRest (answered_client by c commit).entry.state
+answered_rests how.Placed c commit = completing_rests false
+answered_rests how.Invalid c commit = aborted_rests c
+answered_rests how.Faulted c commit = outcome_rests
 
-pub settled_opens : (c : Client) (x : Settling) (turn : SettleTurn) → OpensNothing c (client_settled c x turn)
-settled_opens c x (Goes point) = inr (refl, refl, refl)
-settled_opens c x (Decides (outcome.Committed commit by_table)) = inl (not_completing false)
-settled_opens c x (Decides outcome.Dead) = inl (aborted_closed c)
+pub answer_rests : (by : Settled) (c : Client) (commit : ℕ) → WorksNoMore c (unless_gone c (answered_client by c commit))
+answer_rests by c commit = unless_gone_rests c (answered_client by c commit) (answered_rests by c commit)
 
-pub asks_opens : (c : Client) (asks : List Ask) → OpensNothing c (after_asks c asks)
-asks_opens c [] = inl not_free
-asks_opens c (asked ∷ asks) = inr (refl, refl, refl)
+pub settled_rests : (c : Client) (x : Settling) (turn : SettleTurn) → WorksNoMore c (client_settled c x turn)
+settled_rests c x (Goes point) = inr refl
+settled_rests c x (Decides (outcome.Committed commit by_table)) = inl (completing_rests false)
+settled_rests c x (Decides outcome.Dead) = inl (aborted_rests c)
+
+pub asks_rest : (c : Client) (asks : List Ask) → WorksNoMore c (after_asks c asks)
+asks_rest c [] = inl free_rests
+asks_rest c (asked ∷ asks) = inr refl
 
 pub read_keeps_entry : (c : Client) (turn : ReadTurn) → (client_read c turn).entry ≡ c.entry
 read_keeps_entry c (Asks r) = refl
 read_keeps_entry c (Answers a) = refl
 
-pub read_opens : (c : Client) (turn : ReadTurn) → OpensNothing c (client_read c turn)
-read_opens c turn = let same = read_keeps_entry c turn in inr (ap (λ e. e.state) same, ap (λ e. e.start) same, ap (λ e. e.epoch) same)
-
-pub same_open : (clients : List Client) → FewerOpen clients clients
-same_open clients s t e o = o
+pub read_rests : (c : Client) (turn : ReadTurn) → WorksNoMore c (client_read c turn)
+read_rests c turn = inr (sym (read_keeps_entry c turn))

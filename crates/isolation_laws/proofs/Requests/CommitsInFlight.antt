@@ -35,7 +35,7 @@ goes_on h items x m = in_front x h items m
 so_far_on : (h g : List Item) (q : InFlight) (stage : Stage) → GoesOn h g → LeavesAlone h g q.start → IsDrawnSoFar h q stage → IsDrawnSoFar g q stage
 so_far_on h g q Waits on alone so_far = λ drew. so_far (alone.undrawn drew)
 so_far_on h g q (Taken last) on alone so_far = λ drew. so_far (alone.undrawn drew)
-so_far_on h g q (Has commit) on alone so_far = (on _ so_far.0, λ c is. so_far.1 c (alone.unplaced c is))
+so_far_on h g q (Has commit) on alone so_far = ((so_far.0.0, so_far.0.1, on _ so_far.0.2), λ c is. so_far.1 c (alone.unplaced c is))
 
 -- ---- commits in flight
 -- one that was pending, with the keys that it still has
@@ -49,8 +49,8 @@ pub record PendingOne (h : List Item) (q : InFlight) : Type 0 where
   pub some : q.keys ≢ []
   pub so_far : IsDrawnSoFar h q q.stage
 
-pub pending_one : (nodes : List (Option InstanceEntry)) (h : List Item) (q : InFlight) → ArePending nodes h → Pending nodes q → PendingOne h q
-pending_one nodes h q pending p = record { begun = pending.begun q p; keys = (pending.keys q p).0; some = (pending.keys q p).1; so_far = pending.so_far q p }
+pub pending_one : (clients : List Client) (nodes : List (Option InstanceEntry)) (h : List Item) (q : InFlight) → ArePending clients nodes h → Pending clients nodes q → PendingOne h q
+pending_one clients nodes h q pending p = record { begun = pending.begun q p; keys = (pending.keys q p).0; some = (pending.keys q p).1; so_far = pending.so_far q p }
 
 pub pending_on : (h g : List Item) (q : InFlight) → GoesOn h g → StaysPending h g q → PendingOne h q → PendingOne g q
 pending_on h g q on stays one = record {
@@ -60,16 +60,17 @@ pending_on h g q on stays one = record {
   so_far = so_far_on h g q q.stage on stays.alone one.so_far;
 }
 
-pub are_pending : (nodes : List (Option InstanceEntry)) (h : List Item) → ((q : InFlight) → Pending nodes q → PendingOne h q) → ArePending nodes h
-are_pending nodes h each = record {
+-- each drawn commit that an instance holds was drawn there
+abbrev pub AreDrawnHere : List (Option InstanceEntry) → List Item → Type 0
+AreDrawnHere nodes h = (n s t c : ℕ) (keys : List ℕ) (i : InstanceEntry) → InstanceAt nodes n i → HeldBy i s (Commit s t keys) (progress.Drawn c) → DrewCommit h s n i.term t c
+
+pub are_pending : (clients : List Client) (nodes : List (Option InstanceEntry)) (h : List Item) → ((q : InFlight) → Pending clients nodes q → PendingOne h q) → AreDrawnHere nodes h → ArePending clients nodes h
+are_pending clients nodes h each here = record {
   begun = λ q p. (each q p).begun;
   keys = λ q p. ((each q p).keys, (each q p).some);
   so_far = λ q p. (each q p).so_far;
+  here = here;
 }
-
--- fewer commits in flight, none of which the further items concern
-pub pending_fewer : (old new : List (Option InstanceEntry)) (h g : List Item) → FewerPending old new → GoesOn h g → ((q : InFlight) → Pending old q → StaysPending h g q) → ArePending old h → ArePending new g
-pending_fewer old new h g fewer on stays pending = are_pending new g (λ q p. pending_on h g q on (stays q (fewer q p)) (pending_one old h q pending (fewer q p)))
 
 -- ---- settled commits
 -- a settled commit as it stands
@@ -130,6 +131,15 @@ settled_fewer old new h g fewer on alone settled = are_settled new g (λ n s t c
     let one : SettledOne h n s was.0.term t c by = settled_one old h n s t c by was.0 settled before in
     subst (λ term. SettledOne g n s term t c by) (sym was.3)
     (settled_on h g n s was.0.term t c by on (λ d is placed. alone n s t c d was.0 (subst (λ (b : Settled). SettledAt old n s t c b was.0) is before) placed) one))
+
+-- fewer commits in flight, none of which the further items concern
+pub here_fewer : (old new : List (Option InstanceEntry)) (h g : List Item) → FewerStanding IsDrawnNow old new → GoesOn h g → AreDrawnHere old h → AreDrawnHere new g
+here_fewer old new h g fewer on here n s t c keys j at held =
+    let was = fewer.each n s j (Commit s t keys) (progress.Drawn c) tt at held in
+    subst (λ term. DrewCommit g s n term t c) (sym was.3) (on _ (here n s t c keys was.0 was.1 was.2))
+
+pub pending_fewer : (clients new_clients : List Client) (old new : List (Option InstanceEntry)) (h g : List Item) → FewerPending clients old new_clients new → FewerStanding IsDrawnNow old new → GoesOn h g → ((q : InFlight) → Pending clients old q → StaysPending h g q) → ArePending clients old h → ArePending new_clients new g
+pending_fewer clients new_clients old new h g fewer standing on stays pending = are_pending new_clients new g (λ q p. pending_on h g q on (stays q (fewer q p)) (pending_one clients old h q pending (fewer q p))) (here_fewer old new h g standing on pending.here)
 
 pub accepted_fewer : (old new : List (Option InstanceEntry)) → FewerStanding IsAcceptedNow old new → AreAccepted old → AreAccepted new
 accepted_fewer old new fewer accepted = record {

@@ -9,12 +9,14 @@ use Rattle.oracle_parts.specs.Instance.{InstanceEntry, held_of, with_request}
 use Rattle.oracle_parts.specs.InstanceSteps.{moved, just_asked}
 use Rattle.machine.specs.State.{State}
 use Rattle.isolation_laws.specs.Words.{HeldBy}
-use Rattle.isolation_laws.specs.Pending.{Stage, Waits, Taken, Has, InFlight, stage_of, Pending, IsStageBelow, ComesBelow}
+use Rattle.isolation_laws.specs.Pending.{Stage, Waits, Taken, Has, InFlight, stage_of, HeldPending, Pending, IsStageBelow, ComesBelow}
 use Rattle.isolation_laws.proofs.Lookups.{instance_changed, heldby_changed}
 use Rattle.isolation_laws.proofs.Outcome.OutcomesOfRequests.{AskedCommit, asked_commit_state, Accepted, accepted_state}
 use Rattle.isolation_laws.proofs.Outcome.OutcomesOfStamps.{Drew, drew_instance, drew_state}
 use Rattle.isolation_laws.proofs.Requests.PendingAfter.{PendingIn, pending_in, pending_at}
-use Rattle.isolation_laws.proofs.Requests.PendingFewer.{StaysElsewhere}
+use Rattle.isolation_laws.proofs.Requests.PendingFewer.{StaysElsewhere, StaysPut, stays_pending}
+use Rattle.isolation_laws.proofs.Requests.ClientsOpen.{placing_was}
+use Rattle.isolation_laws.proofs.Requests.OpenAfter.{at_work_asked_commit}
 
 -- ---- outcomes that move a commit in flight
 -- the request of the place is the one that was put there
@@ -24,8 +26,6 @@ commit_is r s t keys q same = (cc, cc, cc)
 -- a commit that was asked now waits
 pub record IsAsked (w : State) (k : AskedCommit w) (q : InFlight) : Type 0 where
   pub session_is : q.session ≡ k.session
-  pub node_is : q.node ≡ k.node
-  pub term_is : q.term ≡ k.i.term
   pub start_is : q.start ≡ k.start
   pub keys_are : q.keys ≡ k.c.entry.keys
   pub waits : q.stage ≡ Waits
@@ -33,74 +33,72 @@ pub record IsAsked (w : State) (k : AskedCommit w) (q : InFlight) : Type 0 where
 stage_now : (a b : Stage) → Some a ≡ Some b → b ≡ a
 stage_now a b same = sym (same_Some a b same)
 
-asked_here : (w : State) (k : AskedCommit w) (q : InFlight) → q.node ≡ k.node → PendingIn (with_request k.i k.session (Some (just_asked (Commit k.session k.start k.c.entry.keys)))) q → Pending w.nodes q ⊎ IsAsked w k q
-asked_here w k q node p = elim (heldby_changed k.i k.session q.session (just_asked (Commit k.session k.start k.c.entry.keys)) (Commit q.session q.start q.keys) p.progress_of p.held) [
+asked_here : (w : State) (k : AskedCommit w) (q : InFlight) → PendingIn (with_request k.i k.session (Some (just_asked (Commit k.session k.start k.c.entry.keys)))) q → HeldPending w.nodes q ⊎ IsAsked w k q
+asked_here w k q p = elim (heldby_changed k.i k.session q.session (just_asked (Commit k.session k.start k.c.entry.keys)) (Commit q.session q.start q.keys) p.progress_of p.held) [
   | inl here ↦ let same = commit_is k.session k.session k.start k.c.entry.keys q here.1 in
       inr (record {
         session_is = here.0;
-        node_is = node;
-        term_is = sym p.term_is;
         start_is = same.1;
         keys_are = same.2;
         waits = stage_now Waits q.stage (ap (stage_of k.i.last) here.2 ∙ p.stage_is);
       })
-  | inr there ↦ inl (pending_at w.nodes q k.node k.i node k.at (record { progress_of = p.progress_of; held = there.1; term_is = p.term_is; stage_is = p.stage_is }))
+  | inr there ↦ inl (pending_at w.nodes q k.node k.i k.at (record { progress_of = p.progress_of; held = there.1; stage_is = p.stage_is }))
 ]
 
-pub pending_asked_commit : (w : State) (k : AskedCommit w) (q : InFlight) → Pending (asked_commit_state w k).nodes q → Pending w.nodes q ⊎ IsAsked w k q
-pending_asked_commit w k q p = elim (instance_changed w.nodes k.node q.node (with_request k.i k.session (Some (just_asked (Commit k.session k.start k.c.entry.keys)))) p.instance_of p.at) [
-  | inl here ↦ asked_here w k q here.0 (subst (λ (x : InstanceEntry). PendingIn x q) here.1 (pending_in (asked_commit_state w k).nodes q p))
-  | inr there ↦ inl (pending_at w.nodes q q.node p.instance_of refl there.1 (pending_in (asked_commit_state w k).nodes q p))
+served_asked_commit : (w : State) (k : AskedCommit w) (q : InFlight) → HeldPending (asked_commit_state w k).nodes q → HeldPending w.nodes q ⊎ IsAsked w k q
+served_asked_commit w k q p = elim (instance_changed w.nodes k.node p.node (with_request k.i k.session (Some (just_asked (Commit k.session k.start k.c.entry.keys)))) p.instance_of p.at) [
+  | inl here ↦ asked_here w k q (subst (λ (x : InstanceEntry). PendingIn x q) here.1 (pending_in (asked_commit_state w k).nodes q p))
+  | inr there ↦ inl (pending_at w.nodes q p.node p.instance_of there.1 (pending_in (asked_commit_state w k).nodes q p))
 ]
+
+pub pending_asked_commit : (w : State) (k : AskedCommit w) (q : InFlight) → Pending (asked_commit_state w k).clients (asked_commit_state w k).nodes q → Pending w.clients w.nodes q ⊎ IsAsked w k q
+pending_asked_commit w k q (inl p) = elim (served_asked_commit w k q p) [ inl old ↦ inl (inl old) | inr new ↦ inr new ]
+pending_asked_commit w k q (inr p) = inl (inr (placing_was w.clients (asked_commit_state w k).clients q (at_work_asked_commit w k).placing p))
 
 -- a commit that was accepted is taken by an instance with this last stamp
 pub record IsTaken (w : State) (k : Accepted w) (q : InFlight) : Type 0 where
-  pub node_is : q.node ≡ k.node
   pub session_is : q.session ≡ k.session
-  pub term_is : q.term ≡ k.i.term
   pub request_is : k.held.request ≡ Commit q.session q.start q.keys
   pub taken : q.stage ≡ Taken k.i.last
-  pub waited : Pending w.nodes (record q { stage = Waits })
+  pub waited : HeldPending w.nodes (record q { stage = Waits })
 
-taken_here : (w : State) (k : Accepted w) (q : InFlight) → q.node ≡ k.node → PendingIn (moved k.i k.session k.held progress.Accepted) q → Pending w.nodes q ⊎ IsTaken w k q
-taken_here w k q node p = elim (heldby_changed k.i k.session q.session (record k.held { progress = progress.Accepted }) (Commit q.session q.start q.keys) p.progress_of p.held) [
+taken_here : (w : State) (k : Accepted w) (q : InFlight) → PendingIn (moved k.i k.session k.held progress.Accepted) q → HeldPending w.nodes q ⊎ IsTaken w k q
+taken_here w k q p = elim (heldby_changed k.i k.session q.session (record k.held { progress = progress.Accepted }) (Commit q.session q.start q.keys) p.progress_of p.held) [
   | inl here ↦ inr (record {
-    node_is = node;
     session_is = here.0;
-    term_is = sym p.term_is;
     request_is = here.1;
     taken = stage_now (Taken k.i.last) q.stage (ap (stage_of k.i.last) here.2 ∙ p.stage_is);
-    waited = pending_at w.nodes (record q { stage = Waits }) k.node k.i node k.at (record {
+    waited = pending_at w.nodes (record q { stage = Waits }) k.node k.i k.at (record {
       progress_of = progress.Asked;
       held = record { held = k.held; has = ap (λ s. held_of k.i s) here.0 ∙ k.has; asks = here.1; stands = k.asked };
-      term_is = p.term_is;
       stage_is = refl;
     });
   })
-  | inr there ↦ inl (pending_at w.nodes q k.node k.i node k.at (record { progress_of = p.progress_of; held = there.1; term_is = p.term_is; stage_is = p.stage_is }))
+  | inr there ↦ inl (pending_at w.nodes q k.node k.i k.at (record { progress_of = p.progress_of; held = there.1; stage_is = p.stage_is }))
 ]
 
-pub pending_accepted : (w : State) (k : Accepted w) (q : InFlight) → Pending (accepted_state w k).nodes q → Pending w.nodes q ⊎ IsTaken w k q
-pending_accepted w k q p = elim (instance_changed w.nodes k.node q.node (moved k.i k.session k.held progress.Accepted) p.instance_of p.at) [
-  | inl here ↦ taken_here w k q here.0 (subst (λ (x : InstanceEntry). PendingIn x q) here.1 (pending_in (accepted_state w k).nodes q p))
-  | inr there ↦ inl (pending_at w.nodes q q.node p.instance_of refl there.1 (pending_in (accepted_state w k).nodes q p))
+served_accepted : (w : State) (k : Accepted w) (q : InFlight) → HeldPending (accepted_state w k).nodes q → HeldPending w.nodes q ⊎ IsTaken w k q
+served_accepted w k q p = elim (instance_changed w.nodes k.node p.node (moved k.i k.session k.held progress.Accepted) p.instance_of p.at) [
+  | inl here ↦ taken_here w k q (subst (λ (x : InstanceEntry). PendingIn x q) here.1 (pending_in (accepted_state w k).nodes q p))
+  | inr there ↦ inl (pending_at w.nodes q p.node p.instance_of there.1 (pending_in (accepted_state w k).nodes q p))
 ]
+
+pub pending_accepted : (w : State) (k : Accepted w) (q : InFlight) → Pending w.clients (accepted_state w k).nodes q → Pending w.clients w.nodes q ⊎ IsTaken w k q
+pending_accepted w k q (inl p) = elim (served_accepted w k q p) [ inl old ↦ inl (inl old) | inr new ↦ inr new ]
+pending_accepted w k q (inr p) = inl (inr p)
 
 -- the one that drew has its commit
 pub record IsDrawnNow (w : State) (k : Drew w) (q : InFlight) : Type 0 where
-  pub node_is : q.node ≡ k.node
   pub session_is : q.session ≡ k.session
-  pub term_is : q.term ≡ k.i.term
   pub request_is : k.held.request ≡ Commit q.session q.start q.keys
   pub has : q.stage ≡ Has (k.i.last + 1)
-  pub was_taken : Pending w.nodes (record q { stage = Taken k.i.last })
+  pub was_taken : HeldPending w.nodes (record q { stage = Taken k.i.last })
 
 -- another that the instance has taken sees the later last stamp
 pub record IsOlder (w : State) (k : Drew w) (q : InFlight) : Type 0 where
-  pub node_is : q.node ≡ k.node
   pub other : q.session ≢ k.session
   pub taken : q.stage ≡ Taken (k.i.last + 1)
-  pub was_taken : Pending w.nodes (record q { stage = Taken k.i.last })
+  pub was_taken : HeldPending w.nodes (record q { stage = Taken k.i.last })
 
 -- of a commit that another instance's last stamp stands beside: the stage but for that stamp
 older_stage : (last : ℕ) (p : Progress) (stage : Stage) → stage_of (last + 1) p ≡ Some stage → (stage_of last p ≡ Some stage) ⊎ ((stage ≡ Taken (last + 1)) × (stage_of last p ≡ Some (Taken last)))
@@ -109,62 +107,62 @@ older_stage last progress.Accepted stage is = inr (stage_now (Taken (last + 1)) 
 older_stage last (progress.Drawn commit) stage is = inl is
 older_stage last (progress.Settled commit by) stage is = inl is
 
-drawn_other : (w : State) (k : Drew w) (q : InFlight) → q.node ≡ k.node → q.session ≢ k.session → (p : PendingIn (drew_instance w k) q) → HeldBy k.i q.session (Commit q.session q.start q.keys) p.progress_of → StaysElsewhere w.nodes k.node k.session q ⊎ (IsOlder w k q ⊎ IsDrawnNow w k q)
-drawn_other w k q node other p held = elim (older_stage k.i.last p.progress_of q.stage p.stage_is) [
-  | inl same ↦ inl (pending_at w.nodes q k.node k.i node k.at (record { progress_of = p.progress_of; held = held; term_is = p.term_is; stage_is = same }), λ is. other is.1)
+drawn_other : (w : State) (k : Drew w) (q : InFlight) → q.session ≢ k.session → (p : PendingIn (drew_instance w k) q) → HeldBy k.i q.session (Commit q.session q.start q.keys) p.progress_of → StaysElsewhere w.nodes k.node k.session q ⊎ (IsOlder w k q ⊎ IsDrawnNow w k q)
+drawn_other w k q other p held = elim (older_stage k.i.last p.progress_of q.stage p.stage_is) [
+  | inl same ↦ inl (pending_at w.nodes q k.node k.i k.at (record { progress_of = p.progress_of; held = held; stage_is = same }), λ is. other is.1)
   | inr older ↦ inr (inl (record {
-    node_is = node;
     other = other;
     taken = older.0;
-    was_taken = pending_at w.nodes (record q { stage = Taken k.i.last }) k.node k.i node k.at (record { progress_of = p.progress_of; held = held; term_is = p.term_is; stage_is = older.1 });
+    was_taken = pending_at w.nodes (record q { stage = Taken k.i.last }) k.node k.i k.at (record { progress_of = p.progress_of; held = held; stage_is = older.1 });
   }))
 ]
 
-drawn_here : (w : State) (k : Drew w) (q : InFlight) → q.node ≡ k.node → PendingIn (drew_instance w k) q → StaysElsewhere w.nodes k.node k.session q ⊎ (IsOlder w k q ⊎ IsDrawnNow w k q)
-drawn_here w k q node p = elim (heldby_changed k.i k.session q.session (record k.held { progress = progress.Drawn (k.i.last + 1) }) (Commit q.session q.start q.keys) p.progress_of (record { held = p.held.held; has = p.held.has; asks = p.held.asks; stands = p.held.stands })) [
+drawn_here : (w : State) (k : Drew w) (q : InFlight) → PendingIn (drew_instance w k) q → StaysElsewhere w.nodes k.node k.session q ⊎ (IsOlder w k q ⊎ IsDrawnNow w k q)
+drawn_here w k q p = elim (heldby_changed k.i k.session q.session (record k.held { progress = progress.Drawn (k.i.last + 1) }) (Commit q.session q.start q.keys) p.progress_of (record { held = p.held.held; has = p.held.has; asks = p.held.asks; stands = p.held.stands })) [
   | inl here ↦ inr (inr (record {
-    node_is = node;
     session_is = here.0;
-    term_is = sym p.term_is;
     request_is = here.1;
     has = stage_now (Has (k.i.last + 1)) q.stage (ap (stage_of (k.i.last + 1)) here.2 ∙ p.stage_is);
-    was_taken = pending_at w.nodes (record q { stage = Taken k.i.last }) k.node k.i node k.at (record {
+    was_taken = pending_at w.nodes (record q { stage = Taken k.i.last }) k.node k.i k.at (record {
       progress_of = progress.Accepted;
       held = record { held = k.held; has = ap (λ s. held_of k.i s) here.0 ∙ k.has; asks = here.1; stands = k.accepted };
-      term_is = p.term_is;
       stage_is = refl;
     });
   }))
-  | inr there ↦ drawn_other w k q node there.0 p there.1
+  | inr there ↦ drawn_other w k q there.0 p there.1
 ]
 
-pub pending_drew : (w : State) (k : Drew w) (q : InFlight) → Pending (drew_state w k).nodes q → StaysElsewhere w.nodes k.node k.session q ⊎ (IsOlder w k q ⊎ IsDrawnNow w k q)
-pending_drew w k q p = elim (instance_changed w.nodes k.node q.node (drew_instance w k) p.instance_of p.at) [
-  | inl here ↦ drawn_here w k q here.0 (subst (λ (x : InstanceEntry). PendingIn x q) here.1 (pending_in (drew_state w k).nodes q p))
-  | inr there ↦ inl (pending_at w.nodes q q.node p.instance_of refl there.1 (pending_in (drew_state w k).nodes q p), λ same. there.0 same.0)
+served_drew : (w : State) (k : Drew w) (q : InFlight) → HeldPending (drew_state w k).nodes q → StaysElsewhere w.nodes k.node k.session q ⊎ (IsOlder w k q ⊎ IsDrawnNow w k q)
+served_drew w k q p = elim (instance_changed w.nodes k.node p.node (drew_instance w k) p.instance_of p.at) [
+  | inl here ↦ drawn_here w k q (subst (λ (x : InstanceEntry). PendingIn x q) here.1 (pending_in (drew_state w k).nodes q p))
+  | inr there ↦ inl (pending_at w.nodes q p.node p.instance_of there.1 (pending_in (drew_state w k).nodes q p), λ same. there.0 same.0)
 ]
+
+pub pending_drew : (w : State) (k : Drew w) (q : InFlight) → Pending w.clients (drew_state w k).nodes q → StaysPut w.clients w.nodes k.node k.session q ⊎ (IsOlder w k q ⊎ IsDrawnNow w k q)
+pending_drew w k q (inl p) = elim (served_drew w k q p) [ inl old ↦ inl (inl old) | inr new ↦ inr new ]
+pending_drew w k q (inr p) = inl (inr p)
 
 -- ---- what may come below a start
 below_less : (last b : ℕ) → last + 1 < b → last < b
 below_less last b below = omega (arith, below)
 
 -- what waits does not come yet
-pub comes_asked_commit : (w : State) (k : AskedCommit w) (b t : ℕ) → ComesBelow (asked_commit_state w k).nodes b t → ComesBelow w.nodes b t
+pub comes_asked_commit : (w : State) (k : AskedCommit w) (b t : ℕ) → ComesBelow (asked_commit_state w k).clients (asked_commit_state w k).nodes b t → ComesBelow w.clients w.nodes b t
 comes_asked_commit w k b t c = elim (pending_asked_commit w k c.coming c.pending) [
   | inl old ↦ record { coming = c.coming; pending = old; start_is = c.start_is; below = c.below }
   | inr new ↦ absurd (subst (IsStageBelow b) new.waits c.below)
 ]
 
-pub comes_accepted : (w : State) (k : Accepted w) (b t : ℕ) → ComesBelow (accepted_state w k).nodes b t → ComesBelow w.nodes b t ⊎ ((q : InFlight) × IsTaken w k q × (q.start ≡ t) × (k.i.last < b))
+pub comes_accepted : (w : State) (k : Accepted w) (b t : ℕ) → ComesBelow w.clients (accepted_state w k).nodes b t → ComesBelow w.clients w.nodes b t ⊎ ((q : InFlight) × IsTaken w k q × (q.start ≡ t) × (k.i.last < b))
 comes_accepted w k b t c = elim (pending_accepted w k c.coming c.pending) [
   | inl old ↦ inl (record { coming = c.coming; pending = old; start_is = c.start_is; below = c.below })
   | inr new ↦ inr (c.coming, new, c.start_is, subst (IsStageBelow b) new.taken c.below)
 ]
 
 -- what has its commit now, and what sees a later last stamp, came below the start before
-pub comes_drew : (w : State) (k : Drew w) (b t : ℕ) → ComesBelow (drew_state w k).nodes b t → ComesBelow w.nodes b t
+pub comes_drew : (w : State) (k : Drew w) (b t : ℕ) → ComesBelow w.clients (drew_state w k).nodes b t → ComesBelow w.clients w.nodes b t
 comes_drew w k b t c = elim (pending_drew w k c.coming c.pending) [
-  | inl old ↦ record { coming = c.coming; pending = old.0; start_is = c.start_is; below = c.below }
-  | inr (inl older) ↦ record { coming = record c.coming { stage = Taken k.i.last }; pending = older.was_taken; start_is = c.start_is; below = below_less k.i.last b (subst (IsStageBelow b) older.taken c.below) }
-  | inr (inr drawn) ↦ record { coming = record c.coming { stage = Taken k.i.last }; pending = drawn.was_taken; start_is = c.start_is; below = below_less k.i.last b (subst (IsStageBelow b) drawn.has c.below) }
+  | inl old ↦ record { coming = c.coming; pending = stays_pending w.clients w.nodes k.node k.session c.coming old; start_is = c.start_is; below = c.below }
+  | inr (inl older) ↦ record { coming = record c.coming { stage = Taken k.i.last }; pending = inl older.was_taken; start_is = c.start_is; below = below_less k.i.last b (subst (IsStageBelow b) older.taken c.below) }
+  | inr (inr drawn) ↦ record { coming = record c.coming { stage = Taken k.i.last }; pending = inl drawn.was_taken; start_is = c.start_is; below = below_less k.i.last b (subst (IsStageBelow b) drawn.has c.below) }
 ]

@@ -1,5 +1,5 @@
 -- Requests and the sessions that wait for them, where an instance or a client changes.
-use Rattle.std.proofs.Common.{◌≡◌, ◌≢◌, ℕ, zero, suc, Bool, List, [], ◌∷◌, Option, Some, None, ◌⊎◌, inl, inr, refl, sym, ◌∙◌, ap, subst}
+use Rattle.std.proofs.Common.{◌≡◌, ◌≢◌, ℕ, zero, suc, Bool, true, List, [], ◌∷◌, Option, Some, None, ◌⊎◌, inl, inr, refl, sym, ◌∙◌, ap, subst}
 use Rattle.std.specs.Prelude.{slice_set, slice_index_or}
 use Rattle.std.proofs.lemmas.Bool.{cases_eq}
 use Rattle.std.proofs.lemmas.Option.{same_Some, none-some}
@@ -13,7 +13,9 @@ use Rattle.oracle_parts.specs.Instance.{InstanceEntry, held_of, with_request, se
 use Rattle.machine.specs.State.{Client}
 use Rattle.machine.specs.Events.Crash.{crashed_clients}
 use Rattle.isolation_laws.specs.Words.{InstanceAt, HeldBy, ClientAt}
+use Rattle.isolation_laws.specs.Pending.{is_placing}
 use Rattle.isolation_laws.specs.Requests.{WaitsFor, AreRequests}
+use Rattle.isolation_laws.proofs.Requests.ClientsOpen.{asking_rests, committing_rests, gone_rests}
 use Rattle.isolation_laws.proofs.Lookups.{instance_changed, instance_ended, one_client, held_set, set_found, set_other}
 
 -- ---- instances with the same requests or fewer
@@ -83,6 +85,13 @@ outcome_waits = record { gone = λ is. cc; asking = λ is. cc; committing = λ i
 
 pub completing_waits : (undo : Bool) → WaitsForNone (phase.Completing undo)
 completing_waits undo = record { gone = λ is. cc; asking = λ is. cc; committing = λ is. cc }
+
+pub placing_waits : (state : SessionState) → is_placing state ≡ true → WaitsForNone state
+placing_waits state placing = record {
+  gone = λ is. gone_rests.not_placing (ap is_placing (sym is) ∙ placing);
+  asking = λ is. asking_rests.not_placing (ap is_placing (sym is) ∙ placing);
+  committing = λ is. committing_rests.not_placing (ap is_placing (sym is) ∙ placing);
+}
 
 -- no request is held of a session that waits for none
 pub none_held : (nodes : List (Option InstanceEntry)) (clients : List Client) (s : ℕ) (c : Client) (state : SessionState) → AreRequests nodes clients → ClientAt clients s c → c.entry.state ≡ state → WaitsForNone state → (n : ℕ) (i : InstanceEntry) (request : Request) (p : Progress) → InstanceAt nodes n i → HeldBy i s request p → ⊥

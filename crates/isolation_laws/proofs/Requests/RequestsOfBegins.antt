@@ -18,9 +18,10 @@ use Rattle.isolation_laws.specs.Holds.{Holds}
 use Rattle.isolation_laws.proofs.Lookups.{held_by, instance_changed, heldby_ended, begin_own}
 use Rattle.isolation_laws.proofs.OnceEach.{drawn_once}
 use Rattle.isolation_laws.proofs.Outcome.OutcomesOfStamps.{AnsweredBegin, answered_begin_state, answered_begin_items}
-use Rattle.isolation_laws.proofs.Requests.PendingFewer.{fewer_answered_begin}
-use Rattle.isolation_laws.proofs.Requests.ClientsOpen.{gone_cases}
-use Rattle.isolation_laws.proofs.Requests.OpenAfter.{open_answered_begin}
+use Rattle.isolation_laws.proofs.Requests.PendingFewer.{pending_answered_begin}
+use Rattle.isolation_laws.proofs.Requests.ClientsOpen.{open_not_placing, gone_cases}
+use Rattle.isolation_laws.proofs.Requests.OpenAfter.{open_answered_begin, placing_answered_begin}
+use Rattle.isolation_laws.proofs.Requests.RequestsKept.{form_fewer}
 use Rattle.isolation_laws.proofs.Numbers.NumbersKept.{drew_start}
 use Rattle.isolation_laws.proofs.Requests.ClientsAfter.{BegunClient, begun_set, have_on, KeysClient, keys_client, keys_set, written_keys-no_write, written_keys-none}
 use Rattle.isolation_laws.proofs.Requests.RequestsAfter.{requests_over}
@@ -55,7 +56,8 @@ start_unbegun w h k r holds begun = holds.requests.starting.unbegun k.node k.ses
 
 pub open_not_asked : HasAsked phase.Open → ⊥
 open_not_asked (inl is) = cc
-open_not_asked (inr is) = cc
+open_not_asked (inr (inl is)) = cc
+open_not_asked (inr (inr is)) = open_not_placing is
 
 keys_longer : (w : State) (h : List Item) (k : AnsweredBegin w) (c : Client) → KeysClient h c → KeysClient (h ++ answered_begin_items w k) c
 keys_longer w h k c keys = record { written = λ t is start. keys.written t is start ∙ sym (begin_writes_none h k.session k.start t); some = keys.some }
@@ -105,7 +107,7 @@ other_begin w h k n s t r i holds at held begun = elim (instance_changed w.nodes
   ]
 ]
 
-pub requests_answered_begin : (w : State) (h : List Item) (k : AnsweredBegin w) → Holds w h → RequestFacts (answered_begin_state w k).nodes (answered_begin_state w k).clients (h ++ answered_begin_items w k)
+pub requests_answered_begin : (w : State) (h : List Item) (k : AnsweredBegin w) → Holds w h → RequestFacts w.setup (answered_begin_state w k).nodes (answered_begin_state w k).clients (h ++ answered_begin_items w k)
 requests_answered_begin w h k holds =
     let g : List Item = h ++ answered_begin_items w k in
     let on : GoesOn h g = goes_on h (answered_begin_items w k) in
@@ -119,7 +121,7 @@ requests_answered_begin w h k holds =
             subst (λ term. DrewStart g s n term t) (sym was.3) (on _ (holds.requests.starting.drawn n s t was.0 was.1 was.2));
         unbegun = λ n s t r j at is begun. other_begin w h k n s t r j holds at is begun;
       };
-      pending = pending_fewer w.nodes (answered_begin_state w k).nodes h g (fewer_answered_begin w k) on (λ q p. record {
+      pending = pending_fewer w.clients (answered_begin_state w k).clients w.nodes (answered_begin_state w k).nodes h g (pending_answered_begin w k) (standing_over IsDrawnNow w.nodes k.node k.session k.i k.at) on (λ q p. record {
         alone = record { undrawn = no_drawn_begin h k.session k.start q.start; unplaced = λ c placed. in_old (Placed q.start c) (Begin k.session k.start) h (λ is. cc) placed };
         keys = begin_writes_none h k.session k.start q.start;
       }) holds.requests.pending;
@@ -142,4 +144,5 @@ requests_answered_begin w h k holds =
         written = λ s t c at is start. holds.requests.keys.written s t c at is start ∙ sym (begin_writes_none h k.session k.start t);
         some = holds.requests.keys.some;
       });
+      form = form_fewer w.setup w.clients (answered_begin_state w k).clients (placing_answered_begin w k) holds.requests.form;
     }

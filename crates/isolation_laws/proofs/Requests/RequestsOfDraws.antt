@@ -1,5 +1,5 @@
 -- Sessions and requests where a stamp is drawn, and where a commit is settled.
-use Rattle.std.proofs.Common.{◌≡◌, ℕ, ◌+◌, List, ◌++◌, Option, Some, None, ◌⊎◌, inl, inr, refl, sym, ◌∙◌, ap, subst, arith}
+use Rattle.std.proofs.Common.{◌≡◌, ◌≢◌, ℕ, ◌+◌, List, ◌++◌, Option, Some, None, ◌⊎◌, inl, inr, refl, sym, ◌∙◌, ap, subst, arith}
 use Rattle.std.proofs.lemmas.Option.{same_Some, none-some}
 use Rattle.history_book.specs.Members.{◌∈◌}
 use Rattle.history_book.specs.declared.item.Item.{Item}
@@ -12,13 +12,14 @@ use Rattle.oracle_parts.specs.Instance.{InstanceEntry}
 use Rattle.machine.specs.State.{State}
 use Rattle.machine.specs.Events.Decide.{draw_item}
 use Rattle.isolation_laws.specs.Words.{InstanceAt, HeldBy, OpenAt, Begun, DrewStart, DrewCommit, HasDrawn, written_keys}
-use Rattle.isolation_laws.specs.Pending.{Stage, Taken, InFlight, Pending}
+use Rattle.isolation_laws.specs.Pending.{Stage, Taken, InFlight}
 use Rattle.isolation_laws.specs.Requests.{AreStarting, IsDrawnSoFar, ArePending, RequestFacts}
 use Rattle.isolation_laws.specs.Holds.{Holds}
-use Rattle.isolation_laws.proofs.Lookups.{held_by, held_set, instance_changed}
-use Rattle.isolation_laws.proofs.OnceEach.{begun_once}
+use Rattle.isolation_laws.proofs.Lookups.{held_set, instance_changed}
 use Rattle.isolation_laws.proofs.Owners.{open_not_pending, so_far_unplaced}
 use Rattle.isolation_laws.proofs.Outcome.OutcomesOfStamps.{Drew, drew_instance, drew_state, drew_items}
+use Rattle.isolation_laws.proofs.Requests.OtherCommits.{other_commit}
+use Rattle.isolation_laws.proofs.Requests.PendingFewer.{StaysPut, stays_pending}
 use Rattle.isolation_laws.proofs.Requests.PendingMoved.{IsOlder, IsDrawnNow as IsDrawnQ, pending_drew}
 use Rattle.isolation_laws.proofs.Numbers.NumbersKept.{open_begun}
 use Rattle.isolation_laws.proofs.Requests.ClientsAfter.{have_on, written_keys-no_write}
@@ -57,17 +58,11 @@ drew_or_drawn w k h t (s, n, term, c, drew) = elim (in_push (Draw s n term t (So
 
 -- the one that draws, as it was taken
 abbrev pub drawing : (w : State) → Drew w → ℕ → List ℕ → InFlight
-drawing w k t keys = record { session = k.session; node = k.node; term = k.i.term; start = t; keys = keys; stage = Taken k.i.last }
-
-pub drawing_pending : (w : State) (h : List Item) (k : Drew w) (r t : ℕ) (keys : List ℕ) → Holds w h → k.held.request ≡ Commit r t keys → Pending w.nodes (drawing w k t keys)
-drawing_pending w h k r t keys holds is = drew_taken w k r t keys holds.requests.requests is
+drawing w k t keys = record { session = k.session; start = t; keys = keys; stage = Taken k.i.last }
 
 -- another commit in flight is of another transaction
-other_start : (w : State) (h : List Item) (k : Drew w) (q : InFlight) (t : ℕ) → Holds w h → Pending w.nodes q → DrawsFor w k t → q.start ≡ t → (q.node ≡ k.node) × (q.session ≡ k.session)
-other_start w h k q t holds p draws same =
-    let mine : Pending w.nodes (drawing w k t draws.1) = drawing_pending w h k draws.0 t draws.1 holds draws.2 in
-    let session : q.session ≡ k.session = begun_once h q.session k.session t holds.isolated.stamped (subst (Begun h q.session) same (holds.requests.pending.begun q p)) (holds.requests.pending.begun (drawing w k t draws.1) mine) in
-    (holds.requests.requests.one q.node k.node k.session p.instance_of k.i (Commit q.session q.start q.keys) k.held.request p.progress_of k.held.progress p.at k.at (subst (λ s. HeldBy p.instance_of s (Commit q.session q.start q.keys) p.progress_of) session p.held) (held_by k.i k.session k.held k.has), session)
+other_start : (w : State) (h : List Item) (k : Drew w) (q : InFlight) (t : ℕ) → Holds w h → StaysPut w.clients w.nodes k.node k.session q → DrawsFor w k t → q.start ≢ t
+other_start w h k q t holds stays draws = other_commit w.clients w.nodes h q (drawing w k t draws.1) holds.isolated.stamped holds.requests.requests holds.requests.pending (drew_taken w k draws.0 t draws.1 holds.requests.requests draws.2) stays
 
 -- ---- commits in flight
 -- a commit that was taken stays in flight, with what is drawn for it so far
@@ -82,47 +77,35 @@ taken_one w h k q before so_far = record {
 older_one : (w : State) (h : List Item) (k : Drew w) (q : InFlight) → Holds w h → IsOlder w k q → PendingOne (h ++ drew_items w k) q
 older_one w h k q holds is =
     let g : List Item = h ++ drew_items w k in
-    let before : PendingOne h (record q { stage = Taken k.i.last }) = pending_one w.nodes h (record q { stage = Taken k.i.last }) holds.requests.pending is.was_taken in
+    let before : PendingOne h (record q { stage = Taken k.i.last }) = pending_one w.clients w.nodes h (record q { stage = Taken k.i.last }) holds.requests.pending (inl is.was_taken) in
     taken_one w h k q before (subst (λ (stage : Stage). IsDrawnSoFar g q stage) (sym is.taken) (λ drew. elim (drew_or_drawn w k h q.start drew) [
       | inl old ↦ before.so_far old
-      | inr now ↦ is.other (other_start w h k (record q { stage = Taken k.i.last }) q.start holds is.was_taken now refl).1
+      | inr now ↦ other_start w h k (record q { stage = Taken k.i.last }) q.start holds (inl (is.was_taken, λ same. is.other same.1)) now refl
     ]))
 
 -- the draw of its commit
-draws_its : (w : State) (h : List Item) (k : Drew w) (q : InFlight) (request : Request) → k.held.request ≡ request → request ≡ Commit q.session q.start q.keys → q.node ≡ k.node → q.term ≡ k.i.term → DrewCommit (h ++ drew_items w k) q.session q.node q.term q.start (k.i.last + 1)
-draws_its w h k q request is asks node term =
-    let item : Draw q.session q.node q.term q.start (Some (k.i.last + 1)) ≡ new_draw w k =
-    ap (λ n. Draw q.session n q.term q.start (Some (k.i.last + 1))) node
-    ∙ (ap (λ x. Draw q.session k.node x q.start (Some (k.i.last + 1))) term
-    ∙ sym (ap (λ r. draw_item k.node k.i.term r (k.i.last + 1)) (is ∙ asks))) in
-    subst (λ x. x ∈ (h ++ drew_items w k)) (sym item) (in_last (new_draw w k) h)
+draws_its : (w : State) (h : List Item) (k : Drew w) (s t c : ℕ) (keys : List ℕ) → k.held.request ≡ Commit s t keys → c ≡ k.i.last + 1 → DrewCommit (h ++ drew_items w k) s k.node k.i.term t c
+draws_its w h k s t c keys is stamp = subst (λ x. x ∈ (h ++ drew_items w k)) (ap (λ r. draw_item k.node k.i.term r (k.i.last + 1)) is ∙ ap (λ u. Draw s k.node k.i.term t (Some u)) (sym stamp)) (in_last (new_draw w k) h)
 
 drawn_one : (w : State) (h : List Item) (k : Drew w) (q : InFlight) → Holds w h → IsDrawnQ w k q → PendingOne (h ++ drew_items w k) q
 drawn_one w h k q holds is =
     let g : List Item = h ++ drew_items w k in
-    let before : PendingOne h (record q { stage = Taken k.i.last }) = pending_one w.nodes h (record q { stage = Taken k.i.last }) holds.requests.pending is.was_taken in
+    let before : PendingOne h (record q { stage = Taken k.i.last }) = pending_one w.clients w.nodes h (record q { stage = Taken k.i.last }) holds.requests.pending (inl is.was_taken) in
     taken_one w h k q before (subst (λ (stage : Stage). IsDrawnSoFar g q stage) (sym is.has)
-    (draws_its w h k q k.held.request refl is.request_is is.node_is is.term_is, λ c placed. so_far_unplaced h (record q { stage = Taken k.i.last }) (Taken k.i.last) c holds.numbers.placed before.so_far (drew_placed_old w k h q.start c placed)))
+    ((k.node, k.i.term, draws_its w h k q.session q.start (k.i.last + 1) q.keys is.request_is refl), λ c placed. so_far_unplaced h (record q { stage = Taken k.i.last }) (Taken k.i.last) c holds.numbers.placed before.so_far (drew_placed_old w k h q.start c placed)))
 
 -- one that stays as it stood is not the one that draws
-stays_one : (w : State) (h : List Item) (k : Drew w) (q : InFlight) → Holds w h → Pending w.nodes q → ((q.node ≡ k.node) × (q.session ≡ k.session) → ⊥) → StaysPending h (h ++ drew_items w k) q
-stays_one w h k q holds p other = record {
+stays_one : (w : State) (h : List Item) (k : Drew w) (q : InFlight) → Holds w h → StaysPut w.clients w.nodes k.node k.session q → StaysPending h (h ++ drew_items w k) q
+stays_one w h k q holds stays = record {
   alone = record {
     undrawn = λ drew. elim (drew_or_drawn w k h q.start drew) [
       | inl old ↦ old
-      | inr now ↦ absurd (other (other_start w h k q q.start holds p now refl))
+      | inr now ↦ absurd (other_start w h k q q.start holds stays now refl)
     ];
     unplaced = λ c placed. drew_placed_old w k h q.start c placed;
   };
   keys = drew_keys w k h q.start;
 }
-
-drew_pending : (w : State) (h : List Item) (k : Drew w) → Holds w h → ArePending (drew_state w k).nodes (h ++ drew_items w k)
-drew_pending w h k holds = are_pending (drew_state w k).nodes (h ++ drew_items w k) (λ q p. elim (pending_drew w k q p) [
-  | inl old ↦ pending_on h (h ++ drew_items w k) q (goes_on h (drew_items w k)) (stays_one w h k q holds old.0 old.1) (pending_one w.nodes h q holds.requests.pending old.0)
-  | inr (inl older) ↦ older_one w h k q holds older
-  | inr (inr drawn) ↦ drawn_one w h k q holds drawn
-])
 
 -- ---- a begin that drew its start: nobody has begun it
 stamp_unbegun : (w : State) (h : List Item) (k : Drew w) (r : ℕ) → Holds w h → Begun h r (k.i.last + 1) → ⊥
@@ -137,16 +120,16 @@ begun_now : (w : State) (h : List Item) (k : Drew w) (s t : ℕ) → k.held.requ
 begun_now w h k s t is stamp = subst (λ x. x ∈ (h ++ drew_items w k)) (ap (λ r. draw_item k.node k.i.term r (k.i.last + 1)) is ∙ ap (λ u. Draw s k.node k.i.term u None) (sym stamp)) (in_last (new_draw w k) h)
 
 -- what stands as drawn at the node that drew: the one that drew, or one that stood there
-record DrewHere (w : State) (k : Drew w) (s t : ℕ) : Type 0 where
-  mine : (s ≡ k.session) × (k.held.request ≡ BeginRequest s) × (t ≡ k.i.last + 1)
+record DrewHere (w : State) (k : Drew w) (s t : ℕ) (request : Request) : Type 0 where
+  mine : (s ≡ k.session) × (k.held.request ≡ request) × (t ≡ k.i.last + 1)
 
 drawn_stamp_is : (a b : ℕ) → progress.Drawn a ≡ progress.Drawn b → b ≡ a
 drawn_stamp_is a b same = cc
 
-drew_standing : (w : State) (k : Drew w) (n s t : ℕ) (j : InstanceEntry) → InstanceAt (drew_state w k).nodes n j → HeldBy j s (BeginRequest s) (progress.Drawn t) → ((n ≡ k.node) × (j.term ≡ k.i.term) × DrewHere w k s t) ⊎ ((i : InstanceEntry) × InstanceAt w.nodes n i × HeldBy i s (BeginRequest s) (progress.Drawn t) × (j.term ≡ i.term))
-drew_standing w k n s t j at held = elim (instance_changed w.nodes k.node n (drew_instance w k) j at) [
+drew_standing : (w : State) (k : Drew w) (n s t : ℕ) (request : Request) (j : InstanceEntry) → InstanceAt (drew_state w k).nodes n j → HeldBy j s request (progress.Drawn t) → ((n ≡ k.node) × (j.term ≡ k.i.term) × DrewHere w k s t request) ⊎ ((i : InstanceEntry) × InstanceAt w.nodes n i × HeldBy i s request (progress.Drawn t) × (j.term ≡ i.term))
+drew_standing w k n s t request j at held = elim (instance_changed w.nodes k.node n (drew_instance w k) j at) [
   | inl here ↦
-      let mine : HeldBy (drew_instance w k) s (BeginRequest s) (progress.Drawn t) = subst (λ (x : InstanceEntry). HeldBy x s (BeginRequest s) (progress.Drawn t)) here.1 held in
+      let mine : HeldBy (drew_instance w k) s request (progress.Drawn t) = subst (λ (x : InstanceEntry). HeldBy x s request (progress.Drawn t)) here.1 held in
       elim (held_set k.i k.session s (Some (record k.held { progress = progress.Drawn (k.i.last + 1) })) mine.held mine.has) [
         | inl now ↦
             let same : record k.held { progress = progress.Drawn (k.i.last + 1) } ≡ mine.held = same_Some (record k.held { progress = progress.Drawn (k.i.last + 1) }) mine.held now.1 in
@@ -158,22 +141,32 @@ drew_standing w k n s t j at held = elim (instance_changed w.nodes k.node n (dre
 
 drew_starting : (w : State) (h : List Item) (k : Drew w) → Holds w h → AreStarting (drew_state w k).nodes (h ++ drew_items w k)
 drew_starting w h k holds = record {
-  drawn = λ n s t j at held. elim (drew_standing w k n s t j at held) [
+  drawn = λ n s t j at held. elim (drew_standing w k n s t (BeginRequest s) j at held) [
     | inl here ↦ subst (λ m. DrewStart (h ++ drew_items w k) s m j.term t) (sym here.0) (subst (λ term. DrewStart (h ++ drew_items w k) s k.node term t) (sym here.1) (begun_now w h k s t here.2.mine.1 here.2.mine.2))
     | inr was ↦ subst (λ term. DrewStart (h ++ drew_items w k) s n term t) (sym was.3) (in_front (Draw s n was.0.term t None) h (drew_items w k) (holds.requests.starting.drawn n s t was.0 was.1 was.2))
   ];
-  unbegun = λ n s t r j at held begun. elim (drew_standing w k n s t j at held) [
+  unbegun = λ n s t r j at held begun. elim (drew_standing w k n s t (BeginRequest s) j at held) [
     | inl here ↦ stamp_unbegun w h k r holds (subst (Begun h r) here.2.mine.2 (drew_begun_old w k h r t begun))
     | inr was ↦ holds.requests.starting.unbegun n s t r was.0 was.1 was.2 (drew_begun_old w k h r t begun)
   ];
 }
 
+drew_pending : (w : State) (h : List Item) (k : Drew w) → Holds w h → ArePending w.clients (drew_state w k).nodes (h ++ drew_items w k)
+drew_pending w h k holds = are_pending w.clients (drew_state w k).nodes (h ++ drew_items w k) (λ q p. elim (pending_drew w k q p) [
+  | inl old ↦ pending_on h (h ++ drew_items w k) q (goes_on h (drew_items w k)) (stays_one w h k q holds old) (pending_one w.clients w.nodes h q holds.requests.pending (stays_pending w.clients w.nodes k.node k.session q old))
+  | inr (inl older) ↦ older_one w h k q holds older
+  | inr (inr drawn) ↦ drawn_one w h k q holds drawn
+]) (λ n s t c keys j at held. elim (drew_standing w k n s c (Commit s t keys) j at held) [
+  | inl here ↦ rw (here.0, here.1) (draws_its w h k s t c keys here.2.mine.1 here.2.mine.2)
+  | inr was ↦ subst (λ term. DrewCommit (h ++ drew_items w k) s n term t c) (sym was.3) (in_front (Draw s n was.0.term t (Some c)) h (drew_items w k) (holds.requests.pending.here n s t c keys was.0 was.1 was.2))
+])
+
 drew_not_open : (w : State) (h : List Item) (k : Drew w) (s t e : ℕ) → Holds w h → OpenAt w.clients s t e → DrawsFor w k t → ⊥
 drew_not_open w h k s t e holds o draws =
     open_not_pending w.nodes w.clients h s t e holds.isolated.stamped holds.requests.requests holds.requests.pending (open_begun w.clients h s t o.client holds.requests.have_begun o.at o.state_is o.start_is) o
-    (record { coming = drawing w k t draws.1; pending = drawing_pending w h k draws.0 t draws.1 holds draws.2; start_is = refl })
+    (record { coming = drawing w k t draws.1; pending = inl (drew_taken w k draws.0 t draws.1 holds.requests.requests draws.2); start_is = refl })
 
-pub requests_drew : (w : State) (h : List Item) (k : Drew w) → Holds w h → RequestFacts (drew_state w k).nodes w.clients (h ++ drew_items w k)
+pub requests_drew : (w : State) (h : List Item) (k : Drew w) → Holds w h → RequestFacts w.setup (drew_state w k).nodes w.clients (h ++ drew_items w k)
 requests_drew w h k holds = record {
   have_begun = have_on w.clients h (drew_items w k) holds.requests.have_begun;
   requests = requests_fewer w.nodes (drew_state w k).nodes w.clients (held_drew w k) holds.requests.requests;
@@ -186,4 +179,5 @@ requests_drew w h k holds = record {
     | inr now ↦ absurd (drew_not_open w h k s t e holds o now)
   ]) holds.requests.opened;
   keys = record { written = λ s t c at is start. holds.requests.keys.written s t c at is start ∙ sym (drew_keys w k h t); some = holds.requests.keys.some };
+  form = holds.requests.form;
 }

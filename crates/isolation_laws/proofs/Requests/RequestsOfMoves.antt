@@ -15,21 +15,21 @@ use Rattle.oracle_parts.specs.InstanceSteps.{moved, epoch_refusal}
 use Rattle.machine.specs.State.{Client, State}
 use Rattle.machine.specs.Clients.{client_asked}
 use Rattle.isolation_laws.specs.Words.{HeldBy, ClientAt, epoch_or_none, OpenAt, Begun, HasDrawn, written_keys}
-use Rattle.isolation_laws.specs.Pending.{Stage, Waits, InFlight, Pending}
+use Rattle.isolation_laws.specs.Pending.{Stage, Waits, InFlight, HeldPending}
 use Rattle.isolation_laws.specs.Requests.{IsDrawnSoFar, AreAccepted, RequestFacts}
 use Rattle.isolation_laws.specs.Holds.{Holds}
 use Rattle.isolation_laws.proofs.Lookups.{held_by, held_set, instance_changed}
 use Rattle.isolation_laws.proofs.Owners.{accepts_now, begun_below_last}
 use Rattle.isolation_laws.proofs.Outcome.OutcomesOfRequests.{AskedCommit, asked_commit_state, Accepted, accepted_state}
 use Rattle.isolation_laws.proofs.Requests.PendingMoved.{IsAsked, pending_asked_commit, IsTaken, pending_accepted}
-use Rattle.isolation_laws.proofs.Requests.OpenAfter.{fewer_open_asked_commit}
+use Rattle.isolation_laws.proofs.Requests.OpenAfter.{at_work_asked_commit}
 use Rattle.isolation_laws.proofs.Numbers.NumbersKept.{open_begun}
 use Rattle.isolation_laws.proofs.Requests.ClientsAfter.{begun_kept, has_by, KeysClient, keys_client, keys_set}
 use Rattle.isolation_laws.proofs.Requests.RequestsAfter.{open_waits, new_held, requests_new, requests_fewer}
 use Rattle.isolation_laws.proofs.Requests.Standing.{standing_asked_commit, standing_accepted, held_accepted}
-use Rattle.isolation_laws.proofs.Requests.CommitsInFlight.{PendingOne, pending_one, pending_on, are_pending, IsSettledNow, IsAcceptedNow, IsDrawnNow, accepted_fewer}
+use Rattle.isolation_laws.proofs.Requests.CommitsInFlight.{PendingOne, pending_one, pending_on, are_pending, here_fewer, IsSettledNow, IsAcceptedNow, IsDrawnNow, accepted_fewer}
 use Rattle.isolation_laws.proofs.Requests.Silent.{Silent, silent_drawn, silent_quiet}
-use Rattle.isolation_laws.proofs.Requests.RequestsKept.{have_silent, keys_silent, stays_silent, starting_silent, settled_silent, open_silent}
+use Rattle.isolation_laws.proofs.Requests.RequestsKept.{have_silent, keys_silent, stays_silent, starting_silent, settled_silent, open_silent, form_fewer}
 
 -- an open client of a start, as open
 pub opens : (w : State) (s t : ℕ) (c : Client) → ClientAt w.clients s c → c.entry.state ≡ phase.Open → c.entry.start ≡ Some t → OpenAt w.clients s t (epoch_or_none c.entry.epoch)
@@ -55,7 +55,7 @@ asked_one w h g k q silent holds is =
       so_far = subst (λ (stage : Stage). IsDrawnSoFar g q stage) (sym is.waits) (λ drew. holds.requests.opened.undrawn k.session k.start (epoch_or_none k.c.entry.epoch) (opens w k.session k.start k.c k.client_at k.is_open k.start_is) (subst (HasDrawn h) is.start_is (silent_drawn h g q.start silent drew)));
     }
 
-pub requests_asked_commit : (w : State) (h : List Item) (k : AskedCommit w) → Holds w h → RequestFacts (asked_commit_state w k).nodes (asked_commit_state w k).clients (h ++ k.items)
+pub requests_asked_commit : (w : State) (h : List Item) (k : AskedCommit w) → Holds w h → RequestFacts w.setup (asked_commit_state w k).nodes (asked_commit_state w k).clients (h ++ k.items)
 requests_asked_commit w h k holds =
     let g : List Item = h ++ k.items in
     let silent : Silent h g = silent_quiet h k.items k.quiet in
@@ -63,21 +63,22 @@ requests_asked_commit w h k holds =
       have_begun = have_silent (asked_commit_state w k).clients h g silent (begun_kept w.clients h k.session k.c (client_asked k.c) k.client_at (λ has. (has_by k.c.entry.state phase.Open k.is_open refl, refl)) holds.requests.have_begun);
       requests = requests_new w.nodes (asked_commit_state w k).nodes w.clients k.node k.session (Commit k.session k.start k.c.entry.keys) k.c (client_asked k.c) phase.Open (new_held w.nodes k.session k.node k.i _ k.at) refl k.client_at k.is_open open_waits (inr (asks_commit w k, k.start_is)) holds.requests.requests;
       starting = starting_silent w.nodes (asked_commit_state w k).nodes h g silent (standing_asked_commit IsDrawnNow w k (λ is. is)) holds.requests.starting;
-      pending = are_pending (asked_commit_state w k).nodes g (λ q p. elim (pending_asked_commit w k q p) [
-        | inl old ↦ pending_on h g q silent.on (stays_silent h g q silent) (pending_one w.nodes h q holds.requests.pending old)
+      pending = are_pending (asked_commit_state w k).clients (asked_commit_state w k).nodes g (λ q p. elim (pending_asked_commit w k q p) [
+        | inl old ↦ pending_on h g q silent.on (stays_silent h g q silent) (pending_one w.clients w.nodes h q holds.requests.pending old)
         | inr new ↦ asked_one w h g k q silent holds new
-      ]);
+      ]) (here_fewer w.nodes (asked_commit_state w k).nodes h g (standing_asked_commit IsDrawnNow w k (λ is. is)) silent.on holds.requests.pending.here);
       settled = settled_silent w.nodes (asked_commit_state w k).nodes h g silent (standing_asked_commit IsSettledNow w k (λ is. is)) holds.requests.settled;
       accepted = accepted_fewer w.nodes (asked_commit_state w k).nodes (standing_asked_commit IsAcceptedNow w k (λ is. is)) holds.requests.accepted;
-      opened = open_silent w.clients (asked_commit_state w k).clients h g silent (fewer_open_asked_commit w k) holds.requests.opened;
+      opened = open_silent w.clients (asked_commit_state w k).clients h g silent (at_work_asked_commit w k).opened holds.requests.opened;
       keys = keys_silent (asked_commit_state w k).clients h g silent (keys_set w.clients h k.session (client_asked k.c) (asked_keys w h k holds) holds.requests.keys);
+      form = form_fewer w.setup w.clients (asked_commit_state w k).clients (at_work_asked_commit w k).placing holds.requests.form;
     }
 
 -- ---- a request is accepted: its transaction began within the instance's range
 -- what was taken waited before
 taken_one : (w : State) (h g : List Item) (k : Accepted w) (q : InFlight) → Silent h g → Holds w h → IsTaken w k q → PendingOne g q
 taken_one w h g k q silent holds is =
-    let before : PendingOne h (record q { stage = Waits }) = pending_one w.nodes h (record q { stage = Waits }) holds.requests.pending is.waited in
+    let before : PendingOne h (record q { stage = Waits }) = pending_one w.clients w.nodes h (record q { stage = Waits }) holds.requests.pending (inl is.waited) in
     record {
       begun = silent.on (Begin q.session q.start) before.begun;
       keys = before.keys ∙ sym (silent.keys q.start);
@@ -98,9 +99,9 @@ accepted_within w h k s t keys holds is =
     let now : k.i.term ≡ w.master.term = accepts_now w.setup w.seen k.reading k.node w.nodes w.master k.i holds.numbers.ranges holds.numbers.leases k.at k.steady k.in_time in
     let mine : session_of k.held.request ≡ k.session = holds.requests.requests.own k.node k.session k.i k.held.request k.held.progress k.at (held_by k.i k.session k.held k.has) in
     let request : k.held.request ≡ Commit k.session t keys = is ∙ ap (λ q. Commit q t keys) (ap session_of (sym is) ∙ mine) in
-    let q : InFlight = record { session = k.session; node = k.node; term = k.i.term; start = t; keys = keys; stage = Waits } in
-    let waits : Pending w.nodes q = record { instance_of = k.i; progress_of = progress.Asked; at = k.at; held = record { held = k.held; has = k.has; asks = request; stands = k.asked }; term_is = refl; stage_is = refl } in
-    (above_epoch k.i k.held.request s t keys is k.in_epoch, begun_below_last w.nodes w.master h k.node k.i k.session t holds.numbers.ranges holds.numbers.drawn holds.numbers.begun k.at now (holds.requests.pending.begun q waits))
+    let q : InFlight = record { session = k.session; start = t; keys = keys; stage = Waits } in
+    let waits : HeldPending w.nodes q = record { node = k.node; instance_of = k.i; progress_of = progress.Asked; at = k.at; held = record { held = k.held; has = k.has; asks = request; stands = k.asked }; stage_is = refl } in
+    (above_epoch k.i k.held.request s t keys is k.in_epoch, begun_below_last w.nodes w.master h k.node k.i k.session t holds.numbers.ranges holds.numbers.drawn holds.numbers.begun k.at now (holds.requests.pending.begun q (inl waits)))
 
 accepted_accepted : (w : State) (h : List Item) (k : Accepted w) → Holds w h → AreAccepted (accepted_state w k).nodes
 accepted_accepted w h k holds = record {
@@ -119,7 +120,7 @@ accepted_accepted w h k holds = record {
   ];
 }
 
-pub requests_accepted : (w : State) (h : List Item) (k : Accepted w) → Holds w h → RequestFacts (accepted_state w k).nodes w.clients (h ++ k.items)
+pub requests_accepted : (w : State) (h : List Item) (k : Accepted w) → Holds w h → RequestFacts w.setup (accepted_state w k).nodes w.clients (h ++ k.items)
 requests_accepted w h k holds =
     let g : List Item = h ++ k.items in
     let silent : Silent h g = silent_quiet h k.items k.quiet in
@@ -127,12 +128,13 @@ requests_accepted w h k holds =
       have_begun = have_silent w.clients h g silent holds.requests.have_begun;
       requests = requests_fewer w.nodes (accepted_state w k).nodes w.clients (held_accepted w k) holds.requests.requests;
       starting = starting_silent w.nodes (accepted_state w k).nodes h g silent (standing_accepted IsDrawnNow w k (λ is. is)) holds.requests.starting;
-      pending = are_pending (accepted_state w k).nodes g (λ q p. elim (pending_accepted w k q p) [
-        | inl old ↦ pending_on h g q silent.on (stays_silent h g q silent) (pending_one w.nodes h q holds.requests.pending old)
+      pending = are_pending w.clients (accepted_state w k).nodes g (λ q p. elim (pending_accepted w k q p) [
+        | inl old ↦ pending_on h g q silent.on (stays_silent h g q silent) (pending_one w.clients w.nodes h q holds.requests.pending old)
         | inr new ↦ taken_one w h g k q silent holds new
-      ]);
+      ]) (here_fewer w.nodes (accepted_state w k).nodes h g (standing_accepted IsDrawnNow w k (λ is. is)) silent.on holds.requests.pending.here);
       settled = settled_silent w.nodes (accepted_state w k).nodes h g silent (standing_accepted IsSettledNow w k (λ is. is)) holds.requests.settled;
       accepted = accepted_accepted w h k holds;
       opened = open_silent w.clients w.clients h g silent (λ s t e o. o) holds.requests.opened;
       keys = keys_silent w.clients h g silent holds.requests.keys;
+      form = holds.requests.form;
     }

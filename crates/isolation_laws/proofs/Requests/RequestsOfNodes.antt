@@ -19,33 +19,34 @@ use Rattle.isolation_laws.proofs.Lookups.{held_by, one_client}
 use Rattle.isolation_laws.proofs.Outcome.OutcomesOfRecord.{Still, still_state, Granted, granted_state, Renewed, renewed_state, Extended, extended_state}
 use Rattle.isolation_laws.proofs.Outcome.OutcomesOfRequests.{Crashed, crashed_state, AskedBegin, asked_begin_state, Ended, ended_state}
 use Rattle.isolation_laws.proofs.Outcome.OutcomesOfStamps.{AnsweredCommit, answered_client, answered_commit_state}
-use Rattle.isolation_laws.proofs.Requests.PendingAfter.{FewerPending}
-use Rattle.isolation_laws.proofs.Requests.PendingFewer.{fewer_still, fewer_granted, fewer_renewed, fewer_extended, fewer_crashed, fewer_asked_begin, fewer_ended_one, fewer_answered_commit, same_pending}
-use Rattle.isolation_laws.proofs.Requests.ClientsOpen.{FewerOpen, same_open}
-use Rattle.isolation_laws.proofs.Requests.OpenAfter.{crashed_at, fewer_open_crashed, fewer_open_asked_begin, fewer_open_ended, fewer_open_answered_commit}
+use Rattle.isolation_laws.proofs.Requests.PendingAfter.{FewerServed, fewer_pending}
+use Rattle.isolation_laws.proofs.Requests.PendingFewer.{fewer_still, fewer_granted, fewer_renewed, fewer_extended, fewer_crashed, pending_asked_begin, fewer_ended_one, fewer_answered_commit, same_served}
+use Rattle.isolation_laws.proofs.Requests.ClientsOpen.{FewerAtWork, same_at_work}
+use Rattle.isolation_laws.proofs.Requests.OpenAfter.{crashed_at, at_work_crashed, at_work_asked_begin, at_work_ended, at_work_answered_commit}
 use Rattle.isolation_laws.proofs.Requests.ClientsAfter.{BegunClient, begun_set, begun_kept, has_none, KeysClient, keys_client, keys_set, keys_closed, asking_closed}
 use Rattle.isolation_laws.proofs.Requests.RequestsAfter.{requests_fewer, free_waits, requests_over, requests_crashed, new_held, requests_new, FewerHeld}
 use Rattle.isolation_laws.proofs.Requests.Standing.{standing_alike, held_alike, standing_ended, standing_granted, held_granted, standing_renewed, held_renewed, standing_extended, held_extended, standing_asked_begin, standing_over, held_same, standing_same}
 use Rattle.isolation_laws.proofs.Requests.CommitsInFlight.{IsSettledNow, IsAcceptedNow, IsDrawnNow, FewerStanding}
-use Rattle.isolation_laws.proofs.Requests.RequestsKept.{Leaves}
+use Rattle.isolation_laws.proofs.Requests.RequestsKept.{Leaves, form_fewer}
 use Rattle.isolation_laws.proofs.Requests.ClientsBecome.{Becomes, becomes_same, loss_becomes, refusal_becomes, answer_becomes}
 
 -- ---- the record, and what changes nothing
 -- nodes that hold the same requests or fewer, for the same clients
-leaves_nodes : (w : State) (h : List Item) (nodes : List (Option InstanceEntry)) → FewerHeld w.nodes nodes → ((P : Progress → Type 0) → FewerStanding P w.nodes nodes) → FewerPending w.nodes nodes → Holds w h → Leaves w h nodes w.clients
+leaves_nodes : (w : State) (h : List Item) (nodes : List (Option InstanceEntry)) → FewerHeld w.nodes nodes → ((P : Progress → Type 0) → FewerStanding P w.nodes nodes) → FewerServed w.nodes nodes → Holds w h → Leaves w h nodes w.clients
 leaves_nodes w h nodes held standing pending holds = record {
   have_begun = holds.requests.have_begun;
   requests = requests_fewer w.nodes nodes w.clients held holds.requests.requests;
   starting = standing IsDrawnNow;
-  pending = pending;
+  pending = fewer_pending w.clients w.clients w.nodes nodes (same_at_work w.clients).placing pending;
   settled = standing IsSettledNow;
   accepted = standing IsAcceptedNow;
-  opened = same_open w.clients;
+  opened = (same_at_work w.clients).opened;
   keys = holds.requests.keys;
+  form = holds.requests.form;
 }
 
 pub leaves_alone : (w : State) (h : List Item) → Holds w h → Leaves w h w.nodes w.clients
-leaves_alone w h holds = leaves_nodes w h w.nodes (held_same w.nodes) (λ P. standing_same P w.nodes) (same_pending w.nodes) holds
+leaves_alone w h holds = leaves_nodes w h w.nodes (held_same w.nodes) (λ P. standing_same P w.nodes) (same_served w.nodes) holds
 
 pub leaves_still : (w : State) (h : List Item) (k : Still w) → Holds w h → Leaves w h (still_state w k).nodes w.clients
 leaves_still w h k holds = leaves_nodes w h k.nodes (held_alike w.nodes k.nodes k.alike) (λ P. standing_alike P w.nodes k.nodes k.alike) (fewer_still w k) holds
@@ -95,11 +96,12 @@ leaves_crashed w h k holds = record {
   have_begun = crash_begun w h k holds;
   requests = requests_crashed w.nodes w.clients k.node k.i k.at holds.requests.requests;
   starting = standing_ended IsDrawnNow w.nodes k.node;
-  pending = fewer_crashed w k;
+  pending = fewer_pending w.clients (crashed_state w k).clients w.nodes (crashed_state w k).nodes (at_work_crashed w k).placing (fewer_crashed w k);
   settled = standing_ended IsSettledNow w.nodes k.node;
   accepted = standing_ended IsAcceptedNow w.nodes k.node;
-  opened = fewer_open_crashed w k;
+  opened = (at_work_crashed w k).opened;
   keys = crash_keys w h k holds;
+  form = form_fewer w.setup w.clients (crashed_state w k).clients (at_work_crashed w k).placing holds.requests.form;
 }
 
 -- ---- the ask of a begin
@@ -117,11 +119,12 @@ leaves_asked_begin w h k holds = record {
   have_begun = begun_set w.clients h k.session (client_asked k.c) (no_transaction h k.session (client_asked k.c) (asks_begin w k)) holds.requests.have_begun;
   requests = requests_new w.nodes (asked_begin_state w k).nodes w.clients k.node k.session (Begin k.session) k.c (client_asked k.c) phase.Free (new_held w.nodes k.session k.node k.i _ k.at) refl k.client_at k.free free_waits (inr (asks_begin w k)) holds.requests.requests;
   starting = standing_asked_begin IsDrawnNow w k (λ is. is);
-  pending = fewer_asked_begin w k;
+  pending = pending_asked_begin w k;
   settled = standing_asked_begin IsSettledNow w k (λ is. is);
   accepted = standing_asked_begin IsAcceptedNow w k (λ is. is);
-  opened = fewer_open_asked_begin w k;
+  opened = (at_work_asked_begin w k).opened;
   keys = keys_set w.clients h k.session (client_asked k.c) (keys_asking h (client_asked k.c) (asks_begin w k)) holds.requests.keys;
+  form = form_fewer w.setup w.clients (asked_begin_state w k).clients (at_work_asked_begin w k).placing holds.requests.form;
 }
 
 -- ---- the end of a request
@@ -131,26 +134,27 @@ waits_for w h n s i held c holds at has client =
     let waiting = holds.requests.requests.waits n s i held.request held.progress at (held_by i s held has) in
     subst (λ (x : Client). WaitsFor held.request x) (one_client w.clients s waiting.0 c waiting.1 client) waiting.2
 
-pub leaves_over : (w : State) (h : List Item) (n s : ℕ) (i : InstanceEntry) (held : Held) (c new : Client) → InstanceAt w.nodes n i → held_of i s ≡ Some held → ClientAt w.clients s c → Becomes h s c new → FewerPending w.nodes (slice_set w.nodes n (Some (without_request i s))) → FewerOpen w.clients (slice_set w.clients s new) → Holds w h → Leaves w h (slice_set w.nodes n (Some (without_request i s))) (slice_set w.clients s new)
-leaves_over w h n s i held c new at has client becomes pending opened holds = record {
+pub leaves_over : (w : State) (h : List Item) (n s : ℕ) (i : InstanceEntry) (held : Held) (c new : Client) → InstanceAt w.nodes n i → held_of i s ≡ Some held → ClientAt w.clients s c → Becomes h s c new → FewerServed w.nodes (slice_set w.nodes n (Some (without_request i s))) → FewerAtWork w.clients (slice_set w.clients s new) → Holds w h → Leaves w h (slice_set w.nodes n (Some (without_request i s))) (slice_set w.clients s new)
+leaves_over w h n s i held c new at has client becomes served work holds = record {
   have_begun = begun_kept w.clients h s c new client becomes.begun holds.requests.have_begun;
   requests = requests_over w.nodes (slice_set w.nodes n (Some (without_request i s))) w.clients n s i held.request held.progress c new refl at (held_by i s held has) client holds.requests.requests;
   starting = standing_over IsDrawnNow w.nodes n s i at;
-  pending = pending;
+  pending = fewer_pending w.clients (slice_set w.clients s new) w.nodes (slice_set w.nodes n (Some (without_request i s))) work.placing served;
   settled = standing_over IsSettledNow w.nodes n s i at;
   accepted = standing_over IsAcceptedNow w.nodes n s i at;
-  opened = opened;
+  opened = work.opened;
   keys = keys_set w.clients h s new becomes.keys holds.requests.keys;
+  form = form_fewer w.setup w.clients (slice_set w.clients s new) work.placing holds.requests.form;
 }
 
 pub leaves_ended : (w : State) (h : List Item) (k : Ended w) → Holds w h → Leaves w h (ended_state w k).nodes (ended_state w k).clients
 leaves_ended w h k holds =
     let waits : WaitsFor k.held.request k.c = waits_for w h k.node k.session k.i k.held k.c holds k.at k.has k.client_at in
     leaves_over w h k.node k.session k.i k.held k.c (after_refusal k.held.request k.c) k.at k.has k.client_at
-    (refusal_becomes h k.session k.held.request k.c (keys_client w.clients h k.session k.c holds.requests.keys k.client_at) waits) (fewer_ended_one w k) (fewer_open_ended w k) holds
+    (refusal_becomes h k.session k.held.request k.c (keys_client w.clients h k.session k.c holds.requests.keys k.client_at) waits) (fewer_ended_one w k) (at_work_ended w k) holds
 
 pub leaves_answered_commit : (w : State) (h : List Item) (k : AnsweredCommit w) → Holds w h → Leaves w h (answered_commit_state w k).nodes (answered_commit_state w k).clients
 leaves_answered_commit w h k holds =
     let waits : WaitsFor (Commit k.asker k.start k.keys) k.c = subst (λ (x : Request). WaitsFor x k.c) k.request_is (waits_for w h k.node k.session k.i k.held k.c holds k.at k.has k.client_at) in
     leaves_over w h k.node k.session k.i k.held k.c (unless_gone k.c (answered_client k.by k.c k.commit)) k.at k.has k.client_at
-    (answer_becomes h k.session k.asker k.start k.commit k.keys k.by k.c (keys_client w.clients h k.session k.c holds.requests.keys k.client_at) waits) (fewer_answered_commit w k) (fewer_open_answered_commit w k) holds
+    (answer_becomes h k.session k.asker k.start k.commit k.keys k.by k.c (keys_client w.clients h k.session k.c holds.requests.keys k.client_at) waits) (fewer_answered_commit w k) (at_work_answered_commit w k) holds

@@ -18,9 +18,12 @@ use Rattle.isolation_laws.proofs.Lookups.{client_set}
 use Rattle.isolation_laws.proofs.OnceEach.{begun_once}
 use Rattle.isolation_laws.proofs.Owners.{open_not_pending}
 use Rattle.isolation_laws.proofs.Outcome.OutcomesOfSessions.{WroteOne, wrote_state, wrote_items}
-use Rattle.isolation_laws.proofs.Requests.OpenAfter.{fewer_open_wrote}
+use Rattle.isolation_laws.proofs.Requests.OpenAfter.{at_work_wrote}
+use Rattle.isolation_laws.proofs.Requests.PendingAfter.{fewer_pending}
+use Rattle.isolation_laws.proofs.Requests.PendingFewer.{same_served}
+use Rattle.isolation_laws.proofs.Requests.RequestsKept.{form_fewer}
 use Rattle.isolation_laws.proofs.Numbers.NumbersKept.{open_begun}
-use Rattle.isolation_laws.proofs.Requests.ClientsAfter.{begun_kept, have_on, written_keys-own, written_keys-other}
+use Rattle.isolation_laws.proofs.Requests.ClientsAfter.{begun_kept, placing_has, have_on, written_keys-own, written_keys-other}
 use Rattle.isolation_laws.proofs.Requests.RequestsAfter.{requests_idle, open_waits}
 use Rattle.isolation_laws.proofs.Requests.Standing.{standing_same}
 use Rattle.isolation_laws.proofs.Requests.CommitsInFlight.{GoesOn, goes_on, pending_fewer, IsSettledNow, IsDrawnNow, settled_fewer, starting_fewer, open_fewer}
@@ -35,7 +38,7 @@ pub wrote_open : (w : State) (k : WroteOne w) → OpenAt w.clients k.it.session 
 wrote_open w k = record { client = k.it.c; at = k.it.client_at; state_is = k.it.is_open; start_is = k.start_is; epoch_is = refl }
 
 -- no commit in flight is of the transaction that writes
-pub wrote_not_pending : (w : State) (h : List Item) (k : WroteOne w) → Holds w h → IsPending w.nodes k.start → ⊥
+pub wrote_not_pending : (w : State) (h : List Item) (k : WroteOne w) → Holds w h → IsPending w.clients w.nodes k.start → ⊥
 wrote_not_pending w h k holds p = open_not_pending w.nodes w.clients h k.it.session k.start (epoch_or_none k.it.c.entry.epoch) holds.isolated.stamped holds.requests.requests holds.requests.pending (wrote_begun w h k holds) (wrote_open w k) p
 
 write_no_begin : (h : List Item) (s t k : ℕ) (value : List ℕ) (r u : ℕ) → Begun (h ++ Write s t k value ∷ []) r u → Begun h r u
@@ -47,7 +50,8 @@ write_no_drawn h s t k value u (r, n, term, c, m) = (r, n, term, c, in_old (Draw
 has_in : (state : SessionState) → (state ≡ phase.Open) ⊎ HasAsked state → IsTrue (has_transaction state)
 has_in state (inl is) = subst (λ s. IsTrue (has_transaction s)) (sym is) refl
 has_in state (inr (inl is)) = subst (λ s. IsTrue (has_transaction s)) (sym is) refl
-has_in state (inr (inr is)) = subst (λ s. IsTrue (has_transaction s)) (sym is) refl
+has_in state (inr (inr (inl is))) = subst (λ s. IsTrue (has_transaction s)) (sym is) refl
+has_in state (inr (inr (inr is))) = placing_has state is
 
 has_begun_so : (w : State) (h : List Item) (s t : ℕ) (c : Client) → Holds w h → ClientAt w.clients s c → (c.entry.state ≡ phase.Open) ⊎ HasAsked c.entry.state → c.entry.start ≡ Some t → Begun h s t
 has_begun_so w h s t c holds at is start =
@@ -77,7 +81,7 @@ wrote_keys w h k holds =
       ];
     }
 
-pub requests_wrote : (w : State) (h : List Item) (k : WroteOne w) → Holds w h → RequestFacts w.nodes (wrote_state w k).clients (h ++ wrote_items w k)
+pub requests_wrote : (w : State) (h : List Item) (k : WroteOne w) → Holds w h → RequestFacts w.setup w.nodes (wrote_state w k).clients (h ++ wrote_items w k)
 requests_wrote w h k holds =
     let g : List Item = h ++ wrote_items w k in
     let on : GoesOn h g = goes_on h (wrote_items w k) in
@@ -85,12 +89,13 @@ requests_wrote w h k holds =
       have_begun = have_on (wrote_state w k).clients h (wrote_items w k) (begun_kept w.clients h k.it.session k.it.c (client_wrote k.it.c k.key) k.it.client_at (λ has. (has, refl)) holds.requests.have_begun);
       requests = requests_idle w.nodes w.clients k.it.session k.it.c (client_wrote k.it.c k.key) phase.Open k.it.client_at k.it.is_open open_waits holds.requests.requests;
       starting = starting_fewer w.nodes w.nodes h g (standing_same IsDrawnNow w.nodes) on (λ n s t r i at held begun. write_no_begin h k.it.session k.start k.key k.value r t begun) holds.requests.starting;
-      pending = pending_fewer w.nodes w.nodes h g (λ q p. p) on (λ q p. record {
+      pending = pending_fewer w.clients (wrote_state w k).clients w.nodes w.nodes h g (fewer_pending w.clients (wrote_state w k).clients w.nodes w.nodes (at_work_wrote w k).placing (same_served w.nodes)) (standing_same IsDrawnNow w.nodes) on (λ q p. record {
         alone = record { undrawn = write_no_drawn h k.it.session k.start k.key k.value q.start; unplaced = λ c placed. write_places_none h k.it.session k.start k.key k.value q.start c placed };
         keys = written_keys-other h k.it.session k.start q.start k.key k.value (λ same. wrote_not_pending w h k holds (record { coming = q; pending = p; start_is = sym same }));
       }) holds.requests.pending;
       settled = settled_fewer w.nodes w.nodes h g (standing_same IsSettledNow w.nodes) on (λ n s t c d i at placed. write_places_none h k.it.session k.start k.key k.value t d placed) holds.requests.settled;
       accepted = holds.requests.accepted;
-      opened = open_fewer w.clients (wrote_state w k).clients h g (fewer_open_wrote w k) (λ s t e o drew. write_no_drawn h k.it.session k.start k.key k.value t drew) holds.requests.opened;
+      opened = open_fewer w.clients (wrote_state w k).clients h g (at_work_wrote w k).opened (λ s t e o drew. write_no_drawn h k.it.session k.start k.key k.value t drew) holds.requests.opened;
       keys = wrote_keys w h k holds;
+      form = form_fewer w.setup w.clients (wrote_state w k).clients (at_work_wrote w k).placing holds.requests.form;
     }

@@ -15,14 +15,13 @@ use Rattle.oracle_parts.specs.InstanceLaws.{IsNotBelow}
 use Rattle.oracle_parts.proofs.InstanceBegins.{none_waits}
 use Rattle.machine.specs.State.{Client, State}
 use Rattle.machine.specs.Events.Take.{rules_of, instance_of}
-use Rattle.isolation_laws.specs.Words.{InstanceAt, HeldBy, OpenAt, Begun, DrewCommit}
-use Rattle.isolation_laws.specs.Pending.{InFlight, Has, Pending}
+use Rattle.isolation_laws.specs.Words.{InstanceAt, HeldBy, OpenAt, Begun}
 use Rattle.isolation_laws.specs.Begins.{AreSettledBelow, IsPast}
 use Rattle.isolation_laws.specs.Holds.{Holds}
 use Rattle.isolation_laws.proofs.Lookups.{instance_changed, one_instance, heldby_changed, heldby_ended}
 use Rattle.isolation_laws.proofs.Outcome.OutcomesOfRecord.{Granted, granted_nodes, granted_state, Extended, extended_nodes, extended_state}
 use Rattle.isolation_laws.proofs.Outcome.OutcomesOfStamps.{Drew, drew_instance, drew_state, AnsweredBegin, answered_begin_state}
-use Rattle.isolation_laws.proofs.Owners.{begun_below_last, has_drew}
+use Rattle.isolation_laws.proofs.Owners.{begun_below_last}
 use Rattle.isolation_laws.proofs.Requests.ClientsOpen.{FewerOpen}
 use Rattle.isolation_laws.proofs.Requests.OpenAfter.{open_answered_begin}
 use Rattle.isolation_laws.proofs.Requests.PendingAfter.{new_holds_none, drawn_same}
@@ -69,41 +68,41 @@ new_past w h k s b holds begun =
       settled = λ r t c keys held. absurd (new_holds_none (granted (rules_of w.setup) w.master k.reading) k.node w.setup.buckets w.setup.width w.setup.slots r (Commit r t keys) (progress.Drawn c) held);
     }
 
-granted_below : (w : State) (h : List Item) (k : Granted w) (failed : Bool) → Holds w h → AreSettledBelow w.clients (granted_nodes w k failed)
-granted_below w h k true holds = holds.begins.below
-granted_below w h k false holds = record {
+granted_below : (w : State) (h : List Item) (k : Granted w) (failed : Bool) → Holds w h → AreSettledBelow w.clients w.nodes → AreSettledBelow w.clients (granted_nodes w k failed)
+granted_below w h k true holds was = was
+granted_below w h k false holds was = record {
   below = λ s b e n j o at. elim (instance_changed w.nodes k.node n (instance_of w.setup k.node (granted (rules_of w.setup) w.master k.reading)) j at) [
     | inl here ↦ inr (subst (λ (x : InstanceEntry). IsPast x b) (sym here.1) (new_past w h k s b holds (open_now_begun w h s b e holds o)))
-    | inr there ↦ holds.begins.below.below s b e n j o there.1
+    | inr there ↦ was.below s b e n j o there.1
   ];
 }
 
-pub below_granted : (w : State) (h : List Item) (k : Granted w) → Holds w h → AreSettledBelow w.clients (granted_state w k).nodes
-below_granted w h k holds = granted_below w h k k.failed holds
+pub below_granted : (w : State) (h : List Item) (k : Granted w) → Holds w h → AreSettledBelow w.clients w.nodes → AreSettledBelow w.clients (granted_state w k).nodes
+below_granted w h k holds was = granted_below w h k k.failed holds was
 
 -- ---- a range is added to the instance of the record's term, which is past each start
 widened_past : (i : InstanceEntry) (b ceiling : ℕ) → IsPast i b → IsPast (instance_widened i ceiling) b
 widened_past i b ceiling past = record { last = past.last; settled = λ r t c keys held. past.settled r t c keys (record { held = held.held; has = held.has; asks = held.asks; stands = held.stands }) }
 
-past_now : (w : State) (h : List Item) (k : Extended w) (s b e : ℕ) → Holds w h → OpenAt w.clients s b e → IsPast k.i b
-past_now w h k s b e holds o = elim (holds.begins.below.below s b e k.node k.i o k.at) [
+past_now : (w : State) (h : List Item) (k : Extended w) (s b e : ℕ) → Holds w h → AreSettledBelow w.clients w.nodes → OpenAt w.clients s b e → IsPast k.i b
+past_now w h k s b e holds was o = elim (was.below s b e k.node k.i o k.at) [
   | inl all ↦
       let last : b ≤ k.i.last = begun_below_last w.nodes w.master h k.node k.i s b holds.numbers.ranges holds.numbers.drawn holds.numbers.begun k.at (sym k.own) (open_now_begun w h s b e holds o) in
       absurd (omega (arith, all, last, holds.numbers.ranges.within k.node k.i k.at, holds.requests.opened.above s b e o))
   | inr past ↦ past
 ]
 
-extended_below : (w : State) (h : List Item) (k : Extended w) (failed : Bool) → Holds w h → AreSettledBelow w.clients (extended_nodes w k failed)
-extended_below w h k true holds = holds.begins.below
-extended_below w h k false holds = record {
+extended_below : (w : State) (h : List Item) (k : Extended w) (failed : Bool) → Holds w h → AreSettledBelow w.clients w.nodes → AreSettledBelow w.clients (extended_nodes w k failed)
+extended_below w h k true holds was = was
+extended_below w h k false holds was = record {
   below = λ s b e n j o at. elim (instance_changed w.nodes k.node n (instance_widened k.i (w.master.ceiling + w.setup.range)) j at) [
-    | inl here ↦ inr (subst (λ (x : InstanceEntry). IsPast x b) (sym here.1) (widened_past k.i b (w.master.ceiling + w.setup.range) (past_now w h k s b e holds o)))
-    | inr there ↦ holds.begins.below.below s b e n j o there.1
+    | inl here ↦ inr (subst (λ (x : InstanceEntry). IsPast x b) (sym here.1) (widened_past k.i b (w.master.ceiling + w.setup.range) (past_now w h k s b e holds was o)))
+    | inr there ↦ was.below s b e n j o there.1
   ];
 }
 
-pub below_extended : (w : State) (h : List Item) (k : Extended w) → Holds w h → AreSettledBelow w.clients (extended_state w k).nodes
-below_extended w h k holds = extended_below w h k k.failed holds
+pub below_extended : (w : State) (h : List Item) (k : Extended w) → Holds w h → AreSettledBelow w.clients w.nodes → AreSettledBelow w.clients (extended_state w k).nodes
+below_extended w h k holds was = extended_below w h k k.failed holds was
 
 -- ---- a commit is drawn above the last stamp
 drew_past : (w : State) (k : Drew w) (b : ℕ) → IsPast k.i b → IsPast (drew_instance w k) b
@@ -119,11 +118,11 @@ drew_below_one : (w : State) (k : Drew w) (b e : ℕ) → (k.i.ceiling ≤ e) �
 drew_below_one w k b e (inl all) = inl all
 drew_below_one w k b e (inr past) = inr (drew_past w k b past)
 
-pub below_drew : (w : State) (h : List Item) (k : Drew w) → Holds w h → AreSettledBelow w.clients (drew_state w k).nodes
-below_drew w h k holds = record {
+pub below_drew : (w : State) (k : Drew w) → AreSettledBelow w.clients w.nodes → AreSettledBelow w.clients (drew_state w k).nodes
+below_drew w k was = record {
   below = λ s b e n j o at. elim (instance_changed w.nodes k.node n (drew_instance w k) j at) [
-    | inl here ↦ subst (λ (x : InstanceEntry). (x.ceiling ≤ e) ⊎ IsPast x b) (sym here.1) (drew_below_one w k b e (holds.begins.below.below s b e k.node k.i o k.at))
-    | inr there ↦ holds.begins.below.below s b e n j o there.1
+    | inl here ↦ subst (λ (x : InstanceEntry). (x.ceiling ≤ e) ⊎ IsPast x b) (sym here.1) (drew_below_one w k b e (was.below s b e k.node k.i o k.at))
+    | inr there ↦ was.below s b e n j o there.1
   ];
 }
 
@@ -148,10 +147,7 @@ answered_past w h k holds = record {
 -- what an instance has drawn for a commit that it holds
 drawn_there : (w : State) (h : List Item) (n r t c : ℕ) (keys : List ℕ) (j : InstanceEntry) → Holds w h → InstanceAt w.nodes n j → HeldBy j r (Commit r t keys) (progress.Drawn c) → j.epoch < c
 drawn_there w h n r t c keys j holds at held =
-    let q : InFlight = record { session = r; node = n; term = j.term; start = t; keys = keys; stage = Has c } in
-    let p : Pending w.nodes q = record { instance_of = j; progress_of = progress.Drawn c; at = at; held = held; term_is = refl; stage_is = refl } in
-    let drew : DrewCommit h r n j.term t c = (has_drew w.nodes h q c holds.requests.pending p refl).0 in
-    (holds.numbers.drawn.same r n j.term t n (Some c) j drew at refl).0
+    (holds.numbers.drawn.same r n j.term t n (Some c) j (holds.requests.pending.here n r t c keys j at held) at refl).0
 
 -- other instances end at or below the epoch, or begin above the start
 other_below : (w : State) (h : List Item) (k : AnsweredBegin w) (n : ℕ) (j : InstanceEntry) → Holds w h → n ≢ k.node → InstanceAt w.nodes n j → (j.ceiling ≤ k.i.epoch) ⊎ IsPast j k.start
@@ -180,15 +176,15 @@ old_range w k n j at = elim (instance_changed w.nodes k.node n (without_request 
   | inr there ↦ (j, there.1, refl, omega arith)
 ]
 
-old_below : (w : State) (h : List Item) (k : AnsweredBegin w) (s b e n : ℕ) (j : InstanceEntry) → Holds w h → OpenAt w.clients s b e → InstanceAt (answered_begin_state w k).nodes n j → (j.ceiling ≤ e) ⊎ IsPast j b
-old_below w h k s b e n j holds o at =
+old_below : (w : State) (k : AnsweredBegin w) (s b e n : ℕ) (j : InstanceEntry) → AreSettledBelow w.clients w.nodes → OpenAt w.clients s b e → InstanceAt (answered_begin_state w k).nodes n j → (j.ceiling ≤ e) ⊎ IsPast j b
+old_below w k s b e n j before o at =
     let was = old_range w k n j at in
-    below_on w.nodes (answered_begin_state w k).nodes n b e was.0 j (standing_over IsDrawnNow w.nodes k.node k.session k.i k.at) was.1 at was.2 was.3 (holds.begins.below.below s b e n was.0 o was.1)
+    below_on w.nodes (answered_begin_state w k).nodes n b e was.0 j (standing_over IsDrawnNow w.nodes k.node k.session k.i k.at) was.1 at was.2 was.3 (before.below s b e n was.0 o was.1)
 
-pub below_answered_begin : (w : State) (h : List Item) (k : AnsweredBegin w) → Holds w h → AreSettledBelow (answered_begin_state w k).clients (answered_begin_state w k).nodes
-below_answered_begin w h k holds = record {
+pub below_answered_begin : (w : State) (h : List Item) (k : AnsweredBegin w) → Holds w h → AreSettledBelow w.clients w.nodes → AreSettledBelow (answered_begin_state w k).clients (answered_begin_state w k).nodes
+below_answered_begin w h k holds before = record {
   below = λ s b e n j o at. elim (open_answered_begin w k s b e o) [
-    | inl old ↦ old_below w h k s b e n j holds old at
+    | inl old ↦ old_below w k s b e n j before old at
     | inr new ↦ subst (λ y. (j.ceiling ≤ y) ⊎ IsPast j b) (sym new.2) (subst (λ x. (j.ceiling ≤ k.i.epoch) ⊎ IsPast j x) (sym new.1) (new_below w h k n j holds at))
   ];
 }

@@ -12,20 +12,21 @@ use Rattle.oracle_parts.specs.declared.instance.Request.TheVariants.{Commit}
 use Rattle.oracle_parts.specs.declared.instance.Settled.{Settled}
 use Rattle.oracle_parts.specs.Instance.{InstanceEntry, held_of}
 use Rattle.oracle_parts.specs.InstanceSteps.{moved}
-use Rattle.machine.specs.State.{State}
+use Rattle.machine.specs.State.{Client, State}
 use Rattle.isolation_laws.specs.Words.{InstanceAt, HeldBy, Begun, HasDrawn, written_keys}
 use Rattle.isolation_laws.specs.Pending.{InFlight, Pending}
 use Rattle.isolation_laws.specs.Quiet.{AllQuiet}
-use Rattle.isolation_laws.specs.Requests.{IsSettled}
+use Rattle.isolation_laws.specs.Requests.{ArePending, IsSettled}
 use Rattle.isolation_laws.specs.Holds.{Holds}
 use Rattle.isolation_laws.proofs.Lookups.{held_by, held_set, one_held, instance_changed, one_instance}
 use Rattle.isolation_laws.proofs.OnceEach.{begun_once}
 use Rattle.isolation_laws.proofs.Outcome.OutcomesOfStamps.{AtDrawn}
-use Rattle.isolation_laws.proofs.Requests.PendingFewer.{StaysElsewhere}
+use Rattle.isolation_laws.proofs.Requests.OtherCommits.{other_commit, PendingBut}
+use Rattle.isolation_laws.proofs.Requests.PendingFewer.{StaysPut}
 use Rattle.isolation_laws.proofs.Pushed.{old_begin, old_draw, old_placed, written_keys-quiet}
 use Rattle.isolation_laws.proofs.Requests.ClientsAfter.{written_keys-no_write}
 use Rattle.isolation_laws.proofs.Numbers.NumbersKept.{in_flight_of, drawn_pending, drew_commit}
-use Rattle.isolation_laws.proofs.Requests.CommitsInFlight.{GoesOn, SettledAt, SettledOne}
+use Rattle.isolation_laws.proofs.Requests.CommitsInFlight.{GoesOn, pending_one, pending_on, are_pending, here_fewer, FewerStanding, IsDrawnNow, SettledAt, SettledOne}
 
 -- ---- the item that places it
 -- a longer history has that commit placed, and nothing else
@@ -66,12 +67,22 @@ places h items t c quiet =
 pub places_drawn : (h g : List Item) (t c u : ℕ) → Places h g t c → HasDrawn g u → HasDrawn h u
 places_drawn h g t c u places (s, n, term, d, m) = (s, n, term, d, places.draws s n term u (Some d) m)
 
+-- ---- commits in flight that are left
+pub pending_places : (clients new_clients : List Client) (nodes new_nodes : List (Option InstanceEntry)) (h g : List Item) (t c : ℕ) → PendingBut clients nodes new_clients new_nodes t → FewerStanding IsDrawnNow nodes new_nodes → Places h g t c → ArePending clients nodes h → ArePending new_clients new_nodes g
+pending_places clients new_clients nodes new_nodes h g t c but standing all pending = are_pending new_clients new_nodes g (λ q p.
+    let was = but q p in
+    pending_on h g q all.on (record {
+      alone = record {
+        undrawn = λ drew. places_drawn h g t c q.start all drew;
+        unplaced = λ d placed. elim (all.placed q.start d placed) [ inl old ↦ old | inr new ↦ absurd (was.1 new.0) ];
+      };
+      keys = all.keys q.start;
+    }) (pending_one clients nodes h q pending was.0))
+    (here_fewer nodes new_nodes h g standing all.on pending.here)
+
 -- ---- another commit in flight is of another transaction
-pub other_than : (w : State) (h : List Item) (k : AtDrawn w) (q : InFlight) → Holds w h → StaysElsewhere w.nodes k.node k.session q → q.start ≢ k.start
-other_than w h k q holds stays same =
-    let mine : Pending w.nodes (in_flight_of w k) = drawn_pending w k holds.requests.requests in
-    let session : q.session ≡ k.session = begun_once h q.session k.session k.start holds.isolated.stamped (subst (Begun h q.session) same (holds.requests.pending.begun q stays.0)) (holds.requests.pending.begun (in_flight_of w k) mine) in
-    stays.1 (holds.requests.requests.one q.node k.node k.session stays.0.instance_of k.i (Commit q.session q.start q.keys) k.held.request stays.0.progress_of k.held.progress stays.0.at k.at (subst (λ s. HeldBy stays.0.instance_of s (Commit q.session q.start q.keys) stays.0.progress_of) session stays.0.held) (held_by k.i k.session k.held k.has), session)
+pub other_than : (w : State) (h : List Item) (k : AtDrawn w) (q : InFlight) → Holds w h → StaysPut w.clients w.nodes k.node k.session q → q.start ≢ k.start
+other_than w h k q holds stays = other_commit w.clients w.nodes h q (in_flight_of w k) holds.isolated.stamped holds.requests.requests holds.requests.pending (drawn_pending w k holds.requests.requests) stays
 
 drawn_no_settled : (a c : ℕ) (by : Settled) → progress.Drawn a ≡ progress.Settled c by → ⊥
 drawn_no_settled a c by same = cc
@@ -79,7 +90,7 @@ drawn_no_settled a c by same = cc
 -- and so is a settled one
 pub settled_other : (w : State) (h : List Item) (k : AtDrawn w) (n s c : ℕ) (by : Settled) (i : InstanceEntry) → Holds w h → SettledAt w.nodes n s k.start c by i → ⊥
 settled_other w h k n s c by i holds (at, (keys, held)) =
-    let mine : Pending w.nodes (in_flight_of w k) = drawn_pending w k holds.requests.requests in
+    let mine : Pending w.clients w.nodes (in_flight_of w k) = inl (drawn_pending w k holds.requests.requests) in
     let session : s ≡ k.session = begun_once h s k.session k.start holds.isolated.stamped (holds.requests.settled.begun n s k.start c keys by i at held) (holds.requests.pending.begun (in_flight_of w k) mine) in
     let here : HeldBy i k.session (Commit s k.start keys) (progress.Settled c by) = subst (λ r. HeldBy i r (Commit s k.start keys) (progress.Settled c by)) session held in
     let node : n ≡ k.node = holds.requests.requests.one n k.node k.session i k.i (Commit s k.start keys) k.held.request (progress.Settled c by) k.held.progress at k.at here (held_by k.i k.session k.held k.has) in
@@ -127,7 +138,7 @@ settled_now w k by n s t c how_ j (at, (keys, held)) = elim (instance_changed w.
 -- it was begun and drawn
 pub settled_here : (w : State) (h g : List Item) (k : AtDrawn w) (by : Settled) (n s t c : ℕ) (how_ : Settled) (term : ℕ) → GoesOn h g → Holds w h → IsSettled g k.start k.commit by → IsNow w k by n s t c how_ term → SettledOne g n s term t c how_
 settled_here w h g k by n s t c how_ term on holds settled now =
-    let mine : Pending w.nodes (in_flight_of w k) = drawn_pending w k holds.requests.requests in
+    let mine : Pending w.clients w.nodes (in_flight_of w k) = inl (drawn_pending w k holds.requests.requests) in
     let one : SettledOne g k.node k.session k.i.term k.start k.commit by = record {
       begun = on (Begin k.session k.start) (holds.requests.pending.begun (in_flight_of w k) mine);
       drawn = on (Draw k.session k.node k.i.term k.start (Some k.commit)) (drew_commit w h k holds);

@@ -19,7 +19,7 @@ use Rattle.isolation_laws.specs.UnderWay.{UnderWayFacts}
 use Rattle.isolation_laws.specs.Holds.{Holds}
 use Rattle.isolation_laws.proofs.Lookups.{one_client}
 use Rattle.isolation_laws.proofs.OnceEach.{begun_once}
-use Rattle.isolation_laws.proofs.Owners.{not_in_flight, open_unplaced}
+use Rattle.isolation_laws.proofs.Owners.{NoneInFlight, not_in_flight, open_unplaced}
 use Rattle.isolation_laws.proofs.Numbers.NumbersKept.{open_begun}
 use Rattle.isolation_laws.proofs.Requests.RequestsOfMoves.{opens}
 use Rattle.isolation_laws.proofs.Requests.ClientsAfter.{has_by}
@@ -56,18 +56,15 @@ open_settles_none w h s c holds at is x busy = open_is_outcome (sym is ∙ (work
 open_is_completing : (undo : Bool) → phase.Open ≡ phase.Completing undo → ⊥
 open_is_completing undo same = cc
 
-completing_not_gone : (undo : Bool) → phase.Completing undo ≡ phase.Gone → ⊥
-completing_not_gone undo same = cc
-
-completing_not_asked : (undo : Bool) → phase.Completing undo ≡ phase.Committing → ⊥
-completing_not_asked undo same = cc
+pub completing_in_none : (undo : Bool) → NoneInFlight (phase.Completing undo)
+completing_in_none undo = record { gone = λ is. cc; committing = λ is. cc; placing = λ is. cc }
 
 pub completing_not_live : (w : State) (h : List Item) (s t : ℕ) (c : Client) (undo : Bool) → Holds w h → ClientAt w.clients s c → c.entry.state ≡ phase.Completing undo → Begun h s t → Live w.clients w.nodes t → ⊥
 completing_not_live w h s t c undo holds at is begun (inl o) =
     let session : o.session ≡ s = begun_once h o.session s t holds.isolated.stamped (begun_by w h o.session t o.open_at.client holds o.open_at.at o.open_at.state_is o.open_at.start_is) begun in
     let same : o.open_at.client ≡ c = one_client w.clients s o.open_at.client c (subst (λ r. ClientAt w.clients r o.open_at.client) session o.open_at.at) at in
     open_is_completing undo (sym o.open_at.state_is ∙ (ap (λ (x : Client). x.entry.state) same ∙ is))
-completing_not_live w h s t c undo holds at is begun (inr p) = not_in_flight w.nodes w.clients h (phase.Completing undo) s t c holds.isolated.stamped holds.requests.requests holds.requests.pending at is (completing_not_gone undo) (completing_not_asked undo) begun p
+completing_not_live w h s t c undo holds at is begun (inr p) = not_in_flight w.nodes w.clients h (phase.Completing undo) s t c holds.isolated.stamped holds.requests.requests holds.requests.pending at is (completing_in_none undo) begun p
 
 -- ---- the table may have got a mark
 pub cells_may_mark : (w : State) (h : List Item) (pairs : Pairs) → Holds w h → MayHaveMarked w.pairs pairs → CellFacts w.clients w.nodes w.rows pairs h

@@ -78,7 +78,7 @@ works_resolving rows h c t x work is start own = record {
 -- its first key was written
 first_written : (w : State) (h : List Item) (k : OutcomeStepped w) (step : OwnStep w h k) → Holds w h → (value : List ℕ) × Wrote h k.x.txn k.x.key value
 first_written w h k step holds =
-    let keys : k.it.c.entry.keys ≡ written_keys h step.start = holds.requests.keys.written k.it.session step.start k.it.c k.it.client_at (inr (inr k.it.is_open)) step.start_is in
+    let keys : k.it.c.entry.keys ≡ written_keys h step.start = holds.requests.keys.written k.it.session step.start k.it.c k.it.client_at (inr (inr (inl k.it.is_open))) step.start_is in
     key_was_written h k.x.txn k.x.key (subst (λ q. k.x.key ∈ written_keys h q) (sym step.own.txn) (subst (λ (ks : List ℕ). k.x.key ∈ ks) keys (first_key_in k.x.key step.own.key.0 k.it.c.entry.keys step.own.key.1)))
 
 outcome_works : (w : State) (h : List Item) (k : OutcomeStepped w) (turn : SettleTurn) → Holds w h → OwnStep w h k → settle_turn k.x (told_by (settle_ask k.x) w.rows w.pairs) ≡ turn → Works w.rows h (client_settled k.it.c k.x turn)
@@ -91,7 +91,7 @@ outcome_works w h k (Goes p) holds step is =
       shown = subst (λ q. IsShownAt w.rows h k.x.key q p) step.own.txn (goes_shown w h k.x p wrote.0 holds wrote.1 is);
     })
 outcome_works w h k (Decides (outcome.Committed c by_table)) holds step is = works_committed w.rows h k.it.c step.start c step.start_is
-    (holds.requests.keys.written k.it.session step.start k.it.c k.it.client_at (inr (inr k.it.is_open)) step.start_is)
+    (holds.requests.keys.written k.it.session step.start k.it.c k.it.client_at (inr (inr (inl k.it.is_open))) step.start_is)
     (subst (λ q. Committed h q c) step.own.txn (decided_placed w h k.x c by_table holds is))
 outcome_works w h k (Decides outcome.Dead) holds step is = works_aborted w.rows h k.it.c step.start step.start_is
     (λ d placed. dead_unplaced w h k.x (subst (λ q. IsShownAt w.rows h k.x.key q k.x.point) (sym step.own.txn) step.own.shown) is d (subst (λ q. Committed h q d) (sym step.own.txn) placed))

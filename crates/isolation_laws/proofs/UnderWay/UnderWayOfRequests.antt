@@ -28,7 +28,7 @@ use Rattle.isolation_laws.specs.UnderWay.{UnderWayFacts}
 use Rattle.isolation_laws.specs.Holds.{Holds}
 use Rattle.isolation_laws.proofs.Lookups.{held_by}
 use Rattle.isolation_laws.proofs.Pushed.{last_write-quiet}
-use Rattle.isolation_laws.proofs.Owners.{not_in_flight, pending_unplaced}
+use Rattle.isolation_laws.proofs.Owners.{NoneInFlight, not_in_flight, pending_unplaced}
 use Rattle.isolation_laws.proofs.Requests.OpenAfter.{crashed_at}
 use Rattle.isolation_laws.proofs.Outcome.OutcomesOfRequests.{Crashed, crashed_state, AskedBegin, asked_begin_state, asked_begin_items, AskedCommit, asked_commit_state, Ended, ended_state}
 use Rattle.isolation_laws.proofs.Outcome.OutcomesOfStamps.{AnsweredBegin, answered_begin_state, answered_begin_items, answered_client, AnsweredCommit, answered_commit_state}
@@ -38,7 +38,7 @@ use Rattle.isolation_laws.proofs.Stores.CellsMove.{IsPlacing}
 use Rattle.isolation_laws.proofs.UnderWay.Works.{Works, AllWork, under_way, KeepsPlaced, works_on, sweeping_on}
 use Rattle.isolation_laws.proofs.UnderWay.ClientWorks.{works_freed, works_opened, works_begun, works_asked, works_aborted, works_committed, works_unless}
 use Rattle.isolation_laws.proofs.Stores.StoreMoves.{keeps_same}
-use Rattle.isolation_laws.proofs.UnderWay.SessionMoves.{work_of, start_of, under_way_calm, under_way_client}
+use Rattle.isolation_laws.proofs.UnderWay.SessionMoves.{completing_in_none, work_of, start_of, under_way_calm, under_way_client}
 use Rattle.isolation_laws.proofs.Requests.RequestsOfNodes.{waits_for}
 use Rattle.isolation_laws.proofs.Numbers.Placings.{PlacedPending, placed_item, placed_pairs}
 
@@ -83,18 +83,18 @@ refusal_works rows h (Commit s t keys) c works waits unplaced = works_unless row
 ])
 
 -- one that had drawn nothing was in flight
-ended_pending : (w : State) (h : List Item) (k : Ended w) (s t : ℕ) (keys : List ℕ) → Holds w h → k.held.request ≡ Commit s t keys → IsPending w.nodes t
+ended_pending : (w : State) (h : List Item) (k : Ended w) (s t : ℕ) (keys : List ℕ) → Holds w h → k.held.request ≡ Commit s t keys → IsPending w.clients w.nodes t
 ended_pending w h k s t keys holds is =
     let own : k.held.request ≡ Commit k.session t keys = own_request w h k.node k.session s t keys k.i k.held holds k.at k.has is in
     elim k.undrawn [
       | inl asked ↦ record {
-        coming = record { session = k.session; node = k.node; term = k.i.term; start = t; keys = keys; stage = Waits };
-        pending = record { instance_of = k.i; progress_of = progress.Asked; at = k.at; held = record { held = k.held; has = k.has; asks = own; stands = asked }; term_is = refl; stage_is = refl };
+        coming = record { session = k.session; start = t; keys = keys; stage = Waits };
+        pending = inl (record { node = k.node; instance_of = k.i; progress_of = progress.Asked; at = k.at; held = record { held = k.held; has = k.has; asks = own; stands = asked }; stage_is = refl });
         start_is = refl;
       }
       | inr accepted ↦ record {
-        coming = record { session = k.session; node = k.node; term = k.i.term; start = t; keys = keys; stage = Taken k.i.last };
-        pending = record { instance_of = k.i; progress_of = progress.Accepted; at = k.at; held = record { held = k.held; has = k.has; asks = own; stands = accepted }; term_is = refl; stage_is = refl };
+        coming = record { session = k.session; start = t; keys = keys; stage = Taken k.i.last };
+        pending = inl (record { node = k.node; instance_of = k.i; progress_of = progress.Accepted; at = k.at; held = record { held = k.held; has = k.has; asks = own; stands = accepted }; stage_is = refl });
         start_is = refl;
       }
     ]
@@ -102,7 +102,7 @@ ended_pending w h k s t keys holds is =
 pub under_way_ended : (w : State) (h : List Item) (k : Ended w) → Holds w h → UnderWayFacts (ended_state w k).clients w.sweep w.rows w.pairs (h ++ k.items)
 under_way_ended w h k holds = under_way_client w h (h ++ k.items) k.session (after_refusal k.held.request k.c) holds (calm_quiet h k.items k.quiet)
     (refusal_works w.rows h k.held.request k.c (work_of w h k.session k.c holds k.client_at) (waits_for w h k.node k.session k.i k.held k.c holds k.at k.has k.client_at)
-    (λ s t d keys is placed. pending_unplaced w.nodes h t d holds.numbers.placed holds.requests.pending (ended_pending w h k s t keys holds is) placed))
+    (λ s t d keys is placed. pending_unplaced w.clients w.nodes h t d holds.numbers.placed holds.requests.pending (ended_pending w h k s t keys holds is) placed))
 
 -- ---- answers
 pub calm_begin : (h : List Item) (s t : ℕ) → Calm h (h ++ BeginItem s t ∷ [])
@@ -145,25 +145,37 @@ is_placing h items t c quiet =
           (last_write-quiet (h ++ Placed t c ∷ []) items u k quiet ∙ last_write-other h (Placed t c) u k refl);
     }
 
+outcome_in_none : NoneInFlight phase.OpenOutcome
+outcome_in_none = record { gone = λ is. cc; committing = λ is. cc; placing = λ is. cc }
+
 -- the transaction in flight is no session's that completes, or whose outcome is open
-placed_elsewhere : (w : State) (h : List Item) (p : PlacedPending w) (s u : ℕ) (c : Client) (state : SessionState) → Holds w h → ClientAt w.clients s c → c.entry.state ≡ state → IsTrue (has_transaction state) → (state ≡ phase.Gone → ⊥) → (state ≡ phase.Committing → ⊥) → c.entry.start ≡ Some u → u ≡ p.coming.start → ⊥
-placed_elsewhere w h p s u c state holds at is has gone asked start same =
+placed_elsewhere : (w : State) (h : List Item) (p : PlacedPending w) (s u : ℕ) (c : Client) (state : SessionState) → Holds w h → ClientAt w.clients s c → c.entry.state ≡ state → IsTrue (has_transaction state) → NoneInFlight state → c.entry.start ≡ Some u → u ≡ p.coming.start → ⊥
+placed_elsewhere w h p s u c state holds at is has none start same =
     let begun = start_of w h s c state holds at is has in
     let own : begun.0 ≡ p.coming.start = same_Some begun.0 u (sym begun.1 ∙ start) ∙ same in
-    not_in_flight w.nodes w.clients h state s p.coming.start c holds.isolated.stamped holds.requests.requests holds.requests.pending at is gone asked (subst (λ q. Begun h s q) own begun.2)
+    not_in_flight w.nodes w.clients h state s p.coming.start c holds.isolated.stamped holds.requests.requests holds.requests.pending at is none (subst (λ q. Begun h s q) own begun.2)
     (record { coming = p.coming; pending = p.pending; start_is = refl })
 
-pub under_way_placed : (w : State) (h : List Item) (p : PlacedPending w) (items : List Item) → AllQuiet items → Holds w h → UnderWayFacts w.clients w.sweep w.rows (placed_pairs w p) (h ++ placed_item w p ∷ items)
-under_way_placed w h p items quiet holds =
-    let g : List Item = h ++ placed_item w p ∷ items in
-    let places_it : IsPlacing h g p.coming.start p.commit = is_placing h items p.coming.start p.commit quiet in
-    let keeps : KeepsPlaced w.rows w.rows h g = record { on = places_it.on; writes = λ t c j is. places_it.writes t j; shadows = λ t c j is has. has } in
-    under_way w.clients w.sweep w.rows (placed_pairs w p) g
-    (λ s c at. works_on w.rows w.rows h g c keeps (λ t d start is placed. elim (places_it.placed t d placed) [
+-- all clients' work stays right, and so does the sweep
+pub placed_keeps : (w : State) (h : List Item) (p : PlacedPending w) (items : List Item) → AllQuiet items → KeepsPlaced w.rows w.rows h (h ++ placed_item w p ∷ items)
+placed_keeps w h p items quiet =
+    let places_it : IsPlacing h (h ++ placed_item w p ∷ items) p.coming.start p.commit = is_placing h items p.coming.start p.commit quiet in
+    record { on = places_it.on; writes = λ t c j is. places_it.writes t j; shadows = λ t c j is has. has }
+
+pub placed_works : (w : State) (h : List Item) (p : PlacedPending w) (items : List Item) → AllQuiet items → Holds w h → AllWork w.clients w.rows (h ++ placed_item w p ∷ items)
+placed_works w h p items quiet holds s c at =
+    works_on w.rows w.rows h (h ++ placed_item w p ∷ items) c (placed_keeps w h p items quiet) (λ t d start is placed. elim ((is_placing h items p.coming.start p.commit quiet).placed t d placed) [
       | inl old ↦ old
       | inr now ↦ elim is [
-        | inl undoes ↦ absurd (placed_elsewhere w h p s t c (phase.Completing true) holds at undoes refl (λ q. cc) (λ q. cc) start now.0)
-        | inr resolves ↦ absurd (placed_elsewhere w h p s t c phase.OpenOutcome holds at resolves refl (λ q. cc) (λ q. cc) start now.0)
+        | inl undoes ↦ absurd (placed_elsewhere w h p s t c (phase.Completing true) holds at undoes refl (completing_in_none true) start now.0)
+        | inr resolves ↦ absurd (placed_elsewhere w h p s t c phase.OpenOutcome holds at resolves refl outcome_in_none start now.0)
       ]
-    ]) (work_of w h s c holds at))
-    (sweeping_on w.sweep w.rows w.rows w.pairs (placed_pairs w p) h g keeps (λ t marked. entry_stays-put_pair w.pairs p.coming.start t (CommittedMark p.commit) InvalidMark marked) holds.under_way.sweeping)
+    ]) (work_of w h s c holds at)
+
+pub under_way_placing : (w : State) (h : List Item) (p : PlacedPending w) (clients : List Client) (items : List Item) → AllQuiet items → AllWork clients w.rows (h ++ placed_item w p ∷ items) → Holds w h → UnderWayFacts clients w.sweep w.rows (placed_pairs w p) (h ++ placed_item w p ∷ items)
+under_way_placing w h p clients items quiet work holds =
+    under_way clients w.sweep w.rows (placed_pairs w p) (h ++ placed_item w p ∷ items) work
+    (sweeping_on w.sweep w.rows w.rows w.pairs (placed_pairs w p) h (h ++ placed_item w p ∷ items) (placed_keeps w h p items quiet) (λ t marked. entry_stays-put_pair w.pairs p.coming.start t (CommittedMark p.commit) InvalidMark marked) holds.under_way.sweeping)
+
+pub under_way_placed : (w : State) (h : List Item) (p : PlacedPending w) (items : List Item) → AllQuiet items → Holds w h → UnderWayFacts w.clients w.sweep w.rows (placed_pairs w p) (h ++ placed_item w p ∷ items)
+under_way_placed w h p items quiet holds = under_way_placing w h p w.clients items quiet (placed_works w h p items quiet holds) holds
