@@ -35,7 +35,7 @@ kept nodes new h items all were mute n s i request p at holds =
 were_took : (w : State) (k : Granted w) (failed : Bool) → AllWere w.nodes (granted_nodes w k failed)
 were_took w k true m s j request p there holds = were_same w.nodes m s j request p there holds
 were_took w k false m s j request p there holds = elim (instance_changed w.nodes k.node m (instance_of w.setup k.node (granted (rules_of w.setup) w.master k.reading)) j there) [
-  | inl here ↦ absurd (new_holds_none (granted (rules_of w.setup) w.master k.reading) k.node w.setup.buckets w.setup.width w.setup.slots s request p (subst (λ (i : InstanceEntry). HeldBy i s request p) here.1 holds))
+  | inl here ↦ absurd (new_holds_none (granted (rules_of w.setup) w.master k.reading) k.node w.setup.buckets w.setup.width w.setup.slots w.setup.direct w.setup.direct s request p (subst (λ (i : InstanceEntry). HeldBy i s request p) here.1 holds))
   | inr other ↦ record { i = j; at = other.1; term_is = refl; holds = holds }
 ]
 

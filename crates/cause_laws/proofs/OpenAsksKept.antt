@@ -57,7 +57,7 @@ came_took : (w : State) (k : Granted w) (failed : Bool) → AllCame w.nodes (too
 came_took w k true m s now at = came_all w.nodes (took_items w k) (λ m. calm_stays w.nodes (took_items w k) m (took_calm w k m)) m s now at
 came_took w k false m s now at =
     came_calm w.nodes (took_items w k) k.node None (Some (instance_of w.setup k.node (granted (rules_of w.setup) w.master k.reading))) k.vacant (took_calm w k)
-    (λ r. ap count_of (held_of-instance_new (granted (rules_of w.setup) w.master k.reading) k.node w.setup.buckets w.setup.width w.setup.slots r)) m s now at
+    (λ r. ap count_of (held_of-instance_new (granted (rules_of w.setup) w.master k.reading) k.node w.setup.buckets w.setup.width w.setup.slots w.setup.direct w.setup.direct r)) m s now at
 
 no_requests : Option Held
 no_requests = None

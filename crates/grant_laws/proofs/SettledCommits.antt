@@ -85,7 +85,7 @@ commit_fits request p s start keys is = subst (λ (q : Request). MaySettle q p) 
 
 granted_fits : (w : State) (k : Granted w) (failed : Bool) → AllFit w.nodes → AllFit (granted_nodes w k failed)
 granted_fits w k true all = all
-granted_fits w k false all = by_node w.nodes k.node (instance_of w.setup k.node (granted (rules_of w.setup) w.master k.reading)) all (λ s held has. absurd (none-some held (sym (held_of-instance_new (granted (rules_of w.setup) w.master k.reading) k.node w.setup.buckets w.setup.width w.setup.slots s) ∙ has)))
+granted_fits w k false all = by_node w.nodes k.node (instance_of w.setup k.node (granted (rules_of w.setup) w.master k.reading)) all (λ s held has. absurd (none-some held (sym (held_of-instance_new (granted (rules_of w.setup) w.master k.reading) k.node w.setup.buckets w.setup.width w.setup.slots w.setup.direct s) ∙ has)))
 
 renewed_fits : (w : State) (k : Renewed w) (failed : Bool) → AllFit w.nodes → AllFit (renewed_nodes w k failed)
 renewed_fits w k true all = all

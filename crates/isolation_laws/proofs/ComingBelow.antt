@@ -10,8 +10,8 @@ use Rattle.client_parts.specs.KeyRead.{may_mark}
 use Rattle.oracle_parts.specs.Instance.{InstanceEntry}
 use Rattle.machine.specs.State.{Client}
 use Rattle.machine.specs.Events.Fetch.{marks_every}
-use Rattle.isolation_laws.specs.Words.{ClientAt, OpenAt}
-use Rattle.isolation_laws.specs.Pending.{Stage, Waits, Taken, Has, InFlight, HeldPending, is_placing, Pending, IsStageBelow, ComesBelow}
+use Rattle.isolation_laws.specs.Words.{OpenAt}
+use Rattle.isolation_laws.specs.Pending.{Stage, Waits, Taken, Has, InFlight, HeldPending, Pending, IsStageBelow, ComesBelow}
 use Rattle.isolation_laws.specs.Numbers.{AreRanges, AreDrawn, AreNewDraws}
 use Rattle.isolation_laws.specs.Requests.{ArePending, AreAccepted, AreForm}
 use Rattle.isolation_laws.specs.Begins.{AreSettledBelow}
@@ -34,8 +34,8 @@ coming_is_below clients nodes h b t news accepted pending c = elim (below_stage 
 ]
 
 -- and where an instance holds it, a reader that is open has an epoch that is not below it
-held_is_within : (nodes : List (Option InstanceEntry)) (clients : List Client) (master : MasterRecord) (h : List Item) (s b e : ℕ) (q : InFlight) → AreRanges nodes master → AreDrawn nodes master h → AreNewDraws h → AreAccepted nodes → ArePending clients nodes h → AreSettledBelow clients nodes → OpenAt clients s b e → HeldPending nodes q → IsStageBelow b q.stage → q.start ≤ e
-held_is_within nodes clients master h s b e q ranges drawn news accepted pending settled o p below =
+held_is_within : (setup : SetupNumbers) (nodes : List (Option InstanceEntry)) (clients : List Client) (master : MasterRecord) (h : List Item) (s b e : ℕ) (q : InFlight) → AreForm setup nodes clients → setup.direct ≡ false → AreRanges nodes master → AreDrawn nodes master h → AreNewDraws h → AreAccepted nodes → ArePending clients nodes h → AreSettledBelow clients nodes → OpenAt clients s b e → HeldPending nodes q → IsStageBelow b q.stage → q.start ≤ e
+held_is_within setup nodes clients master h s b e q form plain ranges drawn news accepted pending settled o p below =
     let i = p.instance_of in
     elim (below_stage b q.stage below) [
       | inl (x, is, low) ↦
@@ -49,19 +49,19 @@ held_is_within nodes clients master h s b e q ranges drawn news accepted pending
           let last : x ≤ i.last = (drawn.same q.session p.node i.term q.start p.node (Some x) i drew p.at refl).1 in
           elim (settled.below s b e p.node i o p.at) [
             | inl all ↦ omega (arith, commit_above_start h q.session p.node i.term q.start x news drew, last, ranges.within p.node i p.at, all)
-            | inr past ↦ absurd (omega (arith, past.settled q.session q.start x q.keys (has_held nodes q x p is), low))
+            | inr past ↦ absurd (omega (arith, past.settled q.session q.start x q.keys (has_held setup nodes clients q x p form plain is), low))
           ]
     ]
 
 -- so it may mark it: by its epoch where no session places its own commit, and in any case where one may
-coming_is_within : (nodes : List (Option InstanceEntry)) (clients : List Client) (master : MasterRecord) (h : List Item) (s b e : ℕ) (q : InFlight) → ((r : ℕ) (c : Client) → ClientAt clients r c → is_placing c.entry.state ≡ true → ⊥) → AreRanges nodes master → AreDrawn nodes master h → AreNewDraws h → AreAccepted nodes → ArePending clients nodes h → AreSettledBelow clients nodes → OpenAt clients s b e → Pending clients nodes q → IsStageBelow b q.stage → q.start ≤ e
-coming_is_within nodes clients master h s b e q none ranges drawn news accepted pending settled o (inl p) below = held_is_within nodes clients master h s b e q ranges drawn news accepted pending settled o p below
-coming_is_within nodes clients master h s b e q none ranges drawn news accepted pending settled o (inr p) below = absurd (none q.session p.client p.at p.state_is)
+coming_is_within : (setup : SetupNumbers) (nodes : List (Option InstanceEntry)) (clients : List Client) (master : MasterRecord) (h : List Item) (s b e : ℕ) (q : InFlight) → AreForm setup nodes clients → setup.direct ≡ false → AreRanges nodes master → AreDrawn nodes master h → AreNewDraws h → AreAccepted nodes → ArePending clients nodes h → AreSettledBelow clients nodes → OpenAt clients s b e → Pending clients nodes q → IsStageBelow b q.stage → q.start ≤ e
+coming_is_within setup nodes clients master h s b e q form plain ranges drawn news accepted pending settled o (inl p) below = held_is_within setup nodes clients master h s b e q form plain ranges drawn news accepted pending settled o p below
+coming_is_within setup nodes clients master h s b e q form plain ranges drawn news accepted pending settled o (inr p) below = absurd (form.plain plain q.session p.client p.at p.state_is)
 
-pub coming_is_markable : (setup : SetupNumbers) (every : Bool) (nodes : List (Option InstanceEntry)) (clients : List Client) (master : MasterRecord) (h : List Item) (s b e t : ℕ) → every ≡ marks_every setup → AreForm setup clients → AreRanges nodes master → AreDrawn nodes master h → AreNewDraws h → AreAccepted nodes → ArePending clients nodes h → (marks_every setup ≡ false → AreSettledBelow clients nodes) → OpenAt clients s b e → ComesBelow clients nodes b t → IsTrue (may_mark every t e)
+pub coming_is_markable : (setup : SetupNumbers) (every : Bool) (nodes : List (Option InstanceEntry)) (clients : List Client) (master : MasterRecord) (h : List Item) (s b e t : ℕ) → every ≡ marks_every setup → AreForm setup nodes clients → AreRanges nodes master → AreDrawn nodes master h → AreNewDraws h → AreAccepted nodes → ArePending clients nodes h → (setup.direct ≡ false → AreSettledBelow clients nodes) → OpenAt clients s b e → ComesBelow clients nodes b t → IsTrue (may_mark every t e)
 coming_is_markable setup true nodes clients master h s b e t every form ranges drawn news accepted pending settled o c = refl
 coming_is_markable setup false nodes clients master h s b e t every form ranges drawn news accepted pending settled o c =
-    le-leb t e (subst (λ x. x ≤ e) c.start_is (coming_is_within nodes clients master h s b e c.coming (form.plain (sym every)) ranges drawn news accepted pending (settled (sym every)) o c.pending c.below))
+    le-leb t e (subst (λ x. x ≤ e) c.start_is (coming_is_within setup nodes clients master h s b e c.coming form (sym every) ranges drawn news accepted pending (settled (sym every)) o c.pending c.below))
 
 -- of two committed versions of a key the later one has the later commit
 pub later_version : (h : List Item) (v u c d k : ℕ) (x y : List ℕ) → Apart h → Stamped h → Committed h v c → Committed h u d → Wrote h v k x → Wrote h u k y → u < v → d < c

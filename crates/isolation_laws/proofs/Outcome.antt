@@ -3,7 +3,6 @@ pub mod PlainItems
 pub mod OutcomesOfRecord
 pub mod OutcomesOfRequests
 pub mod OutcomesOfStamps
-pub mod OutcomesOfPlacings
 pub mod OutcomesOfSessions
 pub mod OutcomesOfWork
 pub mod OutcomesOfSweeps

@@ -1,7 +1,7 @@
 -- For cause_laws and call_laws too.
 -- What follows from several facts at once: whose a transaction is, what still may be placed, and what an instance with the
 -- record's term has seen.
-use Rattle.std.proofs.Common.{◌≡◌, ℕ, ◌+◌, ◌<◌, ◌≤◌, true, List, Option, Some, None, inl, inr, refl, sym, ◌∙◌, ap, subst, arith}
+use Rattle.std.proofs.Common.{◌≡◌, ℕ, ◌+◌, ◌<◌, ◌≤◌, true, false, ◌⊎◌, List, Option, Some, None, inl, inr, refl, sym, ◌∙◌, ap, subst, arith}
 use Rattle.history_book.specs.Members.{◌∈◌}
 use Rattle.history_book.specs.Isolation.{Committed, Stamped}
 use Rattle.history_book.specs.declared.item.Item.{Item}
@@ -18,7 +18,7 @@ use Rattle.machine.specs.State.{Client}
 use Rattle.isolation_laws.specs.Words.{InstanceAt, HeldBy, ClientAt, OpenAt, Begun, DrewCommit, drawn_stamp}
 use Rattle.isolation_laws.specs.Pending.{Stage, Waits, Taken, Has, InFlight, stage_of, HeldPending, is_placing, Pending, IsPending, IsOpen, Live}
 use Rattle.isolation_laws.specs.Numbers.{AreRanges, AreLeases, AreDrawn, AreBegun, ArePlaced}
-use Rattle.isolation_laws.specs.Requests.{AreRequests, WaitsFor, IsDrawnSoFar, ArePending, AreAccepted, AreOpen}
+use Rattle.isolation_laws.specs.Requests.{AreRequests, WaitsFor, IsDrawnSoFar, ArePending, AreAccepted, AreOpen, AreForm}
 use Rattle.isolation_laws.proofs.Lookups.{one_client}
 use Rattle.isolation_laws.proofs.OnceEach.{begun_once}
 use Rattle.isolation_laws.proofs.Orders.{three_ways}
@@ -107,12 +107,14 @@ taken_progress : (last : ℕ) (p : Progress) (x : ℕ) → stage_of last p ≡ S
 taken_progress last progress.Asked x is = absurd (cc)
 taken_progress last progress.Accepted x is = (refl, cc)
 taken_progress last (progress.Drawn c) x is = absurd (cc)
+taken_progress last (progress.Handed c) x is = absurd (cc)
 taken_progress last (progress.Settled c by) x is = absurd (cc)
 
-has_progress : (last : ℕ) (p : Progress) (x : ℕ) → stage_of last p ≡ Some (Has x) → p ≡ progress.Drawn x
+pub has_progress : (last : ℕ) (p : Progress) (x : ℕ) → stage_of last p ≡ Some (Has x) → (p ≡ progress.Drawn x) ⊎ (p ≡ progress.Handed x)
 has_progress last progress.Asked x is = absurd (cc)
 has_progress last progress.Accepted x is = absurd (cc)
-has_progress last (progress.Drawn c) x is = cc
+has_progress last (progress.Drawn c) x is = inl cc
+has_progress last (progress.Handed c) x is = inr cc
 has_progress last (progress.Settled c by) x is = absurd (cc)
 
 -- what an instance has accepted began within its range
@@ -123,12 +125,18 @@ taken_within nodes q x p accepted is =
     let within = accepted.within p.node q.session q.start q.keys p.instance_of p.at held in
     (omega (arith, within.1, now.1), now.1)
 
-pub has_held : (nodes : List (Option InstanceEntry)) (q : InFlight) (x : ℕ) (p : HeldPending nodes q) → q.stage ≡ Has x → HeldBy p.instance_of q.session (Commit q.session q.start q.keys) (progress.Drawn x)
-has_held nodes q x p is = subst (HeldBy p.instance_of q.session (Commit q.session q.start q.keys)) (has_progress p.instance_of.last p.progress_of x (p.stage_is ∙ ap Some is)) p.held
+-- where commits are not direct, what has its commit is drawn
+pub has_held : (setup : SetupNumbers) (nodes : List (Option InstanceEntry)) (clients : List Client) (q : InFlight) (x : ℕ) (p : HeldPending nodes q) → AreForm setup nodes clients → setup.direct ≡ false → q.stage ≡ Has x → HeldBy p.instance_of q.session (Commit q.session q.start q.keys) (progress.Drawn x)
+has_held setup nodes clients q x p form plain is = elim (has_progress p.instance_of.last p.progress_of x (p.stage_is ∙ ap Some is)) [
+  | inl drawn ↦ subst (HeldBy p.instance_of q.session (Commit q.session q.start q.keys)) drawn p.held
+  | inr handed ↦
+      let clash : true ≡ false = sym (form.handed p.node q.session x p.instance_of (Commit q.session q.start q.keys) p.at (subst (HeldBy p.instance_of q.session (Commit q.session q.start q.keys)) handed p.held)) ∙ plain in
+      absurd (cc)
+]
 
 -- what an instance has drawn for it was drawn there
 pub held_drew : (clients : List Client) (nodes : List (Option InstanceEntry)) (h : List Item) (q : InFlight) (x : ℕ) (p : HeldPending nodes q) → ArePending clients nodes h → q.stage ≡ Has x → DrewCommit h q.session p.node p.instance_of.term q.start x
-held_drew clients nodes h q x p pending is = pending.here p.node q.session q.start x q.keys p.instance_of p.at (has_held nodes q x p is)
+held_drew clients nodes h q x p pending is = pending.here p.node q.session q.start x q.keys p.progress_of p.instance_of p.at p.held (p.stage_is ∙ ap Some is)
 
 -- what a session is placing has its commit, so what waits or is taken is held
 taken_not_has : (x c : ℕ) → Taken x ≡ Has c → ⊥

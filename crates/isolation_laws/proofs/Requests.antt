@@ -19,6 +19,7 @@ pub mod RequestsOfDraws
 pub mod SettledNow
 pub mod RequestsOfSettled
 pub mod RequestsOfPlacings
+pub mod RequestsOfHandOvers
 pub mod RequestsOfBegins
 pub mod RequestsOfWrites
 pub mod RequestsOfAll

@@ -36,6 +36,7 @@ MayHave phase.Free keys work t k = ⊥
 MayHave phase.Asking keys work t k = ⊥
 MayHave phase.Open keys work t k = k ∈ keys
 MayHave phase.Committing keys work t k = k ∈ keys
+MayHave phase.Placing keys work t k = k ∈ keys
 MayHave phase.OpenOutcome keys work t k = k ∈ keys
 MayHave (phase.Completing true) keys work t k = (left : List ℕ) × (work ≡ Completes (undo_asks t left)) × (k ∈ left)
 MayHave (phase.Completing false) keys work t k = Unit {0}

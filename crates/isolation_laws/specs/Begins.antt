@@ -8,7 +8,6 @@ use Rattle.oracle_parts.specs.declared.instance.Progress.TheVariants as progress
 use Rattle.oracle_parts.specs.declared.instance.Request.TheVariants.{Begin, Commit}
 use Rattle.oracle_parts.specs.Instance.{InstanceEntry}
 use Rattle.machine.specs.State.{Client}
-use Rattle.machine.specs.Events.Fetch.{marks_every}
 use Rattle.isolation_laws.specs.Words.{InstanceAt, HeldBy, OpenAt}
 
 -- what was placed before the ask of a begin is below the start that it got, or will get
@@ -28,4 +27,4 @@ pub record AreSettledBelow (clients : List Client) (nodes : List (Option Instanc
 
 pub record BeginFacts (setup : SetupNumbers) (clients : List Client) (nodes : List (Option InstanceEntry)) (h : List Item) : Type 0 where
   pub fresh : AreFreshBegins nodes h
-  pub below : marks_every setup ≡ false → AreSettledBelow clients nodes
+  pub below : setup.direct ≡ false → AreSettledBelow clients nodes

@@ -22,7 +22,12 @@ pub record DrawnApart (h : List Item) : Type 0 where
 pub record DrawnSerial (h : List Item) : Type 0 where
   pub stood : (r s n m term other t d u c k : ℕ) (value : List ℕ) → DrewCommit h r n term t d → DrewCommit h s m other u c → t ≢ u → ReadFirst h t k → Wrote h u k value → (c < t) ⊎ (d < c)
 
+-- commits are handed to their sessions where the setup has them direct
+pub record AreOfForm (setup : SetupNumbers) (nodes : List (Option InstanceEntry)) : Type 0 where
+  pub direct : (n : ℕ) (i : InstanceEntry) → InstanceAt nodes n i → i.direct ≡ setup.direct
+
 pub record MemoryFacts (setup : SetupNumbers) (nodes : List (Option InstanceEntry)) (h : List Item) : Type 0 where
   pub recorded : AreRecorded setup nodes h
+  pub form : AreOfForm setup nodes
   pub apart : DrawnApart h
   pub serial : setup.strict ≡ true → DrawnSerial h

@@ -1,6 +1,7 @@
 -- What may still be placed: commits in flight, by how far they have come, and what can still arrive below a start.
 use Rattle.std.specs.Prelude.{◌≡◌, ℕ, ◌<◌, ◌⊎◌, Bool, true, false, List, Option, None, Some}
 use Rattle.client_parts.specs.declared.session.State.{State as SessionState}
+use Rattle.client_parts.specs.declared.session.State.TheVariants as phase
 use Rattle.oracle_parts.specs.declared.instance.Progress.{Progress}
 use Rattle.oracle_parts.specs.declared.instance.Progress.TheVariants as progress
 use Rattle.oracle_parts.specs.declared.instance.Request.TheVariants.{Commit}
@@ -13,7 +14,7 @@ pub data Stage : Type 0 where
   Waits : Stage
   -- it is accepted by an instance that drew this stamp last
   Taken : (last : ℕ) → Stage
-  -- it has its commit, which is not settled
+  -- it has its commit, which is to be placed
   Has : (commit : ℕ) → Stage
 
 -- a commit in flight: whose it is, its start, its keys and its stage
@@ -27,6 +28,7 @@ abbrev pub stage_of : ℕ → Progress → Option Stage
 stage_of last progress.Asked = Some Waits
 stage_of last progress.Accepted = Some (Taken last)
 stage_of last (progress.Drawn commit) = Some (Has commit)
+stage_of last (progress.Handed commit) = Some (Has commit)
 stage_of last (progress.Settled commit how) = None
 
 -- an instance holds it, and it is not settled
@@ -40,6 +42,7 @@ pub record HeldPending (nodes : List (Option InstanceEntry)) (q : InFlight) : Ty
 
 -- the session has its commit, and places it itself
 abbrev pub is_placing : SessionState → Bool
+is_placing phase.Placing = true
 is_placing _ = false
 
 pub record PlacingAt (clients : List Client) (q : InFlight) : Type 0 where

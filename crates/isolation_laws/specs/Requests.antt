@@ -14,9 +14,8 @@ use Rattle.oracle_parts.specs.declared.instance.Settled.{Settled}
 use Rattle.oracle_parts.specs.declared.instance.Settled.TheVariants as how
 use Rattle.oracle_parts.specs.Instance.{InstanceEntry, session_of}
 use Rattle.machine.specs.State.{Client}
-use Rattle.machine.specs.Events.Fetch.{marks_every}
 use Rattle.isolation_laws.specs.Words.{InstanceAt, HeldBy, ClientAt, OpenAt, Begun, DrewStart, DrewCommit, HasDrawn, written_keys}
-use Rattle.isolation_laws.specs.Pending.{Stage, Waits, Taken, Has, InFlight, is_placing, Pending}
+use Rattle.isolation_laws.specs.Pending.{Stage, Waits, Taken, Has, InFlight, stage_of, is_placing, Pending}
 
 -- a session with a transaction began it itself
 pub record HaveBegun (clients : List Client) (h : List Item) : Type 0 where
@@ -49,7 +48,7 @@ pub record ArePending (clients : List Client) (nodes : List (Option InstanceEntr
   pub begun : (q : InFlight) → Pending clients nodes q → Begun h q.session q.start
   pub keys : (q : InFlight) → Pending clients nodes q → (q.keys ≡ written_keys h q.start) × (q.keys ≢ [])
   pub so_far : (q : InFlight) → Pending clients nodes q → IsDrawnSoFar h q q.stage
-  pub here : (n s t c : ℕ) (keys : List ℕ) (i : InstanceEntry) → InstanceAt nodes n i → HeldBy i s (Commit s t keys) (progress.Drawn c) → DrewCommit h s n i.term t c
+  pub here : (n s t c : ℕ) (keys : List ℕ) (p : Progress) (i : InstanceEntry) → InstanceAt nodes n i → HeldBy i s (Commit s t keys) p → stage_of i.last p ≡ Some (Has c) → DrewCommit h s n i.term t c
 
 -- how a settled commit stands in the history; a faulted put owes nothing
 abbrev pub IsSettled : List Item → ℕ → ℕ → Settled → Type 0
@@ -80,9 +79,10 @@ pub record AreKeys (clients : List Client) (h : List Item) : Type 0 where
   pub written : (s t : ℕ) (c : Client) → ClientAt clients s c → (c.entry.state ≡ phase.Open) ⊎ HasAsked c.entry.state → c.entry.start ≡ Some t → c.entry.keys ≡ written_keys h t
   pub some : (s : ℕ) (c : Client) → ClientAt clients s c → HasAsked c.entry.state → c.entry.keys ≢ []
 
--- where reads may not mark every version, no session places its own commit
-pub record AreForm (setup : SetupNumbers) (clients : List Client) : Type 0 where
-  pub plain : marks_every setup ≡ false → (s : ℕ) (c : Client) → ClientAt clients s c → is_placing c.entry.state ≡ true → ⊥
+-- where commits are not direct none is handed over, and no session places its own
+pub record AreForm (setup : SetupNumbers) (nodes : List (Option InstanceEntry)) (clients : List Client) : Type 0 where
+  pub handed : (n s c : ℕ) (i : InstanceEntry) (request : Request) → InstanceAt nodes n i → HeldBy i s request (progress.Handed c) → setup.direct ≡ true
+  pub plain : setup.direct ≡ false → (s : ℕ) (c : Client) → ClientAt clients s c → is_placing c.entry.state ≡ true → ⊥
 
 pub record RequestFacts (setup : SetupNumbers) (nodes : List (Option InstanceEntry)) (clients : List Client) (h : List Item) : Type 0 where
   pub have_begun : HaveBegun clients h
@@ -93,4 +93,4 @@ pub record RequestFacts (setup : SetupNumbers) (nodes : List (Option InstanceEnt
   pub accepted : AreAccepted nodes
   pub opened : AreOpen clients h
   pub keys : AreKeys clients h
-  pub form : AreForm setup clients
+  pub form : AreForm setup nodes clients

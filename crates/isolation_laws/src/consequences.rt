@@ -1,5 +1,5 @@
 // What follows of every state that is reached, and of what can still happen from it.
-ghost use Rattle.std.specs.Prelude.{◌≡◌, ℕ, List, ◌++◌};
+ghost use Rattle.std.specs.Prelude.{◌≡◌, ℕ, false, List, ◌++◌};
 ghost use Rattle.history_book.specs.declared.item.Item.{Item};
 ghost use Rattle.stamp_base.specs.SetupNumbers.{SetupNumbers, AreInRange};
 ghost use Rattle.port_io.specs.declared.weather.Fate.{Fate};
@@ -47,6 +47,6 @@ pub fn crashes_lose_commits()
 
 /// A commit that was drawn is lost where its put fails without effect.
 pub fn faulted_puts_lose_commits()
-    ensures { (w : State) (h : List Item) (q : InFlight) (c : ℕ) → Stands w h → (p : HeldPending w.nodes q) → q.stage ≡ Has c →
+    ensures { (w : State) (h : List Item) (q : InFlight) (c : ℕ) → Stands w h → w.setup.direct ≡ false → (p : HeldPending w.nodes q) → q.stage ≡ Has c →
         IsLost (stepped w (Put p.node q.session) FailsUnchanged).state (h ++ (stepped w (Put p.node q.session) FailsUnchanged).items) q.start }
 {}

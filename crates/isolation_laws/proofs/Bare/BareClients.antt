@@ -16,7 +16,7 @@ use Rattle.oracle_parts.specs.declared.instance.Request.TheVariants.{Begin, Comm
 use Rattle.oracle_parts.specs.declared.instance.Settled.{Settled}
 use Rattle.oracle_parts.specs.declared.instance.Settled.TheVariants as how
 use Rattle.machine.specs.State.{UnderWay, Nothing, Client}
-use Rattle.machine.specs.Clients.{undo_of, client_asked, client_begun, client_freed, client_aborted, client_opened, unless_gone, unless_gone_by, after_refusal}
+use Rattle.machine.specs.Clients.{undo_of, client_asked, client_begun, client_freed, client_aborted, client_opened, client_handed, unless_gone, unless_gone_by, after_refusal}
 use Rattle.machine.specs.Events.Crash.{after_loss, crashed_clients}
 use Rattle.machine.specs.Events.Fetch.{client_read}
 use Rattle.machine.specs.Events.Step.{client_settled}
@@ -55,6 +55,7 @@ may_have phase.Free keys u v t k other has = has
 may_have phase.Asking keys u v t k other has = has
 may_have phase.Open keys u v t k other has = has
 may_have phase.Committing keys u v t k other has = has
+may_have phase.Placing keys u v t k other has = has
 may_have phase.OpenOutcome keys u v t k other has = has
 may_have (phase.Completing true) keys u v t k other has = absurd (other refl)
 may_have (phase.Completing false) keys u v t k other has = has
@@ -113,6 +114,9 @@ pub loss_has : (request : Request) (c : Client) → WaitsFor request c → HasOn
 loss_has (Begin s) c waits k t of = of_unless c (client_freed c) k t of (of_begin c (client_freed c) s k t waits of)
 loss_has (Commit s u keys) c waits k t of = of_unless c (client_opened c) k t of (of_commit c (client_opened c) s u k t keys waits of (λ m. (of.0, m)))
 
+pub handed_has : (c : Client) (commit s u : ℕ) (keys : List ℕ) → WaitsFor (Commit s u keys) c → HasOn c (unless_gone c (client_handed c commit))
+handed_has c commit s u keys waits k t of = of_unless c (client_handed c commit) k t of (of_commit c (client_handed c commit) s u k t keys waits of (λ m. (of.0, m)))
+
 pub refusal_has : (request : Request) (c : Client) → WaitsFor request c → HasOn c (after_refusal request c)
 refusal_has (Begin s) c waits k t of = of_unless c (client_freed c) k t of (of_begin c (client_freed c) s k t waits of)
 refusal_has (Commit s u keys) c waits k t of = of_unless c (client_aborted c) k t of (of_commit c (client_aborted c) s u k t keys waits of (λ m. of_aborted c k t of.0 m))
@@ -127,7 +131,14 @@ answer_has by c commit s u keys waits k t of = of_unless c (answered_client by c
 
 -- a session that is placing its commit has those that it wrote
 placing_in : (state : SessionState) (keys : List ℕ) (work : UnderWay) (t k : ℕ) → is_placing state ≡ true → MayHave state keys work t k → k ∈ keys
-placing_in state keys work t k is has = absurd (cc)
+placing_in phase.Placing keys work t k is has = has
+placing_in phase.Free keys work t k is has = absurd (cc)
+placing_in phase.Asking keys work t k is has = absurd (cc)
+placing_in phase.Open keys work t k is has = absurd (cc)
+placing_in phase.Committing keys work t k is has = absurd (cc)
+placing_in phase.OpenOutcome keys work t k is has = absurd (cc)
+placing_in (phase.Completing undo) keys work t k is has = absurd (cc)
+placing_in phase.Gone keys work t k is has = absurd (cc)
 
 pub placing_answered : (by : Settled) (c : Client) (commit : ℕ) → is_placing c.entry.state ≡ true → HasOn c (answered_client by c commit)
 placing_answered by c commit is k t of = answer_of by c commit k t of.0 (placing_in c.entry.state c.entry.keys c.under_way t k is of.1)

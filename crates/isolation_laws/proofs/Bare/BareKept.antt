@@ -23,14 +23,15 @@ use Rattle.isolation_laws.specs.Holds.{Holds}
 use Rattle.isolation_laws.proofs.Lookups.{set_found, set_other, one_client}
 use Rattle.isolation_laws.proofs.Outcome.OutcomesOfSessions.{AtOpen, WriteFailed, write_failed_state}
 use Rattle.isolation_laws.proofs.Outcome.OutcomesOfWork.{fetched_client, fetched_turn, read_client, read_turn, ReadDropped, CompletedOne, completed_state}
-use Rattle.isolation_laws.proofs.Outcome.Outcomes.{Outcome, OfCrashed, OfAskedBegin, OfAskedCommit, OfEnded, OfAnsweredBegin, OfAnsweredCommit, OfOwnPlaced, OfOwnNotPlaced, OfEndedReadOnly, OfWrote, OfWriteFailed, OfAborted, OfVanished, OfHealed, OfFetched, OfReadDropped, OfReadStepped, OfOutcome, OfOutcomeFailed, OfCompleted, OfSwept, OfSweepFailed, left_by, told_by_outcome}
+use Rattle.isolation_laws.proofs.Outcome.Outcomes.{Outcome, OfCrashed, OfAskedBegin, OfAskedCommit, OfEnded, OfAnsweredBegin, OfAnsweredCommit, OfHanded, OfOwnPlaced, OfOwnNotPlaced, OfEndedReadOnly, OfWrote, OfWriteFailed, OfAborted, OfVanished, OfHealed, OfFetched, OfReadDropped, OfReadStepped, OfOutcome, OfOutcomeFailed, OfCompleted, OfSwept, OfSweepFailed, left_by, told_by_outcome}
+use Rattle.isolation_laws.proofs.Numbers.Placings.{is_placing_now}
 use Rattle.isolation_laws.proofs.Requests.RequestsOfNodes.{waits_for}
 use Rattle.isolation_laws.proofs.Stores.CellsMove.{put_cases}
 use Rattle.isolation_laws.proofs.Stores.CompletionSteps.{in_none}
 use Rattle.isolation_laws.proofs.UnderWay.ClientWorks.{plain_reading}
 use Rattle.isolation_laws.proofs.UnderWay.WritesKept.{bare_row_of}
 use Rattle.isolation_laws.proofs.UnderWay.SessionMoves.{work_of, start_of}
-use Rattle.isolation_laws.proofs.Bare.BareClients.{Has, HasOn, OwnedOn, has_in, free_none, of_work, read_has, aborted_has, wrote_has, has_written, asked_has, begun_has, refusal_has, answer_has, placing_answered, settled_has, owned_same, owned_at, owned_set, owned_crashed}
+use Rattle.isolation_laws.proofs.Bare.BareClients.{Has, HasOn, OwnedOn, has_in, free_none, of_work, read_has, aborted_has, wrote_has, has_written, asked_has, begun_has, handed_has, refusal_has, answer_has, placing_answered, settled_has, owned_same, owned_at, owned_set, owned_crashed}
 use Rattle.isolation_laws.proofs.Bare.BareRows.{bare_before, bare_if, completion_has}
 
 -- ---- faults
@@ -156,8 +157,10 @@ owned_kept w h (OfAnsweredBegin k) holds =
     by_client w h _ k.session k.c _ k.client_at (begun_has k.c k.asker k.start k.i.epoch (subst (λ (r : Request). WaitsFor r k.c) k.request_is (waits_for w h k.node k.session k.i k.held k.c holds k.at k.has k.client_at))) holds
 owned_kept w h (OfAnsweredCommit k) holds =
     by_client w h k.items k.session k.c _ k.client_at (answer_has k.by k.c k.commit k.asker k.start k.keys (subst (λ (r : Request). WaitsFor r k.c) k.request_is (waits_for w h k.node k.session k.i k.held k.c holds k.at k.has k.client_at))) holds
-owned_kept w h (OfOwnPlaced k) holds = by_client w h _ k.it.session k.it.c _ k.it.client_at (placing_answered k.by k.it.c k.it.commit k.it.placing) holds
-owned_kept w h (OfOwnNotPlaced k) holds = by_client w h k.items k.it.session k.it.c _ k.it.client_at (placing_answered k.by k.it.c k.it.commit k.it.placing) holds
+owned_kept w h (OfHanded k) holds =
+    by_client w h k.items k.session k.c _ k.client_at (handed_has k.c k.commit k.asker k.start k.keys (subst (λ (r : Request). WaitsFor r k.c) k.request_is (waits_for w h k.node k.session k.i k.held k.c holds k.at k.has k.client_at))) holds
+owned_kept w h (OfOwnPlaced k) holds = by_client w h _ k.it.session k.it.c _ k.it.client_at (placing_answered k.by k.it.c k.it.commit (is_placing_now w k.it)) holds
+owned_kept w h (OfOwnNotPlaced k) holds = by_client w h k.items k.it.session k.it.c _ k.it.client_at (placing_answered k.by k.it.c k.it.commit (is_placing_now w k.it)) holds
 owned_kept w h (OfEndedReadOnly k) holds = by_client w h k.items k.it.session k.it.c _ k.it.client_at (none_wrote k.it.c (client_freed k.it.c) k.it.is_open k.none) holds
 owned_kept w h (OfWrote k) holds = put_owned w h _ k.it k.start k.key k.value _ k.start_is (wrote_has k.it.c k.key k.it.is_open) (has_written k.it.c k.key k.start k.it.is_open k.start_is) holds
 owned_kept w h (OfWriteFailed k) holds = failed_owned w h k k.rows k.rows_are holds

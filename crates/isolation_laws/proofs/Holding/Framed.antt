@@ -17,9 +17,9 @@ use Rattle.isolation_laws.specs.UnderWay.{UnderWayFacts}
 use Rattle.isolation_laws.specs.Holds.{Holds}
 use Rattle.isolation_laws.proofs.Outcome.OutcomesOfSessions.{Healed}
 use Rattle.isolation_laws.proofs.Outcome.OutcomesOfWork.{MayHaveMarked}
-use Rattle.isolation_laws.proofs.Outcome.Outcomes.{Outcome, OfStill, OfGranted, OfRenewed, OfExtended, OfCrashed, OfAskedBegin, OfAskedCommit, OfAccepted, OfEnded, OfDrew, OfPlaced, OfNotPlaced, OfAnsweredBegin, OfAnsweredCommit, OfOwnPlaced, OfOwnNotPlaced, OfEndedReadOnly, OfWrote, OfWriteFailed, OfAborted, OfVanished, OfHealed, OfFetched, OfReadDropped, OfReadStepped, OfOutcome, OfOutcomeFailed, OfCompleted, OfSweepOpened, OfSwept, OfSweepListed, OfSweepFailed, left_by, told_by_outcome}
+use Rattle.isolation_laws.proofs.Outcome.Outcomes.{Outcome, OfStill, OfGranted, OfRenewed, OfExtended, OfCrashed, OfAskedBegin, OfAskedCommit, OfAccepted, OfEnded, OfDrew, OfPlaced, OfNotPlaced, OfAnsweredBegin, OfAnsweredCommit, OfHanded, OfOwnPlaced, OfOwnNotPlaced, OfEndedReadOnly, OfWrote, OfWriteFailed, OfAborted, OfVanished, OfHealed, OfFetched, OfReadDropped, OfReadStepped, OfOutcome, OfOutcomeFailed, OfCompleted, OfSweepOpened, OfSwept, OfSweepListed, OfSweepFailed, left_by, told_by_outcome}
 use Rattle.isolation_laws.proofs.Requests.PendingFewer.{fewer_settled}
-use Rattle.isolation_laws.proofs.Reading.ClientsReading.{FewerReading, same_reading, reading_crashed, reading_ended, reading_answered_commit, reading_own_not_placed, reading_read_only, reading_write_failed, reading_aborted, reading_vanished, reading_healed, reading_dropped, reading_outcome, reading_outcome_failed, reading_completed}
+use Rattle.isolation_laws.proofs.Reading.ClientsReading.{FewerReading, same_reading, reading_crashed, reading_ended, reading_answered_commit, reading_handed, reading_own_not_placed, reading_read_only, reading_write_failed, reading_aborted, reading_vanished, reading_healed, reading_dropped, reading_outcome, reading_outcome_failed, reading_completed}
 use Rattle.isolation_laws.proofs.Stores.Calm.{calm_quiet}
 use Rattle.isolation_laws.proofs.Stores.CellsStay.{cells_shadow}
 use Rattle.isolation_laws.proofs.Stores.StoreMoves.{AskFits, never_live, cells_stepped}
@@ -31,9 +31,10 @@ use Rattle.isolation_laws.proofs.Requests.Silent.{silent_quiet}
 use Rattle.isolation_laws.proofs.Requests.RequestsKept.{Leaves, requests_silent}
 use Rattle.isolation_laws.proofs.Requests.RequestsOfNodes.{leaves_still, leaves_crashed, leaves_ended, leaves_answered_commit, leaves_alone}
 use Rattle.isolation_laws.proofs.Requests.RequestsOfClients.{leaves_read_only, leaves_write_failed, leaves_aborted, leaves_healed, leaves_dropped, leaves_vanished, leaves_outcome, leaves_outcome_failed, leaves_completed}
+use Rattle.isolation_laws.proofs.Requests.RequestsOfHandOvers.{leaves_handed}
 use Rattle.isolation_laws.proofs.Requests.RequestsOfPlacings.{leaves_own_not_placed}
 use Rattle.isolation_laws.proofs.Requests.RequestsOfSettled.{requests_not_placed}
-use Rattle.isolation_laws.proofs.UnderWay.UnderWayOfRequests.{under_way_crashed, under_way_ended, under_way_answered_commit}
+use Rattle.isolation_laws.proofs.UnderWay.UnderWayOfRequests.{under_way_crashed, under_way_ended, under_way_answered_commit, under_way_handed}
 use Rattle.isolation_laws.proofs.UnderWay.UnderWayOfPlacings.{under_way_own_not_placed}
 use Rattle.isolation_laws.proofs.UnderWay.UnderWayOfSessions.{heal_placed, under_way_read_only, under_way_aborted, under_way_vanished, under_way_healed, under_way_dropped}
 use Rattle.isolation_laws.proofs.UnderWay.UnderWayOfOutcomes.{under_way_outcome, under_way_outcome_failed}
@@ -131,6 +132,7 @@ framed w h (OfCrashed k) holds is = untold w h (left_by w (OfCrashed k)) k.items
 framed w h (OfEnded k) holds is = untold w h (left_by w (OfEnded k)) k.items k.quiet k.up (nodes_over w.nodes k.node k.session k.i k.at) (reading_ended w k) (stores_stay w h holds) (leaves_ended w h k holds) (under_way_ended w h k holds) holds
 framed w h (OfNotPlaced k) holds is = frame w h (left_by w (OfNotPlaced k)) k.items k.quiet (omega arith) (nodes_settled w k.it k.by) (fewer_settled w k.it k.by) (clients_stay w.clients) (stores_stay w h holds) (requests_not_placed w h k holds) (under_way_same w h _ holds (calm_quiet h k.items k.quiet))
 framed w h (OfAnsweredCommit k) holds is = untold w h (left_by w (OfAnsweredCommit k)) k.items k.quiet (omega arith) (nodes_over w.nodes k.node k.session k.i k.at) (reading_answered_commit w k) (stores_stay w h holds) (leaves_answered_commit w h k holds) (under_way_answered_commit w h k holds) holds
+framed w h (OfHanded k) holds is = untold w h (left_by w (OfHanded k)) k.items k.quiet (omega arith) (nodes_over w.nodes k.node k.session k.i k.at) (reading_handed w k) (stores_stay w h holds) (leaves_handed w h k holds) (under_way_handed w h k holds) holds
 framed w h (OfOwnNotPlaced k) holds is = by_client w h k.items _ w.rows w.pairs k.quiet (reading_own_not_placed w k) (stores_stay w h holds) (leaves_own_not_placed w h k holds) (under_way_own_not_placed w h k holds) holds
 framed w h (OfEndedReadOnly k) holds is = by_client w h k.items _ w.rows w.pairs k.quiet (reading_read_only w k) (stores_stay w h holds) (leaves_read_only w h k holds) (under_way_read_only w h k holds) holds
 framed w h (OfWriteFailed k) holds is = record {

@@ -77,7 +77,7 @@ nodes_ended nodes n = record {
 pub nodes_over : (nodes : List (Option InstanceEntry)) (n s : ℕ) (i : InstanceEntry) → InstanceAt nodes n i → NodesFrame nodes (slice_set nodes n (Some (without_request i s)))
 nodes_over nodes n s i at = record {
   numbers = numbered_set nodes n i (without_request i s) at (numbered i _ refl refl refl refl refl);
-  memory = remembered_set nodes n i (without_request i s) at (record { term = refl; buckets = refl });
+  memory = remembered_set nodes n i (without_request i s) at (record { term = refl; buckets = refl; direct = refl });
   held = held_changed nodes n i (without_request i s) at (held_over i s);
   accepted = standing_over IsAcceptedNow nodes n s i at;
   drawn = standing_over IsDrawnNow nodes n s i at;
@@ -87,7 +87,7 @@ nodes_over nodes n s i at = record {
 pub nodes_settled : (w : State) (it : AtDrawn w) (by : Settled) → NodesFrame w.nodes (settled_nodes w it by)
 nodes_settled w it by = record {
   numbers = numbered_set w.nodes it.node it.i _ it.at (numbered it.i _ refl refl refl refl refl);
-  memory = remembered_set w.nodes it.node it.i _ it.at (record { term = refl; buckets = refl });
+  memory = remembered_set w.nodes it.node it.i _ it.at (record { term = refl; buckets = refl; direct = refl });
   held = held_settled w it by;
   accepted = standing_settled IsAcceptedNow w it by (λ is. is);
   drawn = standing_settled IsDrawnNow w it by (λ is. is);

@@ -1,5 +1,5 @@
 -- A commit in flight is lost where its instance crashes, and where its put fails without effect.
-use Rattle.std.proofs.Common.{◌≡◌, ℕ, List, [], ◌∷◌, ◌++◌, Option, Some, inl, inr, refl, sym, ◌∙◌, ap, subst}
+use Rattle.std.proofs.Common.{◌≡◌, ℕ, false, List, [], ◌∷◌, ◌++◌, Option, Some, inl, inr, refl, sym, ◌∙◌, ap, subst}
 use Rattle.std.proofs.lemmas.List.Elements.{All-cons}
 use Rattle.port_io.specs.declared.weather.Fate.{Fate}
 use Rattle.port_io.specs.declared.weather.Fate.TheVariants.{FailsUnchanged}
@@ -128,9 +128,9 @@ put_lost w h q p c holds held =
     let it : AtDrawn w = drawn_one w q p c held in
     subst (λ (v : State). IsLost v (h ++ item.Fault (Node p.node) Table ∷ []) q.start) (sym (put_settled w it how.Faulted w.pairs)) (unplaced_lost w h (faulted w it) q holds p refl refl)
 
-pub faulted_puts_lose : (w : State) (h : List Item) (q : InFlight) (c : ℕ) → Stands w h → (p : HeldPending w.nodes q) → q.stage ≡ Has c → IsLost (stepped w (event.Put p.node q.session) FailsUnchanged).state (h ++ (stepped w (event.Put p.node q.session) FailsUnchanged).items) q.start
-faulted_puts_lose w h q c both p stage =
-    let held : HeldBy p.instance_of q.session (Commit q.session q.start q.keys) (progress.Drawn c) = has_held w.nodes q c p stage in
+pub faulted_puts_lose : (w : State) (h : List Item) (q : InFlight) (c : ℕ) → Stands w h → w.setup.direct ≡ false → (p : HeldPending w.nodes q) → q.stage ≡ Has c → IsLost (stepped w (event.Put p.node q.session) FailsUnchanged).state (h ++ (stepped w (event.Put p.node q.session) FailsUnchanged).items) q.start
+faulted_puts_lose w h q c both plain p stage =
+    let held : HeldBy p.instance_of q.session (Commit q.session q.start q.keys) (progress.Drawn c) = has_held w.setup w.nodes w.clients q c p both.holds.requests.form plain stage in
     subst (λ (post : Option (Option InstanceEntry)). IsLost (at_post w post (λ x. for_table w p.node (put_on p.node q.session FailsUnchanged x w.pairs))).state (h ++ (at_post w post (λ x. for_table w p.node (put_on p.node q.session FailsUnchanged x w.pairs))).items) q.start)
     (sym p.at)
     (subst (λ (stamps : Option (ℕ × ℕ)). IsLost (for_table w p.node (put_commit p.node q.session FailsUnchanged p.instance_of w.pairs stamps)).state (h ++ (for_table w p.node (put_commit p.node q.session FailsUnchanged p.instance_of w.pairs stamps)).items) q.start)

@@ -104,7 +104,7 @@ opening_requests setup = record {
     begun = λ q p. absurd (not_pending setup q p);
     keys = λ q p. absurd (not_pending setup q p);
     so_far = λ q p. absurd (not_pending setup q p);
-    here = λ n s t c keys i at. absurd (none_at setup.nodes n i at);
+    here = λ n s t c keys p i at. absurd (none_at setup.nodes n i at);
   };
   settled = record {
     begun = λ n s t c keys by i at. absurd (none_at setup.nodes n i at);
@@ -120,13 +120,14 @@ opening_requests setup = record {
     written = λ s t c at working. absurd (not_working setup s c at working);
     some = λ s c at asked. absurd (not_asked setup s c at asked);
   };
-  form = record { plain = λ flag s c at placing. not_placing setup s c at placing };
+  form = record { handed = λ n s c i request at. absurd (none_at setup.nodes n i at); plain = λ flag s c at placing. not_placing setup s c at placing };
 }
 
 -- ---- the conflict memory, begins and reads
 pub opening_memory : (setup : SetupNumbers) → MemoryFacts setup (opening setup).nodes []
 opening_memory setup = record {
   recorded = record { hold = λ n i at. absurd (none_at setup.nodes n i at) };
+  form = record { direct = λ n i at. absurd (none_at setup.nodes n i at) };
   apart = record { apart = λ r s n m term other t c u d k v w one. absurd (in_none _ one) };
   serial = λ strict. record { stood = λ r s n m term other t d u c k value one. absurd (in_none _ one) };
 }

@@ -43,6 +43,7 @@ heard_quiet phase.Free items quiet = quiet
 heard_quiet phase.Asking items quiet = quiet
 heard_quiet phase.Open items quiet = quiet
 heard_quiet phase.Committing items quiet = quiet
+heard_quiet phase.Placing items quiet = quiet
 heard_quiet phase.OpenOutcome items quiet = quiet
 heard_quiet (phase.Completing undo) items quiet = quiet
 
@@ -92,6 +93,7 @@ begin_free phase.Free go = refl
 begin_free phase.Asking go = absurd (cc)
 begin_free phase.Open go = absurd (cc)
 begin_free phase.Committing go = absurd (cc)
+begin_free phase.Placing go = absurd (cc)
 begin_free phase.OpenOutcome go = absurd (cc)
 begin_free (phase.Completing undo) go = absurd (cc)
 begin_free phase.Gone go = absurd (cc)

@@ -1,6 +1,7 @@
 -- For cause_laws and call_laws too.
 -- What it comes to that a session places its commit.
-use Rattle.std.proofs.Common.{◌≡◌, ℕ, List, [], ◌∷◌, ◌++◌, Option, Some, None, ◌⊎◌, inl, inr, refl, sym, ap}
+use Rattle.std.proofs.Common.{◌≡◌, ℕ, [], ◌∷◌, Option, Some, None, ◌⊎◌, inl, inr, refl, sym, ap}
+use Rattle.std.proofs.lemmas.Option.{same_Some}
 use Rattle.stamp_base.specs.declared.stores.Mark.{Mark}
 use Rattle.stamp_base.specs.declared.stores.Mark.TheVariants.{Committed as CommittedMark}
 use Rattle.stamp_base.specs.declared.stores.Store.TheVariants.{Table}
@@ -10,9 +11,8 @@ use Rattle.port_io.specs.Fates.{fated}
 use Rattle.history_book.specs.declared.cause.Cause.TheVariants as cause
 use Rattle.history_book.specs.declared.item.Actor.TheVariants.{Session}
 use Rattle.history_book.specs.declared.item.StoreStep.TheVariants.{PutFound}
-use Rattle.history_book.specs.declared.item.Item.{Item}
 use Rattle.history_book.specs.declared.item.Item.TheVariants as item
-use Rattle.store_parts.specs.Pairs.{Pairs, mark_of, put_over}
+use Rattle.store_parts.specs.Pairs.{mark_of, put_over}
 use Rattle.client_parts.specs.declared.session.State.{State as SessionState}
 use Rattle.client_parts.specs.declared.session.State.TheVariants as phase
 use Rattle.client_parts.specs.SessionSteps.{handed_by, handed_commit}
@@ -36,16 +36,12 @@ pub record IsHanded (state : SessionState) (start commit : Option ℕ) (stamps :
   pub start_is : start ≡ Some stamps.0
   pub commit_is : commit ≡ Some stamps.1
 
-start_of : Option (ℕ × ℕ) → Option ℕ
-start_of None = None
-start_of (Some stamps) = Some stamps.0
-
-commit_of : Option (ℕ × ℕ) → Option ℕ
-commit_of None = None
-commit_of (Some stamps) = Some stamps.1
-
 pub is_handed : (state : SessionState) (start commit : Option ℕ) (stamps : ℕ × ℕ) → handed_by state start commit ≡ Some stamps → IsHanded state start commit stamps
-is_handed phase.Placing (Some start) (Some commit) stamps is = record { placing = refl; start_is = ap start_of is; commit_is = ap commit_of is }
+is_handed phase.Placing (Some start) (Some commit) stamps is = record {
+  placing = refl;
+  start_is = ap (λ (p : ℕ × ℕ). Some p.0) (same_Some (start, commit) stamps is);
+  commit_is = ap (λ (p : ℕ × ℕ). Some p.1) (same_Some (start, commit) stamps is);
+}
 is_handed phase.Placing (Some start) None stamps is = absurd (cc)
 is_handed phase.Placing None commit stamps is = absurd (cc)
 is_handed phase.Free start commit stamps is = absurd (cc)

@@ -53,6 +53,7 @@ alike_stopped i why is = record {
   ceiling = refl;
   until = refl;
   buckets = refl;
+  direct = refl;
   stop = stop_kept i.stop why is;
   requests = λ s new has. (new, has, refl, refl);
 }

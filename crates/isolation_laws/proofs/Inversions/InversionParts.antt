@@ -55,6 +55,7 @@ alike_same i = record {
   ceiling = refl;
   until = refl;
   buckets = refl;
+  direct = refl;
   stop = λ s. s;
   requests = λ s new has. (new, has, refl, refl);
 }
@@ -79,6 +80,7 @@ alike_told i session held told has request progress = record {
   ceiling = refl;
   until = refl;
   buckets = refl;
+  direct = refl;
   stop = λ s. s;
   requests = λ s new there. elim (held_set i session s (Some told) new there) [
     | inl here ↦ let same : new ≡ told = sym (same_Some told new here.1) in

@@ -14,7 +14,7 @@ use Rattle.isolation_laws.specs.Words.{InstanceAt}
 use Rattle.isolation_laws.specs.Sound.{StopOf, AreStops, SweepAsks, Sound}
 use Rattle.isolation_laws.proofs.Lookups.{instance_changed, instance_ended}
 use Rattle.isolation_laws.proofs.Outcome.OutcomesOfRecord.{AlikeNodes, Granted, granted_nodes, Renewed, renewed_nodes, Extended, extended_nodes}
-use Rattle.isolation_laws.proofs.Outcome.Outcomes.{Outcome, OfStill, OfGranted, OfRenewed, OfExtended, OfCrashed, OfAskedBegin, OfAskedCommit, OfAccepted, OfEnded, OfDrew, OfPlaced, OfNotPlaced, OfAnsweredBegin, OfAnsweredCommit, OfSweepOpened, OfSwept, OfSweepListed, OfSweepFailed, left_by}
+use Rattle.isolation_laws.proofs.Outcome.Outcomes.{Outcome, OfStill, OfGranted, OfRenewed, OfExtended, OfCrashed, OfAskedBegin, OfAskedCommit, OfAccepted, OfEnded, OfDrew, OfPlaced, OfNotPlaced, OfAnsweredBegin, OfAnsweredCommit, OfHanded, OfSweepOpened, OfSwept, OfSweepListed, OfSweepFailed, left_by}
 
 -- ---- kept refusals
 stops_put : (nodes : List (Option InstanceEntry)) (n : ℕ) (j : InstanceEntry) → AreStops nodes → StopOf j.stop → AreStops (slice_set nodes n (Some j))
@@ -59,6 +59,7 @@ stops_kept w (OfDrew k) stops = stops_put w.nodes k.node _ stops (stops.stop k.n
 stops_kept w (OfPlaced k) stops = stops_put w.nodes k.it.node _ stops (stops.stop k.it.node k.it.i k.it.at)
 stops_kept w (OfNotPlaced k) stops = stops_put w.nodes k.it.node _ stops (stops.stop k.it.node k.it.i k.it.at)
 stops_kept w (OfAnsweredBegin k) stops = stops_put w.nodes k.node _ stops (stops.stop k.node k.i k.at)
+stops_kept w (OfHanded k) stops = stops_put w.nodes k.node _ stops (stops.stop k.node k.i k.at)
 stops_kept w (OfAnsweredCommit k) stops = stops_put w.nodes k.node _ stops (stops.stop k.node k.i k.at)
 stops_kept w _ stops = stops
 

@@ -14,7 +14,7 @@ use Rattle.machine.specs.State.{State}
 use Rattle.machine.specs.Events.Fetch.{read_items, found_of}
 use Rattle.isolation_laws.specs.Words.{InstanceAt, OpenAt, HasDrawn, recorded}
 use Rattle.isolation_laws.specs.Quiet.{Quiet, AllQuiet}
-use Rattle.isolation_laws.specs.Memory.{AreRecorded, MemoryFacts}
+use Rattle.isolation_laws.specs.Memory.{AreOfForm, AreRecorded, MemoryFacts}
 use Rattle.isolation_laws.specs.Holds.{Holds}
 use Rattle.isolation_laws.proofs.Holding.Framed.{framed}
 use Rattle.isolation_laws.proofs.Holding.Frames.{memory_framed}
@@ -49,24 +49,33 @@ granted_holds : (w : State) (h : List Item) (k : Granted w) (failed : Bool) → 
 granted_holds w h k true holds = holds.memory.recorded
 granted_holds w h k false holds = new_holds w h k holds
 
+granted_form : (w : State) (k : Granted w) (failed : Bool) → AreOfForm w.setup w.nodes → AreOfForm w.setup (granted_nodes w k failed)
+granted_form w k true form = form
+granted_form w k false form = record {
+  direct = λ n j at. elim (instance_changed w.nodes k.node n _ j at) [
+    | inl here ↦ ap (λ x. x.direct) here.1
+    | inr there ↦ form.direct n j there.1
+  ];
+}
+
 on_quiet : (w : State) (h : List Item) (nodes : List (Option InstanceEntry)) (items : List Item) → SameMemory w.nodes nodes → AllQuiet items → Holds w h → MemoryFacts w.setup nodes (h ++ items)
 on_quiet w h nodes items same quiet holds = memory_same w.setup w.nodes nodes h (h ++ items) same (nothing_quiet h items quiet) holds.memory
 
 memory_granted : (w : State) (h : List Item) (k : Granted w) → Holds w h → MemoryFacts w.setup (granted_state w k).nodes (h ++ k.items)
 memory_granted w h k holds =
-    memory_same w.setup (granted_state w k).nodes (granted_state w k).nodes h (h ++ k.items) (remembered_same (granted_state w k).nodes) (nothing_quiet h k.items k.quiet) (record { recorded = granted_holds w h k k.failed holds; apart = holds.memory.apart; serial = holds.memory.serial })
+    memory_same w.setup (granted_state w k).nodes (granted_state w k).nodes h (h ++ k.items) (remembered_same (granted_state w k).nodes) (nothing_quiet h k.items k.quiet) (record { recorded = granted_holds w h k k.failed holds; form = granted_form w k k.failed holds.memory.form; apart = holds.memory.apart; serial = holds.memory.serial })
 
 renewed_same : (w : State) (k : Renewed w) (failed : Bool) → SameMemory w.nodes (renewed_nodes w k failed)
 renewed_same w k true = remembered_same w.nodes
-renewed_same w k false = remembered_set w.nodes k.node k.i _ k.at (record { term = refl; buckets = refl })
+renewed_same w k false = remembered_set w.nodes k.node k.i _ k.at (record { term = refl; buckets = refl; direct = refl })
 
 extended_same : (w : State) (k : Extended w) (failed : Bool) → SameMemory w.nodes (extended_nodes w k failed)
 extended_same w k true = remembered_same w.nodes
-extended_same w k false = remembered_set w.nodes k.node k.i _ k.at (record { term = refl; buckets = refl })
+extended_same w k false = remembered_set w.nodes k.node k.i _ k.at (record { term = refl; buckets = refl; direct = refl })
 
 -- ---- items
-at_node : (w : State) (n : ℕ) (i j : InstanceEntry) → InstanceAt w.nodes n i → j.term ≡ i.term → j.buckets ≡ i.buckets → SameMemory w.nodes (slice_set w.nodes n (Some j))
-at_node w n i j at term buckets = remembered_set w.nodes n i j at (record { term = term; buckets = buckets })
+at_node : (w : State) (n : ℕ) (i j : InstanceEntry) → InstanceAt w.nodes n i → j.term ≡ i.term → j.buckets ≡ i.buckets → j.direct ≡ i.direct → SameMemory w.nodes (slice_set w.nodes n (Some j))
+at_node w n i j at term buckets direct = remembered_set w.nodes n i j at (record { term = term; buckets = buckets; direct = direct })
 
 here : (w : State) (h items : List Item) → AllQuiet items → Holds w h → MemoryFacts w.setup w.nodes (h ++ items)
 here w h items quiet holds = on_quiet w h w.nodes items (remembered_same w.nodes) quiet holds
@@ -117,13 +126,13 @@ pub memory_kept : (w : State) (h : List Item) (o : Outcome w) → Holds w h → 
 memory_kept w h (OfGranted k) holds = memory_granted w h k holds
 memory_kept w h (OfRenewed k) holds = on_quiet w h (renewed_state w k).nodes k.items (renewed_same w k k.failed) k.quiet holds
 memory_kept w h (OfExtended k) holds = on_quiet w h (extended_state w k).nodes k.items (extended_same w k k.failed) k.quiet holds
-memory_kept w h (OfAskedBegin k) holds = loud w h _ (AskBegin k.session k.node) [] (at_node w k.node k.i _ k.at refl refl) (λ s m term u d same. cc) (λ s t key value same. cc) (λ s t key answer same. cc) (All-nil Quiet) holds
-memory_kept w h (OfAskedCommit k) holds = on_quiet w h _ k.items (at_node w k.node k.i _ k.at refl refl) k.quiet holds
-memory_kept w h (OfAccepted k) holds = on_quiet w h _ k.items (at_node w k.node k.i _ k.at refl refl) k.quiet holds
+memory_kept w h (OfAskedBegin k) holds = loud w h _ (AskBegin k.session k.node) [] (at_node w k.node k.i _ k.at refl refl refl) (λ s m term u d same. cc) (λ s t key value same. cc) (λ s t key answer same. cc) (All-nil Quiet) holds
+memory_kept w h (OfAskedCommit k) holds = on_quiet w h _ k.items (at_node w k.node k.i _ k.at refl refl refl) k.quiet holds
+memory_kept w h (OfAccepted k) holds = on_quiet w h _ k.items (at_node w k.node k.i _ k.at refl refl refl) k.quiet holds
 memory_kept w h (OfDrew k) holds = memory_drew w h k holds
-memory_kept w h (OfPlaced k) holds = loud w h _ (Placed k.it.start k.it.commit) k.items (at_node w k.it.node k.it.i _ k.it.at refl refl) (placed_is_no_draw k.it.start k.it.commit) (λ s t key value same. cc) (λ s t key answer same. cc) k.quiet holds
+memory_kept w h (OfPlaced k) holds = loud w h _ (Placed k.it.start k.it.commit) k.items (at_node w k.it.node k.it.i _ k.it.at refl refl refl) (placed_is_no_draw k.it.start k.it.commit) (λ s t key value same. cc) (λ s t key answer same. cc) k.quiet holds
 memory_kept w h (OfOwnPlaced k) holds = loud w h w.nodes (Placed k.it.start k.it.commit) k.items (remembered_same w.nodes) (placed_is_no_draw k.it.start k.it.commit) (λ s t key value same. cc) (λ s t key answer same. cc) k.quiet holds
-memory_kept w h (OfAnsweredBegin k) holds = loud w h _ (Begin k.session k.start) [] (at_node w k.node k.i _ k.at refl refl) (begin_is_no_draw k.session k.start) (λ s t key value same. cc) (λ s t key answer same. cc) (All-nil Quiet) holds
+memory_kept w h (OfAnsweredBegin k) holds = loud w h _ (Begin k.session k.start) [] (at_node w k.node k.i _ k.at refl refl refl) (begin_is_no_draw k.session k.start) (λ s t key value same. cc) (λ s t key answer same. cc) (All-nil Quiet) holds
 memory_kept w h (OfWrote k) holds = memory_wrote w h k holds
 memory_kept w h (OfFetched k) holds = memory_fetched w h k holds
 memory_kept w h (OfReadStepped k) holds = memory_read w h k holds

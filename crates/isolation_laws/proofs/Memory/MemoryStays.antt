@@ -28,29 +28,30 @@ use Rattle.isolation_laws.proofs.Pushed.{old_draw, drawn_on, last_write-quiet, w
 pub record IsRememberedAs (i j : InstanceEntry) : Type 0 where
   pub term : j.term ≡ i.term
   pub buckets : j.buckets ≡ i.buckets
+  pub direct : j.direct ≡ i.direct
 
 pub record SameMemory (old new : List (Option InstanceEntry)) : Type 0 where
   pub each : (n : ℕ) (j : InstanceEntry) → InstanceAt new n j → (i : InstanceEntry) × InstanceAt old n i × IsRememberedAs i j
 
 pub remembered_same : (nodes : List (Option InstanceEntry)) → SameMemory nodes nodes
-remembered_same nodes = record { each = λ n j at. (j, at, record { term = refl; buckets = refl }) }
+remembered_same nodes = record { each = λ n j at. (j, at, record { term = refl; buckets = refl; direct = refl }) }
 
 pub remembered_set : (nodes : List (Option InstanceEntry)) (n : ℕ) (i j : InstanceEntry) → InstanceAt nodes n i → IsRememberedAs i j → SameMemory nodes (slice_set nodes n (Some j))
 remembered_set nodes n i j at same = record {
   each = λ m x there. elim (instance_changed nodes n m j x there) [
     | inl here ↦ (i, subst (λ q. InstanceAt nodes q i) (sym here.0) at, subst (λ (y : InstanceEntry). IsRememberedAs i y) (sym here.1) same)
-    | inr other ↦ (x, other.1, record { term = refl; buckets = refl })
+    | inr other ↦ (x, other.1, record { term = refl; buckets = refl; direct = refl })
   ];
 }
 
 pub remembered_ended : (nodes : List (Option InstanceEntry)) (n : ℕ) → SameMemory nodes (slice_set nodes n None)
 remembered_ended nodes n = record {
-  each = λ m x there. (x, (instance_ended nodes n m x there).1, record { term = refl; buckets = refl });
+  each = λ m x there. (x, (instance_ended nodes n m x there).1, record { term = refl; buckets = refl; direct = refl });
 }
 
 pub remembered_alike : (old new : List (Option InstanceEntry)) → AlikeNodes old new → SameMemory old new
 remembered_alike old new alike = record {
-  each = λ n j at. let was = alike.each n j at in (was.0, was.1, record { term = was.2.term; buckets = was.2.buckets });
+  each = λ n j at. let was = alike.each n j at in (was.0, was.1, record { term = was.2.term; buckets = was.2.buckets; direct = was.2.direct });
 }
 
 -- ---- a history g after h in which nothing more is recorded
@@ -146,6 +147,7 @@ serial_same h g nothing serial = record {
 pub memory_same : (setup : SetupNumbers) (old new : List (Option InstanceEntry)) (h g : List Item) → SameMemory old new → RecordsNothing h g → MemoryFacts setup old h → MemoryFacts setup new g
 memory_same setup old new h g same nothing facts = record {
   recorded = recorded_same setup old new h g same nothing.same facts.recorded;
+  form = record { direct = λ n j at. let was = same.each n j at in was.2.direct ∙ facts.form.direct n was.0 was.1 };
   apart = record {
     apart = λ r s n m term other t c u d k v w first second differ wrote also.
         let a = nothing.drew r n term t c first in

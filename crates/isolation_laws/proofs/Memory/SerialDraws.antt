@@ -1,19 +1,19 @@
 -- The conflict memory where a stamp is drawn, with strict reads: what the transaction read is free too, and what it writes is drawn
 -- above all that was drawn in its term.
-use Rattle.std.proofs.Common.{◌≡◌, ℕ, ◌+◌, ◌<◌, true, List, ◌++◌, Some, ◌⊎◌, inl, inr, refl, sym, subst, arith}
+use Rattle.std.proofs.Common.{ap, ◌∙◌, ◌≡◌, ℕ, ◌+◌, ◌<◌, true, List, ◌++◌, Some, ◌⊎◌, inl, inr, refl, sym, subst, arith}
 use Rattle.history_book.specs.Isolation.{Wrote}
 use Rattle.history_book.specs.declared.item.Item.{Item}
 use Rattle.oracle_parts.specs.declared.instance.Request.TheVariants.{Commit}
 use Rattle.machine.specs.State.{State}
 use Rattle.isolation_laws.specs.Words.{HeldBy, DrewCommit}
 use Rattle.isolation_laws.specs.ReadSets.{ReadFirst, KeepsReads}
-use Rattle.isolation_laws.specs.Memory.{DrawnSerial, MemoryFacts}
+use Rattle.isolation_laws.specs.Memory.{AreOfForm, DrawnSerial, MemoryFacts}
 use Rattle.isolation_laws.specs.Holds.{Holds}
 use Rattle.isolation_laws.proofs.Lookups.{held_by, commit_own}
 use Rattle.isolation_laws.proofs.OnceEach.{commit_above_start}
 use Rattle.isolation_laws.proofs.Orders.{three_ways}
 use Rattle.isolation_laws.proofs.Outcome.OutcomesOfStamps.{Drew, drew_state, drew_items}
-use Rattle.isolation_laws.proofs.Numbers.NumbersOfDraws.{drew_room}
+use Rattle.isolation_laws.proofs.Numbers.NumbersOfDraws.{drew_room, drew_cases}
 use Rattle.isolation_laws.proofs.Numbers.NewDraws.{drew_or}
 use Rattle.isolation_laws.proofs.Requests.RequestsOfDraws.{DrawsFor, draws_commit}
 use Rattle.isolation_laws.proofs.Reading.ReadsStay.{draw_no_reads}
@@ -67,9 +67,18 @@ drew_serial w h k holds strict = record {
       ];
 }
 
+drew_form : (w : State) (k : Drew w) → AreOfForm w.setup w.nodes → AreOfForm w.setup (drew_state w k).nodes
+drew_form w k form = record {
+  direct = λ n j at. elim (drew_cases w k n j at) [
+    | inl here ↦ ap (λ x. x.direct) here.1 ∙ form.direct k.node k.i k.at
+    | inr there ↦ form.direct n j there.1
+  ];
+}
+
 pub memory_drew : (w : State) (h : List Item) (k : Drew w) → Holds w h → MemoryFacts w.setup (drew_state w k).nodes (h ++ drew_items w k)
 memory_drew w h k holds = record {
   recorded = drew_records w h k holds;
+  form = drew_form w k holds.memory.form;
   apart = drew_apart w h k holds;
   serial = λ strict. drew_serial w h k holds strict;
 }

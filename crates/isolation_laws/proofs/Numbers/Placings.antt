@@ -1,5 +1,5 @@
 -- A commit that is pending and has no mark is placed. Who places it does not matter here.
-use Rattle.std.proofs.Common.{◌≡◌, ℕ, List, None, inl, inr, refl}
+use Rattle.std.proofs.Common.{◌≡◌, ℕ, true, List, None, inl, inr, refl, ap}
 use Rattle.history_book.specs.Isolation.{Committed}
 use Rattle.history_book.specs.declared.item.Item.{Item}
 use Rattle.history_book.specs.declared.item.Item.TheVariants.{Placed}
@@ -7,7 +7,7 @@ use Rattle.stamp_base.specs.declared.stores.Mark.TheVariants.{Committed as Commi
 use Rattle.store_parts.specs.Pairs.{Pairs, mark_of, put_pair}
 use Rattle.machine.specs.State.{State}
 use Rattle.isolation_laws.specs.Words.{DrewCommit}
-use Rattle.isolation_laws.specs.Pending.{InFlight, Has, PlacingAt, Pending, Live}
+use Rattle.isolation_laws.specs.Pending.{InFlight, Has, is_placing, PlacingAt, Pending, Live}
 use Rattle.isolation_laws.specs.Holds.{Holds}
 use Rattle.isolation_laws.proofs.Owners.{has_drew}
 use Rattle.isolation_laws.proofs.Outcome.OutcomesOfStamps.{PlacedOne}
@@ -38,6 +38,9 @@ by_its_node w h k holds = record {
 }
 
 -- a session that is placing its commit has it in flight
+pub is_placing_now : (w : State) (it : AtPlacing w) → is_placing it.c.entry.state ≡ true
+is_placing_now w it = ap is_placing it.placing
+
 abbrev pub own_in_flight : (w : State) → AtPlacing w → InFlight
 own_in_flight w it = record { session = it.session; start = it.start; keys = it.c.entry.keys; stage = Has it.commit }
 
@@ -45,7 +48,7 @@ abbrev pub own_placing : (w : State) (it : AtPlacing w) → PlacingAt w.clients 
 own_placing w it = record {
   client = it.c;
   at = it.client_at;
-  state_is = it.placing;
+  state_is = is_placing_now w it;
   start_is = it.start_is;
   keys_are = refl;
   commit_of = it.commit;

@@ -1,6 +1,6 @@
 -- For cause_laws too.
 -- What an event comes to for a session that is to place its commit.
-use Rattle.std.proofs.Common.{[], ◌≡◌, ℕ, List, ◌∷◌, ◌++◌, None, Some, ◌⊎◌}
+use Rattle.std.proofs.Common.{[], ◌≡◌, ℕ, List, ◌∷◌, None, Some, ◌⊎◌}
 use Rattle.std.specs.Prelude.{slice_set}
 use Rattle.stamp_base.specs.declared.stores.Mark.TheVariants.{Committed as CommittedMark}
 use Rattle.stamp_base.specs.declared.stores.Mark.{Mark}

@@ -30,6 +30,7 @@ pub record Alike (i j : InstanceEntry) : Type 0 where
   pub ceiling : j.ceiling ≡ i.ceiling
   pub until : j.until ≡ i.until
   pub buckets : j.buckets ≡ i.buckets
+  pub direct : j.direct ≡ i.direct
   pub stop : StopOf i.stop → StopOf j.stop
   pub requests : (s : ℕ) (new : Held) → held_of j s ≡ Some new → (old : Held) × (held_of i s ≡ Some old) × (new.request ≡ old.request) × (new.progress ≡ old.progress)
 

@@ -16,7 +16,7 @@ use Rattle.oracle_parts.specs.declared.instance.Settled.{Settled}
 use Rattle.oracle_parts.specs.declared.instance.Settled.TheVariants as how
 use Rattle.oracle_parts.specs.Instance.{InstanceEntry}
 use Rattle.machine.specs.State.{Nothing, Reads, Settles, Completes, Client, State}
-use Rattle.machine.specs.Clients.{is_reading, is_reading_by, undo_of, finish_of, client_begun, client_freed, client_aborted, client_committed, client_opened, unless_gone, after_refusal}
+use Rattle.machine.specs.Clients.{is_reading, is_reading_by, undo_of, finish_of, client_begun, client_freed, client_aborted, client_committed, client_opened, client_handed, unless_gone, after_refusal}
 use Rattle.machine.specs.StoreSteps.{told_by}
 use Rattle.machine.specs.Events.Crash.{after_loss}
 use Rattle.machine.specs.Events.Step.{client_settled, after_asks}
@@ -25,7 +25,7 @@ use Rattle.isolation_laws.specs.Words.{ClientAt, OpenAt}
 use Rattle.isolation_laws.specs.Reads.{AreReading}
 use Rattle.isolation_laws.proofs.Lookups.{client_set, one_client}
 use Rattle.isolation_laws.proofs.Outcome.OutcomesOfRequests.{Crashed, crashed_state, AskedBegin, asked_begin_state, AskedCommit, asked_commit_state, Ended, ended_state}
-use Rattle.isolation_laws.proofs.Outcome.OutcomesOfStamps.{AnsweredBegin, answered_begin_state, answered_client, AnsweredCommit, answered_commit_state}
+use Rattle.isolation_laws.proofs.Outcome.OutcomesOfStamps.{AnsweredBegin, answered_begin_state, answered_client, AnsweredCommit, answered_commit_state, HandedOver, handed_over_state}
 use Rattle.isolation_laws.proofs.Outcome.OutcomesOfSessions.{EndedReadOnly, read_only_state, WroteOne, wrote_state, WriteFailed, write_failed_state, Aborted, aborted_state, Vanished, vanished_state, Healed, healed_state}
 use Rattle.isolation_laws.proofs.Outcome.OutcomesOfPlacings.{OwnPlaced, own_placed_state, OwnNotPlaced, own_not_placed_state}
 use Rattle.isolation_laws.proofs.Outcome.OutcomesOfWork.{ReadDropped, read_dropped_state, OutcomeStepped, outcome_state, OutcomeFailed, outcome_failed_state, CompletedOne, completed_state}
@@ -154,6 +154,9 @@ reading_answered_begin w k = fewer_reading_set w.clients k.session k.c _ k.clien
 
 pub reading_answered_commit : (w : State) (k : AnsweredCommit w) → FewerReading w.clients (answered_commit_state w k).clients
 reading_answered_commit w k = fewer_reading_set w.clients k.session k.c _ k.client_at (answer_reads k.by k.c k.commit)
+
+pub reading_handed : (w : State) (k : HandedOver w) → FewerReading w.clients (handed_over_state w k).clients
+reading_handed w k = fewer_reading_set w.clients k.session k.c _ k.client_at (gone_reads k.c (client_handed k.c k.commit) nothing_reads)
 
 pub reading_own_placed : (w : State) (k : OwnPlaced w) → FewerReading w.clients (own_placed_state w k).clients
 reading_own_placed w k = fewer_reading_set w.clients k.it.session k.it.c _ k.it.client_at (inr (answered_reads k.by k.it.c k.it.commit))

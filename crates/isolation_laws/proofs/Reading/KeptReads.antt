@@ -12,7 +12,7 @@ use Rattle.oracle_parts.specs.declared.instance.Request.TheVariants.{Begin, Comm
 use Rattle.oracle_parts.specs.declared.instance.Settled.{Settled}
 use Rattle.oracle_parts.specs.declared.instance.Settled.TheVariants as how
 use Rattle.machine.specs.State.{Client, State}
-use Rattle.machine.specs.Clients.{client_begun, client_freed, client_aborted, client_committed, client_opened, unless_gone, after_refusal}
+use Rattle.machine.specs.Clients.{client_begun, client_freed, client_aborted, client_opened, client_handed, unless_gone, after_refusal}
 use Rattle.machine.specs.StoreSteps.{told_by}
 use Rattle.machine.specs.Events.Crash.{after_loss}
 use Rattle.machine.specs.Events.Fetch.{client_read}
@@ -22,7 +22,7 @@ use Rattle.isolation_laws.proofs.Lookups.{client_set}
 use Rattle.isolation_laws.proofs.Outcome.OutcomesOfRequests.{Crashed, crashed_state}
 use Rattle.isolation_laws.proofs.Outcome.OutcomesOfStamps.{answered_client}
 use Rattle.isolation_laws.proofs.Outcome.OutcomesOfWork.{read_turn, read_client, CompletedOne}
-use Rattle.isolation_laws.proofs.Outcome.Outcomes.{Outcome, OfCrashed, OfAskedBegin, OfAskedCommit, OfEnded, OfAnsweredBegin, OfAnsweredCommit, OfOwnPlaced, OfOwnNotPlaced, OfEndedReadOnly, OfWrote, OfWriteFailed, OfAborted, OfVanished, OfHealed, OfFetched, OfReadDropped, OfReadStepped, OfOutcome, OfOutcomeFailed, OfCompleted, left_by}
+use Rattle.isolation_laws.proofs.Outcome.Outcomes.{Outcome, OfCrashed, OfAskedBegin, OfAskedCommit, OfEnded, OfAnsweredBegin, OfAnsweredCommit, OfHanded, OfOwnPlaced, OfOwnNotPlaced, OfEndedReadOnly, OfWrote, OfWriteFailed, OfAborted, OfVanished, OfHealed, OfFetched, OfReadDropped, OfReadStepped, OfOutcome, OfOutcomeFailed, OfCompleted, left_by}
 use Rattle.isolation_laws.proofs.Requests.ClientsOpen.{gone_cases}
 use Rattle.isolation_laws.proofs.Requests.OpenAfter.{crashed_at}
 
@@ -114,6 +114,7 @@ module _ {X : Type 0} (part : List ℕ → Cache → X) where
   parts_keep w (OfEnded k) is = same_set w.clients k.session k.c _ k.client_at (refusal_keeps k.held.request k.c)
   parts_keep w (OfAnsweredBegin k) is = absurd (cc)
   parts_keep w (OfAnsweredCommit k) is = same_set w.clients k.session k.c _ k.client_at (answer_keeps k.by k.c k.commit)
+  parts_keep w (OfHanded k) is = same_set w.clients k.session k.c _ k.client_at (gone_keeps k.c (client_handed k.c k.commit) refl)
   parts_keep w (OfOwnPlaced k) is = same_set w.clients k.it.session k.it.c _ k.it.client_at (answered_keeps k.by k.it.c k.it.commit)
   parts_keep w (OfOwnNotPlaced k) is = same_set w.clients k.it.session k.it.c _ k.it.client_at (answered_keeps k.by k.it.c k.it.commit)
   parts_keep w (OfEndedReadOnly k) is = same_set w.clients k.it.session k.it.c _ k.it.client_at refl

@@ -49,6 +49,7 @@ commit_begun : (w : State) (h : List Item) (n s t : ℕ) (keys : List ℕ) (p : 
 commit_begun w h n s t keys progress.Asked i holds at held = pending_as w h n s t keys progress.Asked i Waits holds at held refl
 commit_begun w h n s t keys progress.Accepted i holds at held = pending_as w h n s t keys progress.Accepted i (Taken i.last) holds at held refl
 commit_begun w h n s t keys (progress.Drawn c) i holds at held = pending_as w h n s t keys (progress.Drawn c) i (Has c) holds at held refl
+commit_begun w h n s t keys (progress.Handed c) i holds at held = pending_as w h n s t keys (progress.Handed c) i (Has c) holds at held refl
 commit_begun w h n s t keys (progress.Settled c by) i holds at held = holds.requests.settled.begun n s t c keys by i at held
 
 -- ---- a turn that goes on is of the same key and start

@@ -13,7 +13,7 @@ use Rattle.client_parts.specs.declared.session.State.TheVariants as phase
 use Rattle.client_parts.specs.SessionSteps.{SessionEntry, key_added, has_transaction, aborted_by}
 use Rattle.client_parts.specs.Resolve.{Settling, SettleTurn, Goes, Decides}
 use Rattle.machine.specs.State.{Client}
-use Rattle.machine.specs.Clients.{client_freed, client_aborted, client_committed, client_opened}
+use Rattle.machine.specs.Clients.{client_freed, client_aborted, client_committed, client_opened, client_handed}
 use Rattle.machine.specs.Events.Step.{client_settled, after_asks}
 use Rattle.isolation_laws.specs.Words.{ClientAt, Begun, keys_with, keys_from, written_keys}
 use Rattle.isolation_laws.specs.Pending.{is_placing}
@@ -58,7 +58,14 @@ has_by old state is has = subst (λ s. IsTrue (has_transaction s)) (sym is) has
 
 -- a session that places its commit has one
 pub placing_has : (state : SessionState) → is_placing state ≡ true → IsTrue (has_transaction state)
-placing_has state is = absurd (cc)
+placing_has phase.Placing is = refl
+placing_has phase.Free is = absurd (cc)
+placing_has phase.Asking is = absurd (cc)
+placing_has phase.Open is = absurd (cc)
+placing_has phase.Committing is = absurd (cc)
+placing_has phase.OpenOutcome is = absurd (cc)
+placing_has (phase.Completing undo) is = absurd (cc)
+placing_has phase.Gone is = absurd (cc)
 
 aborted_keeps_by : (e : SessionEntry) (keys : List ℕ) → IsTrue (has_transaction e.state) → IsTrue (has_transaction (aborted_by e keys).state) → IsTrue (has_transaction e.state) × ((aborted_by e keys).start ≡ e.start)
 aborted_keeps_by e [] had has = absurd (has_none phase.Free (inl refl) has)
@@ -154,6 +161,13 @@ keys_committed h c commit = keys_closed h (client_committed c commit) (completin
 -- a session that has asked keeps its list where its outcome is open
 pub keys_opened : (h : List Item) (c : Client) → HasAsked c.entry.state → KeysClient h c → KeysClient h (client_opened c)
 keys_opened h c asked keys = record {
+  written = λ t is start. keys.written t (inr asked) start;
+  some = λ is. keys.some asked;
+}
+
+-- and where it is to place its commit
+pub keys_handed : (h : List Item) (c : Client) (commit : ℕ) → HasAsked c.entry.state → KeysClient h c → KeysClient h (client_handed c commit)
+keys_handed h c commit asked keys = record {
   written = λ t is start. keys.written t (inr asked) start;
   some = λ is. keys.some asked;
 }

@@ -9,13 +9,13 @@ use Rattle.oracle_parts.specs.declared.instance.Request.TheVariants.{Begin, Comm
 use Rattle.oracle_parts.specs.declared.instance.Settled.{Settled}
 use Rattle.oracle_parts.specs.declared.instance.Settled.TheVariants as how
 use Rattle.machine.specs.State.{Client}
-use Rattle.machine.specs.Clients.{client_freed, client_aborted, client_committed, client_opened, unless_gone, unless_gone_by, after_refusal}
+use Rattle.machine.specs.Clients.{client_freed, client_aborted, client_committed, client_opened, client_handed, unless_gone, unless_gone_by, after_refusal}
 use Rattle.machine.specs.Events.Crash.{after_loss}
 use Rattle.isolation_laws.specs.Pending.{is_placing}
 use Rattle.isolation_laws.specs.Requests.{WaitsFor}
 use Rattle.isolation_laws.proofs.Outcome.OutcomesOfStamps.{answered_client}
 use Rattle.isolation_laws.proofs.Requests.ClientsOpen.{gone_cases}
-use Rattle.isolation_laws.proofs.Requests.ClientsAfter.{KeepsStart, has_by, placing_has, aborted_keeps, committed_keeps, opened_keeps, freed_keeps, KeysClient, keys_aborted, keys_freed, keys_committed, keys_opened}
+use Rattle.isolation_laws.proofs.Requests.ClientsAfter.{KeepsStart, has_by, placing_has, aborted_keeps, committed_keeps, opened_keeps, freed_keeps, KeysClient, keys_aborted, keys_freed, keys_committed, keys_opened, keys_handed}
 
 -- ---- the client of a request that is lost, refused or answered
 -- what a client becomes keeps its start, and its list stands for it
@@ -38,10 +38,11 @@ is_gone phase.Free = inr (λ is. cc)
 is_gone phase.Asking = inr (λ is. cc)
 is_gone phase.Open = inr (λ is. cc)
 is_gone phase.Committing = inr (λ is. cc)
+is_gone phase.Placing = inr (λ is. cc)
 is_gone phase.OpenOutcome = inr (λ is. cc)
 is_gone (phase.Completing undo) = inr (λ is. cc)
 
-stays_gone : (old new : Client) → old.entry.state ≡ phase.Gone → unless_gone old new ≡ old
+pub stays_gone : (old new : Client) → old.entry.state ≡ phase.Gone → unless_gone old new ≡ old
 stays_gone old new gone = ap (λ state. unless_gone_by state old new) gone
 
 unless_becomes : (h : List Item) (s : ℕ) (old new : Client) → KeysClient h old → (((old.entry.state ≡ phase.Gone) → ⊥) → Becomes h s old new) → Becomes h s old (unless_gone old new)
@@ -79,6 +80,12 @@ answer_becomes h s r t commit ks how.Invalid c keys waits = unless_becomes h s c
 answer_becomes h s r t commit ks how.Faulted c keys waits = unless_becomes h s c (client_opened c) keys (λ here. elim waits [
   | inl gone ↦ absurd (here gone)
   | inr asked ↦ record { begun = opened_keeps c (committing_has c asked.0); keys = keys_opened h c (inl asked.0) keys }
+])
+
+pub handed_becomes : (h : List Item) (s r t commit : ℕ) (ks : List ℕ) (c : Client) → KeysClient h c → WaitsFor (Commit r t ks) c → Becomes h s c (unless_gone c (client_handed c commit))
+handed_becomes h s r t commit ks c keys waits = unless_becomes h s c (client_handed c commit) keys (λ here. elim waits [
+  | inl gone ↦ absurd (here gone)
+  | inr asked ↦ record { begun = λ has. (committing_has c asked.0, refl); keys = keys_handed h c commit (inl asked.0) keys }
 ])
 
 -- and of a session that was placing its commit

@@ -13,7 +13,7 @@ use Rattle.oracle_parts.specs.declared.instance.Request.TheVariants.{Begin, Comm
 use Rattle.oracle_parts.specs.declared.instance.Settled.{Settled}
 use Rattle.oracle_parts.specs.declared.instance.Settled.TheVariants as how
 use Rattle.machine.specs.State.{Client}
-use Rattle.machine.specs.Clients.{client_freed, client_aborted, client_committed, client_opened, unless_gone, unless_gone_by, after_refusal}
+use Rattle.machine.specs.Clients.{client_freed, client_aborted, client_opened, unless_gone, unless_gone_by, after_refusal}
 use Rattle.machine.specs.Events.Crash.{after_loss}
 use Rattle.machine.specs.Events.Fetch.{client_read}
 use Rattle.machine.specs.Events.Step.{client_settled, after_asks}
@@ -144,6 +144,7 @@ unless_gone_cases old new phase.Free = inr refl
 unless_gone_cases old new phase.Asking = inr refl
 unless_gone_cases old new phase.Open = inr refl
 unless_gone_cases old new phase.Committing = inr refl
+unless_gone_cases old new phase.Placing = inr refl
 unless_gone_cases old new phase.OpenOutcome = inr refl
 unless_gone_cases old new (phase.Completing undo) = inr refl
 

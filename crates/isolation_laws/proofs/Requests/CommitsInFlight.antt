@@ -14,7 +14,7 @@ use Rattle.oracle_parts.specs.declared.instance.Settled.TheVariants as how
 use Rattle.oracle_parts.specs.Instance.{InstanceEntry}
 use Rattle.machine.specs.State.{Client}
 use Rattle.isolation_laws.specs.Words.{InstanceAt, HeldBy, OpenAt, Begun, DrewStart, DrewCommit, HasDrawn, written_keys}
-use Rattle.isolation_laws.specs.Pending.{Stage, Waits, Taken, Has, InFlight, Pending}
+use Rattle.isolation_laws.specs.Pending.{Stage, Waits, Taken, Has, InFlight, stage_of, Pending}
 use Rattle.isolation_laws.specs.Requests.{AreStarting, IsDrawnSoFar, ArePending, IsSettled, AreSettled, AreAccepted, AreOpen}
 use Rattle.isolation_laws.proofs.Requests.ClientsOpen.{FewerOpen}
 use Rattle.isolation_laws.proofs.Requests.PendingAfter.{FewerPending}
@@ -62,7 +62,7 @@ pending_on h g q on stays one = record {
 
 -- each drawn commit that an instance holds was drawn there
 abbrev pub AreDrawnHere : List (Option InstanceEntry) → List Item → Type 0
-AreDrawnHere nodes h = (n s t c : ℕ) (keys : List ℕ) (i : InstanceEntry) → InstanceAt nodes n i → HeldBy i s (Commit s t keys) (progress.Drawn c) → DrewCommit h s n i.term t c
+AreDrawnHere nodes h = (n s t c : ℕ) (keys : List ℕ) (p : Progress) (i : InstanceEntry) → InstanceAt nodes n i → HeldBy i s (Commit s t keys) p → stage_of i.last p ≡ Some (Has c) → DrewCommit h s n i.term t c
 
 pub are_pending : (clients : List Client) (nodes : List (Option InstanceEntry)) (h : List Item) → ((q : InFlight) → Pending clients nodes q → PendingOne h q) → AreDrawnHere nodes h → ArePending clients nodes h
 are_pending clients nodes h each here = record {
@@ -122,6 +122,7 @@ IsAcceptedNow _ = ⊥
 
 abbrev pub IsDrawnNow : Progress → Type 0
 IsDrawnNow (progress.Drawn stamp) = Unit {0}
+IsDrawnNow (progress.Handed stamp) = Unit {0}
 IsDrawnNow _ = ⊥
 
 pub settled_fewer : (old new : List (Option InstanceEntry)) (h g : List Item) → FewerStanding IsSettledNow old new → GoesOn h g → ((n s t c d : ℕ) (i : InstanceEntry) → SettledAt old n s t c how.Invalid i → Committed g t d → Committed h t d) → AreSettled old h → AreSettled new g
@@ -132,11 +133,26 @@ settled_fewer old new h g fewer on alone settled = are_settled new g (λ n s t c
     subst (λ term. SettledOne g n s term t c by) (sym was.3)
     (settled_on h g n s was.0.term t c by on (λ d is placed. alone n s t c d was.0 (subst (λ (b : Settled). SettledAt old n s t c b was.0) is before) placed) one))
 
+-- what has its commit was drawn, whatever the instance drew last
+has_is_drawn : (last : ℕ) (p : Progress) (c : ℕ) → stage_of last p ≡ Some (Has c) → IsDrawnNow p
+has_is_drawn last progress.Asked c is = absurd (cc)
+has_is_drawn last progress.Accepted c is = absurd (cc)
+has_is_drawn last (progress.Drawn d) c is = tt
+has_is_drawn last (progress.Handed d) c is = tt
+has_is_drawn last (progress.Settled d by) c is = absurd (cc)
+
+pub has_any_last : (last other : ℕ) (p : Progress) (c : ℕ) → stage_of last p ≡ Some (Has c) → stage_of other p ≡ Some (Has c)
+has_any_last last other progress.Asked c is = absurd (cc)
+has_any_last last other progress.Accepted c is = absurd (cc)
+has_any_last last other (progress.Drawn d) c is = is
+has_any_last last other (progress.Handed d) c is = is
+has_any_last last other (progress.Settled d by) c is = absurd (cc)
+
 -- fewer commits in flight, none of which the further items concern
 pub here_fewer : (old new : List (Option InstanceEntry)) (h g : List Item) → FewerStanding IsDrawnNow old new → GoesOn h g → AreDrawnHere old h → AreDrawnHere new g
-here_fewer old new h g fewer on here n s t c keys j at held =
-    let was = fewer.each n s j (Commit s t keys) (progress.Drawn c) tt at held in
-    subst (λ term. DrewCommit g s n term t c) (sym was.3) (on _ (here n s t c keys was.0 was.1 was.2))
+here_fewer old new h g fewer on here n s t c keys p j at held is =
+    let was = fewer.each n s j (Commit s t keys) p (has_is_drawn j.last p c is) at held in
+    subst (λ term. DrewCommit g s n term t c) (sym was.3) (on _ (here n s t c keys p was.0 was.1 was.2 (has_any_last j.last was.0.last p c is)))
 
 pub pending_fewer : (clients new_clients : List Client) (old new : List (Option InstanceEntry)) (h g : List Item) → FewerPending clients old new_clients new → FewerStanding IsDrawnNow old new → GoesOn h g → ((q : InFlight) → Pending clients old q → StaysPending h g q) → ArePending clients old h → ArePending new_clients new g
 pending_fewer clients new_clients old new h g fewer standing on stays pending = are_pending new_clients new g (λ q p. pending_on h g q on (stays q (fewer q p)) (pending_one clients old h q pending (fewer q p))) (here_fewer old new h g standing on pending.here)

@@ -8,7 +8,7 @@ use Rattle.oracle_parts.specs.declared.instance.Progress.{Progress}
 use Rattle.oracle_parts.specs.declared.instance.Progress.TheVariants as progress
 use Rattle.oracle_parts.specs.declared.instance.Request.TheVariants.{Begin, Commit}
 use Rattle.oracle_parts.specs.Instance.{InstanceEntry}
-use Rattle.oracle_parts.specs.InstanceSteps.{moved}
+use Rattle.oracle_parts.specs.InstanceSteps.{moved, drawn_as}
 use Rattle.client_parts.specs.declared.session.State.TheVariants as phase
 use Rattle.machine.specs.State.{State}
 use Rattle.isolation_laws.specs.Words.{InstanceAt, HeldBy}
@@ -20,9 +20,9 @@ use Rattle.isolation_laws.proofs.Outcome.OutcomesOfStamps.{Drew, drew_instance, 
 use Rattle.isolation_laws.proofs.Owners.{accepts_now, placed_below_last}
 use Rattle.isolation_laws.proofs.Requests.CommitsInFlight.{FewerStanding, IsAcceptedNow, IsDrawnNow}
 use Rattle.isolation_laws.proofs.Requests.RequestsAfter.{FewerHeld, HoldsNew, new_held, none_held, free_waits}
-use Rattle.isolation_laws.proofs.Requests.Standing.{standing_asked_begin, standing_asked_commit, standing_accepted, standing_drew, held_accepted, held_drew}
+use Rattle.isolation_laws.proofs.Requests.Standing.{standing_asked_begin, standing_asked_commit, standing_accepted, standing_drew, drawn_not_accepted, held_accepted, held_drew}
 use Rattle.isolation_laws.proofs.Requests.AsksBefore.{AsksNothing, quiet_no_ask, draw_no_ask, other_no_ask, ask_stays, ask_last, before_stays}
-use Rattle.isolation_laws.proofs.Requests.PendingAfter.{begin_is_no_commit, drawn_same}
+use Rattle.isolation_laws.proofs.Requests.PendingAfter.{begin_is_no_commit, drawn_as_stamp}
 
 -- begins that are held were held, wherever they stood
 abbrev pub FewerBegins : List (Option InstanceEntry) → List (Option InstanceEntry) → Type 0
@@ -119,10 +119,10 @@ fresh_accepted w h k holds =
 drew_fresh : (w : State) (h : List Item) (k : Drew w) (s b t c : ℕ) → Holds w h → HeldBy (drew_instance w k) s (Begin s) (progress.Drawn b) → Committed (before_ask s h) t c → c < b
 drew_fresh w h k s b t c holds held before =
     let fresh : AreFreshBegins w.nodes h = holds.begins.fresh in
-    elim (heldby_changed k.i k.session s (record k.held { progress = progress.Drawn (k.i.last + 1) }) (Begin s) (progress.Drawn b) (record { held = held.held; has = held.has; asks = held.asks; stands = held.stands })) [
+    elim (heldby_changed k.i k.session s (record k.held { progress = drawn_as k.i.direct k.held.request (k.i.last + 1) }) (Begin s) (progress.Drawn b) (record { held = held.held; has = held.has; asks = held.asks; stands = held.stands })) [
       | inl now ↦
           let was : HeldBy k.i s (Begin s) progress.Accepted = subst (λ r. HeldBy k.i r (Begin s) progress.Accepted) (sym now.0) (record { held = k.held; has = k.has; asks = now.1; stands = k.accepted }) in
-          omega (arith, fresh.accepted k.node s t c k.i k.at was before, drawn_same (k.i.last + 1) b now.2)
+          omega (arith, fresh.accepted k.node s t c k.i k.at was before, drawn_as_stamp k.i.direct k.held.request (k.i.last + 1) b now.2)
       | inr old ↦ fresh.drawn k.node s b t c k.i k.at old.1 before
     ]
 
@@ -133,7 +133,7 @@ fresh_drew w h k holds =
     let none : (s : ℕ) → AsksNothing s (drew_items w k) = λ s. draw_no_ask s k.node k.i.term (k.i.last + 1) k.held.request in
     record {
       asked = asked_on w.nodes (drew_state w k).nodes h (drew_items w k) held_ fresh;
-      accepted = accepted_on w.nodes (drew_state w k).nodes h (drew_items w k) (standing_drew IsAcceptedNow w k (λ stamp is. is)) none fresh;
+      accepted = accepted_on w.nodes (drew_state w k).nodes h (drew_items w k) (standing_drew IsAcceptedNow w k (drawn_not_accepted k.i.direct k.held.request (k.i.last + 1))) none fresh;
       drawn = λ n s b t c j at held placed.
           let was = held_ n s j (progress.Drawn b) at held in
           let before : Committed (before_ask s h) t c = subst (λ before. Committed before t c) (before_stays s h (drew_items w k) (fresh.asked n s was.0 was.1 was.2 was.3) (none s)) placed in

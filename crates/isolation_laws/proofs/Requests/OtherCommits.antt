@@ -1,5 +1,5 @@
 -- A commit in flight elsewhere is of another transaction.
-use Rattle.std.proofs.Common.{◌≡◌, ◌≢◌, ℕ, List, Option, inl, inr, refl, sym, ◌∙◌, ap, subst}
+use Rattle.std.proofs.Common.{◌≢◌, ℕ, List, Option, inl, inr, refl, sym, ◌∙◌, ap, subst}
 use Rattle.std.specs.Prelude.{slice_set}
 use Rattle.history_book.specs.Isolation.{Stamped}
 use Rattle.history_book.specs.declared.item.Item.{Item}
@@ -14,7 +14,7 @@ use Rattle.isolation_laws.specs.Requests.{AreRequests, ArePending}
 use Rattle.isolation_laws.proofs.Lookups.{client_set}
 use Rattle.isolation_laws.proofs.OnceEach.{begun_once}
 use Rattle.isolation_laws.proofs.Requests.ClientsOpen.{FewerPlacing, IsAtRest}
-use Rattle.isolation_laws.proofs.Requests.PendingAfter.{FewerPending, fewer_pending}
+use Rattle.isolation_laws.proofs.Requests.PendingAfter.{fewer_pending}
 use Rattle.isolation_laws.proofs.Requests.PendingFewer.{same_served, StaysPut, stays_pending}
 use Rattle.isolation_laws.proofs.Requests.RequestsAfter.{placing_waits, none_held}
 
@@ -38,13 +38,15 @@ PendingBut clients nodes new_clients new_nodes t = (q : InFlight) → Pending ne
 -- of a commit that its session placed, once the session is placing no more
 pub none_of_placed : (clients : List Client) (nodes : List (Option InstanceEntry)) (h : List Item) (r : InFlight) (new : Client) → Stamped h → AreRequests nodes clients → ArePending clients nodes h → PlacingAt clients r → IsAtRest new.entry.state → FewerPlacing clients (slice_set clients r.session new) → PendingBut clients nodes (slice_set clients r.session new) nodes r.start
 none_of_placed clients nodes h r new stamped requests pending placing rests fewer q p =
-    let was : Pending clients nodes q = fewer_pending clients (slice_set clients r.session new) nodes nodes fewer (same_served nodes) q p in
-    (was, λ start.
-    let session = begun_once h q.session r.session r.start stamped (subst (Begun h q.session) start (pending.begun q was)) (pending.begun r (inr placing)) in
-    elim p [
-      | inl held ↦ placing_holds_none clients nodes r requests placing held.node held.instance_of (Commit q.session q.start q.keys) held.progress_of held.at (subst (λ s. HeldBy held.instance_of s (Commit q.session q.start q.keys) held.progress_of) session held.held)
-      | inr now ↦ elim (client_set clients r.session q.session new now.client now.at) [
-        | inl here ↦ rests.not_placing (ap (λ c. is_placing c.entry.state) (sym here.1) ∙ now.state_is)
-        | inr there ↦ there.0 session
-      ]
-    ])
+    let was : Pending clients nodes q = fewer_pending clients (slice_set clients r.session new) nodes nodes fewer (same_served nodes) q p in (
+      was,
+      λ start.
+          let session = begun_once h q.session r.session r.start stamped (subst (Begun h q.session) start (pending.begun q was)) (pending.begun r (inr placing)) in
+          elim p [
+            | inl held ↦ placing_holds_none clients nodes r requests placing held.node held.instance_of (Commit q.session q.start q.keys) held.progress_of held.at (subst (λ s. HeldBy held.instance_of s (Commit q.session q.start q.keys) held.progress_of) session held.held)
+            | inr now ↦ elim (client_set clients r.session q.session new now.client now.at) [
+              | inl here ↦ rests.not_placing (ap (λ c. is_placing c.entry.state) (sym here.1) ∙ now.state_is)
+              | inr there ↦ there.0 session
+            ]
+          ],
+    )

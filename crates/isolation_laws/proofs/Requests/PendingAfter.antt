@@ -1,6 +1,6 @@
 -- For cause_laws too.
 -- The commits in flight of a list of nodes, by the instance that holds them, and where one instance takes the place of another.
-use Rattle.std.proofs.Common.{◌≡◌, ◌≢◌, ℕ, zero, suc, List, Option, Some, None, inl, inr, sym, ◌∙◌, ap, subst}
+use Rattle.std.proofs.Common.{◌≡◌, ◌≢◌, ℕ, zero, suc, Bool, true, false, refl, List, Option, Some, None, inl, inr, sym, ◌∙◌, ap, subst}
 use Rattle.std.specs.Prelude.{slice_set, slice_index_or, replicate}
 use Rattle.std.proofs.lemmas.Option.{none-some}
 use Rattle.store_parts.specs.declared.record.Grant.{Grant}
@@ -11,7 +11,7 @@ use Rattle.oracle_parts.specs.declared.instance.Request.{Request}
 use Rattle.oracle_parts.specs.declared.instance.Request.TheVariants.{Begin, Commit}
 use Rattle.oracle_parts.specs.declared.instance.Settled.{Settled}
 use Rattle.oracle_parts.specs.Instance.{InstanceEntry, with_request, instance_new, held_of}
-use Rattle.oracle_parts.specs.InstanceSteps.{without_request, moved, just_asked}
+use Rattle.oracle_parts.specs.InstanceSteps.{without_request, moved, just_asked, drawn_as}
 use Rattle.machine.specs.State.{Client}
 use Rattle.isolation_laws.specs.Words.{InstanceAt, HeldBy}
 use Rattle.isolation_laws.specs.Pending.{Stage, InFlight, stage_of, HeldPending, Pending}
@@ -122,8 +122,18 @@ no_request_held (suc n) zero held found = cc
 no_request_held (suc n) (suc s) held found = no_request_held n s held found
 
 -- a new instance holds no request
-pub new_holds_none : (grant : Grant) (node count width slots s : ℕ) (request : Request) (p : Progress) → HeldBy (instance_new grant node count width slots) s request p → ⊥
-new_holds_none grant node count width slots s request p h = no_request_held 16 s h.held h.has
+pub new_holds_none : (grant : Grant) (node count width slots : ℕ) (direct : Bool) (s : ℕ) (request : Request) (p : Progress) → HeldBy (instance_new grant node count width slots direct) s request p → ⊥
+new_holds_none grant node count width slots direct s request p h = no_request_held 16 s h.held h.has
 
 pub drawn_same : (a b : ℕ) → progress.Drawn a ≡ progress.Drawn b → a ≡ b
 drawn_same a b same = cc
+
+-- ---- what a draw leaves
+pub drawn_as_stamp : (direct : Bool) (request : Request) (stamp t : ℕ) → drawn_as direct request stamp ≡ progress.Drawn t → stamp ≡ t
+drawn_as_stamp true (Commit s u keys) stamp t is = absurd (cc)
+drawn_as_stamp true (Begin s) stamp t is = cc
+drawn_as_stamp false request stamp t is = cc
+
+pub handed_is_direct : (direct : Bool) (request : Request) (stamp t : ℕ) → drawn_as direct request stamp ≡ progress.Handed t → direct ≡ true
+handed_is_direct true request stamp t is = refl
+handed_is_direct false request stamp t is = absurd (cc)

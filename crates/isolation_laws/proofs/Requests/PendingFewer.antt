@@ -31,7 +31,7 @@ fewer_still w k q p =
 granted_fewer : (w : State) (k : Granted w) (failed : Bool) → FewerServed w.nodes (granted_nodes w k failed)
 granted_fewer w k true q p = p
 granted_fewer w k false q p = elim (instance_changed w.nodes k.node p.node (instance_of w.setup k.node (granted (rules_of w.setup) w.master k.reading)) p.instance_of p.at) [
-  | inl here ↦ absurd (new_holds_none (granted (rules_of w.setup) w.master k.reading) k.node w.setup.buckets w.setup.width w.setup.slots q.session (Commit q.session q.start q.keys) p.progress_of (subst (λ (x : InstanceEntry). HeldBy x q.session (Commit q.session q.start q.keys) p.progress_of) here.1 p.held))
+  | inl here ↦ absurd (new_holds_none (granted (rules_of w.setup) w.master k.reading) k.node w.setup.buckets w.setup.width w.setup.slots w.setup.direct q.session (Commit q.session q.start q.keys) p.progress_of (subst (λ (x : InstanceEntry). HeldBy x q.session (Commit q.session q.start q.keys) p.progress_of) here.1 p.held))
   | inr there ↦ pending_at w.nodes q p.node p.instance_of there.1 (pending_in (granted_nodes w k false) q p)
 ]
 

@@ -1,12 +1,13 @@
 -- Outcomes that move a commit in flight: one more that waits, one that is taken, one that has its commit while the others of
 -- its instance see a later last stamp.
-use Rattle.std.proofs.Common.{◌≡◌, ◌≢◌, ℕ, ◌+◌, ◌<◌, List, Some, ◌⊎◌, inl, inr, refl, sym, ◌∙◌, ap, subst, arith}
+use Rattle.std.proofs.Common.{◌≡◌, ◌≢◌, ℕ, ◌+◌, ◌<◌, Bool, true, false, List, Some, ◌⊎◌, inl, inr, refl, sym, ◌∙◌, ap, subst, arith}
 use Rattle.std.proofs.lemmas.Option.{same_Some}
 use Rattle.oracle_parts.specs.declared.instance.Progress.{Progress}
 use Rattle.oracle_parts.specs.declared.instance.Progress.TheVariants as progress
-use Rattle.oracle_parts.specs.declared.instance.Request.TheVariants.{Commit}
+use Rattle.oracle_parts.specs.declared.instance.Request.{Request}
+use Rattle.oracle_parts.specs.declared.instance.Request.TheVariants.{Begin, Commit}
 use Rattle.oracle_parts.specs.Instance.{InstanceEntry, held_of, with_request}
-use Rattle.oracle_parts.specs.InstanceSteps.{moved, just_asked}
+use Rattle.oracle_parts.specs.InstanceSteps.{moved, just_asked, drawn_as}
 use Rattle.machine.specs.State.{State}
 use Rattle.isolation_laws.specs.Words.{HeldBy}
 use Rattle.isolation_laws.specs.Pending.{Stage, Waits, Taken, Has, InFlight, stage_of, HeldPending, Pending, IsStageBelow, ComesBelow}
@@ -105,6 +106,7 @@ older_stage : (last : ℕ) (p : Progress) (stage : Stage) → stage_of (last + 1
 older_stage last progress.Asked stage is = inl is
 older_stage last progress.Accepted stage is = inr (stage_now (Taken (last + 1)) stage is, refl)
 older_stage last (progress.Drawn commit) stage is = inl is
+older_stage last (progress.Handed commit) stage is = inl is
 older_stage last (progress.Settled commit by) stage is = inl is
 
 drawn_other : (w : State) (k : Drew w) (q : InFlight) → q.session ≢ k.session → (p : PendingIn (drew_instance w k) q) → HeldBy k.i q.session (Commit q.session q.start q.keys) p.progress_of → StaysElsewhere w.nodes k.node k.session q ⊎ (IsOlder w k q ⊎ IsDrawnNow w k q)
@@ -117,12 +119,18 @@ drawn_other w k q other p held = elim (older_stage k.i.last p.progress_of q.stag
   }))
 ]
 
+-- what is drawn for a request
+pub drawn_stage : (direct : Bool) (request : Request) (stamp last : ℕ) → stage_of last (drawn_as direct request stamp) ≡ Some (Has stamp)
+drawn_stage true (Commit s t keys) stamp last = refl
+drawn_stage true (Begin s) stamp last = refl
+drawn_stage false request stamp last = refl
+
 drawn_here : (w : State) (k : Drew w) (q : InFlight) → PendingIn (drew_instance w k) q → StaysElsewhere w.nodes k.node k.session q ⊎ (IsOlder w k q ⊎ IsDrawnNow w k q)
-drawn_here w k q p = elim (heldby_changed k.i k.session q.session (record k.held { progress = progress.Drawn (k.i.last + 1) }) (Commit q.session q.start q.keys) p.progress_of (record { held = p.held.held; has = p.held.has; asks = p.held.asks; stands = p.held.stands })) [
+drawn_here w k q p = elim (heldby_changed k.i k.session q.session (record k.held { progress = drawn_as k.i.direct k.held.request (k.i.last + 1) }) (Commit q.session q.start q.keys) p.progress_of (record { held = p.held.held; has = p.held.has; asks = p.held.asks; stands = p.held.stands })) [
   | inl here ↦ inr (inr (record {
     session_is = here.0;
     request_is = here.1;
-    has = stage_now (Has (k.i.last + 1)) q.stage (ap (stage_of (k.i.last + 1)) here.2 ∙ p.stage_is);
+    has = stage_now (Has (k.i.last + 1)) q.stage (sym (drawn_stage k.i.direct k.held.request (k.i.last + 1) (k.i.last + 1)) ∙ (ap (stage_of (k.i.last + 1)) here.2 ∙ p.stage_is));
     was_taken = pending_at w.nodes (record q { stage = Taken k.i.last }) k.node k.i k.at (record {
       progress_of = progress.Accepted;
       held = record { held = k.held; has = ap (λ s. held_of k.i s) here.0 ∙ k.has; asks = here.1; stands = k.accepted };

@@ -3,6 +3,7 @@ use Rattle.std.proofs.Common.{List, Option, sym, ◌∙◌, ap}
 use Rattle.stamp_base.specs.SetupNumbers.{SetupNumbers}
 use Rattle.history_book.specs.declared.item.Item.{Item}
 use Rattle.history_book.specs.declared.item.Item.TheVariants.{Begin}
+use Rattle.oracle_parts.specs.declared.instance.Progress.TheVariants as progress
 use Rattle.oracle_parts.specs.Instance.{InstanceEntry}
 use Rattle.machine.specs.State.{Client, State}
 use Rattle.isolation_laws.specs.Pending.{InFlight, is_placing}
@@ -23,11 +24,12 @@ pub record Leaves (w : State) (h : List Item) (nodes : List (Option InstanceEntr
   pub accepted : FewerStanding IsAcceptedNow w.nodes nodes
   pub opened : FewerOpen w.clients clients
   pub keys : AreKeys clients h
-  pub form : AreForm w.setup clients
+  pub form : AreForm w.setup nodes clients
 
--- no session is placing that was not
-pub form_fewer : (setup : SetupNumbers) (old new : List Client) → FewerPlacing old new → AreForm setup old → AreForm setup new
-form_fewer setup old new fewer form = record {
+-- no commit is handed over, and no session placing, that was not
+pub form_fewer : (setup : SetupNumbers) (old new : List Client) (nodes new_nodes : List (Option InstanceEntry)) → FewerStanding IsDrawnNow nodes new_nodes → FewerPlacing old new → AreForm setup nodes old → AreForm setup new_nodes new
+form_fewer setup old new nodes new_nodes standing fewer form = record {
+  handed = λ n s c i request at held. let was = standing.each n s i request (progress.Handed c) tt at held in form.handed n s c was.0 request was.1 was.2;
   plain = λ flag s c at placing. let was = fewer s c at placing in form.plain flag s was.0 was.1 (ap (λ e. is_placing e.state) was.2 ∙ placing);
 }
 

@@ -144,5 +144,5 @@ requests_answered_begin w h k holds =
         written = λ s t c at is start. holds.requests.keys.written s t c at is start ∙ sym (begin_writes_none h k.session k.start t);
         some = holds.requests.keys.some;
       });
-      form = form_fewer w.setup w.clients (answered_begin_state w k).clients (placing_answered_begin w k) holds.requests.form;
+      form = form_fewer w.setup w.clients (answered_begin_state w k).clients w.nodes (answered_begin_state w k).nodes (standing_over IsDrawnNow w.nodes k.node k.session k.i k.at) (placing_answered_begin w k) holds.requests.form;
     }

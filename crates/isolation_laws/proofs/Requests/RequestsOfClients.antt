@@ -44,7 +44,7 @@ leaves_client w h s c new client becomes work requests holds = record {
   accepted = standing_same IsAcceptedNow w.nodes;
   opened = work.opened;
   keys = keys_set w.clients h s new becomes.keys holds.requests.keys;
-  form = form_fewer w.setup w.clients (slice_set w.clients s new) work.placing holds.requests.form;
+  form = form_fewer w.setup w.clients (slice_set w.clients s new) w.nodes w.nodes (standing_same IsDrawnNow w.nodes) work.placing holds.requests.form;
 }
 
 -- a client that waits for no request changed

@@ -1,31 +1,35 @@
 -- Sessions and requests where a stamp is drawn, and where a commit is settled.
 use Rattle.std.proofs.Common.{◌≡◌, ◌≢◌, ℕ, ◌+◌, List, ◌++◌, Option, Some, None, ◌⊎◌, inl, inr, refl, sym, ◌∙◌, ap, subst, arith}
-use Rattle.std.proofs.lemmas.Option.{same_Some, none-some}
+use Rattle.std.proofs.lemmas.Option.{none-some}
 use Rattle.history_book.specs.Members.{◌∈◌}
 use Rattle.history_book.specs.declared.item.Item.{Item}
 use Rattle.history_book.specs.declared.item.Item.TheVariants.{Begin, Draw, Write}
 use Rattle.history_book.proofs.MemberLemmas.{in_front, in_last, in_push}
+use Rattle.oracle_parts.specs.declared.instance.Held.{Held}
+use Rattle.oracle_parts.specs.declared.instance.Progress.{Progress}
 use Rattle.oracle_parts.specs.declared.instance.Progress.TheVariants as progress
 use Rattle.oracle_parts.specs.declared.instance.Request.{Request}
 use Rattle.oracle_parts.specs.declared.instance.Request.TheVariants.{Begin as BeginRequest, Commit}
 use Rattle.oracle_parts.specs.Instance.{InstanceEntry}
+use Rattle.oracle_parts.specs.InstanceSteps.{drawn_as}
 use Rattle.machine.specs.State.{State}
 use Rattle.machine.specs.Events.Decide.{draw_item}
 use Rattle.isolation_laws.specs.Words.{InstanceAt, HeldBy, OpenAt, Begun, DrewStart, DrewCommit, HasDrawn, written_keys}
-use Rattle.isolation_laws.specs.Pending.{Stage, Taken, InFlight}
+use Rattle.isolation_laws.specs.Pending.{Stage, Taken, Has, InFlight, stage_of}
 use Rattle.isolation_laws.specs.Requests.{AreStarting, IsDrawnSoFar, ArePending, RequestFacts}
 use Rattle.isolation_laws.specs.Holds.{Holds}
-use Rattle.isolation_laws.proofs.Lookups.{held_set, instance_changed}
+use Rattle.isolation_laws.proofs.Lookups.{heldby_changed, instance_changed}
 use Rattle.isolation_laws.proofs.Owners.{open_not_pending, so_far_unplaced}
 use Rattle.isolation_laws.proofs.Outcome.OutcomesOfStamps.{Drew, drew_instance, drew_state, drew_items}
 use Rattle.isolation_laws.proofs.Requests.OtherCommits.{other_commit}
 use Rattle.isolation_laws.proofs.Requests.PendingFewer.{StaysPut, stays_pending}
-use Rattle.isolation_laws.proofs.Requests.PendingMoved.{IsOlder, IsDrawnNow as IsDrawnQ, pending_drew}
+use Rattle.isolation_laws.proofs.Requests.PendingMoved.{IsOlder, IsDrawnNow as IsDrawnQ, pending_drew, drawn_stage}
 use Rattle.isolation_laws.proofs.Numbers.NumbersKept.{open_begun}
 use Rattle.isolation_laws.proofs.Requests.ClientsAfter.{have_on, written_keys-no_write}
 use Rattle.isolation_laws.proofs.Requests.RequestsAfter.{requests_fewer}
-use Rattle.isolation_laws.proofs.Requests.Standing.{standing_drew, held_drew}
-use Rattle.isolation_laws.proofs.Requests.CommitsInFlight.{goes_on, StaysPending, PendingOne, pending_one, pending_on, are_pending, IsSettledNow, IsAcceptedNow, settled_fewer, accepted_fewer, open_fewer}
+use Rattle.isolation_laws.proofs.Requests.Standing.{standing_drew, drawn_not_accepted, drawn_not_settled, held_drew}
+use Rattle.isolation_laws.proofs.Requests.CommitsInFlight.{goes_on, StaysPending, PendingOne, pending_one, pending_on, are_pending, IsSettledNow, IsAcceptedNow, settled_fewer, accepted_fewer, open_fewer, has_any_last}
+use Rattle.isolation_laws.proofs.Requests.PendingAfter.{drawn_as_stamp, handed_is_direct}
 use Rattle.isolation_laws.proofs.Numbers.NumbersOfDraws.{start_drawn, commit_drawn, asker_of, draw_item_is, drew_room}
 use Rattle.isolation_laws.proofs.Numbers.NewStamps.{older_stamp, new_draw, drew_taken}
 use Rattle.isolation_laws.proofs.Numbers.NewDraws.{drew_begun_old, drew_placed_old}
@@ -119,34 +123,42 @@ stamp_unbegun w h k r holds begun =
 begun_now : (w : State) (h : List Item) (k : Drew w) (s t : ℕ) → k.held.request ≡ BeginRequest s → t ≡ k.i.last + 1 → DrewStart (h ++ drew_items w k) s k.node k.i.term t
 begun_now w h k s t is stamp = subst (λ x. x ∈ (h ++ drew_items w k)) (ap (λ r. draw_item k.node k.i.term r (k.i.last + 1)) is ∙ ap (λ u. Draw s k.node k.i.term u None) (sym stamp)) (in_last (new_draw w k) h)
 
--- what stands as drawn at the node that drew: the one that drew, or one that stood there
-record DrewHere (w : State) (k : Drew w) (s t : ℕ) (request : Request) : Type 0 where
-  mine : (s ≡ k.session) × (k.held.request ≡ request) × (t ≡ k.i.last + 1)
+-- what stands at the node that drew: the one that drew, or one that stood there
+record DrewHere (w : State) (k : Drew w) (s : ℕ) (request : Request) (p : Progress) : Type 0 where
+  session_is : s ≡ k.session
+  request_is : k.held.request ≡ request
+  stands : drawn_as k.i.direct k.held.request (k.i.last + 1) ≡ p
 
-drawn_stamp_is : (a b : ℕ) → progress.Drawn a ≡ progress.Drawn b → b ≡ a
-drawn_stamp_is a b same = cc
-
-drew_standing : (w : State) (k : Drew w) (n s t : ℕ) (request : Request) (j : InstanceEntry) → InstanceAt (drew_state w k).nodes n j → HeldBy j s request (progress.Drawn t) → ((n ≡ k.node) × (j.term ≡ k.i.term) × DrewHere w k s t request) ⊎ ((i : InstanceEntry) × InstanceAt w.nodes n i × HeldBy i s request (progress.Drawn t) × (j.term ≡ i.term))
-drew_standing w k n s t request j at held = elim (instance_changed w.nodes k.node n (drew_instance w k) j at) [
+drew_standing : (w : State) (k : Drew w) (n s : ℕ) (request : Request) (p : Progress) (j : InstanceEntry) → InstanceAt (drew_state w k).nodes n j → HeldBy j s request p → ((n ≡ k.node) × (j.term ≡ k.i.term) × DrewHere w k s request p) ⊎ ((i : InstanceEntry) × InstanceAt w.nodes n i × HeldBy i s request p × (j.term ≡ i.term))
+drew_standing w k n s request p j at held = elim (instance_changed w.nodes k.node n (drew_instance w k) j at) [
   | inl here ↦
-      let mine : HeldBy (drew_instance w k) s request (progress.Drawn t) = subst (λ (x : InstanceEntry). HeldBy x s request (progress.Drawn t)) here.1 held in
-      elim (held_set k.i k.session s (Some (record k.held { progress = progress.Drawn (k.i.last + 1) })) mine.held mine.has) [
-        | inl now ↦
-            let same : record k.held { progress = progress.Drawn (k.i.last + 1) } ≡ mine.held = same_Some (record k.held { progress = progress.Drawn (k.i.last + 1) }) mine.held now.1 in
-            inl (here.0, ap (λ x. x.term) here.1, record { mine = (now.0, ap (λ x. x.request) same ∙ mine.asks, drawn_stamp_is (k.i.last + 1) t (ap (λ x. x.progress) same ∙ mine.stands)) })
-        | inr old ↦ inr (k.i, subst (λ q. InstanceAt w.nodes q k.i) (sym here.0) k.at, record { held = mine.held; has = old.1; asks = mine.asks; stands = mine.stands }, ap (λ x. x.term) here.1)
+      let now : Held = record k.held { progress = drawn_as k.i.direct k.held.request (k.i.last + 1) } in
+      let mine : HeldBy (drew_instance w k) s request p = subst (λ (x : InstanceEntry). HeldBy x s request p) here.1 held in
+      elim (heldby_changed k.i k.session s now request p (record { held = mine.held; has = mine.has; asks = mine.asks; stands = mine.stands })) [
+        | inl draws ↦ inl (here.0, ap (λ x. x.term) here.1, record { session_is = draws.0; request_is = draws.1; stands = draws.2 })
+        | inr old ↦ inr (k.i, subst (λ q. InstanceAt w.nodes q k.i) (sym here.0) k.at, old.1, ap (λ x. x.term) here.1)
       ]
   | inr there ↦ inr (j, there.1, held, refl)
 ]
 
+-- its stamp, where it stands as drawn, and where it has its commit
+drew_drawn : (w : State) (k : Drew w) (s t : ℕ) (request : Request) → DrewHere w k s request (progress.Drawn t) → t ≡ k.i.last + 1
+drew_drawn w k s t request here = sym (drawn_as_stamp k.i.direct k.held.request (k.i.last + 1) t here.stands)
+
+same_has : (a b : ℕ) → Some (Has a) ≡ Some (Has b) → b ≡ a
+same_has a b same = cc
+
+drew_has : (w : State) (k : Drew w) (s last c : ℕ) (request : Request) (p : Progress) → DrewHere w k s request p → stage_of last p ≡ Some (Has c) → c ≡ k.i.last + 1
+drew_has w k s last c request p here is = same_has (k.i.last + 1) c (sym (drawn_stage k.i.direct k.held.request (k.i.last + 1) last) ∙ (ap (stage_of last) here.stands ∙ is))
+
 drew_starting : (w : State) (h : List Item) (k : Drew w) → Holds w h → AreStarting (drew_state w k).nodes (h ++ drew_items w k)
 drew_starting w h k holds = record {
-  drawn = λ n s t j at held. elim (drew_standing w k n s t (BeginRequest s) j at held) [
-    | inl here ↦ subst (λ m. DrewStart (h ++ drew_items w k) s m j.term t) (sym here.0) (subst (λ term. DrewStart (h ++ drew_items w k) s k.node term t) (sym here.1) (begun_now w h k s t here.2.mine.1 here.2.mine.2))
+  drawn = λ n s t j at held. elim (drew_standing w k n s (BeginRequest s) (progress.Drawn t) j at held) [
+    | inl here ↦ subst (λ m. DrewStart (h ++ drew_items w k) s m j.term t) (sym here.0) (subst (λ term. DrewStart (h ++ drew_items w k) s k.node term t) (sym here.1) (begun_now w h k s t here.2.request_is (drew_drawn w k s t (BeginRequest s) here.2)))
     | inr was ↦ subst (λ term. DrewStart (h ++ drew_items w k) s n term t) (sym was.3) (in_front (Draw s n was.0.term t None) h (drew_items w k) (holds.requests.starting.drawn n s t was.0 was.1 was.2))
   ];
-  unbegun = λ n s t r j at held begun. elim (drew_standing w k n s t (BeginRequest s) j at held) [
-    | inl here ↦ stamp_unbegun w h k r holds (subst (Begun h r) here.2.mine.2 (drew_begun_old w k h r t begun))
+  unbegun = λ n s t r j at held begun. elim (drew_standing w k n s (BeginRequest s) (progress.Drawn t) j at held) [
+    | inl here ↦ stamp_unbegun w h k r holds (subst (Begun h r) (drew_drawn w k s t (BeginRequest s) here.2) (drew_begun_old w k h r t begun))
     | inr was ↦ holds.requests.starting.unbegun n s t r was.0 was.1 was.2 (drew_begun_old w k h r t begun)
   ];
 }
@@ -156,9 +168,9 @@ drew_pending w h k holds = are_pending w.clients (drew_state w k).nodes (h ++ dr
   | inl old ↦ pending_on h (h ++ drew_items w k) q (goes_on h (drew_items w k)) (stays_one w h k q holds old) (pending_one w.clients w.nodes h q holds.requests.pending (stays_pending w.clients w.nodes k.node k.session q old))
   | inr (inl older) ↦ older_one w h k q holds older
   | inr (inr drawn) ↦ drawn_one w h k q holds drawn
-]) (λ n s t c keys j at held. elim (drew_standing w k n s c (Commit s t keys) j at held) [
-  | inl here ↦ rw (here.0, here.1) (draws_its w h k s t c keys here.2.mine.1 here.2.mine.2)
-  | inr was ↦ subst (λ term. DrewCommit (h ++ drew_items w k) s n term t c) (sym was.3) (in_front (Draw s n was.0.term t (Some c)) h (drew_items w k) (holds.requests.pending.here n s t c keys was.0 was.1 was.2))
+]) (λ n s t c keys p j at held is. elim (drew_standing w k n s (Commit s t keys) p j at held) [
+  | inl here ↦ rw (here.0, here.1) (draws_its w h k s t c keys here.2.request_is (drew_has w k s j.last c (Commit s t keys) p here.2 is))
+  | inr was ↦ subst (λ term. DrewCommit (h ++ drew_items w k) s n term t c) (sym was.3) (in_front (Draw s n was.0.term t (Some c)) h (drew_items w k) (holds.requests.pending.here n s t c keys p was.0 was.1 was.2 (has_any_last j.last was.0.last p c is)))
 ])
 
 drew_not_open : (w : State) (h : List Item) (k : Drew w) (s t e : ℕ) → Holds w h → OpenAt w.clients s t e → DrawsFor w k t → ⊥
@@ -172,12 +184,18 @@ requests_drew w h k holds = record {
   requests = requests_fewer w.nodes (drew_state w k).nodes w.clients (held_drew w k) holds.requests.requests;
   starting = drew_starting w h k holds;
   pending = drew_pending w h k holds;
-  settled = settled_fewer w.nodes (drew_state w k).nodes h (h ++ drew_items w k) (standing_drew IsSettledNow w k (λ stamp is. is)) (goes_on h (drew_items w k)) (λ n s t c d i at placed. drew_placed_old w k h t d placed) holds.requests.settled;
-  accepted = accepted_fewer w.nodes (drew_state w k).nodes (standing_drew IsAcceptedNow w k (λ stamp is. is)) holds.requests.accepted;
+  settled = settled_fewer w.nodes (drew_state w k).nodes h (h ++ drew_items w k) (standing_drew IsSettledNow w k (drawn_not_settled k.i.direct k.held.request (k.i.last + 1))) (goes_on h (drew_items w k)) (λ n s t c d i at placed. drew_placed_old w k h t d placed) holds.requests.settled;
+  accepted = accepted_fewer w.nodes (drew_state w k).nodes (standing_drew IsAcceptedNow w k (drawn_not_accepted k.i.direct k.held.request (k.i.last + 1))) holds.requests.accepted;
   opened = open_fewer w.clients w.clients h (h ++ drew_items w k) (λ s t e o. o) (λ s t e o drew. elim (drew_or_drawn w k h t drew) [
     | inl old ↦ old
     | inr now ↦ absurd (drew_not_open w h k s t e holds o now)
   ]) holds.requests.opened;
   keys = record { written = λ s t c at is start. holds.requests.keys.written s t c at is start ∙ sym (drew_keys w k h t); some = holds.requests.keys.some };
-  form = holds.requests.form;
+  form = record {
+    handed = λ n s c i request at held. elim (drew_standing w k n s request (progress.Handed c) i at held) [
+      | inl here ↦ sym (holds.memory.form.direct k.node k.i k.at) ∙ handed_is_direct k.i.direct k.held.request (k.i.last + 1) c here.2.stands
+      | inr was ↦ holds.requests.form.handed n s c was.0 request was.1 was.2
+    ];
+    plain = holds.requests.form.plain;
+  };
 }

@@ -22,6 +22,7 @@ use Rattle.isolation_laws.proofs.Lookups.{held_by, held_set, instance_changed}
 use Rattle.isolation_laws.proofs.Owners.{accepts_now, begun_below_last}
 use Rattle.isolation_laws.proofs.Outcome.OutcomesOfRequests.{AskedCommit, asked_commit_state, Accepted, accepted_state}
 use Rattle.isolation_laws.proofs.Requests.PendingMoved.{IsAsked, pending_asked_commit, IsTaken, pending_accepted}
+use Rattle.isolation_laws.proofs.Requests.ClientsOpen.{same_at_work}
 use Rattle.isolation_laws.proofs.Requests.OpenAfter.{at_work_asked_commit}
 use Rattle.isolation_laws.proofs.Numbers.NumbersKept.{open_begun}
 use Rattle.isolation_laws.proofs.Requests.ClientsAfter.{begun_kept, has_by, KeysClient, keys_client, keys_set}
@@ -71,7 +72,7 @@ requests_asked_commit w h k holds =
       accepted = accepted_fewer w.nodes (asked_commit_state w k).nodes (standing_asked_commit IsAcceptedNow w k (λ is. is)) holds.requests.accepted;
       opened = open_silent w.clients (asked_commit_state w k).clients h g silent (at_work_asked_commit w k).opened holds.requests.opened;
       keys = keys_silent (asked_commit_state w k).clients h g silent (keys_set w.clients h k.session (client_asked k.c) (asked_keys w h k holds) holds.requests.keys);
-      form = form_fewer w.setup w.clients (asked_commit_state w k).clients (at_work_asked_commit w k).placing holds.requests.form;
+      form = form_fewer w.setup w.clients (asked_commit_state w k).clients w.nodes (asked_commit_state w k).nodes (standing_asked_commit IsDrawnNow w k (λ is. is)) (at_work_asked_commit w k).placing holds.requests.form;
     }
 
 -- ---- a request is accepted: its transaction began within the instance's range
@@ -136,5 +137,5 @@ requests_accepted w h k holds =
       accepted = accepted_accepted w h k holds;
       opened = open_silent w.clients w.clients h g silent (λ s t e o. o) holds.requests.opened;
       keys = keys_silent w.clients h g silent holds.requests.keys;
-      form = holds.requests.form;
+      form = form_fewer w.setup w.clients w.clients w.nodes (accepted_state w k).nodes (standing_accepted IsDrawnNow w k (λ is. is)) (same_at_work w.clients).placing holds.requests.form;
     }

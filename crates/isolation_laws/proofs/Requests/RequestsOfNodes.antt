@@ -42,7 +42,7 @@ leaves_nodes w h nodes held standing pending holds = record {
   accepted = standing IsAcceptedNow;
   opened = (same_at_work w.clients).opened;
   keys = holds.requests.keys;
-  form = holds.requests.form;
+  form = form_fewer w.setup w.clients w.clients w.nodes nodes (standing IsDrawnNow) (same_at_work w.clients).placing holds.requests.form;
 }
 
 pub leaves_alone : (w : State) (h : List Item) → Holds w h → Leaves w h w.nodes w.clients
@@ -101,7 +101,7 @@ leaves_crashed w h k holds = record {
   accepted = standing_ended IsAcceptedNow w.nodes k.node;
   opened = (at_work_crashed w k).opened;
   keys = crash_keys w h k holds;
-  form = form_fewer w.setup w.clients (crashed_state w k).clients (at_work_crashed w k).placing holds.requests.form;
+  form = form_fewer w.setup w.clients (crashed_state w k).clients w.nodes (crashed_state w k).nodes (standing_ended IsDrawnNow w.nodes k.node) (at_work_crashed w k).placing holds.requests.form;
 }
 
 -- ---- the ask of a begin
@@ -124,7 +124,7 @@ leaves_asked_begin w h k holds = record {
   accepted = standing_asked_begin IsAcceptedNow w k (λ is. is);
   opened = (at_work_asked_begin w k).opened;
   keys = keys_set w.clients h k.session (client_asked k.c) (keys_asking h (client_asked k.c) (asks_begin w k)) holds.requests.keys;
-  form = form_fewer w.setup w.clients (asked_begin_state w k).clients (at_work_asked_begin w k).placing holds.requests.form;
+  form = form_fewer w.setup w.clients (asked_begin_state w k).clients w.nodes (asked_begin_state w k).nodes (standing_asked_begin IsDrawnNow w k (λ is. is)) (at_work_asked_begin w k).placing holds.requests.form;
 }
 
 -- ---- the end of a request
@@ -144,7 +144,7 @@ leaves_over w h n s i held c new at has client becomes served work holds = recor
   accepted = standing_over IsAcceptedNow w.nodes n s i at;
   opened = work.opened;
   keys = keys_set w.clients h s new becomes.keys holds.requests.keys;
-  form = form_fewer w.setup w.clients (slice_set w.clients s new) work.placing holds.requests.form;
+  form = form_fewer w.setup w.clients (slice_set w.clients s new) w.nodes (slice_set w.nodes n (Some (without_request i s))) (standing_over IsDrawnNow w.nodes n s i at) work.placing holds.requests.form;
 }
 
 pub leaves_ended : (w : State) (h : List Item) (k : Ended w) → Holds w h → Leaves w h (ended_state w k).nodes (ended_state w k).clients

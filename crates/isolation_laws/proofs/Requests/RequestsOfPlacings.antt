@@ -1,5 +1,5 @@
 -- Sessions and requests where a session places its own commit, or finds that it never will be placed.
-use Rattle.std.proofs.Common.{◌≡◌, ℕ, List, ◌++◌, Option, inl, inr, refl, sym, ◌∙◌, subst}
+use Rattle.std.proofs.Common.{ℕ, List, ◌++◌, inl, inr, refl, sym, ◌∙◌, subst}
 use Rattle.history_book.specs.declared.item.Item.{Item}
 use Rattle.oracle_parts.specs.declared.instance.Progress.TheVariants as progress
 use Rattle.oracle_parts.specs.declared.instance.Request.TheVariants.{Commit}
@@ -13,7 +13,7 @@ use Rattle.isolation_laws.specs.Holds.{Holds}
 use Rattle.isolation_laws.proofs.OnceEach.{begun_once}
 use Rattle.isolation_laws.proofs.Outcome.OutcomesOfStamps.{answered_client}
 use Rattle.isolation_laws.proofs.Outcome.OutcomesOfPlacings.{AtPlacing, OwnPlaced, own_placed_state, own_placed_items, OwnNotPlaced, own_not_placed_state}
-use Rattle.isolation_laws.proofs.Numbers.Placings.{own_in_flight, own_placing}
+use Rattle.isolation_laws.proofs.Numbers.Placings.{is_placing_now, own_in_flight, own_placing}
 use Rattle.isolation_laws.proofs.Requests.ClientsOpen.{answered_rests}
 use Rattle.isolation_laws.proofs.Requests.OpenAfter.{at_work_own_placed, at_work_own_not_placed}
 use Rattle.isolation_laws.proofs.Requests.OtherCommits.{placing_holds_none, none_of_placed}
@@ -27,7 +27,7 @@ use Rattle.isolation_laws.proofs.Requests.RequestsKept.{Leaves, form_fewer}
 use Rattle.isolation_laws.proofs.Requests.RequestsOfClients.{leaves_idle}
 
 own_becomes : (w : State) (h : List Item) (it : AtPlacing w) (by : Settled) → Holds w h → Becomes h it.session it.c (answered_client by it.c it.commit)
-own_becomes w h it by holds = placing_becomes h it.session it.commit by it.c it.placing (keys_client w.clients h it.session it.c holds.requests.keys it.client_at)
+own_becomes w h it by holds = placing_becomes h it.session it.commit by it.c (is_placing_now w it) (keys_client w.clients h it.session it.c holds.requests.keys it.client_at)
 
 -- no settled commit is of its transaction
 own_not_settled : (w : State) (h : List Item) (it : AtPlacing w) (n s c : ℕ) (by : Settled) (i : InstanceEntry) → Holds w h → SettledAt w.nodes n s it.start c by i → ⊥
@@ -48,7 +48,7 @@ requests_own_placed w h k holds =
     let all : Places h g k.it.start k.it.commit = places h k.items k.it.start k.it.commit k.quiet in
     record {
       have_begun = have_on clients h (own_placed_items w k) (begun_kept w.clients h k.it.session k.it.c new k.it.client_at (own_becomes w h k.it k.by holds).begun holds.requests.have_begun);
-      requests = requests_idle w.nodes w.clients k.it.session k.it.c new k.it.c.entry.state k.it.client_at refl (placing_waits k.it.c.entry.state k.it.placing) holds.requests.requests;
+      requests = requests_idle w.nodes w.clients k.it.session k.it.c new k.it.c.entry.state k.it.client_at refl (placing_waits k.it.c.entry.state (is_placing_now w k.it)) holds.requests.requests;
       starting = starting_fewer w.nodes w.nodes h g (standing_same IsDrawnNow w.nodes) all.on (λ n s t r i at held begun. all.begun r t begun) holds.requests.starting;
       pending = pending_places w.clients clients w.nodes w.nodes h g k.it.start k.it.commit
           (none_of_placed w.clients w.nodes h (own_in_flight w k.it) new holds.isolated.stamped holds.requests.requests holds.requests.pending (own_placing w k.it) (answered_rests k.by k.it.c k.it.commit) (at_work_own_placed w k).placing)
@@ -60,8 +60,8 @@ requests_own_placed w h k holds =
       accepted = holds.requests.accepted;
       opened = open_fewer w.clients clients h g (at_work_own_placed w k).opened (λ s t e o drew. places_drawn h g k.it.start k.it.commit t all drew) holds.requests.opened;
       keys = own_keys w h g k all holds;
-      form = form_fewer w.setup w.clients clients (at_work_own_placed w k).placing holds.requests.form;
+      form = form_fewer w.setup w.clients clients w.nodes w.nodes (standing_same IsDrawnNow w.nodes) (at_work_own_placed w k).placing holds.requests.form;
     }
 
 pub leaves_own_not_placed : (w : State) (h : List Item) (k : OwnNotPlaced w) → Holds w h → Leaves w h w.nodes (own_not_placed_state w k).clients
-leaves_own_not_placed w h k holds = leaves_idle w h k.it.session k.it.c (answered_client k.by k.it.c k.it.commit) k.it.c.entry.state k.it.client_at refl (placing_waits k.it.c.entry.state k.it.placing) (own_becomes w h k.it k.by holds) (at_work_own_not_placed w k) holds
+leaves_own_not_placed w h k holds = leaves_idle w h k.it.session k.it.c (answered_client k.by k.it.c k.it.commit) k.it.c.entry.state k.it.client_at refl (placing_waits k.it.c.entry.state (is_placing_now w k.it)) (own_becomes w h k.it k.by holds) (at_work_own_not_placed w k) holds

@@ -15,8 +15,9 @@ use Rattle.isolation_laws.proofs.Requests.RequestsAfter.{requests_fewer}
 use Rattle.isolation_laws.proofs.Requests.Standing.{standing_settled, held_settled}
 use Rattle.isolation_laws.proofs.Numbers.NumbersKept.{in_flight_of, drawn_pending}
 use Rattle.isolation_laws.proofs.Requests.CommitsInFlight.{IsAcceptedNow, IsDrawnNow, SettledAt, SettledOne, settled_one, settled_on, are_settled, accepted_fewer, starting_fewer, open_fewer}
+use Rattle.isolation_laws.proofs.Requests.ClientsOpen.{same_at_work}
 use Rattle.isolation_laws.proofs.Requests.Silent.{Silent, silent_quiet}
-use Rattle.isolation_laws.proofs.Requests.RequestsKept.{have_silent, keys_silent, pending_silent, starting_silent, open_silent}
+use Rattle.isolation_laws.proofs.Requests.RequestsKept.{have_silent, keys_silent, pending_silent, starting_silent, open_silent, form_fewer}
 use Rattle.isolation_laws.proofs.Requests.SettledNow.{Places, places, places_drawn, pending_places, other_than, settled_other, settled_now, settled_here}
 
 -- ---- placed
@@ -55,7 +56,7 @@ requests_placed w h k holds =
       accepted = accepted_fewer w.nodes (placed_state w k).nodes (standing_settled IsAcceptedNow w k.it k.by (λ is. is)) holds.requests.accepted;
       opened = open_fewer w.clients w.clients h g (λ s t e o. o) (λ s t e o drew. places_drawn h g k.it.start k.it.commit t all drew) holds.requests.opened;
       keys = record { written = λ s t c at is start. holds.requests.keys.written s t c at is start ∙ sym (all.keys t); some = holds.requests.keys.some };
-      form = holds.requests.form;
+      form = form_fewer w.setup w.clients w.clients w.nodes (placed_state w k).nodes (standing_settled IsDrawnNow w k.it k.by (λ is. is)) (same_at_work w.clients).placing holds.requests.form;
     }
 
 -- ---- not placed
@@ -79,5 +80,5 @@ requests_not_placed w h k holds =
       accepted = accepted_fewer w.nodes (not_placed_state w k).nodes (standing_settled IsAcceptedNow w k.it k.by (λ is. is)) holds.requests.accepted;
       opened = open_silent w.clients w.clients h g silent (λ s t e o. o) holds.requests.opened;
       keys = keys_silent w.clients h g silent holds.requests.keys;
-      form = holds.requests.form;
+      form = form_fewer w.setup w.clients w.clients w.nodes (not_placed_state w k).nodes (standing_settled IsDrawnNow w k.it k.by (λ is. is)) (same_at_work w.clients).placing holds.requests.form;
     }

@@ -97,5 +97,5 @@ requests_wrote w h k holds =
       accepted = holds.requests.accepted;
       opened = open_fewer w.clients (wrote_state w k).clients h g (at_work_wrote w k).opened (λ s t e o drew. write_no_drawn h k.it.session k.start k.key k.value t drew) holds.requests.opened;
       keys = wrote_keys w h k holds;
-      form = form_fewer w.setup w.clients (wrote_state w k).clients (at_work_wrote w k).placing holds.requests.form;
+      form = form_fewer w.setup w.clients (wrote_state w k).clients w.nodes w.nodes (standing_same IsDrawnNow w.nodes) (at_work_wrote w k).placing holds.requests.form;
     }

@@ -10,7 +10,7 @@ use Rattle.oracle_parts.specs.declared.instance.Progress.TheVariants as progress
 use Rattle.oracle_parts.specs.declared.instance.Request.{Request}
 use Rattle.oracle_parts.specs.declared.instance.Request.TheVariants.{Commit}
 use Rattle.oracle_parts.specs.Instance.{InstanceEntry, unsettled_by}
-use Rattle.oracle_parts.specs.InstanceSteps.{without_request, instance_widened}
+use Rattle.oracle_parts.specs.InstanceSteps.{without_request, drawn_as, instance_widened}
 use Rattle.oracle_parts.specs.InstanceLaws.{IsNotBelow}
 use Rattle.oracle_parts.proofs.InstanceBegins.{none_waits}
 use Rattle.machine.specs.State.{Client, State}
@@ -24,7 +24,7 @@ use Rattle.isolation_laws.proofs.Outcome.OutcomesOfStamps.{Drew, drew_instance, 
 use Rattle.isolation_laws.proofs.Owners.{begun_below_last}
 use Rattle.isolation_laws.proofs.Requests.ClientsOpen.{FewerOpen}
 use Rattle.isolation_laws.proofs.Requests.OpenAfter.{open_answered_begin}
-use Rattle.isolation_laws.proofs.Requests.PendingAfter.{new_holds_none, drawn_same}
+use Rattle.isolation_laws.proofs.Requests.PendingAfter.{new_holds_none, drawn_as_stamp}
 use Rattle.isolation_laws.proofs.Numbers.NumbersKept.{drew_start}
 use Rattle.isolation_laws.proofs.Numbers.NumbersStay.{SameNumbers}
 use Rattle.isolation_laws.proofs.Reading.ReadersRely.{open_now_begun}
@@ -65,7 +65,7 @@ new_past w h k s b holds begun =
     let drew = holds.numbers.begun.drawn s b begun in
     record {
       last = (holds.numbers.drawn.counted s drew.0 drew.1 b None drew.2).2;
-      settled = λ r t c keys held. absurd (new_holds_none (granted (rules_of w.setup) w.master k.reading) k.node w.setup.buckets w.setup.width w.setup.slots r (Commit r t keys) (progress.Drawn c) held);
+      settled = λ r t c keys held. absurd (new_holds_none (granted (rules_of w.setup) w.master k.reading) k.node w.setup.buckets w.setup.width w.setup.slots w.setup.direct r (Commit r t keys) (progress.Drawn c) held);
     }
 
 granted_below : (w : State) (h : List Item) (k : Granted w) (failed : Bool) → Holds w h → AreSettledBelow w.clients w.nodes → AreSettledBelow w.clients (granted_nodes w k failed)
@@ -108,8 +108,8 @@ below_extended w h k holds was = extended_below w h k k.failed holds was
 drew_past : (w : State) (k : Drew w) (b : ℕ) → IsPast k.i b → IsPast (drew_instance w k) b
 drew_past w k b past = record {
   last = omega (arith, past.last);
-  settled = λ r t c keys held. elim (heldby_changed k.i k.session r (record k.held { progress = progress.Drawn (k.i.last + 1) }) (Commit r t keys) (progress.Drawn c) (record { held = held.held; has = held.has; asks = held.asks; stands = held.stands })) [
-    | inl now ↦ omega (arith, past.last, drawn_same (k.i.last + 1) c now.2)
+  settled = λ r t c keys held. elim (heldby_changed k.i k.session r (record k.held { progress = drawn_as k.i.direct k.held.request (k.i.last + 1) }) (Commit r t keys) (progress.Drawn c) (record { held = held.held; has = held.has; asks = held.asks; stands = held.stands })) [
+    | inl now ↦ omega (arith, past.last, drawn_as_stamp k.i.direct k.held.request (k.i.last + 1) c now.2)
     | inr old ↦ past.settled r t c keys old.1
   ];
 }
@@ -147,7 +147,7 @@ answered_past w h k holds = record {
 -- what an instance has drawn for a commit that it holds
 drawn_there : (w : State) (h : List Item) (n r t c : ℕ) (keys : List ℕ) (j : InstanceEntry) → Holds w h → InstanceAt w.nodes n j → HeldBy j r (Commit r t keys) (progress.Drawn c) → j.epoch < c
 drawn_there w h n r t c keys j holds at held =
-    (holds.numbers.drawn.same r n j.term t n (Some c) j (holds.requests.pending.here n r t c keys j at held) at refl).0
+    (holds.numbers.drawn.same r n j.term t n (Some c) j (holds.requests.pending.here n r t c keys (progress.Drawn c) j at held refl) at refl).0
 
 -- other instances end at or below the epoch, or begin above the start
 other_below : (w : State) (h : List Item) (k : AnsweredBegin w) (n : ℕ) (j : InstanceEntry) → Holds w h → n ≢ k.node → InstanceAt w.nodes n j → (j.ceiling ≤ k.i.epoch) ⊎ IsPast j k.start

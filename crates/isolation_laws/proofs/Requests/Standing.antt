@@ -10,7 +10,7 @@ use Rattle.oracle_parts.specs.declared.instance.Progress.TheVariants as progress
 use Rattle.oracle_parts.specs.declared.instance.Request.{Request}
 use Rattle.oracle_parts.specs.declared.instance.Request.TheVariants.{Begin, Commit}
 use Rattle.oracle_parts.specs.Instance.{InstanceEntry, with_request}
-use Rattle.oracle_parts.specs.InstanceSteps.{without_request, just_asked, instance_widened, instance_renewed}
+use Rattle.oracle_parts.specs.InstanceSteps.{without_request, drawn_as, just_asked, instance_widened, instance_renewed}
 use Rattle.machine.specs.State.{State}
 use Rattle.machine.specs.Events.Take.{rules_of, instance_of}
 use Rattle.isolation_laws.specs.Words.{InstanceAt, HeldBy}
@@ -20,7 +20,7 @@ use Rattle.isolation_laws.proofs.Outcome.OutcomesOfRecord.{AlikeNodes, Granted, 
 use Rattle.isolation_laws.proofs.Outcome.OutcomesOfRequests.{AskedBegin, asked_begin_state, AskedCommit, asked_commit_state, Accepted, accepted_state}
 use Rattle.isolation_laws.proofs.Outcome.OutcomesOfStamps.{Drew, drew_instance, drew_state, AtDrawn, settled_nodes}
 use Rattle.isolation_laws.proofs.Requests.RequestsAfter.{FewerHeld, held_changed, held_moved}
-use Rattle.isolation_laws.proofs.Requests.CommitsInFlight.{FewerStanding}
+use Rattle.isolation_laws.proofs.Requests.CommitsInFlight.{FewerStanding, IsSettledNow, IsAcceptedNow}
 
 -- ---- all as it was
 pub standing_same : (P : Progress → Type 0) (nodes : List (Option InstanceEntry)) → FewerStanding P nodes nodes
@@ -75,7 +75,7 @@ granted_standing : (P : Progress → Type 0) (w : State) (k : Granted w) (failed
 granted_standing P w k true = standing_same P w.nodes
 granted_standing P w k false = record {
   each = λ m s x request p is there held. elim (instance_changed w.nodes k.node m (instance_of w.setup k.node (granted (rules_of w.setup) w.master k.reading)) x there) [
-    | inl here ↦ absurd (new_holds_none (granted (rules_of w.setup) w.master k.reading) k.node w.setup.buckets w.setup.width w.setup.slots s request p (subst (λ (y : InstanceEntry). HeldBy y s request p) here.1 held))
+    | inl here ↦ absurd (new_holds_none (granted (rules_of w.setup) w.master k.reading) k.node w.setup.buckets w.setup.width w.setup.slots w.setup.direct s request p (subst (λ (y : InstanceEntry). HeldBy y s request p) here.1 held))
     | inr other ↦ (x, other.1, held, refl, refl, omega arith)
   ];
 }
@@ -87,7 +87,7 @@ granted_held : (w : State) (k : Granted w) (failed : Bool) → FewerHeld w.nodes
 granted_held w k true = held_same w.nodes
 granted_held w k false = record {
   each = λ m s x request p there held. elim (instance_changed w.nodes k.node m (instance_of w.setup k.node (granted (rules_of w.setup) w.master k.reading)) x there) [
-    | inl here ↦ absurd (new_holds_none (granted (rules_of w.setup) w.master k.reading) k.node w.setup.buckets w.setup.width w.setup.slots s request p (subst (λ (y : InstanceEntry). HeldBy y s request p) here.1 held))
+    | inl here ↦ absurd (new_holds_none (granted (rules_of w.setup) w.master k.reading) k.node w.setup.buckets w.setup.width w.setup.slots w.setup.direct s request p (subst (λ (y : InstanceEntry). HeldBy y s request p) here.1 held))
     | inr other ↦ (x, p, other.1, held)
   ];
 }
@@ -136,9 +136,20 @@ standing_accepted P w k other = standing_changed P w.nodes k.node k.i _ k.at ref
 pub standing_over : (P : Progress → Type 0) (nodes : List (Option InstanceEntry)) (n s : ℕ) (i : InstanceEntry) → InstanceAt nodes n i → FewerStanding P nodes (slice_set nodes n (Some (without_request i s)))
 standing_over P nodes n s i at = standing_changed P nodes n i (without_request i s) at refl refl (omega arith) (kept_over P i s)
 
-pub standing_drew : (P : Progress → Type 0) (w : State) (k : Drew w) → ((stamp : ℕ) → P (progress.Drawn stamp) → ⊥) → FewerStanding P w.nodes (drew_state w k).nodes
+-- what was drawn neither waits to be accepted nor to be drawn, and is not settled
+pub drawn_not_settled : (direct : Bool) (request : Request) (stamp : ℕ) → IsSettledNow (drawn_as direct request stamp) → ⊥
+drawn_not_settled true (Commit s t keys) stamp is = is
+drawn_not_settled true (Begin s) stamp is = is
+drawn_not_settled false request stamp is = is
+
+pub drawn_not_accepted : (direct : Bool) (request : Request) (stamp : ℕ) → IsAcceptedNow (drawn_as direct request stamp) → ⊥
+drawn_not_accepted true (Commit s t keys) stamp is = is
+drawn_not_accepted true (Begin s) stamp is = is
+drawn_not_accepted false request stamp is = is
+
+pub standing_drew : (P : Progress → Type 0) (w : State) (k : Drew w) → (P (drawn_as k.i.direct k.held.request (k.i.last + 1)) → ⊥) → FewerStanding P w.nodes (drew_state w k).nodes
 standing_drew P w k other = standing_changed P w.nodes k.node k.i (drew_instance w k) k.at refl refl (omega arith)
-    (λ s request p is h. kept_set P k.i k.session (record k.held { progress = progress.Drawn (k.i.last + 1) }) (other (k.i.last + 1)) s request p is (record { held = h.held; has = h.has; asks = h.asks; stands = h.stands }))
+    (λ s request p is h. kept_set P k.i k.session (record k.held { progress = drawn_as k.i.direct k.held.request (k.i.last + 1) }) other s request p is (record { held = h.held; has = h.has; asks = h.asks; stands = h.stands }))
 
 pub standing_settled : (P : Progress → Type 0) (w : State) (it : AtDrawn w) (by : Settled) → (P (progress.Settled it.commit by) → ⊥) → FewerStanding P w.nodes (settled_nodes w it by)
 standing_settled P w it by other = standing_changed P w.nodes it.node it.i _ it.at refl refl (omega arith) (kept_set P it.i it.session (record it.held { progress = progress.Settled it.commit by }) other)
@@ -148,7 +159,7 @@ pub held_accepted : (w : State) (k : Accepted w) → FewerHeld w.nodes (accepted
 held_accepted w k = held_changed w.nodes k.node k.i _ k.at (held_moved k.i k.session k.held (record k.held { progress = progress.Accepted }) k.has refl)
 
 pub held_drew : (w : State) (k : Drew w) → FewerHeld w.nodes (drew_state w k).nodes
-held_drew w k = held_changed w.nodes k.node k.i (drew_instance w k) k.at (λ s request p h. held_moved k.i k.session k.held (record k.held { progress = progress.Drawn (k.i.last + 1) }) k.has refl s request p (record { held = h.held; has = h.has; asks = h.asks; stands = h.stands }))
+held_drew w k = held_changed w.nodes k.node k.i (drew_instance w k) k.at (λ s request p h. held_moved k.i k.session k.held (record k.held { progress = drawn_as k.i.direct k.held.request (k.i.last + 1) }) k.has refl s request p (record { held = h.held; has = h.has; asks = h.asks; stands = h.stands }))
 
 pub held_settled : (w : State) (it : AtDrawn w) (by : Settled) → FewerHeld w.nodes (settled_nodes w it by)
 held_settled w it by = held_changed w.nodes it.node it.i _ it.at (held_moved it.i it.session it.held (record it.held { progress = progress.Settled it.commit by }) it.has refl)

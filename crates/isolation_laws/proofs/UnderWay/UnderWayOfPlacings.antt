@@ -1,16 +1,15 @@
 -- What is under way where a session places its own commit, or finds that it never will be placed.
-use Rattle.std.proofs.Common.{◌≡◌, ℕ, List, ◌++◌, ◌⊎◌, inl, inr, refl, sym, ◌∙◌, subst}
+use Rattle.std.proofs.Common.{ℕ, List, ◌++◌, inl, inr, refl, sym, ◌∙◌, subst}
 use Rattle.history_book.specs.Isolation.{Committed}
 use Rattle.history_book.specs.declared.item.Item.{Item}
 use Rattle.oracle_parts.specs.declared.instance.Settled.{Settled}
-use Rattle.oracle_parts.specs.declared.instance.Settled.TheVariants as how
-use Rattle.machine.specs.State.{Client, State}
+use Rattle.machine.specs.State.{State}
 use Rattle.isolation_laws.specs.UnderWay.{UnderWayFacts}
 use Rattle.isolation_laws.specs.Holds.{Holds}
 use Rattle.isolation_laws.proofs.Owners.{pending_unplaced}
 use Rattle.isolation_laws.proofs.Outcome.OutcomesOfStamps.{answered_client}
 use Rattle.isolation_laws.proofs.Outcome.OutcomesOfPlacings.{AtPlacing, OwnPlaced, own_placed_state, own_placed_items, OwnNotPlaced, own_not_placed_state}
-use Rattle.isolation_laws.proofs.Numbers.Placings.{own_in_flight, own_placing, by_its_session}
+use Rattle.isolation_laws.proofs.Numbers.Placings.{is_placing_now, own_in_flight, own_placing, by_its_session}
 use Rattle.isolation_laws.proofs.Requests.SettledNow.{Places, places}
 use Rattle.isolation_laws.proofs.Stores.Calm.{calm_quiet}
 use Rattle.isolation_laws.proofs.UnderWay.Works.{Works, work_set}
@@ -24,7 +23,7 @@ own_placed_works w h k holds =
     let all : Places h g k.it.start k.it.commit = places h k.items k.it.start k.it.commit k.quiet in
     elim k.by_is [
       | inl placed ↦ subst (λ (by : Settled). Works w.rows g (answered_client by k.it.c k.it.commit)) (sym placed)
-          (works_committed w.rows g k.it.c k.it.start k.it.commit k.it.start_is (holds.requests.keys.written k.it.session k.it.start k.it.c k.it.client_at (inr (inr (inr k.it.placing))) k.it.start_is ∙ sym (all.keys k.it.start)) all.here)
+          (works_committed w.rows g k.it.c k.it.start k.it.commit k.it.start_is (holds.requests.keys.written k.it.session k.it.start k.it.c k.it.client_at (inr (inr (inr (is_placing_now w k.it)))) k.it.start_is ∙ sym (all.keys k.it.start)) all.here)
       | inr faulted ↦ subst (λ (by : Settled). Works w.rows g (answered_client by k.it.c k.it.commit)) (sym faulted) (works_opened w.rows g k.it.c)
     ]
 

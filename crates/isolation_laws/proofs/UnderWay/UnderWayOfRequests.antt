@@ -18,7 +18,7 @@ use Rattle.oracle_parts.specs.declared.instance.Settled.{Settled}
 use Rattle.oracle_parts.specs.declared.instance.Settled.TheVariants as how
 use Rattle.oracle_parts.specs.Instance.{InstanceEntry, held_of, session_of}
 use Rattle.machine.specs.State.{Client, State}
-use Rattle.machine.specs.Clients.{client_begun, client_asked, client_freed, client_aborted, client_opened, unless_gone, after_refusal}
+use Rattle.machine.specs.Clients.{client_begun, client_asked, client_freed, client_aborted, client_opened, client_handed, unless_gone, after_refusal}
 use Rattle.machine.specs.Events.Crash.{after_loss}
 use Rattle.isolation_laws.specs.Words.{InstanceAt, ClientAt, Begun}
 use Rattle.isolation_laws.specs.Pending.{Waits, Taken, IsPending}
@@ -31,12 +31,12 @@ use Rattle.isolation_laws.proofs.Pushed.{last_write-quiet}
 use Rattle.isolation_laws.proofs.Owners.{NoneInFlight, not_in_flight, pending_unplaced}
 use Rattle.isolation_laws.proofs.Requests.OpenAfter.{crashed_at}
 use Rattle.isolation_laws.proofs.Outcome.OutcomesOfRequests.{Crashed, crashed_state, AskedBegin, asked_begin_state, asked_begin_items, AskedCommit, asked_commit_state, Ended, ended_state}
-use Rattle.isolation_laws.proofs.Outcome.OutcomesOfStamps.{AnsweredBegin, answered_begin_state, answered_begin_items, answered_client, AnsweredCommit, answered_commit_state}
+use Rattle.isolation_laws.proofs.Outcome.OutcomesOfStamps.{AnsweredBegin, answered_begin_state, answered_begin_items, answered_client, AnsweredCommit, answered_commit_state, HandedOver, handed_over_state}
 use Rattle.isolation_laws.proofs.Requests.SettledNow.{Places, places}
 use Rattle.isolation_laws.proofs.Stores.Calm.{Calm, calm_same, calm_quiet, calm_push, last_write-other}
 use Rattle.isolation_laws.proofs.Stores.CellsMove.{IsPlacing}
 use Rattle.isolation_laws.proofs.UnderWay.Works.{Works, AllWork, under_way, KeepsPlaced, works_on, sweeping_on}
-use Rattle.isolation_laws.proofs.UnderWay.ClientWorks.{works_freed, works_opened, works_begun, works_asked, works_aborted, works_committed, works_unless}
+use Rattle.isolation_laws.proofs.UnderWay.ClientWorks.{works_freed, works_opened, works_begun, works_asked, works_aborted, works_committed, works_handed, works_unless}
 use Rattle.isolation_laws.proofs.Stores.StoreMoves.{keeps_same}
 use Rattle.isolation_laws.proofs.UnderWay.SessionMoves.{completing_in_none, work_of, start_of, under_way_calm, under_way_client}
 use Rattle.isolation_laws.proofs.Requests.RequestsOfNodes.{waits_for}
@@ -132,6 +132,10 @@ answered_commit_works w h k holds =
 
 pub under_way_answered_commit : (w : State) (h : List Item) (k : AnsweredCommit w) → Holds w h → UnderWayFacts (answered_commit_state w k).clients w.sweep w.rows w.pairs (h ++ k.items)
 under_way_answered_commit w h k holds = under_way_client w h (h ++ k.items) k.session (unless_gone k.c (answered_client k.by k.c k.commit)) holds (calm_quiet h k.items k.quiet) (answered_commit_works w h k holds)
+
+pub under_way_handed : (w : State) (h : List Item) (k : HandedOver w) → Holds w h → UnderWayFacts (handed_over_state w k).clients w.sweep w.rows w.pairs (h ++ k.items)
+under_way_handed w h k holds = under_way_client w h (h ++ k.items) k.session (unless_gone k.c (client_handed k.c k.commit)) holds (calm_quiet h k.items k.quiet)
+    (works_unless w.rows h k.c (client_handed k.c k.commit) (work_of w h k.session k.c holds k.client_at) (λ here. works_handed w.rows h k.c k.commit))
 
 -- ---- a commit is placed
 pub is_placing : (h items : List Item) (t c : ℕ) → AllQuiet items → IsPlacing h (h ++ Placed t c ∷ items) t c
