@@ -1,1 +1,2 @@
 pub mod Recalls
+pub mod PlacedKept

@@ -5,7 +5,7 @@ use Rattle.history_book.specs.declared.item.Item.{Item}
 use Rattle.store_parts.specs.Pairs.{Places}
 use Rattle.oracle_parts.specs.declared.instance.Held.{Held}
 use Rattle.oracle_parts.specs.declared.instance.Progress.{Progress}
-use Rattle.oracle_parts.specs.declared.instance.Progress.TheVariants.{Accepted, Drawn, Settled}
+use Rattle.oracle_parts.specs.declared.instance.Progress.TheVariants.{Accepted, Drawn, Settled, Handed}
 use Rattle.oracle_parts.specs.declared.instance.Request.{Request}
 use Rattle.oracle_parts.specs.declared.instance.Request.TheVariants.{Begin, Commit}
 use Rattle.machine.specs.Events.Put.{to_place}
@@ -23,14 +23,15 @@ abbrev pub is_to_decide : Option Held → Bool
 is_to_decide None = false
 is_to_decide (Some held) = decides_at held.progress
 
--- it is a commit that was drawn, and waits for its record
+-- it is a commit that was drawn, and waits for its record, which the oracle places
 abbrev pub is_to_put : Option Held → Bool
 is_to_put held = is_some (to_place held)
 
--- it is a begin that was drawn or a commit that was settled, and waits for its answer
+-- it is a begin that was drawn, or a commit that was settled or is to be handed over, and waits for its answer
 abbrev pub answers_at : Request → Progress → Bool
 answers_at (Begin session) (Drawn start) = true
 answers_at (Commit session start keys) (Settled commit how) = true
+answers_at (Commit session start keys) (Handed commit) = true
 answers_at _ _ = false
 
 abbrev pub is_to_answer : Option Held → Bool

@@ -219,6 +219,15 @@ impl Client {
         self.heal = None;
     }
 
+    /// The commit is drawn, and the session is to place its record.
+    pub fn handed(&mut self, commit: Stamp)
+        requires { step.CanHand self.old.entry }
+        ensures { self.new ≡ left.client_handed self.old commit }
+    {
+        self.session.handed(commit);
+        self.rest();
+    }
+
     /// It is not known whether the commit was placed.
     pub fn opened(&mut self)
         requires { step.CanOpen self.old.entry }
@@ -262,6 +271,7 @@ impl Client {
         match reply {
             Reply::Begun { start, epoch } => self.begun(*start, *epoch),
             Reply::Committed { commit } => self.committed(*commit),
+            Reply::Handed { commit } => self.handed(*commit),
             Reply::Invalid => self.aborted(),
             Reply::Open => self.opened(),
         }

@@ -5,13 +5,13 @@ ghost use Rattle.client_parts.specs.KeyRead.{ReadTurn, next_of};
 ghost use Rattle.machine.specs.Effect as effect;
 ghost use Rattle.machine.specs.Events.Fetch.{read_items, found_of as found_item_of};
 ghost use Rattle.event_parts.specs.Made.{Makes, no_parts};
-ghost use Rattle.event_parts.specs.Kept.{made_items};
+ghost use Rattle.event_parts.specs.Kept.{made_items, placed_kept};
 
 use crate::Stopped;
 use history_book::{Actor, Book, Cause, Found, Item};
 use port_io::{Fate, Weather};
 use reader_resolve::Next;
-use stamp_base::{KeyNo, SessionNo, Stamp, Store, TxnId, Value};
+use stamp_base::{KeyNo, Mark, SessionNo, Stamp, Store, TxnId, Value};
 
 /// The actor is told why the event is refused, which changes nothing else.
 pub fn refuse(book: &mut Book, actor: Actor, cause: Cause) -> Result<(), Stopped>
@@ -64,6 +64,7 @@ pub fn tell_once(book: &mut Book, told: bool, actor: Actor, cause: Cause) -> Res
 pub fn fail(book: &mut Book, actor: Actor, store: Store, made: Option<Item>) -> Result<(), Stopped>
     requires { 2 ≤ book.old.room }
     ensures items { book.new.items ≡ book.old.items ++ made_items made ++ Item.Fault actor store ∷ [] }
+    ensures room { book.old.room ≤ book.new.room + 2 }
     ensures spare { book.new.spare ≡ book.old.spare }
     ensures answer { result ≡ Err (Stopped.StoreFault store) }
 {
@@ -91,6 +92,17 @@ pub fn fail_reserved(
     }
     book.append_reserved(Item::Fault { actor, store });
     Err(Stopped::StoreFault(store))
+}
+
+/// What a failed placing made all the same, by the entries that the commit table had for the transaction before the call and
+/// has now.
+pub fn placed_item(before: Option<Mark>, now: Option<Mark>, start: Stamp, commit: Stamp) -> Option<Item>
+    ensures { made_items result ≡ placed_kept before now start commit }
+{
+    match (before, now) {
+        (None, Some(_)) => Some(Item::Placed { start, commit }),
+        _ => None,
+    }
 }
 
 /// A read that has its answer is told.

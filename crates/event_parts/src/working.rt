@@ -1,6 +1,6 @@
 // How a client goes on with what it has under way: what it asks next, and what the answer makes of it.
 ghost use Rattle.std.specs.Prelude.{◌≡◌, ◌≤◌, ◌++◌, Bool, None, Some, IfSome, OnOk, OnErr};
-ghost use Rattle.client_parts.specs.SessionSteps.{IsAnswer, step_refusal, CanCommit};
+ghost use Rattle.client_parts.specs.SessionSteps.{IsAnswer, step_refusal, handed_by, handed_commit, CanCommit};
 ghost use Rattle.client_parts.specs.Asks.{FitsNext};
 ghost use Rattle.client_parts.specs.Sweep.{IsKeys};
 ghost use Rattle.client_parts.specs.Resolve.{Settling, SettleTurn, Decides, settle_by, outcome_of};
@@ -45,6 +45,14 @@ impl Client {
             UnderWay::Settles(settle) => Some(settle.next()),
             UnderWay::Completes(completion) => completion.next(),
         }
+    }
+
+    /// The start and the commit of the record that the session is to place, which comes before all else.
+    pub fn to_place(&self) -> Option<(Stamp, Stamp)>
+        ensures { result ≡ handed_commit self.now.entry }
+    {
+        let state = self.session.state();
+        handed_stamps(&state, self.session.start(), self.session.commit())
     }
 
     /// Before the step of a read, a fresh decision goes with those that are kept. Where memory is refused, all is as before.
@@ -185,6 +193,20 @@ impl Client {
                 tell_dead(book, session, start);
             }
         }
+    }
+}
+
+/// The stamps of a transaction that is to be placed.
+fn handed_stamps(
+    state: &State,
+    start: Option<Stamp>,
+    commit: Option<Stamp>,
+) -> Option<(Stamp, Stamp)>
+    ensures { result ≡ handed_by state.now start commit }
+{
+    match (state, start, commit) {
+        (State::Placing, Some(start), Some(commit)) => Some((start, commit)),
+        _ => None,
     }
 }
 

@@ -8,6 +8,7 @@ use Rattle.history_book.specs.declared.item.Actor.TheVariants.{Node, Session}
 use Rattle.history_book.specs.declared.item.Found.{Found}
 use Rattle.history_book.specs.declared.item.Item.{Item}
 use Rattle.history_book.specs.declared.item.Item.TheVariants as item
+use Rattle.history_lanes.specs.Bars.{is_of_session}
 
 abbrev pub draws_commit : ℕ → Item → Bool
 draws_commit stamp (item.Draw session node term start (Some commit)) = commit == stamp
@@ -35,11 +36,12 @@ abbrev pub marks : ℕ → Item → Bool
 marks t (item.Mark actor start) = start == t
 marks t _ = false
 
--- a node crashed, or its call on the commit table failed
-abbrev pub loses_outcomes : Item → Bool
-loses_outcomes (item.Crash node term) = true
-loses_outcomes (item.Fault (Node node) Table) = true
-loses_outcomes _ = false
+-- a node crashed, or its call on the commit table failed, or that of the session which is told: it may place its own commit
+abbrev pub loses_outcomes : Actor → Item → Bool
+loses_outcomes actor (item.Crash node term) = true
+loses_outcomes actor (item.Fault (Node node) Table) = true
+loses_outcomes actor (item.Fault (Session session) Table) = is_of_session session actor
+loses_outcomes actor _ = false
 
 abbrev pub crashes : ℕ → Item → Bool
 crashes n (item.Crash node term) = node == n
@@ -68,7 +70,7 @@ shows_cause actor (cause.Replaced found) x = takes_term found x
 shows_cause actor (cause.Spent ceiling) x = gives_ceiling ceiling x
 shows_cause actor (cause.NoStamp last) x = gives_ceiling last x
 shows_cause actor (cause.Invalid start) x = marks start x
-shows_cause actor (cause.Open start) x = loses_outcomes x
+shows_cause actor (cause.Open start) x = loses_outcomes actor x
 shows_cause actor (cause.Crashed node term) x = crashes_in node term x
 shows_cause actor (cause.NotYet commit) x = draws_commit commit x
 shows_cause actor (cause.NoOracle node) x = crashes node x

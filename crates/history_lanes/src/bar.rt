@@ -98,7 +98,7 @@ fn kind_of(how: Ending) -> BarKind
     }
 }
 
-fn is_of_session(own: SessionNo, actor: Actor) -> bool
+pub(crate) fn is_of_session(own: SessionNo, actor: Actor) -> bool
     ensures { result ≡ is_of_session own actor }
 {
     match actor {

@@ -2,6 +2,7 @@
 ghost use Rattle.std.specs.Prelude.{◌≡◌, Some};
 ghost use Rattle.history_lanes.specs.Shown.{crashes, crashes_in, draws_commit, gives_answer, gives_ceiling, gives_lease, is_shown_by, loses_outcomes, marks, session_vanishes, shows_cause, takes_epoch, takes_term, vanishes};
 
+use crate::bar::is_of_session;
 use history_book::{Actor, Cause, Found, Item};
 use stamp_base::{KeyNo, NodeNo, SessionNo, Stamp, Store, Term, TxnId};
 
@@ -48,7 +49,7 @@ fn shows_cause(actor: Actor, cause: Cause, earlier: &Item) -> bool
         Cause::Spent { ceiling } => gives_ceiling(ceiling, earlier),
         Cause::NoStamp { last } => gives_ceiling(last, earlier),
         Cause::Invalid { start } => marks(start, earlier),
-        Cause::Open { .. } => loses_outcomes(earlier),
+        Cause::Open { .. } => loses_outcomes(actor, earlier),
         Cause::Crashed { node, term } => crashes_in(node, term, earlier),
         Cause::NoOracle { node } => crashes(node, earlier),
         Cause::Gone => vanishes(actor, earlier),
@@ -115,9 +116,9 @@ fn marks(own: Stamp, earlier: &Item) -> bool
     }
 }
 
-/// Whether a node crashed, or its call on the commit table failed.
-fn loses_outcomes(earlier: &Item) -> bool
-    ensures { result ≡ loses_outcomes earlier.now }
+/// Whether a node crashed, or its call on the commit table failed, or that of the session which is told.
+fn loses_outcomes(told: Actor, earlier: &Item) -> bool
+    ensures { result ≡ loses_outcomes told earlier.now }
 {
     match *earlier {
         Item::Crash { .. } => true,
@@ -125,6 +126,10 @@ fn loses_outcomes(earlier: &Item) -> bool
             actor: Actor::Node(_),
             store: Store::Table,
         } => true,
+        Item::Fault {
+            actor: Actor::Session(session),
+            store: Store::Table,
+        } => is_of_session(session, told),
         _ => false,
     }
 }

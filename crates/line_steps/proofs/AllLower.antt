@@ -1,5 +1,5 @@
 -- Each event that the run of any line makes lowers what is left.
-use Rattle.std.proofs.Common.{◌≡◌, ◌<◌, is_some, List, Option, Some, None, refl, subst, arith}
+use Rattle.std.proofs.Common.{◌≡◌, ℕ, ◌+◌, ◌<◌, is_some, List, Option, Some, None, refl, subst, arith}
 use Rattle.std.proofs.lemmas.Option.{same_Some, none-some}
 use Rattle.port_io.specs.declared.weather.Fate.{Fate}
 use Rattle.history_book.specs.declared.item.Actor.TheVariants.{Clock, Node, Session, Janitor}
@@ -18,10 +18,10 @@ use Rattle.line_steps.specs.declared.point.Halt.{Halt}
 use Rattle.line_steps.specs.declared.point.Halt.TheVariants.{NoStamp, NotYet, Refused, Faulted}
 use Rattle.line_steps.specs.declared.point.Point.{Point}
 use Rattle.line_steps.specs.declared.point.Point.TheVariants.{Opens, Drives, Extends, Finishes, Reads, Steps, Over}
-use Rattle.line_steps.specs.Halts.{halt_of, unless_halted, after_write, after_serving, after_extending, after_opening, follows}
+use Rattle.line_steps.specs.Halts.{halt_of, unless_halted, after_write, after_serving, after_extending, after_stepping, after_opening, follows}
 use Rattle.line_steps.specs.Views.{view_of}
 use Rattle.line_steps.specs.Next.{opens_alone, sweep_next, janitor_opens, janitor_next}
-use Rattle.line_steps.specs.Left.{one_left, janitor_left}
+use Rattle.line_steps.specs.Left.{one_left, sweep_left, janitor_left}
 use Rattle.line_steps.specs.Laws.{EventsLowerWhatIsLeft}
 use Rattle.line_steps.proofs.Sweeping.{sweep_open_lowers, sweep_first, sweep_lowers}
 use Rattle.line_steps.proofs.Lowering.{session_lowers}
@@ -45,6 +45,13 @@ serving_none (Some NotYet) = refl
 serving_none (Some Refused) = refl
 serving_none (Some Faulted) = refl
 
+stepping_none : (halt : Option Halt) → one_left (after_stepping halt) ≡ 0
+stepping_none None = refl
+stepping_none (Some NoStamp) = refl
+stepping_none (Some NotYet) = refl
+stepping_none (Some Refused) = refl
+stepping_none (Some Faulted) = refl
+
 opened_once : (line : Verb) (halt : Option Halt) → one_left (after_opening line halt) ≡ 0
 opened_once (verb.Begin target) halt = unless_none Drives halt refl
 opened_once (verb.Commit target) halt = unless_none Drives halt refl
@@ -53,7 +60,7 @@ opened_once verb.Collect halt = serving_none halt
 opened_once (verb.Write key value) halt = write_none halt
 opened_once (verb.Read key) halt = unless_none Reads halt refl
 opened_once verb.Abort halt = unless_none Finishes halt refl
-opened_once verb.Finish halt = unless_none Steps halt refl
+opened_once verb.Finish halt = stepping_none halt
 opened_once (verb.Sweep node txn) halt = unless_none Steps halt refl
 opened_once _ halt = refl
 
@@ -70,7 +77,7 @@ followed_once line Drives halt = serving_none halt
 followed_once line Extends halt = extending_none halt
 followed_once line Finishes halt = unless_none Finishes halt refl
 followed_once line Reads halt = unless_none Reads halt refl
-followed_once line Steps halt = unless_none Steps halt refl
+followed_once line Steps halt = stepping_none halt
 followed_once line Over halt = refl
 
 -- ---- lines of one event
@@ -87,9 +94,17 @@ alone_lowers line Over halt first e is = absurd (none-some e is)
 abbrev JanitorLowers : State → Verb → Point → Event → Fate → Type 0
 JanitorLowers w line at e fate = janitor_left (stepped w e fate).state line (follows line at (halt_of (stepped w e fate).stop)) < janitor_left w line at
 
+-- a step of a sweep that stops ends the run
+ends_so : (w : State) (line : Verb) (halt : Option Halt) (bound : ℕ) → janitor_left w line (unless_halted Steps halt) < bound → janitor_left w line (after_stepping halt) < bound
+ends_so w line None bound less = less
+ends_so w line (Some NoStamp) bound less = less
+ends_so w line (Some NotYet) bound less = less
+ends_so w line (Some Refused) bound less = less
+ends_so w line (Some Faulted) bound less = less
+
 janitor_opened : (w : State) (h : List Item) (line : Verb) (fate : Fate) (e : Event) → Stands w h → janitor_opens line ≡ Some e → JanitorLowers w line Opens e fate
 janitor_opened w h (verb.Sweep node txn) fate e stands is = subst (λ (x : Event). JanitorLowers w (verb.Sweep node txn) Opens x fate) (same_Some (event.SweepOpen node txn) e is) (sweep_open_lowers w node txn (verb.Sweep node txn) fate)
-janitor_opened w h verb.Finish fate e stands is = subst (λ (x : Event). JanitorLowers w verb.Finish Opens x fate) (same_Some event.SweepStep e is) (sweep_first w h verb.Finish fate stands)
+janitor_opened w h verb.Finish fate e stands is = subst (λ (x : Event). JanitorLowers w verb.Finish Opens x fate) (same_Some event.SweepStep e is) (ends_so (stepped w event.SweepStep fate).state verb.Finish (halt_of (stepped w event.SweepStep fate).stop) (1 + sweep_left w.rows w.sweep) (sweep_first w h verb.Finish fate stands))
 janitor_opened w h (verb.OpenSweep node txn) fate e stands is = omega arith
 janitor_opened w h verb.Step fate e stands is = omega arith
 janitor_opened w h (verb.Post name) fate e stands is = omega arith
@@ -98,7 +113,7 @@ janitor_opened w h _ fate e stands is = absurd (none-some e is)
 
 swept_on : (w : State) (h : List Item) (line : Verb) (fate : Fate) (e : Event) → Stands w h → (sweep : Option Sweeping) → w.sweep ≡ sweep → sweep_next (is_some sweep) ≡ Some e → JanitorLowers w line Steps e fate
 swept_on w h line fate e stands None is go = absurd (none-some e go)
-swept_on w h line fate e stands (Some s) is go = subst (λ (x : Event). JanitorLowers w line Steps x fate) (same_Some event.SweepStep e go) (sweep_lowers w h line fate s stands is)
+swept_on w h line fate e stands (Some s) is go = subst (λ (x : Event). JanitorLowers w line Steps x fate) (same_Some event.SweepStep e go) (ends_so (stepped w event.SweepStep fate).state line (halt_of (stepped w event.SweepStep fate).stop) (sweep_left w.rows w.sweep) (sweep_lowers w h line fate s stands is))
 
 janitor_lowers : (w : State) (h : List Item) (line : Verb) (at : Point) (fate : Fate) (e : Event) → Stands w h → janitor_next line (view_of w Janitor) at ≡ Some e → JanitorLowers w line at e fate
 janitor_lowers w h line Opens fate e stands is = janitor_opened w h line fate e stands is

@@ -21,9 +21,9 @@ use Rattle.oracle_parts.specs.declared.instance.Settled.{Settled}
 use Rattle.oracle_parts.specs.declared.instance.Settled.TheVariants as how
 use Rattle.oracle_parts.specs.Instance.{stamps_by, stamps_of_held, least_unsettled}
 use Rattle.oracle_parts.specs.InstanceSteps.{InstanceStep, answer_begin, answer_if_ready, answer_held}
-use Rattle.machine.specs.Clients.{client_begun, client_committed, client_aborted, client_opened, unless_gone}
+use Rattle.machine.specs.Clients.{client_begun, client_handed, client_committed, client_aborted, client_opened, unless_gone}
 use Rattle.machine.specs.Events.Answer.{answer_by, answer_request, answer_on}
-use Rattle.line_steps.proofs.Clients.{heard_left, aborted_left, committed_left}
+use Rattle.line_steps.proofs.Clients.{heard_left, heard_settles, handed_left, aborted_left, committed_left}
 use Rattle.line_steps.proofs.Serving.{Lowers, Serving, left_to_drive, node_step, on_both, ends_so, is_over}
 
 -- the step by what the instance makes of the answer
@@ -47,7 +47,7 @@ begun w h node s verb k start None =
     let left : State = with_client (with_post w node (Some (with_request i s None))) s now in
     let full : drive_left w s ≡ 2 + client_ends k.c = left_to_drive w h s (node, place.Drawn) k in
     let less : client_ends k.c < drive_left w s = omega (arith, full) in
-    is_over w left h s (node, place.Drawn) k i now refl refl (heard_left k.c (client_begun k.c start i.epoch) (omega arith)) less
+    is_over w left h s (node, place.Drawn) k i now refl refl (heard_settles k.c (client_begun k.c start i.epoch) (omega arith)) less
 begun w h node s verb k start (Some commit) =
     let full : drive_left w s ≡ 2 + client_ends k.c = left_to_drive w h s (node, place.Drawn) k in
     omega (arith, full)
@@ -65,7 +65,7 @@ answered w h node s verb k asker start commit keys how.Placed =
     let left : State = with_client (with_post w node (Some (with_request i s None))) s now in
     let full : drive_left w s ≡ 1 + client_ends k.c = left_to_drive w h s (node, place.Settled) k in
     let less : client_ends k.c < drive_left w s = omega (arith, full) in
-    is_over w left h s (node, place.Settled) k i now refl refl (heard_left k.c (client_committed k.c commit) (committed_left k.c commit)) less
+    is_over w left h s (node, place.Settled) k i now refl refl (heard_settles k.c (client_committed k.c commit) (omega (arith, committed_left k.c commit))) less
 answered w h node s verb k asker start commit keys how.Invalid =
     let now : Client = unless_gone k.c (client_aborted k.c) in
     let full : drive_left w s ≡ 1 + client_ends k.c = left_to_drive w h s (node, place.Settled) k in
@@ -81,3 +81,18 @@ pub answer_commit_lowers : (w : State) (h : List Item) (node s : ℕ) (fate : Fa
 answer_commit_lowers w h node s fate verb k asker start commit keys by asks stands =
     let i : InstanceEntry = k.served.holder.i in
     subst (λ (step : Step). Lowers w s verb step) (sym (answer_is w node s fate i k.served.held k.c (Commit asker start keys) (progress.Settled commit by) start (Some commit) k.served.holder.at k.client_at k.served.holder.has asks stands refl)) (answered w h node s verb k asker start commit keys by)
+
+-- ---- a commit that its session is to place
+handed : (w : State) (h : List Item) (node s : ℕ) (verb : Verb) (k : Serving w h s (node, place.Settled)) (asker start commit : ℕ) (keys : List ℕ) → Lowers w s verb (node_step w node s (answer_effect node s start k.c k.served.holder.i (answer_if_ready k.served.holder.i s k.served.held (Commit asker start keys) (progress.Handed commit))))
+handed w h node s verb k asker start commit keys =
+    let i : InstanceEntry = k.served.holder.i in
+    let now : Client = unless_gone k.c (client_handed k.c commit) in
+    let left : State = with_client (with_post w node (Some (with_request i s None))) s now in
+    let full : drive_left w s ≡ 1 + client_ends k.c = left_to_drive w h s (node, place.Settled) k in
+    let less : client_ends k.c < drive_left w s = omega (arith, full) in
+    is_over w left h s (node, place.Settled) k i now refl refl (heard_settles k.c (client_handed k.c commit) (handed_left k.c commit)) less
+
+pub answer_handed_lowers : (w : State) (h : List Item) (node s : ℕ) (fate : Fate) (verb : Verb) (k : Serving w h s (node, place.Settled)) (asker start commit : ℕ) (keys : List ℕ) → k.served.held.request ≡ Commit asker start keys → k.served.held.progress ≡ progress.Handed commit → Lowers w s verb (stepped w (event.Answer node s) fate)
+answer_handed_lowers w h node s fate verb k asker start commit keys asks stands =
+    let i : InstanceEntry = k.served.holder.i in
+    subst (λ (step : Step). Lowers w s verb step) (sym (answer_is w node s fate i k.served.held k.c (Commit asker start keys) (progress.Handed commit) start (Some commit) k.served.holder.at k.client_at k.served.holder.has asks stands refl)) (handed w h node s verb k asker start commit keys)

@@ -4,14 +4,14 @@ use Rattle.std.specs.Prelude.{slice_get, slice_set, if◌then◌else◌}
 use Rattle.client_parts.specs.declared.session.State.{State as SessionState}
 use Rattle.client_parts.specs.declared.session.State.TheVariants as phase
 use Rattle.client_parts.specs.Completion.{finish_asks, undo_asks}
-use Rattle.client_parts.specs.SessionSteps.{has_key, key_added}
+use Rattle.client_parts.specs.SessionSteps.{has_key, key_added, aborted_by, handed_commit, SessionEntry}
 use Rattle.oracle_parts.specs.declared.instance.Request.{Request}
 use Rattle.oracle_parts.specs.declared.instance.Request.TheVariants.{Begin, Commit}
 use Rattle.machine.specs.State.{Client, State}
-use Rattle.machine.specs.Clients.{undo_of, finish_of, client_freed, client_aborted, client_committed, unless_gone, unless_gone_by, after_refusal}
+use Rattle.machine.specs.Clients.{undo_of, finish_of, client_freed, client_aborted, client_handed, client_committed, unless_gone, unless_gone_by, after_refusal}
 use Rattle.machine.specs.Machine.{Step, at_client}
 use Rattle.isolation_laws.proofs.Lookups.{set_found}
-use Rattle.line_steps.specs.Left.{asks_left, keys_of, of_client, client_completes, client_ends}
+use Rattle.line_steps.specs.Left.{asks_left, steps_due, keys_of, of_client, client_completes, client_ends, client_settles}
 
 -- ---- a client that is set is found
 pub client_now : (clients : List Client) (s : ℕ) (old now : Client) (f : Client → ℕ) → slice_get clients s ≡ Some old → of_client (slice_get (slice_set clients s now) s) f ≡ f now
@@ -54,6 +54,26 @@ aborted_left c = undo_left c.entry.start c.entry.keys
 pub committed_left : (c : Client) (commit : ℕ) → client_completes (client_committed c commit) ≤ keys_of c + 1
 committed_left c commit = finish_left c.entry.start commit c.entry.keys
 
+-- ---- how much a placing leaves, with what follows it
+due_most : (keys : ℕ) (due : Option (ℕ × ℕ)) (left : ℕ) → steps_due keys due left ≤ keys + 2 + left
+due_most keys None left = omega arith
+due_most keys (Some stamps) left = omega arith
+
+pub settles_most : (c : Client) → client_settles c ≤ client_ends c
+settles_most c = due_most (keys_of c) (handed_commit c.entry) (client_completes c)
+
+pub settles_within : (found : Option Client) → of_client found client_settles ≤ of_client found client_ends
+settles_within None = omega arith
+settles_within (Some c) = settles_most c
+
+pub handed_left : (c : Client) (commit : ℕ) → client_settles (client_handed c commit) ≤ keys_of c + 2
+handed_left c commit = omega (arith, due_most (keys_of c) (handed_commit (client_handed c commit).entry) 0)
+
+-- a client that has aborted has nothing to place
+pub aborted_unhanded : (e : SessionEntry) (keys : List ℕ) → handed_commit (aborted_by e keys) ≡ None
+aborted_unhanded e [] = refl
+aborted_unhanded e (k ∷ ks) = refl
+
 -- a session that has vanished hears nothing
 gone_left : (state : SessionState) (c now : Client) → client_completes now ≤ keys_of c + 1 → client_completes (unless_gone_by state c now) ≤ client_ends c
 gone_left phase.Gone c now less = omega arith
@@ -61,11 +81,25 @@ gone_left phase.Free c now less = omega (arith, less)
 gone_left phase.Asking c now less = omega (arith, less)
 gone_left phase.Open c now less = omega (arith, less)
 gone_left phase.Committing c now less = omega (arith, less)
+gone_left phase.Placing c now less = omega (arith, less)
 gone_left phase.OpenOutcome c now less = omega (arith, less)
 gone_left (phase.Completing undo) c now less = omega (arith, less)
 
 pub heard_left : (c now : Client) → client_completes now ≤ keys_of c + 1 → client_completes (unless_gone c now) ≤ client_ends c
 heard_left c now less = gone_left c.entry.state c now less
+
+gone_settles : (state : SessionState) (c now : Client) → client_settles now ≤ keys_of c + 2 → client_settles (unless_gone_by state c now) ≤ client_ends c
+gone_settles phase.Gone c now less = settles_most c
+gone_settles phase.Free c now less = omega (arith, less)
+gone_settles phase.Asking c now less = omega (arith, less)
+gone_settles phase.Open c now less = omega (arith, less)
+gone_settles phase.Committing c now less = omega (arith, less)
+gone_settles phase.Placing c now less = omega (arith, less)
+gone_settles phase.OpenOutcome c now less = omega (arith, less)
+gone_settles (phase.Completing undo) c now less = omega (arith, less)
+
+pub heard_settles : (c now : Client) → client_settles now ≤ keys_of c + 2 → client_settles (unless_gone c now) ≤ client_ends c
+heard_settles c now less = gone_settles c.entry.state c now less
 
 pub refused_left : (request : Request) (c : Client) → client_completes (after_refusal request c) ≤ client_ends c
 refused_left (Begin session) c = heard_left c (client_freed c) (omega arith)

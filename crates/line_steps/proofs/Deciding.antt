@@ -12,7 +12,9 @@ use Rattle.oracle_parts.specs.declared.instance.Held.{Held}
 use Rattle.oracle_parts.specs.declared.instance.Place.TheVariants as place
 use Rattle.oracle_parts.specs.declared.instance.Progress.{Progress}
 use Rattle.oracle_parts.specs.declared.instance.Progress.TheVariants as progress
-use Rattle.oracle_parts.specs.Instance.{InstanceEntry, held_of}
+use Rattle.oracle_parts.specs.declared.instance.Request.{Request}
+use Rattle.oracle_parts.specs.declared.instance.Request.TheVariants.{Begin, Commit}
+use Rattle.oracle_parts.specs.Instance.{InstanceEntry, held_of, place_of_progress}
 use Rattle.machine.specs.declared.event.Event.TheVariants as event
 use Rattle.machine.specs.State.{Client, State}
 use Rattle.machine.specs.Effect.{Effect}
@@ -23,7 +25,7 @@ use Rattle.isolation_laws.specs.Words.{InstanceAt, ClientAt}
 use Rattle.isolation_laws.proofs.Lookups.{set_found}
 use Rattle.line_steps.specs.Left.{of_client, client_completes, client_ends, lacks_stamps, place_left, drive_left}
 use Rattle.line_steps.proofs.Clients.{client_now, refused_left}
-use Rattle.oracle_parts.specs.InstanceSteps.{InstanceStep, IsStop, out_of_stamps, decide_drawn, decide_by as verdict_by}
+use Rattle.oracle_parts.specs.InstanceSteps.{InstanceStep, IsStop, out_of_stamps, drawn_as, decide_drawn, decide_by as verdict_by}
 use Rattle.machine.specs.Events.Decide.{both_verdict, both_if_accepted, both_held, decide_by, decide_request, decide_on}
 use Rattle.isolation_laws.specs.Sound.{StopOf}
 use Rattle.line_steps.proofs.Serving.{Lowers, Serving, left_to_drive, node_step, on_both, goes_on, ends_so}
@@ -54,14 +56,21 @@ decide_ends w h node s k =
     let less : client_ends k.c < drive_left w s = omega (arith, still w h s node k) in
     ends_so w (with_client w s now) s k.c now k.client_at refl (refused_left k.served.held.request k.c) less
 
+-- how far it has come once it is drawn
+drawn_most : (lacks direct : Bool) (request : Request) (stamp : ℕ) → place_left lacks (place_of_progress (drawn_as direct request stamp)) ≤ 2
+drawn_most lacks true (Begin session) stamp = omega arith
+drawn_most lacks true (Commit session start keys) stamp = omega arith
+drawn_most lacks false request stamp = omega arith
+
 -- it has its stamp
 drawn : (w : State) (h : List Item) (node s : ℕ) (verb : Verb) (k : Serving w h s (node, place.Accepted)) (stamp : ℕ) → Lowers w s verb (node_step w node s (decide_effect node s k.served.held k.c (decide_drawn k.served.holder.i s k.served.held stamp)))
 drawn w h node s verb k stamp =
     let i : InstanceEntry = k.served.holder.i in
     let now : InstanceEntry = (decide_drawn i s k.served.held stamp).left in
     let left : State = with_client (with_post w node (Some now)) s k.c in
-    let less : 2 + client_ends k.c < drive_left w s = omega (arith, still w h s node k) in
-    goes_on w left h s (node, place.Accepted) k i now (record k.served.held { progress = progress.Drawn stamp }) refl (set_found w.clients s k.c k.c k.client_at) refl less
+    let request : Request = k.served.held.request in
+    let less : place_left (lacks_stamps now) (place_of_progress (drawn_as i.direct request stamp)) + client_ends k.c < drive_left w s = omega (arith, drawn_most (lacks_stamps now) i.direct request stamp, still w h s node k) in
+    goes_on w left h s (node, place.Accepted) k i now (record k.served.held { progress = drawn_as i.direct request stamp }) refl (set_found w.clients s k.c k.c k.client_at) refl less
 
 -- no stamp is left, and no refusal is kept
 unstamped : (w : State) (h : List Item) (node s : ℕ) (verb : Verb) (k : Serving w h s (node, place.Accepted)) → (k.served.holder.i.last == k.served.holder.i.ceiling) ≡ true → k.served.holder.i.stop ≡ None → Lowers w s verb (node_step w node s (decide_effect node s k.served.held k.c (out_of_stamps k.served.holder.i s k.served.held None)))

@@ -1,5 +1,5 @@
 -- What a session is doing tells of its state and of its next event.
-use Rattle.std.proofs.Common.{◌≡◌, ℕ, Bool, true, false, cond, Option, Some, None, inl, inr, refl, sym, ◌∙◌, ap}
+use Rattle.std.proofs.Common.{◌≡◌, ◌⊎◌, ℕ, Bool, true, false, cond, Option, Some, None, inl, inr, refl, sym, ◌∙◌, ap}
 use Rattle.std.proofs.lemmas.Option.{same_Some, none-some}
 use Rattle.port_io.specs.declared.weather.Fate.{Fate}
 use Rattle.history_book.specs.declared.cause.Cause.{Cause}
@@ -7,7 +7,7 @@ use Rattle.history_book.specs.declared.cause.Cause.TheVariants as cause
 use Rattle.history_book.specs.declared.item.Actor.TheVariants.{Session}
 use Rattle.client_parts.specs.declared.session.State.{State as SessionState}
 use Rattle.client_parts.specs.declared.session.State.TheVariants as phase
-use Rattle.client_parts.specs.SessionSteps.{step_refusal}
+use Rattle.client_parts.specs.SessionSteps.{step_refusal, handed_by}
 use Rattle.machine.specs.declared.event.Doing.{Doing}
 use Rattle.machine.specs.declared.event.Event.{Event}
 use Rattle.machine.specs.declared.event.Event.TheVariants as event
@@ -17,7 +17,7 @@ use Rattle.machine.specs.Machine.{at_client, stepped}
 use Rattle.machine.specs.Events.Step.{step_on, step_by as step_unless}
 use Rattle.machine.specs.Readers.{open_doing, doing_by, client_doing}
 use Rattle.isolation_laws.specs.Words.{ClientAt}
-use Rattle.line_steps.specs.Next.{finish_next, idle_next, read_next, steps_next}
+use Rattle.line_steps.specs.Next.{finish_next, placing_next, idle_next, read_next, steps_next}
 use Rattle.machine.specs.Clients.{is_reading_by}
 use Rattle.machine.specs.Effect.{refused}
 use Rattle.machine.specs.declared.event.Doing.TheVariants as doing
@@ -40,8 +40,27 @@ finishing_by s phase.Asking reading e is = absurd (none-some e is)
 finishing_by s phase.Open true e is = absurd (none-some e is)
 finishing_by s phase.Open false e is = absurd (none-some e is)
 finishing_by s phase.Committing reading e is = absurd (none-some e is)
+finishing_by s phase.Placing reading e is = absurd (none-some e is)
 finishing_by s phase.OpenOutcome reading e is = absurd (none-some e is)
 finishing_by s phase.Gone reading e is = absurd (none-some e is)
+
+-- it has a commit to place
+pub record Placing (s : ℕ) (state : SessionState) (e : Event) : Type 0 where
+  pub event_is : event.Step s ≡ e
+  pub state_is : state ≡ phase.Placing
+
+-- it places its commit, or completes
+pub placing_by : (s : ℕ) (state : SessionState) (reading placed : Bool) (e : Event) → placing_next s (doing_by state reading) placed ≡ Some e → Placing s state e ⊎ Finishing s state e
+placing_by s phase.Placing reading true e is = inl (record { event_is = same_Some (event.Step s) e is; state_is = refl })
+placing_by s phase.Placing reading false e is = absurd (none-some e is)
+placing_by s (phase.Completing undo) reading placed e is = inr (finishing_by s (phase.Completing undo) reading e is)
+placing_by s phase.Free reading placed e is = absurd (none-some e is)
+placing_by s phase.Asking reading placed e is = absurd (none-some e is)
+placing_by s phase.Open true placed e is = absurd (none-some e is)
+placing_by s phase.Open false placed e is = absurd (none-some e is)
+placing_by s phase.Committing reading placed e is = absurd (none-some e is)
+placing_by s phase.OpenOutcome reading placed e is = absurd (none-some e is)
+placing_by s phase.Gone reading placed e is = absurd (none-some e is)
 
 -- it has something under way
 pub record Stepping (s : ℕ) (state : SessionState) (reading : Bool) (e : Event) : Type 0 where
@@ -50,6 +69,7 @@ pub record Stepping (s : ℕ) (state : SessionState) (reading : Bool) (e : Event
 
 pub stepping_by : (s : ℕ) (state : SessionState) (reading : Bool) (e : Event) → steps_next s (doing_by state reading) ≡ Some e → Stepping s state reading e
 stepping_by s phase.Open true e is = record { event_is = same_Some (event.Step s) e is; goes = refl }
+stepping_by s phase.Placing reading e is = record { event_is = same_Some (event.Step s) e is; goes = refl }
 stepping_by s phase.OpenOutcome reading e is = record { event_is = same_Some (event.Step s) e is; goes = refl }
 stepping_by s (phase.Completing undo) reading e is = record { event_is = same_Some (event.Step s) e is; goes = refl }
 stepping_by s phase.Free reading e is = absurd (none-some e is)
@@ -70,6 +90,7 @@ reading_by s phase.Free reading e is = absurd (none-some e is)
 reading_by s phase.Asking reading e is = absurd (none-some e is)
 reading_by s phase.Open false e is = absurd (none-some e is)
 reading_by s phase.Committing reading e is = absurd (none-some e is)
+reading_by s phase.Placing reading e is = absurd (none-some e is)
 reading_by s phase.OpenOutcome reading e is = absurd (none-some e is)
 reading_by s (phase.Completing undo) reading e is = absurd (none-some e is)
 reading_by s phase.Gone reading e is = absurd (none-some e is)
@@ -81,6 +102,7 @@ idling_by s doing.Gone e is = same_Some (event.Step s) e is
 idling_by s doing.Open e is = same_Some (event.Step s) e is
 idling_by s doing.Waiting e is = absurd (none-some e is)
 idling_by s doing.Reading e is = absurd (none-some e is)
+idling_by s doing.Placing e is = absurd (none-some e is)
 idling_by s doing.OpenOutcome e is = absurd (none-some e is)
 idling_by s doing.Completing e is = absurd (none-some e is)
 
@@ -92,9 +114,12 @@ not_idle s c e (inl k) is =
 not_idle s c e (inr (inl k)) is =
     let resolves : client_doing c ≡ doing.OpenOutcome = ap (λ (state : SessionState). doing_by state (is_reading c)) k.is_open in
     none-some e (ap (λ (now : Doing). idle_next s now) (sym resolves) ∙ is)
-not_idle s c e (inr (inr k)) is =
+not_idle s c e (inr (inr (inl k))) is =
     let ends : client_doing c ≡ doing.Completing = ap (λ (state : SessionState). doing_by state (is_reading c)) k.completing in
     none-some e (ap (λ (now : Doing). idle_next s now) (sym ends) ∙ is)
+not_idle s c e (inr (inr (inr k))) is =
+    let places : client_doing c ≡ doing.Placing = ap (λ (state : SessionState). doing_by state (is_reading c)) k.placing in
+    none-some e (ap (λ (now : Doing). idle_next s now) (sym places) ∙ is)
 
 -- ---- a step that is refused
 -- a refused step ends the run
@@ -109,9 +134,21 @@ by_reading false why is = ap refused_by (sym (same_Some cause.Idle why is))
 
 pub plainly_refused : (state : SessionState) (reading : Bool) (why : Cause) → step_refusal state reading ≡ Some why → refused_by why ≡ Refused
 plainly_refused phase.Gone reading why is = ap refused_by (sym (same_Some cause.Gone why is))
+plainly_refused phase.Placing reading why is = absurd (none-some why is)
 plainly_refused phase.OpenOutcome reading why is = absurd (none-some why is)
 plainly_refused (phase.Completing undo) reading why is = absurd (none-some why is)
 plainly_refused phase.Free reading why is = by_reading reading why is
 plainly_refused phase.Asking reading why is = by_reading reading why is
 plainly_refused phase.Open reading why is = by_reading reading why is
 plainly_refused phase.Committing reading why is = by_reading reading why is
+
+-- and it was of no placing
+pub refused_unhanded : (state : SessionState) (reading : Bool) (start commit : Option ℕ) (why : Cause) → step_refusal state reading ≡ Some why → handed_by state start commit ≡ None
+refused_unhanded phase.Placing reading start commit why is = absurd (none-some why is)
+refused_unhanded phase.Gone reading start commit why is = refl
+refused_unhanded phase.OpenOutcome reading start commit why is = refl
+refused_unhanded (phase.Completing undo) reading start commit why is = refl
+refused_unhanded phase.Free reading start commit why is = refl
+refused_unhanded phase.Asking reading start commit why is = refl
+refused_unhanded phase.Open reading start commit why is = refl
+refused_unhanded phase.Committing reading start commit why is = refl

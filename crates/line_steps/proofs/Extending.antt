@@ -27,7 +27,8 @@ use Rattle.machine.specs.Events.Extend.{extend_by, extend_on}
 use Rattle.machine.specs.Events.Take.{rules_of}
 use Rattle.script_data.specs.declared.line.Verb.{Verb}
 use Rattle.line_steps.specs.Halts.{halt_of, after_extending}
-use Rattle.line_steps.specs.Left.{of_client, client_completes, client_ends, lacks_stamps, place_left, drive_left, session_left}
+use Rattle.line_steps.specs.Left.{of_client, client_settles, client_ends, lacks_stamps, place_left, drive_left, session_left}
+use Rattle.line_steps.proofs.Clients.{settles_within}
 use Rattle.line_steps.proofs.Holders.{drives_on}
 use Rattle.line_steps.proofs.Serving.{Serving, serving_changed}
 
@@ -49,10 +50,7 @@ can_decide w h node s k now master requests enough =
     let same : k.served.held ≡ other = same_Some k.served.held other (sym k.served.holder.has ∙ there) in
     let at : place_of_progress other.progress ≡ place.Accepted = ap (λ (x : Held). place_of_progress x.progress) (sym same) ∙ k.served.place_is in
     let three : place_left (lacks_stamps now) (place_of_progress other.progress) ≡ 3 = ap (λ (lacks : Bool). place_left lacks (place_of_progress other.progress)) enough ∙ ap (λ (p : Place). place_left false p) at in
-    omega (arith, three)) (completes_less (slice_get w.clients s)) where
-      completes_less : (found : Option Client) → of_client found client_completes < 4 + of_client found client_ends
-      completes_less None = omega arith
-      completes_less (Some c) = omega arith
+    omega (arith, three)) (omega (arith, settles_within (slice_get w.clients s)))
 
 -- a range that was added is not used up
 widened_enough : (w : State) (h : List Item) (node s : ℕ) (k : Serving w h s (node, place.Accepted)) → lacks_stamps (instance_widened k.served.holder.i (w.master.ceiling + w.setup.range)) ≡ false

@@ -97,6 +97,7 @@ done_by w s key fate c phase.Open false start epoch at is has sees = room_done w
 done_by w s key fate c phase.Free reading start epoch at is has sees = inl (refusal_line s key _ tt)
 done_by w s key fate c phase.Asking reading start epoch at is has sees = inl (refusal_line s key _ tt)
 done_by w s key fate c phase.Committing reading start epoch at is has sees = inl (refusal_line s key _ tt)
+done_by w s key fate c phase.Placing reading start epoch at is has sees = inl (refusal_line s key _ tt)
 done_by w s key fate c phase.OpenOutcome reading start epoch at is has sees = inl (refusal_line s key _ tt)
 done_by w s key fate c (phase.Completing undo) reading start epoch at is has sees = inl (refusal_line s key _ tt)
 done_by w s key fate c phase.Gone reading start epoch at is has sees = inl (refusal_line s key _ tt)

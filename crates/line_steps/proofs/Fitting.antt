@@ -17,7 +17,7 @@ use Rattle.oracle_parts.specs.declared.instance.Request.TheVariants.{Begin, Comm
 use Rattle.oracle_parts.specs.Instance.{InstanceEntry, held_of, stamps_at}
 use Rattle.oracle_parts.specs.InstanceSteps.{InstanceStep, instance_ask, instance_accept, instance_answer}
 use Rattle.machine.specs.State.{Client}
-use Rattle.machine.specs.Clients.{is_reading, client_begun, client_freed, client_aborted, client_committed, client_opened, unless_gone, unless_gone_by, after_refusal}
+use Rattle.machine.specs.Clients.{is_reading, client_begun, client_freed, client_aborted, client_handed, client_committed, client_opened, unless_gone, unless_gone_by, after_refusal}
 use Rattle.machine.specs.Events.AskBegin.{asked_by, ask_begin_by, ask_begin_on}
 use Rattle.machine.specs.Events.AskCommit.{commit_of, ask_commit_by, ask_commit_on}
 use Rattle.machine.specs.Events.Accept.{accept_by, accept_request, accept_on}
@@ -55,6 +55,7 @@ asked_fits phase.Free epoch = tt
 asked_fits phase.Asking epoch = tt
 asked_fits phase.Open epoch = tt
 asked_fits phase.Committing epoch = tt
+asked_fits phase.Placing epoch = tt
 asked_fits phase.OpenOutcome epoch = tt
 asked_fits (phase.Completing undo) epoch = tt
 asked_fits phase.Gone epoch = tt
@@ -72,6 +73,7 @@ heard_by phase.Free old now fit fits = fits
 heard_by phase.Asking old now fit fits = fits
 heard_by phase.Open old now fit fits = fits
 heard_by phase.Committing old now fit fits = fits
+heard_by phase.Placing old now fit fits = fits
 heard_by phase.OpenOutcome old now fit fits = fits
 heard_by (phase.Completing undo) old now fit fits = fits
 
@@ -139,6 +141,7 @@ decide_fits node s (Some i) c fit = decide_fits_held node s i c (held_of i s) fi
 answer_fits_by : (node s start : ℕ) (c : Client) (i left : InstanceEntry) (answer : Result Reply Cause) → ClientFits c → ClientFits (answer_by node s start c i left answer).parts.1
 answer_fits_by node s start c i left (Ok (reply.Begun begun epoch)) fit = heard_fits c (client_begun c begun epoch) fit tt
 answer_fits_by node s start c i left (Ok (reply.Committed commit)) fit = heard_fits c (client_committed c commit) fit tt
+answer_fits_by node s start c i left (Ok (reply.Handed commit)) fit = heard_fits c (client_handed c commit) fit tt
 answer_fits_by node s start c i left (Ok reply.Invalid) fit = heard_fits c (client_aborted c) fit (aborted_fits c)
 answer_fits_by node s start c i left (Ok reply.Open) fit = heard_fits c (client_opened c) fit tt
 answer_fits_by node s start c i left (Err (cause.NotYet commit)) fit = fit

@@ -1,20 +1,23 @@
 -- A session's own events keep that an open transaction has an epoch.
 use Rattle.std.proofs.Common.{ℕ, List, [], ◌∷◌, Option, Some, None}
 use Rattle.stamp_base.specs.SetupNumbers.{SetupNumbers}
+use Rattle.stamp_base.specs.declared.stores.Mark.{Mark}
 use Rattle.port_io.specs.declared.weather.Fate.{Fate}
 use Rattle.port_io.specs.declared.weather.Fate.TheVariants.{Works, FailsUnchanged, FailsApplied}
 use Rattle.history_book.specs.declared.cause.Cause.{Cause}
 use Rattle.store_parts.specs.Rows.{Row, fetched}
-use Rattle.store_parts.specs.Pairs.{Pairs}
+use Rattle.store_parts.specs.Pairs.{Pairs, mark_of}
 use Rattle.client_parts.specs.declared.asks.Ask.{Ask}
 use Rattle.client_parts.specs.declared.resolve.Outcome.TheVariants as outcome
+use Rattle.client_parts.specs.SessionSteps.{handed_commit}
 use Rattle.client_parts.specs.Resolve.{Settling, SettleTurn, Goes, Decides, settle_turn}
 use Rattle.client_parts.specs.KeyRead.{ReadTurn, Asks, Answers}
 use Rattle.client_parts.specs.Recalled.{Remembering}
 use Rattle.machine.specs.State.{UnderWay, Nothing, Reads, Settles, Completes, Client}
 use Rattle.machine.specs.Events.Write.{client_wrote, write_open}
 use Rattle.machine.specs.Events.Fetch.{fetch_recall, client_put_fresh, client_recalled, client_fetched, client_read, fetch_open}
-use Rattle.machine.specs.Events.Step.{step_recall, client_settled, after_asks, work_of, step_at, step_by}
+use Rattle.machine.specs.Events.Place.{place_by}
+use Rattle.machine.specs.Events.Step.{step_recall, client_settled, after_asks, work_of, step_at, step_due, step_by}
 use Rattle.machine.specs.Events.Heal.{heal_at}
 use Rattle.machine.specs.Events.Abort.{abort_by}
 use Rattle.machine.specs.Events.Vanish.{vanish_by}
@@ -64,9 +67,19 @@ work_fits s Works c rows pairs (Completes (asked ∷ asks)) fit = asks_fit c ask
 work_fits s FailsUnchanged c rows pairs (Completes (asked ∷ asks)) fit = tt
 work_fits s FailsApplied c rows pairs (Completes (asked ∷ asks)) fit = tt
 
+place_fits : (s start commit : ℕ) (fate : Fate) (found : Option Mark) (c : Client) (pairs : Pairs) → ClientFits (place_by s start commit fate found c pairs).parts.0
+place_fits s start commit Works None c pairs = tt
+place_fits s start commit Works (Some mark) c pairs = aborted_fits c
+place_fits s start commit FailsUnchanged found c pairs = tt
+place_fits s start commit FailsApplied found c pairs = tt
+
+due_fits : (s : ℕ) (fate : Fate) (c : Client) (rows : List Row) (pairs : Pairs) (due : Option (ℕ × ℕ)) → ClientFits c → ClientFits (step_due s fate c rows pairs due).parts.0
+due_fits s fate c rows pairs None fit = work_fits s fate c rows pairs (work_of c) fit
+due_fits s fate c rows pairs (Some stamps) fit = place_fits s stamps.0 stamps.1 fate (mark_of pairs stamps.0) c _
+
 pub step_fits : (s : ℕ) (fate : Fate) (c : Client) (rows : List Row) (pairs : Pairs) (why : Option Cause) → ClientFits c → ClientFits (step_by s fate c rows pairs why).parts.0
 step_fits s fate c rows pairs (Some why) fit = fit
-step_fits s fate c rows pairs None fit = work_fits s fate c rows pairs (work_of c) fit
+step_fits s fate c rows pairs None fit = due_fits s fate c rows pairs (handed_commit c.entry) fit
 
 pub heal_fits : (s : ℕ) (fate : Fate) (c : Client) (rows : List Row) (pairs : Pairs) (offer : Option (ℕ × ℕ × ℕ)) → ClientFits c → ClientFits (heal_at s fate c rows pairs offer).parts.0
 heal_fits s fate c rows pairs None fit = fit

@@ -11,7 +11,7 @@ use Rattle.machine.specs.Readers.{held_at, first_holder, holder_from, holder_of,
 use Rattle.isolation_laws.specs.Words.{InstanceAt}
 use Rattle.isolation_laws.specs.Sound.{Stands}
 use Rattle.isolation_laws.proofs.Lookups.{set_found, instance_changed, held_by}
-use Rattle.line_steps.specs.Left.{of_client, client_completes, client_ends, lacks_stamps, lacks_at, place_left, request_left, drive_left_by, drive_left}
+use Rattle.line_steps.specs.Left.{of_client, client_settles, client_ends, lacks_stamps, lacks_at, place_left, request_left, drive_left_by, drive_left}
 
 -- the node has an instance that holds this request of the session
 pub record Holder (nodes : List (Option InstanceEntry)) (node s : ℕ) (held : Held) : Type 0 where
@@ -86,15 +86,15 @@ holder_now w left h node s now found k is =
       | inr other ↦ absurd (other.0 (sym (k.stands.holds.requests.requests.one node found.0 s k.holder.i there.i k.held.request found.1.request k.held.progress found.1.progress k.holder.at other.1 (held_by k.holder.i s k.held k.holder.has) (held_by there.i s found.1 there.has))))
     ]
 
--- what is left to drive is less than a bound, where it is for the request that the instance holds now, and for a completion
-drives_by : (w left : State) (h : List Item) (node s : ℕ) (now : InstanceEntry) (bound : ℕ) → Changed w left h node s now → ((held : Held) → held_of now s ≡ Some held → place_left (lacks_stamps now) (place_of_progress held.progress) + of_client (slice_get left.clients s) client_ends < bound) → of_client (slice_get left.clients s) client_completes < bound → (found : Option (ℕ × Held)) → holder_of left s ≡ found → drive_left_by left (slice_get left.clients s) (place_held found) < bound
+-- what is left to drive is less than a bound, where it is for the request that the instance holds now, and for what follows it
+drives_by : (w left : State) (h : List Item) (node s : ℕ) (now : InstanceEntry) (bound : ℕ) → Changed w left h node s now → ((held : Held) → held_of now s ≡ Some held → place_left (lacks_stamps now) (place_of_progress held.progress) + of_client (slice_get left.clients s) client_ends < bound) → of_client (slice_get left.clients s) client_settles < bound → (found : Option (ℕ × Held)) → holder_of left s ≡ found → drive_left_by left (slice_get left.clients s) (place_held found) < bound
 drives_by w left h node s now bound k held_less less None is = less
 drives_by w left h node s now bound k held_less less (Some found) is =
     let here : (found.0 ≡ node) × (held_of now s ≡ Some found.1) = holder_now w left h node s now found k is in
     let set : slice_get left.nodes found.0 ≡ Some (Some now) = ap (λ (nodes : List (Option InstanceEntry)). slice_get nodes found.0) k.nodes ∙ ap (λ (n : ℕ). slice_get (slice_set w.nodes node (Some now)) n) here.0 ∙ set_found w.nodes node (Some now) (Some k.holder.i) k.holder.at in
     subst (λ (post : Option (Option InstanceEntry)). place_left (lacks_at post) (place_of_progress found.1.progress) + of_client (slice_get left.clients s) client_ends < bound) (sym set) (held_less found.1 here.1)
 
-pub drives_on : (w left : State) (h : List Item) (node s : ℕ) (now : InstanceEntry) (bound : ℕ) → Changed w left h node s now → ((held : Held) → held_of now s ≡ Some held → place_left (lacks_stamps now) (place_of_progress held.progress) + of_client (slice_get left.clients s) client_ends < bound) → of_client (slice_get left.clients s) client_completes < bound → drive_left left s < bound
+pub drives_on : (w left : State) (h : List Item) (node s : ℕ) (now : InstanceEntry) (bound : ℕ) → Changed w left h node s now → ((held : Held) → held_of now s ≡ Some held → place_left (lacks_stamps now) (place_of_progress held.progress) + of_client (slice_get left.clients s) client_ends < bound) → of_client (slice_get left.clients s) client_settles < bound → drive_left left s < bound
 drives_on w left h node s now bound k held_less less = drives_by w left h node s now bound k held_less less (holder_of left s) refl
 
 -- what is left of a request that stands somewhere

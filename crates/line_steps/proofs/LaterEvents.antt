@@ -12,7 +12,7 @@ use Rattle.script_data.specs.declared.line.Verb.TheVariants as verb
 use Rattle.line_steps.specs.declared.point.Point.{Point}
 use Rattle.line_steps.specs.declared.point.Point.TheVariants.{Opens, Drives, Extends, Finishes, Reads, Steps, Over}
 use Rattle.line_steps.specs.declared.point.View.{View}
-use Rattle.line_steps.specs.Next.{Clocks, serves, is_served, finish_next, drive_next, extend_by, extend_next, idle_next, collect_next, read_next, steps_next, sweep_next, clock_opens, node_opens, session_opens, janitor_opens, session_next, janitor_next, opens_alone, next}
+use Rattle.line_steps.specs.Next.{Clocks, serves, is_served, finish_next, places, placing_next, drive_next, extend_by, extend_next, idle_next, collect_next, read_next, steps_next, sweep_next, clock_opens, node_opens, session_opens, janitor_opens, session_next, janitor_next, opens_alone, next}
 use Rattle.line_steps.specs.Answers.{session_opening, node_opening, clock_opening, name_opening, has_opening}
 use Rattle.line_steps.proofs.PlainEvents.{OpensNone}
 
@@ -33,8 +33,14 @@ finish_none : (session : ℕ) (now : Doing) → IfOpensNone (finish_next session
 finish_none session doing.Completing = tt
 finish_none session _ = tt
 
+placing_none : (session : ℕ) (now : Doing) (placed : Bool) → IfOpensNone (placing_next session now placed)
+placing_none session doing.Placing true = tt
+placing_none session doing.Placing false = tt
+placing_none session doing.Completing placed = tt
+placing_none session _ placed = tt
+
 drive_none : (clocks : Clocks) (session : ℕ) (line : Verb) (view : View) (request : Option (ℕ × Place)) → IfOpensNone (drive_next clocks session line view request)
-drive_none clocks session line view None = finish_none session view.doing
+drive_none clocks session line view None = placing_none session view.doing (places line)
 drive_none clocks session line view (Some request) = served_none clocks session request.0 view.commit request.1 (is_served line request.1)
 
 idle_none : (session : ℕ) (now : Doing) → IfOpensNone (idle_next session now)
@@ -61,6 +67,7 @@ read_none session _ = tt
 
 steps_none : (session : ℕ) (now : Doing) → IfOpensNone (steps_next session now)
 steps_none session doing.Reading = tt
+steps_none session doing.Placing = tt
 steps_none session doing.OpenOutcome = tt
 steps_none session doing.Completing = tt
 steps_none session _ = tt

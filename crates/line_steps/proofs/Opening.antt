@@ -36,7 +36,7 @@ use Rattle.line_steps.specs.declared.point.Point.{Point}
 use Rattle.line_steps.specs.declared.point.Point.TheVariants.{Drives, Finishes, Reads}
 use Rattle.line_steps.specs.Halts.{halt_of, unless_halted, after_write}
 use Rattle.line_steps.specs.Left.{cells_by, of_client, client_completes, client_ends, client_reads, client_fetches, lacks_at, place_left, drive_left_by, drive_left, session_left}
-use Rattle.line_steps.proofs.Clients.{client_now, client_left, no_client_left, aborted_left, added_long}
+use Rattle.line_steps.proofs.Clients.{client_now, settles_within, client_left, no_client_left, aborted_left, added_long}
 
 -- a run that stopped has nothing left
 pub halted_less : (w : State) (s : ℕ) (verb : Verb) (at : Point) (halt : Option Halt) (bound : ℕ) → session_left w s verb at < bound → session_left w s verb (unless_halted at halt) < bound
@@ -52,12 +52,8 @@ most_at false place.Accepted = omega arith
 most_at lacks place.Drawn = omega arith
 most_at lacks place.Settled = omega arith
 
-completes_within : (found : Option Client) → of_client found client_completes ≤ of_client found client_ends
-completes_within None = omega arith
-completes_within (Some c) = omega arith
-
 drive_most_by : (w : State) (c : Option Client) (request : Option (ℕ × Place)) → drive_left_by w c request ≤ 6 + of_client c client_ends
-drive_most_by w c None = omega (arith, completes_within c)
+drive_most_by w c None = omega (arith, settles_within c)
 drive_most_by w c (Some request) = omega (arith, most_at (lacks_at (slice_get w.nodes request.0)) request.1)
 
 -- an ask leaves the client's keys, and no completion

@@ -82,6 +82,7 @@ heard_plain phase.Free items plain = plain
 heard_plain phase.Asking items plain = plain
 heard_plain phase.Open items plain = plain
 heard_plain phase.Committing items plain = plain
+heard_plain phase.Placing items plain = plain
 heard_plain phase.OpenOutcome items plain = plain
 heard_plain (phase.Completing undo) items plain = plain
 
@@ -122,6 +123,7 @@ begin_begins_at s node c post phase.Gone = alone _ _ (inr (refl, tt))
 begin_begins_at s node c post phase.Asking = alone _ _ (inr (refl, tt))
 begin_begins_at s node c post phase.Open = alone _ _ (inr (refl, tt))
 begin_begins_at s node c post phase.Committing = alone _ _ (inr (refl, tt))
+begin_begins_at s node c post phase.Placing = alone _ _ (inr (refl, tt))
 begin_begins_at s node c post phase.OpenOutcome = alone _ _ (inr (refl, tt))
 begin_begins_at s node c post (phase.Completing undo) = alone _ _ (inr (refl, tt))
 
@@ -135,6 +137,7 @@ vanish_begins_at s c phase.Free = alone _ _ (inl refl)
 vanish_begins_at s c phase.Asking = alone _ _ (inl refl)
 vanish_begins_at s c phase.Open = alone _ _ (inl refl)
 vanish_begins_at s c phase.Committing = alone _ _ (inl refl)
+vanish_begins_at s c phase.Placing = alone _ _ (inl refl)
 vanish_begins_at s c phase.OpenOutcome = alone _ _ (inl refl)
 vanish_begins_at s c (phase.Completing undo) = alone _ _ (inl refl)
 

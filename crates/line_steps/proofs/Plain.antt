@@ -46,6 +46,10 @@ pub one_plain : (x : Item) → opener x ≡ None → AllPlain (x ∷ [])
 unfolding AllPlain
 one_plain x plain = (plain, tt)
 
+pub two_plain : (x y : Item) → opener x ≡ None → opener y ≡ None → AllPlain (x ∷ y ∷ [])
+unfolding AllPlain
+two_plain x y first second = (first, (second, tt))
+
 pub no_plain : AllPlain []
 unfolding AllPlain
 no_plain = tt
@@ -124,6 +128,7 @@ put_at node s fate (Some i) pairs = put_held node s fate i pairs (to_place (held
 answer_plain : (node s start : ℕ) (c : Client) (i left : InstanceEntry) (answer : Result Reply Cause) → AllPlain (answer_by node s start c i left answer).items
 answer_plain node s start c i left (Ok (reply.Begun begun epoch)) = one_plain _ refl
 answer_plain node s start c i left (Ok (reply.Committed commit)) = one_plain _ refl
+answer_plain node s start c i left (Ok (reply.Handed commit)) = one_plain _ refl
 answer_plain node s start c i left (Ok reply.Invalid) = one_plain _ refl
 answer_plain node s start c i left (Ok reply.Open) = one_plain _ refl
 answer_plain node s start c i left (Err (cause.NotYet commit)) = told_plain {P = Option InstanceEntry × Client} (was_told_not_yet i s) (Some left, c) (Session s) (cause.NotYet commit)

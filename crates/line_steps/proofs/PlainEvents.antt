@@ -11,7 +11,7 @@ use Rattle.history_book.specs.declared.item.Item.TheVariants as item
 use Rattle.store_parts.specs.declared.record.ExtendRefused.TheVariants.{StoreFault}
 use Rattle.store_parts.specs.Record.{extend_refused, answered}
 use Rattle.store_parts.specs.Rows.{Row}
-use Rattle.store_parts.specs.Pairs.{Pairs}
+use Rattle.store_parts.specs.Pairs.{Pairs, mark_of}
 use Rattle.client_parts.specs.declared.asks.Ask.{Ask}
 use Rattle.client_parts.specs.declared.asks.Ask.TheVariants as ask
 use Rattle.client_parts.specs.declared.asks.Told.{Told}
@@ -19,7 +19,7 @@ use Rattle.client_parts.specs.declared.asks.Told.TheVariants as told
 use Rattle.client_parts.specs.declared.resolve.Outcome.TheVariants as outcome
 use Rattle.client_parts.specs.Resolve.{SettleTurn, Goes, Decides, settle_ask, settle_turn}
 use Rattle.client_parts.specs.KeyRead.{ReadTurn, Asks, Answers, read_ask}
-use Rattle.client_parts.specs.SessionSteps.{work_refusal, step_refusal}
+use Rattle.client_parts.specs.SessionSteps.{work_refusal, step_refusal, handed_commit}
 use Rattle.client_parts.specs.Sweep.{Sweeping, sweep_ask, sweep_told, is_undecided}
 use Rattle.oracle_parts.specs.Instance.{InstanceEntry}
 use Rattle.machine.specs.declared.event.Event.{Event}
@@ -27,17 +27,19 @@ use Rattle.machine.specs.declared.event.Event.TheVariants as event
 use Rattle.machine.specs.State.{UnderWay, Nothing, Reads, Settles, Completes, Client, State}
 use Rattle.machine.specs.Clients.{is_reading}
 use Rattle.machine.specs.StoreSteps.{mark_item, entry_of, step_item, mark_kept, items_met, met, told_by}
+use Rattle.machine.specs.Effect.{kept_items}
 use Rattle.machine.specs.Machine.{with_reading, stepped}
 use Rattle.machine.specs.Events.Extend.{extend_on}
 use Rattle.machine.specs.Events.Take.{rules_of}
 use Rattle.machine.specs.Events.Fetch.{client_put_fresh, read_items}
-use Rattle.machine.specs.Events.Step.{step_recall, settle_items, work_of, step_at, step_by}
+use Rattle.machine.specs.Events.Place.{place_by}
+use Rattle.machine.specs.Events.Step.{step_recall, settle_items, work_of, step_at, step_due, step_by}
 use Rattle.machine.specs.Events.Heal.{offer_of, heal_at}
 use Rattle.machine.specs.Events.Abort.{abort_by}
 use Rattle.machine.specs.Events.SweepOpen.{sweep_open_on}
 use Rattle.machine.specs.Events.SweepStep.{undecided_items, sweep_met, sweep_lists, sweep_at, sweep_step_on}
 use Rattle.line_steps.specs.Answers.{opener}
-use Rattle.line_steps.proofs.Plain.{AllPlain, plain_append, one_plain, no_plain, kept_plain, post_plain, client_plain, both_plain, accept_at, decide_at, put_at, answer_at, extend_plain}
+use Rattle.line_steps.proofs.Plain.{AllPlain, plain_append, one_plain, two_plain, no_plain, kept_plain, post_plain, client_plain, both_plain, accept_at, decide_at, put_at, answer_at, extend_plain}
 
 -- ---- steps on the stores
 mark_plain : (actor : Actor) (txn : ℕ) (found : Option Mark) → opener (mark_item actor txn found) ≡ None
@@ -92,9 +94,19 @@ work_plain s Works c rows pairs (Completes (asked ∷ asks)) = plain_append (ite
 work_plain s FailsUnchanged c rows pairs (Completes (asked ∷ asks)) = met_plain (Session s) asked (told_by asked rows pairs) FailsUnchanged
 work_plain s FailsApplied c rows pairs (Completes (asked ∷ asks)) = met_plain (Session s) asked (told_by asked rows pairs) FailsApplied
 
+place_plain : (s start commit : ℕ) (fate : Fate) (found : Option Mark) (c : Client) (pairs : Pairs) → AllPlain (place_by s start commit fate found c pairs).items
+place_plain s start commit Works None c pairs = two_plain _ _ refl refl
+place_plain s start commit Works (Some mark) c pairs = two_plain _ _ refl refl
+place_plain s start commit FailsUnchanged found c pairs = plain_append (kept_items FailsUnchanged found (item.Placed start commit ∷ [])) _ (kept_plain FailsUnchanged found (item.Placed start commit ∷ []) (one_plain (item.Placed start commit) refl)) (two_plain _ _ refl refl)
+place_plain s start commit FailsApplied found c pairs = plain_append (kept_items FailsApplied found (item.Placed start commit ∷ [])) _ (kept_plain FailsApplied found (item.Placed start commit ∷ []) (one_plain (item.Placed start commit) refl)) (two_plain _ _ refl refl)
+
+due_plain : (s : ℕ) (fate : Fate) (c : Client) (rows : List Row) (pairs : Pairs) (due : Option (ℕ × ℕ)) → AllPlain (step_due s fate c rows pairs due).items
+due_plain s fate c rows pairs None = work_plain s fate c rows pairs (work_of c)
+due_plain s fate c rows pairs (Some stamps) = place_plain s stamps.0 stamps.1 fate (mark_of pairs stamps.0) c _
+
 session_plain : (s : ℕ) (fate : Fate) (c : Client) (rows : List Row) (pairs : Pairs) (why : Option Cause) → AllPlain (step_by s fate c rows pairs why).items
 session_plain s fate c rows pairs (Some why) = one_plain _ refl
-session_plain s fate c rows pairs None = work_plain s fate c rows pairs (work_of c)
+session_plain s fate c rows pairs None = due_plain s fate c rows pairs (handed_commit c.entry)
 
 heal_plain : (s : ℕ) (fate : Fate) (c : Client) (rows : List Row) (pairs : Pairs) (offer : Option (ℕ × ℕ × ℕ)) → AllPlain (heal_at s fate c rows pairs offer).items
 heal_plain s fate c rows pairs None = one_plain _ refl

@@ -25,7 +25,7 @@ use Rattle.line_steps.specs.Next.{read_next}
 use Rattle.line_steps.proofs.PlainEvents.{effect_plain, met_plain}
 use Rattle.line_steps.proofs.Plain.{plain_append, no_plain}
 use Rattle.line_steps.proofs.Working.{ReadWork}
-use Rattle.line_steps.proofs.Stepping.{stores_step, step_is}
+use Rattle.line_steps.proofs.Stepping.{stores_step, step_is, unhanded}
 use Rattle.line_steps.proofs.Walks.{AllNot, plain_not, Paid}
 use Rattle.line_steps.proofs.ReadLines.{OfRead, told_recalls, ReadsKey, EndsOrReads, ends_with, read_pays}
 
@@ -70,7 +70,7 @@ pub read_goes_on : (w : State) (s key : ℕ) (k : ReadsKey w s key) (fate : Fate
 read_goes_on w s key k fate =
     let go : step_refusal k.c.entry.state (is_reading k.c) ≡ None = ap (λ (state : SessionState). step_refusal state (is_reading k.c)) k.work.is_open ∙ ap (λ (reading : Bool). step_refusal Rattle.client_parts.specs.declared.session.State.TheVariants.Open reading) (reads_on k.c k.work) in
     let work : work_of k.c ≡ Reads k.work.r = ap (λ (state : SessionState). work_by state k.c.entry k.c.under_way) k.work.is_open ∙ k.work.under_way in
-    subst (λ (step : Step). EndsOrReads s key step) (sym (step_is w s fate k.c (Reads k.work.r) k.at go work)) (read_steps w s key k fate)
+    subst (λ (step : Step). EndsOrReads s key step) (sym (step_is w s fate k.c (Reads k.work.r) k.at go (unhanded k.c Rattle.client_parts.specs.declared.session.State.TheVariants.Open k.work.is_open refl) work)) (read_steps w s key k fate)
 
 -- the run of a line does not end while the read is under way
 pub read_has_next : (w : State) (s key : ℕ) → ReadsKey w s key → read_next s (doing_of w s) ≡ Some (event.Step s)

@@ -15,9 +15,9 @@ use Rattle.isolation_laws.specs.Words.{InstanceAt, ClientAt}
 use Rattle.isolation_laws.specs.Sound.{Stands}
 use Rattle.isolation_laws.proofs.Lookups.{held_set}
 use Rattle.line_steps.specs.Halts.{halt_of, after_serving}
-use Rattle.line_steps.specs.Left.{of_client, client_completes, client_ends, lacks_stamps, place_left, drive_left, session_left}
+use Rattle.line_steps.specs.Left.{of_client, client_completes, client_settles, client_ends, lacks_stamps, place_left, drive_left, session_left}
 use Rattle.line_steps.proofs.Holders.{Served, Changed, drives_on, driven}
-use Rattle.line_steps.proofs.Clients.{client_now}
+use Rattle.line_steps.proofs.Clients.{client_now, settles_most}
 
 -- what is left after a step that serves a request is less than it was to drive
 abbrev pub Lowers : State → ℕ → Verb → Step → Type 0
@@ -54,19 +54,23 @@ goes_on w left h s request k i now held nodes client requests less =
     drives_on w left h request.0 s now (drive_left w s) (serving_changed w left h s request k now nodes) (λ (other : Held) has. elim (held_set i s s (Some held) other (ap (λ (held_now : List (Option Held)). held_of (record i { requests = held_now }) s) (sym requests) ∙ has)) [
       | inl here ↦ subst (λ (x : Held). place_left (lacks_stamps now) (place_of_progress x.progress) + of_client (slice_get left.clients s) client_ends < drive_left w s) (same_Some held other here.1) (subst (λ (found : Option Client). place_left (lacks_stamps now) (place_of_progress held.progress) + of_client found client_ends < drive_left w s) (sym client) less)
       | inr there ↦ absurd (there.0 refl)
-    ]) (subst (λ (found : Option Client). of_client found client_completes < drive_left w s) (sym client) (omega (arith, less)))
+    ]) (subst (λ (found : Option Client). of_client found client_settles < drive_left w s) (sym client) (omega (arith, settles_most k.c, less)))
 
 -- ---- a request ends
--- a client whose request is over completes at most its keys
-pub ends_so : (w left : State) (s : ℕ) (c now : Client) → ClientAt w.clients s c → left.clients ≡ slice_set w.clients s now → client_completes now ≤ client_ends c → client_ends c < drive_left w s → of_client (slice_get left.clients s) client_completes < drive_left w s
-ends_so w left s c now at clients fewer less =
-    let is : of_client (slice_get left.clients s) client_completes ≡ client_completes now = ap (λ (cs : List Client). of_client (slice_get cs s) client_completes) clients ∙ client_now w.clients s c now client_completes at in
+-- a number of a client whose request is over
+pub ends_by : (f : Client → ℕ) (w left : State) (s : ℕ) (c now : Client) → ClientAt w.clients s c → left.clients ≡ slice_set w.clients s now → f now ≤ client_ends c → client_ends c < drive_left w s → of_client (slice_get left.clients s) f < drive_left w s
+ends_by f w left s c now at clients fewer less =
+    let is : of_client (slice_get left.clients s) f ≡ f now = ap (λ (cs : List Client). of_client (slice_get cs s) f) clients ∙ client_now w.clients s c now f at in
     omega (arith, is, fewer, less)
 
--- with a completion that may follow
-pub is_over : (w left : State) (h : List Item) (s : ℕ) (request : ℕ × Place) (k : Serving w h s request) (i : InstanceEntry) (now : Client) → left.nodes ≡ slice_set w.nodes request.0 (Some (with_request i s None)) → left.clients ≡ slice_set w.clients s now → client_completes now ≤ client_ends k.c → client_ends k.c < drive_left w s → drive_left left s < drive_left w s
+-- it completes at most its keys
+pub ends_so : (w left : State) (s : ℕ) (c now : Client) → ClientAt w.clients s c → left.clients ≡ slice_set w.clients s now → client_completes now ≤ client_ends c → client_ends c < drive_left w s → of_client (slice_get left.clients s) client_completes < drive_left w s
+ends_so w left s c now at clients fewer less = ends_by client_completes w left s c now at clients fewer less
+
+-- with a placing and a completion that may follow
+pub is_over : (w left : State) (h : List Item) (s : ℕ) (request : ℕ × Place) (k : Serving w h s request) (i : InstanceEntry) (now : Client) → left.nodes ≡ slice_set w.nodes request.0 (Some (with_request i s None)) → left.clients ≡ slice_set w.clients s now → client_settles now ≤ client_ends k.c → client_ends k.c < drive_left w s → drive_left left s < drive_left w s
 is_over w left h s request k i now nodes clients fewer less =
     drives_on w left h request.0 s (with_request i s None) (drive_left w s) (serving_changed w left h s request k (with_request i s None) nodes) (λ (other : Held) has. elim (held_set i s s None other has) [
       | inl here ↦ absurd (none-some other here.1)
       | inr there ↦ absurd (there.0 refl)
-    ]) (ends_so w left s k.c now k.client_at clients fewer less)
+    ]) (ends_by client_settles w left s k.c now k.client_at clients fewer less)

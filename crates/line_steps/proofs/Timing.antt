@@ -15,7 +15,7 @@ use Rattle.script_data.specs.declared.line.Verb.TheVariants as verb
 use Rattle.line_steps.specs.declared.point.Point.{Point}
 use Rattle.line_steps.specs.declared.point.Point.TheVariants.{Opens, Drives, Extends, Finishes, Reads, Steps, Over}
 use Rattle.line_steps.specs.declared.point.View.{View}
-use Rattle.line_steps.specs.Next.{Clocks, reading_at, serves, is_served, finish_next, drive_next, extend_by, extend_next, idle_next, collect_next, read_next, steps_next, sweep_next, clock_opens, node_opens, session_opens, janitor_opens, session_next, janitor_next, opens_alone, next}
+use Rattle.line_steps.specs.Next.{Clocks, reading_at, serves, is_served, finish_next, places, placing_next, drive_next, extend_by, extend_next, idle_next, collect_next, read_next, steps_next, sweep_next, clock_opens, node_opens, session_opens, janitor_opens, session_next, janitor_next, opens_alone, next}
 use Rattle.line_steps.specs.Runs.{clock_after}
 use Rattle.script_data.specs.Ticks.{tick_of}
 
@@ -60,8 +60,14 @@ finish_timed : (clocks : Clocks) (tick session : ℕ) (now : Doing) → IfTimed 
 finish_timed clocks tick session doing.Completing = tt
 finish_timed clocks tick session _ = tt
 
+placing_timed : (clocks : Clocks) (tick session : ℕ) (now : Doing) (placed : Bool) → IfTimed clocks tick (placing_next session now placed)
+placing_timed clocks tick session doing.Placing true = tt
+placing_timed clocks tick session doing.Placing false = tt
+placing_timed clocks tick session doing.Completing placed = tt
+placing_timed clocks tick session _ placed = tt
+
 drive_timed : (clocks : Clocks) (tick session : ℕ) (line : Verb) (view : View) (request : Option (ℕ × Place)) → IfTimed clocks tick (drive_next clocks session line view request)
-drive_timed clocks tick session line view None = finish_timed clocks tick session view.doing
+drive_timed clocks tick session line view None = placing_timed clocks tick session view.doing (places line)
 drive_timed clocks tick session line view (Some request) = served_timed clocks tick session request.0 view.commit request.1 (is_served line request.1)
 
 idle_timed : (clocks : Clocks) (tick session : ℕ) (now : Doing) → IfTimed clocks tick (idle_next session now)
@@ -88,6 +94,7 @@ read_timed clocks tick session _ = tt
 
 steps_timed : (clocks : Clocks) (tick session : ℕ) (now : Doing) → IfTimed clocks tick (steps_next session now)
 steps_timed clocks tick session doing.Reading = tt
+steps_timed clocks tick session doing.Placing = tt
 steps_timed clocks tick session doing.OpenOutcome = tt
 steps_timed clocks tick session doing.Completing = tt
 steps_timed clocks tick session _ = tt

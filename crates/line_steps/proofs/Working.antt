@@ -1,4 +1,4 @@
--- What a session that may make a step has under way: a read, the resolve of its own commit, or a completion.
+-- What a session that may make a step has under way: a read, the resolve of its own commit, a completion, or a commit to place.
 use Rattle.std.proofs.Common.{◌≡◌, ℕ, Bool, true, false, IsTrue, List, [], ◌∷◌, Option, Some, None, ◌⊎◌, inl, inr, refl, sym, ◌∙◌, ap, subst}
 use Rattle.history_book.specs.declared.item.Item.{Item}
 use Rattle.client_parts.specs.declared.asks.Ask.{Ask}
@@ -7,7 +7,7 @@ use Rattle.client_parts.specs.declared.session.State.TheVariants as phase
 use Rattle.client_parts.specs.Completion.{finish_asks, undo_asks}
 use Rattle.client_parts.specs.Resolve.{Settling, own_settling}
 use Rattle.client_parts.specs.KeyRead.{Reading}
-use Rattle.client_parts.specs.SessionSteps.{step_refusal, has_transaction}
+use Rattle.client_parts.specs.SessionSteps.{step_refusal, has_transaction, handed_by, handed_commit}
 use Rattle.machine.specs.State.{UnderWay, Nothing, Reads, Settles, Completes, Client, State}
 use Rattle.machine.specs.Clients.{is_reading, is_reading_by}
 use Rattle.machine.specs.Events.Step.{own_resolve, work_by, work_of}
@@ -32,8 +32,14 @@ pub record CompleteWork (c : Client) : Type 0 where
   pub completing : c.entry.state ≡ phase.Completing undo
   pub under_way : c.under_way ≡ Completes (asked ∷ asks)
 
+pub record PlaceWork (c : Client) : Type 0 where
+  pub start : ℕ
+  pub commit : ℕ
+  pub placing : c.entry.state ≡ phase.Placing
+  pub handed : handed_commit c.entry ≡ Some (start, commit)
+
 abbrev pub HasWork : Client → Type 0
-HasWork c = ReadWork c ⊎ SettleWork c ⊎ CompleteWork c
+HasWork c = ReadWork c ⊎ SettleWork c ⊎ CompleteWork c ⊎ PlaceWork c
 
 -- ---- a read is that of an open transaction
 reads : (w : State) (h : List Item) (s : ℕ) (c : Client) (r : Reading) → Stands w h → ClientAt w.clients s c → c.under_way ≡ Reads r → ReadWork c
@@ -89,10 +95,23 @@ completes w h s c stands at true is =
     let busy = stands.holds.under_way.undoing.busy s c at is in
     completes_by w h s c stands at true is busy.0 busy.1
 
+-- ---- a commit that was handed over is known, with its start
+pub places_commit : (w : State) (h : List Item) (s : ℕ) (c : Client) → Stands w h → ClientAt w.clients s c → c.entry.state ≡ phase.Placing → PlaceWork c
+places_commit w h s c stands at is =
+    let begun = stands.holds.requests.have_begun.begun s c at (subst (λ (state : SessionState). IsTrue (has_transaction state)) (sym is) refl) in
+    let handed = stands.holds.under_way.handed.commit s c at is in
+    record {
+      start = begun.0;
+      commit = handed.0;
+      placing = is;
+      handed = ap (λ (state : SessionState). handed_by state c.entry.start c.entry.commit) is ∙ ap (λ (t : Option ℕ). handed_by phase.Placing t c.entry.commit) begun.1 ∙ ap (λ (commit : Option ℕ). handed_by phase.Placing (Some begun.0) commit) handed.1;
+    }
+
 -- ---- any of them
 by_state : (w : State) (h : List Item) (s : ℕ) (c : Client) → Stands w h → ClientAt w.clients s c → (state : SessionState) → c.entry.state ≡ state → step_refusal state false ≡ None → HasWork c
 by_state w h s c stands at phase.OpenOutcome is go = inr (inl (settles w h s c stands at is))
-by_state w h s c stands at (phase.Completing undo) is go = inr (inr (completes w h s c stands at undo is))
+by_state w h s c stands at (phase.Completing undo) is go = inr (inr (inl (completes w h s c stands at undo is)))
+by_state w h s c stands at phase.Placing is go = inr (inr (inr (places_commit w h s c stands at is)))
 by_state w h s c stands at phase.Free is go = absurd (cc)
 by_state w h s c stands at phase.Asking is go = absurd (cc)
 by_state w h s c stands at phase.Open is go = absurd (cc)

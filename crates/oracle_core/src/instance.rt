@@ -83,6 +83,13 @@ impl Instance {
         self.epoch
     }
 
+    /// Whether commits are handed to their sessions, which place them.
+    pub fn direct(&self) -> bool
+        ensures { result ≡ self.now.direct }
+    {
+        self.direct
+    }
+
     /// The stamp that was drawn last, or the epoch before the first.
     pub fn last(&self) -> u64
         ensures value { result ≡ self.now.last }

@@ -3,13 +3,24 @@ use super::*;
 use crate::requests;
 use history_book::Cause;
 use oracle_parts::Verdict;
-use stamp_base::{KeyList, KeyNo, NodeNo, SessionNo, Setup, Stamp, Term};
+use stamp_base::{KeyList, KeyNo, NodeNo, SessionNo, Setup, SetupFlag, Stamp, Term};
 use std::alloc::Global;
 use std::test::Fail;
 use store_parts::Grant;
 
 /// An instance of the first node, with these stamps to draw and a lease up to 10.
 fn opened(alloc: Global, epoch: u64, ceiling: u64) -> Result<Instance, Fail> {
+    opened_with(alloc, epoch, ceiling, &Setup::default())
+}
+
+/// The same, which hands commits to their sessions.
+fn opened_direct(alloc: Global) -> Result<Instance, Fail> {
+    let mut setup = Setup::default();
+    setup.turn_on(SetupFlag::Direct);
+    opened_with(alloc, 0, 100, &setup)
+}
+
+fn opened_with(alloc: Global, epoch: u64, ceiling: u64, setup: &Setup) -> Result<Instance, Fail> {
     let grant = Grant {
         term: Term::FIRST,
         epoch,
@@ -17,7 +28,7 @@ fn opened(alloc: Global, epoch: u64, ceiling: u64) -> Result<Instance, Fail> {
         ceiling,
     };
     if epoch <= ceiling && ceiling <= Stamp::GREATEST {
-        return Ok(Instance::open(alloc, grant, NodeNo::FIRST, &Setup::default())?);
+        return Ok(Instance::open(alloc, grant, NodeNo::FIRST, setup)?);
     }
     Err("out of range")?
 }
@@ -78,6 +89,34 @@ fn a_commit_comes_and_goes(rt: HostRuntime) -> Result<(), Fail> {
     assert_eq!(rt; commit, Ok(Decided::Drawn(Stamp::FIRST)));
     assert!(rt; instance.settle(SessionNo::LAST, Settled::Invalid).is_ok());
     assert_eq!(rt; instance.answer(SessionNo::LAST), Ok(Reply::Invalid));
+    Ok(())
+}
+
+// It is handed over once, without a put.
+#[test]
+fn a_direct_commit_is_handed_over(rt: HostRuntime) -> Result<(), Fail> {
+    let mut instance = opened_direct(rt.alloc())?;
+    let session = SessionNo::LAST;
+    let drawn = decided(&mut instance, commit());
+    assert_eq!(rt; drawn, Ok(Decided::Drawn(Stamp::FIRST)));
+    let place = instance.place(session);
+    assert_eq!(rt; place, Some(Place::Settled));
+    let none = Err(Cause::NoRequest { session });
+    assert_eq!(rt; instance.settle(session, Settled::Placed), none);
+    let handed = Reply::Handed {
+        commit: Stamp::FIRST,
+    };
+    assert_eq!(rt; instance.answer(session), Ok(handed));
+    assert_eq!(rt; instance.place(session), None);
+    Ok(())
+}
+
+#[test]
+fn a_begin_waits_for_no_direct_commit(rt: HostRuntime) -> Result<(), Fail> {
+    let mut instance = opened_direct(rt.alloc())?;
+    assert!(rt; decided(&mut instance, commit()).is_ok());
+    assert!(rt; decided(&mut instance, begin()).is_ok());
+    assert!(rt; instance.answer(SessionNo::FIRST).is_ok());
     Ok(())
 }
 

@@ -1,5 +1,5 @@
 -- A turn of the code as the definitions see it.
-use Rattle.std.specs.Prelude.{◌≡◌, ◌<◌, false, List, [], ◌∷◌, Option, None, Some, length, drop}
+use Rattle.std.specs.Prelude.{◌≡◌, ◌<◌, List, [], ◌∷◌, Option, None, Some, length, drop}
 use Rattle.store_parts.specs.declared.rows.Cell.{Cell}
 use Rattle.client_parts.specs.declared.resolve.SettlePoint.{SettlePoint}
 use Rattle.client_parts.specs.declared.resolve.SettlePoint.TheVariants.{Table}
@@ -10,9 +10,9 @@ use Rattle.reader_resolve.specs.declared.turn.Reader.{Reader}
 use Rattle.reader_resolve.specs.declared.turn.Turn.{Turn}
 use Rattle.reader_resolve.specs.declared.turn.Turn.TheVariants.{Resolves as TurnResolves, Answers as TurnAnswers}
 
--- the code marks no version above the epoch
+-- where a reader may mark every version, its reads do
 abbrev pub resolving : Reader → Cell → List Cell → SettlePoint → Reading
-resolving r c cs point = record { key = r.key; start = r.start; epoch = r.epoch; every = false; cell = c; older = cs; point = point }
+resolving r c cs point = record { key = r.key; start = r.start; epoch = r.epoch; every = r.every; cell = c; older = cs; point = point }
 
 -- the read that resolves the first of these cells; none where no cell is left
 abbrev pub reading_at : Reader → List Cell → SettlePoint → Option Reading
@@ -22,7 +22,7 @@ reading_at r (c ∷ cs) point = Some (resolving r c cs point)
 -- the resolve is that of the first of these cells
 abbrev pub Resolves : Reader → List Cell → Settling → Type 0
 Resolves r [] s = Unit {0}
-Resolves r (c ∷ cs) s = (s.key ≡ r.key) × (s.txn ≡ c.version) × (s.may_mark ≡ may_mark false c.version r.epoch)
+Resolves r (c ∷ cs) s = (s.key ≡ r.key) × (s.txn ≡ c.version) × (s.may_mark ≡ may_mark r.every c.version r.epoch)
 
 abbrev pub asks_at : Reader → List Cell → SettlePoint → ReadTurn
 asks_at r [] point = Answers found_none

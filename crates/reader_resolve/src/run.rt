@@ -44,14 +44,25 @@ impl Model for ReadRun {
 
 impl ReadRun {
     /// Reads the key over its cells, which stand as a fetch up to `start` gave them. `epoch` is that of the session's
-    /// begin: up to it, a version may be marked.
-    pub fn start(key: KeyNo, start: Stamp, epoch: u64, cells: Vec<Cell>) -> (ReadRun, Next)
+    /// begin: up to it, a version may be marked, and where `every` is set each one.
+    pub fn start(
+        key: KeyNo,
+        start: Stamp,
+        epoch: u64,
+        every: bool,
+        cells: Vec<Cell>,
+    ) -> (ReadRun, Next)
         requires { AreFetched start cells.items }
-        ensures run { result.0 ≡ run_reached None (read_over false key start epoch cells.items) }
-        ensures next { result.1 ≡ next_reached (read_over false key start epoch cells.items) }
+        ensures run { result.0 ≡ run_reached None (read_over every key start epoch cells.items) }
+        ensures next { result.1 ≡ next_reached (read_over every key start epoch cells.items) }
         ensures recalls { result.0.recalls ≡ is_recall result.1 }
     {
-        let reader = Reader { key, start, epoch };
+        let reader = Reader {
+            key,
+            start,
+            epoch,
+            every,
+        };
         match reader.turn_from(cells.as_slice(), 0) {
             Turn::Resolves { passed, settle } => {
                 let txn = cells[passed].version;

@@ -78,7 +78,7 @@ fn recall(run: &mut ReadRun, next: Next, known: Known) -> Result<Next, &'static 
 fn late_put(rt: HostRuntime) -> Result<(), Fail> {
     let (k0, writer, start) = (key(0)?, stamp(1)?, stamp(101)?);
     let cells = one(rt.alloc(), start, bare(1, b"v")?)?;
-    let (mut run, _) = ReadRun::start(k0, start, 100, cells);
+    let (mut run, _) = ReadRun::start(k0, start, 100, false, cells);
     tell(&mut run, Ask::Get(writer), Told::Absent)?;
     tell(&mut run, Ask::Mark(writer), Told::Marked)?;
     let last = tell(&mut run, Ask::Look(k0, writer), Told::Bare)?;
@@ -91,11 +91,22 @@ fn late_put(rt: HostRuntime) -> Result<(), Fail> {
     Ok(())
 }
 
+// A version above the epoch is marked all the same, where each may be.
+#[test]
+fn newer_cell_is_marked(rt: HostRuntime) -> Result<(), Fail> {
+    let (k0, writer, start) = (key(0)?, stamp(1)?, stamp(3)?);
+    let cells = one(rt.alloc(), start, bare(1, b"v")?)?;
+    let (mut run, _) = ReadRun::start(k0, start, 0, true, cells);
+    let next = tell(&mut run, Ask::Get(writer), Told::Absent)?;
+    assert_eq!(rt; next, Next::Ask(Ask::Mark(writer)));
+    Ok(())
+}
+
 #[test]
 fn put_before_read(rt: HostRuntime) -> Result<(), Fail> {
     let (k0, writer, start, commit) = (key(0)?, stamp(1)?, stamp(101)?, stamp(2)?);
     let cells = one(rt.alloc(), start, bare(1, b"v")?)?;
-    let (mut run, first) = ReadRun::start(k0, start, 100, cells);
+    let (mut run, first) = ReadRun::start(k0, start, 100, false, cells);
     assert_eq!(rt; first, Next::Recall(writer));
     assert_eq!(rt; run.key(), k0);
     let last = tell(&mut run, Ask::Get(writer), Told::Committed(commit))?;
@@ -111,7 +122,7 @@ fn put_before_read(rt: HostRuntime) -> Result<(), Fail> {
 fn recalled_twice(rt: HostRuntime) -> Result<(), Fail> {
     let (k0, older, newer, start) = (key(0)?, stamp(1)?, stamp(3)?, stamp(101)?);
     let cells = two(rt.alloc(), start, bare(3, b"w")?, bare(1, b"v")?)?;
-    let (mut run, first) = ReadRun::start(k0, start, 100, cells);
+    let (mut run, first) = ReadRun::start(k0, start, 100, false, cells);
     assert_eq!(rt; first, Next::Recall(newer));
     let next = recall(&mut run, first, Known::Dead)?;
     assert_eq!(rt; next, Next::Recall(older));
@@ -132,7 +143,7 @@ fn ordinary_use(rt: HostRuntime) -> Result<(), Fail> {
         ..bare(1, b"100")?
     };
     let cells = two(rt.alloc(), start, bare(3, b"90")?, committed)?;
-    let (mut run, _) = ReadRun::start(k1, start, 0, cells);
+    let (mut run, _) = ReadRun::start(k1, start, 0, false, cells);
     tell(&mut run, Ask::Get(newer), Told::Absent)?;
     let last = tell(&mut run, Ask::Look(k1, newer), Told::Bare)?;
     let answer = Answer {

@@ -1,4 +1,4 @@
-ghost use Rattle.std.specs.Prelude.{◌≡◌, ◌<◌, ◌≤◌, false, drop, length};
+ghost use Rattle.std.specs.Prelude.{◌≡◌, ◌<◌, ◌≤◌, drop, length};
 ghost use Rattle.client_parts.specs.KeyRead.{is_passed, after_passed, read_over, found_cell, found_by};
 ghost use Rattle.client_parts.specs.Recalled.{outcome_known};
 
@@ -7,12 +7,14 @@ use invalidator::Settle;
 use stamp_base::{KeyNo, Stamp};
 use store_parts::Cell;
 
-/// Who reads what: a transaction by its start, with the epoch of its begin.
+/// Who reads what: a transaction by its start, with the epoch of its begin. It may mark every version, or those alone that are
+/// at most the epoch.
 #[derive(Clone, Copy, Debug)]
 pub struct Reader {
     pub key: KeyNo,
     pub start: Stamp,
     pub epoch: u64,
+    pub every: bool,
 }
 
 /// What a read does next.
@@ -29,7 +31,7 @@ impl Reader {
     /// The read of the cells from a place on.
     pub fn turn_from(&self, cells: &[Cell], from: usize) -> Turn
         requires { from ≤ length cells.now }
-        ensures turn { turn_of self.now cells.now result ≡ read_over false self.now.key self.now.start self.now.epoch (drop from cells.now) }
+        ensures turn { turn_of self.now cells.now result ≡ read_over self.now.every self.now.key self.now.start self.now.epoch (drop from cells.now) }
         ensures placed { IsPlaced self.now cells.now result }
     {
         let passed = first_left(self.start, cells, from);
@@ -43,7 +45,7 @@ impl Reader {
         if cell.version == self.start || cell.shadow.is_some() {
             return Turn::Answers(found(cell));
         }
-        let may_mark = cell.version.value() <= self.epoch;
+        let may_mark = self.every || cell.version.value() <= self.epoch;
         Turn::Resolves {
             passed,
             settle: Settle::open(self.key, cell.version, may_mark, false),

@@ -1,7 +1,7 @@
 -- What a request is told of its keys, its stamps and its term: by its definition where the items are found, and the other way round.
-use Rattle.std.proofs.Common.{◌≡◌, ℕ, ◌+◌, ◌<◌, ◌≤◌, ◌==◌, ◌&&◌, ◌||◌, nat_lt, nat_le, Bool, true, false, not, List, Option, Some, None, Contains, is_some, is_none, refl, sym, subst, ap, ◌∙◌, ◌⊎◌, inl, inr, arith}
-use Rattle.std.specs.Prelude.{slice_get, ◌^◌, IfSome}
-use Rattle.std.proofs.lemmas.Bool.{eqb-true, eq-eqb, and_parts, and_from, or_cases, or_left, or_right, le-leb, leb-true}
+use Rattle.std.proofs.Common.{◌≡◌, ℕ, ◌<◌, ◌==◌, ◌&&◌, nat_lt, true, false, List, Option, Some, None, Contains, is_some, is_none, refl, sym, subst, ap, ◌∙◌, inl, inr, arith}
+use Rattle.std.specs.Prelude.{slice_get, IfSome}
+use Rattle.std.proofs.lemmas.Bool.{eqb-true, and_parts, and_from, or_cases, or_left, le-leb, leb-true}
 use Rattle.stamp_base.specs.SetupNumbers.{SetupNumbers}
 use Rattle.history_book.specs.Members.{◌∈◌}
 use Rattle.history_book.specs.Isolation.{Committed}
@@ -13,11 +13,11 @@ use Rattle.cause_rules.specs.Commits.{CommitDrawn, StampDrawn, ShownConflict, Sh
 use Rattle.cause_rules.specs.Posts.{TermTaken, CeilingGiven}
 use Rattle.cause_rules.specs.Written.{written_keys}
 use Rattle.refusal_reasons.specs.declared.clue.Clue.TheVariants as clue
-use Rattle.refusal_reasons.specs.Clues.{draws_commit, draws_start, draws_stamp, takes_term, gives_ceiling_in, places, fits}
+use Rattle.refusal_reasons.specs.Clues.{draws_commit, draws_start, draws_stamp, takes_term, gives_ceiling_in, places}
 use Rattle.refusal_reasons.specs.Decided.{WrittenBySetup, ForgottenBySetup}
 use Rattle.refusal_reasons.specs.Showing.{conflict, conflict_by, conflict_with, hidden, not_yet, no_stamp, replaced, own_place, is_rival, rival, places_behind}
 use Rattle.refusal_reasons.specs.Sought.{seek}
-use Rattle.refusal_reasons.proofs.SeekLemmas.{Found, found, last_is, none_is}
+use Rattle.refusal_reasons.proofs.SeekLemmas.{found, last_is}
 use Rattle.refusal_reasons.proofs.PartLemmas.{in_drop}
 use Rattle.refusal_reasons.proofs.PlaceLemmas.{IsPlace, one_found, one_parts, two_found, two_parts, one_behind, behind_one, two_behind, behind_two, same, both, seek_all, sought_in}
 use Rattle.refusal_reasons.proofs.WrittenLemmas.{wrote_found, found_wrote}
@@ -170,20 +170,20 @@ none_placed : (h : List Item) (c : ℕ) (place : Option ℕ) → seek h 0 (clue.
 none_placed h c (Some place) is e t m = absurd cc
 none_placed h c None is e t m = let at = seek_all h (clue.Placed c) (item.Placed t c) m (same c) in let no = sym is ∙ at.1 in absurd cc
 
-pub not_yet_whole : (h : List Item) (s c : ℕ) → ShownNotYet h s c → is_some (not_yet h c (its_node h s) (its_start h s) (its_term h s)) ≡ true
-not_yet_whole h s c shown =
+pub not_yet_whole : (setup : SetupNumbers) (h : List Item) (s c : ℕ) → ShownNotYet setup h s c → is_some (not_yet h c (its_node h s) (its_start h s) (its_term h s)) ≡ true
+not_yet_whole setup h s c shown =
     let none = unplaced h c (seek h 0 (clue.Placed c)) refl shown.unplaced in
     rw (shown.node_is, shown.start_is, shown.term_is) (one_found (nat_lt c shown.start && is_none (seek h 0 (clue.Placed c))) (seek h 0 (clue.Commit shown.term c)) (and_from _ _ (le-leb _ _ shown.below) none) (commit_drawn h shown.term shown.writer c shown.drawn))
 
-pub not_yet_sound : (h : List Item) (s c : ℕ) (node start term : Option ℕ) → its_node h s ≡ node → its_start h s ≡ start → its_term h s ≡ term → is_some (not_yet h c node start term) ≡ true → ShownNotYet h s c
-not_yet_sound h s c None start term ns ss ts e = absurd cc
-not_yet_sound h s c (Some n) None term ns ss ts e = absurd cc
-not_yet_sound h s c (Some n) (Some t) None ns ss ts e = absurd cc
-not_yet_sound h s c (Some n) (Some t) (Some u) ns ss ts e =
+pub not_yet_sound : (setup : SetupNumbers) (h : List Item) (s c : ℕ) (node start term : Option ℕ) → its_node h s ≡ node → its_start h s ≡ start → its_term h s ≡ term → is_some (not_yet h c node start term) ≡ true → setup.direct ≡ false → ShownNotYet setup h s c
+not_yet_sound setup h s c None start term ns ss ts e waits = absurd cc
+not_yet_sound setup h s c (Some n) None term ns ss ts e waits = absurd cc
+not_yet_sound setup h s c (Some n) (Some t) None ns ss ts e waits = absurd cc
+not_yet_sound setup h s c (Some n) (Some t) (Some u) ns ss ts e waits =
     let parts = one_parts (nat_lt c t && is_none (seek h 0 (clue.Placed c))) (seek h 0 (clue.Commit u c)) e in
     let numbers = and_parts (nat_lt c t) (is_none (seek h 0 (clue.Placed c))) parts.0 in
     let drawn = drawn_commit h u c parts.1.0 parts.1.1 in
-    record { node = n; node_is = ns; start = t; start_is = ss; term = u; term_is = ts; writer = drawn.0; drawn = drawn.1; below = leb-true _ _ numbers.0; unplaced = none_placed h c (seek h 0 (clue.Placed c)) refl numbers.1 }
+    record { waits = waits; node = n; node_is = ns; start = t; start_is = ss; term = u; term_is = ts; writer = drawn.0; drawn = drawn.1; below = leb-true _ _ numbers.0; unplaced = none_placed h c (seek h 0 (clue.Placed c)) refl numbers.1 }
 
 -- ---- a term that was taken, a ceiling and a stamp of a term
 pub term_place : (h : List Item) (u : ℕ) → TermTaken h u → IsPlace (seek h 0 (clue.TermTaken u))

@@ -1,21 +1,17 @@
 -- Each cause is decided, by whom it is told.
-use Rattle.std.proofs.Common.{◌≡◌, ℕ, ◌==◌, Bool, true, false, if◌then◌else◌, List, Option, Some, None, is_some, take, refl, sym, subst, ap, ◌∙◌, arith}
+use Rattle.std.proofs.Common.{◌≡◌, ℕ, ◌==◌, Bool, true, false, if◌then◌else◌, List, Option, Some, None, is_some, take, refl}
 use Rattle.std.proofs.lemmas.Bool.{eqb-true, eq-eqb}
 use Rattle.stamp_base.specs.SetupNumbers.{SetupNumbers}
-use Rattle.history_book.specs.Members.{◌∈◌}
 use Rattle.history_book.specs.declared.cause.Cause.{Cause}
 use Rattle.history_book.specs.declared.cause.Cause.TheVariants as cause
-use Rattle.history_book.specs.declared.item.Actor.{Actor}
 use Rattle.history_book.specs.declared.item.Actor.TheVariants.{Session, Node, Janitor, Clock}
 use Rattle.history_book.specs.declared.item.Item.{Item}
 use Rattle.history_book.specs.declared.item.Item.TheVariants as item
 use Rattle.cause_rules.specs.Asks.{its_node, its_start, its_term, HasAsked}
-use Rattle.refusal_reasons.specs.declared.clue.Clue.{Clue}
 use Rattle.refusal_reasons.specs.declared.clue.Clue.TheVariants as clue
-use Rattle.refusal_reasons.specs.declared.shown.Places.{Places}
 use Rattle.refusal_reasons.specs.Decided.{IsDecided, AllDecided, ExplainedAreFound, SoughtFit}
 use Rattle.refusal_reasons.specs.Clues.{fits}
-use Rattle.refusal_reasons.specs.Showing.{asked_and_spent, spent, no_oracle, own_oracle}
+use Rattle.refusal_reasons.specs.Showing.{asked_and_spent, no_oracle, own_oracle}
 use Rattle.refusal_reasons.specs.Sought.{seek}
 use Rattle.refusal_reasons.proofs.SeekLemmas.{last_is}
 use Rattle.refusal_reasons.proofs.PlaceLemmas.{IsPlace, one_found, one_parts, same, seek_all}
@@ -44,9 +40,9 @@ by_session setup h s (cause.Spent ceiling) = record {
 }
 by_session setup h s (cause.NoStamp last) = record { whole = λ shown. (no_stamp_whole h s last shown, tt); sound = λ e _. no_stamp_sound h s last (its_node h s) (its_term h s) refl refl e }
 by_session setup h s (cause.Invalid start) = record { whole = λ shown. (invalid_whole h s start shown, tt); sound = λ e _. invalid_sound h s start (its_node h s) refl e }
-by_session setup h s (cause.Open start) = record { whole = λ shown. (lost_whole h s start shown, tt); sound = λ e _. lost_sound h s start (its_node h s) refl e }
+by_session setup h s (cause.Open start) = record { whole = lost_whole setup h s start; sound = lost_sound setup h s start (its_node h s) refl }
 by_session setup h s (cause.Crashed node term) = record { whole = λ shown. (crashed_whole h s node term shown, tt); sound = λ e _. crashed_sound h s node term e }
-by_session setup h s (cause.NotYet commit) = record { whole = λ shown. (not_yet_whole h s commit shown, tt); sound = λ e _. not_yet_sound h s commit (its_node h s) (its_start h s) (its_term h s) refl refl refl e }
+by_session setup h s (cause.NotYet commit) = record { whole = λ shown. (not_yet_whole setup h s commit shown, shown.waits); sound = not_yet_sound setup h s commit (its_node h s) (its_start h s) (its_term h s) refl refl refl }
 by_session setup h s (cause.Full in_flight) = record { whole = λ shown. (refl, shown); sound = λ _ shown. shown }
 by_session setup h s (cause.NoOracle node) = record { whole = λ shown. (none_whole h node shown, tt); sound = λ e _. none_sound h node e }
 by_session setup h s cause.Gone = record {

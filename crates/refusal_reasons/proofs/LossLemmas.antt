@@ -1,33 +1,32 @@
 -- What is told of marks, of outcomes that got lost, and of nodes that have no instance: by its definition where the items are
 -- found, and the other way round.
-use Rattle.std.proofs.Common.{◌≡◌, ℕ, zero, suc, ◌+◌, ◌<◌, ◌≤◌, ◌==◌, ◌&&◌, Bool, true, false, if◌then◌else◌, List, [], ◌∷◌, Option, Some, None, drop, length, length-drop, ◌-◌, is_some, is_none, refl, sym, subst, ap, ◌∙◌, ◌⊎◌, inl, inr, arith}
-use Rattle.std.specs.Prelude.{slice_get}
-use Rattle.std.specs.Option.{option_or, option_map}
+use Rattle.std.proofs.Common.{◌≡◌, ℕ, zero, suc, ◌+◌, ◌==◌, Bool, true, false, if◌then◌else◌, List, [], ◌∷◌, Option, Some, None, drop, length, length-drop, ◌-◌, is_some, is_none, refl, sym, subst, ap, ◌∙◌, inl, inr, arith}
+use Rattle.std.specs.Prelude.{slice_get, IfSome}
+use Rattle.std.specs.Option.{option_map}
 use Rattle.std.proofs.lemmas.Bool.{eqb-true, and_parts}
-use Rattle.std.proofs.lemmas.Option.{same_Some}
-use Rattle.stamp_base.specs.declared.stores.Store.{Store}
+use Rattle.stamp_base.specs.SetupNumbers.{SetupNumbers}
 use Rattle.stamp_base.specs.declared.stores.Store.TheVariants.{Table}
 use Rattle.history_book.specs.Members.{◌∈◌}
 use Rattle.history_book.specs.declared.item.Actor.{Actor}
 use Rattle.history_book.specs.declared.item.Actor.TheVariants.{Node}
 use Rattle.history_book.specs.declared.item.Item.{Item}
 use Rattle.history_book.specs.declared.item.Item.TheVariants as item
-use Rattle.cause_rules.specs.Asks.{its_node, its_start, its_draw, draw_by, draws_for, since_ask, since_draw}
-use Rattle.cause_rules.specs.Commits.{ShownInvalid, ShownOpen, ShownCrashed}
-use Rattle.cause_rules.specs.Posts.{HasNone, last_take, since_take, takes_for, crashes_for, take_by}
-use Rattle.cause_rules.specs.Since.{since, last_told}
+use Rattle.cause_rules.specs.Asks.{its_node, its_start, its_draw, draws_for, since_ask, since_draw}
+use Rattle.cause_rules.specs.Commits.{placer, IsLost, ShownInvalid, ShownOpen, ShownCrashed}
+use Rattle.cause_rules.specs.Posts.{HasNone, last_take, takes_for, crashes_for, take_by}
+use Rattle.cause_rules.specs.Since.{since}
 use Rattle.refusal_reasons.specs.declared.clue.Clue.TheVariants as clue
-use Rattle.refusal_reasons.specs.Clues.{marks, crashes_in, faults_on_table, faults, vanishes, fits}
+use Rattle.refusal_reasons.specs.Clues.{marks, crashes_in, faults_on_table, vanishes, fits}
 use Rattle.refusal_reasons.specs.declared.shown.Places.{Places}
+use Rattle.refusal_reasons.specs.Decided.{LostBySetup}
 use Rattle.refusal_reasons.specs.Showing.{invalid, draws_its, draw_from, lost_by_fault, lost_by, lost, crashed, ask_from, no_oracle, after_crash, failed_at_once, take_place, take_from}
 use Rattle.refusal_reasons.specs.Showing as showing
-use Rattle.refusal_reasons.specs.Sought.{passes, seek, behind, last_in, last_place}
-use Rattle.refusal_reasons.proofs.SeekLemmas.{NoneFrom, none_is, last_is, Known, known, found}
+use Rattle.refusal_reasons.specs.Sought.{passes, seek, behind, last_in}
 use Rattle.refusal_reasons.proofs.PartLemmas.{in_drop, drop_in, since_is, told_is, ToldAt, at_head}
 use Rattle.refusal_reasons.proofs.PlaceLemmas.{IsPlace, one_found, one_parts, both, seek_in, seek_all, sought_in, ask_part, take_part, takes_tell}
 use Rattle.refusal_reasons.proofs.PlaceLemmas as place
 use Rattle.refusal_reasons.proofs.RequestLemmas.{draw_none}
-use Rattle.refusal_reasons.proofs.NodeLemmas.{any_take, same_is, is_same, or_first, or_second, or_parts}
+use Rattle.refusal_reasons.proofs.NodeLemmas.{any_take, same_is, is_same, or_first, or_second}
 
 -- ---- marks and vanished sessions
 mark_form : (h : List Item) (start : ℕ) (x : Item) → x ∈ h → marks start x ≡ true → (actor : Actor) × (item.Mark actor start ∈ h)
@@ -92,11 +91,6 @@ shifted test h from (suc n) =
     ∙ ap (λ (k : ℕ). option_map (λ p. from + p) (if passes test (slice_get (drop from h) k) then Some k else last_in test (drop from h) 0 n)) count)
 
 -- ---- an outcome that got lost
-draws_form : (o : Option (ℕ × Option ℕ)) (start : ℕ) → draws_its o start ≡ true → (commit : ℕ) × (o ≡ Some (start, Some commit))
-draws_form None start e = absurd cc
-draws_form (Some (t, None)) start e = absurd cc
-draws_form (Some (t, Some commit)) start e = (commit, rw (eqb-true t start e) refl)
-
 -- the last draw since the ask, by its place in the whole
 record Drawn (h : List Item) (s : ℕ) : Type 0 where
   at : ℕ
@@ -126,65 +120,36 @@ draw_there h s start commit (Some at) is e = refl
 drawn : (h : List Item) (s start commit : ℕ) → its_draw h s ≡ Some (start, Some commit) → Drawn h s
 drawn h s start commit e = drawn_by h s (seek (since_ask h s) 0 (clue.Drew s)) refl (draw_there h s start commit (seek (since_ask h s) 0 (clue.Drew s)) refl e)
 
--- what stands since the draw stands behind its place, and the other way round
+-- what stands since the draw stands behind its place
 since_draw_in : (h : List Item) (s : ℕ) (x : Item) → Drawn h s → x ∈ since_draw h s → x ∈ drop (draw_from h s) h
 since_draw_in h s x d m =
     let at = in_drop x (drop (ask_from h s) h) (suc d.at) (subst (λ (part : List Item). x ∈ part) d.part m) in
     let stands : slice_get h (ask_from h s + at.0) ≡ Some x = sym (slice_get-drop h (ask_from h s) at.0) ∙ at.1.1 in
     drop_in x h (draw_from h s) (ask_from h s + at.0) (omega (arith, d.from_is, at.1.0)) stands
 
-in_since_draw : (h : List Item) (s : ℕ) (x : Item) → Drawn h s → x ∈ drop (draw_from h s) h → x ∈ since_draw h s
-in_since_draw h s x d m =
-    let ask = ask_from h s in
-    let at = in_drop x h (draw_from h s) m in
-    let count : ask + (at.0 - ask) ≡ at.0 = omega (arith, d.from_is, at.1.0) in
-    let stands : slice_get (drop ask h) (at.0 - ask) ≡ Some x = slice_get-drop h ask (at.0 - ask) ∙ (ap (slice_get h) count ∙ at.1.1) in
-    subst (λ (part : List Item). x ∈ part) (sym d.part) (drop_in x (drop ask h) (suc d.at) (at.0 - ask) (omega (arith, d.from_is, at.1.0)) stands)
+placing_fits : (direct : Bool) (n s : ℕ) → faults_on_table n s (item.Fault (placer direct n s) Table) ≡ true
+placing_fits true n s = place.same s
+placing_fits false n s = place.same n
 
-fault_form : (part : List Item) (n : ℕ) (x : Item) → x ∈ part → faults_on_table n x ≡ true → item.Fault (Node n) Table ∈ part
-fault_form part n (item.Fault (Node node) Table) m e = subst (λ (v : ℕ). item.Fault (Node v) Table ∈ part) (eqb-true node n e) m
-fault_form part n _ m e = absurd cc
-
-any_crash : (part : List Item) (n : ℕ) (x : Item) → x ∈ part → crashes_for n x ≡ true → (term : ℕ) × (item.Crash n term ∈ part)
-any_crash part n (item.Crash node term) m e = (term, subst (λ (v : ℕ). item.Crash v term ∈ part) (eqb-true node n e) m)
-any_crash part n _ m e = absurd cc
-
-abbrev Lost : List Item → ℕ → ℕ → ℕ → Type 0
-Lost h s start n = ((commit : ℕ) × (its_draw h s ≡ Some (start, Some commit)) × (item.Fault (Node n) Table ∈ since_draw h s)) ⊎ ((term : ℕ) × (item.Crash n term ∈ since_ask h s))
-
-lost_place : (h : List Item) (s start n : ℕ) → Lost h s start n → IsPlace (lost_by h s start n)
-lost_place h s start n (inl (commit, draw, m)) =
+lost_place : (setup : SetupNumbers) (h : List Item) (s start n : ℕ) → IsLost setup h s start n → IsPlace (lost_by h s start n)
+lost_place setup h s start n (inl (commit, draw, m)) =
     let its : draws_its (its_draw h s) start ≡ true = rw draw (place.same start) in
-    let fault = seek_in h (draw_from h s) (clue.TableFault n) (item.Fault (Node n) Table) (since_draw_in h s (item.Fault (Node n) Table) (drawn h s start commit draw) m) (place.same n) in
+    let placing : Item = item.Fault (placer setup.direct n s) Table in
+    let fault = seek_in h (draw_from h s) (clue.TableFault n s) placing (since_draw_in h s placing (drawn h s start commit draw) m) (placing_fits setup.direct n s) in
     let at : IsPlace (lost_by_fault h s start n) = (fault.0, rw its (fault.1)) in
     or_first (lost_by_fault h s start n) (seek h (ask_from h s) (clue.Crashed n)) at
-lost_place h s start n (inr (term, m)) =
+lost_place setup h s start n (inr (term, m)) =
     or_second (lost_by_fault h s start n) (seek h (ask_from h s) (clue.Crashed n))
     (seek_in h (ask_from h s) (clue.Crashed n) (item.Crash n term) (subst (λ (part : List Item). item.Crash n term ∈ part) (ask_part h s) m) (place.same n))
 
-by_fault : (h : List Item) (s start n : ℕ) (b : Bool) → draws_its (its_draw h s) start ≡ b → IsPlace (if b then seek h (draw_from h s) (clue.TableFault n) else None) → Lost h s start n
-by_fault h s start n false its at = absurd (let none = at.1 in cc)
-by_fault h s start n true its at =
-    let draw = draws_form (its_draw h s) start its in
-    let there = sought_in h (draw_from h s) at.0 (clue.TableFault n) at.1 in
-    inl (draw.0, draw.1, fault_form (since_draw h s) n there.0 (in_since_draw h s there.0 (drawn h s start draw.0 draw.1) there.1.0) there.1.1)
+pub lost_whole : (setup : SetupNumbers) (h : List Item) (s start : ℕ) → ShownOpen setup h s start → (is_some (lost h s start (its_node h s) (its_start h s)) ≡ true) × LostBySetup setup h s start
+lost_whole setup h s start shown = rw (shown.node_is) (one_found (showing.same (its_start h s) start) (lost_by h s start shown.node) (is_same (its_start h s) start shown.start_is) (lost_place setup h s start shown.node shown.lost), shown.lost)
 
-place_lost : (h : List Item) (s start n : ℕ) → IsPlace (lost_by h s start n) → Lost h s start n
-place_lost h s start n at = elim (or_parts (lost_by_fault h s start n) (seek h (ask_from h s) (clue.Crashed n)) at) [
-  | inl fault ↦ by_fault h s start n (draws_its (its_draw h s) start) refl fault
-  | inr crash ↦
-      let there = sought_in h (ask_from h s) crash.0 (clue.Crashed n) crash.1 in
-      inr (any_crash (since_ask h s) n there.0 (subst (λ (part : List Item). there.0 ∈ part) (sym (ask_part h s)) there.1.0) there.1.1)
-]
-
-pub lost_whole : (h : List Item) (s start : ℕ) → ShownOpen h s start → is_some (lost h s start (its_node h s) (its_start h s)) ≡ true
-lost_whole h s start shown = rw (shown.node_is) (one_found (showing.same (its_start h s) start) (lost_by h s start shown.node) (is_same (its_start h s) start shown.start_is) (lost_place h s start shown.node shown.lost))
-
-pub lost_sound : (h : List Item) (s start : ℕ) (node : Option ℕ) → its_node h s ≡ node → is_some (lost h s start node (its_start h s)) ≡ true → ShownOpen h s start
-lost_sound h s start None ns e = absurd cc
-lost_sound h s start (Some n) ns e =
+pub lost_sound : (setup : SetupNumbers) (h : List Item) (s start : ℕ) (node : Option ℕ) → its_node h s ≡ node → is_some (lost h s start node (its_start h s)) ≡ true → IfSome node (λ n. IsLost setup h s start n) → ShownOpen setup h s start
+lost_sound setup h s start None ns e lost = absurd cc
+lost_sound setup h s start (Some n) ns e lost =
     let parts = one_parts (showing.same (its_start h s) start) (lost_by h s start n) e in
-    record { start_is = same_is (its_start h s) start parts.0; node = n; node_is = ns; lost = place_lost h s start n parts.1 }
+    record { start_is = same_is (its_start h s) start parts.0; node = n; node_is = ns; lost = lost }
 
 -- ---- a node that has no instance
 head_at : {X : Type 0} (xs : List X) (from : ℕ) (x : X) (later : List X) → drop from xs ≡ x ∷ later → slice_get xs from ≡ Some x

@@ -1,26 +1,20 @@
 -- What is told of a node's take, its lease, its range and its instance: by its definition where the items are found, and the other
 -- way round.
-use Rattle.std.proofs.Common.{◌≡◌, ℕ, zero, suc, ◌+◌, ◌<◌, ◌≤◌, ◌==◌, ◌&&◌, nat_lt, nat_le, Bool, true, false, if◌then◌else◌, List, [], ◌∷◌, Option, Some, None, drop, is_some, is_none, refl, sym, subst, ap, ◌∙◌, ◌⊎◌, inl, inr, arith}
-use Rattle.std.specs.Prelude.{slice_get}
+use Rattle.std.proofs.Common.{◌≡◌, ℕ, suc, ◌==◌, ◌&&◌, nat_lt, nat_le, true, List, Option, Some, None, drop, is_some, is_none, refl, sym, subst, ap, ◌∙◌, ◌⊎◌, inl, inr}
 use Rattle.std.specs.Option.{option_or}
 use Rattle.std.proofs.lemmas.Bool.{eqb-true, and_parts, and_from, le-leb, leb-true}
-use Rattle.std.proofs.lemmas.Option.{same_Some}
-use Rattle.stamp_base.specs.declared.stores.Store.{Store}
 use Rattle.history_book.specs.Members.{◌∈◌}
-use Rattle.history_book.specs.declared.item.Actor.TheVariants.{Node}
 use Rattle.history_book.specs.declared.item.Item.{Item}
 use Rattle.history_book.specs.declared.item.Item.TheVariants as item
 use Rattle.cause_rules.specs.Asks.{its_node, its_start}
 use Rattle.cause_rules.specs.Commits.{ShownOldEpoch, ShownExpired}
-use Rattle.cause_rules.specs.Posts.{Taken, TookLast, LeasedUntil, LeaseGiven, CeilingGiven, StandsSince, HasNone, last_take, since_take, takes_for, crashes_for, take_by}
+use Rattle.cause_rules.specs.Posts.{Taken, LeasedUntil, LeaseGiven, CeilingGiven, StandsSince, last_take, since_take, takes_for, crashes_for}
 use Rattle.cause_rules.specs.Refusals.{ShownHolding, ShownOvertaken}
-use Rattle.cause_rules.specs.Since.{since, last_told}
 use Rattle.refusal_reasons.specs.declared.clue.Clue.TheVariants as clue
-use Rattle.refusal_reasons.specs.Clues.{takes_epoch, takes_lease, takes_own_term, takes_earlier, renews_lease, gives_lease, gives_ceiling, faults, fits}
-use Rattle.refusal_reasons.specs.Showing.{same, old_epoch, lease_from, lease_of, expired, overtaken, holding, no_oracle, after_crash, failed_at_once, take_place, take_from, last_take_at}
-use Rattle.refusal_reasons.specs.Sought.{passes, seek, behind, last_place}
-use Rattle.refusal_reasons.proofs.SeekLemmas.{NoneFrom, none_is, last_is, Known, known}
-use Rattle.refusal_reasons.proofs.PartLemmas.{in_drop, drop_in, since_is, told_is, ToldAt}
+use Rattle.refusal_reasons.specs.Clues.{renews_lease, gives_lease, gives_ceiling, fits}
+use Rattle.refusal_reasons.specs.Showing.{same, old_epoch, lease_from, lease_of, expired, overtaken, holding, take_place, take_from, last_take_at}
+use Rattle.refusal_reasons.specs.Sought.{seek, behind}
+use Rattle.refusal_reasons.proofs.SeekLemmas.{last_is}
 use Rattle.refusal_reasons.proofs.PlaceLemmas.{IsPlace, one_found, one_parts, two_found, two_parts, both, seek_in, seek_all, sought_in, take_at, take_fits, fits_take, take_part, takes_tell}
 use Rattle.refusal_reasons.proofs.PlaceLemmas as place
 use Rattle.refusal_reasons.proofs.CommitLemmas.{term_place, place_term}

@@ -1,19 +1,18 @@
 -- Places that are all there, items that fit by what they are, and the last take of a node.
-use Rattle.std.proofs.Common.{◌≡◌, ℕ, zero, suc, ◌+◌, ◌-◌, ◌<◌, ◌≤◌, ◌==◌, ◌&&◌, Bool, true, false, if◌then◌else◌, List, Option, Some, None, take, drop, length, length-drop, is_some, refl, sym, subst, ap, ◌∙◌, ◌⊎◌, inl, inr, arith}
-use Rattle.std.specs.Prelude.{slice_get, IfSome, MatchOption}
-use Rattle.std.proofs.lemmas.Bool.{eqb-true, eq-eqb, and_parts}
+use Rattle.std.proofs.Common.{◌≡◌, ℕ, ◌==◌, ◌&&◌, Bool, true, false, if◌then◌else◌, List, Option, Some, None, take, drop, is_some, refl, sym, subst, ap, ◌∙◌}
+use Rattle.std.specs.Prelude.{slice_get, IfSome}
+use Rattle.std.proofs.lemmas.Bool.{eqb-true, eq-eqb}
 use Rattle.std.proofs.lemmas.Option.{same_Some}
 use Rattle.history_book.specs.Members.{◌∈◌}
 use Rattle.history_book.specs.declared.item.Item.{Item}
 use Rattle.history_book.specs.declared.item.Item.TheVariants as item
-use Rattle.cause_rules.specs.Asks.{asks_for, draws_for, since_ask, since_draw}
+use Rattle.cause_rules.specs.Asks.{asks_for, since_ask}
 use Rattle.cause_rules.specs.Posts.{Taken, last_take, take_by, takes_for, since_take}
 use Rattle.refusal_reasons.specs.declared.clue.Clue.{Clue}
-use Rattle.refusal_reasons.specs.declared.clue.Clue.TheVariants as clue
 use Rattle.refusal_reasons.specs.Clues.{fits}
-use Rattle.refusal_reasons.specs.Sought.{passes, last_in, last_place, seek, behind}
+use Rattle.refusal_reasons.specs.Sought.{passes, seek}
 use Rattle.refusal_reasons.specs.Showing.{one_place, two_places, place_behind, places_behind, ask_from, take_place, take_from, last_take_at}
-use Rattle.refusal_reasons.proofs.SeekLemmas.{Found, found, IsLast, last_is, Known, known}
+use Rattle.refusal_reasons.proofs.SeekLemmas.{found, last_is, Known, known}
 use Rattle.refusal_reasons.proofs.PartLemmas.{in_drop, drop_in, since_is, Tells, told_is, ToldAt}
 
 -- ---- all places are there

@@ -1,14 +1,13 @@
 -- A session's ask, term and draw, by the place of the item that told them.
-use Rattle.std.proofs.Common.{◌≡◌, ℕ, ◌<◌, ◌==◌, Bool, true, false, if◌then◌else◌, List, Option, Some, None, length, get_or, is_some, refl, sym, subst, ap, ◌∙◌}
-use Rattle.std.specs.Prelude.{slice_get, IfSome}
+use Rattle.std.proofs.Common.{◌≡◌, ℕ, ◌<◌, Bool, true, false, List, Option, Some, None, length, get_or, is_some, refl, subst}
+use Rattle.std.specs.Prelude.{IfSome}
 use Rattle.std.proofs.lemmas.Option.{slice_get_read}
 use Rattle.history_book.specs.declared.item.Item.{Item}
 use Rattle.history_book.specs.declared.item.Item.TheVariants as item
-use Rattle.cause_rules.specs.Since.{last_told, since}
-use Rattle.cause_rules.specs.Asks.{ask_by, asks_for, term_by, draw_by, draws_for, its_ask, its_node, node_asked, start_asked, start_drawn}
+use Rattle.cause_rules.specs.Since.{last_told}
+use Rattle.cause_rules.specs.Asks.{ask_by, asks_for, term_by, draw_by, draws_for, its_ask}
 use Rattle.refusal_reasons.specs.declared.clue.Clue.TheVariants as clue
 use Rattle.refusal_reasons.specs.Clues.{accepts_for}
-use Rattle.refusal_reasons.specs.Showing.{draws_its}
 use Rattle.refusal_reasons.specs.Sought.{last_place, seek}
 use Rattle.refusal_reasons.proofs.PartLemmas.{Tells, told_is, ToldAt}
 

@@ -1,5 +1,5 @@
 -- One explanation more.
-use Rattle.std.proofs.Common.{◌≡◌, ℕ, zero, suc, ◌+◌, ◌<◌, Bool, true, List, [], ◌∷◌, ◌++◌, Option, Some, None, append_assoc, ap, ◌∙◌, sym, refl, drop, take, length, is_some, add-one, arith}
+use Rattle.std.proofs.Common.{◌≡◌, ℕ, zero, suc, ◌+◌, ◌<◌, true, List, [], ◌∷◌, ◌++◌, Option, Some, None, append_assoc, ap, ◌∙◌, sym, refl, drop, take, length, is_some, add-one, arith}
 use Rattle.std.specs.Prelude.{slice_get, IfSome}
 use Rattle.history_book.specs.declared.item.Item.{Item}
 use Rattle.refusal_reasons.specs.Words.{explanation, explanations}

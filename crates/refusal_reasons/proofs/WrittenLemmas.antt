@@ -1,6 +1,6 @@
 -- A key stands in the write list of a transaction where an item writes it.
-use Rattle.std.proofs.Common.{◌≡◌, ℕ, zero, ◌≤◌, ◌==◌, ◌&&◌, ◌||◌, nat_eq, Bool, true, false, List, [], ◌∷◌, ◌⊎◌, inl, inr, Option, Some, None, Contains, is_some, refl, sym, subst, ap, ◌∙◌, arith}
-use Rattle.std.specs.Prelude.{if◌then◌else◌, slice_get}
+use Rattle.std.proofs.Common.{◌≡◌, ℕ, ◌==◌, ◌&&◌, ◌||◌, nat_eq, Bool, true, false, List, [], ◌∷◌, ◌⊎◌, inl, inr, Some, Contains, refl, sym, subst, ap, ◌∙◌, arith}
+use Rattle.std.specs.Prelude.{if◌then◌else◌}
 use Rattle.std.specs.List.{list_any}
 use Rattle.std.proofs.lemmas.Bool.{eqb-true, eq-eqb, and_parts}
 use Rattle.std.proofs.lemmas.Cmp.{nat_eq_equiv}
@@ -15,7 +15,7 @@ use Rattle.cause_rules.specs.Written.{keys_with, keys_from, written_keys}
 use Rattle.refusal_reasons.specs.declared.clue.Clue.TheVariants as clue
 use Rattle.refusal_reasons.specs.Clues.{writes, fits}
 use Rattle.refusal_reasons.specs.Sought.{seek}
-use Rattle.refusal_reasons.proofs.SeekLemmas.{Found, found, IsLast, last_is}
+use Rattle.refusal_reasons.proofs.SeekLemmas.{Found, found, last_is}
 use Rattle.refusal_reasons.proofs.PartLemmas.{in_drop}
 
 -- ---- members by index, and as the definitions have them

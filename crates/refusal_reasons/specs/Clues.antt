@@ -91,9 +91,11 @@ gives_ceiling_in u end (item.Take node reading term epoch until ceiling) = (term
 gives_ceiling_in u end (item.Extend node term ceiling) = (term == u) && (ceiling == end)
 gives_ceiling_in u end _ = false
 
-abbrev pub faults_on_table : ℕ → Item → Bool
-faults_on_table n (item.Fault (Node node) Table) = node == n
-faults_on_table n _ = false
+-- a node places the commits of others, or a session its own
+abbrev pub faults_on_table : ℕ → ℕ → Item → Bool
+faults_on_table n s (item.Fault (Node node) Table) = node == n
+faults_on_table n s (item.Fault (Session session) Table) = session == s
+faults_on_table n s _ = false
 
 abbrev pub faults : ℕ → Item → Bool
 faults n (item.Fault (Node node) store) = node == n
@@ -113,7 +115,7 @@ fits_node (clue.OwnTerm node term) x = takes_own_term node term x
 fits_node (clue.EarlierTerm node than) x = takes_earlier node than x
 fits_node (clue.Ceiling ceiling) x = gives_ceiling ceiling x
 fits_node (clue.CeilingIn term ceiling) x = gives_ceiling_in term ceiling x
-fits_node (clue.TableFault node) x = faults_on_table node x
+fits_node (clue.TableFault node session) x = faults_on_table node session x
 fits_node (clue.NodeFault node) x = faults node x
 fits_node _ x = false
 

@@ -1,6 +1,6 @@
 -- What is named is what cause_rules asks for: a refusal is shown by its definition exactly where its items are found, and the
 -- setup, which no history tells, agrees.
-use Rattle.std.specs.Prelude.{◌≡◌, ℕ, ◌+◌, ◌<◌, ◌≤◌, ◌^◌, true, false, List, None, Some, IfSome, IsSome, take, slice_get, is_some, Contains}
+use Rattle.std.specs.Prelude.{◌≡◌, ℕ, ◌+◌, ◌<◌, ◌≤◌, ◌^◌, true, false, List, None, Some, IfSome, take, slice_get, is_some, Contains}
 use Rattle.stamp_base.specs.SetupNumbers.{SetupNumbers}
 use Rattle.history_book.specs.declared.cause.Cause.{Cause}
 use Rattle.history_book.specs.declared.cause.Cause.TheVariants as cause
@@ -9,8 +9,8 @@ use Rattle.history_book.specs.declared.item.Actor.TheVariants.{Session, Node}
 use Rattle.history_book.specs.declared.item.Item.{Item}
 use Rattle.history_book.specs.declared.item.Item.TheVariants.{Refused}
 use Rattle.oracle_parts.specs.Buckets.{place_of, bucket_of, contents, kept_commit}
-use Rattle.cause_rules.specs.Asks.{its_start, its_term}
-use Rattle.cause_rules.specs.Commits.{CommitDrawn}
+use Rattle.cause_rules.specs.Asks.{its_node, its_start, its_term}
+use Rattle.cause_rules.specs.Commits.{CommitDrawn, IsLost}
 use Rattle.cause_rules.specs.Explained.{Explained, ShownCause}
 use Rattle.cause_rules.specs.Refusals.{ShownFull}
 use Rattle.cause_rules.specs.Written.{written_keys, recorded}
@@ -35,11 +35,17 @@ pub record ForgottenBySetup (setup : SetupNumbers) (h : List Item) (s key water 
   pub wrote : Contains (written_keys h writer) other
   pub same_bucket : place_of setup.buckets other ≡ place_of setup.buckets key
 
--- what the setup has to say: the buckets, the range, the slots, the skew, and whether reads are strict
+-- by who places commits: the call that failed is one of the node, or of the session
+abbrev pub LostBySetup : SetupNumbers → List Item → ℕ → ℕ → Type 0
+LostBySetup setup h s start = IfSome (its_node h s) (λ node. IsLost setup h s start node)
+
+-- what the setup has to say: the buckets, the range, the slots, the skew, whether reads are strict, and whether commits are direct
 abbrev pub FromSetup : SetupNumbers → List Item → Actor → Cause → Type 0
 FromSetup setup h (Session s) (cause.Conflict key by) = WrittenBySetup setup h s key
 FromSetup setup h (Session s) (cause.Hidden key water) = WrittenBySetup setup h s key × ForgottenBySetup setup h s key water
 FromSetup setup h (Session s) (cause.Spent ceiling) = 2 ^ 62 < ceiling + setup.range
+FromSetup setup h (Session s) (cause.Open start) = LostBySetup setup h s start
+FromSetup setup h (Session s) (cause.NotYet commit) = setup.direct ≡ false
 FromSetup setup h (Session s) (cause.Full in_flight) = ShownFull setup h in_flight
 FromSetup setup h (Node n) (cause.Spent ceiling) = 2 ^ 62 < ceiling + setup.range
 FromSetup setup h (Node n) (cause.Early reading until) = reading < until + setup.skew

@@ -1,6 +1,6 @@
 -- Where the items stand that show a refusal: one place for each thing that cause_rules asks for. None where it is not shown. What
 -- the numbers of a setup decide is left out: FromSetup in Decided has it.
-use Rattle.std.specs.Prelude.{ℕ, suc, ◌==◌, nat_lt, nat_le, Bool, true, false, ◌&&◌, ◌||◌, not, if◌then◌else◌, List, Option, None, Some, is_none, is_some, slice_get, length}
+use Rattle.std.specs.Prelude.{ℕ, suc, ◌==◌, nat_lt, nat_le, Bool, true, false, ◌&&◌, if◌then◌else◌, List, Option, None, Some, is_none, is_some, slice_get}
 use Rattle.std.specs.Option.{option_or}
 use Rattle.history_book.specs.declared.cause.Cause.{Cause}
 use Rattle.history_book.specs.declared.cause.Cause.TheVariants as cause
@@ -121,9 +121,9 @@ draws_its _ start = false
 abbrev pub draw_from : List Item → ℕ → ℕ
 draw_from h s = behind (seek h (ask_from h s) (clue.Drew s))
 
--- a call of the node failed after the draw
+-- a call on the commit table failed after the draw, of the node or of the session: who places commits, the setup says
 abbrev pub lost_by_fault : List Item → ℕ → ℕ → ℕ → Option ℕ
-lost_by_fault h s start node = if draws_its (its_draw h s) start then seek h (draw_from h s) (clue.TableFault node) else None
+lost_by_fault h s start node = if draws_its (its_draw h s) start then seek h (draw_from h s) (clue.TableFault node s) else None
 
 -- or it crashed after the ask
 abbrev pub lost_by : List Item → ℕ → ℕ → ℕ → Option ℕ

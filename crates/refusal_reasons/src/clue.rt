@@ -35,8 +35,8 @@ pub enum Clue {
     Ceiling { ceiling: u64 },
     CeilingIn { term: u64, ceiling: u64 },
     Marked { start: u64 },
-    /// A call of the node on the commit table failed.
-    TableFault { node: NodeNo },
+    /// A call on the commit table failed, of the node or of the session.
+    TableFault { node: NodeNo, session: SessionNo },
     /// A call of the node on any store failed.
     NodeFault { node: NodeNo },
     Vanished { session: SessionNo },
@@ -80,7 +80,7 @@ fn fits_node(clue: &Clue, item: &Item) -> bool
         Clue::EarlierTerm { node, than } => takes_earlier(node, than, item),
         Clue::Ceiling { ceiling } => gives_ceiling(ceiling, item),
         Clue::CeilingIn { term, ceiling } => gives_ceiling_in(term, ceiling, item),
-        Clue::TableFault { node } => faults_on_table(node, item),
+        Clue::TableFault { node, session } => faults_on_table(node, session, item),
         Clue::NodeFault { node } => faults(node, item),
         _ => false,
     }
@@ -307,14 +307,18 @@ fn gives_ceiling_in(its: u64, end: u64, item: &Item) -> bool
     }
 }
 
-fn faults_on_table(own: NodeNo, item: &Item) -> bool
-    ensures { result ≡ clues.faults_on_table own item.now }
+fn faults_on_table(own: NodeNo, its: SessionNo, item: &Item) -> bool
+    ensures { result ≡ clues.faults_on_table own its item.now }
 {
     match *item {
         Item::Fault {
             actor: Actor::Node(node),
             store: Store::Table,
         } => node == own,
+        Item::Fault {
+            actor: Actor::Session(session),
+            store: Store::Table,
+        } => session == its,
         _ => false,
     }
 }

@@ -316,7 +316,7 @@ fn open(items: &[Item], session: SessionNo, start: u64) -> Option<Places>
     one_place(is_same(its, start), lost_by(items, session, start, node))
 }
 
-/// Where the outcome got lost: by a fault of the node after the draw, or by its crash after the ask.
+/// Where the outcome got lost: by a fault of the node or of the session after the draw, or by the node's crash after the ask.
 fn lost_by(items: &[Item], session: SessionNo, start: u64, node: NodeNo) -> Option<usize>
     ensures { result ≡ showing.lost_by items.now session start node }
 {
@@ -330,7 +330,11 @@ fn lost_by_fault(items: &[Item], session: SessionNo, start: u64, node: NodeNo) -
     ensures { result ≡ showing.lost_by_fault items.now session start node }
 {
     if draws_its(items, session, start) {
-        seek(items, draw_from(items, session), &Clue::TableFault { node })
+        seek(
+            items,
+            draw_from(items, session),
+            &Clue::TableFault { node, session },
+        )
     } else {
         None
     }
