@@ -12,7 +12,7 @@ use Rattle.script_data.specs.declared.line.Verb.TheVariants as verb
 use Rattle.line_steps.specs.declared.point.Point.{Point}
 use Rattle.line_steps.specs.declared.point.Point.TheVariants.{Opens, Drives, Extends, Finishes, Reads, Steps, Over}
 use Rattle.line_steps.specs.declared.point.View.{View}
-use Rattle.line_steps.specs.Next.{Clocks, serves, is_served, finish_next, drive_next, extend_by, extend_next, idle_next, collect_next, read_next, steps_next, sweep_next, clock_opens, node_opens, session_opens, janitor_opens, session_next, janitor_next, opens_alone, next}
+use Rattle.line_steps.specs.Next.{Clocks, serves, is_served, finish_next, places, placing_next, drive_next, extend_by, extend_next, idle_next, collect_next, read_next, steps_next, sweep_next, clock_opens, node_opens, session_opens, janitor_opens, session_next, janitor_next, opens_alone, next}
 use Rattle.line_steps.specs.Planned.{tick_by}
 use Rattle.planned_laws.specs.SoFar.{ReadsClocks, tick_at}
 use Rattle.planned_laws.specs.Laws.{LinesReadClocks}
@@ -54,8 +54,14 @@ finish_reads : (clocks : Clocks) (session : ℕ) (now : Doing) → IfReads clock
 finish_reads clocks session doing.Completing = refl
 finish_reads clocks session _ = tt
 
+placing_reads : (clocks : Clocks) (session : ℕ) (now : Doing) (placed : Bool) → IfReads clocks None (placing_next session now placed)
+placing_reads clocks session doing.Placing true = refl
+placing_reads clocks session doing.Placing false = tt
+placing_reads clocks session doing.Completing placed = refl
+placing_reads clocks session _ placed = tt
+
 drive_reads : (clocks : Clocks) (session : ℕ) (line : Verb) (view : View) (request : Option (ℕ × Place)) → IfReads clocks None (drive_next clocks session line view request)
-drive_reads clocks session line view None = finish_reads clocks session view.doing
+drive_reads clocks session line view None = placing_reads clocks session view.doing (places line)
 drive_reads clocks session line view (Some request) = served_reads clocks session request.0 view.commit request.1 (is_served line request.1)
 
 idle_reads : (clocks : Clocks) (session : ℕ) (now : Doing) → IfReads clocks None (idle_next session now)
@@ -82,6 +88,7 @@ read_reads clocks session _ = tt
 
 steps_reads : (clocks : Clocks) (session : ℕ) (now : Doing) → IfReads clocks None (steps_next session now)
 steps_reads clocks session doing.Reading = refl
+steps_reads clocks session doing.Placing = refl
 steps_reads clocks session doing.OpenOutcome = refl
 steps_reads clocks session doing.Completing = refl
 steps_reads clocks session _ = tt

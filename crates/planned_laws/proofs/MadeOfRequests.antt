@@ -11,6 +11,7 @@ use Rattle.history_book.specs.declared.cause.Cause.TheVariants as cause
 use Rattle.history_book.specs.declared.item.Actor.TheVariants.{Node, Session}
 use Rattle.history_book.specs.declared.item.Item.{Item}
 use Rattle.history_book.specs.declared.item.Item.TheVariants as item
+use Rattle.history_book.specs.declared.item.StoreStep.TheVariants.{Handed}
 use Rattle.store_parts.specs.Pairs.{Pairs, mark_of}
 use Rattle.oracle_parts.specs.declared.buckets.Verdict.{Verdict}
 use Rattle.oracle_parts.specs.declared.buckets.Verdict.TheVariants.{Free, Conflict, Hidden}
@@ -156,10 +157,12 @@ ready_untimed i session held (Begin asker) (progress.Drawn start) = begin_untime
 ready_untimed i session held (Begin asker) progress.Asked = tt
 ready_untimed i session held (Begin asker) progress.Accepted = tt
 ready_untimed i session held (Begin asker) (progress.Settled commit by) = tt
+ready_untimed i session held (Begin asker) (progress.Handed commit) = tt
 ready_untimed i session held (Commit asker start keys) progress.Asked = tt
 ready_untimed i session held (Commit asker start keys) progress.Accepted = tt
 ready_untimed i session held (Commit asker start keys) (progress.Drawn commit) = tt
 ready_untimed i session held (Commit asker start keys) (progress.Settled commit by) = tt
+ready_untimed i session held (Commit asker start keys) (progress.Handed commit) = tt
 
 answered_untimed : (i : InstanceEntry) (session : ℕ) (found : Option Held) → AnswersUntimed (answer_held i session found).answer
 answered_untimed i session None = tt
@@ -168,6 +171,7 @@ answered_untimed i session (Some held) = ready_untimed i session held held.reque
 answer_made : (clocks : Clocks) (fate : Fate) (node session start : ℕ) (c : Client) (i left : InstanceEntry) (answer : Result Reply Cause) → AnswersUntimed answer → Made clocks None fate (answer_by node session start c i left answer).items
 answer_made clocks fate node session start c i left (Ok (reply.Begun begun epoch)) untimed = made_one clocks None fate (item.Begin session begun) tt
 answer_made clocks fate node session start c i left (Ok (reply.Committed commit)) untimed = made_one clocks None fate (item.Committed session start commit) tt
+answer_made clocks fate node session start c i left (Ok (reply.Handed commit)) untimed = made_one clocks None fate (item.Step (Session session) (Handed start commit)) tt
 answer_made clocks fate node session start c i left (Ok reply.Invalid) untimed = made_refused clocks None fate (Session session) (cause.Invalid start) tt
 answer_made clocks fate node session start c i left (Ok reply.Open) untimed = made_refused clocks None fate (Session session) (cause.Open start) tt
 answer_made clocks fate node session start c i left (Err (cause.NotYet commit)) untimed = made_once {P = Option InstanceEntry × Client} clocks None fate (was_told_not_yet i session) (Some left, c) (Session session) (cause.NotYet commit) tt

@@ -44,6 +44,7 @@ heard_read clocks phase.Free items read = read
 heard_read clocks phase.Asking items read = read
 heard_read clocks phase.Open items read = read
 heard_read clocks phase.Committing items read = read
+heard_read clocks phase.Placing items read = read
 heard_read clocks phase.OpenOutcome items read = read
 heard_read clocks (phase.Completing undo) items read = read
 
@@ -72,6 +73,7 @@ begin_untimed phase.Free = tt
 begin_untimed phase.Asking = tt
 begin_untimed phase.Open = tt
 begin_untimed phase.Committing = tt
+begin_untimed phase.Placing = tt
 begin_untimed phase.OpenOutcome = tt
 begin_untimed (phase.Completing undo) = tt
 
@@ -82,6 +84,7 @@ work_untimed phase.Asking reading = tt
 work_untimed phase.Open true = tt
 work_untimed phase.Open false = tt
 work_untimed phase.Committing reading = tt
+work_untimed phase.Placing reading = tt
 work_untimed phase.OpenOutcome reading = tt
 work_untimed (phase.Completing undo) reading = tt
 
@@ -91,6 +94,7 @@ vanish_untimed phase.Free = tt
 vanish_untimed phase.Asking = tt
 vanish_untimed phase.Open = tt
 vanish_untimed phase.Committing = tt
+vanish_untimed phase.Placing = tt
 vanish_untimed phase.OpenOutcome = tt
 vanish_untimed (phase.Completing undo) = tt
 

@@ -1,17 +1,19 @@
 -- The items of the steps on the stores: those of a session, a heal among them, and those of a sweep.
-use Rattle.std.proofs.Common.{◌≢◌, ℕ, Bool, true, false, if◌then◌else◌, List, [], ◌∷◌, ◌++◌, Option, Some, None, All, inl}
-use Rattle.std.proofs.lemmas.List.Elements.{All-append}
+use Rattle.std.proofs.Common.{◌≢◌, ℕ, Bool, true, false, if◌then◌else◌, List, [], ◌∷◌, ◌++◌, Option, Some, None, All, inl, inr, refl}
+use Rattle.std.proofs.lemmas.List.Elements.{All-append, All-cons}
 use Rattle.stamp_base.specs.declared.stores.Mark.{Mark}
-use Rattle.stamp_base.specs.declared.stores.Store.TheVariants.{Cells}
+use Rattle.stamp_base.specs.declared.stores.Store.TheVariants.{Cells, Table}
 use Rattle.port_io.specs.declared.weather.Fate.{Fate}
 use Rattle.port_io.specs.declared.weather.Fate.TheVariants.{Works, FailsUnchanged, FailsApplied}
 use Rattle.history_book.specs.declared.cause.Cause.{Cause}
 use Rattle.history_book.specs.declared.cause.Cause.TheVariants as cause
 use Rattle.history_book.specs.declared.item.Actor.{Actor}
 use Rattle.history_book.specs.declared.item.Actor.TheVariants.{Session, Janitor}
+use Rattle.history_book.specs.declared.item.StoreStep.TheVariants.{PutFound}
+use Rattle.history_book.specs.declared.item.Item.{Item}
 use Rattle.history_book.specs.declared.item.Item.TheVariants as item
 use Rattle.store_parts.specs.Rows.{Row}
-use Rattle.store_parts.specs.Pairs.{Pairs}
+use Rattle.store_parts.specs.Pairs.{Pairs, mark_of}
 use Rattle.client_parts.specs.declared.asks.Ask.{Ask}
 use Rattle.client_parts.specs.declared.asks.Ask.TheVariants as ask
 use Rattle.client_parts.specs.declared.asks.Told.{Told}
@@ -21,7 +23,7 @@ use Rattle.client_parts.specs.declared.session.State.{State as SessionState}
 use Rattle.client_parts.specs.declared.session.State.TheVariants as phase
 use Rattle.client_parts.specs.KeyRead.{Reading, read_ask}
 use Rattle.client_parts.specs.Resolve.{Settling, settle_ask, SettleTurn, Goes, Decides, settle_turn}
-use Rattle.client_parts.specs.SessionSteps.{step_refusal}
+use Rattle.client_parts.specs.SessionSteps.{step_refusal, handed_commit}
 use Rattle.client_parts.specs.Sweep.{Sweeping, sweep_ask, sweep_told, is_undecided}
 use Rattle.oracle_parts.specs.Instance.{InstanceEntry}
 use Rattle.machine.specs.State.{UnderWay, Nothing, Reads, Settles, Completes, Client}
@@ -29,7 +31,8 @@ use Rattle.machine.specs.Clients.{is_reading}
 use Rattle.machine.specs.StoreSteps.{met, store_of, told_by, entry_of, mark_item, step_item, mark_kept, effect_items}
 use Rattle.machine.specs.Events.Heal.{no_offer_cause, offer_of, heal_at, heal_on, offer_asks, heal_asks}
 use Rattle.machine.specs.Events.Fetch.{client_put_fresh}
-use Rattle.machine.specs.Events.Step.{step_recall, read_step, settle_items, settle_step, complete_step, work_of, next_of, step_at, step_by, step_on, store_asked, step_asks_by, step_asks}
+use Rattle.machine.specs.Events.Place.{place_by}
+use Rattle.machine.specs.Events.Step.{step_recall, read_step, settle_items, settle_step, complete_step, work_of, next_of, step_at, step_due, step_by, step_on, store_asked, asked_next, step_asks_by, step_asks}
 use Rattle.machine.specs.Events.SweepOpen.{sweep_open_on}
 use Rattle.machine.specs.Events.SweepStep.{undecided_items, sweep_met, sweep_lists, sweep_at, sweep_step_on, sweep_step_asks}
 use Rattle.line_steps.specs.Next.{Clocks}
@@ -72,6 +75,7 @@ no_offer_untimed phase.Free = tt
 no_offer_untimed phase.Asking = tt
 no_offer_untimed phase.Open = tt
 no_offer_untimed phase.Committing = tt
+no_offer_untimed phase.Placing = tt
 no_offer_untimed phase.OpenOutcome = tt
 no_offer_untimed (phase.Completing undo) = tt
 
@@ -117,12 +121,41 @@ work_made clocks session fate c rows pairs (Settles x) = settle_made clocks sess
 work_made clocks session fate c rows pairs (Completes []) = made_none clocks None fate
 work_made clocks session fate c rows pairs (Completes (asked ∷ asks)) = complete_made clocks session fate c asked asks rows pairs
 
+-- the placing of a commit that was handed over: how its outcome is refused stands behind what the call did
+placed_read : (clocks : Clocks) (x y : Item) → IsRead clocks x → IsRead clocks y → All (IsRead clocks) (x ∷ y ∷ [])
+placed_read clocks x y first second = All-cons (IsRead clocks) x (y ∷ []) first (one_read clocks y second)
+
+place_failed : (clocks : Clocks) (session start : ℕ) (fate : Fate) (before : List Item) → fate ≢ Works → All (IsRead clocks) before → Made clocks (Some Table) fate (before ++ item.Fault (Session session) Table ∷ item.Refused (Session session) (cause.Open start) ∷ [])
+place_failed clocks session start fate before fails read = inr (record {
+  before = before;
+  actor = Session session;
+  store = Table;
+  after = item.Refused (Session session) (cause.Open start) ∷ [];
+  is = refl;
+  before_read = read;
+  after_read = one_read clocks (item.Refused (Session session) (cause.Open start)) tt;
+  asked_is = refl;
+  fails = fails;
+})
+
+place_made : (clocks : Clocks) (session start commit : ℕ) (fate : Fate) (found : Option Mark) (c : Client) (pairs : Pairs) → Made clocks (Some Table) fate (place_by session start commit fate found c pairs).items
+place_made clocks session start commit Works None c pairs = inl (placed_read clocks (item.Placed start commit) (item.Committed session start commit) tt tt)
+place_made clocks session start commit Works (Some mark) c pairs = inl (placed_read clocks (item.Step (Session session) (PutFound start)) (item.Refused (Session session) (cause.Invalid start)) tt tt)
+place_made clocks session start commit FailsUnchanged found c pairs = place_failed clocks session start FailsUnchanged [] unchanged_fails (none_read clocks)
+place_made clocks session start commit FailsApplied None c pairs = place_failed clocks session start FailsApplied (item.Placed start commit ∷ []) applied_fails (one_read clocks (item.Placed start commit) tt)
+place_made clocks session start commit FailsApplied (Some mark) c pairs = place_failed clocks session start FailsApplied [] applied_fails (none_read clocks)
+
+due_made : (clocks : Clocks) (session : ℕ) (fate : Fate) (c : Client) (rows : List Row) (pairs : Pairs) (due : Option (ℕ × ℕ)) → Made clocks (asked_next c due) fate (step_due session fate c rows pairs due).items
+due_made clocks session fate c rows pairs None = work_made clocks session fate c rows pairs (work_of c)
+due_made clocks session fate c rows pairs (Some stamps) = place_made clocks session stamps.0 stamps.1 fate (mark_of pairs stamps.0) c _
+
 idle_untimed : (reading : Bool) → IfUntimed (if reading then None else Some cause.Idle)
 idle_untimed true = tt
 idle_untimed false = tt
 
 step_untimed : (state : SessionState) (reading : Bool) → IfUntimed (step_refusal state reading)
 step_untimed phase.Gone reading = tt
+step_untimed phase.Placing reading = tt
 step_untimed phase.OpenOutcome reading = tt
 step_untimed (phase.Completing undo) reading = tt
 step_untimed phase.Free reading = idle_untimed reading
@@ -132,7 +165,7 @@ step_untimed phase.Committing reading = idle_untimed reading
 
 step_made : (clocks : Clocks) (session : ℕ) (fate : Fate) (c : Client) (rows : List Row) (pairs : Pairs) (why : Option Cause) → IfUntimed why → Made clocks (step_asks_by c why) fate (step_by session fate c rows pairs why).items
 step_made clocks session fate c rows pairs (Some why) untimed = made_refused clocks None fate (Session session) why untimed
-step_made clocks session fate c rows pairs None untimed = work_made clocks session fate c rows pairs (work_of c)
+step_made clocks session fate c rows pairs None untimed = due_made clocks session fate c rows pairs (handed_commit c.entry)
 
 pub step_on_made : (clocks : Clocks) (session : ℕ) (fate : Fate) (c : Client) (rows : List Row) (pairs : Pairs) → Made clocks (step_asks c) fate (step_on session fate c rows pairs).items
 step_on_made clocks session fate c rows pairs = step_made clocks session fate c rows pairs (step_refusal c.entry.state (is_reading c)) (step_untimed c.entry.state (is_reading c))

@@ -16,7 +16,7 @@ use Rattle.line_steps.specs.declared.point.Halt.TheVariants.{NoStamp, NotYet, Re
 use Rattle.line_steps.specs.declared.point.Point.{Point}
 use Rattle.line_steps.specs.declared.point.Point.TheVariants.{Opens, Drives, Extends, Finishes, Reads, Steps, Over}
 use Rattle.line_steps.specs.declared.point.View.{View}
-use Rattle.line_steps.specs.Halts.{halt_of, unless_halted, after_write, after_serving, after_extending, after_opening, follows}
+use Rattle.line_steps.specs.Halts.{halt_of, unless_halted, after_write, after_serving, after_extending, after_stepping, after_opening, follows}
 use Rattle.line_steps.specs.Views.{view_of}
 use Rattle.line_steps.specs.Next.{Clocks, next}
 use Rattle.line_steps.specs.Planned.{tick_by, with_tick, ticks_in}
@@ -68,6 +68,13 @@ extending_past (Some NotYet) = tt
 extending_past (Some Refused) = tt
 extending_past (Some Faulted) = tt
 
+stepping_past : (halt : Option Halt) → IsPast (after_stepping halt)
+stepping_past None = tt
+stepping_past (Some NoStamp) = tt
+stepping_past (Some NotYet) = tt
+stepping_past (Some Refused) = tt
+stepping_past (Some Faulted) = tt
+
 opening_past : (line : Verb) (halt : Option Halt) → IsPast (after_opening line halt)
 opening_past (verb.Begin target) halt = unless_past Drives halt tt
 opening_past (verb.Commit target) halt = unless_past Drives halt tt
@@ -76,7 +83,7 @@ opening_past verb.Collect halt = serving_past halt
 opening_past (verb.Write key value) halt = write_past halt
 opening_past (verb.Read key) halt = unless_past Reads halt tt
 opening_past verb.Abort halt = unless_past Finishes halt tt
-opening_past verb.Finish halt = unless_past Steps halt tt
+opening_past verb.Finish halt = stepping_past halt
 opening_past (verb.Sweep node txn) halt = unless_past Steps halt tt
 opening_past _ halt = tt
 
@@ -86,7 +93,7 @@ follows_past line Drives halt = serving_past halt
 follows_past line Extends halt = extending_past halt
 follows_past line Finishes halt = unless_past Finishes halt tt
 follows_past line Reads halt = unless_past Reads halt tt
-follows_past line Steps halt = unless_past Steps halt tt
+follows_past line Steps halt = stepping_past halt
 follows_past line Over halt = tt
 
 past_ticked : (ticks : List ℕ) (point : Point) (line : Line) → IsPast point → ticked_by ticks point line ≡ ticks_with ticks (tick_by line.actor line.verb)

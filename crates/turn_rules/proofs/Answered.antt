@@ -49,6 +49,7 @@ is_reading s doing.Reading is = refl
 is_reading s doing.Free is = absurd (none-some (event.Step s) is)
 is_reading s doing.Waiting is = absurd (none-some (event.Step s) is)
 is_reading s doing.Open is = absurd (none-some (event.Step s) is)
+is_reading s doing.Placing is = absurd (none-some (event.Step s) is)
 is_reading s doing.OpenOutcome is = absurd (none-some (event.Step s) is)
 is_reading s doing.Completing is = absurd (none-some (event.Step s) is)
 is_reading s doing.Gone is = absurd (none-some (event.Step s) is)

@@ -19,7 +19,7 @@ use Rattle.line_steps.specs.declared.point.View.{View}
 use Rattle.line_steps.specs.Halts.{halt_of, follows}
 use Rattle.line_steps.specs.Laws.{EventsLowerWhatIsLeft}
 use Rattle.line_steps.specs.Left.{drive_left, left}
-use Rattle.line_steps.specs.Next.{Clocks, is_served, finish_next, drive_next, idle_next, collect_next, next}
+use Rattle.line_steps.specs.Next.{Clocks, is_served, places, placing_next, drive_next, idle_next, collect_next, next}
 use Rattle.line_steps.specs.Views.{view_of}
 use Rattle.turn_rules.specs.declared.ahead.Ahead.TheVariants.{Waits, Passes}
 use Rattle.turn_rules.specs.declared.ahead.Why.TheVariants.{Reply, Name}
@@ -45,7 +45,7 @@ awaited false found e is = absurd (none-some e is)
 
 collected : (clocks : Clocks) (s : ℕ) (view : View) (unawaited : Bool) (e : Event) (request : Option (ℕ × Place)) → view.request ≡ request → made_by (collect_ahead s view unawaited request) ≡ Some e → IsNextOf clocks (Session s) verb.Collect Opens view e
 collected clocks s view unawaited e (Some request) at is = absurd (none-some e is)
-collected clocks s view true e None at is = inr (refl, refl, ap (λ (r : Option (ℕ × Place)). drive_next clocks s verb.Collect view r) at ∙ made_some (finish_next s view.doing) e is)
+collected clocks s view true e None at is = inr (refl, refl, ap (λ (r : Option (ℕ × Place)). drive_next clocks s verb.Collect view r) at ∙ made_some (placing_next s view.doing true) e is)
 collected clocks s view false e None at is = inl (ap (λ (r : Option (ℕ × Place)). collect_next clocks s view r) at ∙ made_some (idle_next s view.doing) e is)
 
 opens_next : (clocks : Clocks) (posted : Bool) (actor : Actor) (line : Verb) (view : View) (unawaited : Bool) (e : Event) → made_by (own_opens clocks posted actor line view unawaited) ≡ Some e → IsNextOf clocks actor line Opens view e
@@ -61,7 +61,7 @@ waited true e is = none-some e is
 waited false e is = none-some e is
 
 driven_next : (clocks : Clocks) (s : ℕ) (line : Verb) (view : View) (e : Event) (request : Option (ℕ × Place)) → view.request ≡ request → made_by (drive_ahead s line view request) ≡ Some e → next clocks (Session s) line Drives view ≡ Some e
-driven_next clocks s line view e None at is = ap (λ (r : Option (ℕ × Place)). drive_next clocks s line view r) at ∙ made_some (finish_next s view.doing) e is
+driven_next clocks s line view e None at is = ap (λ (r : Option (ℕ × Place)). drive_next clocks s line view r) at ∙ made_some (placing_next s view.doing (places line)) e is
 driven_next clocks s line view e (Some request) at is = absurd (waited (is_served line request.1) e is)
 
 -- ---- each own event
@@ -81,7 +81,7 @@ own_is_next clocks posted actor line Steps view unawaited e is = inl (made_some 
 own_is_next clocks posted actor line Over view unawaited e is = inl (made_some (next clocks actor line Over view) e is)
 
 -- ---- what is left
--- only a session's collect goes on with a completion
+-- only a session's collect goes on with a placing and a completion
 pub collects_session : (clocks : Clocks) (actor : Actor) (view : View) (e : Event) → next clocks actor verb.Collect Drives view ≡ Some e → (s : ℕ) × (actor ≡ Session s)
 collects_session clocks (Session s) view e is = (s, refl)
 collects_session clocks Clock view e is = absurd (none-some e is)

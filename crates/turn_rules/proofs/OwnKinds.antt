@@ -13,7 +13,7 @@ use Rattle.line_steps.specs.declared.point.Point.{Point}
 use Rattle.line_steps.specs.declared.point.Point.TheVariants.{Opens, Drives, Extends, Finishes, Reads, Steps, Over}
 use Rattle.line_steps.specs.declared.point.View.{View}
 use Rattle.line_steps.specs.Answers.{clock_opening, node_opening, session_opening, name_opening, has_opening}
-use Rattle.line_steps.specs.Next.{Clocks, is_served, finish_next, idle_next, read_next, steps_next, sweep_next}
+use Rattle.line_steps.specs.Next.{Clocks, is_served, finish_next, places, placing_next, idle_next, read_next, steps_next, sweep_next}
 use Rattle.line_steps.proofs.LaterEvents.{IsLater}
 use Rattle.turn_rules.specs.declared.ahead.Ahead.{Ahead}
 use Rattle.turn_rules.specs.declared.ahead.Ahead.TheVariants.{Makes, Waits, Passes}
@@ -47,6 +47,12 @@ finish_kind : (s : ℕ) (now : Doing) → IfKind (Session s) (finish_next s now)
 finish_kind s doing.Completing = refl
 finish_kind s _ = tt
 
+placing_kind : (s : ℕ) (now : Doing) (placed : Bool) → IfKind (Session s) (placing_next s now placed)
+placing_kind s doing.Placing true = refl
+placing_kind s doing.Placing false = tt
+placing_kind s doing.Completing placed = refl
+placing_kind s _ placed = tt
+
 idle_kind : (s : ℕ) (now : Doing) → IfKind (Session s) (idle_next s now)
 idle_kind s doing.Free = refl
 idle_kind s doing.Gone = refl
@@ -59,6 +65,7 @@ read_kind s _ = tt
 
 steps_kind : (s : ℕ) (now : Doing) → IfKind (Session s) (steps_next s now)
 steps_kind s doing.Reading = refl
+steps_kind s doing.Placing = refl
 steps_kind s doing.OpenOutcome = refl
 steps_kind s doing.Completing = refl
 steps_kind s _ = tt
@@ -68,12 +75,12 @@ waits_kind actor true = tt
 waits_kind actor false = tt
 
 drive_kind : (s : ℕ) (line : Verb) (view : View) (request : Option (ℕ × Place)) → AheadKind (Session s) (drive_ahead s line view request)
-drive_kind s line view None = made_kind (Session s) (finish_next s view.doing) (finish_kind s view.doing)
+drive_kind s line view None = made_kind (Session s) (placing_next s view.doing (places line)) (placing_kind s view.doing (places line))
 drive_kind s line view (Some request) = waits_kind (Session s) (is_served line request.1)
 
 collect_kind : (s : ℕ) (view : View) (unawaited : Bool) (request : Option (ℕ × Place)) → AheadKind (Session s) (collect_ahead s view unawaited request)
 collect_kind s view unawaited (Some request) = tt
-collect_kind s view true None = made_kind (Session s) (finish_next s view.doing) (finish_kind s view.doing)
+collect_kind s view true None = made_kind (Session s) (placing_next s view.doing true) (placing_kind s view.doing true)
 collect_kind s view false None = made_kind (Session s) (idle_next s view.doing) (idle_kind s view.doing)
 
 session_first : (clocks : Clocks) (posted : Bool) (s : ℕ) (line : Verb) (view : View) (unawaited : Bool) → session_opening line ≡ false → AheadKind (Session s) (own_opens clocks posted (Session s) line view unawaited)

@@ -12,7 +12,7 @@ use Rattle.script_data.specs.declared.line.Verb.TheVariants as verb
 use Rattle.line_steps.specs.declared.point.Point.{Point}
 use Rattle.line_steps.specs.declared.point.Point.TheVariants.{Opens, Drives, Extends, Finishes, Reads, Steps, Over}
 use Rattle.line_steps.specs.declared.point.View.{View}
-use Rattle.line_steps.specs.Next.{Clocks, serves, is_served, finish_next, drive_next, extend_next, idle_next, collect_next, read_next, steps_next, sweep_next, clock_opens, node_opens, session_opens, janitor_opens, session_next, janitor_next, opens_alone, next}
+use Rattle.line_steps.specs.Next.{Clocks, serves, is_served, finish_next, places, placing_next, drive_next, extend_next, idle_next, collect_next, read_next, steps_next, sweep_next, clock_opens, node_opens, session_opens, janitor_opens, session_next, janitor_next, opens_alone, next}
 use Rattle.turn_rules.proofs.OwnEvents.{IsNextOf}
 use Rattle.turn_rules.proofs.StillReading.{IsNotOf}
 
@@ -62,8 +62,14 @@ module _ (s t : ℕ) (other : s ≡ t → ⊥) where
   finish_not doing.Completing = other
   finish_not _ = tt
 
+  placing_not : (now : Doing) (placed : Bool) → IfNotOf s (placing_next t now placed)
+  placing_not doing.Placing true = other
+  placing_not doing.Placing false = tt
+  placing_not doing.Completing placed = other
+  placing_not _ placed = tt
+
   drive_not : (clocks : Clocks) (line : Verb) (view : View) (request : Option (ℕ × Place)) → IfNotOf s (drive_next clocks t line view request)
-  drive_not clocks line view None = finish_not view.doing
+  drive_not clocks line view None = placing_not view.doing (places line)
   drive_not clocks line view (Some request) = served_not clocks request.0 view.commit request.1 (is_served line request.1)
 
   idle_not : (now : Doing) → IfNotOf s (idle_next t now)
@@ -87,6 +93,7 @@ module _ (s t : ℕ) (other : s ≡ t → ⊥) where
 
   steps_not : (now : Doing) → IfNotOf s (steps_next t now)
   steps_not doing.Reading = other
+  steps_not doing.Placing = other
   steps_not doing.OpenOutcome = other
   steps_not doing.Completing = other
   steps_not _ = tt

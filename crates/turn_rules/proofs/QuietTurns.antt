@@ -11,7 +11,7 @@ use Rattle.oracle_parts.specs.declared.buckets.Verdict.TheVariants.{Free, Confli
 use Rattle.oracle_parts.specs.declared.instance.Decided.{Decided}
 use Rattle.oracle_parts.specs.declared.instance.Held.{Held}
 use Rattle.oracle_parts.specs.declared.instance.Progress.{Progress}
-use Rattle.oracle_parts.specs.declared.instance.Progress.TheVariants.{Asked, Accepted, Drawn, Settled}
+use Rattle.oracle_parts.specs.declared.instance.Progress.TheVariants.{Asked, Accepted, Drawn, Settled, Handed}
 use Rattle.oracle_parts.specs.declared.instance.Reply.{Reply}
 use Rattle.oracle_parts.specs.declared.instance.Reply.TheVariants as reply
 use Rattle.oracle_parts.specs.declared.instance.Request.{Request}
@@ -106,6 +106,7 @@ LeavesWaiting i s step = (commit : ℕ) → step.answer ≡ Err (cause.NotYet co
 answered_quiet : (node s start : ℕ) (i left : InstanceEntry) (c : Client) (answer : Result Reply Cause) → ((commit : ℕ) → answer ≡ Err (cause.NotYet commit) → not_yet_of_held (held_of i s) ≡ true → left ≡ i) → Quiet (Some i) c (answer_by node s start c i left answer)
 answered_quiet node s start i left c (Ok (reply.Begun begun epoch)) same none = absurd (cc)
 answered_quiet node s start i left c (Ok (reply.Committed commit)) same none = absurd (cc)
+answered_quiet node s start i left c (Ok (reply.Handed commit)) same none = absurd (cc)
 answered_quiet node s start i left c (Ok reply.Invalid) same none = absurd (cc)
 answered_quiet node s start i left c (Ok reply.Open) same none = absurd (cc)
 answered_quiet node s start i left c (Err (cause.NotYet commit)) same none = ap (λ (j : InstanceEntry). (Some j, c)) (same commit refl (once_told (not_yet_of_held (held_of i s)) _ none))
@@ -120,7 +121,9 @@ ready_leaves i s held (Begin session) (Drawn start) is = begin_leaves i s held s
 ready_leaves i s held (Begin session) Asked is = λ commit answer told. absurd (cc)
 ready_leaves i s held (Begin session) Accepted is = λ commit answer told. absurd (cc)
 ready_leaves i s held (Begin session) (Settled commit by) is = λ commit answer told. absurd (cc)
+ready_leaves i s held (Begin session) (Handed commit) is = λ below answer told. absurd (cc)
 ready_leaves i s held (Commit session start keys) (Settled commit by) is = λ commit answer told. absurd (cc)
+ready_leaves i s held (Commit session start keys) (Handed commit) is = λ below answer told. absurd (cc)
 ready_leaves i s held (Commit session start keys) Asked is = λ commit answer told. absurd (cc)
 ready_leaves i s held (Commit session start keys) Accepted is = λ commit answer told. absurd (cc)
 ready_leaves i s held (Commit session start keys) (Drawn stamp) is = λ commit answer told. absurd (cc)

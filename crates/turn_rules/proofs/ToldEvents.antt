@@ -1,13 +1,15 @@
 -- Steps of sessions, heals, aborts and steps of a sweep append an item each.
 use Rattle.std.proofs.Common.{◌≡◌, ℕ, Bool, true, false, List, [], ◌∷◌, ◌++◌, Option, Some, None, inl, inr, refl, sym, ◌∙◌, ap, subst}
+use Rattle.stamp_base.specs.declared.stores.Mark.{Mark}
 use Rattle.port_io.specs.declared.weather.Fate.{Fate}
 use Rattle.port_io.specs.declared.weather.Fate.TheVariants.{Works, FailsUnchanged, FailsApplied}
 use Rattle.history_book.specs.declared.cause.Cause.{Cause}
 use Rattle.history_book.specs.declared.item.Actor.{Actor}
 use Rattle.history_book.specs.declared.item.Actor.TheVariants.{Session, Janitor}
 use Rattle.history_book.specs.declared.item.Item.{Item}
+use Rattle.history_book.specs.declared.item.Item.TheVariants.{Placed}
 use Rattle.store_parts.specs.Rows.{Row}
-use Rattle.store_parts.specs.Pairs.{Pairs}
+use Rattle.store_parts.specs.Pairs.{Pairs, mark_of}
 use Rattle.client_parts.specs.declared.asks.Ask.{Ask}
 use Rattle.client_parts.specs.declared.asks.Ask.TheVariants as ask
 use Rattle.client_parts.specs.declared.asks.Told.{Told}
@@ -15,7 +17,7 @@ use Rattle.client_parts.specs.declared.session.State.{State as SessionState}
 use Rattle.client_parts.specs.declared.session.State.TheVariants as phase
 use Rattle.client_parts.specs.KeyRead.{Reading, read_ask}
 use Rattle.client_parts.specs.Resolve.{Settling, settle_ask}
-use Rattle.client_parts.specs.SessionSteps.{work_refusal, step_refusal}
+use Rattle.client_parts.specs.SessionSteps.{work_refusal, step_refusal, handed_commit}
 use Rattle.client_parts.specs.Sweep.{Sweeping, sweep_ask}
 use Rattle.machine.specs.declared.event.Event.TheVariants as event
 use Rattle.machine.specs.State.{UnderWay, Reads, Settles, Completes, Client, State}
@@ -23,14 +25,16 @@ use Rattle.machine.specs.Clients.{is_reading}
 use Rattle.machine.specs.Machine.{Step, at_client, with_client, stepped}
 use Rattle.machine.specs.Machine.{step_by as machine_step_by}
 use Rattle.machine.specs.StoreSteps.{Met, mark_kept, told_by, met}
+use Rattle.machine.specs.Effect.{kept_items}
 use Rattle.machine.specs.Events.Abort.{abort_by, abort_on}
 use Rattle.machine.specs.Events.Heal.{heal_by, heal_at, heal_on, offer_of}
 use Rattle.machine.specs.Events.Fetch.{client_put_fresh}
+use Rattle.machine.specs.Events.Place.{place_by}
 use Rattle.machine.specs.Events.Step.{work_by, work_of, read_by, settle_by, complete_by, step_by, step_at, step_on}
 use Rattle.machine.specs.Events.SweepStep.{sweep_by, sweep_lists, sweep_at, sweep_step_on}
 use Rattle.isolation_laws.specs.Sound.{Stands}
 use Rattle.isolation_laws.specs.Words.{ClientAt}
-use Rattle.line_steps.proofs.Stepping.{stores_step, step_is}
+use Rattle.line_steps.proofs.Stepping.{stores_step, step_is, unhanded, place_is}
 use Rattle.line_steps.proofs.Working.{ReadWork, CompleteWork, HasWork, has_work}
 use Rattle.line_steps.proofs.WorkItems.{HasNumber, starts}
 
@@ -76,13 +80,25 @@ read_work c k = ap (λ (state : SessionState). work_by state c.entry c.under_way
 complete_work : (c : Client) (k : CompleteWork c) → work_of c ≡ Completes (k.asked ∷ k.asks)
 complete_work c k = ap (λ (state : SessionState). work_by state c.entry c.under_way) k.completing ∙ k.under_way
 
-by_work : (w : State) (s : ℕ) (fate : Fate) (c : Client) (work : UnderWay) → ClientAt w.clients s c → step_refusal c.entry.state (is_reading c) ≡ None → work_of c ≡ work → Appends (step_at s fate c w.rows w.pairs work).items → Appends (stepped w (event.Step s) fate).items
-by_work w s fate c work at go is some = subst (λ (step : Step). Appends step.items) (sym (step_is w s fate c work at go is)) some
+-- a placing tells how it went
+open_appends : (items : List Item) (x y : Item) → Appends (items ++ x ∷ y ∷ [])
+open_appends [] x y = tt
+open_appends (z ∷ items) x y = tt
+
+place_appends : (s start commit : ℕ) (fate : Fate) (found : Option Mark) (c : Client) (pairs : Pairs) → Appends (place_by s start commit fate found c pairs).items
+place_appends s start commit Works None c pairs = tt
+place_appends s start commit Works (Some mark) c pairs = tt
+place_appends s start commit FailsUnchanged found c pairs = tt
+place_appends s start commit FailsApplied found c pairs = open_appends (kept_items FailsApplied found (Placed start commit ∷ [])) _ _
+
+by_work : (w : State) (s : ℕ) (fate : Fate) (c : Client) (work : UnderWay) → ClientAt w.clients s c → step_refusal c.entry.state (is_reading c) ≡ None → handed_commit c.entry ≡ None → work_of c ≡ work → Appends (step_at s fate c w.rows w.pairs work).items → Appends (stepped w (event.Step s) fate).items
+by_work w s fate c work at go none is some = subst (λ (step : Step). Appends step.items) (sym (step_is w s fate c work at go none is)) some
 
 work_appends : (w : State) (s : ℕ) (fate : Fate) (c : Client) → ClientAt w.clients s c → step_refusal c.entry.state (is_reading c) ≡ None → HasWork c → Appends (stepped w (event.Step s) fate).items
-work_appends w s fate c at go (inl k) = by_work w s fate c (Reads k.r) at go (read_work c k) (read_appends s (client_put_fresh c) k.r (met (Session s) (read_ask k.r) fate w.rows w.pairs) _ (met_appends (Session s) (read_ask k.r) fate w.rows w.pairs))
-work_appends w s fate c at go (inr (inl k)) = by_work w s fate c (Settles k.x) at go k.work (settle_appends s c k.x (met (Session s) (settle_ask k.x) fate w.rows w.pairs) _ (met_appends (Session s) (settle_ask k.x) fate w.rows w.pairs))
-work_appends w s fate c at go (inr (inr k)) = by_work w s fate c (Completes (k.asked ∷ k.asks)) at go (complete_work c k) (complete_appends c k.asked k.asks (met (Session s) k.asked fate w.rows w.pairs) _ (met_appends (Session s) k.asked fate w.rows w.pairs))
+work_appends w s fate c at go (inl k) = by_work w s fate c (Reads k.r) at go (unhanded c phase.Open k.is_open refl) (read_work c k) (read_appends s (client_put_fresh c) k.r (met (Session s) (read_ask k.r) fate w.rows w.pairs) _ (met_appends (Session s) (read_ask k.r) fate w.rows w.pairs))
+work_appends w s fate c at go (inr (inl k)) = by_work w s fate c (Settles k.x) at go (unhanded c phase.OpenOutcome k.is_open refl) k.work (settle_appends s c k.x (met (Session s) (settle_ask k.x) fate w.rows w.pairs) _ (met_appends (Session s) (settle_ask k.x) fate w.rows w.pairs))
+work_appends w s fate c at go (inr (inr (inl k))) = by_work w s fate c (Completes (k.asked ∷ k.asks)) at go (unhanded c (phase.Completing k.undo) k.completing refl) (complete_work c k) (complete_appends c k.asked k.asks (met (Session s) k.asked fate w.rows w.pairs) _ (met_appends (Session s) k.asked fate w.rows w.pairs))
+work_appends w s fate c at go (inr (inr (inr k))) = subst (λ (step : Step). Appends step.items) (sym (place_is w s fate c k at)) (place_appends s k.start k.commit fate (mark_of w.pairs k.start) c _)
 
 refused_step : (w : State) (s : ℕ) (fate : Fate) (c : Client) (why : Cause) → ClientAt w.clients s c → step_refusal c.entry.state (is_reading c) ≡ Some why → Appends (stepped w (event.Step s) fate).items
 refused_step w s fate c why at is = subst (λ (found : Option Client). Appends (at_client w found (λ d. stores_step w s (step_on s fate d w.rows w.pairs))).items) (sym at) (subst (λ (refusal : Option Cause). Appends (stores_step w s (step_by s fate c w.rows w.pairs refusal)).items) (sym is) tt)
@@ -109,6 +125,7 @@ abort_appends s c phase.Open false (Some start) has = tt
 abort_appends s c phase.Free reading start has = tt
 abort_appends s c phase.Asking reading start has = tt
 abort_appends s c phase.Committing reading start has = tt
+abort_appends s c phase.Placing reading start has = tt
 abort_appends s c phase.OpenOutcome reading start has = tt
 abort_appends s c (phase.Completing undo) reading start has = tt
 abort_appends s c phase.Gone reading start has = tt
