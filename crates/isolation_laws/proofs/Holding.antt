@@ -10,4 +10,5 @@ pub mod Opening
 pub mod NeverPlaced
 pub mod NeverAgain
 pub mod LostCommits
+pub mod LostPlacings
 pub mod ReadsAndTerms

@@ -4,10 +4,10 @@ ghost use Rattle.history_book.specs.declared.item.Item.{Item};
 ghost use Rattle.stamp_base.specs.SetupNumbers.{SetupNumbers, AreInRange};
 ghost use Rattle.port_io.specs.declared.weather.Fate.{Fate};
 ghost use Rattle.port_io.specs.declared.weather.Fate.TheVariants.{FailsUnchanged};
-ghost use Rattle.machine.specs.declared.event.Event.TheVariants.{Crash, Put};
+ghost use Rattle.machine.specs.declared.event.Event.TheVariants.{Crash, Put, Step, Vanish};
 ghost use Rattle.machine.specs.State.{State};
 ghost use Rattle.machine.specs.Machine.{Move, Steady, AreSteady, stepped, items_after, history_after};
-ghost use Rattle.isolation_laws.specs.Pending.{InFlight, HeldPending, Has};
+ghost use Rattle.isolation_laws.specs.Pending.{InFlight, HeldPending, PlacingAt, Has};
 ghost use Rattle.isolation_laws.specs.Sound.{Stands};
 ghost use Rattle.isolation_laws.specs.Laws.{Unplaced, IsMarkedFirst, IsLost, ReadsWhatCommits, DrawsKeepTerms, LeasesAreOfTheTerm};
 
@@ -45,8 +45,20 @@ pub fn crashes_lose_commits()
         IsLost (stepped w (Crash p.node) fate).state (h ++ (stepped w (Crash p.node) fate).items) q.start }
 {}
 
-/// A commit that was drawn is lost where its put fails without effect.
+/// Where nodes place, a commit that was drawn is lost where its put fails without effect.
 pub fn faulted_puts_lose_commits()
     ensures { (w : State) (h : List Item) (q : InFlight) (c : ℕ) → Stands w h → w.setup.direct ≡ false → (p : HeldPending w.nodes q) → q.stage ≡ Has c →
         IsLost (stepped w (Put p.node q.session) FailsUnchanged).state (h ++ (stepped w (Put p.node q.session) FailsUnchanged).items) q.start }
+{}
+
+/// A commit that its session is to place is lost where that placing fails without effect.
+pub fn faulted_placings_lose_commits()
+    ensures { (w : State) (h : List Item) (q : InFlight) → Stands w h → PlacingAt w.clients q →
+        IsLost (stepped w (Step q.session) FailsUnchanged).state (h ++ (stepped w (Step q.session) FailsUnchanged).items) q.start }
+{}
+
+/// A commit that its session is to place is lost where that session vanishes.
+pub fn vanishes_lose_commits()
+    ensures { (w : State) (h : List Item) (q : InFlight) (fate : Fate) → Stands w h → PlacingAt w.clients q →
+        IsLost (stepped w (Vanish q.session) fate).state (h ++ (stepped w (Vanish q.session) fate).items) q.start }
 {}
