@@ -60,7 +60,7 @@ settles : (w : State) (h : List Item) (s : ℕ) (c : Client) → Stands w h → 
 settles w h s c stands at is_open = elim (stands.holds.under_way.settling.resolve s c at is_open) [
   | inl none ↦
       let begun = stands.holds.requests.have_begun.begun s c at (subst (λ (state : SessionState). IsTrue (has_transaction state)) (sym is_open) refl) in
-      due c is_open none begun.0 begun.1 c.entry.keys refl (stands.holds.requests.keys.some s c at (inr is_open))
+      due c is_open none begun.0 begun.1 c.entry.keys refl (stands.holds.requests.keys.some s c at (inr (inl is_open)))
   | inr (x, t, under_way, start, own) ↦ record {
     x = x;
     is_open = is_open;
