@@ -13,13 +13,13 @@ use Rattle.machine.proofs.PartsKept.{leaves_parts}
 use Rattle.cause_rules.specs.Explained.{Shown, Explained}
 use Rattle.isolation_laws.specs.Sound.{Stands}
 use Rattle.isolation_laws.proofs.AlwaysHolds.{facts_stay, steady_stays, steady_now, stands_at_first, setup_after}
-use Rattle.cause_laws.specs.Requests.{AreAsked, AreFaulted, AreOpenAsks}
+use Rattle.cause_laws.specs.Requests.{AreAsked, AreFaulted, ArePutByNodes, AreOpenAsks}
 use Rattle.cause_laws.specs.Nodes.{AreTaken, AreVacant, AreShownStops, AreLasts}
 use Rattle.cause_laws.specs.Shows.{Shows, Tells}
 use Rattle.cause_laws.proofs.Deeds.{DeedOf, nodes_by, items_by}
 use Rattle.cause_laws.proofs.DeedsDone.{deed_of}
 use Rattle.cause_laws.proofs.ClientsStay.{clients_stay}
-use Rattle.cause_laws.proofs.AsksKept.{asked_kept, faulted_kept}
+use Rattle.cause_laws.proofs.AsksKept.{asked_kept, faulted_kept, put_kept}
 use Rattle.cause_laws.proofs.OpenAsksKept.{open_asks_kept}
 use Rattle.cause_laws.proofs.TakenKept.{taken_kept}
 use Rattle.cause_laws.proofs.VacantKept.{vacant_kept}
@@ -28,6 +28,7 @@ use Rattle.cause_laws.proofs.LastsKept.{lasts_kept}
 use Rattle.cause_laws.proofs.RecordShown.{record_kept}
 use Rattle.cause_laws.proofs.MarksShown.{marked_kept}
 use Rattle.cause_laws.proofs.GoneShown.{gone_kept}
+use Rattle.cause_laws.proofs.PlacingKept.{placing_kept}
 use Rattle.cause_laws.proofs.DuesDone.{dues}
 use Rattle.cause_laws.proofs.DueIsShown.{due_is_shown}
 use Rattle.cause_laws.proofs.ShownAtFirst.{shown_at_first}
@@ -47,6 +48,8 @@ shows_stay w h e fate stands steady shows =
       sixteen = clients_stay w h e fate stands steady ∙ shows.sixteen;
       asked = after_deed w h AreAsked step.state.nodes step.items by (asked_kept w h by.deed stands shows);
       faulted = after_deed w h AreFaulted step.state.nodes step.items by (faulted_kept w h by.deed stands shows);
+      put = subst (λ s. ArePutByNodes s step.state.nodes) (sym setup) (after_deed w h (λ nodes items. ArePutByNodes w.setup nodes) step.state.nodes step.items by (put_kept w h by.deed stands shows));
+      placing = placing_kept w h e fate stands steady shows;
       open_asks = subst (λ s. AreOpenAsks s step.state.nodes (h ++ step.items)) (sym setup) (after_deed w h (AreOpenAsks w.setup) step.state.nodes step.items by (open_asks_kept w h by.deed stands shows shows.sixteen));
       taken = after_deed w h AreTaken step.state.nodes step.items by (taken_kept w h by.deed stands shows);
       vacant = after_deed w h AreVacant step.state.nodes step.items by (vacant_kept w h by.deed stands shows);

@@ -22,10 +22,10 @@ crashed_many (held ∷ others) (c ∷ clients) = ap suc (crashed_many others cli
 moved_many : (w : State) (left : List Client) (items : List Item) → ClientsMoved w left items → length left ≡ length w.clients
 moved_many w left items (Stay same) = ap length same
 moved_many w left items (Hear requests same) = ap length same ∙ crashed_many requests w.clients
-moved_many w left items (PutBack session c new at same gone) = ap length same ∙ length-set w.clients session new
+moved_many w left items (PutBack session c new at same gone placing) = ap length same ∙ length-set w.clients session new
 
 pub clients_stay : (w : State) (h : List Item) (e : Event) (fate : Fate) → Stands w h → IsSteadyAt w.setup.skew w.seen (reading_of e) → length (stepped w e fate).state.clients ≡ length w.clients
-clients_stay w h e fate stands steady = each_outcome (λ v items. length v.clients ≡ length w.clients) w h e fate stands steady (λ o. moved_many w _ _ (moved w o))
+clients_stay w h e fate stands steady = each_outcome (λ v items. length v.clients ≡ length w.clients) w h e fate stands steady (λ o. moved_many w _ _ (moved w h o stands.holds))
 
 -- ---- the opening
 pub clients_at_first : (setup : SetupNumbers) → length (opening setup).clients ≡ 16

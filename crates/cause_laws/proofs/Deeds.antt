@@ -3,6 +3,7 @@
 use Rattle.std.proofs.Common.{[], ◌≡◌, ◌≢◌, ℕ, ◌+◌, false, List, ◌∷◌, Option, None, Some, ◌⊎◌, ◌++◌}
 use Rattle.std.specs.Prelude.{IsTrue, slice_set, All}
 use Rattle.history_book.specs.declared.item.Actor.TheVariants.{Node, Session}
+use Rattle.history_book.specs.declared.item.StoreStep.TheVariants.{Handed}
 use Rattle.history_book.specs.declared.item.Item.{Item}
 use Rattle.history_book.specs.declared.item.Item.TheVariants as item
 use Rattle.store_parts.specs.Record.{granted, is_spent, renewed_until}
@@ -113,25 +114,26 @@ pub record SettledOne (w : State) : Type 0 where
 abbrev pub EndsFor : ℕ → Item → Type 0
 EndsFor s (item.Begin session start) = session ≡ s
 EndsFor s (item.Committed session start commit) = session ≡ s
+EndsFor s (item.Step (Session session) (Handed start commit)) = session ≡ s
 EndsFor s (item.Refused (Session session) why) = (session ≡ s) × IsTrue (ends_request why)
 EndsFor s _ = ⊥
 
--- a request is over: answered, or refused for good
+-- a request is over: answered, handed over, or refused for good
 pub record Ended (w : State) : Type 0 where
   pub it : Serving w
   pub last : Item
   pub ends : EndsFor it.session last
 
--- a session learned by itself that its commit was placed; it holds no request
+-- a session that holds no request learned by itself how its commit stands
 pub record Learned (w : State) : Type 0 where
   pub session : ℕ
   pub c : Client
   pub at : ClientAt w.clients session c
-  pub outcome : c.entry.state ≡ phase.OpenOutcome
+  pub alone : (c.entry.state ≡ phase.OpenOutcome) ⊎ (c.entry.state ≡ phase.Placing)
   pub steps : List Item
   pub silent : AllSilent steps
-  pub start : ℕ
-  pub commit : ℕ
+  pub last : Item
+  pub ends : EndsFor session last
 
 -- ---- all deeds
 pub data Deed (w : State) : Type 0 where
@@ -183,7 +185,7 @@ items_by w (OfDrew k) = draw_item k.it.node k.it.i.term k.it.held.request (k.it.
 items_by w (OfSettled k) = k.effects ++ fault_of k.by k.it.node
 items_by w (OfTold k) = k.items
 items_by w (OfEnded k) = k.last ∷ []
-items_by w (OfLearned k) = k.steps ++ item.Committed k.session k.start k.commit ∷ []
+items_by w (OfLearned k) = k.steps ++ k.last ∷ []
 
 -- a step of the machine does to the nodes what a deed does, and tells it
 pub record DeedOf (w : State) (nodes : List (Option InstanceEntry)) (items : List Item) : Type 0 where

@@ -3,10 +3,9 @@ use Rattle.std.proofs.Common.{[], ◌≡◌, ℕ, ◌+◌, Bool, true, false, Li
 use Rattle.std.specs.Prelude.{slice_set}
 use Rattle.std.proofs.lemmas.List.Elements.{All-cons}
 use Rattle.stamp_base.specs.declared.stores.Mark.{Mark}
-use Rattle.stamp_base.specs.declared.stores.Mark.TheVariants.{Committed as CommittedMark, Invalid as InvalidMark}
-use Rattle.stamp_base.specs.declared.stores.Store.TheVariants.{Master}
+use Rattle.stamp_base.specs.declared.stores.Store.TheVariants.{Master, Table}
 use Rattle.history_book.specs.declared.item.Actor.TheVariants.{Node, Session, Janitor}
-use Rattle.history_book.specs.declared.item.StoreStep.TheVariants.{PutFound, Keys}
+use Rattle.history_book.specs.declared.item.StoreStep.TheVariants.{PutFound, Handed, Keys}
 use Rattle.history_book.specs.declared.item.Ending.TheVariants.{Dead as DeadEnd}
 use Rattle.history_book.specs.declared.item.Item.{Item}
 use Rattle.history_book.specs.declared.item.Item.TheVariants as item
@@ -36,13 +35,14 @@ use Rattle.isolation_laws.specs.Sound.{Stands}
 use Rattle.isolation_laws.proofs.Outcome.PlainItems.{Silent, AllSilent, none_silent, one_silent, two_silent, all_silent}
 use Rattle.isolation_laws.proofs.Outcome.OutcomesOfRecord.{StillBy, Rests, Stops, Tells, Renewed as RenewedLease, renewed_nodes, Extended, extended_nodes, fault_if}
 use Rattle.isolation_laws.proofs.Outcome.OutcomesOfStamps.{AtDrawn, PlacedOne, settled_nodes, fault_of, found_items, answered_item}
+use Rattle.isolation_laws.proofs.Outcome.OutcomesOfPlacings.{AtPlacing, own_told}
 use Rattle.isolation_laws.proofs.Outcome.OutcomesOfWork.{OutcomeStepped, fetched_turn, read_turn}
-use Rattle.isolation_laws.proofs.Outcome.Outcomes.{Outcome, OfStill, OfGranted, OfRenewed, OfExtended, OfCrashed, OfAskedBegin, OfAskedCommit, OfAccepted, OfEnded, OfDrew, OfPlaced, OfNotPlaced, OfAnsweredBegin, OfAnsweredCommit, OfEndedReadOnly, OfWrote, OfWriteFailed, OfAborted, OfVanished, OfHealed, OfFetched, OfReadDropped, OfReadStepped, OfOutcome, OfOutcomeFailed, OfCompleted, OfSweepOpened, OfSwept, OfSweepListed, OfSweepFailed, left_by, told_by_outcome}
+use Rattle.isolation_laws.proofs.Outcome.Outcomes.{Outcome, OfStill, OfGranted, OfRenewed, OfExtended, OfCrashed, OfAskedBegin, OfAskedCommit, OfAccepted, OfEnded, OfDrew, OfPlaced, OfNotPlaced, OfAnsweredBegin, OfAnsweredCommit, OfHanded, OfOwnPlaced, OfOwnNotPlaced, OfEndedReadOnly, OfWrote, OfWriteFailed, OfAborted, OfVanished, OfHealed, OfFetched, OfReadDropped, OfReadStepped, OfOutcome, OfOutcomeFailed, OfCompleted, OfSweepOpened, OfSwept, OfSweepListed, OfSweepFailed, left_by, told_by_outcome}
 use Rattle.isolation_laws.proofs.Numbers.NumbersKept.{in_flight_of, drawn_pending}
-use Rattle.isolation_laws.proofs.Owners.{has_drew}
 use Rattle.isolation_laws.proofs.Inversions.InversionOfAnswers.{not_invalid}
 use Rattle.isolation_laws.proofs.AlwaysHolds.{each_outcome}
 use Rattle.cause_laws.proofs.Deeds.{Serving, EndsFor, OfRested, OfTook, OfRenewed, OfWidened, OfStopped, OfCrashed, OfAsked, OfAccepted, OfDrew, OfSettled, OfTold, OfEnded, OfLearned, DeedOf}
+use Rattle.cause_laws.proofs.FoundMarks.{found_marked}
 use Rattle.cause_laws.proofs.HeldAsks.{own_requests, all_losses, holds_none}
 
 -- ---- the nodes stay as they were
@@ -78,8 +78,7 @@ serving w node session i held at has = record { node = node; session = session; 
 
 -- what is there in the place of a commit in flight is a mark
 is_marked : (w : State) (h : List Item) (it : AtDrawn w) (mark : Mark) → Holds w h → mark_of w.pairs it.start ≡ Some mark → Marked w.pairs it.start
-is_marked w h it InvalidMark holds is = is
-is_marked w h it (CommittedMark commit) holds is = absurd ((has_drew w.clients w.nodes h (in_flight_of w it) it.commit holds.requests.pending (inl (drawn_pending w it holds.requests.requests)) refl).1 commit (holds.cells.pairs_are.placed it.start commit is))
+is_marked w h it mark holds is = found_marked w h (in_flight_of w it) it.commit mark holds (inl (drawn_pending w it holds.requests.requests)) refl is
 
 settles : (w : State) (it : AtDrawn w) (by : Settled) (effects items : List Item) → AllSilent effects → (by ≡ how.Invalid → Marked w.pairs it.start) → items ≡ effects ++ fault_of by it.node → DeedOf w (settled_nodes w it by) items
 settles w it by effects items silent found same = record {
@@ -133,11 +132,11 @@ settle_decides w k (Some start) (Decides (outcome.Committed commit by_table)) = 
     session = k.it.session;
     c = k.it.c;
     at = k.it.client_at;
-    outcome = k.it.is_open;
+    alone = inl k.it.is_open;
     steps = k.first ∷ [];
     silent = one_silent k.first k.silent;
-    start = start;
-    commit = commit;
+    last = item.Committed k.it.session start commit;
+    ends = refl;
   });
   leaves = refl;
   tells = refl;
@@ -146,12 +145,30 @@ settle_decides w k (Some start) (Decides outcome.Dead) = rests w _ (two_silent k
 settle_decides w k (Some start) (Goes point) = rests w _ (one_silent k.first k.silent)
 settle_decides w k None turn = rests w _ (one_silent k.first k.silent)
 
+-- ---- a session has placed its commit, or was to
+placing_learned : (w : State) (it : AtPlacing w) (steps : List Item) (last : Item) → AllSilent steps → EndsFor it.session last → DeedOf w w.nodes (steps ++ last ∷ [])
+placing_learned w it steps last silent ends = record {
+  deed = OfLearned (record { session = it.session; c = it.c; at = it.client_at; alone = inr it.placing; steps = steps; silent = silent; last = last; ends = ends });
+  leaves = refl;
+  tells = refl;
+}
+
+own_told_deed : (w : State) (it : AtPlacing w) (by : Settled) → DeedOf w w.nodes (own_told by it.session it.start it.commit)
+own_told_deed w it how.Placed = placing_learned w it [] _ none_silent (answered_ends how.Placed it.session it.start it.commit)
+own_told_deed w it how.Invalid = placing_learned w it (item.Step (Session it.session) (PutFound it.start) ∷ []) _ (one_silent _ refl) (answered_ends how.Invalid it.session it.start it.commit)
+own_told_deed w it how.Faulted = placing_learned w it (item.Fault (Session it.session) Table ∷ []) _ (one_silent _ refl) (answered_ends how.Faulted it.session it.start it.commit)
+
+own_placed_deed : (w : State) (it : AtPlacing w) (by : Settled) → DeedOf w w.nodes (item.Placed it.start it.commit ∷ own_told by it.session it.start it.commit)
+own_placed_deed w it how.Placed = placing_learned w it (item.Placed it.start it.commit ∷ []) _ (one_silent _ refl) (answered_ends how.Placed it.session it.start it.commit)
+own_placed_deed w it how.Invalid = placing_learned w it (item.Placed it.start it.commit ∷ item.Step (Session it.session) (PutFound it.start) ∷ []) _ (two_silent _ _ refl refl) (answered_ends how.Invalid it.session it.start it.commit)
+own_placed_deed w it how.Faulted = placing_learned w it (item.Placed it.start it.commit ∷ item.Fault (Session it.session) Table ∷ []) _ (two_silent _ _ refl refl) (answered_ends how.Faulted it.session it.start it.commit)
+
 -- the items are these
 telling : (w : State) (nodes : List (Option InstanceEntry)) (items these : List Item) → items ≡ these → DeedOf w nodes these → DeedOf w nodes items
 telling w nodes items these same by = record { deed = by.deed; leaves = by.leaves; tells = same ∙ by.tells }
 
 -- ---- every outcome
-outcome_deed : (w : State) (h : List Item) (o : Outcome w) → Holds w h → DeedOf w (left_by w o).nodes (told_by_outcome w o)
+pub outcome_deed : (w : State) (h : List Item) (o : Outcome w) → Holds w h → DeedOf w (left_by w o).nodes (told_by_outcome w o)
 outcome_deed w h (OfStill k) holds = still_deed w k.nodes k.items k.how
 outcome_deed w h (OfGranted k) holds = record { deed = OfTook k; leaves = refl; tells = k.tells }
 outcome_deed w h (OfRenewed k) holds = telling w _ k.items _ k.tells (renewed_deed w k k.failed)
@@ -210,6 +227,9 @@ outcome_deed w h (OfPlaced k) holds = settles w k.it k.by (item.Placed k.it.star
 outcome_deed w h (OfNotPlaced k) holds = settles w k.it k.by (found_items k.by k.it.node k.it.start) k.items (found_silent k.by k.it.node k.it.start) (λ is. let there = k.found is in is_marked w h k.it there.0 holds there.1) k.tells
 outcome_deed w h (OfAnsweredBegin k) holds = ended w (serving w k.node k.session k.i k.held k.at k.has) (item.Begin k.session k.start) _ refl refl
 outcome_deed w h (OfAnsweredCommit k) holds = ended w (serving w k.node k.session k.i k.held k.at k.has) (answered_item k.by k.session k.start k.commit) k.items (answered_ends k.by k.session k.start k.commit) k.tells
+outcome_deed w h (OfHanded k) holds = ended w (serving w k.node k.session k.i k.held k.at k.has) (item.Step (Session k.session) (Handed k.start k.commit)) k.items refl k.tells
+outcome_deed w h (OfOwnPlaced k) holds = telling w w.nodes _ _ (ap (λ items. item.Placed k.it.start k.it.commit ∷ items) k.tells) (own_placed_deed w k.it k.by)
+outcome_deed w h (OfOwnNotPlaced k) holds = telling w w.nodes k.items _ k.tells (own_told_deed w k.it k.by)
 outcome_deed w h (OfEndedReadOnly k) holds = rests w k.items k.silent
 outcome_deed w h (OfWrote k) holds = rests w _ (one_silent (item.Write k.it.session k.start k.key k.value) refl)
 outcome_deed w h (OfWriteFailed k) holds = rests w k.items k.silent

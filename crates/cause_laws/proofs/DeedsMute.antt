@@ -59,5 +59,5 @@ pub ended_mute : (w : State) (k : Ended w) (s : ℕ) → AllMute s (k.last ∷ [
 ended_mute w k s = always_mute s k.last (ends_tells_none k.it.session k.last k.ends)
 
 -- an outcome that was learned
-pub learned_mute : (w : State) (k : Learned w) (s : ℕ) → AllMute s (k.steps ++ item.Committed k.session k.start k.commit ∷ [])
-learned_mute w k s = All-append (Mute s) k.steps (item.Committed k.session k.start k.commit ∷ []) (silent_mute s k.steps k.silent) (always_mute s (item.Committed k.session k.start k.commit) refl)
+pub learned_mute : (w : State) (k : Learned w) (s : ℕ) → AllMute s (k.steps ++ k.last ∷ [])
+learned_mute w k s = All-append (Mute s) k.steps (k.last ∷ []) (silent_mute s k.steps k.silent) (always_mute s k.last (ends_tells_none k.session k.last k.ends))

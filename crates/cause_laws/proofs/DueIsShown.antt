@@ -17,6 +17,7 @@ use Rattle.cause_laws.proofs.ShownOfRequests.{node_of, conflict_shown, hidden_sh
 use Rattle.cause_laws.proofs.ShownOfDecisions.{replaced_shown, spent_shown, no_stamp_shown, invalid_shown, open_shown, not_yet_shown}
 use Rattle.cause_laws.proofs.ShownOfNodes.{early_shown, spent_record_shown, overtaken_shown, holding_shown, none_shown, gone_shown, full_shown}
 use Rattle.cause_laws.proofs.ShownOfLosses.{loss_shown}
+use Rattle.cause_laws.proofs.ShownOfPlacings.{placing_shown}
 
 to_session : (w : State) (h : List Item) (s : ℕ) (why : Cause) → Stands w h → Shows w h → DueToSession w s why → ShownToSession w.setup h s why
 to_session w h s (cause.Conflict key by) stands shows due = conflict_shown w h s key by stands shows due
@@ -56,5 +57,6 @@ pub due_is_shown : (w : State) (h told : List Item) (x : Item) → Stands w h �
 due_is_shown w h told (Refused actor why) stands shows (inl any) = any w.setup (h ++ told)
 due_is_shown w h told (Refused actor why) stands shows (inr (inl (first, due))) =
     subst (λ items. ShownCause w.setup (h ++ items) actor why) (sym first) (subst (λ items. ShownCause w.setup items actor why) (sym (append-nil h)) (now_shown w h actor why stands shows due))
-due_is_shown w h told (Refused actor why) stands shows (inr (inr loss)) = loss_shown w h told actor why shows loss
+due_is_shown w h told (Refused actor why) stands shows (inr (inr (inl loss))) = loss_shown w h told actor why shows loss
+due_is_shown w h told (Refused actor why) stands shows (inr (inr (inr placing))) = placing_shown w h told actor why stands shows placing
 due_is_shown w h told _ stands shows due = tt

@@ -77,10 +77,12 @@ answer_request w node session i held c it (Begin asker) asks (progress.Drawn sta
 answer_request w node session i held c it (Begin asker) asks progress.Asked stands = no_request_due w node session
 answer_request w node session i held c it (Begin asker) asks progress.Accepted stands = no_request_due w node session
 answer_request w node session i held c it (Begin asker) asks (progress.Settled commit by) stands = no_request_due w node session
+answer_request w node session i held c it (Begin asker) asks (progress.Handed commit) stands = no_request_due w node session
 answer_request w node session i held c it (Commit asker start keys) asks progress.Asked stands = no_request_due w node session
 answer_request w node session i held c it (Commit asker start keys) asks progress.Accepted stands = no_request_due w node session
 answer_request w node session i held c it (Commit asker start keys) asks (progress.Drawn commit) stands = no_request_due w node session
 answer_request w node session i held c it (Commit asker start keys) asks (progress.Settled commit by) stands = settled_due w node session asker start commit keys by i held c it asks stands
+answer_request w node session i held c it (Commit asker start keys) asks (progress.Handed commit) stands = plain_due w _ (λ told. tt)
 
 answer_found : (w : State) (node session : ℕ) (i : InstanceEntry) (c : Client) → InstanceAt w.nodes node i → (found : Option Held) → held_of i session ≡ found → answer_due_by w node session i c (answer_held i session found) (stamps_of_held found)
 answer_found w node session i c at None has = no_request_due w node session

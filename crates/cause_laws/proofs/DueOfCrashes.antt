@@ -1,5 +1,5 @@
 -- What a crash tells the sessions whose requests it has lost is due.
-use Rattle.std.proofs.Common.{◌≡◌, ℕ, zero, suc, List, [], ◌∷◌, Option, Some, None, inr, refl, sym, ap, subst}
+use Rattle.std.proofs.Common.{◌≡◌, ℕ, zero, suc, List, [], ◌∷◌, Option, Some, None, inl, inr, refl, sym, ap, subst}
 use Rattle.std.specs.Prelude.{slice_get, slice_index_or, take, All}
 use Rattle.std.proofs.lemmas.Option.{same_Some}
 use Rattle.std.proofs.lemmas.List.Elements.{All-nil, All-cons, All-take, All-head, All-tail, All-append}
@@ -35,6 +35,7 @@ heard_told P phase.Free items told = told
 heard_told P phase.Asking items told = told
 heard_told P phase.Open items told = told
 heard_told P phase.Committing items told = told
+heard_told P phase.Placing items told = told
 heard_told P phase.OpenOutcome items told = told
 heard_told P (phase.Completing undo) items told = told
 
@@ -73,7 +74,7 @@ found_told node term requests (y ∷ items) (suc place) x told found = found_tol
 loss_due : (w : State) (node : ℕ) (i : InstanceEntry) (earlier : List Item) (x : Item) → AreRequests w.nodes w.clients → InstanceAt w.nodes node i → TellsLoss node i.term i.requests x → All IsRefusal earlier → Due w (item.Crash node i.term ∷ earlier) x
 loss_due w node i earlier x requests at tells refusals =
     let own : session_of tells.held.request ≡ tells.session = requests.own node tells.session i tells.held.request tells.held.progress at (held_by i tells.session tells.held tells.has) in
-    subst (λ (y : Item). Due w (item.Crash node i.term ∷ earlier) y) (sym tells.item_is) (inr (inr (record {
+    subst (λ (y : Item). Due w (item.Crash node i.term ∷ earlier) y) (sym tells.item_is) (inr (inr (inl (record {
       session = tells.session;
       actor_is = ap (λ s. Session s) own;
       i = i;
@@ -84,7 +85,7 @@ loss_due w node i earlier x requests at tells refusals =
       earlier = earlier;
       told_is = refl;
       refusals = refusals;
-    })))
+    }))))
 
 crash_place : (w : State) (node : ℕ) (i : InstanceEntry) (items : List Item) → AreRequests w.nodes w.clients → InstanceAt w.nodes node i → All (TellsLoss node i.term i.requests) items → (place : ℕ) (x : Item) → slice_get (item.Crash node i.term ∷ items) place ≡ Some x → Due w (take place (item.Crash node i.term ∷ items)) x
 crash_place w node i items requests at told zero x found = subst (λ (y : Item). Due w [] y) (same_Some (item.Crash node i.term) x found) tt

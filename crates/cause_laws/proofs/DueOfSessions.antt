@@ -60,6 +60,7 @@ begin_own phase.Free why is = absurd (cc)
 begin_own phase.Asking why is = told_busy phase.Asking why is
 begin_own phase.Open why is = told_busy phase.Open why is
 begin_own phase.Committing why is = told_busy phase.Committing why is
+begin_own phase.Placing why is = told_busy phase.Placing why is
 begin_own phase.OpenOutcome why is = told_busy phase.OpenOutcome why is
 begin_own (phase.Completing undo) why is = told_busy (phase.Completing undo) why is
 
@@ -70,6 +71,7 @@ work_own phase.Open true why is = told_busy phase.Open why is
 work_own phase.Open false why is = absurd (cc)
 work_own phase.Asking reading why is = told_busy phase.Asking why is
 work_own phase.Committing reading why is = told_busy phase.Committing why is
+work_own phase.Placing reading why is = told_busy phase.Placing why is
 work_own phase.OpenOutcome reading why is = told_busy phase.OpenOutcome why is
 work_own (phase.Completing undo) reading why is = told_busy (phase.Completing undo) why is
 

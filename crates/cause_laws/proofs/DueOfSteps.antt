@@ -10,6 +10,7 @@ use Rattle.history_book.specs.declared.cause.Cause.{Cause}
 use Rattle.history_book.specs.declared.cause.Cause.TheVariants as cause
 use Rattle.history_book.specs.declared.item.Actor.{Actor}
 use Rattle.history_book.specs.declared.item.Actor.TheVariants.{Session, Janitor}
+use Rattle.history_book.specs.declared.item.Item.{Item}
 use Rattle.history_book.specs.declared.item.Item.TheVariants as item
 use Rattle.client_parts.specs.declared.asks.Ask.{Ask}
 use Rattle.client_parts.specs.declared.asks.Ask.TheVariants as ask
@@ -20,7 +21,7 @@ use Rattle.client_parts.specs.declared.session.State.{State as SessionState}
 use Rattle.client_parts.specs.declared.session.State.TheVariants as phase
 use Rattle.client_parts.specs.KeyRead.{Reading, read_ask}
 use Rattle.client_parts.specs.Resolve.{Settling, settle_ask, SettleTurn, Goes, Decides, settle_turn}
-use Rattle.client_parts.specs.SessionSteps.{step_refusal}
+use Rattle.client_parts.specs.SessionSteps.{step_refusal, handed_commit}
 use Rattle.client_parts.specs.Sweep.{Sweeping, sweep_ask, sweep_told, is_undecided}
 use Rattle.oracle_parts.specs.Instance.{InstanceEntry}
 use Rattle.machine.specs.State.{UnderWay, Nothing, Reads, Settles, Completes, Client, State}
@@ -28,12 +29,14 @@ use Rattle.machine.specs.Clients.{is_reading}
 use Rattle.machine.specs.StoreSteps.{met, store_of, told_by, entry_of, mark_item, step_item, mark_kept, effect_items}
 use Rattle.machine.specs.Events.Heal.{no_offer_cause, offer_of, heal_at, heal_on}
 use Rattle.machine.specs.Events.Fetch.{client_put_fresh}
-use Rattle.machine.specs.Events.Step.{step_recall, read_step, settle_items, settle_step, complete_step, work_of, step_at, step_by, step_on}
+use Rattle.machine.specs.Events.Step.{step_recall, read_step, settle_items, settle_step, complete_step, work_of, step_at, step_due, step_by, step_on}
 use Rattle.machine.specs.Events.SweepOpen.{sweep_open_on}
 use Rattle.machine.specs.Events.SweepStep.{undecided_items, sweep_met, sweep_lists, sweep_at, sweep_step_on}
 use Rattle.isolation_laws.specs.Words.{ClientAt}
+use Rattle.isolation_laws.specs.Sound.{Stands}
 use Rattle.cause_laws.specs.Due.{AreDue}
 use Rattle.cause_laws.proofs.DueItems.{DueAnyway, AllDue, none_free, one_free, no_row_free, all_due, none_due, refusal_due, no_row_due}
+use Rattle.cause_laws.proofs.DueOfPlacings.{placing_due}
 use Rattle.cause_laws.proofs.DueOfSessions.{IsOwn, own_due, told_gone, told_own, read_free}
 
 -- ---- one step on the stores refuses nothing
@@ -124,13 +127,19 @@ step_own phase.Free reading why is = idle_own phase.Free reading why is
 step_own phase.Asking reading why is = idle_own phase.Asking reading why is
 step_own phase.Open reading why is = idle_own phase.Open reading why is
 step_own phase.Committing reading why is = idle_own phase.Committing reading why is
+step_own phase.Placing reading why is = absurd (cc)
 
-step_due : (w : State) (session : ℕ) (fate : Fate) (c : Client) → ClientAt w.clients session c → (why : Option Cause) → step_refusal c.entry.state (is_reading c) ≡ why → AreDue w (step_by session fate c w.rows w.pairs why).items
-step_due w session fate c at (Some why) is = own_due w session c why at (step_own c.entry.state (is_reading c) why is)
-step_due w session fate c at None is = work_due w session fate c (work_of c)
+-- a commit to place comes before all else
+next_due : (w : State) (h : List Item) (session : ℕ) (fate : Fate) (c : Client) → Stands w h → ClientAt w.clients session c → (stamps : Option (ℕ × ℕ)) → handed_commit c.entry ≡ stamps → AreDue w (step_due session fate c w.rows w.pairs stamps).items
+next_due w h session fate c stands at None is = work_due w session fate c (work_of c)
+next_due w h session fate c stands at (Some stamps) is = placing_due w h session fate c stamps stands at is
 
-pub step_on_due : (w : State) (session : ℕ) (fate : Fate) (c : Client) → ClientAt w.clients session c → AreDue w (step_on session fate c w.rows w.pairs).items
-step_on_due w session fate c at = step_due w session fate c at (step_refusal c.entry.state (is_reading c)) refl
+made_due : (w : State) (h : List Item) (session : ℕ) (fate : Fate) (c : Client) → Stands w h → ClientAt w.clients session c → (why : Option Cause) → step_refusal c.entry.state (is_reading c) ≡ why → AreDue w (step_by session fate c w.rows w.pairs why).items
+made_due w h session fate c stands at (Some why) is = own_due w session c why at (step_own c.entry.state (is_reading c) why is)
+made_due w h session fate c stands at None is = next_due w h session fate c stands at (handed_commit c.entry) refl
+
+pub step_on_due : (w : State) (h : List Item) (session : ℕ) (fate : Fate) (c : Client) → Stands w h → ClientAt w.clients session c → AreDue w (step_on session fate c w.rows w.pairs).items
+step_on_due w h session fate c stands at = made_due w h session fate c stands at (step_refusal c.entry.state (is_reading c)) refl
 
 -- ---- a sweep
 open_due : (w : State) (node txn : ℕ) (post : Option InstanceEntry) → slice_get w.nodes node ≡ Some post → (sweep : Option Sweeping) → AreDue w (sweep_open_on node txn post sweep).items

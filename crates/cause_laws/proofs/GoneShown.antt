@@ -18,8 +18,8 @@ use Rattle.isolation_laws.proofs.Lookups.{client_set}
 use Rattle.isolation_laws.proofs.Outcome.Outcomes.{left_by, told_by_outcome}
 use Rattle.isolation_laws.proofs.AlwaysHolds.{each_outcome}
 use Rattle.cause_laws.specs.Stores.{AreGone}
-use Rattle.cause_laws.proofs.GoneOnly.{IsGone, crashed_only}
-use Rattle.cause_laws.proofs.ClientsMoved.{ClientsMoved, Stay, Hear, PutBack, moved}
+use Rattle.cause_laws.proofs.AsBefore.{IsGone}
+use Rattle.cause_laws.proofs.ClientsMoved.{ClientsMoved, Stay, Hear, PutBack, crashed_was, moved}
 
 -- the session is gone among these
 abbrev GoneIn : List Client → ℕ → Type 0
@@ -51,20 +51,15 @@ put_told clients session c new items at told s d there gone = elim (client_set c
 ]
 
 -- ---- a crash
-crashed_in : (requests : List (Option Held)) (clients : List Client) (s : ℕ) (c : Client) → ClientAt (crashed_clients requests clients) s c → IsGone c → GoneIn clients s
-unfolding crashed_clients
-crashed_in [] clients s c at gone = (c, at, gone)
-crashed_in (held ∷ others) [] s c at gone = absurd (cc)
-crashed_in (held ∷ others) (d ∷ clients) zero c at gone = (d, refl, crashed_only held d (subst (λ (x : Client). IsGone x) (sym (same_Some _ c at)) gone))
-crashed_in (held ∷ others) (d ∷ clients) (suc s) c at gone = crashed_in others clients s c at gone
+crashed_told : (requests : List (Option Held)) (clients : List Client) (items : List Item) → GoneTold clients (crashed_clients requests clients) items
+crashed_told requests clients items s c at gone = let was = crashed_was requests clients s c at in inl (was.0, was.1, was.2.gone gone)
 
 -- ---- one event
 moved_told : (w : State) (left : List Client) (items : List Item) → ClientsMoved w left items → GoneTold w.clients left items
 moved_told w left items (Stay same) = subst (λ (clients : List Client). GoneTold w.clients clients items) (sym same) (same_told w.clients items)
-moved_told w left items (Hear requests same) = subst (λ (clients : List Client). GoneTold w.clients clients items) (sym same) (λ s c at gone. inl (crashed_in requests w.clients s c at gone))
-moved_told w left items (PutBack session c new at same (inl only)) = subst (λ (clients : List Client). GoneTold w.clients clients items) (sym same) (put_told w.clients session c new items at (λ gone. inl (only gone)))
-moved_told w left items (PutBack session c new at same (inr tells)) = subst (λ (clients : List Client). GoneTold w.clients clients items) (sym same) (put_told w.clients session c new items at (λ gone. inr tells))
+moved_told w left items (Hear requests same) = subst (λ (clients : List Client). GoneTold w.clients clients items) (sym same) (crashed_told requests w.clients items)
+moved_told w left items (PutBack session c new at same gone placing) = subst (λ (clients : List Client). GoneTold w.clients clients items) (sym same) (put_told w.clients session c new items at gone)
 
 pub gone_kept : (w : State) (h : List Item) (e : Event) (fate : Fate) → Stands w h → IsSteadyAt w.setup.skew w.seen (reading_of e) → AreGone w.clients h → AreGone (stepped w e fate).state.clients (h ++ (stepped w e fate).items)
 gone_kept w h e fate stands steady are = each_outcome (λ v items. AreGone v.clients (h ++ items)) w h e fate stands steady
-    (λ o. gone_on w.clients (left_by w o).clients h (told_by_outcome w o) (moved_told w (left_by w o).clients (told_by_outcome w o) (moved w o)) are)
+    (λ o. gone_on w.clients (left_by w o).clients h (told_by_outcome w o) (moved_told w (left_by w o).clients (told_by_outcome w o) (moved w h o stands.holds)) are)

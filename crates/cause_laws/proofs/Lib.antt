@@ -6,6 +6,7 @@ mod ShownOfDecisions
 mod HeldRecord
 mod ShownOfNodes
 mod ShownOfLosses
+mod ShownOfPlacings
 mod DueIsShown
 pub mod SinceWords
 mod AskWords
@@ -23,6 +24,7 @@ mod LastsKept
 mod ShownAtFirst
 pub mod LongerHistories
 mod HeldAsks
+mod FoundMarks
 pub mod DeedsDone
 mod DueItems
 mod DueOfRecord
@@ -30,6 +32,7 @@ mod DueOfRequests
 mod DueOfAnswers
 mod DueOfCrashes
 mod DueOfSessions
+mod DueOfPlacings
 mod DueOfSteps
 mod DuesDone
 mod OpenWords
@@ -37,8 +40,9 @@ mod RecordShown
 mod HeldCounts
 mod OpenAsksKept
 mod MarksShown
-mod GoneOnly
+mod AsBefore
 mod ClientsMoved
 mod ClientsStay
 mod GoneShown
+mod PlacingKept
 pub mod AlwaysExplained

@@ -9,7 +9,7 @@ use Rattle.machine.specs.declared.event.Event.{Event}
 use Rattle.machine.specs.State.{State}
 use Rattle.machine.specs.Machine.{stepped, reading_of, IsSteadyAt}
 use Rattle.isolation_laws.specs.Sound.{Stands}
-use Rattle.isolation_laws.proofs.Outcome.Outcomes.{Outcome, OfPlaced, OfReadDropped, OfReadStepped, OfOutcome, OfOutcomeFailed, OfCompleted, OfSwept, OfSweepFailed, left_by, told_by_outcome}
+use Rattle.isolation_laws.proofs.Outcome.Outcomes.{Outcome, OfPlaced, OfOwnPlaced, OfReadDropped, OfReadStepped, OfOutcome, OfOutcomeFailed, OfCompleted, OfSwept, OfSweepFailed, left_by, told_by_outcome}
 use Rattle.isolation_laws.proofs.Stores.MarksTold.{MarksTold, marks_same, marks_behind, placed_marks}
 use Rattle.isolation_laws.proofs.AlwaysHolds.{each_outcome}
 use Rattle.cause_laws.specs.Stores.{AreMarked}
@@ -25,6 +25,7 @@ marked_on old new h items told are = record {
 -- an outcome that changes the table tells the marks that it places
 outcome_marks : (w : State) (o : Outcome w) → MarksTold w.pairs (left_by w o).pairs (told_by_outcome w o)
 outcome_marks w (OfPlaced k) = placed_marks w.pairs k.it.start k.it.commit _
+outcome_marks w (OfOwnPlaced k) = placed_marks w.pairs k.it.start k.it.commit _
 outcome_marks w (OfReadDropped k) = k.marks
 outcome_marks w (OfReadStepped k) = marks_behind _ _ (k.first ∷ []) _ k.marks
 outcome_marks w (OfOutcome k) = k.marks

@@ -17,7 +17,7 @@ use Rattle.oracle_parts.specs.declared.instance.Request.{Request}
 use Rattle.oracle_parts.specs.declared.instance.Settled.{Settled}
 use Rattle.oracle_parts.specs.declared.instance.Settled.TheVariants as how
 use Rattle.oracle_parts.specs.Instance.{InstanceEntry, with_request, session_of}
-use Rattle.oracle_parts.specs.InstanceSteps.{without_request, just_asked, decide_drawn, instance_widened, instance_renewed, instance_stopped}
+use Rattle.oracle_parts.specs.InstanceSteps.{without_request, just_asked, drawn_as, decide_drawn, instance_widened, instance_renewed, instance_stopped}
 use Rattle.oracle_parts.proofs.InstanceRequests.{held_of-instance_new}
 use Rattle.machine.specs.State.{State}
 use Rattle.machine.specs.Events.Take.{rules_of, instance_of, take_item}
@@ -57,14 +57,14 @@ came_took : (w : State) (k : Granted w) (failed : Bool) → AllCame w.nodes (too
 came_took w k true m s now at = came_all w.nodes (took_items w k) (λ m. calm_stays w.nodes (took_items w k) m (took_calm w k m)) m s now at
 came_took w k false m s now at =
     came_calm w.nodes (took_items w k) k.node None (Some (instance_of w.setup k.node (granted (rules_of w.setup) w.master k.reading))) k.vacant (took_calm w k)
-    (λ r. ap count_of (held_of-instance_new (granted (rules_of w.setup) w.master k.reading) k.node w.setup.buckets w.setup.width w.setup.slots w.setup.direct w.setup.direct r)) m s now at
+    (λ r. ap count_of (held_of-instance_new (granted (rules_of w.setup) w.master k.reading) k.node w.setup.buckets w.setup.width w.setup.slots r w.setup.direct)) m s now at
 
 no_requests : Option Held
 no_requests = None
 
 shaped_took : (w : State) (k : Granted w) (failed : Bool) → AllShaped w.setup w.nodes → AllShaped w.setup (granted_nodes w k failed)
 shaped_took w k true all m j at = all m j at
-shaped_took w k false all m j at = shaped_put w.setup w.nodes k.node (instance_of w.setup k.node (granted (rules_of w.setup) w.master k.reading)) all (refl, length-replicate 16 no_requests) m j at
+shaped_took w k false all m j at = shaped_put w.setup w.nodes k.node (instance_of w.setup k.node (granted (rules_of w.setup) w.master k.reading)) all (refl, refl, length-replicate 16 no_requests) m j at
 
 -- ---- a crash
 loss_no_ask : (n s : ℕ) (i : InstanceEntry) (x : Item) → IsLossOf i x → asks_at n s x ≡ false
@@ -121,12 +121,12 @@ came_ended w h k stands =
     (λ m other s post at. unheld_keeps w.nodes m s it.session post k.last at (ends_no_ask m it.session s k.last k.ends) (ends_of_other m it.session s k.last k.ends)
     (λ j request p there holds. other ((serving_alone w h it stands).one m j request p there holds)))
 
-came_learned : (w : State) (h : List Item) (k : Learned w) → Stands w h → AllCame w.nodes (k.steps ++ item.Committed k.session k.start k.commit ∷ []) w.nodes
+came_learned : (w : State) (h : List Item) (k : Learned w) → Stands w h → AllCame w.nodes (k.steps ++ k.last ∷ []) w.nodes
 came_learned w h k stands =
-    let last : Item = item.Committed k.session k.start k.commit in
+    let last : Item = k.last in
     came_all w.nodes (k.steps ++ last ∷ []) (λ m s post at.
     let keeps : Keeps m s (held_count post s) last =
-    unheld_keeps w.nodes m s k.session post last at refl (ends_of_other m k.session s last refl) (learned_unheld w h k stands m) in
+    unheld_keeps w.nodes m s k.session post last at (ends_no_ask m k.session s last k.ends) (ends_of_other m k.session s last k.ends) (learned_unheld w h k stands m) in
     open_kept m s (held_count post s) (k.steps ++ last ∷ [])
     (All-append (Keeps m s (held_count post s)) k.steps (last ∷ []) (all_calm_keep m s (held_count post s) k.steps (all_silent_calm m s k.steps k.silent))
     (All-cons (Keeps m s (held_count post s)) last [] keeps (All-nil (Keeps m s (held_count post s))))))
@@ -147,13 +147,13 @@ came_by w h (OfStopped k) stands sixteen shaped =
 came_by w h (OfCrashed k) stands sixteen shaped = came_crashed w h k stands
 came_by w h (OfAsked k) stands sixteen shaped =
     let within : session_of k.request < length w.clients = slice_get_within w.clients (session_of k.request) k.c k.client_at in
-    came_asked w k (subst (λ (count : ℕ). session_of k.request < count) (sixteen ∙ sym (shaped k.node k.i k.at).1) within)
+    came_asked w k (subst (λ (count : ℕ). session_of k.request < count) (sixteen ∙ sym (shaped k.node k.i k.at).2) within)
 came_by w h (OfAccepted k) stands sixteen shaped =
     came_calm w.nodes (item.Accept k.it.session k.it.node k.it.i.term k.reading ∷ []) k.it.node (Some k.it.i) _ k.it.at (λ m s. one_calm m s _ (record { asks = refl; closes_none = refl })) (count_same k.it.i k.it.session k.it.held (record k.it.held { progress = progress.Accepted }) k.it.has)
 came_by w h (OfDrew k) stands sixteen shaped =
     let stamp : ℕ = k.it.i.last + 1 in
     came_calm w.nodes (draw_item k.it.node k.it.i.term k.it.held.request stamp ∷ []) k.it.node (Some k.it.i) (Some (decide_drawn k.it.i k.it.session k.it.held stamp).left) k.it.at
-    (λ m s. one_calm m s (draw_item k.it.node k.it.i.term k.it.held.request stamp) (draw_calm m s k.it.node k.it.i.term stamp k.it.held.request)) (count_same k.it.i k.it.session k.it.held (record k.it.held { progress = progress.Drawn stamp }) k.it.has)
+    (λ m s. one_calm m s (draw_item k.it.node k.it.i.term k.it.held.request stamp) (draw_calm m s k.it.node k.it.i.term stamp k.it.held.request)) (count_same k.it.i k.it.session k.it.held (record k.it.held { progress = drawn_as k.it.i.direct k.it.held.request stamp }) k.it.has)
 came_by w h (OfSettled k) stands sixteen shaped =
     came_calm w.nodes (k.effects ++ fault_of k.by k.it.node) k.it.node (Some k.it.i) _ k.it.at
     (λ m s. All-append (Calm m s) k.effects (fault_of k.by k.it.node) (all_silent_calm m s k.effects k.silent) (fault_of_calm m s k.it.node k.by)) (count_same k.it.i k.it.session k.it.held (record k.it.held { progress = progress.Settled k.commit k.by }) k.it.has)
@@ -173,7 +173,7 @@ shaped_by w (OfAsked k) all = shaped_request_put w k.node k.i (session_of k.requ
 shaped_by w (OfAccepted k) all = shaped_request_put w k.it.node k.it.i k.it.session (Some (record k.it.held { progress = progress.Accepted })) k.it.at all
 shaped_by w (OfDrew k) all =
     let stamp : ℕ = k.it.i.last + 1 in
-    shaped_put w.setup w.nodes k.it.node (decide_drawn k.it.i k.it.session k.it.held stamp).left all (shape_request w.setup k.it.i k.it.session (Some (record k.it.held { progress = progress.Drawn stamp })) (all k.it.node k.it.i k.it.at))
+    shaped_put w.setup w.nodes k.it.node (decide_drawn k.it.i k.it.session k.it.held stamp).left all (shape_request w.setup k.it.i k.it.session (Some (record k.it.held { progress = drawn_as k.it.i.direct k.it.held.request stamp })) (all k.it.node k.it.i k.it.at))
 shaped_by w (OfSettled k) all = shaped_request_put w k.it.node k.it.i k.it.session (Some (record k.it.held { progress = progress.Settled k.commit k.by })) k.it.at all
 shaped_by w (OfTold k) all = shaped_request_put w k.it.node k.it.i k.it.session (Some k.told) k.it.at all
 shaped_by w (OfEnded k) all = shaped_request_put w k.it.node k.it.i k.it.session None k.it.at all

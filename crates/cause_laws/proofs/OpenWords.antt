@@ -7,6 +7,7 @@ use Rattle.std.proofs.lemmas.List.Elements.{All-head, All-tail, All-weaker}
 use Rattle.std.proofs.lemmas.List.Sums.{fold-append}
 use Rattle.history_book.specs.declared.cause.Cause.{Cause}
 use Rattle.history_book.specs.declared.item.Actor.TheVariants.{Node, Session, Janitor, Clock}
+use Rattle.history_book.specs.declared.item.StoreStep.TheVariants.{Handed}
 use Rattle.history_book.specs.declared.item.Item.{Item}
 use Rattle.history_book.specs.declared.item.Item.TheVariants as item
 use Rattle.oracle_parts.specs.declared.instance.Request.{Request}
@@ -69,6 +70,7 @@ silent_calm n s (item.AskCommit session node start) silent = absurd (cc)
 silent_calm n s (item.Begin session start) silent = absurd (cc)
 silent_calm n s (item.Committed session start commit) silent = absurd (cc)
 silent_calm n s (item.Crash node term) silent = absurd (cc)
+silent_calm n s (item.Step actor (Handed start commit)) silent = absurd (cc)
 silent_calm n s (item.Refused (Session r) why) silent = refusal_calm n s r why (ends_request why) refl silent
 silent_calm n s (item.Refused (Node node) why) silent = record { asks = refl; closes_none = refl }
 silent_calm n s (item.Refused Janitor why) silent = record { asks = refl; closes_none = refl }
@@ -114,6 +116,7 @@ ends_no_ask n s r _ ends = refl
 pub ends_closes : (n s : ℕ) (x : Item) → EndsFor s x → closes n s x ≡ true
 ends_closes n s (item.Begin session start) ends = eq-eqb session s ends
 ends_closes n s (item.Committed session start commit) ends = eq-eqb session s ends
+ends_closes n s (item.Step (Session session) (Handed start commit)) ends = eq-eqb session s ends
 ends_closes n s (item.Refused (Session session) why) ends = ap (λ b. b && ends_request why) (eq-eqb session s ends.0) ∙ ends.1
 ends_closes n s _ ends = absurd ends
 
@@ -123,5 +126,6 @@ not_session a s r same other = ne_eqb a r (λ is. other (sym is ∙ same))
 pub ends_of_other : (n s r : ℕ) (x : Item) → EndsFor s x → r ≢ s → Calm n r x
 ends_of_other n s r (item.Begin session start) ends other = record { asks = refl; closes_none = not_session session s r ends other }
 ends_of_other n s r (item.Committed session start commit) ends other = record { asks = refl; closes_none = not_session session s r ends other }
+ends_of_other n s r (item.Step (Session session) (Handed start commit)) ends other = record { asks = refl; closes_none = not_session session s r ends other }
 ends_of_other n s r (item.Refused (Session session) why) ends other = record { asks = refl; closes_none = ap (λ b. b && ends_request why) (not_session session s r ends.0 other) }
 ends_of_other n s r _ ends other = absurd ends

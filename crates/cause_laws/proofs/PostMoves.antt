@@ -53,8 +53,8 @@ fault_calm how.Faulted node = calm_one (item.Fault _ _) refl
 settled_calm : (w : State) (k : SettledOne w) → AllCalm (k.effects ++ fault_of k.by k.it.node)
 settled_calm w k = All-append (λ (x : Item). is_calm x ≡ true) k.effects (fault_of k.by k.it.node) (silent_calm k.effects k.silent) (fault_calm k.by k.it.node)
 
-learned_calm : (w : State) (k : Learned w) → AllCalm (k.steps ++ item.Committed k.session k.start k.commit ∷ [])
-learned_calm w k = All-append (λ (x : Item). is_calm x ≡ true) k.steps (item.Committed k.session k.start k.commit ∷ []) (silent_calm k.steps k.silent) (calm_one (item.Committed k.session k.start k.commit) refl)
+learned_calm : (w : State) (k : Learned w) → AllCalm (k.steps ++ k.last ∷ [])
+learned_calm w k = All-append (λ (x : Item). is_calm x ≡ true) k.steps (k.last ∷ []) (silent_calm k.steps k.silent) (calm_one k.last (last_calm k.session k.last k.ends))
 
 -- the deed is neither a take nor a crash
 abbrev pub is_calm_deed : {w : State} → Deed w → Bool

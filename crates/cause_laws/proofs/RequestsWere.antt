@@ -1,5 +1,5 @@
 -- Where the requests come from that are held after a deed: they were held before, or the deed changed one of them.
-use Rattle.std.proofs.Common.{◌≡◌, ◌≢◌, ℕ, List, Option, None, Some, ◌⊎◌, inl, inr, refl, sym, ◌∙◌, ap, subst}
+use Rattle.std.proofs.Common.{◌≡◌, ◌≢◌, ℕ, Bool, List, Option, None, Some, ◌⊎◌, inl, inr, refl, sym, ◌∙◌, ap, subst}
 use Rattle.std.specs.Prelude.{slice_set}
 use Rattle.history_book.specs.declared.item.Item.{Item}
 use Rattle.client_parts.specs.declared.session.State.TheVariants as phase
@@ -45,8 +45,8 @@ pub were_ended : (nodes : List (Option InstanceEntry)) (n : ℕ) → AllWere nod
 were_ended nodes n m s j request p there holds = record { i = j; at = (instance_ended nodes n m j there).1; term_is = refl; holds = holds }
 
 -- what is told of a request that was held before
-pub was_told : (nodes : List (Option InstanceEntry)) (h : List Item) (n s term : ℕ) (request : Request) (p : Progress) → AllTold nodes h → Was nodes n s term request p → Told h n s term request p
-was_told nodes h n s term request p all was = subst (λ (t : ℕ). Told h n s t request p) was.term_is (all n s was.i request p was.at was.holds)
+pub was_told : (direct : Bool) (nodes : List (Option InstanceEntry)) (h : List Item) (n s term : ℕ) (request : Request) (p : Progress) → AllTold direct nodes h → Was nodes n s term request p → Told direct h n s term request p
+was_told direct nodes h n s term request p all was = subst (λ (t : ℕ). Told direct h n s t request p) was.term_is (all n s was.i request p was.at was.holds)
 
 -- ---- a node alone has a request of the session
 pub record Alone (nodes : List (Option InstanceEntry)) (n s : ℕ) : Type 0 where
@@ -83,8 +83,21 @@ unheld_by w h s c stands client_at not m j request p at holds =
 pub asked_unheld : (w : State) (h : List Item) (k : Asked w) → Stands w h → Unheld w.nodes (session_of k.request)
 asked_unheld w h k stands = unheld_by w h (session_of k.request) k.c stands k.client_at (λ request waits. idle_waits_not request k.c k.idle waits)
 
+-- nor one that learns by itself how its commit stands
+abbrev pub IsAlone : Client → Type 0
+IsAlone c = (c.entry.state ≡ phase.OpenOutcome) ⊎ (c.entry.state ≡ phase.Placing)
+
+alone_waits_not : (request : Request) (c : Client) → IsAlone c → WaitsFor request c → ⊥
+alone_waits_not request c alone waits = elim alone [
+  | inl outcome ↦ waits_not request c waits (λ is. cc) (λ is. cc) (λ is. cc)
+  | inr placing ↦ waits_not request c waits (λ is. cc) (λ is. cc) (λ is. cc)
+]
+
+pub alone_unheld : (w : State) (h : List Item) (s : ℕ) (c : Client) → Stands w h → ClientAt w.clients s c → IsAlone c → Unheld w.nodes s
+alone_unheld w h s c stands at alone = unheld_by w h s c stands at (λ request waits. alone_waits_not request c alone waits)
+
 pub learned_unheld : (w : State) (h : List Item) (k : Learned w) → Stands w h → Unheld w.nodes k.session
-learned_unheld w h k stands = unheld_by w h k.session k.c stands k.at (λ request waits. waits_not request k.c waits (λ is. cc) (λ is. cc) (λ is. cc))
+learned_unheld w h k stands = alone_unheld w h k.session k.c stands k.at k.alone
 
 pub unheld_alone : (nodes : List (Option InstanceEntry)) (n s : ℕ) → Unheld nodes s → Alone nodes n s
 unheld_alone nodes n s unheld = record { one = λ m j request p at holds. absurd (unheld m j request p at holds) }

@@ -20,10 +20,14 @@ use Rattle.cause_laws.proofs.ClientsStay.{clients_at_first}
 nobody_asked : (n s : ℕ) (post : Option InstanceEntry) → post ≡ None → open_asks_of [] n s ≡ held_count post s
 nobody_asked n s post none = sym (ap (λ p. held_count p s) none)
 
+all_free : (setup : SetupNumbers) (s : ℕ) (c : Client) → ClientAt (opening setup).clients s c → phase.Free ≡ c.entry.state
+all_free setup s c at = ap (λ (x : Client). x.entry.state) (sym (found_copy 16 s (client_new setup.cache) c at))
+
 nobody_gone : (setup : SetupNumbers) (s : ℕ) (c : Client) → ClientAt (opening setup).clients s c → c.entry.state ≡ phase.Gone → Vanish s ∈ []
-nobody_gone setup s c at gone =
-    let clash : phase.Free ≡ phase.Gone = ap (λ (x : Client). x.entry.state) (sym (found_copy 16 s (client_new setup.cache) c at)) ∙ gone in
-    absurd (cc)
+nobody_gone setup s c at gone = let clash : phase.Free ≡ phase.Gone = all_free setup s c at ∙ gone in absurd (cc)
+
+nobody_placing : (setup : SetupNumbers) (s : ℕ) (c : Client) → ClientAt (opening setup).clients s c → c.entry.state ≡ phase.Placing → ⊥
+nobody_placing setup s c at placing = let clash : phase.Free ≡ phase.Placing = all_free setup s c at ∙ placing in cc
 
 none_marked : (t : ℕ) → Marked map.empty t → ⊥
 none_marked t marked = none-some InvalidMark (sym (map.get-empty nat_cmp t) ∙ marked)
@@ -40,9 +44,12 @@ shown_at_first setup = record {
     faulted = λ n s r t c i keys at. absurd (none_at setup.nodes n i at);
     marked = λ n s r t c i keys at. absurd (none_at setup.nodes n i at);
   };
+  put = record { each = λ n s i request p at. absurd (none_at setup.nodes n i at) };
+  placing = record { each = λ s start commit c at placing. absurd (nobody_placing setup s c at placing) };
   open_asks = record {
     each = λ n s post at. nobody_asked n s post (found_copy setup.nodes n None post at);
     slots = λ n i at. absurd (none_at setup.nodes n i at);
+    direct = λ n i at. absurd (none_at setup.nodes n i at);
     sixteen = λ n i at. absurd (none_at setup.nodes n i at);
   };
   taken = record {

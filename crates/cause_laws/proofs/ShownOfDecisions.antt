@@ -1,12 +1,14 @@
 -- What is due at a decision and at an answer is shown.
-use Rattle.std.proofs.Common.{◌≡◌, ℕ, ◌<◌, List, Option, None, Some, ◌⊎◌, inl, inr, refl, sym, ◌∙◌, ap, subst, arith}
+use Rattle.std.proofs.Common.{◌≡◌, ℕ, ◌<◌, Bool, false, List, Option, None, Some, ◌⊎◌, inl, inr, refl, sym, ◌∙◌, ap, subst, arith}
 use Rattle.std.proofs.lemmas.List.{get_or_default}
 use Rattle.std.proofs.lemmas.Option.{same_Some, none-some}
+use Rattle.stamp_base.specs.declared.stores.Store.TheVariants.{Table}
+use Rattle.history_book.specs.Members.{◌∈◌}
 use Rattle.history_book.specs.Isolation.{Committed}
 use Rattle.history_book.specs.declared.cause.Cause.{Cause}
 use Rattle.history_book.specs.declared.cause.Cause.TheVariants as cause
 use Rattle.history_book.specs.declared.item.Item.{Item}
-use Rattle.history_book.specs.declared.item.Item.TheVariants.{Draw}
+use Rattle.history_book.specs.declared.item.Item.TheVariants.{Draw, Fault}
 use Rattle.oracle_parts.specs.declared.instance.Held.{Held}
 use Rattle.oracle_parts.specs.declared.instance.Progress.{Progress}
 use Rattle.oracle_parts.specs.declared.instance.Progress.TheVariants as progress
@@ -17,9 +19,9 @@ use Rattle.oracle_parts.specs.Instance.{InstanceEntry, held_of, unsettled_by, un
 use Rattle.oracle_parts.specs.InstanceLaws.{IsLeastUnsettled}
 use Rattle.oracle_parts.proofs.InstanceBegins.{least_is_least}
 use Rattle.machine.specs.State.{State}
-use Rattle.cause_rules.specs.Asks.{its_draw}
+use Rattle.cause_rules.specs.Asks.{its_draw, since_draw}
 use Rattle.cause_rules.specs.Posts.{CeilingGiven}
-use Rattle.cause_rules.specs.Commits.{StampDrawn, ShownReplaced, ShownNoStamp, ShownInvalid, ShownOpen, ShownNotYet}
+use Rattle.cause_rules.specs.Commits.{StampDrawn, placer, ShownReplaced, ShownNoStamp, ShownInvalid, ShownOpen, ShownNotYet}
 use Rattle.cause_rules.specs.Refusals.{ShownSpent}
 use Rattle.isolation_laws.specs.Words.{InstanceAt, HeldBy, DrewCommit}
 use Rattle.isolation_laws.specs.Pending.{InFlight, HeldPending, Has}
@@ -78,14 +80,16 @@ invalid_shown w h s start shows due =
       marked = mark.1;
     }
 
-pub open_shown : (w : State) (h : List Item) (s start : ℕ) → Shows w h → DueSettled w s start how.Faulted → ShownOpen h s start
+pub open_shown : (w : State) (h : List Item) (s start : ℕ) → Shows w h → DueSettled w s start how.Faulted → ShownOpen w.setup h s start
 open_shown w h s start shows due =
     let drew : its_draw h s ≡ Some (start, Some due.commit) = shows.asked.drawn due.serves.node s due.i (Commit due.asker start due.keys) (progress.Settled due.commit how.Faulted) (start, Some due.commit) due.serves.at due.serves.holds refl in
+    let put : w.setup.direct ≡ false = shows.put.each due.serves.node s due.i (Commit due.asker start due.keys) (progress.Settled due.commit how.Faulted) due.serves.at due.serves.holds in
+    let fault = shows.faulted.faulted due.serves.node s due.asker start due.commit due.i due.keys due.serves.at due.serves.holds in
     record {
       start_is = start_of w h s due.asker start due.keys due.i _ shows due.serves;
       node = due.serves.node;
       node_is = node_of w h s due.i (Commit due.asker start due.keys) _ shows due.serves;
-      lost = inl (due.commit, drew, shows.faulted.faulted due.serves.node s due.asker start due.commit due.i due.keys due.serves.at due.serves.holds);
+      lost = inl (due.commit, drew, subst (λ (direct : Bool). Fault (placer direct due.serves.node s) Table ∈ since_draw h s) (sym put) fault);
     }
 
 -- ---- the answer to a begin
@@ -108,6 +112,7 @@ of_held i session commit held has (Commit asker start keys) is (progress.Drawn s
 of_held i session commit held has (Commit asker start keys) is progress.Asked stands e = absurd (none-some commit e)
 of_held i session commit held has (Commit asker start keys) is progress.Accepted stands e = absurd (none-some commit e)
 of_held i session commit held has (Commit asker start keys) is (progress.Settled c by) stands e = absurd (none-some commit e)
+of_held i session commit held has (Commit asker start keys) is (progress.Handed c) stands e = absurd (none-some commit e)
 of_held i session commit held has (Begin asker) is p stands e = absurd (none-some commit e)
 
 of_some : (i : InstanceEntry) (session commit : ℕ) (found : Option Held) → held_of i session ≡ found → unsettled_commit found ≡ Some commit → Waiting i commit
@@ -128,7 +133,7 @@ same_writer h t s m other u c stands placed drew =
     let by = stands.holds.numbers.placed.drawn t c placed in
     one_start by.0 by.1 by.2 t s m other u c (drawn_once h by.0 s by.1 m by.2 other t u (Some c) (Some c) stands.holds.numbers.new by.3 drew refl)
 
-pub not_yet_shown : (w : State) (h : List Item) (s commit : ℕ) → Stands w h → Shows w h → DueNotYet w s commit → ShownNotYet h s commit
+pub not_yet_shown : (w : State) (h : List Item) (s commit : ℕ) → Stands w h → Shows w h → DueNotYet w s commit → ShownNotYet w.setup h s commit
 not_yet_shown w h s commit stands shows due =
     let n : ℕ = due.serves.node in
     let least = least_is_least due.i.requests due.start commit due.least in
@@ -138,8 +143,9 @@ not_yet_shown w h s commit stands shows due =
     let q : InFlight = record { session = waits.session; start = waits.start; keys = waits.keys; stage = Has commit } in
     let pending : HeldPending w.nodes q = record { node = n; instance_of = due.i; progress_of = progress.Drawn commit; at = due.serves.at; held = held; stage_is = refl } in
     let so_far = stands.holds.requests.pending.so_far q (inl pending) in
-    let drew : DrewCommit h waits.session n due.i.term waits.start commit = stands.holds.requests.pending.here n waits.session waits.start commit waits.keys due.i due.serves.at held in
+    let drew : DrewCommit h waits.session n due.i.term waits.start commit = stands.holds.requests.pending.here n waits.session waits.start commit waits.keys (progress.Drawn commit) due.i due.serves.at held refl in
     record {
+      waits = shows.put.each n waits.session due.i (Commit waits.asker waits.start waits.keys) (progress.Drawn commit) due.serves.at waits.holds;
       node = n;
       node_is = node_of w h s due.i (Begin due.asker) (progress.Drawn due.start) shows due.serves;
       start = due.start;

@@ -1,13 +1,15 @@
 -- What a refusal says of the state that it is made in: the state is as the cause tells.
-use Rattle.std.specs.Prelude.{◌≡◌, ◌≢◌, ℕ, ◌+◌, ◌<◌, ◌≤◌, ◌^◌, ◌⊎◌, All, List, [], ◌∷◌, slice_get, None, Some, IsSome}
+use Rattle.std.specs.Prelude.{◌≡◌, ◌≢◌, ℕ, ◌+◌, ◌<◌, ◌≤◌, ◌^◌, ◌⊎◌, All, List, [], ◌∷◌, ◌++◌, slice_get, None, Some, IsSome}
 use Rattle.stamp_base.specs.SetupNumbers.{SetupNumbers}
+use Rattle.stamp_base.specs.declared.stores.Store.TheVariants.{Table}
 use Rattle.history_book.specs.Members.{AtEach}
 use Rattle.history_book.specs.declared.cause.Cause.{Cause}
 use Rattle.history_book.specs.declared.cause.Cause.TheVariants as cause
 use Rattle.history_book.specs.declared.item.Actor.{Actor}
 use Rattle.history_book.specs.declared.item.Actor.TheVariants.{Session, Node, Janitor, Clock}
+use Rattle.history_book.specs.declared.item.StoreStep.TheVariants.{PutFound}
 use Rattle.history_book.specs.declared.item.Item.{Item}
-use Rattle.history_book.specs.declared.item.Item.TheVariants.{Refused, Crash}
+use Rattle.history_book.specs.declared.item.Item.TheVariants.{Refused, Crash, Placed, Step, Fault}
 use Rattle.client_parts.specs.declared.session.State.TheVariants as phase
 use Rattle.oracle_parts.specs.declared.buckets.Verdict.{Verdict}
 use Rattle.oracle_parts.specs.declared.buckets.Verdict.TheVariants.{Conflict, Hidden}
@@ -21,7 +23,7 @@ use Rattle.oracle_parts.specs.Instance.{InstanceEntry, in_flight, least_unsettle
 use Rattle.machine.specs.State.{Client, State}
 use Rattle.machine.specs.Events.Decide.{both_verdict}
 use Rattle.cause_rules.specs.Explained.{ShownCause}
-use Rattle.isolation_laws.specs.Words.{InstanceAt, HeldBy, ClientAt}
+use Rattle.isolation_laws.specs.Words.{InstanceAt, HeldBy, ClientAt, Marked}
 
 -- ---- the refusals of a request
 -- an instance holds the session's request, which has come this far
@@ -181,13 +183,46 @@ pub record DueLoss (w : State) (told : List Item) (actor : Actor) (why : Cause) 
   pub told_is : told ≡ Crash serves.node i.term ∷ earlier
   pub refusals : All IsRefusal earlier
 
+-- ---- a placing that did not end well
+-- a session places its commit
+pub record Places (w : State) (s start commit : ℕ) : Type 0 where
+  pub client : Client
+  pub at : ClientAt w.clients s client
+  pub placing : client.entry.state ≡ phase.Placing
+  pub start_is : client.entry.start ≡ Some start
+  pub commit_is : client.entry.commit ≡ Some commit
+
+-- it met the mark, which it was told of before
+pub record MetMark (w : State) (s start : ℕ) (told : List Item) : Type 0 where
+  pub marked : Marked w.pairs start
+  pub told_is : told ≡ Step (Session s) (PutFound start) ∷ []
+
+-- its call failed, of which it was told before; the record may have been placed all the same
+pub record FailedToPlace (s start commit : ℕ) (told : List Item) : Type 0 where
+  pub kept : List Item
+  pub kept_is : (kept ≡ []) ⊎ (kept ≡ Placed start commit ∷ [])
+  pub told_is : told ≡ kept ++ Fault (Session s) Table ∷ []
+
+abbrev pub HowPlaced : State → ℕ → ℕ → ℕ → List Item → Cause → Type 0
+HowPlaced w s start commit told (cause.Invalid t) = (t ≡ start) × MetMark w s start told
+HowPlaced w s start commit told (cause.Open t) = (t ≡ start) × FailedToPlace s start commit told
+HowPlaced w s start commit told _ = ⊥
+
+pub record DuePlacing (w : State) (told : List Item) (actor : Actor) (why : Cause) : Type 0 where
+  pub session : ℕ
+  pub actor_is : actor ≡ Session session
+  pub start : ℕ
+  pub commit : ℕ
+  pub places : Places w session start commit
+  pub how : HowPlaced w session start commit told why
+
 -- a cause without a row is shown by anything
 abbrev pub NeedsNoRow : Actor → Cause → Type 0
 NeedsNoRow actor why = (setup : SetupNumbers) (h : List Item) → ShownCause setup h actor why
 
 -- ---- every refusal among the items of an event
 abbrev pub Due : State → List Item → Item → Type 0
-Due w told (Refused actor why) = NeedsNoRow actor why ⊎ ((told ≡ []) × DueNow w actor why) ⊎ DueLoss w told actor why
+Due w told (Refused actor why) = NeedsNoRow actor why ⊎ ((told ≡ []) × DueNow w actor why) ⊎ DueLoss w told actor why ⊎ DuePlacing w told actor why
 Due w told _ = Unit {0}
 
 abbrev pub AreDue : State → List Item → Type 0

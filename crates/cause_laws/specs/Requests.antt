@@ -1,5 +1,5 @@
 -- What the history shows of the requests that instances hold.
-use Rattle.std.specs.Prelude.{◌≡◌, ◌≢◌, ℕ, if◌then◌else◌, List, length, slice_get, Option, None, Some, is_some}
+use Rattle.std.specs.Prelude.{◌≡◌, ◌≢◌, ℕ, Bool, false, if◌then◌else◌, List, length, slice_get, Option, None, Some, is_some}
 use Rattle.stamp_base.specs.SetupNumbers.{SetupNumbers}
 use Rattle.stamp_base.specs.declared.stores.Store.TheVariants.{Table}
 use Rattle.history_book.specs.Members.{◌∈◌}
@@ -7,15 +7,17 @@ use Rattle.history_book.specs.declared.item.Actor.{Actor}
 use Rattle.history_book.specs.declared.item.Actor.TheVariants.{Node}
 use Rattle.history_book.specs.declared.item.Item.{Item}
 use Rattle.history_book.specs.declared.item.Item.TheVariants.{Mark, Fault}
+use Rattle.client_parts.specs.declared.session.State.TheVariants.{Placing}
 use Rattle.oracle_parts.specs.declared.instance.Progress.{Progress}
-use Rattle.oracle_parts.specs.declared.instance.Progress.TheVariants.{Asked, Settled}
+use Rattle.oracle_parts.specs.declared.instance.Progress.TheVariants.{Asked, Drawn, Settled}
 use Rattle.oracle_parts.specs.declared.instance.Request.{Request}
 use Rattle.oracle_parts.specs.declared.instance.Request.TheVariants.{Begin, Commit}
 use Rattle.oracle_parts.specs.declared.instance.Settled.TheVariants as how
 use Rattle.oracle_parts.specs.Instance.{InstanceEntry, held_of, stamps_by}
+use Rattle.machine.specs.State.{Client}
 use Rattle.cause_rules.specs.Asks.{Ask, its_ask, its_term, its_draw, since_draw}
 use Rattle.cause_rules.specs.OpenAsks.{open_asks_of}
-use Rattle.isolation_laws.specs.Words.{InstanceAt, HeldBy}
+use Rattle.isolation_laws.specs.Words.{InstanceAt, HeldBy, ClientAt}
 
 -- the ask that a request at a node comes from
 abbrev pub ask_for : ℕ → Request → Ask
@@ -33,13 +35,33 @@ pub record AreFaulted (nodes : List (Option InstanceEntry)) (h : List Item) : Ty
   pub faulted : (n s r t c : ℕ) (i : InstanceEntry) (keys : List ℕ) → InstanceAt nodes n i → HeldBy i s (Commit r t keys) (Settled c how.Faulted) → Fault (Node n) Table ∈ since_draw h s
   pub marked : (n s r t c : ℕ) (i : InstanceEntry) (keys : List ℕ) → InstanceAt nodes n i → HeldBy i s (Commit r t keys) (Settled c how.Invalid) → (actor : Actor) × (Mark actor t ∈ h)
 
+-- a commit that its node puts, or has put, is of the form in which no session places its own
+abbrev pub WhereNodesPut : Bool → Request → Progress → Type 0
+WhereNodesPut direct (Commit session start keys) (Drawn commit) = direct ≡ false
+WhereNodesPut direct (Commit session start keys) (Settled commit by) = direct ≡ false
+WhereNodesPut direct request progress = Unit {0}
+
+pub record ArePutByNodes (setup : SetupNumbers) (nodes : List (Option InstanceEntry)) : Type 0 where
+  pub each : (n s : ℕ) (i : InstanceEntry) (request : Request) (p : Progress) → InstanceAt nodes n i → HeldBy i s request p → WhereNodesPut setup.direct request p
+
+-- a session that places its commit asked for it last, and its draw is that of the commit
+pub record AskedToPlace (h : List Item) (s start commit : ℕ) : Type 0 where
+  pub node : ℕ
+  pub asked : its_ask h s ≡ Some (record { node = node; start = Some start })
+  pub drawn : its_draw h s ≡ Some (start, Some commit)
+
+pub record ArePlacingAsked (clients : List Client) (h : List Item) : Type 0 where
+  pub each : (s start commit : ℕ) (c : Client) → ClientAt clients s c → c.entry.state ≡ Placing → c.entry.start ≡ Some start → c.entry.commit ≡ Some commit → AskedToPlace h s start commit
+
 -- how many requests of the session are held there
 abbrev pub held_count : Option InstanceEntry → ℕ → ℕ
 held_count None s = 0
 held_count (Some i) s = if is_some (held_of i s) then 1 else 0
 
--- a session's asks at a node are open exactly where the node holds its request
+-- a session's asks at a node are open exactly where the node holds its request; an instance has the slots and the form of the
+-- setup, and places for 16
 pub record AreOpenAsks (setup : SetupNumbers) (nodes : List (Option InstanceEntry)) (h : List Item) : Type 0 where
   pub each : (n s : ℕ) (post : Option InstanceEntry) → slice_get nodes n ≡ Some post → open_asks_of h n s ≡ held_count post s
   pub slots : (n : ℕ) (i : InstanceEntry) → InstanceAt nodes n i → i.slots ≡ setup.slots
+  pub direct : (n : ℕ) (i : InstanceEntry) → InstanceAt nodes n i → i.direct ≡ setup.direct
   pub sixteen : (n : ℕ) (i : InstanceEntry) → InstanceAt nodes n i → length i.requests ≡ 16

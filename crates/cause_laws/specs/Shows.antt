@@ -4,7 +4,7 @@ use Rattle.history_book.specs.declared.item.Item.{Item}
 use Rattle.machine.specs.State.{State}
 use Rattle.cause_rules.specs.Explained.{Explained}
 use Rattle.isolation_laws.specs.Sound.{Stands}
-use Rattle.cause_laws.specs.Requests.{AreAsked, AreFaulted, AreOpenAsks}
+use Rattle.cause_laws.specs.Requests.{AreAsked, AreFaulted, ArePutByNodes, ArePlacingAsked, AreOpenAsks}
 use Rattle.cause_laws.specs.Nodes.{AreTaken, AreVacant, AreShownStops, AreLasts}
 use Rattle.cause_laws.specs.Stores.{IsRecordShown, AreMarked, AreGone}
 
@@ -12,6 +12,8 @@ pub record Shows (w : State) (h : List Item) : Type 0 where
   pub sixteen : length w.clients ≡ 16
   pub asked : AreAsked w.nodes h
   pub faulted : AreFaulted w.nodes h
+  pub put : ArePutByNodes w.setup w.nodes
+  pub placing : ArePlacingAsked w.clients h
   pub open_asks : AreOpenAsks w.setup w.nodes h
   pub taken : AreTaken w.nodes h
   pub vacant : AreVacant w.nodes h
