@@ -3,7 +3,7 @@ use Rattle.std.proofs.Common.{[], ◌≡◌, ℕ, ◌+◌, Bool, true, false, Li
 use Rattle.std.specs.Prelude.{slice_set}
 use Rattle.std.proofs.lemmas.List.Elements.{All-cons}
 use Rattle.stamp_base.specs.declared.stores.Mark.{Mark}
-use Rattle.stamp_base.specs.declared.stores.Store.TheVariants.{Master, Table}
+use Rattle.stamp_base.specs.declared.stores.Store.TheVariants.{Master}
 use Rattle.history_book.specs.declared.item.Actor.TheVariants.{Node, Session, Janitor}
 use Rattle.history_book.specs.declared.item.StoreStep.TheVariants.{PutFound, Handed, Keys}
 use Rattle.history_book.specs.declared.item.Ending.TheVariants.{Dead as DeadEnd}
@@ -35,13 +35,13 @@ use Rattle.isolation_laws.specs.Sound.{Stands}
 use Rattle.isolation_laws.proofs.Outcome.PlainItems.{Silent, AllSilent, none_silent, one_silent, two_silent, all_silent}
 use Rattle.isolation_laws.proofs.Outcome.OutcomesOfRecord.{StillBy, Rests, Stops, Tells, Renewed as RenewedLease, renewed_nodes, Extended, extended_nodes, fault_if}
 use Rattle.isolation_laws.proofs.Outcome.OutcomesOfStamps.{AtDrawn, PlacedOne, settled_nodes, fault_of, found_items, answered_item}
-use Rattle.isolation_laws.proofs.Outcome.OutcomesOfPlacings.{AtPlacing, own_told}
 use Rattle.isolation_laws.proofs.Outcome.OutcomesOfWork.{OutcomeStepped, fetched_turn, read_turn}
 use Rattle.isolation_laws.proofs.Outcome.Outcomes.{Outcome, OfStill, OfGranted, OfRenewed, OfExtended, OfCrashed, OfAskedBegin, OfAskedCommit, OfAccepted, OfEnded, OfDrew, OfPlaced, OfNotPlaced, OfAnsweredBegin, OfAnsweredCommit, OfHanded, OfOwnPlaced, OfOwnNotPlaced, OfEndedReadOnly, OfWrote, OfWriteFailed, OfAborted, OfVanished, OfHealed, OfFetched, OfReadDropped, OfReadStepped, OfOutcome, OfOutcomeFailed, OfCompleted, OfSweepOpened, OfSwept, OfSweepListed, OfSweepFailed, left_by, told_by_outcome}
 use Rattle.isolation_laws.proofs.Numbers.NumbersKept.{in_flight_of, drawn_pending}
 use Rattle.isolation_laws.proofs.Inversions.InversionOfAnswers.{not_invalid}
 use Rattle.isolation_laws.proofs.AlwaysHolds.{each_outcome}
 use Rattle.cause_laws.proofs.Deeds.{Serving, EndsFor, OfRested, OfTook, OfRenewed, OfWidened, OfStopped, OfCrashed, OfAsked, OfAccepted, OfDrew, OfSettled, OfTold, OfEnded, OfLearned, DeedOf}
+use Rattle.cause_laws.proofs.DeedsOfPlacings.{answered_ends, own_told_deed, own_placed_deed}
 use Rattle.cause_laws.proofs.FoundMarks.{found_marked}
 use Rattle.cause_laws.proofs.HeldAsks.{own_requests, all_losses, holds_none}
 
@@ -110,11 +110,6 @@ found_silent how.Placed node start = none_silent
 found_silent how.Invalid node start = one_silent (item.Step (Node node) (PutFound start)) refl
 found_silent how.Faulted node start = none_silent
 
-answered_ends : (by : Settled) (session start commit : ℕ) → EndsFor session (answered_item by session start commit)
-answered_ends how.Placed session start commit = refl
-answered_ends how.Invalid session start commit = (refl, refl)
-answered_ends how.Faulted session start commit = (refl, refl)
-
 ended : (w : State) (it : Serving w) (last : Item) (items : List Item) → EndsFor it.session last → items ≡ last ∷ [] → DeedOf w (slice_set w.nodes it.node (Some (without_request it.i it.session))) items
 ended w it last items ends same = record { deed = OfEnded (record { it = it; last = last; ends = ends }); leaves = refl; tells = same }
 
@@ -144,24 +139,6 @@ settle_decides w k (Some start) (Decides (outcome.Committed commit by_table)) = 
 settle_decides w k (Some start) (Decides outcome.Dead) = rests w _ (two_silent k.first (item.End k.it.session start DeadEnd) k.silent refl)
 settle_decides w k (Some start) (Goes point) = rests w _ (one_silent k.first k.silent)
 settle_decides w k None turn = rests w _ (one_silent k.first k.silent)
-
--- ---- a session has placed its commit, or was to
-placing_learned : (w : State) (it : AtPlacing w) (steps : List Item) (last : Item) → AllSilent steps → EndsFor it.session last → DeedOf w w.nodes (steps ++ last ∷ [])
-placing_learned w it steps last silent ends = record {
-  deed = OfLearned (record { session = it.session; c = it.c; at = it.client_at; alone = inr it.placing; steps = steps; silent = silent; last = last; ends = ends });
-  leaves = refl;
-  tells = refl;
-}
-
-own_told_deed : (w : State) (it : AtPlacing w) (by : Settled) → DeedOf w w.nodes (own_told by it.session it.start it.commit)
-own_told_deed w it how.Placed = placing_learned w it [] _ none_silent (answered_ends how.Placed it.session it.start it.commit)
-own_told_deed w it how.Invalid = placing_learned w it (item.Step (Session it.session) (PutFound it.start) ∷ []) _ (one_silent _ refl) (answered_ends how.Invalid it.session it.start it.commit)
-own_told_deed w it how.Faulted = placing_learned w it (item.Fault (Session it.session) Table ∷ []) _ (one_silent _ refl) (answered_ends how.Faulted it.session it.start it.commit)
-
-own_placed_deed : (w : State) (it : AtPlacing w) (by : Settled) → DeedOf w w.nodes (item.Placed it.start it.commit ∷ own_told by it.session it.start it.commit)
-own_placed_deed w it how.Placed = placing_learned w it (item.Placed it.start it.commit ∷ []) _ (one_silent _ refl) (answered_ends how.Placed it.session it.start it.commit)
-own_placed_deed w it how.Invalid = placing_learned w it (item.Placed it.start it.commit ∷ item.Step (Session it.session) (PutFound it.start) ∷ []) _ (two_silent _ _ refl refl) (answered_ends how.Invalid it.session it.start it.commit)
-own_placed_deed w it how.Faulted = placing_learned w it (item.Placed it.start it.commit ∷ item.Fault (Session it.session) Table ∷ []) _ (two_silent _ _ refl refl) (answered_ends how.Faulted it.session it.start it.commit)
 
 -- the items are these
 telling : (w : State) (nodes : List (Option InstanceEntry)) (items these : List Item) → items ≡ these → DeedOf w nodes these → DeedOf w nodes items

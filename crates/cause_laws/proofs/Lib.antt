@@ -25,6 +25,7 @@ mod ShownAtFirst
 pub mod LongerHistories
 mod HeldAsks
 mod FoundMarks
+mod DeedsOfPlacings
 pub mod DeedsDone
 mod DueItems
 mod DueOfRecord

@@ -1,23 +1,21 @@
 -- Every event keeps that a session which places its commit asked for it last: until then it tells nothing of another request.
-use Rattle.std.proofs.Common.{◌≡◌, ℕ, ◌+◌, List, [], ◌∷◌, ◌++◌, Option, Some, ◌⊎◌, inl, inr, refl, sym, ◌∙◌, ap, subst}
+use Rattle.std.proofs.Common.{◌≡◌, ℕ, ◌+◌, List, ◌++◌, Some, ◌⊎◌, inl, inr, refl, sym, ◌∙◌, ap, subst}
 use Rattle.std.specs.Prelude.{slice_set}
 use Rattle.std.proofs.lemmas.Option.{same_Some}
 use Rattle.port_io.specs.declared.weather.Fate.{Fate}
-use Rattle.history_book.specs.declared.item.Actor.TheVariants.{Node, Session}
+use Rattle.history_book.specs.declared.item.Actor.TheVariants.{Session}
 use Rattle.history_book.specs.declared.item.StoreStep.TheVariants.{Handed as HandedStep}
 use Rattle.history_book.specs.declared.item.Item.{Item}
 use Rattle.history_book.specs.declared.item.Item.TheVariants as item
 use Rattle.client_parts.specs.declared.session.State.{State as Phase}
 use Rattle.client_parts.specs.declared.session.State.TheVariants as phase
 use Rattle.client_parts.specs.SessionSteps.{SessionEntry}
-use Rattle.oracle_parts.specs.declared.instance.Held.{Held}
 use Rattle.oracle_parts.specs.declared.instance.Progress.TheVariants as progress
 use Rattle.oracle_parts.specs.declared.instance.Request.TheVariants.{Commit}
-use Rattle.oracle_parts.specs.Instance.{InstanceEntry, session_of}
+use Rattle.oracle_parts.specs.Instance.{session_of}
 use Rattle.machine.specs.declared.event.Event.{Event}
 use Rattle.machine.specs.State.{Client, State}
 use Rattle.machine.specs.Machine.{stepped, reading_of, IsSteadyAt}
-use Rattle.machine.specs.Events.Crash.{crashed_clients}
 use Rattle.isolation_laws.specs.Words.{HeldBy, ClientAt}
 use Rattle.isolation_laws.specs.Sound.{Stands}
 use Rattle.isolation_laws.proofs.Lookups.{client_set, held_by, one_client}
@@ -29,7 +27,7 @@ use Rattle.cause_laws.proofs.Deeds.{Asked, Serving, Deed, OfRested, OfTook, OfRe
 use Rattle.cause_laws.proofs.DeedsDone.{outcome_deed}
 use Rattle.cause_laws.proofs.AskWords.{AllMute, silent_mute, other_ask, other_accept, other_draw, its_ask-mute, its_draw-mute}
 use Rattle.cause_laws.proofs.DeedsMute.{one_mute, always_mute, took_mute, crashed_mute, settled_mute, ended_mute, learned_mute}
-use Rattle.cause_laws.proofs.RequestsWere.{Unheld, alone_unheld, serving_own}
+use Rattle.cause_laws.proofs.RequestsWere.{alone_unheld, serving_own}
 use Rattle.cause_laws.proofs.AsBefore.{IsPlacing}
 use Rattle.cause_laws.proofs.ClientsMoved.{ClientsMoved, Stay, Hear, PutBack, Handed, crashed_was, moved}
 
