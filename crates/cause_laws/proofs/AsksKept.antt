@@ -85,8 +85,8 @@ by_accept w h k stands all =
     (λ r other. one_mute r (item.Accept it.session it.node it.i.term k.reading) (other_accept r it.session it.node it.i.term k.reading (λ same. other (sym same))))
     (told_accept w.setup.direct h it.node it.session it.i.term k.reading it.held.request (served_told w h it progress.Asked all k.asked))
 
-by_draw : (w : State) (h : List Item) (k : Drew w) → Stands w h → Shows w h → AllTold w.setup.direct w.nodes h → AllTold w.setup.direct (nodes_by w (OfDrew k)) (h ++ draw_item k.it.node k.it.i.term k.it.held.request (k.it.i.last + 1) ∷ [])
-by_draw w h k stands shows all =
+by_draw : (w : State) (h : List Item) (k : Drew w) → Stands w h → AllTold w.setup.direct w.nodes h → AllTold w.setup.direct (nodes_by w (OfDrew k)) (h ++ draw_item k.it.node k.it.i.term k.it.held.request (k.it.i.last + 1) ∷ [])
+by_draw w h k stands all =
     let it : Serving w = k.it in
     let stamp : ℕ = it.i.last + 1 in
     let x : Item = draw_item it.node it.i.term it.held.request stamp in
@@ -97,7 +97,7 @@ by_draw w h k stands shows all =
     (serving_alone w h it stands) it.at refl (λ r request p holds. record { held = holds.held; has = holds.has; asks = holds.asks; stands = holds.stands })
     (λ r other. one_mute r x (other_draw r it.node it.i.term it.held.request stamp (λ same. other (sym same ∙ own))))
     (subst (λ (r : ℕ). Told w.setup.direct (h ++ x ∷ []) it.node r it.i.term it.held.request (drawn_as it.i.direct it.held.request stamp)) own
-    (told_draw w.setup.direct it.i.direct h it.node it.i.term stamp it.held.request (shows.open_asks.direct it.node it.i it.at) before))
+    (told_draw w.setup.direct it.i.direct h it.node it.i.term stamp it.held.request (stands.holds.memory.form.direct it.node it.i it.at) before))
 
 by_settle : (w : State) (h : List Item) (k : SettledOne w) → Stands w h → Shows w h → AllTold w.setup.direct w.nodes h → AllTold w.setup.direct (nodes_by w (OfSettled k)) (h ++ (k.effects ++ fault_of k.by k.it.node))
 by_settle w h k stands shows all =
@@ -126,7 +126,7 @@ told_by w h (OfStopped k) stands shows all =
 told_by w h (OfCrashed k) stands shows all = kept w.setup.direct w.nodes (slice_set w.nodes k.node None) h (item.Crash k.node k.i.term ∷ k.told) all (were_ended w.nodes k.node) (crashed_mute w k)
 told_by w h (OfAsked k) stands shows all = by_ask w h k stands all
 told_by w h (OfAccepted k) stands shows all = by_accept w h k stands all
-told_by w h (OfDrew k) stands shows all = by_draw w h k stands shows all
+told_by w h (OfDrew k) stands shows all = by_draw w h k stands all
 told_by w h (OfSettled k) stands shows all = by_settle w h k stands shows all
 told_by w h (OfTold k) stands shows all =
     kept w.setup.direct w.nodes (now_at w k.it.node (with_request k.it.i k.it.session (Some k.told))) h k.items all

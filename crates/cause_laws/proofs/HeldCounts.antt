@@ -94,9 +94,9 @@ came_at nodes items n old now at here stays m s post there = elim (set_cases nod
 pub came_calm : (nodes : List (Option InstanceEntry)) (items : List Item) (n : ℕ) (old now : Option InstanceEntry) → slice_get nodes n ≡ Some old → ((m s : ℕ) → All (Calm m s) items) → ((s : ℕ) → held_count now s ≡ held_count old s) → AllCame nodes items (slice_set nodes n now)
 came_calm nodes items n old now at calm same = came_at nodes items n old now at (λ s. calm_stays nodes items n (calm n) s old at ∙ sym (same s)) (λ m other. calm_stays nodes items m (calm m))
 
--- ---- slots, form and places
+-- ---- slots and places
 abbrev pub Shape : SetupNumbers → InstanceEntry → Type 0
-Shape setup i = (i.slots ≡ setup.slots) × (i.direct ≡ setup.direct) × (length i.requests ≡ 16)
+Shape setup i = (i.slots ≡ setup.slots) × (length i.requests ≡ 16)
 
 abbrev pub AllShaped : SetupNumbers → List (Option InstanceEntry) → Type 0
 AllShaped setup nodes = (n : ℕ) (i : InstanceEntry) → InstanceAt nodes n i → Shape setup i
@@ -111,17 +111,16 @@ pub shaped_ended : (setup : SetupNumbers) (nodes : List (Option InstanceEntry)) 
 shaped_ended setup nodes n all m j there = all m j (instance_ended nodes n m j there).1
 
 pub shape_request : (setup : SetupNumbers) (i : InstanceEntry) (s : ℕ) (now : Option Held) → Shape setup i → Shape setup (with_request i s now)
-shape_request setup i s now shape = (shape.0, shape.1, length-set i.requests s now ∙ shape.2)
+shape_request setup i s now shape = (shape.0, length-set i.requests s now ∙ shape.1)
 
 -- ---- the facts
 pub shaped_of : (setup : SetupNumbers) (nodes : List (Option InstanceEntry)) (h : List Item) → AreOpenAsks setup nodes h → AllShaped setup nodes
-shaped_of setup nodes h asks n i at = (asks.slots n i at, asks.direct n i at, asks.sixteen n i at)
+shaped_of setup nodes h asks n i at = (asks.slots n i at, asks.sixteen n i at)
 
 pub open_asks_by : (setup : SetupNumbers) (nodes new : List (Option InstanceEntry)) (h items : List Item) → AreOpenAsks setup nodes h → AllCame nodes items new → AllShaped setup new → AreOpenAsks setup new (h ++ items)
 open_asks_by setup nodes new h items asks came shaped = record {
   each = λ m s now at. let from : Came nodes items m s now = came m s now at in
       open_more h items m s ∙ (ap (λ count. fold (open_then m s) count items) (asks.each m s from.post from.at) ∙ from.leads);
   slots = λ m i at. (shaped m i at).0;
-  direct = λ m i at. (shaped m i at).1;
-  sixteen = λ m i at. (shaped m i at).2;
+  sixteen = λ m i at. (shaped m i at).1;
 }

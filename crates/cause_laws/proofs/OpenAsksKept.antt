@@ -64,7 +64,7 @@ no_requests = None
 
 shaped_took : (w : State) (k : Granted w) (failed : Bool) → AllShaped w.setup w.nodes → AllShaped w.setup (granted_nodes w k failed)
 shaped_took w k true all m j at = all m j at
-shaped_took w k false all m j at = shaped_put w.setup w.nodes k.node (instance_of w.setup k.node (granted (rules_of w.setup) w.master k.reading)) all (refl, refl, length-replicate 16 no_requests) m j at
+shaped_took w k false all m j at = shaped_put w.setup w.nodes k.node (instance_of w.setup k.node (granted (rules_of w.setup) w.master k.reading)) all (refl, length-replicate 16 no_requests) m j at
 
 -- ---- a crash
 loss_no_ask : (n s : ℕ) (i : InstanceEntry) (x : Item) → IsLossOf i x → asks_at n s x ≡ false
@@ -147,7 +147,7 @@ came_by w h (OfStopped k) stands sixteen shaped =
 came_by w h (OfCrashed k) stands sixteen shaped = came_crashed w h k stands
 came_by w h (OfAsked k) stands sixteen shaped =
     let within : session_of k.request < length w.clients = slice_get_within w.clients (session_of k.request) k.c k.client_at in
-    came_asked w k (subst (λ (count : ℕ). session_of k.request < count) (sixteen ∙ sym (shaped k.node k.i k.at).2) within)
+    came_asked w k (subst (λ (count : ℕ). session_of k.request < count) (sixteen ∙ sym (shaped k.node k.i k.at).1) within)
 came_by w h (OfAccepted k) stands sixteen shaped =
     came_calm w.nodes (item.Accept k.it.session k.it.node k.it.i.term k.reading ∷ []) k.it.node (Some k.it.i) _ k.it.at (λ m s. one_calm m s _ (record { asks = refl; closes_none = refl })) (count_same k.it.i k.it.session k.it.held (record k.it.held { progress = progress.Accepted }) k.it.has)
 came_by w h (OfDrew k) stands sixteen shaped =

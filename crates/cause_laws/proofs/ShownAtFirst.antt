@@ -49,7 +49,6 @@ shown_at_first setup = record {
   open_asks = record {
     each = λ n s post at. nobody_asked n s post (found_copy setup.nodes n None post at);
     slots = λ n i at. absurd (none_at setup.nodes n i at);
-    direct = λ n i at. absurd (none_at setup.nodes n i at);
     sixteen = λ n i at. absurd (none_at setup.nodes n i at);
   };
   taken = record {

@@ -58,10 +58,8 @@ abbrev pub held_count : Option InstanceEntry → ℕ → ℕ
 held_count None s = 0
 held_count (Some i) s = if is_some (held_of i s) then 1 else 0
 
--- a session's asks at a node are open exactly where the node holds its request; an instance has the slots and the form of the
--- setup, and places for 16
+-- a session's asks at a node are open exactly where the node holds its request
 pub record AreOpenAsks (setup : SetupNumbers) (nodes : List (Option InstanceEntry)) (h : List Item) : Type 0 where
   pub each : (n s : ℕ) (post : Option InstanceEntry) → slice_get nodes n ≡ Some post → open_asks_of h n s ≡ held_count post s
   pub slots : (n : ℕ) (i : InstanceEntry) → InstanceAt nodes n i → i.slots ≡ setup.slots
-  pub direct : (n : ℕ) (i : InstanceEntry) → InstanceAt nodes n i → i.direct ≡ setup.direct
   pub sixteen : (n : ℕ) (i : InstanceEntry) → InstanceAt nodes n i → length i.requests ≡ 16
