@@ -4,7 +4,7 @@ use Rattle.oracle_parts.specs.declared.instance.Held.{Held}
 use Rattle.oracle_parts.specs.declared.instance.Request.{Request}
 use Rattle.oracle_parts.specs.declared.instance.Request.TheVariants.{Begin, Commit}
 use Rattle.oracle_parts.specs.declared.instance.Progress.{Progress}
-use Rattle.oracle_parts.specs.declared.instance.Progress.TheVariants.{Asked, Accepted, Drawn, Settled}
+use Rattle.oracle_parts.specs.declared.instance.Progress.TheVariants.{Asked, Accepted, Drawn, Settled, Handed}
 use Rattle.oracle_parts.specs.declared.buckets.Verdict.{Verdict}
 use Rattle.oracle_parts.specs.declared.buckets.Verdict.TheVariants.{Free, Conflict, Hidden}
 use Rattle.oracle_parts.specs.Buckets.{Bucket, verdict, first_refusal, verdict_both}
@@ -40,6 +40,7 @@ decided_so i session reads held Accepted at is free = rw (at, is, same_verdict i
 decided_so i session reads held Asked at is free = rw (at, is) refl
 decided_so i session reads held (Drawn stamp) at is free = rw (at, is) refl
 decided_so i session reads held (Settled commit how) at is free = rw (at, is) refl
+decided_so i session reads held (Handed commit) at is free = rw (at, is) refl
 
 pub decides_alone : (i : InstanceEntry) (session : ℕ) (reads : List ℕ) (held : Held) → held_of i session ≡ Some held → verdict_against held.progress held.request i.buckets reads ≡ Free → decide_both i session reads ≡ instance_decide i session
 decides_alone i session reads held at free = decided_so i session reads held held.progress at refl free

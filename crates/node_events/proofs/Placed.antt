@@ -10,7 +10,6 @@ use Rattle.history_book.specs.declared.item.Actor.TheVariants.{Node}
 use Rattle.history_book.specs.declared.item.Item.{Item}
 use Rattle.history_book.specs.declared.item.Item.TheVariants as item
 use Rattle.store_parts.specs.Pairs.{Pairs, mark_of, put_pair}
-use Rattle.store_parts.proofs.PairLaws.{entry_or, mark_of-put_pair}
 use Rattle.oracle_parts.specs.declared.instance.Settled.TheVariants as how
 use Rattle.oracle_parts.specs.Instance.{InstanceEntry}
 use Rattle.oracle_parts.specs.InstanceSteps.{instance_settle}
@@ -20,22 +19,7 @@ use Rattle.event_parts.specs.declared.stopped.Stopped.{Stopped}
 use Rattle.event_parts.specs.declared.stopped.Stopped.TheVariants.{StoreFault}
 use Rattle.event_parts.specs.Made.{Makes}
 use Rattle.event_parts.specs.Kept.{placed_kept}
-
--- the table stayed
-stayed : (found : Option Mark) (start commit : ℕ) → placed_kept found found start commit ≡ []
-stayed None start commit = refl
-stayed (Some mark) start commit = refl
-
--- the table has the entry that was there, or the new one
-entered : (found : Option Mark) (mark : Mark) (start commit : ℕ) → placed_kept found (Some (entry_or found mark)) start commit ≡ kept_items FailsApplied found (item.Placed start commit ∷ [])
-entered None mark start commit = refl
-entered (Some there) mark start commit = refl
-
-kept_as_placed : (fate : Fate) (pairs : Pairs) (start commit : ℕ) → fate ≢ Works → placed_kept (mark_of pairs start) (mark_of (fated fate pairs (put_pair pairs start (Committed commit))) start) start commit ≡ kept_items fate (mark_of pairs start) (item.Placed start commit ∷ [])
-kept_as_placed Works pairs start commit fails = grind arith
-kept_as_placed FailsUnchanged pairs start commit fails = stayed (mark_of pairs start) start commit
-kept_as_placed FailsApplied pairs start commit fails =
-    rw (mark_of-put_pair pairs start (Committed commit)) (entered (mark_of pairs start) (Committed commit) start commit)
+use Rattle.event_parts.proofs.PlacedKept.{kept_as_placed}
 
 shown : (before after made kept : List Item) (fault : Item) → made ≡ kept → after ≡ before ++ made ++ fault ∷ [] → after ≡ before ++ (kept ++ fault ∷ [])
 shown before after made kept fault same items = subst (λ (effects : List Item). after ≡ before ++ (effects ++ fault ∷ [])) same (items ∙ append_assoc before made (fault ∷ []))

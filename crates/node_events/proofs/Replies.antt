@@ -3,7 +3,7 @@ use Rattle.std.proofs.Common.{◌≡◌, ℕ, Option, None, Some, List, ◌++◌
 use Rattle.client_parts.specs.SessionSteps.{SessionEntry}
 use Rattle.oracle_parts.specs.declared.instance.Held.{Held}
 use Rattle.oracle_parts.specs.declared.instance.Progress.{Progress}
-use Rattle.oracle_parts.specs.declared.instance.Progress.TheVariants.{Asked, Accepted, Drawn, Settled}
+use Rattle.oracle_parts.specs.declared.instance.Progress.TheVariants.{Asked, Accepted, Drawn, Settled, Handed}
 use Rattle.oracle_parts.specs.declared.instance.Reply.{Reply}
 use Rattle.oracle_parts.specs.declared.instance.Reply.TheVariants as reply
 use Rattle.oracle_parts.specs.declared.instance.Request.{Request}
@@ -32,9 +32,11 @@ request_waits i session e r held (Begin b) Asked waits told = grind arith
 request_waits i session e r held (Begin b) Accepted waits told = grind arith
 request_waits i session e r held (Begin b) (Drawn start) waits told = begin_waits i session e r held b start (least_unsettled i.requests start) waits told
 request_waits i session e r held (Begin b) (Settled commit how) waits told = grind arith
+request_waits i session e r held (Begin b) (Handed commit) waits told = grind arith
 request_waits i session e r held (Commit s start keys) Asked waits told = grind arith
 request_waits i session e r held (Commit s start keys) Accepted waits told = grind arith
 request_waits i session e r held (Commit s start keys) (Drawn commit) waits told = grind arith
+request_waits i session e r held (Commit s start keys) (Handed commit) waits told = grind arith
 request_waits i session e r held (Commit s start keys) (Settled commit how.Placed) waits told = grind arith
 request_waits i session e r held (Commit s start keys) (Settled commit how.Invalid) waits told = grind arith
 request_waits i session e r held (Commit s start keys) (Settled commit how.Faulted) waits told = grind arith
@@ -50,6 +52,7 @@ waits_for_reply i session e r waits told = held_waits i session e r (held_of i s
 pub reply_made : (node session start : ℕ) (c : Client) (i left : InstanceEntry) (r : Reply) (before after : List Item) (result : Result Unit Stopped) → after ≡ before ++ (reply_told session start r).items → result ≡ ended (reply_told session start r).stop → Makes (answer_by node session start c i left (Ok r)) (Some i, c) (Some left, replied r c) before after result
 reply_made node session start c i left (reply.Begun begun epoch) before after result items told = rw told (record { parts = refl; items = items; stop = refl })
 reply_made node session start c i left (reply.Committed commit) before after result items told = rw told (record { parts = refl; items = items; stop = refl })
+reply_made node session start c i left (reply.Handed commit) before after result items told = rw told (record { parts = refl; items = items; stop = refl })
 reply_made node session start c i left reply.Invalid before after result items told = rw told (record { parts = refl; items = items; stop = refl })
 reply_made node session start c i left reply.Open before after result items told = rw told (record { parts = refl; items = items; stop = refl })
 
@@ -59,10 +62,12 @@ refused_by node session i c held (Begin b) Asked at asks stands none = refl
 refused_by node session i c held (Begin b) Accepted at asks stands none = refl
 refused_by node session i c held (Begin b) (Drawn start) at asks stands none = grind arith
 refused_by node session i c held (Begin b) (Settled commit how) at asks stands none = refl
+refused_by node session i c held (Begin b) (Handed commit) at asks stands none = refl
 refused_by node session i c held (Commit s start keys) Asked at asks stands none = refl
 refused_by node session i c held (Commit s start keys) Accepted at asks stands none = refl
 refused_by node session i c held (Commit s start keys) (Drawn commit) at asks stands none = rw (at, asks, stands) refl
 refused_by node session i c held (Commit s start keys) (Settled commit how) at asks stands none = grind arith
+refused_by node session i c held (Commit s start keys) (Handed commit) at asks stands none = grind arith
 
 refused_held : (node session : ℕ) (i : InstanceEntry) (c : Client) (found : Option Held) → held_of i session ≡ found → ready_start found ≡ None → answer_request node session i c (stamps_of_held found) ≡ refused (Some i, c) (Node node) (cause.NoRequest session)
 refused_held node session i c None at none = refl

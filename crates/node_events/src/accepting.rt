@@ -6,7 +6,7 @@ ghost use Rattle.machine.specs.Events.Accept.{accept_on, accept_request, accept_
 ghost use Rattle.event_parts.specs.Made.{Makes};
 ghost use Rattle.event_parts.specs.Served.{held_at};
 ghost use Rattle.event_parts.specs.Waiting.{Waits, WaitsFor, WaitsAt};
-ghost use Rattle.node_events.specs.Reserved.{ReservesFive, HasPlace, HeldHasPlace, KeepPlaces};
+ghost use Rattle.node_events.specs.Reserved.{ReservesFive, is_direct, HasPlace, HeldHasPlace, KeepPlaces};
 
 use commit_table::Table;
 use event_parts::{Client, Stopped, ledger};
@@ -21,7 +21,8 @@ const ITEMS: usize = 5;
 
 /// The node accepts the session's request: refused as NoOracle, then as NoRequest unless it was asked, then as Expired or
 /// OldEpoch, which end the request. No other event looks at the lease. All memory that the request needs from then on is
-/// reserved first, and none for a request that is refused; where memory is refused, what was reserved before stays so.
+/// reserved first, and none for a request that is refused; where memory is refused, what was reserved before stays so. A
+/// commit that its session is to place needs no place in the table.
 pub fn accept(
     book: &mut Book,
     post: &mut Post,
@@ -36,7 +37,7 @@ pub fn accept(
         book.old.items book.new.items result }
     ensures spare { ReservesFive result book.old.spare book.new.spare }
     ensures pairs { table.new.pairs ≡ table.old.pairs }
-    ensures place { OnOk result (HeldHasPlace table.new.places (held_at post.old session)) }
+    ensures place { OnOk result (HeldHasPlace (is_direct post.old) table.new.places (held_at post.old session)) }
     ensures places { KeepPlaces table.old.places table.new.places }
 {
     match &mut post.instance {
@@ -59,7 +60,7 @@ fn accept_at(
         (Some instance.old, client.old) (Some instance.new, client.new) book.old.items book.new.items result }
     ensures spare { ReservesFive result book.old.spare book.new.spare }
     ensures pairs { table.new.pairs ≡ table.old.pairs }
-    ensures place { OnOk result (HeldHasPlace table.new.places (held_of instance.old session)) }
+    ensures place { OnOk result (HeldHasPlace instance.old.direct table.new.places (held_of instance.old session)) }
     ensures places { KeepPlaces table.old.places table.new.places }
 {
     match instance.held(session) {
@@ -92,7 +93,7 @@ fn accept_held(
         (Some instance.old, client.old) (Some instance.new, client.new) book.old.items book.new.items result }
     ensures spare { ReservesFive result book.old.spare book.new.spare }
     ensures pairs { table.new.pairs ≡ table.old.pairs }
-    ensures place { OnOk result (HasPlace table.new.places request.now) }
+    ensures place { OnOk result (HasPlace instance.old.direct table.new.places request.now) }
     ensures places { KeepPlaces table.old.places table.new.places }
 {
     book.make_room(1)?;
@@ -100,19 +101,19 @@ fn accept_held(
         return accept_or_refuse(book, instance, client, node, session, reading, request);
     }
     book.reserve(ITEMS)?;
-    reserve_place(table, request)?;
+    reserve_place(table, instance.direct(), request)?;
     accept_or_refuse(book, instance, client, node, session, reading, request)
 }
 
-/// A commit has a place in the table from now on.
-fn reserve_place(table: &mut Table, request: &Request) -> Result<(), NoMemory>
+/// A commit that the oracle is to place has a place in the table from now on.
+fn reserve_place(table: &mut Table, direct: bool, request: &Request) -> Result<(), NoMemory>
     ensures pairs { table.new.pairs ≡ table.old.pairs }
-    ensures place { OnOk result (HasPlace table.new.places request.now) }
+    ensures place { OnOk result (HasPlace direct table.new.places request.now) }
     ensures places { KeepPlaces table.old.places table.new.places }
 {
     match request {
-        Request::Begin { .. } => Ok(()),
-        Request::Commit { start, .. } => table.reserve(*start),
+        Request::Commit { start, .. } if !direct => table.reserve(*start),
+        _ => Ok(()),
     }
 }
 

@@ -10,16 +10,16 @@ ghost use Rattle.event_parts.specs.Replies.{reply_told};
 ghost use Rattle.node_events.specs.Ready.{ready_start};
 
 use event_parts::{Client, Stopped, ledger};
-use history_book::{Actor, Book, Cause, Item};
+use history_book::{Actor, Book, Cause, Item, StoreStep};
 use oracle_core::Instance;
 use oracle_parts::{Held, Progress, Reply, Request};
 use stamp_base::{NodeNo, SessionNo, Stamp};
 use takeover_core::Post;
 
 /// The node answers the session's request, which ends it: refused as NoOracle, then as NoRequest unless it is a begin that was
-/// drawn or a commit that was settled, or as NotYet while a commit that was drawn below a begin's start is not settled,
-/// which it is told once. A commit that is invalid or open is told as a refusal. What is told of a request that has its answer
-/// takes no memory.
+/// drawn, or a commit that was settled or is to be handed over, or as NotYet while a commit that was drawn below a begin's start
+/// and that the oracle is to place is not settled, which it is told once. A commit that is invalid or open is told as a refusal.
+/// What is told of a request that has its answer takes no memory.
 pub fn answer(
     book: &mut Book,
     post: &mut Post,
@@ -93,7 +93,7 @@ fn answer_ready(
     }
 }
 
-/// The start of a request that has its answer: a begin that was drawn, or a commit that was settled.
+/// The start of a request that has its answer: a begin that was drawn, or a commit that was settled or is to be handed over.
 fn ready_start(held: &Option<Held>) -> Option<Stamp>
     ensures { result ≡ ready_start held.now }
 {
@@ -108,7 +108,7 @@ fn ready_start(held: &Option<Held>) -> Option<Stamp>
         Some(
             Held {
                 request: Request::Commit { start, .. },
-                progress: Progress::Settled { .. },
+                progress: Progress::Settled { .. } | Progress::Handed { .. },
                 ..
             },
         ) => Some(*start),
@@ -141,6 +141,16 @@ fn tell_reply(
                 session,
                 start,
                 commit: *commit,
+            });
+            Ok(())
+        }
+        Reply::Handed { commit } => {
+            book.append_reserved(Item::Step {
+                actor: Actor::Session(session),
+                what: StoreStep::Handed {
+                    txn: start,
+                    commit: *commit,
+                },
             });
             Ok(())
         }

@@ -78,7 +78,10 @@ fn decide_held(
 {
     match &held.progress {
         Progress::Accepted => decide_accepted(book, instance, client, node, session, held),
-        Progress::Asked | Progress::Drawn { .. } | Progress::Settled { .. } => {
+        Progress::Asked
+        | Progress::Drawn { .. }
+        | Progress::Settled { .. }
+        | Progress::Handed { .. } => {
             ledger::refuse(book, Actor::Node(node), Cause::NoRequest { session })
         }
     }

@@ -108,13 +108,13 @@ fn put_drawn<W: Weather>(
         }
         Err(StoreFault) => {
             settle(instance, session, Settled::Faulted);
-            let made = placed_item(before, table.mark_of(start), start, commit);
+            let made = ledger::placed_item(before, table.mark_of(start), start, commit);
             ledger::fail_reserved(book, Actor::Node(node), Store::Table, made)
         }
     }
 }
 
-/// The start and the commit of a commit that was drawn and is not settled.
+/// The start and the commit of a commit that was drawn, and that the oracle is to place.
 fn to_place(held: &Option<Held>) -> Option<(Stamp, Stamp)>
     ensures { result ≡ to_place_of held.now }
 {
@@ -135,14 +135,4 @@ fn settle(instance: &mut Instance, session: SessionNo, how: Settled)
     ensures { instance.new ≡ (instance_settle instance.old session how).left }
 {
     let _ = instance.settle(session, how);
-}
-
-/// What a failed put made all the same: the transaction has an entry, and had none before.
-fn placed_item(before: Option<Mark>, now: Option<Mark>, start: Stamp, commit: Stamp) -> Option<Item>
-    ensures { made_items result ≡ placed_kept before now start commit }
-{
-    match (before, now) {
-        (None, Some(_)) => Some(Item::Placed { start, commit }),
-        _ => None,
-    }
 }
