@@ -1,10 +1,10 @@
 // A session begins a read.
-ghost use Rattle.std.specs.Prelude.{◌≡◌, ◌≤◌, ◌++◌, ◌∷◌, false, None};
+ghost use Rattle.std.specs.Prelude.{◌≡◌, ◌≤◌, ◌++◌, ◌∷◌, None};
 ghost use Rattle.stamp_base.specs.Setups.{numbers_of};
 ghost use Rattle.store_parts.specs.Rows.{fetched};
 ghost use Rattle.client_parts.specs.KeyRead.{AreFetched};
 ghost use Rattle.client_parts.specs.Recalled.{recalled_over};
-ghost use Rattle.machine.specs.Events.Fetch.{client_recalled, read_items, fetch_on, fetch_by, fetch_asks, fetch_refused};
+ghost use Rattle.machine.specs.Events.Fetch.{marks_every, client_recalled, read_items, fetch_on, fetch_by, fetch_asks, fetch_refused};
 ghost use Rattle.event_parts.specs.Made.{Makes, Asks};
 
 use cell_store::{Cells, Front};
@@ -68,7 +68,7 @@ fn fetch_open<W: Weather>(
     match ledger::fate_of(weather, Store::Cells) {
         Fate::Works => {
             client.fetched(setup, key);
-            read_begun(book, client, session, start, epoch, key, front);
+            read_begun(book, client, setup, session, start, epoch, key, front);
             Ok(())
         }
         Fate::FailsUnchanged | Fate::FailsApplied => {
@@ -78,11 +78,13 @@ fn fetch_open<W: Weather>(
     }
 }
 
-/// The cells were fetched: the read goes over them, as far as it comes by itself and by what its session keeps.
+/// The cells were fetched: the read goes over them, as far as it comes by itself and by what its session keeps. It may mark
+/// every version where sessions place their commits.
 #[tactic(auto, using(event_parts::proofs::Recalls::start_comes))]
 fn read_begun(
     book: &mut Book,
     client: &mut Client,
+    setup: &Setup,
     session: SessionNo,
     start: Stamp,
     epoch: u64,
@@ -91,9 +93,9 @@ fn read_begun(
 )
     requires room { 2 ≤ book.old.room }
     requires fetched { AreFetched start front.cells.items }
-    ensures client { client.new ≡ client_recalled client.old (recalled_over false key start epoch front.cells.items client.old.cache) }
+    ensures client { client.new ≡ client_recalled client.old (recalled_over (marks_every (numbers_of setup.now)) key start epoch front.cells.items client.old.cache) }
     ensures items { book.new.items ≡ book.old.items ++ Item.Step (Actor.Session session) (StoreStep.Fetch key front.versions)
-        ∷ read_items session start key (recalled_over false key start epoch front.cells.items client.old.cache).0 }
+        ∷ read_items session start key (recalled_over (marks_every (numbers_of setup.now)) key start epoch front.cells.items client.old.cache).0 }
     ensures spare { book.new.spare ≡ book.old.spare }
 {
     let what = StoreStep::Fetch {
@@ -104,7 +106,7 @@ fn read_begun(
         actor: Actor::Session(session),
         what,
     });
-    let (run, next) = ReadRun::start(key, start, epoch, front.cells);
+    let (run, next) = ReadRun::start(key, start, epoch, setup.direct, front.cells);
     let then = client.reads(run, next);
     ledger::tell_read(book, session, start, key, &then);
 }
