@@ -4,6 +4,7 @@
 
 mod asks;
 mod healing;
+mod placing;
 mod stepping;
 mod sweeping;
 

@@ -1,13 +1,15 @@
-// A session makes the next step of what it has under way.
+// A session makes the next step of what it has under way, or places the record of its commit.
 ghost use Rattle.std.specs.Prelude.{◌≡◌, ◌≤◌, None, Some};
+ghost use Rattle.client_parts.specs.SessionSteps.{handed_commit};
 ghost use Rattle.client_parts.specs.Sweep.{IsKeys};
 ghost use Rattle.machine.specs.StoreSteps as steps;
-ghost use Rattle.machine.specs.Events.Step.{step_on, step_at, step_asks, next_of, work_of};
+ghost use Rattle.machine.specs.Events.Step.{step_on, step_at, step_asks, store_asked, next_of, work_of};
 ghost use Rattle.event_parts.specs.Made.{Makes, Asks, fate_ahead};
 ghost use Rattle.step_events.specs.Meeting.{KeepsShadow, KeepsShadowNext};
 ghost use Rattle.event_parts.specs.Working.{CanWork, MayStep};
 
 use crate::asks;
+use crate::placing::place;
 use cell_store::{Cells, StoreFault};
 use client_parts::Ask;
 use commit_table::Table;
@@ -16,8 +18,9 @@ use history_book::{Actor, Book};
 use port_io::Weather;
 use stamp_base::SessionNo;
 
-/// The session makes the next step of its read, of the resolve of its own commit, or of its completion: refused as gone or
-/// idle. A failed step ends a read without an answer, lets a resolve start over, and frees a session that completes.
+/// The session makes the next step of its read, of the resolve of its own commit, or of its completion, or places the record of
+/// a commit that was handed to it: refused as gone or idle. A failed step ends a read without an answer, lets a resolve start
+/// over, and frees a session that completes; after a failed placing the outcome is open.
 pub fn step<W: Weather>(
     weather: &mut W,
     book: &mut Book,
@@ -26,8 +29,8 @@ pub fn step<W: Weather>(
     table: &mut Table,
     session: SessionNo,
 ) -> Result<(), Stopped>
-    requires work { MayStep client.old → CanWork (work_of client.old) client.old.entry }
-    requires shadow { MayStep client.old → KeepsShadowNext (next_of (work_of client.old)) cells.old.rows }
+    requires work { MayStep client.old → handed_commit client.old.entry ≡ None → CanWork (work_of client.old) client.old.entry }
+    requires shadow { MayStep client.old → handed_commit client.old.entry ≡ None → KeepsShadowNext (next_of (work_of client.old)) cells.old.rows }
     ensures made { Makes (step_on session (fate_ahead (step_asks client.old) (W.ahead weather.old)) client.old cells.old.rows table.old.pairs)
         (client.old, cells.old.rows, table.old.pairs) (client.new, cells.new.rows, table.new.pairs) book.old.items book.new.items result }
     ensures spare { book.new.spare ≡ book.old.spare }
@@ -38,6 +41,30 @@ pub fn step<W: Weather>(
     if let Err(cause) = client.check_step() {
         return ledger::refuse(book, Actor::Session(session), cause);
     }
+    match client.to_place() {
+        Some((start, commit)) => place(weather, book, client, table, session, start, commit),
+        None => step_work(weather, book, client, cells, table, session),
+    }
+}
+
+/// The same of what is under way.
+fn step_work<W: Weather>(
+    weather: &mut W,
+    book: &mut Book,
+    client: &mut Client,
+    cells: &mut Cells,
+    table: &mut Table,
+    session: SessionNo,
+) -> Result<(), Stopped>
+    requires work { CanWork (work_of client.old) client.old.entry }
+    requires shadow { KeepsShadowNext (next_of (work_of client.old)) cells.old.rows }
+    ensures made { Makes (step_at session (fate_ahead (store_asked (next_of (work_of client.old))) (W.ahead weather.old)) client.old cells.old.rows table.old.pairs (work_of client.old))
+        (client.old, cells.old.rows, table.old.pairs) (client.new, cells.new.rows, table.new.pairs) book.old.items book.new.items result }
+    ensures spare { book.new.spare ≡ book.old.spare }
+    ensures places { table.new.places ≡ table.old.places }
+    ensures asked { Asks result (store_asked (next_of (work_of client.old))) (W.ahead weather.old) (W.ahead weather.new)
+        (W.faults weather.old) (W.faults weather.new) }
+{
     book.make_room(2)?;
     match client.next() {
         None => Ok(()),
