@@ -16,11 +16,11 @@ use Rattle.client_parts.specs.declared.session.State.{State as SessionState}
 use Rattle.client_parts.specs.declared.session.State.TheVariants as phase
 use Rattle.client_parts.specs.Completion.{finish_asks, undo_asks, first_ask}
 use Rattle.client_parts.specs.Resolve.{ask_at}
-use Rattle.client_parts.specs.SessionSteps.{EndsFrom, step_refusal, has_transaction}
+use Rattle.client_parts.specs.SessionSteps.{EndsFrom, step_refusal, has_transaction, handed_by, handed_commit}
 use Rattle.machine.specs.State.{UnderWay, Nothing, Reads, Settles, Completes, Client, State}
 use Rattle.machine.specs.Clients.{is_reading, is_reading_by, client_freed}
 use Rattle.machine.specs.Calls.{MayStep, CanWork}
-use Rattle.machine.specs.Events.Step.{own_resolve, work_by, work_of, next_of}
+use Rattle.machine.specs.Events.Step.{own_resolve, work_by, work_of, next_of, store_asked, asked_next}
 use Rattle.isolation_laws.specs.Words.{ClientAt}
 use Rattle.isolation_laws.specs.Holds.{Holds}
 use Rattle.isolation_laws.proofs.Pushed.{one_quiet}
@@ -84,14 +84,34 @@ reading_asks Nothing go none = cc
 reading_asks (Settles x) go none = cc
 reading_asks (Completes asks) go none = cc
 
-state_asks : (w : State) (h : List Item) (session : ℕ) (c : Client) → Holds w h → ClientAt w.clients session c → (state : SessionState) → c.entry.state ≡ state → step_refusal state (is_reading c) ≡ None → next_of (work_by state c.entry c.under_way) ≡ None → ⊥
-state_asks w h session c holds at phase.OpenOutcome is go none = open_asks w h session c holds at is c.under_way refl none
-state_asks w h session c holds at (phase.Completing undo) is go none = completing_asks w h session c undo holds at is none
-state_asks w h session c holds at phase.Free is go none = reading_asks c.under_way go none
-state_asks w h session c holds at phase.Asking is go none = reading_asks c.under_way go none
-state_asks w h session c holds at phase.Open is go none = reading_asks c.under_way go none
-state_asks w h session c holds at phase.Committing is go none = reading_asks c.under_way go none
-state_asks w h session c holds at phase.Gone is go none = cc
+-- a commit that is to be placed has its stamps
+placing_some : (t k : ℕ) (start commit : Option ℕ) → start ≡ Some t → commit ≡ Some k → handed_by phase.Placing start commit ≡ None → ⊥
+placing_some t k start commit begins has none = let asks : Some (t, k) ≡ None = sym (ap (handed_by phase.Placing (Some t)) has ∙ refl) ∙ (ap (λ b. handed_by phase.Placing b commit) (sym begins) ∙ none) in cc
+
+placing_asks : (w : State) (h : List Item) (session : ℕ) (c : Client) → Holds w h → ClientAt w.clients session c → c.entry.state ≡ phase.Placing → handed_by phase.Placing c.entry.start c.entry.commit ≡ None → ⊥
+placing_asks w h session c holds at is none =
+    let begun = holds.requests.have_begun.begun session c at (subst (λ (s : SessionState). IsTrue (has_transaction s)) (sym is) refl) in
+    let has = holds.under_way.handed.commit session c at is in
+    placing_some begun.0 has.0 c.entry.start c.entry.commit begun.1 has.1 none
+
+state_asks : (w : State) (h : List Item) (session : ℕ) (c : Client) → Holds w h → ClientAt w.clients session c → (state : SessionState) → c.entry.state ≡ state → step_refusal state (is_reading c) ≡ None → handed_by state c.entry.start c.entry.commit ≡ None → next_of (work_by state c.entry c.under_way) ≡ None → ⊥
+state_asks w h session c holds at phase.Placing is go unhanded none = placing_asks w h session c holds at is unhanded
+state_asks w h session c holds at phase.OpenOutcome is go unhanded none = open_asks w h session c holds at is c.under_way refl none
+state_asks w h session c holds at (phase.Completing undo) is go unhanded none = completing_asks w h session c undo holds at is none
+state_asks w h session c holds at phase.Free is go unhanded none = reading_asks c.under_way go none
+state_asks w h session c holds at phase.Asking is go unhanded none = reading_asks c.under_way go none
+state_asks w h session c holds at phase.Open is go unhanded none = reading_asks c.under_way go none
+state_asks w h session c holds at phase.Committing is go unhanded none = reading_asks c.under_way go none
+state_asks w h session c holds at phase.Gone is go unhanded none = cc
+
+stores_none : (next : Option Ask) → store_asked next ≡ None → next ≡ None
+stores_none None none = refl
+stores_none (Some asked) none = absurd cc
+
+-- nothing is asked where no commit is to be placed and nothing is asked for what is under way
+asks_none : (c : Client) (stamps : Option (ℕ × ℕ)) → asked_next c stamps ≡ None → (stamps ≡ None) × (next_of (work_of c) ≡ None)
+asks_none c None none = (refl, stores_none (next_of (work_of c)) none)
+asks_none c (Some stamps) none = absurd cc
 
 -- ---- what is asked
 no_shadow_at : (key txn : ℕ) (at : SettlePoint) (k t commit : ℕ) → Some (ask_at key txn at) ≡ Some (Shadow k t commit) → ⊥
@@ -127,16 +147,16 @@ work_shadow w h session c holds at (Completes (asked ∷ asks)) fits k t commit 
 work_can : (c : Client) (work : UnderWay) → (next_of work ≡ None → ⊥) → IsWork c work → CanWork work c.entry
 work_can c Nothing asks fits = tt
 work_can c (Reads r) asks fits = tt
-work_can c (Settles x) asks fits = inr fits.0
+work_can c (Settles x) asks fits = inr (inr fits.0)
 work_can c (Completes []) asks fits = absurd (asks refl)
 work_can c (Completes (asked ∷ left)) asks fits = subst (λ (s : SessionState). EndsFrom s c.entry.keys) (sym fits.completing) tt
 
 pub steps_ask : (w : State) (h : List Item) → Tells w h → StepMayBeMade w
 steps_ask w h tells session c at =
     let holds : Holds w h = tells.stands.holds in
-    let asks : MayStep c → next_of (work_of c) ≡ None → ⊥ = λ may. state_asks w h session c holds at c.entry.state refl may in
+    let asks : MayStep c → handed_commit c.entry ≡ None → next_of (work_of c) ≡ None → ⊥ = λ may. state_asks w h session c holds at c.entry.state refl may in
     record {
-      asks = asks;
-      work = λ may. work_can c (work_of c) (asks may) (work_fits w h session c holds at may);
-      shadow = λ may. keeps_next w.rows (next_of (work_of c)) (λ k t commit next. only_shadow w h k t commit holds (work_shadow w h session c holds at (work_of c) (work_fits w h session c holds at may) k t commit next));
+      asks = λ may none. let both = asks_none c (handed_commit c.entry) none in asks may both.0 both.1;
+      work = λ may unhanded. work_can c (work_of c) (asks may unhanded) (work_fits w h session c holds at unhanded may);
+      shadow = λ may unhanded. keeps_next w.rows (next_of (work_of c)) (λ k t commit next. only_shadow w h k t commit holds (work_shadow w h session c holds at (work_of c) (work_fits w h session c holds at unhanded may) k t commit next));
     }

@@ -3,9 +3,10 @@ use Rattle.std.specs.Prelude.{◌≡◌, ℕ, IsTrue, List, ◌∷◌, None, IfS
 use Rattle.store_parts.specs.Rows.{Row, IsBare, HasOnly}
 use Rattle.client_parts.specs.declared.resolve.SettlePoint.TheVariants.{Marking}
 use Rattle.client_parts.specs.KeyRead.{Reading, may_mark, AreFetched}
+use Rattle.client_parts.specs.SessionSteps.{handed_commit}
 use Rattle.client_parts.specs.Sweep.{sweep_ask}
 use Rattle.machine.specs.State.{Reads, Client, State}
-use Rattle.machine.specs.Events.Step.{work_of, next_of}
+use Rattle.machine.specs.Events.Step.{work_of, next_of, asked_next}
 use Rattle.machine.specs.Calls.{MayStep, CanWork, KeepsShadowNext}
 use Rattle.machine.specs.Events.Write.{write_refused}
 use Rattle.machine.specs.Events.Heal.{offer_of}
@@ -27,12 +28,12 @@ pub record ReadsFetched (r : Reading) : Type 0 where
 abbrev pub ReadMayGoOn : State → Type 0
 ReadMayGoOn w = (session : ℕ) (c : Client) (r : Reading) → ClientAt w.clients session c → c.under_way ≡ Reads r → ReadsFetched r
 
--- a step that is not refused asks something; the session can hear what it comes to, and a shadow that it sets is the only one
--- that the cell may have
+-- a step that is not refused asks something; where no commit is to be placed, the session can hear what the step comes to, and a
+-- shadow that it sets is the only one that the cell may have
 pub record CanStep (rows : List Row) (c : Client) : Type 0 where
-  pub asks : MayStep c → next_of (work_of c) ≡ None → ⊥
-  pub work : MayStep c → CanWork (work_of c) c.entry
-  pub shadow : MayStep c → KeepsShadowNext (next_of (work_of c)) rows
+  pub asks : MayStep c → asked_next c (handed_commit c.entry) ≡ None → ⊥
+  pub work : MayStep c → handed_commit c.entry ≡ None → CanWork (work_of c) c.entry
+  pub shadow : MayStep c → handed_commit c.entry ≡ None → KeepsShadowNext (next_of (work_of c)) rows
 
 abbrev pub StepMayBeMade : State → Type 0
 StepMayBeMade w = (session : ℕ) (c : Client) → ClientAt w.clients session c → CanStep w.rows c

@@ -9,7 +9,7 @@ use Rattle.history_book.specs.declared.item.Item.{Item}
 use Rattle.history_book.specs.declared.item.Item.TheVariants.{Placed}
 use Rattle.oracle_parts.specs.declared.instance.Held.{Held}
 use Rattle.oracle_parts.specs.declared.instance.Progress.{Progress}
-use Rattle.oracle_parts.specs.declared.instance.Progress.TheVariants.{Asked, Accepted, Drawn, Settled}
+use Rattle.oracle_parts.specs.declared.instance.Progress.TheVariants.{Asked, Accepted, Drawn, Settled, Handed}
 use Rattle.oracle_parts.specs.declared.instance.Request.{Request}
 use Rattle.oracle_parts.specs.declared.instance.Request.TheVariants.{Begin, Commit}
 use Rattle.oracle_parts.specs.declared.instance.Settled.{Settled as How}
@@ -60,16 +60,19 @@ spent_longer h more held (Begin s) Asked = omega arith
 spent_longer h more held (Begin s) Accepted = omega arith
 spent_longer h more held (Begin s) (Drawn start) = omega arith
 spent_longer h more held (Begin s) (Settled c by) = omega arith
+spent_longer h more held (Begin s) (Handed c) = omega arith
 spent_longer h more held (Commit s t keys) Asked = omega arith
 spent_longer h more held (Commit s t keys) Accepted = omega arith
 spent_longer h more held (Commit s t keys) (Drawn c) = omega arith
 spent_longer h more held (Commit s t keys) (Settled c by) = omega (arith, besides_longer h more t c by)
+spent_longer h more held (Commit s t keys) (Handed c) = omega arith
 
 need_by_longer : (h more : List Item) (held : Held) (p : Progress) → need_by (h ++ more) held p ≤ need_by h held p
 need_by_longer h more held Asked = omega arith
 need_by_longer h more held Accepted = omega (arith, spent_longer h more held held.request Accepted)
 need_by_longer h more held (Drawn c) = omega (arith, spent_longer h more held held.request (Drawn c))
 need_by_longer h more held (Settled c by) = omega (arith, spent_longer h more held held.request (Settled c by))
+need_by_longer h more held (Handed c) = omega (arith, spent_longer h more held held.request (Handed c))
 
 -- a longer history leaves no request more to append
 pub need_longer : (h more : List Item) (held : Option Held) → need (h ++ more) held ≤ need h held

@@ -28,20 +28,20 @@ use Rattle.machine.specs.Events.Put.{put_on}
 use Rattle.machine.specs.Events.Answer.{answer_on}
 use Rattle.machine.proofs.PartsKept.{leaves_parts}
 use Rattle.event_parts.specs.Served.{is_to_decide, is_to_put, is_to_answer}
-use Rattle.node_events.specs.Reserved.{HeldHasPlace}
+use Rattle.node_events.specs.Reserved.{is_direct, HeldHasPlace}
 use Rattle.isolation_laws.specs.Words.{InstanceAt}
 use Rattle.isolation_laws.proofs.Lookups.{instance_set}
 use Rattle.cluster_core.specs.Room.{need, needs_of, start_to_place}
-use Rattle.cluster_core.specs.Served.{held_found}
+use Rattle.cluster_core.specs.Served.{held_found, direct_found}
 use Rattle.cluster_core.proofs.Needs.{set_sum}
-use Rattle.cluster_core.proofs.RequestMoves.{requests_of, Became, stayed, ended, spends, gains, take_leaves, renew_leaves, extend_leaves, begin_leaves, commits_leave, accept_leaves, decide_leaves, answer_leaves, put_leaves}
+use Rattle.cluster_core.proofs.RequestMoves.{requests_of, start_of, PostBecame, stayed, ended, spends, gains, take_leaves, renew_leaves, extend_leaves, begin_leaves, commits_leave, accept_leaves, decide_leaves, answer_leaves, put_leaves}
 
 -- ---- one node changed
 -- the session's commit at the node is to be placed
 pub record StartsAt (nodes : List (Option InstanceEntry)) (n s t : ℕ) : Type 0 where
   pub i : InstanceEntry
   pub at : InstanceAt nodes n i
-  pub starts : start_to_place (held_of i s) ≡ Some t
+  pub starts : start_to_place i.direct (held_of i s) ≡ Some t
 
 pub record NodesBecame (h : List Item) (given : Places) (a b : ℕ) (old new : List (Option InstanceEntry)) : Type 0 where
   pub sum : sum_by (needs_of h) new + a ≤ sum_by (needs_of h) old + b
@@ -55,20 +55,16 @@ needs_as h None = refl
 needs_as h (Some i) = refl
 
 -- a post with such a request has an instance
-post_starts : (nodes : List (Option InstanceEntry)) (n s t : ℕ) (post : Option InstanceEntry) → slice_get nodes n ≡ Some post → start_to_place (held_at post s) ≡ Some t → StartsAt nodes n s t
+post_starts : (nodes : List (Option InstanceEntry)) (n s t : ℕ) (post : Option InstanceEntry) → slice_get nodes n ≡ Some post → start_of post s ≡ Some t → StartsAt nodes n s t
 post_starts nodes n s t None at is = absurd (none-some t is)
 post_starts nodes n s t (Some i) at is = record { i = i; at = at; starts = is }
 
-none_found : (post : Option InstanceEntry) (s : ℕ) → start_to_place (held_at post s) ≡ start_to_place (slice_index_or (requests_of post) s None)
-none_found None s = refl
-none_found (Some i) s = refl
-
-pub node_became : (h : List Item) (given : Places) (a b : ℕ) (nodes : List (Option InstanceEntry)) (n : ℕ) (post now : Option InstanceEntry) → slice_get nodes n ≡ Some post → Became h given a b (requests_of post) (requests_of now) → NodesBecame h given a b nodes (slice_set nodes n now)
+pub node_became : (h : List Item) (given : Places) (a b : ℕ) (nodes : List (Option InstanceEntry)) (n : ℕ) (post now : Option InstanceEntry) → slice_get nodes n ≡ Some post → PostBecame h given a b post now → NodesBecame h given a b nodes (slice_set nodes n now)
 node_became h given a b nodes n post now at k = record {
   sum = set_sum (needs_of h) nodes n post now a b at (omega (arith, needs_as h post, needs_as h now, k.sum));
   starts = λ m s t there. elim (instance_set nodes n m now there.i there.at) [
-    | inl here ↦ elim (k.starts s t (ap (λ (p : Option InstanceEntry). start_to_place (slice_index_or (requests_of p) s None)) here.1 ∙ there.starts)) [
-      | inl before ↦ inl (post_starts nodes m s t post (ap (slice_get nodes) here.0 ∙ at) (none_found post s ∙ before))
+    | inl here ↦ elim (k.starts s t (ap (λ (p : Option InstanceEntry). start_of p s) here.1 ∙ there.starts)) [
+      | inl before ↦ inl (post_starts nodes m s t post (ap (slice_get nodes) here.0 ∙ at) before)
       | inr has ↦ inr has
     ]
     | inr old ↦ inl (record { i = there.i; at = old.1; starts = there.starts })
@@ -76,43 +72,43 @@ node_became h given a b nodes n post now at k = record {
 }
 
 -- ---- looking up the parts
-at_one : (h : List Item) (given : Places) (w : State) (n : ℕ) (nodes : List (Option InstanceEntry)) (f : Option InstanceEntry → Step) (new : Option InstanceEntry → Option InstanceEntry) (found : Option (Option InstanceEntry)) → w.nodes ≡ nodes → slice_get nodes n ≡ found → ((post : Option InstanceEntry) → (f post).state.nodes ≡ slice_set nodes n (new post)) → ((post : Option InstanceEntry) → Became h given 0 0 (requests_of post) (requests_of (new post))) → NodesBecame h given 0 0 nodes (at_post w found f).state.nodes
+at_one : (h : List Item) (given : Places) (w : State) (n : ℕ) (nodes : List (Option InstanceEntry)) (f : Option InstanceEntry → Step) (new : Option InstanceEntry → Option InstanceEntry) (found : Option (Option InstanceEntry)) → w.nodes ≡ nodes → slice_get nodes n ≡ found → ((post : Option InstanceEntry) → (f post).state.nodes ≡ slice_set nodes n (new post)) → ((post : Option InstanceEntry) → PostBecame h given 0 0 post (new post)) → NodesBecame h given 0 0 nodes (at_post w found f).state.nodes
 at_one h given w n nodes f new None same was sets each = subst (λ (now : List (Option InstanceEntry)). NodesBecame h given 0 0 nodes now) (sym same) (nodes_stayed h given 0 nodes)
 at_one h given w n nodes f new (Some post) same was sets each = subst (λ (now : List (Option InstanceEntry)). NodesBecame h given 0 0 nodes now) (sym (sets post)) (node_became h given 0 0 nodes n post (new post) was (each post))
 
-at_two : (h : List Item) (given : Places) (w : State) (n : ℕ) (nodes : List (Option InstanceEntry)) (f : Option InstanceEntry → Client → Step) (new : Option InstanceEntry → Client → Option InstanceEntry) (found : Option (Option InstanceEntry)) (c : Option Client) → w.nodes ≡ nodes → slice_get nodes n ≡ found → ((post : Option InstanceEntry) (d : Client) → (f post d).state.nodes ≡ slice_set nodes n (new post d)) → ((post : Option InstanceEntry) (d : Client) → Became h given 0 0 (requests_of post) (requests_of (new post d))) → NodesBecame h given 0 0 nodes (at_both w found c f).state.nodes
+at_two : (h : List Item) (given : Places) (w : State) (n : ℕ) (nodes : List (Option InstanceEntry)) (f : Option InstanceEntry → Client → Step) (new : Option InstanceEntry → Client → Option InstanceEntry) (found : Option (Option InstanceEntry)) (c : Option Client) → w.nodes ≡ nodes → slice_get nodes n ≡ found → ((post : Option InstanceEntry) (d : Client) → (f post d).state.nodes ≡ slice_set nodes n (new post d)) → ((post : Option InstanceEntry) (d : Client) → PostBecame h given 0 0 post (new post d)) → NodesBecame h given 0 0 nodes (at_both w found c f).state.nodes
 at_two h given w n nodes f new (Some post) (Some d) same was sets each = subst (λ (now : List (Option InstanceEntry)). NodesBecame h given 0 0 nodes now) (sym (sets post d)) (node_became h given 0 0 nodes n post (new post d) was (each post d))
 at_two h given w n nodes f new (Some post) None same was sets each = subst (λ (now : List (Option InstanceEntry)). NodesBecame h given 0 0 nodes now) (sym same) (nodes_stayed h given 0 nodes)
 at_two h given w n nodes f new None c same was sets each = subst (λ (now : List (Option InstanceEntry)). NodesBecame h given 0 0 nodes now) (sym same) (nodes_stayed h given 0 nodes)
 
 -- ---- the events that serve no request
-took : (h : List Item) (given : Places) (w : State) (n reading : ℕ) (fate : Fate) (post : Option InstanceEntry) → Became h given 0 0 (requests_of post) (requests_of (take_on w.setup n reading fate post w.master).parts.0)
+took : (h : List Item) (given : Places) (w : State) (n reading : ℕ) (fate : Fate) (post : Option InstanceEntry) → PostBecame h given 0 0 post (take_on w.setup n reading fate post w.master).parts.0
 took h given w n reading fate None = take_leaves h given w.setup n reading _ _ _
-took h given w n reading fate (Some i) = stayed h given 0 i.requests
+took h given w n reading fate (Some i) = stayed h given 0 i.direct i.requests
 
-renewed : (h : List Item) (given : Places) (w : State) (n reading : ℕ) (fate : Fate) (post : Option InstanceEntry) → Became h given 0 0 (requests_of post) (requests_of (renew_on w.setup n reading fate post w.master).parts.0)
-renewed h given w n reading fate None = stayed h given 0 []
+renewed : (h : List Item) (given : Places) (w : State) (n reading : ℕ) (fate : Fate) (post : Option InstanceEntry) → PostBecame h given 0 0 post (renew_on w.setup n reading fate post w.master).parts.0
+renewed h given w n reading fate None = stayed h given 0 false []
 renewed h given w n reading fate (Some i) = renew_leaves h given n reading i _ _ _
 
-extended : (h : List Item) (given : Places) (w : State) (n : ℕ) (fate : Fate) (post : Option InstanceEntry) → Became h given 0 0 (requests_of post) (requests_of (extend_on w.setup n fate post w.master).parts.0)
-extended h given w n fate None = stayed h given 0 []
+extended : (h : List Item) (given : Places) (w : State) (n : ℕ) (fate : Fate) (post : Option InstanceEntry) → PostBecame h given 0 0 post (extend_on w.setup n fate post w.master).parts.0
+extended h given w n fate None = stayed h given 0 false []
 extended h given w n fate (Some i) = extend_leaves h given n i _ _ _
 
-crashed : (h : List Item) (given : Places) (w : State) (n : ℕ) (post : Option InstanceEntry) → Became h given 0 0 (requests_of post) (requests_of (crash_on n post w.clients).parts.0)
-crashed h given w n None = stayed h given 0 []
-crashed h given w n (Some i) = ended h given i.requests 0
+crashed : (h : List Item) (given : Places) (w : State) (n : ℕ) (post : Option InstanceEntry) → PostBecame h given 0 0 post (crash_on n post w.clients).parts.0
+crashed h given w n None = stayed h given 0 false []
+crashed h given w n (Some i) = ended h given i.direct false i.requests 0
 
 -- ---- an accept
-accepted_at : (h : List Item) (given : Places) (w : State) (n s reading : ℕ) (post : Option InstanceEntry) (c : Client) → slice_get w.nodes n ≡ Some post → ((accept_on n s reading post c).stop ≡ None → HeldHasPlace given (held_at post s)) → NodesBecame h given 0 (gains (held_at post s) (accept_on n s reading post c).stop) w.nodes (slice_set w.nodes n (accept_on n s reading post c).parts.0)
-accepted_at h given w n s reading None c at has = node_became h given 0 0 w.nodes n None None at (stayed h given 0 [])
+accepted_at : (h : List Item) (given : Places) (w : State) (n s reading : ℕ) (post : Option InstanceEntry) (c : Client) → slice_get w.nodes n ≡ Some post → ((accept_on n s reading post c).stop ≡ None → HeldHasPlace (is_direct post) given (held_at post s)) → NodesBecame h given 0 (gains (held_at post s) (accept_on n s reading post c).stop) w.nodes (slice_set w.nodes n (accept_on n s reading post c).parts.0)
+accepted_at h given w n s reading None c at has = node_became h given 0 0 w.nodes n None None at (stayed h given 0 false [])
 accepted_at h given w n s reading (Some i) c at has = node_became h given 0 _ w.nodes n (Some i) _ at (accept_leaves h given n s reading i c (held_of i s) refl has)
 
-accepted_in : (h : List Item) (given : Places) (w : State) (n s reading : ℕ) (posts : Option (Option InstanceEntry)) (found : Option Client) → slice_get w.nodes n ≡ posts → (let step = at_both (with_reading w reading) posts found (λ post c. step_by (accept_on n s reading post c) (λ p. with_client (with_post (with_reading w reading) n p.0) s p.1)) in (step.stop ≡ None → HeldHasPlace given (held_found posts s)) → NodesBecame h given 0 (gains (held_found posts s) step.stop) w.nodes step.state.nodes)
+accepted_in : (h : List Item) (given : Places) (w : State) (n s reading : ℕ) (posts : Option (Option InstanceEntry)) (found : Option Client) → slice_get w.nodes n ≡ posts → (let step = at_both (with_reading w reading) posts found (λ post c. step_by (accept_on n s reading post c) (λ p. with_client (with_post (with_reading w reading) n p.0) s p.1)) in (step.stop ≡ None → HeldHasPlace (direct_found posts) given (held_found posts s)) → NodesBecame h given 0 (gains (held_found posts s) step.stop) w.nodes step.state.nodes)
 accepted_in h given w n s reading None found at has = nodes_stayed h given 0 w.nodes
 accepted_in h given w n s reading (Some post) None at has = nodes_stayed h given _ w.nodes
 accepted_in h given w n s reading (Some post) (Some c) at has = accepted_at h given w n s reading post c at has
 
-pub accept_became : (h : List Item) (given : Places) (w : State) (n s reading : ℕ) (fate : Fate) → ((stepped w (event.Accept n s reading) fate).stop ≡ None → HeldHasPlace given (held_found (slice_get w.nodes n) s)) → NodesBecame h given 0 (gains (held_found (slice_get w.nodes n) s) (stepped w (event.Accept n s reading) fate).stop) w.nodes (stepped w (event.Accept n s reading) fate).state.nodes
+pub accept_became : (h : List Item) (given : Places) (w : State) (n s reading : ℕ) (fate : Fate) → ((stepped w (event.Accept n s reading) fate).stop ≡ None → HeldHasPlace (direct_found (slice_get w.nodes n)) given (held_found (slice_get w.nodes n) s)) → NodesBecame h given 0 (gains (held_found (slice_get w.nodes n) s) (stepped w (event.Accept n s reading) fate).stop) w.nodes (stepped w (event.Accept n s reading) fate).state.nodes
 accept_became h given w n s reading fate has = accepted_in h given w n s reading (slice_get w.nodes n) (slice_get w.clients s) refl has
 
 -- ---- what serves a request
@@ -124,7 +120,7 @@ spends_none true = refl
 spends_none false = refl
 
 decided_at : (h : List Item) (given : Places) (w : State) (n s : ℕ) (post : Option InstanceEntry) (c : Client) → slice_get w.nodes n ≡ Some post → NodesBecame h given (spends (is_to_decide (held_at post s)) (decide_on n s post c).items) 0 w.nodes (slice_set w.nodes n (decide_on n s post c).parts.0)
-decided_at h given w n s None c at = node_became h given 0 0 w.nodes n None None at (stayed h given 0 [])
+decided_at h given w n s None c at = node_became h given 0 0 w.nodes n None None at (stayed h given 0 false [])
 decided_at h given w n s (Some i) c at = node_became h given _ 0 w.nodes n (Some i) _ at (decide_leaves h given n s i c (held_of i s) refl)
 
 decided_in : (h : List Item) (given : Places) (w : State) (n s : ℕ) (posts : Option (Option InstanceEntry)) (found : Option Client) → slice_get w.nodes n ≡ posts → (let step = at_both w posts found (λ post c. step_by (decide_on n s post c) (λ p. with_client (with_post w n p.0) s p.1)) in NodesBecame h given (spends (is_to_decide (held_found posts s)) step.items) 0 w.nodes step.state.nodes)
@@ -136,7 +132,7 @@ pub decide_became : (h : List Item) (given : Places) (w : State) (n s : ℕ) (fa
 decide_became h given w n s fate = decided_in h given w n s (slice_get w.nodes n) (slice_get w.clients s) refl
 
 answered_at : (h : List Item) (given : Places) (w : State) (n s : ℕ) (post : Option InstanceEntry) (c : Client) → slice_get w.nodes n ≡ Some post → NodesBecame h given (spends (is_to_answer (held_at post s)) (answer_on n s post c).items) 0 w.nodes (slice_set w.nodes n (answer_on n s post c).parts.0)
-answered_at h given w n s None c at = node_became h given 0 0 w.nodes n None None at (stayed h given 0 [])
+answered_at h given w n s None c at = node_became h given 0 0 w.nodes n None None at (stayed h given 0 false [])
 answered_at h given w n s (Some i) c at = node_became h given _ 0 w.nodes n (Some i) _ at (answer_leaves h given n s i c (held_of i s) refl)
 
 answered_in : (h : List Item) (given : Places) (w : State) (n s : ℕ) (posts : Option (Option InstanceEntry)) (found : Option Client) → slice_get w.nodes n ≡ posts → (let step = at_both w posts found (λ post c. step_by (answer_on n s post c) (λ p. with_client (with_post w n p.0) s p.1)) in NodesBecame h given (spends (is_to_answer (held_found posts s)) step.items) 0 w.nodes step.state.nodes)
@@ -149,7 +145,7 @@ answer_became h given w n s fate = answered_in h given w n s (slice_get w.nodes 
 
 put_in : (before : List Item) (given : Places) (w : State) (n s : ℕ) (fate : Fate) (posts : Option (Option InstanceEntry)) → slice_get w.nodes n ≡ posts → (let step = at_post w posts (λ post. step_by (put_on n s fate post w.pairs) (λ p. record (with_post w n p.0) { pairs = p.1 })) in NodesBecame (before ++ step.items) given (spends (is_to_put (held_found posts s)) step.items) 0 w.nodes step.state.nodes)
 put_in before given w n s fate None at = nodes_stayed _ given 0 w.nodes
-put_in before given w n s fate (Some None) at = node_became _ given 0 0 w.nodes n None None at (stayed _ given 0 [])
+put_in before given w n s fate (Some None) at = node_became _ given 0 0 w.nodes n None None at (stayed _ given 0 false [])
 put_in before given w n s fate (Some (Some i)) at = node_became _ given _ 0 w.nodes n (Some i) _ at (put_leaves before given n s fate i w.pairs (held_of i s) refl)
 
 pub put_became : (before : List Item) (given : Places) (w : State) (n s : ℕ) (fate : Fate) → NodesBecame (before ++ (stepped w (event.Put n s) fate).items) given (spends (is_to_put (held_found (slice_get w.nodes n) s)) (stepped w (event.Put n s) fate).items) 0 w.nodes (stepped w (event.Put n s) fate).state.nodes

@@ -1,10 +1,10 @@
--- A commit that is accepted or drawn has its start for itself.
-use Rattle.std.proofs.Common.{◌≡◌, ℕ, List, Option, Some, None, inl, refl, ap, subst, ◌∙◌}
+-- A commit that is accepted or drawn, and that the oracle is to place, has its start for itself.
+use Rattle.std.proofs.Common.{◌≡◌, ℕ, Bool, true, false, List, Option, Some, None, inl, refl, ap, subst, ◌∙◌}
 use Rattle.std.proofs.lemmas.Option.{same_Some, none-some}
 use Rattle.history_book.specs.declared.item.Item.{Item}
 use Rattle.oracle_parts.specs.declared.instance.Held.{Held}
 use Rattle.oracle_parts.specs.declared.instance.Progress.{Progress}
-use Rattle.oracle_parts.specs.declared.instance.Progress.TheVariants.{Asked, Accepted, Drawn, Settled}
+use Rattle.oracle_parts.specs.declared.instance.Progress.TheVariants.{Asked, Accepted, Drawn, Settled, Handed}
 use Rattle.oracle_parts.specs.declared.instance.Request.{Request}
 use Rattle.oracle_parts.specs.declared.instance.Request.TheVariants.{Begin, Commit}
 use Rattle.oracle_parts.specs.Instance.{InstanceEntry, held_of}
@@ -14,7 +14,7 @@ use Rattle.isolation_laws.specs.Pending.{Taken, Has, InFlight, HeldPending}
 use Rattle.isolation_laws.specs.Holds.{Holds}
 use Rattle.isolation_laws.proofs.Lookups.{held_by, commit_own}
 use Rattle.isolation_laws.proofs.OnceEach.{begun_once}
-use Rattle.cluster_core.specs.Room.{start_by, start_to_place}
+use Rattle.cluster_core.specs.Room.{unless_direct, start_by, start_to_place}
 use Rattle.cluster_core.proofs.NodeMoves.{StartsAt}
 
 -- such a request is a commit in flight
@@ -29,12 +29,16 @@ record IsInFlight (nodes : List (Option InstanceEntry)) (n s t : ℕ) : Type 0 w
   pub session_is : coming.session ≡ s
   pub start_is : coming.start ≡ t
 
-in_flight_by : (w : State) (h : List Item) (n s t : ℕ) (i : InstanceEntry) (held : Held) (request : Request) (p : Progress) → Holds w h → InstanceAt w.nodes n i → held_of i s ≡ Some held → held.request ≡ request → held.progress ≡ p → start_by request p ≡ Some t → IsInFlight w.nodes n s t
+unless_same : (direct : Bool) (u t : ℕ) → unless_direct direct u ≡ Some t → u ≡ t
+unless_same true u t is = absurd (none-some t is)
+unless_same false u t is = same_Some u t is
+
+in_flight_by : (w : State) (h : List Item) (n s t : ℕ) (i : InstanceEntry) (held : Held) (request : Request) (p : Progress) → Holds w h → InstanceAt w.nodes n i → held_of i s ≡ Some held → held.request ≡ request → held.progress ≡ p → start_by i.direct request p ≡ Some t → IsInFlight w.nodes n s t
 in_flight_by w h n s t i held (Begin r) p holds at has asks stands is = absurd (none-some t is)
 in_flight_by w h n s t i held (Commit r u keys) Asked holds at has asks stands is = absurd (none-some t is)
 in_flight_by w h n s t i held (Commit r u keys) Accepted holds at has asks stands is =
     let own = commit_own held.request s r u keys asks (holds.requests.requests.own n s i held.request held.progress at (held_by i s held has)) in
-    let by : HeldBy i s (Commit s t keys) Accepted = record { held = held; has = has; asks = own ∙ ap (λ v. Commit s v keys) (same_Some u t is); stands = stands } in
+    let by : HeldBy i s (Commit s t keys) Accepted = record { held = held; has = has; asks = own ∙ ap (λ v. Commit s v keys) (unless_same i.direct u t is); stands = stands } in
     record {
       keys = keys;
       progress_of = Accepted;
@@ -61,8 +65,9 @@ in_flight_by w h n s t i held (Commit r u keys) (Drawn c) holds at has asks stan
       start_is = refl;
     }
 in_flight_by w h n s t i held (Commit r u keys) (Settled c by) holds at has asks stands is = absurd (none-some t is)
+in_flight_by w h n s t i held (Commit r u keys) (Handed c) holds at has asks stands is = absurd (none-some t is)
 
-in_flight_as : (w : State) (h : List Item) (n s t : ℕ) (i : InstanceEntry) (found : Option Held) → Holds w h → InstanceAt w.nodes n i → held_of i s ≡ found → start_to_place found ≡ Some t → IsInFlight w.nodes n s t
+in_flight_as : (w : State) (h : List Item) (n s t : ℕ) (i : InstanceEntry) (found : Option Held) → Holds w h → InstanceAt w.nodes n i → held_of i s ≡ found → start_to_place i.direct found ≡ Some t → IsInFlight w.nodes n s t
 in_flight_as w h n s t i None holds at has is = absurd (none-some t is)
 in_flight_as w h n s t i (Some held) holds at has is = in_flight_by w h n s t i held held.request held.progress holds at has refl refl is
 

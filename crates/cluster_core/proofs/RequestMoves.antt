@@ -29,7 +29,7 @@ use Rattle.oracle_parts.specs.declared.buckets.Verdict.TheVariants as verdict
 use Rattle.oracle_parts.specs.declared.instance.Decided.{Decided}
 use Rattle.oracle_parts.specs.declared.instance.Held.{Held}
 use Rattle.oracle_parts.specs.declared.instance.Progress.{Progress}
-use Rattle.oracle_parts.specs.declared.instance.Progress.TheVariants.{Asked, Accepted, Drawn, Settled}
+use Rattle.oracle_parts.specs.declared.instance.Progress.TheVariants.{Asked, Accepted, Drawn, Settled, Handed}
 use Rattle.oracle_parts.specs.declared.instance.Reply.{Reply}
 use Rattle.oracle_parts.specs.declared.instance.Reply.TheVariants as reply
 use Rattle.oracle_parts.specs.declared.instance.Request.{Request}
@@ -37,7 +37,7 @@ use Rattle.oracle_parts.specs.declared.instance.Request.TheVariants.{Begin, Comm
 use Rattle.oracle_parts.specs.declared.instance.Settled.{Settled as How}
 use Rattle.oracle_parts.specs.declared.instance.Settled.TheVariants as how
 use Rattle.oracle_parts.specs.Instance.{InstanceEntry, held_of, in_flight, with_request, session_of, unsettled_by, stamps_by, stamps_of_held, least_unsettled}
-use Rattle.oracle_parts.specs.InstanceSteps.{InstanceStep, stays, just_asked, instance_ask, without_request, no_stamp_told, accept_refusal, accept_unless, accept_if_asked, out_of_stamps, decide_drawn, decide_by as decided, reply_of, answer_begin, answer_if_ready, answer_held, instance_answer, moved as moved_on, settle_if_drawn, settle_held, instance_settle}
+use Rattle.oracle_parts.specs.InstanceSteps.{InstanceStep, stays, just_asked, instance_ask, without_request, no_stamp_told, accept_refusal, accept_unless, accept_if_asked, out_of_stamps, drawn_as, decide_drawn, decide_by as decided, reply_of, answer_begin, answer_if_ready, answer_held, instance_answer, moved as moved_on, settle_if_drawn, settle_held, instance_settle}
 use Rattle.machine.specs.State.{Client}
 use Rattle.machine.specs.Effect.{Effect, Stop}
 use Rattle.machine.specs.Events.Take.{take_by}
@@ -50,8 +50,8 @@ use Rattle.machine.specs.Events.Decide.{both_verdict, both_if_accepted, decide_b
 use Rattle.machine.specs.Events.Put.{to_place, to_place_by, put_by, put_commit}
 use Rattle.machine.specs.Events.Answer.{answer_by, answer_request}
 use Rattle.event_parts.specs.Served.{decides_at, is_to_decide, is_to_put, answers_at, is_to_answer}
-use Rattle.node_events.specs.Reserved.{HasPlace, HeldHasPlace}
-use Rattle.cluster_core.specs.Room.{once, told_besides, spent, need, start_by, start_to_place}
+use Rattle.node_events.specs.Reserved.{is_direct, HasPlaceUnless, HasPlace, HeldHasPlace}
+use Rattle.cluster_core.specs.Room.{once, told_besides, spent, need_by, need, unless_direct, start_by, start_to_place}
 use Rattle.cluster_core.proofs.Needs.{once_at_most, besides_at_most, placed_now, none_needs, moved_sum}
 
 -- ---- the requests of a node
@@ -59,25 +59,33 @@ abbrev pub requests_of : Option InstanceEntry → List (Option Held)
 requests_of None = []
 requests_of (Some i) = i.requests
 
--- they became others: what may be appended for them, and so many items, is at most what was, and so many more; and a commit that
--- is to be placed was so before, or has a place
-pub record Became (h : List Item) (given : Places) (a b : ℕ) (old new : List (Option Held)) : Type 0 where
-  pub sum : sum_by (need h) new + a ≤ sum_by (need h) old + b
-  pub starts : (s t : ℕ) → start_to_place (slice_index_or new s None) ≡ Some t → (start_to_place (slice_index_or old s None) ≡ Some t) ⊎ IsTrue (set.contains given t)
+-- the start of a commit of the session that the node is to place
+abbrev pub start_of : Option InstanceEntry → ℕ → Option ℕ
+start_of post s = start_to_place (is_direct post) (slice_index_or (requests_of post) s None)
 
-pub stayed : (h : List Item) (given : Places) (b : ℕ) (old : List (Option Held)) → Became h given 0 b old old
-stayed h given b old = record { sum = omega arith; starts = λ s t is. inl is }
+-- they became others: what may be appended for them, and so many items, is at most what was, and so many more; and a commit that
+-- is to be placed, as the form before and the form now have it, was so before, or has a place
+pub record Became (h : List Item) (given : Places) (a b : ℕ) (was_direct direct : Bool) (old new : List (Option Held)) : Type 0 where
+  pub sum : sum_by (need h) new + a ≤ sum_by (need h) old + b
+  pub starts : (s t : ℕ) → start_to_place direct (slice_index_or new s None) ≡ Some t → (start_to_place was_direct (slice_index_or old s None) ≡ Some t) ⊎ IsTrue (set.contains given t)
+
+-- those of a node
+abbrev pub PostBecame : List Item → Places → ℕ → ℕ → Option InstanceEntry → Option InstanceEntry → Type 0
+PostBecame h given a b old new = Became h given a b (is_direct old) (is_direct new) (requests_of old) (requests_of new)
+
+pub stayed : (h : List Item) (given : Places) (b : ℕ) (direct : Bool) (old : List (Option Held)) → Became h given 0 b direct direct old old
+stayed h given b direct old = record { sum = omega arith; starts = λ s t is. inl is }
 
 -- none is held
-none_held : (n s : ℕ) → start_to_place (slice_index_or (replicate n None) s None) ≡ None
-none_held zero s = refl
-none_held (suc n) zero = refl
-none_held (suc n) (suc s) = none_held n s
+none_held : (direct : Bool) (n s : ℕ) → start_to_place direct (slice_index_or (replicate n None) s None) ≡ None
+none_held direct zero s = refl
+none_held direct (suc n) zero = refl
+none_held direct (suc n) (suc s) = none_held direct n s
 
-pub ended : (h : List Item) (given : Places) (old : List (Option Held)) (n : ℕ) → Became h given 0 0 old (replicate n None)
-ended h given old n = record {
+pub ended : (h : List Item) (given : Places) (was_direct direct : Bool) (old : List (Option Held)) (n : ℕ) → Became h given 0 0 was_direct direct old (replicate n None)
+ended h given was_direct direct old n = record {
   sum = omega (arith, none_needs (need h) refl n);
-  starts = λ s t is. absurd (none-some t (sym (none_held n s) ∙ is));
+  starts = λ s t is. absurd (none-some t (sym (none_held direct n s) ∙ is));
 }
 
 -- one of them moved on
@@ -91,21 +99,21 @@ index_after (x ∷ xs) (suc s) (suc r) now = elim (index_after xs s r now) [
   | inr here ↦ inr (ap suc here.0, here.1)
 ]
 
-pub moved : (h : List Item) (given : Places) (a b : ℕ) (old : List (Option Held)) (s : ℕ) (was now : Option Held) → slice_index_or old s None ≡ was → need h now + a ≤ need h was + b → ((t : ℕ) → start_to_place now ≡ Some t → (start_to_place was ≡ Some t) ⊎ IsTrue (set.contains given t)) → Became h given a b old (slice_set old s now)
-moved h given a b old s was now at falls place = record {
+pub moved : (h : List Item) (given : Places) (a b : ℕ) (direct : Bool) (old : List (Option Held)) (s : ℕ) (was now : Option Held) → slice_index_or old s None ≡ was → need h now + a ≤ need h was + b → ((t : ℕ) → start_to_place direct now ≡ Some t → (start_to_place direct was ≡ Some t) ⊎ IsTrue (set.contains given t)) → Became h given a b direct direct old (slice_set old s now)
+moved h given a b direct old s was now at falls place = record {
   sum = moved_sum (need h) refl old s was now a b at falls;
   starts = λ r t is. elim (index_after old s r now) [
-    | inl same ↦ inl (ap start_to_place (sym same) ∙ is)
-    | inr here ↦ elim (place t (ap start_to_place (sym here.1) ∙ is)) [
-      | inl before ↦ inl (ap (λ n. start_to_place (slice_index_or old n None)) here.0 ∙ ap start_to_place at ∙ before)
+    | inl same ↦ inl (ap (start_to_place direct) (sym same) ∙ is)
+    | inr here ↦ elim (place t (ap (start_to_place direct) (sym here.1) ∙ is)) [
+      | inl before ↦ inl (ap (λ n. start_to_place direct (slice_index_or old n None)) here.0 ∙ ap (start_to_place direct) at ∙ before)
       | inr has ↦ inr has
     ]
   ];
 }
 
 -- one of them is over
-over : (h : List Item) (given : Places) (a b : ℕ) (old : List (Option Held)) (s : ℕ) (was : Option Held) → slice_index_or old s None ≡ was → a ≤ need h was + b → Became h given a b old (slice_set old s None)
-over h given a b old s was at falls = moved h given a b old s was None at (omega (arith, falls)) (λ t is. absurd (none-some t is))
+over : (h : List Item) (given : Places) (a b : ℕ) (direct : Bool) (old : List (Option Held)) (s : ℕ) (was : Option Held) → slice_index_or old s None ≡ was → a ≤ need h was + b → Became h given a b direct direct old (slice_set old s None)
+over h given a b direct old s was at falls = moved h given a b direct old s was None at (omega (arith, falls)) (λ t is. absurd (none-some t is))
 
 -- ---- how many items were appended in room that was reserved
 abbrev pub spends : Bool → List Item → ℕ
@@ -113,52 +121,52 @@ spends true items = length items
 spends false items = 0
 
 -- ---- the master record's events
-pub renew_leaves : (h : List Item) (given : Places) (n reading : ℕ) (i : InstanceEntry) (r : MasterRecord) (kept : List Item) (answer : Result ℕ RenewRefused) → Became h given 0 0 i.requests (requests_of (renew_by n reading i r kept answer).parts.0)
-renew_leaves h given n reading i r kept (Ok until) = stayed h given 0 i.requests
-renew_leaves h given n reading i r kept (Err not_renewed.StoreFault) = stayed h given 0 i.requests
-renew_leaves h given n reading i r kept (Err (not_renewed.Replaced found)) = stayed h given 0 i.requests
+pub renew_leaves : (h : List Item) (given : Places) (n reading : ℕ) (i : InstanceEntry) (r : MasterRecord) (kept : List Item) (answer : Result ℕ RenewRefused) → PostBecame h given 0 0 (Some i) (renew_by n reading i r kept answer).parts.0
+renew_leaves h given n reading i r kept (Ok until) = stayed h given 0 i.direct i.requests
+renew_leaves h given n reading i r kept (Err not_renewed.StoreFault) = stayed h given 0 i.direct i.requests
+renew_leaves h given n reading i r kept (Err (not_renewed.Replaced found)) = stayed h given 0 i.direct i.requests
 
-pub extend_leaves : (h : List Item) (given : Places) (n : ℕ) (i : InstanceEntry) (r : MasterRecord) (kept : List Item) (answer : Result ℕ ExtendRefused) → Became h given 0 0 i.requests (requests_of (extend_by n i r kept answer).parts.0)
-extend_leaves h given n i r kept (Ok ceiling) = stayed h given 0 i.requests
-extend_leaves h given n i r kept (Err not_extended.StoreFault) = stayed h given 0 i.requests
-extend_leaves h given n i r kept (Err (not_extended.Replaced found)) = stayed h given 0 i.requests
-extend_leaves h given n i r kept (Err (not_extended.Spent ceiling)) = stayed h given 0 i.requests
+pub extend_leaves : (h : List Item) (given : Places) (n : ℕ) (i : InstanceEntry) (r : MasterRecord) (kept : List Item) (answer : Result ℕ ExtendRefused) → PostBecame h given 0 0 (Some i) (extend_by n i r kept answer).parts.0
+extend_leaves h given n i r kept (Ok ceiling) = stayed h given 0 i.direct i.requests
+extend_leaves h given n i r kept (Err not_extended.StoreFault) = stayed h given 0 i.direct i.requests
+extend_leaves h given n i r kept (Err (not_extended.Replaced found)) = stayed h given 0 i.direct i.requests
+extend_leaves h given n i r kept (Err (not_extended.Spent ceiling)) = stayed h given 0 i.direct i.requests
 
-pub take_leaves : (h : List Item) (given : Places) (setup : SetupNumbers) (n reading : ℕ) (r : MasterRecord) (kept : List Item) (answer : Result Grant TakeRefused) → Became h given 0 0 [] (requests_of (take_by setup n reading r kept answer).parts.0)
-take_leaves h given setup n reading r kept (Ok grant) = ended h given [] 16
-take_leaves h given setup n reading r kept (Err not_taken.StoreFault) = stayed h given 0 []
-take_leaves h given setup n reading r kept (Err (not_taken.Early at until)) = stayed h given 0 []
-take_leaves h given setup n reading r kept (Err (not_taken.Spent ceiling)) = stayed h given 0 []
+pub take_leaves : (h : List Item) (given : Places) (setup : SetupNumbers) (n reading : ℕ) (r : MasterRecord) (kept : List Item) (answer : Result Grant TakeRefused) → PostBecame h given 0 0 None (take_by setup n reading r kept answer).parts.0
+take_leaves h given setup n reading r kept (Ok grant) = ended h given false _ [] 16
+take_leaves h given setup n reading r kept (Err not_taken.StoreFault) = stayed h given 0 false []
+take_leaves h given setup n reading r kept (Err (not_taken.Early at until)) = stayed h given 0 false []
+take_leaves h given setup n reading r kept (Err (not_taken.Spent ceiling)) = stayed h given 0 false []
 
 -- ---- asks
-just_asked_start : (request : Request) (t : ℕ) → start_by request Asked ≡ Some t → None ≡ Some t
-just_asked_start (Begin s) t is = is
-just_asked_start (Commit s u keys) t is = is
+just_asked_start : (direct : Bool) (request : Request) (t : ℕ) → start_by direct request Asked ≡ Some t → None ≡ Some t
+just_asked_start direct (Begin s) t is = is
+just_asked_start direct (Commit s u keys) t is = is
 
 abbrev asked_by_room : InstanceEntry → Request → Bool → InstanceStep (Unit {0})
 asked_by_room i request full = if full then stays i (cause.Full (in_flight i)) else record { left = with_request i (session_of request) (Some (just_asked request)); answer = Ok tt }
 
-asked_leaves : (h : List Item) (given : Places) (i : InstanceEntry) (request : Request) (full : Bool) → Became h given 0 0 i.requests (asked_by_room i request full).left.requests
-asked_leaves h given i request true = stayed h given 0 i.requests
-asked_leaves h given i request false = moved h given 0 0 i.requests (session_of request) (held_of i (session_of request)) (Some (just_asked request)) refl (omega arith) (λ t there. absurd (none-some t (just_asked_start request t there)))
+asked_leaves : (h : List Item) (given : Places) (i : InstanceEntry) (request : Request) (full : Bool) → PostBecame h given 0 0 (Some i) (Some (asked_by_room i request full).left)
+asked_leaves h given i request true = stayed h given 0 i.direct i.requests
+asked_leaves h given i request false = moved h given 0 0 i.direct i.requests (session_of request) (held_of i (session_of request)) (Some (just_asked request)) refl (omega arith) (λ t there. absurd (none-some t (just_asked_start i.direct request t there)))
 
-ask_leaves : (h : List Item) (given : Places) (s : ℕ) (c : Client) (x : Item) (i : InstanceEntry) (request : Request) (answer : Result (Unit {0}) Cause) → Became h given 0 0 i.requests (requests_of (asked_by s c x (instance_ask i request) answer).parts.1)
+ask_leaves : (h : List Item) (given : Places) (s : ℕ) (c : Client) (x : Item) (i : InstanceEntry) (request : Request) (answer : Result (Unit {0}) Cause) → PostBecame h given 0 0 (Some i) (asked_by s c x (instance_ask i request) answer).parts.1
 ask_leaves h given s c x i request (Ok done) = asked_leaves h given i request (in_flight i == i.slots)
 ask_leaves h given s c x i request (Err why) = asked_leaves h given i request (in_flight i == i.slots)
 
-pub begin_leaves : (h : List Item) (given : Places) (s n : ℕ) (c : Client) (post : Option InstanceEntry) (why : Option Cause) → Became h given 0 0 (requests_of post) (requests_of (ask_begin_by s n c post why).parts.1)
-begin_leaves h given s n c post (Some why) = stayed h given 0 (requests_of post)
-begin_leaves h given s n c None None = stayed h given 0 []
+pub begin_leaves : (h : List Item) (given : Places) (s n : ℕ) (c : Client) (post : Option InstanceEntry) (why : Option Cause) → PostBecame h given 0 0 post (ask_begin_by s n c post why).parts.1
+begin_leaves h given s n c post (Some why) = stayed h given 0 (is_direct post) (requests_of post)
+begin_leaves h given s n c None None = stayed h given 0 false []
 begin_leaves h given s n c (Some i) None = ask_leaves h given s c (item.AskBegin s n) i (Begin s) (instance_ask i (Begin s)).answer
 
-commit_leaves : (h : List Item) (given : Places) (s n start : ℕ) (c : Client) (keys : List ℕ) (post : Option InstanceEntry) → Became h given 0 0 (requests_of post) (requests_of (commit_of s n c start keys post).parts.1)
-commit_leaves h given s n start c [] post = stayed h given 0 (requests_of post)
-commit_leaves h given s n start c (key ∷ keys) None = stayed h given 0 []
+commit_leaves : (h : List Item) (given : Places) (s n start : ℕ) (c : Client) (keys : List ℕ) (post : Option InstanceEntry) → PostBecame h given 0 0 post (commit_of s n c start keys post).parts.1
+commit_leaves h given s n start c [] post = stayed h given 0 (is_direct post) (requests_of post)
+commit_leaves h given s n start c (key ∷ keys) None = stayed h given 0 false []
 commit_leaves h given s n start c (key ∷ keys) (Some i) = ask_leaves h given s c (item.AskCommit s n start) i (Commit s start c.entry.keys) (instance_ask i (Commit s start c.entry.keys)).answer
 
-pub commits_leave : (h : List Item) (given : Places) (s n : ℕ) (c : Client) (post : Option InstanceEntry) (why : Option Cause) (start : Option ℕ) → Became h given 0 0 (requests_of post) (requests_of (ask_commit_by s n c post why start).parts.1)
-commits_leave h given s n c post (Some why) start = stayed h given 0 (requests_of post)
-commits_leave h given s n c post None None = stayed h given 0 (requests_of post)
+pub commits_leave : (h : List Item) (given : Places) (s n : ℕ) (c : Client) (post : Option InstanceEntry) (why : Option Cause) (start : Option ℕ) → PostBecame h given 0 0 post (ask_commit_by s n c post why start).parts.1
+commits_leave h given s n c post (Some why) start = stayed h given 0 (is_direct post) (requests_of post)
+commits_leave h given s n c post None None = stayed h given 0 (is_direct post) (requests_of post)
 commits_leave h given s n c post None (Some start) = commit_leaves h given s n start c c.entry.keys post
 
 -- ---- accept
@@ -173,38 +181,43 @@ gains None stop = 0
 gains (Some held) stop = reserved_by stop
 
 abbrev AcceptLeaves : List Item → Places → InstanceEntry → Effect (Option InstanceEntry × Client) → Type 0
-AcceptLeaves h given i effect = Became h given 0 (reserved_by effect.stop) i.requests (requests_of effect.parts.0)
+AcceptLeaves h given i effect = PostBecame h given 0 (reserved_by effect.stop) (Some i) effect.parts.0
 
 accept_over : (h : List Item) (given : Places) (node s reading : ℕ) (request : Request) (i : InstanceEntry) (c : Client) (why : Cause) → AcceptLeaves h given i (accept_by node s reading request (without_request i s) c (Err why))
-accept_over h given node s reading request i c (cause.NoRequest r) = over h given 0 0 i.requests s (held_of i s) refl (omega arith)
-accept_over h given node s reading request i c _ = over h given 0 0 i.requests s (held_of i s) refl (omega arith)
+accept_over h given node s reading request i c (cause.NoRequest r) = over h given 0 0 i.direct i.requests s (held_of i s) refl (omega arith)
+accept_over h given node s reading request i c _ = over h given 0 0 i.direct i.requests s (held_of i s) refl (omega arith)
 
-accepted_place : (given : Places) (request : Request) (t : ℕ) → HasPlace given request → start_by request Accepted ≡ Some t → IsTrue (set.contains given t)
-accepted_place given (Begin session) t has is = absurd (none-some t is)
-accepted_place given (Commit session start keys) t has is = subst (λ n. IsTrue (set.contains given n)) (same_Some start t is) has
+placed_unless : (direct : Bool) (given : Places) (start t : ℕ) → HasPlaceUnless direct given start → unless_direct direct start ≡ Some t → IsTrue (set.contains given t)
+placed_unless true given start t has is = absurd (none-some t is)
+placed_unless false given start t has is = subst (λ n. IsTrue (set.contains given n)) (same_Some start t is) has
 
-accept_as : (h : List Item) (given : Places) (node s reading : ℕ) (i : InstanceEntry) (c : Client) (held : Held) (why : Option Cause) → held_of i s ≡ Some held → ((accept_by node s reading held.request (accept_unless i s held why).left c (accept_unless i s held why).answer).stop ≡ None → HasPlace given held.request) → AcceptLeaves h given i (accept_by node s reading held.request (accept_unless i s held why).left c (accept_unless i s held why).answer)
+accepted_place : (direct : Bool) (given : Places) (request : Request) (t : ℕ) → HasPlace direct given request → start_by direct request Accepted ≡ Some t → IsTrue (set.contains given t)
+accepted_place direct given (Begin session) t has is = absurd (none-some t is)
+accepted_place direct given (Commit session start keys) t has is = placed_unless direct given start t has is
+
+accept_as : (h : List Item) (given : Places) (node s reading : ℕ) (i : InstanceEntry) (c : Client) (held : Held) (why : Option Cause) → held_of i s ≡ Some held → ((accept_by node s reading held.request (accept_unless i s held why).left c (accept_unless i s held why).answer).stop ≡ None → HasPlace i.direct given held.request) → AcceptLeaves h given i (accept_by node s reading held.request (accept_unless i s held why).left c (accept_unless i s held why).answer)
 accept_as h given node s reading i c held (Some why) at has = accept_over h given node s reading held.request i c why
 accept_as h given node s reading i c held None at has =
-    moved h given 0 5 i.requests s (Some held) (Some (record held { progress = Accepted })) at (omega arith) (λ t is. inr (accepted_place given held.request t (has refl) is))
+    moved h given 0 5 i.direct i.requests s (Some held) (Some (record held { progress = Accepted })) at (omega arith) (λ t is. inr (accepted_place i.direct given held.request t (has refl) is))
 
 abbrev pub accept_step : ℕ → ℕ → ℕ → Held → InstanceStep (Unit {0}) → Client → Effect (Option InstanceEntry × Client)
 accept_step node s reading held step c = accept_by node s reading held.request step.left c step.answer
 
-accept_at : (h : List Item) (given : Places) (node s reading : ℕ) (i : InstanceEntry) (c : Client) (held : Held) (p : Progress) → held_of i s ≡ Some held → ((accept_step node s reading held (accept_if_asked i s reading held p) c).stop ≡ None → HasPlace given held.request) → AcceptLeaves h given i (accept_step node s reading held (accept_if_asked i s reading held p) c)
+accept_at : (h : List Item) (given : Places) (node s reading : ℕ) (i : InstanceEntry) (c : Client) (held : Held) (p : Progress) → held_of i s ≡ Some held → ((accept_step node s reading held (accept_if_asked i s reading held p) c).stop ≡ None → HasPlace i.direct given held.request) → AcceptLeaves h given i (accept_step node s reading held (accept_if_asked i s reading held p) c)
 accept_at h given node s reading i c held Asked at has = accept_as h given node s reading i c held (accept_refusal i reading held.request) at has
-accept_at h given node s reading i c held Accepted at has = stayed h given 0 i.requests
-accept_at h given node s reading i c held (Drawn stamp) at has = stayed h given 0 i.requests
-accept_at h given node s reading i c held (Settled commit by) at has = stayed h given 0 i.requests
+accept_at h given node s reading i c held Accepted at has = stayed h given 0 i.direct i.requests
+accept_at h given node s reading i c held (Drawn stamp) at has = stayed h given 0 i.direct i.requests
+accept_at h given node s reading i c held (Settled commit by) at has = stayed h given 0 i.direct i.requests
+accept_at h given node s reading i c held (Handed commit) at has = stayed h given 0 i.direct i.requests
 
-pub accept_leaves : (h : List Item) (given : Places) (node s reading : ℕ) (i : InstanceEntry) (c : Client) (found : Option Held) → held_of i s ≡ found → ((accept_request node s reading i c found).stop ≡ None → HeldHasPlace given found) → Became h given 0 (gains found (accept_request node s reading i c found).stop) i.requests (requests_of (accept_request node s reading i c found).parts.0)
-accept_leaves h given node s reading i c None at has = stayed h given 0 i.requests
+pub accept_leaves : (h : List Item) (given : Places) (node s reading : ℕ) (i : InstanceEntry) (c : Client) (found : Option Held) → held_of i s ≡ found → ((accept_request node s reading i c found).stop ≡ None → HeldHasPlace i.direct given found) → PostBecame h given 0 (gains found (accept_request node s reading i c found).stop) (Some i) (accept_request node s reading i c found).parts.0
+accept_leaves h given node s reading i c None at has = stayed h given 0 i.direct i.requests
 accept_leaves h given node s reading i c (Some held) at has =
     rw at (accept_at h given node s reading i c held held.progress at (rw at at has))
 
 -- ---- decide
 abbrev pub DecideLeaves : List Item → Places → Bool → InstanceEntry → Effect (Option InstanceEntry × Client) → Type 0
-DecideLeaves h given served i effect = Became h given (spends served effect.items) 0 i.requests (requests_of effect.parts.0)
+DecideLeaves h given served i effect = PostBecame h given (spends served effect.items) 0 (Some i) effect.parts.0
 
 abbrev decide_step : ℕ → ℕ → Held → InstanceStep Decided → Client → Effect (Option InstanceEntry × Client)
 decide_step node s held step c = decide_by node s held step.left c step.answer
@@ -222,9 +235,9 @@ at_most_one true x = omega arith
 at_most_one false x = omega arith
 
 decide_over : (h : List Item) (given : Places) (node s : ℕ) (i : InstanceEntry) (c : Client) (held : Held) (why : Cause) → held_of i s ≡ Some held → held.progress ≡ Accepted → DecideLeaves h given true i (decide_by node s held (without_request i s) c (Err why))
-decide_over h given node s i c held (cause.NoRequest r) at is = over h given 1 0 i.requests s (Some held) at (omega (arith, accepted_need h held is, once_at_most held.told_no_stamp))
-decide_over h given node s i c held (cause.NoStamp last) at is = over h given _ 0 i.requests s (Some held) at (omega (arith, accepted_need h held is, once_at_most held.told_no_stamp, at_most_one held.told_no_stamp (item.Refused (Session s) (cause.NoStamp last))))
-decide_over h given node s i c held _ at is = over h given 1 0 i.requests s (Some held) at (omega (arith, accepted_need h held is, once_at_most held.told_no_stamp))
+decide_over h given node s i c held (cause.NoRequest r) at is = over h given 1 0 i.direct i.requests s (Some held) at (omega (arith, accepted_need h held is, once_at_most held.told_no_stamp))
+decide_over h given node s i c held (cause.NoStamp last) at is = over h given _ 0 i.direct i.requests s (Some held) at (omega (arith, accepted_need h held is, once_at_most held.told_no_stamp, at_most_one held.told_no_stamp (item.Refused (Session s) (cause.NoStamp last))))
+decide_over h given node s i c held _ at is = over h given 1 0 i.direct i.requests s (Some held) at (omega (arith, accepted_need h held is, once_at_most held.told_no_stamp))
 
 -- it is told that no stamp is left, once
 told_falls : (told : Bool) (x : Item) (was now : ℕ) → was ≡ 5 - once told → now ≡ 5 - 1 → now + length (if told then [] else x ∷ []) ≤ was + 0
@@ -234,24 +247,29 @@ told_falls false x was now is so = omega (arith, is, so)
 decide_waits : (h : List Item) (given : Places) (node s : ℕ) (i : InstanceEntry) (c : Client) (held : Held) → held_of i s ≡ Some held → held.progress ≡ Accepted → DecideLeaves h given true i (decide_by node s held (no_stamp_told i s held) c (Err (cause.NoStamp i.last)))
 decide_waits h given node s i c held at is =
     let told : Held = record held { told_no_stamp = true } in
-    moved h given _ 0 i.requests s (Some held) (Some told) at
+    moved h given _ 0 i.direct i.requests s (Some held) (Some told) at
     (told_falls held.told_no_stamp _ (need h (Some held)) (need h (Some told)) (accepted_need h held is) (accepted_need h told is))
     (λ t there. inl there)
 
 -- or gets its stamp
-drawn_need : (h : List Item) (held : Held) (stamp : ℕ) (request : Request) → (5 - spent h held request (Drawn stamp)) + 1 ≤ (5 - once held.told_no_stamp) + 0
-drawn_need h held stamp (Begin s) = omega (arith, once_at_most held.told_no_stamp, once_at_most held.told_not_yet)
-drawn_need h held stamp (Commit s t keys) = omega (arith, once_at_most held.told_no_stamp)
+drawn_need : (h : List Item) (held : Held) (stamp : ℕ) (direct : Bool) (request : Request) → held.request ≡ request → need_by h held (drawn_as direct request stamp) + 1 ≤ (5 - once held.told_no_stamp) + 0
+drawn_need h held stamp true (Begin s) asks = rw asks (omega (arith, once_at_most held.told_no_stamp, once_at_most held.told_not_yet))
+drawn_need h held stamp false (Begin s) asks = rw asks (omega (arith, once_at_most held.told_no_stamp, once_at_most held.told_not_yet))
+drawn_need h held stamp true (Commit s t keys) asks = rw asks (omega (arith, once_at_most held.told_no_stamp))
+drawn_need h held stamp false (Commit s t keys) asks = rw asks (omega (arith, once_at_most held.told_no_stamp))
 
-drawn_start : (request : Request) (stamp t : ℕ) → start_by request (Drawn stamp) ≡ Some t → start_by request Accepted ≡ Some t
-drawn_start (Begin s) stamp t is = is
-drawn_start (Commit s start keys) stamp t is = is
+drawn_start : (direct : Bool) (request : Request) (stamp t : ℕ) → start_by direct request (drawn_as direct request stamp) ≡ Some t → start_by direct request Accepted ≡ Some t
+drawn_start true (Begin s) stamp t is = is
+drawn_start false (Begin s) stamp t is = is
+drawn_start true (Commit s start keys) stamp t is = is
+drawn_start false (Commit s start keys) stamp t is = is
 
 decide_draws : (h : List Item) (given : Places) (node s : ℕ) (i : InstanceEntry) (c : Client) (held : Held) (stamp : ℕ) → held_of i s ≡ Some held → held.progress ≡ Accepted → DecideLeaves h given true i (decide_step node s held (decide_drawn i s held stamp) c)
 decide_draws h given node s i c held stamp at is =
-    moved h given 1 0 i.requests s (Some held) (Some (record held { progress = Drawn stamp })) at
-    (omega (arith, accepted_need h held is, drawn_need h (record held { progress = Drawn stamp }) stamp held.request))
-    (λ t there. inl (ap (start_by held.request) is ∙ drawn_start held.request stamp t there))
+    let drawn : Held = record held { progress = drawn_as i.direct held.request stamp } in
+    moved h given 1 0 i.direct i.requests s (Some held) (Some drawn) at
+    (omega (arith, accepted_need h held is, drawn_need h drawn stamp i.direct held.request refl))
+    (λ t there. inl (ap (start_by i.direct held.request) is ∙ drawn_start i.direct held.request stamp t there))
 
 decide_stops : (h : List Item) (given : Places) (node s : ℕ) (i : InstanceEntry) (c : Client) (held : Held) (stop : Option Cause) → held_of i s ≡ Some held → held.progress ≡ Accepted → DecideLeaves h given true i (decide_step node s held (out_of_stamps i s held stop) c)
 decide_stops h given node s i c held None at is = decide_waits h given node s i c held at is
@@ -268,26 +286,31 @@ decide_judged h given node s i c held (verdict.Hidden key water) at is = decide_
 
 decide_at : (h : List Item) (given : Places) (node s : ℕ) (i : InstanceEntry) (c : Client) (held : Held) (p : Progress) → held_of i s ≡ Some held → held.progress ≡ p → DecideLeaves h given (decides_at p) i (decide_step node s held (both_if_accepted i s c.reads held p) c)
 decide_at h given node s i c held Accepted at is = decide_judged h given node s i c held (both_verdict i.buckets c.reads held.request) at is
-decide_at h given node s i c held Asked at is = stayed h given 0 i.requests
-decide_at h given node s i c held (Drawn stamp) at is = stayed h given 0 i.requests
-decide_at h given node s i c held (Settled commit by) at is = stayed h given 0 i.requests
+decide_at h given node s i c held Asked at is = stayed h given 0 i.direct i.requests
+decide_at h given node s i c held (Drawn stamp) at is = stayed h given 0 i.direct i.requests
+decide_at h given node s i c held (Settled commit by) at is = stayed h given 0 i.direct i.requests
+decide_at h given node s i c held (Handed commit) at is = stayed h given 0 i.direct i.requests
 
 pub decide_leaves : (h : List Item) (given : Places) (node s : ℕ) (i : InstanceEntry) (c : Client) (found : Option Held) → held_of i s ≡ found → DecideLeaves h given (is_to_decide found) i (decide_request node s i c found)
-decide_leaves h given node s i c None at = stayed h given 0 i.requests
+decide_leaves h given node s i c None at = stayed h given 0 i.direct i.requests
 decide_leaves h given node s i c (Some held) at = rw at (decide_at h given node s i c held held.progress at refl)
 
 -- ---- answer
 answer_over : (h : List Item) (given : Places) (node s start : ℕ) (i : InstanceEntry) (c : Client) (held : Held) (said : Reply) → held_of i s ≡ Some held → 1 ≤ need h (Some held) → DecideLeaves h given true i (answer_by node s start c i (without_request i s) (Ok said))
-answer_over h given node s start i c held (reply.Begun begun epoch) at some = over h given 1 0 i.requests s (Some held) at (omega (arith, some))
-answer_over h given node s start i c held (reply.Committed commit) at some = over h given 1 0 i.requests s (Some held) at (omega (arith, some))
-answer_over h given node s start i c held reply.Invalid at some = over h given 1 0 i.requests s (Some held) at (omega (arith, some))
-answer_over h given node s start i c held reply.Open at some = over h given 1 0 i.requests s (Some held) at (omega (arith, some))
+answer_over h given node s start i c held (reply.Begun begun epoch) at some = over h given 1 0 i.direct i.requests s (Some held) at (omega (arith, some))
+answer_over h given node s start i c held (reply.Committed commit) at some = over h given 1 0 i.direct i.requests s (Some held) at (omega (arith, some))
+answer_over h given node s start i c held (reply.Handed commit) at some = over h given 1 0 i.direct i.requests s (Some held) at (omega (arith, some))
+answer_over h given node s start i c held reply.Invalid at some = over h given 1 0 i.direct i.requests s (Some held) at (omega (arith, some))
+answer_over h given node s start i c held reply.Open at some = over h given 1 0 i.direct i.requests s (Some held) at (omega (arith, some))
 
 begin_need : (h : List Item) (held : Held) (b start : ℕ) → held.request ≡ Begin b → held.progress ≡ Drawn start → need h (Some held) ≡ 5 - (once held.told_no_stamp + 1 + once held.told_not_yet)
 begin_need h held b start asks stands = rw (stands, asks) refl
 
 settled_need : (h : List Item) (held : Held) (b start commit : ℕ) (keys : List ℕ) (by : How) → held.request ≡ Commit b start keys → held.progress ≡ Settled commit by → need h (Some held) ≡ 5 - (once held.told_no_stamp + 2 + told_besides h start commit by)
 settled_need h held b start commit keys by asks stands = rw (stands, asks) refl
+
+handed_need : (h : List Item) (held : Held) (b start commit : ℕ) (keys : List ℕ) → held.request ≡ Commit b start keys → held.progress ≡ Handed commit → need h (Some held) ≡ 5 - (once held.told_no_stamp + 1)
+handed_need h held b start commit keys asks stands = rw (stands, asks) refl
 
 not_yet_falls : (told : Bool) (x : Item) (base was now : ℕ) → base ≤ 1 → was ≡ 5 - (base + 1 + once told) → now ≡ 5 - (base + 1 + 1) → now + length (if told then [] else x ∷ []) ≤ was + 0
 not_yet_falls true x base was now few is so = omega (arith, few, is, so)
@@ -298,7 +321,7 @@ answer_drawn h given node s b start i c held None at asks stands =
     answer_over h given node s start i c held (reply.Begun start i.epoch) at (omega (arith, begin_need h held b start asks stands, once_at_most held.told_no_stamp, once_at_most held.told_not_yet))
 answer_drawn h given node s b start i c held (Some commit) at asks stands =
     let told : Held = record held { told_not_yet = true } in
-    rw at (moved h given _ 0 i.requests s (Some held) (Some told) at
+    rw at (moved h given _ 0 i.direct i.requests s (Some held) (Some told) at
     (not_yet_falls held.told_not_yet _ (once held.told_no_stamp) (need h (Some held)) (need h (Some told)) (once_at_most held.told_no_stamp) (begin_need h held b start asks stands) (begin_need h told b start asks stands))
     (λ t there. inl there))
 
@@ -311,24 +334,27 @@ answer_as : (h : List Item) (given : Places) (node s start : ℕ) (i : InstanceE
 answer_as h given node s start i c step is leaves = subst (λ (made : InstanceStep Reply). DecideLeaves h given true i (answer_by node s start c i made.left made.answer)) (sym is) leaves
 
 answer_at : (h : List Item) (given : Places) (node s : ℕ) (i : InstanceEntry) (c : Client) (held : Held) (request : Request) (p : Progress) → held_of i s ≡ Some held → held.request ≡ request → held.progress ≡ p → DecideLeaves h given (answers_at request p) i (answer_request node s i c (stamps_by request p))
-answer_at h given node s i c held (Begin b) Asked at asks stands = stayed h given 0 i.requests
-answer_at h given node s i c held (Begin b) Accepted at asks stands = stayed h given 0 i.requests
+answer_at h given node s i c held (Begin b) Asked at asks stands = stayed h given 0 i.direct i.requests
+answer_at h given node s i c held (Begin b) Accepted at asks stands = stayed h given 0 i.direct i.requests
 answer_at h given node s i c held (Begin b) (Drawn start) at asks stands =
     answer_as h given node s start i c (answer_begin i s held start (least_unsettled i.requests start)) (answered_so i s held (Begin b) (Drawn start) at asks stands) (answer_drawn h given node s b start i c held (least_unsettled i.requests start) at asks stands)
-answer_at h given node s i c held (Begin b) (Settled commit by) at asks stands = stayed h given 0 i.requests
-answer_at h given node s i c held (Commit b start keys) Asked at asks stands = stayed h given 0 i.requests
-answer_at h given node s i c held (Commit b start keys) Accepted at asks stands = stayed h given 0 i.requests
-answer_at h given node s i c held (Commit b start keys) (Drawn commit) at asks stands = rw (at, asks, stands) (stayed h given 0 i.requests)
+answer_at h given node s i c held (Begin b) (Settled commit by) at asks stands = stayed h given 0 i.direct i.requests
+answer_at h given node s i c held (Begin b) (Handed commit) at asks stands = stayed h given 0 i.direct i.requests
+answer_at h given node s i c held (Commit b start keys) Asked at asks stands = stayed h given 0 i.direct i.requests
+answer_at h given node s i c held (Commit b start keys) Accepted at asks stands = stayed h given 0 i.direct i.requests
+answer_at h given node s i c held (Commit b start keys) (Drawn commit) at asks stands = rw (at, asks, stands) (stayed h given 0 i.direct i.requests)
 answer_at h given node s i c held (Commit b start keys) (Settled commit by) at asks stands =
     answer_as h given node s start i c (answer_if_ready i s held (Commit b start keys) (Settled commit by)) (answered_so i s held (Commit b start keys) (Settled commit by) at asks stands) (answer_over h given node s start i c held (reply_of commit by) at (omega (arith, settled_need h held b start commit keys by asks stands, once_at_most held.told_no_stamp, besides_at_most h start commit by)))
+answer_at h given node s i c held (Commit b start keys) (Handed commit) at asks stands =
+    answer_as h given node s start i c (answer_if_ready i s held (Commit b start keys) (Handed commit)) (answered_so i s held (Commit b start keys) (Handed commit) at asks stands) (answer_over h given node s start i c held (reply.Handed commit) at (omega (arith, handed_need h held b start commit keys asks stands, once_at_most held.told_no_stamp)))
 
 pub answer_leaves : (h : List Item) (given : Places) (node s : ℕ) (i : InstanceEntry) (c : Client) (found : Option Held) → held_of i s ≡ found → DecideLeaves h given (is_to_answer found) i (answer_request node s i c (stamps_of_held found))
-answer_leaves h given node s i c None at = stayed h given 0 i.requests
+answer_leaves h given node s i c None at = stayed h given 0 i.direct i.requests
 answer_leaves h given node s i c (Some held) at = answer_at h given node s i c held held.request held.progress at refl refl
 
 -- ---- put
 abbrev pub PutLeaves : List Item → Places → Bool → InstanceEntry → Effect (Option InstanceEntry × Pairs) → Type 0
-PutLeaves h given served i effect = Became h given (spends served effect.items) 0 i.requests (requests_of effect.parts.0)
+PutLeaves h given served i effect = PostBecame h given (spends served effect.items) 0 (Some i) effect.parts.0
 
 -- the request of a commit that is to be placed
 pub record Placing (held : Held) (start commit : ℕ) : Type 0 where
@@ -345,6 +371,7 @@ placing_by held (Commit s t keys) (Drawn c) start commit asks stands is =
 placing_by held (Commit s t keys) Asked start commit asks stands is = absurd (none-some _ is)
 placing_by held (Commit s t keys) Accepted start commit asks stands is = absurd (none-some _ is)
 placing_by held (Commit s t keys) (Settled c by) start commit asks stands is = absurd (none-some _ is)
+placing_by held (Commit s t keys) (Handed c) start commit asks stands is = absurd (none-some _ is)
 
 pub placing : (held : Held) (start commit : ℕ) → to_place (Some held) ≡ Some (start, commit) → Placing held start commit
 placing held start commit is = placing_by held held.request held.progress start commit refl refl is
@@ -353,13 +380,13 @@ pub placing_need : (h : List Item) (held : Held) (start commit : ℕ) → Placin
 placing_need h held start commit k = rw (k.stands, k.asks) refl
 
 -- the commit is settled, which is told with one item, or two where it was placed all the same
-settled_falls : (h : List Item) (given : Places) (s start commit a : ℕ) (i : InstanceEntry) (held : Held) (by : How) → held_of i s ≡ Some held → Placing held start commit → a ≤ told_besides h start commit by + 1 → Became h given a 0 i.requests (slice_set i.requests s (Some (record held { progress = Settled commit by })))
+settled_falls : (h : List Item) (given : Places) (s start commit a : ℕ) (i : InstanceEntry) (held : Held) (by : How) → held_of i s ≡ Some held → Placing held start commit → a ≤ told_besides h start commit by + 1 → Became h given a 0 i.direct i.direct i.requests (slice_set i.requests s (Some (record held { progress = Settled commit by })))
 settled_falls h given s start commit a i held by at k few =
-    moved h given a 0 i.requests s (Some held) (Some (record held { progress = Settled commit by })) at
+    moved h given a 0 i.direct i.requests s (Some held) (Some (record held { progress = Settled commit by })) at
     (omega (arith, placing_need h held start commit k, settled_need h (record held { progress = Settled commit by }) k.asker start commit k.keys by k.asks refl, once_at_most held.told_no_stamp, besides_at_most h start commit by, few))
     (λ t there. absurd (none-some t (settled_start held.request t there)))
   where
-    settled_start : (request : Request) (t : ℕ) → start_by request (Settled commit by) ≡ Some t → None ≡ Some t
+    settled_start : (request : Request) (t : ℕ) → start_by i.direct request (Settled commit by) ≡ Some t → None ≡ Some t
     settled_start (Begin r) t is = is
     settled_start (Commit r u keys) t is = is
 
@@ -367,9 +394,9 @@ settle_as : (i : InstanceEntry) (s start commit : ℕ) (held : Held) (by : How) 
 settle_as i s start commit held by at k =
     ap (λ (step : InstanceStep (Unit {0})). step.left) (ap (settle_held i s by) at ∙ ap (settle_if_drawn i s by held) (ap (λ r. unsettled_by r held.progress) k.asks ∙ ap (unsettled_by (Commit k.asker start k.keys)) k.stands))
 
-put_as : (h : List Item) (given : Places) (s start commit a : ℕ) (i : InstanceEntry) (held : Held) (by : How) → held_of i s ≡ Some held → Placing held start commit → a ≤ told_besides h start commit by + 1 → Became h given a 0 i.requests (instance_settle i s by).left.requests
+put_as : (h : List Item) (given : Places) (s start commit a : ℕ) (i : InstanceEntry) (held : Held) (by : How) → held_of i s ≡ Some held → Placing held start commit → a ≤ told_besides h start commit by + 1 → PostBecame h given a 0 (Some i) (Some (instance_settle i s by).left)
 put_as h given s start commit a i held by at k few =
-    subst (λ (left : InstanceEntry). Became h given a 0 i.requests left.requests) (sym (settle_as i s start commit held by at k)) (settled_falls h given s start commit a i held by at k few)
+    subst (λ (left : InstanceEntry). PostBecame h given a 0 (Some i) (Some left)) (sym (settle_as i s start commit held by at k)) (settled_falls h given s start commit a i held by at k few)
 
 -- by the fate, in a history that has the event's items
 put_fated : (before : List Item) (given : Places) (node s start commit : ℕ) (fate : Fate) (i : InstanceEntry) (pairs : Pairs) (held : Held) (found : Option Mark) → held_of i s ≡ Some held → Placing held start commit → PutLeaves (before ++ (put_by node s start commit fate found i pairs).items) given true i (put_by node s start commit fate found i pairs)
@@ -382,21 +409,21 @@ put_fated before given node s start commit FailsApplied i pairs held None at k =
 put_fated before given node s start commit FailsApplied i pairs held (Some mark) at k = put_as _ given s start commit 1 i held how.Faulted at k (omega arith)
 
 put_at : (before : List Item) (given : Places) (node s : ℕ) (fate : Fate) (i : InstanceEntry) (pairs : Pairs) (held : Held) (stamps : Option (ℕ × ℕ)) → held_of i s ≡ Some held → to_place (Some held) ≡ stamps → PutLeaves (before ++ (put_commit node s fate i pairs stamps).items) given (is_some stamps) i (put_commit node s fate i pairs stamps)
-put_at before given node s fate i pairs held None at is = stayed _ given 0 i.requests
+put_at before given node s fate i pairs held None at is = stayed _ given 0 i.direct i.requests
 put_at before given node s fate i pairs held (Some stamps) at is = put_fated before given node s stamps.0 stamps.1 fate i _ held (mark_of pairs stamps.0) at (placing held stamps.0 stamps.1 is)
 
 pub put_leaves : (before : List Item) (given : Places) (node s : ℕ) (fate : Fate) (i : InstanceEntry) (pairs : Pairs) (found : Option Held) → held_of i s ≡ found → PutLeaves (before ++ (put_commit node s fate i pairs (to_place found)).items) given (is_to_put found) i (put_commit node s fate i pairs (to_place found))
-put_leaves before given node s fate i pairs None at = stayed _ given 0 i.requests
+put_leaves before given node s fate i pairs None at = stayed _ given 0 i.direct i.requests
 put_leaves before given node s fate i pairs (Some held) at = put_at before given node s fate i pairs held (to_place (Some held)) at refl
 
 -- the commit that was to be placed is so no longer, and so are those of other sessions as before
-pub put_starts : (node s : ℕ) (fate : Fate) (i : InstanceEntry) (pairs : Pairs) (held : Held) (stamps : ℕ × ℕ) (r t : ℕ) → held_of i s ≡ Some held → to_place (Some held) ≡ Some stamps → start_to_place (slice_index_or (requests_of (put_commit node s fate i pairs (Some stamps)).parts.0) r None) ≡ Some t → (r ≢ s) × (start_to_place (held_of i r) ≡ Some t)
+pub put_starts : (node s : ℕ) (fate : Fate) (i : InstanceEntry) (pairs : Pairs) (held : Held) (stamps : ℕ × ℕ) (r t : ℕ) → held_of i s ≡ Some held → to_place (Some held) ≡ Some stamps → start_of (put_commit node s fate i pairs (Some stamps)).parts.0 r ≡ Some t → (r ≢ s) × (start_to_place i.direct (held_of i r) ≡ Some t)
 put_starts node s fate i pairs held stamps r t at is there =
     let k = placing held stamps.0 stamps.1 is in
     let left = put_left node s stamps.0 stamps.1 fate i _ (mark_of pairs stamps.0) in
-    let settled = ap (λ (new : InstanceEntry). start_to_place (slice_index_or new.requests r None)) (sym (settle_as i s stamps.0 stamps.1 held left.0 at k)) in
-    let found = ap (λ (post : Option InstanceEntry). start_to_place (slice_index_or (requests_of post) r None)) (sym left.1) in
-    settled_starts s r t held stamps.1 left.0 k.asker stamps.0 k.keys i.requests k.asks (settled ∙ (found ∙ there))
+    let settled = ap (λ (new : InstanceEntry). start_of (Some new) r) (sym (settle_as i s stamps.0 stamps.1 held left.0 at k)) in
+    let found = ap (λ (post : Option InstanceEntry). start_of post r) (sym left.1) in
+    settled_starts i.direct s r t held stamps.1 left.0 k.asker stamps.0 k.keys i.requests k.asks (settled ∙ (found ∙ there))
   where
     -- the instance that a put leaves
     put_left : (node s start commit : ℕ) (fate : Fate) (i : InstanceEntry) (pairs : Pairs) (found : Option Mark) → (by : How) × ((put_by node s start commit fate found i pairs).parts.0 ≡ Some (instance_settle i s by).left)
@@ -407,11 +434,11 @@ put_starts node s fate i pairs held stamps r t at is there =
     put_left node s start commit FailsApplied i pairs None = (how.Faulted, refl)
     put_left node s start commit FailsApplied i pairs (Some mark) = (how.Faulted, refl)
 
-    settled_starts : (s r t : ℕ) (held : Held) (commit : ℕ) (by : How) (asker start : ℕ) (keys : List ℕ) (xs : List (Option Held)) → held.request ≡ Commit asker start keys → start_to_place (slice_index_or (slice_set xs s (Some (record held { progress = Settled commit by }))) r None) ≡ Some t → (r ≢ s) × (start_to_place (slice_index_or xs r None) ≡ Some t)
-    settled_starts s r t held commit by asker start keys [] asks there = absurd (none-some t there)
-    settled_starts zero zero t held commit by asker start keys (x ∷ xs) asks there = absurd (none-some t (ap (λ q. start_by q (Settled commit by)) (sym asks) ∙ there))
-    settled_starts zero (suc r) t held commit by asker start keys (x ∷ xs) asks there = (λ same. cc, there)
-    settled_starts (suc s) zero t held commit by asker start keys (x ∷ xs) asks there = (λ same. cc, there)
-    settled_starts (suc s) (suc r) t held commit by asker start keys (x ∷ xs) asks there =
-        let deeper = settled_starts s r t held commit by asker start keys xs asks there in
+    settled_starts : (direct : Bool) (s r t : ℕ) (held : Held) (commit : ℕ) (by : How) (asker start : ℕ) (keys : List ℕ) (xs : List (Option Held)) → held.request ≡ Commit asker start keys → start_to_place direct (slice_index_or (slice_set xs s (Some (record held { progress = Settled commit by }))) r None) ≡ Some t → (r ≢ s) × (start_to_place direct (slice_index_or xs r None) ≡ Some t)
+    settled_starts direct s r t held commit by asker start keys [] asks there = absurd (none-some t there)
+    settled_starts direct zero zero t held commit by asker start keys (x ∷ xs) asks there = absurd (none-some t (ap (λ q. start_by direct q (Settled commit by)) (sym asks) ∙ there))
+    settled_starts direct zero (suc r) t held commit by asker start keys (x ∷ xs) asks there = (λ same. cc, there)
+    settled_starts direct (suc s) zero t held commit by asker start keys (x ∷ xs) asks there = (λ same. cc, there)
+    settled_starts direct (suc s) (suc r) t held commit by asker start keys (x ∷ xs) asks there =
+        let deeper = settled_starts direct s r t held commit by asker start keys xs asks there in
         (λ same. deeper.0 (omega (arith, same)), deeper.1)

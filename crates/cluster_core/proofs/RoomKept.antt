@@ -9,7 +9,7 @@ use Rattle.history_book.specs.declared.item.Item.{Item}
 use Rattle.store_parts.specs.Pairs.{Places}
 use Rattle.oracle_parts.specs.declared.instance.Held.{Held}
 use Rattle.oracle_parts.specs.declared.instance.Progress.{Progress}
-use Rattle.oracle_parts.specs.declared.instance.Progress.TheVariants.{Asked, Accepted, Drawn, Settled}
+use Rattle.oracle_parts.specs.declared.instance.Progress.TheVariants.{Asked, Accepted, Drawn, Settled, Handed}
 use Rattle.oracle_parts.specs.declared.instance.Request.{Request}
 use Rattle.oracle_parts.specs.declared.instance.Request.TheVariants.{Begin, Commit}
 use Rattle.oracle_parts.specs.Instance.{InstanceEntry, held_of}
@@ -29,9 +29,9 @@ use Rattle.isolation_laws.specs.Holds.{Holds}
 use Rattle.isolation_laws.proofs.Lookups.{instance_set}
 use Rattle.cluster_core.specs.Whole.{Whole}
 use Rattle.cluster_core.specs.Room.{start_by, start_to_place, AreRoomy, ArePlacesKept}
-use Rattle.cluster_core.specs.Served.{held_found, held_in, is_served, ReservesFor, KeepsRoom, Spends, Reserves, LeavesRoom}
+use Rattle.cluster_core.specs.Served.{held_found, held_in, direct_in, is_served, ReservesFor, KeepsRoom, Spends, Reserves, LeavesRoom}
 use Rattle.cluster_core.proofs.Needs.{all_longer}
-use Rattle.cluster_core.proofs.RequestMoves.{requests_of, spends, gains, put_starts}
+use Rattle.cluster_core.proofs.RequestMoves.{start_of, spends, gains, put_starts}
 use Rattle.cluster_core.proofs.OneStart.{one_start}
 use Rattle.cluster_core.proofs.NodeMoves.{NodesBecame, StartsAt, is_plain, plain_became, accept_became, decide_became, answer_became, put_became}
 
@@ -77,7 +77,7 @@ put_old_at : (w : State) (n s : ℕ) (fate : Fate) (i : InstanceEntry) (found : 
 put_old_at w n s fate i None stamps at has is m r t k = absurd (none-some stamps is)
 put_old_at w n s fate i (Some held) stamps at has is m r t k = elim (instance_set w.nodes n m _ k.i k.at) [
   | inl here ↦
-      let there = put_starts n s fate i w.pairs held stamps r t has is (ap (λ (p : Option InstanceEntry). start_to_place (slice_index_or (requests_of p) r None)) here.1 ∙ k.starts) in
+      let there = put_starts n s fate i w.pairs held stamps r t has is (ap (λ (p : Option InstanceEntry). start_of p r) here.1 ∙ k.starts) in
       (record { i = i; at = ap (slice_get w.nodes) here.0 ∙ at; starts = there.1 }, λ same own. there.0 own)
   | inr other ↦ (record { i = k.i; at = other.1; starts = k.starts }, λ same own. other.0 same)
 ]
@@ -89,21 +89,22 @@ put_old w n s fate (Some (Some i)) stamps at is m r t k =
     put_old_at w n s fate i (held_of i s) stamps at refl is m r t (subst (λ (found : Option (ℕ × ℕ)). StartsAt (slice_set w.nodes n (put_commit n s fate i w.pairs found).parts.0) m r t) is k)
 
 -- the commit that is to be placed has such a start
-start_by_place : (request : Request) (p : Progress) (stamps : ℕ × ℕ) → to_place_by request p ≡ Some stamps → start_by request p ≡ Some stamps.0
-start_by_place (Begin s) p stamps is = absurd (none-some stamps is)
-start_by_place (Commit s t keys) Asked stamps is = absurd (none-some stamps is)
-start_by_place (Commit s t keys) Accepted stamps is = absurd (none-some stamps is)
-start_by_place (Commit s t keys) (Drawn c) stamps is = ap (λ (q : ℕ × ℕ). Some q.0) (same_Some (t, c) stamps is)
-start_by_place (Commit s t keys) (Settled c by) stamps is = absurd (none-some stamps is)
+start_by_place : (direct : Bool) (request : Request) (p : Progress) (stamps : ℕ × ℕ) → to_place_by request p ≡ Some stamps → start_by direct request p ≡ Some stamps.0
+start_by_place direct (Begin s) p stamps is = absurd (none-some stamps is)
+start_by_place direct (Commit s t keys) Asked stamps is = absurd (none-some stamps is)
+start_by_place direct (Commit s t keys) Accepted stamps is = absurd (none-some stamps is)
+start_by_place direct (Commit s t keys) (Drawn c) stamps is = ap (λ (q : ℕ × ℕ). Some q.0) (same_Some (t, c) stamps is)
+start_by_place direct (Commit s t keys) (Settled c by) stamps is = absurd (none-some stamps is)
+start_by_place direct (Commit s t keys) (Handed c) stamps is = absurd (none-some stamps is)
 
-start_of_place : (found : Option Held) (stamps : ℕ × ℕ) → to_place found ≡ Some stamps → start_to_place found ≡ Some stamps.0
-start_of_place None stamps is = absurd (none-some stamps is)
-start_of_place (Some held) stamps is = start_by_place held.request held.progress stamps is
+start_of_place : (direct : Bool) (found : Option Held) (stamps : ℕ × ℕ) → to_place found ≡ Some stamps → start_to_place direct found ≡ Some stamps.0
+start_of_place direct None stamps is = absurd (none-some stamps is)
+start_of_place direct (Some held) stamps is = start_by_place direct held.request held.progress stamps is
 
 pub starts_in : (nodes : List (Option InstanceEntry)) (n s : ℕ) (posts : Option (Option InstanceEntry)) (stamps : ℕ × ℕ) → slice_get nodes n ≡ posts → to_place (held_found posts s) ≡ Some stamps → StartsAt nodes n s stamps.0
 starts_in nodes n s None stamps at is = absurd (none-some stamps is)
 starts_in nodes n s (Some None) stamps at is = absurd (none-some stamps is)
-starts_in nodes n s (Some (Some i)) stamps at is = record { i = i; at = at; starts = start_of_place (held_of i s) stamps is }
+starts_in nodes n s (Some (Some i)) stamps at is = record { i = i; at = at; starts = start_of_place i.direct (held_of i s) stamps is }
 
 put_places : (w : State) (h : List Item) (n s : ℕ) (fate : Fate) (places : Places) (stamps : ℕ × ℕ) → Holds w h → ArePlacesKept w.nodes places → to_place (held_in w n s) ≡ Some stamps → ArePlacesKept (stepped w (event.Put n s) fate).state.nodes (set.remove places stamps.0)
 put_places w h n s fate places stamps holds kept is = λ m r t j at starts.
@@ -130,9 +131,9 @@ plain_kept old now e fate plain k room =
       kept = kept_after _ now.places 0 0 _ _ old.places became k.kept (same_places old.places now.places room.places);
     }
 
-accept_kept : (old now : Whole) (n s reading : ℕ) (fate : Fate) (result : Result Unit Stopped) → IsKept old.state.nodes old.history old.spare old.places → result ≡ ended (stepped old.state (event.Accept n s reading) fate).stop → Reserves (held_in old.state n s) old now result → IsKept (stepped old.state (event.Accept n s reading) fate).state.nodes (old.history ++ (stepped old.state (event.Accept n s reading) fate).items) now.spare now.places
+accept_kept : (old now : Whole) (n s reading : ℕ) (fate : Fate) (result : Result Unit Stopped) → IsKept old.state.nodes old.history old.spare old.places → result ≡ ended (stepped old.state (event.Accept n s reading) fate).stop → Reserves (direct_in old.state n) (held_in old.state n s) old now result → IsKept (stepped old.state (event.Accept n s reading) fate).state.nodes (old.history ++ (stepped old.state (event.Accept n s reading) fate).items) now.spare now.places
 accept_kept old now n s reading fate result k is room =
-    let place = λ (none : (stepped old.state (event.Accept n s reading) fate).stop ≡ None). subst (λ (r : Result Unit Stopped). OnOk r (HeldHasPlace now.places (held_in old.state n s))) (is ∙ ap ended none) room.place in
+    let place = λ (none : (stepped old.state (event.Accept n s reading) fate).stop ≡ None). subst (λ (r : Result Unit Stopped). OnOk r (HeldHasPlace (direct_in old.state n) now.places (held_in old.state n s))) (is ∙ ap ended none) room.place in
     let became = accept_became (old.history ++ (stepped old.state (event.Accept n s reading) fate).items) now.places old.state n s reading fate place in
     record {
       roomy = roomy_after old.history _ now.places 0 _ old.spare now.spare _ _ became k.roomy (omega (arith, gained (held_in old.state n s) (stepped old.state (event.Accept n s reading) fate).stop result old.spare now.spare is room.spare));

@@ -8,7 +8,7 @@ use Rattle.store_parts.specs.Pairs.{Places}
 use Rattle.stamp_base.specs.SetupNumbers.{SetupNumbers}
 use Rattle.oracle_parts.specs.declared.instance.Held.{Held}
 use Rattle.oracle_parts.specs.declared.instance.Progress.{Progress}
-use Rattle.oracle_parts.specs.declared.instance.Progress.TheVariants.{Asked, Accepted, Drawn, Settled}
+use Rattle.oracle_parts.specs.declared.instance.Progress.TheVariants.{Asked, Accepted, Drawn, Settled, Handed}
 use Rattle.oracle_parts.specs.declared.instance.Request.{Request}
 use Rattle.oracle_parts.specs.declared.instance.Request.TheVariants.{Begin, Commit}
 use Rattle.oracle_parts.specs.Instance.{InstanceEntry, held_of}
@@ -31,16 +31,19 @@ four_spent h held (Begin s) Asked = omega (arith, once_at_most held.told_no_stam
 four_spent h held (Begin s) Accepted = omega (arith, once_at_most held.told_no_stamp)
 four_spent h held (Begin s) (Drawn start) = omega (arith, once_at_most held.told_no_stamp, once_at_most held.told_not_yet)
 four_spent h held (Begin s) (Settled c by) = omega (arith, once_at_most held.told_no_stamp)
+four_spent h held (Begin s) (Handed c) = omega (arith, once_at_most held.told_no_stamp)
 four_spent h held (Commit s t keys) Asked = omega (arith, once_at_most held.told_no_stamp)
 four_spent h held (Commit s t keys) Accepted = omega (arith, once_at_most held.told_no_stamp)
 four_spent h held (Commit s t keys) (Drawn c) = omega (arith, once_at_most held.told_no_stamp)
 four_spent h held (Commit s t keys) (Settled c by) = omega (arith, once_at_most held.told_no_stamp, besides_at_most h t c by)
+four_spent h held (Commit s t keys) (Handed c) = omega (arith, once_at_most held.told_no_stamp)
 
 decides_need : (h : List Item) (held : Held) (p : Progress) → decides_at p ≡ true → 1 ≤ need_by h held p
 decides_need h held Accepted is = omega (arith, four_spent h held held.request Accepted)
 decides_need h held Asked is = absurd (cc)
 decides_need h held (Drawn stamp) is = absurd (cc)
 decides_need h held (Settled c by) is = absurd (cc)
+decides_need h held (Handed c) is = absurd (cc)
 
 decide_need : (h : List Item) (found : Option Held) → is_to_decide found ≡ true → 1 ≤ need h found
 decide_need h None is = absurd (cc)
@@ -49,6 +52,8 @@ decide_need h (Some held) is = decides_need h held held.progress is
 answers_need : (h : List Item) (held : Held) (request : Request) (p : Progress) → answers_at request p ≡ true → 1 ≤ need_by h held p
 answers_need h held (Begin s) (Drawn start) is = omega (arith, four_spent h held held.request (Drawn start))
 answers_need h held (Commit s t keys) (Settled c by) is = omega (arith, four_spent h held held.request (Settled c by))
+answers_need h held (Commit s t keys) (Handed c) is = omega (arith, four_spent h held held.request (Handed c))
+answers_need h held (Begin s) (Handed c) is = absurd (cc)
 answers_need h held (Begin s) Asked is = absurd (cc)
 answers_need h held (Begin s) Accepted is = absurd (cc)
 answers_need h held (Begin s) (Settled c by) is = absurd (cc)

@@ -8,7 +8,7 @@ use Rattle.history_book.specs.declared.item.Item.TheVariants.{Placed}
 use Rattle.store_parts.specs.Pairs.{Places}
 use Rattle.oracle_parts.specs.declared.instance.Held.{Held}
 use Rattle.oracle_parts.specs.declared.instance.Progress.{Progress}
-use Rattle.oracle_parts.specs.declared.instance.Progress.TheVariants.{Asked, Accepted, Drawn, Settled}
+use Rattle.oracle_parts.specs.declared.instance.Progress.TheVariants.{Asked, Accepted, Drawn, Settled, Handed}
 use Rattle.oracle_parts.specs.declared.instance.Request.{Request}
 use Rattle.oracle_parts.specs.declared.instance.Request.TheVariants.{Begin, Commit}
 use Rattle.oracle_parts.specs.declared.instance.Settled.{Settled as How}
@@ -40,6 +40,7 @@ abbrev pub spent : List Item → Held → Request → Progress → ℕ
 spent h held (Begin session) (Drawn start) = once held.told_no_stamp + 1 + once held.told_not_yet
 spent h held (Commit session start keys) (Drawn commit) = once held.told_no_stamp + 1
 spent h held (Commit session start keys) (Settled commit how) = once held.told_no_stamp + 2 + told_besides h start commit how
+spent h held (Commit session start keys) (Handed commit) = once held.told_no_stamp + 1
 spent h held _ _ = once held.told_no_stamp
 
 -- how many may still be appended for it: of five, those that were not
@@ -61,17 +62,21 @@ abbrev pub AreRoomy : List (Option InstanceEntry) → List Item → ℕ → Type
 AreRoomy nodes h spare = sum_by (needs_of h) nodes ≤ spare
 
 -- ---- places in the commit table
--- the start of a commit that is accepted or drawn
-abbrev pub start_by : Request → Progress → Option ℕ
-start_by (Commit session start keys) Accepted = Some start
-start_by (Commit session start keys) (Drawn commit) = Some start
-start_by _ _ = None
+-- the start of a commit that is accepted or drawn, and that the oracle is to place; where commits are direct none is drawn so
+abbrev pub unless_direct : Bool → ℕ → Option ℕ
+unless_direct true start = None
+unless_direct false start = Some start
 
-abbrev pub start_to_place : Option Held → Option ℕ
-start_to_place None = None
-start_to_place (Some held) = start_by held.request held.progress
+abbrev pub start_by : Bool → Request → Progress → Option ℕ
+start_by direct (Commit session start keys) Accepted = unless_direct direct start
+start_by direct (Commit session start keys) (Drawn commit) = Some start
+start_by _ _ _ = None
+
+abbrev pub start_to_place : Bool → Option Held → Option ℕ
+start_to_place direct None = None
+start_to_place direct (Some held) = start_by direct held.request held.progress
 
 -- each such commit has a place
 abbrev pub ArePlacesKept : List (Option InstanceEntry) → Places → Type 0
 ArePlacesKept nodes places =
-    (node session start : ℕ) (i : InstanceEntry) → InstanceAt nodes node i → start_to_place (held_of i session) ≡ Some start → IsTrue (set.contains places start)
+    (node session start : ℕ) (i : InstanceEntry) → InstanceAt nodes node i → start_to_place i.direct (held_of i session) ≡ Some start → IsTrue (set.contains places start)

@@ -10,19 +10,27 @@ use Rattle.machine.specs.Events.Put.{to_place}
 use Rattle.event_parts.specs.declared.stopped.Stopped.{Stopped}
 use Rattle.event_parts.specs.Served.{is_to_decide, is_to_put, is_to_answer, HasRoomIf, HasPlaceFor, SpendsIf, places_after}
 pub use Rattle.event_parts.specs.Served.{NeverLacks, NeverLacksIf}
-use Rattle.node_events.specs.Reserved.{ReservesFive, HeldHasPlace, KeepPlaces}
+use Rattle.node_events.specs.Reserved.{ReservesFive, is_direct, HeldHasPlace, KeepPlaces}
 use Rattle.cluster_core.specs.Whole.{Whole}
 
 abbrev pub held_found : Option (Option InstanceEntry) → ℕ → Option Held
 held_found None session = None
 held_found (Some post) session = held_at post session
 
+-- whether the node hands commits to their sessions
+abbrev pub direct_found : Option (Option InstanceEntry) → Bool
+direct_found None = false
+direct_found (Some post) = is_direct post
+
+abbrev pub direct_in : State → ℕ → Bool
+direct_in w node = direct_found (slice_get w.nodes node)
+
 -- the request of a session that a node holds
 abbrev pub held_in : State → ℕ → ℕ → Option Held
 held_in w node session = held_found (slice_get w.nodes node) session
 
 -- a decision of a request that was accepted, a put of a commit that was drawn, an answer to a begin that was drawn or to a
--- commit that was settled
+-- commit that was settled or is to be handed over
 abbrev pub is_served : State → Event → Bool
 is_served w (event.Decide node session) = is_to_decide (held_in w node session)
 is_served w (event.Put node session) = is_to_put (held_in w node session)
@@ -51,14 +59,14 @@ abbrev pub ReservesFor : Option Held → Result Unit Stopped → ℕ → ℕ →
 ReservesFor None result before now = before ≤ now
 ReservesFor (Some held) result before now = ReservesFive result before now
 
--- and a commit has a place
-pub record Reserves (held : Option Held) (old now : Whole) (result : Result Unit Stopped) : Type 0 where
+-- and a commit that the oracle is to place has a place
+pub record Reserves (direct : Bool) (held : Option Held) (old now : Whole) (result : Result Unit Stopped) : Type 0 where
   pub spare : ReservesFor held result old.spare now.spare
-  pub place : OnOk result (HeldHasPlace now.places held)
+  pub place : OnOk result (HeldHasPlace direct now.places held)
   pub places : KeepPlaces old.places now.places
 
 abbrev pub LeavesRoom : Event → Whole → Whole → Result Unit Stopped → Type 0
-LeavesRoom (event.Accept node session reading) old now result = Reserves (held_in old.state node session) old now result
+LeavesRoom (event.Accept node session reading) old now result = Reserves (direct_in old.state node) (held_in old.state node session) old now result
 LeavesRoom (event.Decide node session) old now result = Spends (is_to_decide (held_in old.state node session)) None old now
 LeavesRoom (event.Put node session) old now result = Spends (is_to_put (held_in old.state node session)) (to_place (held_in old.state node session)) old now
 LeavesRoom (event.Answer node session) old now result = Spends (is_to_answer (held_in old.state node session)) None old now

@@ -134,8 +134,9 @@ impl Cluster {
         self.make(weather, &Event::Put { node, session })
     }
 
-    /// The node answers the session's request: refused as NoOracle or NoRequest, or as NotYet while a commit below the start is
-    /// not settled. A commit that a mark has ended is told as Invalid, and one whose put failed as Open.
+    /// The node answers the session's request, or hands a direct commit to its session: refused as NoOracle or NoRequest, or as
+    /// NotYet while a commit below the start, which the node is to place, is not settled. A commit that a mark has ended is told as
+    /// Invalid, and one whose put failed as Open.
     pub fn answer(&mut self, node: NodeNo, session: SessionNo) -> Result<(), Stopped>
         ensures made { MakesStep (stepped self.old.state (Event.Answer node session) Works) self.old self.new result }
         ensures served { NeverLacksIf (is_served self.old.state (Event.Answer node session)) result }
@@ -180,7 +181,8 @@ impl Cluster {
         self.make(weather, &Event::Fetch { session, key })
     }
 
-    /// The session makes the next step of its read, of its own open outcome, or of its completion: refused as Gone or Idle.
+    /// The session makes the next step of its read, of its own open outcome, or of its completion, or places the record of its
+    /// commit: refused as Gone or Idle, and a placing as Invalid where a mark stands in its place.
     pub fn step<W: Weather>(&mut self, weather: &mut W, session: SessionNo) -> Result<(), Stopped>
         ensures made { MakesStep (step_under (W.ahead weather.old) self.old.state (Event.Step session)) self.old self.new result }
         ensures asked { Asks result (asks self.old.state (Event.Step session)) (W.ahead weather.old) (W.ahead weather.new)

@@ -63,6 +63,7 @@ fn doing_of(client: &Client) -> Doing
         State::Asking | State::Committing => Doing::Waiting,
         State::Open if client.is_reading() => Doing::Reading,
         State::Open => Doing::Open,
+        State::Placing => Doing::Placing,
         State::OpenOutcome => Doing::OpenOutcome,
         State::Completing { .. } => Doing::Completing,
         State::Gone => Doing::Gone,

@@ -96,7 +96,12 @@ pub fn fail_reserved(
 
 /// What a failed placing made all the same, by the entries that the commit table had for the transaction before the call and
 /// has now.
-pub fn placed_item(before: Option<Mark>, now: Option<Mark>, start: Stamp, commit: Stamp) -> Option<Item>
+pub fn placed_item(
+    before: Option<Mark>,
+    now: Option<Mark>,
+    start: Stamp,
+    commit: Stamp,
+) -> Option<Item>
     ensures { made_items result ≡ placed_kept before now start commit }
 {
     match (before, now) {

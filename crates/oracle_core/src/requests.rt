@@ -83,7 +83,10 @@ fn commit_stamps(start: Stamp, progress: &Progress) -> Option<(Stamp, Option<Sta
 {
     match progress {
         Progress::Drawn { stamp } => Some((start, Some(*stamp))),
-        Progress::Settled { commit, .. } | Progress::Handed { commit } => Some((start, Some(*commit))),
+        Progress::Settled { commit, .. } | Progress::Handed { commit } => Some((
+            start,
+            Some(*commit),
+        )),
         _ => None,
     }
 }
