@@ -53,6 +53,7 @@ free_idle phase.Free go = record { here = λ is. cc; asks_none = λ is. cc; comm
 free_idle phase.Asking go = absurd (cc)
 free_idle phase.Open go = absurd (cc)
 free_idle phase.Committing go = absurd (cc)
+free_idle phase.Placing go = absurd (cc)
 free_idle phase.OpenOutcome go = absurd (cc)
 free_idle (phase.Completing undo) go = absurd (cc)
 free_idle phase.Gone go = absurd (cc)
@@ -114,6 +115,7 @@ drawn_by start commit (Commit asker t keys) (progress.Drawn c) is =
 drawn_by start commit (Commit asker t keys) progress.Asked is = absurd (cc)
 drawn_by start commit (Commit asker t keys) progress.Accepted is = absurd (cc)
 drawn_by start commit (Commit asker t keys) (progress.Settled c by) is = absurd (cc)
+drawn_by start commit (Commit asker t keys) (progress.Handed c) is = absurd (cc)
 drawn_by start commit (Begin asker) p is = absurd (cc)
 
 drawn_unplaced : (w : State) (h : List Item) (k : AtDrawn w) (other : ℕ) → Holds w h → HasRecord w.pairs k.start other → ⊥

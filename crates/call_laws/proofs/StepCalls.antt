@@ -22,14 +22,16 @@ use Rattle.machine.specs.Clients.{is_reading, is_reading_by, client_freed}
 use Rattle.machine.specs.Calls.{MayStep, CanWork}
 use Rattle.machine.specs.Events.Step.{own_resolve, work_by, work_of, next_of, store_asked, asked_next}
 use Rattle.isolation_laws.specs.Words.{ClientAt}
+use Rattle.isolation_laws.specs.Pending.{Has, is_placing, IsPending}
 use Rattle.isolation_laws.specs.Holds.{Holds}
+use Rattle.isolation_laws.proofs.Owners.{pending_unplaced}
 use Rattle.isolation_laws.proofs.Pushed.{one_quiet}
 use Rattle.isolation_laws.proofs.Outcome.PlainItems.{one_silent}
 use Rattle.isolation_laws.proofs.Inversions.InversionOfWork.{IsWork, work_fits}
 use Rattle.isolation_laws.proofs.Stores.StoresStay.{completed_fills}
 use Rattle.isolation_laws.proofs.Stores.MarksTold.{marks_same}
 use Rattle.cause_laws.specs.Shows.{Tells}
-use Rattle.call_laws.specs.Stores.{StepMayBeMade}
+use Rattle.call_laws.specs.Stores.{StepMayBeMade, PlacingMayBeMade}
 use Rattle.call_laws.proofs.StoreCalls.{only_shadow, keeps_next}
 
 -- ---- something is asked
@@ -66,7 +68,7 @@ resolve_asks t (Some start) (key ∷ keys) is some none = cc
 own_asks : (w : State) (h : List Item) (session : ℕ) (c : Client) → Holds w h → ClientAt w.clients session c → c.entry.state ≡ phase.OpenOutcome → next_of (own_resolve c.entry.start c.entry.keys) ≡ None → ⊥
 own_asks w h session c holds at is none =
     let begun = holds.requests.have_begun.begun session c at (subst (λ (s : SessionState). IsTrue (has_transaction s)) (sym is) refl) in
-    resolve_asks begun.0 c.entry.start c.entry.keys begun.1 (holds.requests.keys.some session c at (inr is)) none
+    resolve_asks begun.0 c.entry.start c.entry.keys begun.1 (holds.requests.keys.some session c at (inr (inl is))) none
 
 open_asks : (w : State) (h : List Item) (session : ℕ) (c : Client) → Holds w h → ClientAt w.clients session c → c.entry.state ≡ phase.OpenOutcome → (work : UnderWay) → c.under_way ≡ work → next_of (work_by phase.OpenOutcome c.entry work) ≡ None → ⊥
 open_asks w h session c holds at is Nothing under_way none = own_asks w h session c holds at is none
@@ -150,6 +152,25 @@ work_can c (Reads r) asks fits = tt
 work_can c (Settles x) asks fits = inr (inr fits.0)
 work_can c (Completes []) asks fits = absurd (asks refl)
 work_can c (Completes (asked ∷ left)) asks fits = subst (λ (s : SessionState). EndsFrom s c.entry.keys) (sym fits.completing) tt
+
+-- ---- a placing
+-- the commit of a session that is to place it is in flight
+placing_flies : (w : State) (session start commit : ℕ) (c : Client) (state : SessionState) (begun drawn : Option ℕ) → ClientAt w.clients session c → c.entry.state ≡ state → c.entry.start ≡ begun → c.entry.commit ≡ drawn → handed_by state begun drawn ≡ Some (start, commit) → IsPending w.clients w.nodes start
+placing_flies w session start commit c phase.Placing (Some t) (Some k) at is begins has stamps =
+    let same : (t, k) ≡ (start, commit) = same_Some (t, k) (start, commit) stamps in
+    record {
+      coming = record { session = session; start = t; keys = c.entry.keys; stage = Has k };
+      pending = inr (record { client = c; at = at; state_is = ap is_placing is; start_is = begins; keys_are = refl; commit_of = k; commit_is = has; stage_is = refl });
+      start_is = ap (λ (p : ℕ × ℕ). p.0) same;
+    }
+placing_flies w session start commit c phase.Placing None drawn at is begins has stamps = absurd cc
+placing_flies w session start commit c phase.Placing (Some t) None at is begins has stamps = absurd cc
+placing_flies w session start commit c state begun drawn at is begins has stamps = absurd cc
+
+pub placings_place : (w : State) (h : List Item) → Tells w h → PlacingMayBeMade w
+placings_place w h tells session start commit other c at stamps there =
+    let holds : Holds w h = tells.stands.holds in
+    pending_unplaced w.clients w.nodes h start other holds.numbers.placed holds.requests.pending (placing_flies w session start commit c c.entry.state c.entry.start c.entry.commit at refl refl refl stamps) (holds.cells.pairs_are.placed start other there)
 
 pub steps_ask : (w : State) (h : List Item) → Tells w h → StepMayBeMade w
 steps_ask w h tells session c at =

@@ -1,5 +1,5 @@
 -- What the calls of sessions and of the janitor on the stores ask of the cells, and what is under way with them.
-use Rattle.std.specs.Prelude.{◌≡◌, ℕ, IsTrue, List, ◌∷◌, None, IfSome}
+use Rattle.std.specs.Prelude.{◌≡◌, ℕ, IsTrue, List, ◌∷◌, None, Some, IfSome}
 use Rattle.store_parts.specs.Rows.{Row, IsBare, HasOnly}
 use Rattle.client_parts.specs.declared.resolve.SettlePoint.TheVariants.{Marking}
 use Rattle.client_parts.specs.KeyRead.{Reading, may_mark, AreFetched}
@@ -10,7 +10,7 @@ use Rattle.machine.specs.Events.Step.{work_of, next_of, asked_next}
 use Rattle.machine.specs.Calls.{MayStep, CanWork, KeepsShadowNext}
 use Rattle.machine.specs.Events.Write.{write_refused}
 use Rattle.machine.specs.Events.Heal.{offer_of}
-use Rattle.isolation_laws.specs.Words.{ClientAt}
+use Rattle.isolation_laws.specs.Words.{ClientAt, HasRecord}
 
 -- where a session may write at a key, the cell of its transaction is bare
 abbrev pub WriteMayBeMade : State → Type 0
@@ -42,3 +42,7 @@ StepMayBeMade w = (session : ℕ) (c : Client) → ClientAt w.clients session c 
 pub record SweepMayStep (w : State) : Type 0 where
   pub asks : IfSome w.sweep (λ s. sweep_ask s ≡ None → ⊥)
   pub shadow : IfSome w.sweep (λ s. KeepsShadowNext (sweep_ask s) w.rows)
+
+-- the commit table has no commit of a transaction whose session is to place it
+abbrev pub PlacingMayBeMade : State → Type 0
+PlacingMayBeMade w = (session start commit other : ℕ) (c : Client) → ClientAt w.clients session c → handed_commit c.entry ≡ Some (start, commit) → HasRecord w.pairs start other → ⊥

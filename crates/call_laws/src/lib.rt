@@ -24,7 +24,8 @@ pub use request_calls::{
     begin_may_be_asked, commit_may_be_asked, put_may_be_made, requests_are_waited_for,
 };
 pub use store_calls::{
-    heal_may_be_made, read_may_go_on, step_may_be_made, sweep_may_step, write_may_be_made,
+    heal_may_be_made, placing_may_be_made, read_may_go_on, step_may_be_made, sweep_may_step,
+    write_may_be_made,
 };
 
 /// The numbers of the opening state are in bounds.

@@ -3,7 +3,7 @@ ghost use Rattle.std.specs.Prelude.{List};
 ghost use Rattle.history_book.specs.declared.item.Item.{Item};
 ghost use Rattle.machine.specs.State.{State};
 ghost use Rattle.cause_laws.specs.Shows.{Tells};
-ghost use Rattle.call_laws.specs.Stores.{WriteMayBeMade, HealMayBeMade, ReadMayGoOn, StepMayBeMade, SweepMayStep};
+ghost use Rattle.call_laws.specs.Stores.{WriteMayBeMade, HealMayBeMade, ReadMayGoOn, StepMayBeMade, SweepMayStep, PlacingMayBeMade};
 
 /// A write comes upon a bare cell of its transaction, or none.
 pub fn write_may_be_made()
@@ -28,4 +28,9 @@ pub fn step_may_be_made()
 /// So has a step of the open sweep.
 pub fn sweep_may_step()
     ensures { (w : State) (h : List Item) → Tells w h → SweepMayStep w }
+{}
+
+/// The placing of a session never finds a commit: what it finds in its place is a mark.
+pub fn placing_may_be_made()
+    ensures { (w : State) (h : List Item) → Tells w h → PlacingMayBeMade w }
 {}
