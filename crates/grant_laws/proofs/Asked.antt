@@ -53,17 +53,18 @@ asked_is_drawn script number node s verb p x request to_answer k has is_free no_
       told = drew.told;
       leads = leads_on script line 1 drew.steps (1 + drew.steps) (run_at Drives p) (run_at Drives (played script p e)) (run_at Drives drew.next) refl first drew.leads;
       at = drew.at;
-      requests = drew.requests ∙ set-set x.oracle.requests s (Some (waiting request false)) (Some (with_stamp request drew.told (x.oracle.last + 1)));
+      requests = drew.requests ∙ set-set x.oracle.requests s (Some (waiting request false)) (Some (with_stamp x.oracle.direct request drew.told (x.oracle.last + 1)));
+      client = drew.client;
       pairs = drew.pairs;
       table = drew.table;
       longer = longer_still x.items y.items drew.spot.items (record { added = items; is = refl }) drew.longer;
     }
 
 -- the request that has its stamp is held
-pub holds_stamp : (script : ScriptData) (line : Line) (node s most : ℕ) (p : Played) (x : Spot) (request : Request) (drew : Drew script line node s most p x request) → s < length x.oracle.requests → held_of drew.spot.oracle s ≡ Some (with_stamp request drew.told (x.oracle.last + 1))
+pub holds_stamp : (script : ScriptData) (line : Line) (node s most : ℕ) (p : Played) (x : Spot) (request : Request) (drew : Drew script line node s most p x request) → s < length x.oracle.requests → held_of drew.spot.oracle s ≡ Some (with_stamp x.oracle.direct request drew.told (x.oracle.last + 1))
 holds_stamp script line node s most p x request drew within =
-    ap (λ (requests : List (Option Held)). slice_index_or requests s None) drew.requests ∙ get_or-set_same x.oracle.requests s (Some (with_stamp request drew.told (x.oracle.last + 1))) None within
+    ap (λ (requests : List (Option Held)). slice_index_or requests s None) drew.requests ∙ get_or-set_same x.oracle.requests s (Some (with_stamp x.oracle.direct request drew.told (x.oracle.last + 1))) None within
 
 pub drawn_within : (script : ScriptData) (line : Line) (node s most : ℕ) (p : Played) (x : Spot) (request : Request) (drew : Drew script line node s most p x request) → s < length x.oracle.requests → s < length drew.spot.oracle.requests
 drawn_within script line node s most p x request drew within =
-    omega (arith, within, ap (λ (requests : List (Option Held)). length requests) drew.requests, length-set x.oracle.requests s (Some (with_stamp request drew.told (x.oracle.last + 1))))
+    omega (arith, within, ap (λ (requests : List (Option Held)). length requests) drew.requests, length-set x.oracle.requests s (Some (with_stamp x.oracle.direct request drew.told (x.oracle.last + 1))))

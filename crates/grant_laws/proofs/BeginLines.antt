@@ -1,5 +1,5 @@
 -- A begin line whose premises hold has its begin, or is told to wait for a commit that is not settled.
-use Rattle.std.proofs.Common.{◌≡◌, ℕ, zero, suc, ◌+◌, ◌<◌, Bool, cond, List, [], ◌∷◌, ◌++◌, length, Option, Some, None, inr, refl, sym, ◌∙◌, ap, arith}
+use Rattle.std.proofs.Common.{◌≡◌, ℕ, zero, suc, ◌+◌, ◌<◌, Bool, false, cond, List, [], ◌∷◌, ◌++◌, length, Option, Some, None, inr, refl, sym, ◌∙◌, ap, arith}
 use Rattle.std.specs.Prelude.{slice_set, slice_index_or, MatchOption}
 use Rattle.std.proofs.lemmas.List.{set-set}
 use Rattle.oracle_parts.specs.declared.instance.Held.{Held}
@@ -11,6 +11,7 @@ use Rattle.history_book.specs.declared.cause.Cause.TheVariants as cause
 use Rattle.history_book.specs.declared.item.Actor.TheVariants.{Session}
 use Rattle.history_book.specs.declared.item.Item.{Item}
 use Rattle.history_book.specs.declared.item.Item.TheVariants as item
+use Rattle.oracle_parts.specs.declared.instance.Progress.{Progress}
 use Rattle.oracle_parts.specs.declared.instance.Request.{Request}
 use Rattle.oracle_parts.specs.declared.instance.Request.TheVariants.{Begin}
 use Rattle.oracle_parts.specs.Instance.{InstanceEntry, held_of, unsettled_commit, only_below, lesser, least_unsettled}
@@ -38,7 +39,7 @@ use Rattle.grant_laws.proofs.LongerRuns.{Longer, longer_still, in_one, appended_
 use Rattle.grant_laws.proofs.Before.{Known, known_before, granted}
 use Rattle.grant_laws.proofs.Facts.{first_spot, is_first, has_place, can_draw}
 use Rattle.grant_laws.proofs.Spots.{Spot, IsAt, Makes, leads_there, serves_next, none_held}
-use Rattle.grant_laws.proofs.Effects.{asked_of, begin_taken, with_stamp, begin_items, begin_answered}
+use Rattle.grant_laws.proofs.Effects.{begin_drawn, asked_of, begin_taken, with_stamp, begin_items, begin_answered}
 use Rattle.grant_laws.proofs.Serving.{with_both, on_ask_made, Drew}
 use Rattle.grant_laws.proofs.Extending.{CanDraw}
 use Rattle.grant_laws.proofs.Asked.{asked_is_drawn, holds_stamp}
@@ -89,12 +90,13 @@ begins_are_granted lowers script p number s node before can =
     let drew : Drew script line node s 4 q y request = asked_is_drawn script number node s v q y request (λ at. refl) there has (begin_accepted i (reading_of script p node) s can.serving.leased) refl can_now in
     let d : Played = drew.next in
     let z : Spot = drew.spot in
-    let now : Held = with_stamp request drew.told stamp in
-    let has_now : held_of z.oracle s ≡ Some now = holds_stamp script line node s 4 q y request drew within_now in
+    let now : Held = with_stamp false request drew.told stamp in
+    let as_drawn : Progress → Held = λ (at : Progress). record now { progress = at } in
+    let has_now : held_of z.oracle s ≡ Some now = holds_stamp script line node s 4 q y request drew within_now ∙ ap (λ (at : Progress). Some (as_drawn at)) (begin_drawn i.direct s stamp) in
     let last : Run = run_after script line (run_at Drives d) (event.Answer node s) in
     let answers : Leads script line 1 (run_at Drives d) last = leads_one script line (run_at Drives d) (event.Answer node s) (serves_next script number node s v d z now (λ at. refl) drew.at has_now) in
     let least : least_unsettled z.oracle.requests stamp ≡ least_unsettled i.requests stamp =
-    ap (λ (requests : List (Option Held)). least_unsettled requests stamp) (drew.requests ∙ set-set i.requests s (Some (just_asked request)) (Some now))
+    ap (λ (requests : List (Option Held)). least_unsettled requests stamp) (drew.requests ∙ ap (λ (at : Progress). slice_set y.oracle.requests s (Some (as_drawn at))) (begin_drawn i.direct s stamp) ∙ set-set i.requests s (Some (just_asked request)) (Some now))
     ∙ same_least i.requests s stamp now (none_held p.state p.items s c known.reached.stands can.session_is (inr can.is_free) node i can.serving.node_has) refl in
     let tells : (step_of script d (event.Answer node s)).items ≡ begin_items s stamp (least_unsettled i.requests stamp) =
     ap (λ (step : Step). step.items) (on_both d.state node s z.oracle z.client (answer_on node s) drew.at.node_has drew.at.session_is)

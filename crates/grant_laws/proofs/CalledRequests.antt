@@ -181,6 +181,7 @@ answer_called : (n r start : ℕ) (c : Client) (i : InstanceEntry) (answer : Res
 unfolding Called
 answer_called n r start c i (Ok (reply.Begun begun epoch)) = inr (Answers r, refl, refl)
 answer_called n r start c i (Ok (reply.Committed commit)) = inr (Answers r, refl, refl)
+answer_called n r start c i (Ok (reply.Handed commit)) = inr (Answers r, refl, refl)
 answer_called n r start c i (Ok reply.Invalid) = inr (Answers r, refl, refl)
 answer_called n r start c i (Ok reply.Open) = inr (Answers r, refl, refl)
 answer_called n r start c i (Err (cause.NotYet commit)) = inr (Answers r, refl, refl)

@@ -10,6 +10,8 @@ use Rattle.history_book.specs.declared.item.Actor.TheVariants.{Session}
 use Rattle.history_book.specs.declared.item.Item.{Item}
 use Rattle.history_book.specs.declared.item.Item.TheVariants as item
 use Rattle.store_parts.specs.Pairs.{Pairs, mark_of}
+use Rattle.client_parts.specs.declared.session.State.TheVariants as phase
+use Rattle.client_parts.specs.SessionSteps.{asked_state}
 use Rattle.oracle_parts.specs.declared.instance.Request.{Request}
 use Rattle.oracle_parts.specs.declared.instance.Request.TheVariants.{Commit}
 use Rattle.oracle_parts.specs.Instance.{InstanceEntry, held_of}
@@ -76,7 +78,9 @@ commits_are_granted lowers script p number s node before can =
     let drew : Drew script line node s 4 q y request = asked_is_drawn script number node s v q y request (λ at. refl) there has (commit_accepted i (reading_of script p node) s start keys can.serving.leased can.in_epoch) can.no_conflict can_now in
     let none : mark_of drew.spot.pairs start ≡ None = ap (λ (pairs : Pairs). mark_of pairs start) drew.pairs ∙ absent script p s start c known can.work.session_is can.work.in_work can.work.begun can.unmarked in
     let works : fate_by script drew.spot.calls (Some Table) ≡ Works = ap (λ (n : ℕ). planned_fate script.faults Table (n + 1)) drew.table ∙ can.placing in
-    let told : Told script line drew.next (item.Committed s start (i.last + 1)) = draw_is_told script number node s start (i.last + 1) keys drew.told drew.next drew.spot drew.at (drawn_within script line node s 4 q y request drew within_now) (holds_stamp script line node s 4 q y request drew within_now) none works in
+    let waits : drew.spot.client.entry.state ≡ phase.Committing = ap (λ (d : Client). d.entry.state) drew.client ∙ ap asked_state can.work.in_work in
+    let begun : drew.spot.client.entry.start ≡ Some start = ap (λ (d : Client). d.entry.start) drew.client ∙ can.work.begun in
+    let told : Told script line drew.next (item.Committed s start (i.last + 1)) = draw_is_told script number node s start (i.last + 1) keys i.direct drew.told drew.next drew.spot drew.at (drawn_within script line node s 4 q y request drew within_now) (holds_stamp script line node s 4 q y request drew within_now) waits begun none works in
     let to_draw : Leads script line (1 + drew.steps) (opened p) (run_at Drives drew.next) = leads_on script line 1 drew.steps (1 + drew.steps) (opened p) (run_at Drives q) (run_at Drives drew.next) refl first drew.leads in
     let all : Leads script line (3 + drew.steps) (opened p) told.next = leads_on script line (1 + drew.steps) 2 (3 + drew.steps) (opened p) (run_at Drives drew.next) told.next (omega arith) to_draw told.leads in
     let so_far : Longer p.items drew.spot.items = longer_still p.items y.items drew.spot.items (record { added = items; is = refl }) drew.longer in

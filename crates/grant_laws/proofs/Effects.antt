@@ -12,6 +12,7 @@ use Rattle.history_book.specs.declared.cause.Cause.TheVariants as cause
 use Rattle.history_book.specs.declared.item.Actor.TheVariants.{Session}
 use Rattle.history_book.specs.declared.item.Item.{Item}
 use Rattle.history_book.specs.declared.item.Item.TheVariants as item
+use Rattle.history_book.specs.declared.item.StoreStep.TheVariants.{Handed}
 use Rattle.store_parts.specs.Pairs.{Pairs, mark_of, put_pair}
 use Rattle.store_parts.specs.declared.record.ExtendRefused.{ExtendRefused}
 use Rattle.store_parts.specs.declared.record.ExtendRefused.TheVariants as not_extended
@@ -22,16 +23,17 @@ use Rattle.client_parts.specs.SessionSteps.{begin_refusal, work_refusal}
 use Rattle.oracle_parts.specs.declared.buckets.Verdict.{Verdict}
 use Rattle.oracle_parts.specs.declared.buckets.Verdict.TheVariants.{Free}
 use Rattle.oracle_parts.specs.declared.instance.Held.{Held}
+use Rattle.oracle_parts.specs.declared.instance.Progress.{Progress}
 use Rattle.oracle_parts.specs.declared.instance.Progress.TheVariants as progress
 use Rattle.oracle_parts.specs.declared.instance.Request.{Request}
 use Rattle.oracle_parts.specs.declared.instance.Request.TheVariants.{Begin, Commit}
 use Rattle.oracle_parts.specs.declared.instance.Settled.TheVariants as how
-use Rattle.oracle_parts.specs.Instance.{InstanceEntry, held_of, in_flight, with_request, session_of, stamps_of_held, least_unsettled, not_yet_of_held, was_told_not_yet}
-use Rattle.oracle_parts.specs.InstanceSteps.{InstanceStep, stays, just_asked, moved, no_stamp_told, accept_refusal, accept_unless, accept_held, out_of_stamps, decided_by, decide_drawn, decide_by, settle_held, answer_begin, answer_held, instance_widened}
+use Rattle.oracle_parts.specs.Instance.{InstanceEntry, held_of, in_flight, with_request, session_of, stamps_by, stamps_of_held, least_unsettled, not_yet_of_held, was_told_not_yet}
+use Rattle.oracle_parts.specs.InstanceSteps.{InstanceStep, stays, just_asked, moved, no_stamp_told, accept_refusal, accept_unless, accept_held, out_of_stamps, drawn_as, decided_by, decide_drawn, decide_by, settle_held, without_request, answer_begin, answer_if_ready, answer_held, instance_widened}
 use Rattle.oracle_parts.specs.InstanceLaws.{stamp_of}
 use Rattle.machine.specs.State.{Client}
 use Rattle.machine.specs.Effect.{Refuses, done}
-use Rattle.machine.specs.Clients.{is_reading, client_asked}
+use Rattle.machine.specs.Clients.{is_reading, client_asked, client_handed, unless_gone_by}
 use Rattle.machine.specs.Events.AskBegin.{asked_by, ask_begin_by, ask_begin_on}
 use Rattle.machine.specs.Events.AskCommit.{commit_asked, commit_of, ask_commit_by, ask_commit_on}
 use Rattle.machine.specs.Events.Accept.{accept_by, accept_request, accept_on}
@@ -117,14 +119,19 @@ widens setup node fate i r in_term stamps works =
     ∙ ap (λ (why : Option ExtendRefused). extend_by node i (extended rules r i.term) [] (answered Works not_extended.StoreFault why (r.ceiling + setup.range))) (extend_free rules r i.term in_term stamps)
 
 -- ---- the put
--- a commit that has its stamp
-abbrev pub with_stamp : Request → Bool → ℕ → Held
-with_stamp request told stamp = record { request = request; progress = progress.Drawn stamp; told_no_stamp = told; told_not_yet = false }
+-- a request that has its stamp, by whether sessions place their commits
+abbrev pub with_stamp : Bool → Request → Bool → ℕ → Held
+with_stamp direct request told stamp = record { request = request; progress = drawn_as direct request stamp; told_no_stamp = told; told_not_yet = false }
+
+-- a begin is not handed over
+pub begin_drawn : (direct : Bool) (s stamp : ℕ) → drawn_as direct (Begin s) stamp ≡ progress.Drawn stamp
+begin_drawn true s stamp = refl
+begin_drawn false s stamp = refl
 
 abbrev pub with_record : Request → Bool → ℕ → Held
 with_record request told stamp = record { request = request; progress = progress.Settled stamp how.Placed; told_no_stamp = told; told_not_yet = false }
 
-pub places : (node s start commit : ℕ) (keys : List ℕ) (told : Bool) (fate : Fate) (i : InstanceEntry) (pairs : Pairs) → held_of i s ≡ Some (with_stamp (Commit s start keys) told commit) → mark_of pairs start ≡ None → fate ≡ Works → put_on node s fate (Some i) pairs ≡ done (Some (with_request i s (Some (with_record (Commit s start keys) told commit))), put_pair pairs start (CommittedMark commit)) (item.Placed start commit ∷ [])
+pub places : (node s start commit : ℕ) (keys : List ℕ) (told : Bool) (fate : Fate) (i : InstanceEntry) (pairs : Pairs) → held_of i s ≡ Some (with_stamp false (Commit s start keys) told commit) → mark_of pairs start ≡ None → fate ≡ Works → put_on node s fate (Some i) pairs ≡ done (Some (with_request i s (Some (with_record (Commit s start keys) told commit))), put_pair pairs start (CommittedMark commit)) (item.Placed start commit ∷ [])
 places node s start commit keys told fate i pairs has absent works =
     ap (λ (found : Option Held). put_commit node s fate i pairs (to_place found)) has
     ∙ ap (λ (f : Fate). put_by node s start commit f (mark_of pairs start) i (fated f pairs (put_pair pairs start (CommittedMark commit)))) works
@@ -137,16 +144,27 @@ commit_answered node s start commit keys told i c has =
     ap (λ (found : Option Held). (answer_request node s i c (stamps_of_held found)).items) has
     ∙ ap (λ (found : Option Held). (answer_by node s start c i (answer_held i s found).left (answer_held i s found).answer).items) has
 
+-- a commit that its session is to place is handed to it
+pub commit_handed : (node s start commit : ℕ) (keys : List ℕ) (i : InstanceEntry) (c : Client) (held : Held) → held_of i s ≡ Some held → held.request ≡ Commit s start keys → held.progress ≡ progress.Handed commit → c.entry.state ≡ phase.Committing → answer_on node s (Some i) c ≡ done (Some (without_request i s), client_handed c commit) (item.Step (Session s) (Handed start commit) ∷ [])
+commit_handed node s start commit keys i c held has asks stands waits =
+    ap (λ (found : Option Held). answer_request node s i c (stamps_of_held found)) has
+    ∙ ap (λ (request : Request). answer_request node s i c (stamps_by request held.progress)) asks
+    ∙ ap (λ (p : Progress). answer_request node s i c (stamps_by (Commit s start keys) p)) stands
+    ∙ ap (λ (found : Option Held). answer_by node s start c i (answer_held i s found).left (answer_held i s found).answer) has
+    ∙ ap (λ (request : Request). answer_by node s start c i (answer_if_ready i s held request held.progress).left (answer_if_ready i s held request held.progress).answer) asks
+    ∙ ap (λ (p : Progress). answer_by node s start c i (answer_if_ready i s held (Commit s start keys) p).left (answer_if_ready i s held (Commit s start keys) p).answer) stands
+    ∙ ap (λ (state : SessionState). done (Some (without_request i s), unless_gone_by state c (client_handed c commit)) (item.Step (Session s) (Handed start commit) ∷ [])) waits
+
 -- a begin whose stamp was drawn is told by whether a commit below it is not settled
 abbrev pub begin_items : ℕ → ℕ → Option ℕ → List Item
 begin_items s start None = item.Begin s start ∷ []
 begin_items s start (Some commit) = item.Refused (Session s) (cause.NotYet commit) ∷ []
 
-begin_by : (node s start : ℕ) (told : Bool) (i : InstanceEntry) (c : Client) (least : Option ℕ) → was_told_not_yet i s ≡ false → (answer_by node s start c i (answer_begin i s (with_stamp (Begin s) told start) start least).left (answer_begin i s (with_stamp (Begin s) told start) start least).answer).items ≡ begin_items s start least
+begin_by : (node s start : ℕ) (told : Bool) (i : InstanceEntry) (c : Client) (least : Option ℕ) → was_told_not_yet i s ≡ false → (answer_by node s start c i (answer_begin i s (with_stamp false (Begin s) told start) start least).left (answer_begin i s (with_stamp false (Begin s) told start) start least).answer).items ≡ begin_items s start least
 begin_by node s start told i c None once = refl
 begin_by node s start told i c (Some commit) once = ap (λ (twice : Bool). cond twice [] (item.Refused (Session s) (cause.NotYet commit) ∷ [])) once
 
-pub begin_answered : (node s start : ℕ) (told : Bool) (i : InstanceEntry) (c : Client) → held_of i s ≡ Some (with_stamp (Begin s) told start) → (answer_on node s (Some i) c).items ≡ begin_items s start (least_unsettled i.requests start)
+pub begin_answered : (node s start : ℕ) (told : Bool) (i : InstanceEntry) (c : Client) → held_of i s ≡ Some (with_stamp false (Begin s) told start) → (answer_on node s (Some i) c).items ≡ begin_items s start (least_unsettled i.requests start)
 begin_answered node s start told i c has =
     ap (λ (found : Option Held). (answer_request node s i c (stamps_of_held found)).items) has
     ∙ ap (λ (found : Option Held). (answer_by node s start c i (answer_held i s found).left (answer_held i s found).answer).items) has

@@ -124,14 +124,15 @@ draw_later script number node s verb p x request to_answer k has no_conflict can
       told = drew.told;
       leads = leads_on script line 1 (1 + drew.steps) (2 + drew.steps) (run_at Drives p) (run_at Extends p_told) (run_at Drives drew.next) (omega arith) first (leads_on script line 1 drew.steps (1 + drew.steps) (run_at Extends p_told) (run_at Drives p_wide) (run_at Drives drew.next) (omega arith) second drew.leads);
       at = drew.at;
-      requests = drew.requests ∙ set-set x.oracle.requests s (Some (waiting request true)) (Some (with_stamp request drew.told (x.oracle.last + 1)));
+      requests = drew.requests ∙ set-set x.oracle.requests s (Some (waiting request true)) (Some (with_stamp x.oracle.direct request drew.told (x.oracle.last + 1)));
+      client = drew.client;
       pairs = drew.pairs;
       table = drew.table;
       longer = longer_still x.items told.items drew.spot.items (record { added = item.Refused (Session s) (cause.NoStamp x.oracle.last) ∷ []; is = refl }) (longer_still told.items wide.items drew.spot.items (record { added = item.Extend node x.oracle.term (x.master.ceiling + script.setup.range) ∷ []; is = refl }) drew.longer);
     }
 
 more_steps : (script : ScriptData) (line : Line) (node s : ℕ) (p : Played) (x : Spot) (request : Request) → Drew script line node s 1 p x request → Drew script line node s 3 p x request
-more_steps script line node s p x request drew = record { steps = drew.steps; few = omega (arith, drew.few); next = drew.next; spot = drew.spot; told = drew.told; leads = drew.leads; at = drew.at; requests = drew.requests; pairs = drew.pairs; table = drew.table; longer = drew.longer }
+more_steps script line node s p x request drew = record { steps = drew.steps; few = omega (arith, drew.few); next = drew.next; spot = drew.spot; told = drew.told; leads = drew.leads; at = drew.at; requests = drew.requests; client = drew.client; pairs = drew.pairs; table = drew.table; longer = drew.longer }
 
 stamp_by : (script : ScriptData) (number node s : ℕ) (verb : Verb) (p : Played) (x : Spot) (request : Request) → ((at : Place) → is_served verb at ≡ true) → IsAt script node s p x → held_of x.oracle s ≡ Some (waiting request false) → both_verdict x.oracle.buckets x.client.reads request ≡ Free → CanDraw script s x → (x.oracle.last ≡ x.oracle.ceiling) ⊎ (x.oracle.last ≢ x.oracle.ceiling) → (x.oracle.last < x.oracle.ceiling) ⊎ ((x.master.ceiling + script.setup.range ≤ 2 ^ 62) × (fate_by script x.calls (Some Master) ≡ Works)) → Drew script (line_of number (Session s) verb) node s 3 p x request
 stamp_by script number node s verb p x request to_answer k has no_conflict can (inl spent) (inl left) = absurd (omega (arith, spent, left))

@@ -6,6 +6,7 @@ mod Effects
 mod Serving
 mod Extending
 mod Asked
+mod Placings
 mod Commits
 mod Facts
 mod CommitLines

@@ -1,5 +1,5 @@
 -- A turn that is not a session's own leaves its client as it was, where its transaction is open, and its seat where it was.
-use Rattle.std.proofs.Common.{◌≡◌, ℕ, Bool, true, false, Option, Some, None, refl, sym, ◌∙◌, ap}
+use Rattle.std.proofs.Common.{◌≡◌, ℕ, Bool, true, false, Option, Some, None, inl, refl, sym, ◌∙◌, ap}
 use Rattle.history_book.specs.declared.item.Actor.{Actor}
 use Rattle.history_book.specs.declared.item.Actor.TheVariants.{Session}
 use Rattle.client_parts.specs.KeyRead.{Reading}
@@ -32,7 +32,7 @@ not_same who s other same =
 owned_not : (script : ScriptData) (c : Carried) (who : Actor) (s : ℕ) (e : Event) → OwnTurn script c who e → same_actor who (Session s) ≡ false → IsNotOf s e
 owned_not script c who s e own other = not_of s (clocks_of script c.played) own.line.actor own.line.verb own.seat.point (view_of c.played.state own.line.actor) e (λ same. not_same who s other (sym own.own ∙ same)) own.next
 
-other_event : (script : ScriptData) (c : Carried) (t : Turn) (s : ℕ) (e : Event) → event_of script c t ≡ Some e → is_own s t ≡ false → IsNotOf s e
+pub other_event : (script : ScriptData) (c : Carried) (t : Turn) (s : ℕ) (e : Event) → event_of script c t ≡ Some e → is_own s t ≡ false → IsNotOf s e
 other_event script c (turn.Own who) s e is other = owned_not script c who s e (own_turn script c who e is) other
 other_event script c (turn.Accept node session) s e is other = (stage_turn script c (turn.Accept node session) e (λ own. own) is).of_none s
 other_event script c (turn.Decide node session) s e is other = (stage_turn script c (turn.Decide node session) e (λ own. own) is).of_none s
@@ -45,7 +45,7 @@ pub read_left_by_event : (script : ScriptData) (c : Carried) (t : Turn) (s start
 read_left_by_event script c t s start key r e known is other k =
     record {
       client = k.client;
-      session_is = client_stays c.played.state c.played.items s k.client (known_stands script c known) k.session_is k.in_work e (fate_of script c.played e) (other_event script c t s e is other) ∙ k.session_is;
+      session_is = client_stays c.played.state c.played.items s k.client (known_stands script c known) k.session_is (inl k.in_work) e (fate_of script c.played e) (other_event script c t s e is other) ∙ k.session_is;
       in_work = k.in_work;
       under_way = k.under_way;
       key_is = k.key_is;

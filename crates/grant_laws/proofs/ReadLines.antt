@@ -26,7 +26,7 @@ use Rattle.machine.specs.declared.event.Event.{Event}
 use Rattle.machine.specs.declared.event.Event.TheVariants as event
 use Rattle.machine.specs.Machine.{Step, step_by as step_of_effect, with_client, at_client, asks, asks_at_client}
 use Rattle.machine.specs.Events.Fetch.{client_recalled, client_put_fresh, read_items, found_of}
-use Rattle.machine.specs.Events.Step.{step_recall, StepParts, stepped_on, work_by, next_of, read_by, step_at, step_by, step_on, store_asked, step_asks_by, step_asks}
+use Rattle.machine.specs.Events.Step.{step_recall, StepParts, stepped_on, work_by, next_of, read_by, step_at, step_due, step_by, step_on, store_asked, asked_next, step_asks_by, step_asks}
 use Rattle.script_data.specs.declared.line.Line.{Line}
 use Rattle.script_data.specs.declared.line.Verb.{Verb}
 use Rattle.script_data.specs.declared.line.Verb.TheVariants as verb
@@ -37,6 +37,7 @@ use Rattle.line_steps.specs.declared.point.Point.TheVariants.{Reads}
 use Rattle.line_steps.specs.Halts.{halt_of, follows}
 use Rattle.line_steps.specs.Next.{read_next}
 use Rattle.line_steps.specs.Runs.{Calls, Played, one_more, calls_after, fate_by, fate_of, step_of, played, Run, run_after, next_in}
+use Rattle.line_steps.proofs.Stepping.{unhanded}
 use Rattle.line_steps.proofs.ReadLines.{OfRead, told_recalls}
 use Rattle.grant_laws.specs.Granted.{line_of, Appends, next_fate}
 use Rattle.grant_laws.proofs.LongerRuns.{in_one, in_last, appended_before, Leads, leads_on, leads_one, leads_to, run_at}
@@ -59,6 +60,7 @@ step_effect : (s : ℕ) (fate : Fate) (c : Client) (r : Reading) (rows : List Ro
 step_effect s fate c r rows pairs in_work under_way works =
     ap (λ (state : SessionState). step_by s fate c rows pairs (step_refusal state (is_reading c))) in_work
     ∙ ap (λ (work : UnderWay). step_by s fate c rows pairs (step_refusal phase.Open (is_reading_by work))) under_way
+    ∙ ap (λ (due : Option (ℕ × ℕ)). step_due s fate c rows pairs due) (unhanded c phase.Open in_work refl)
     ∙ ap (λ (state : SessionState). step_at s fate c rows pairs (work_by state c.entry c.under_way)) in_work
     ∙ ap (λ (work : UnderWay). step_at s fate c rows pairs work) under_way
     ∙ ap (λ (f : Fate). step_at s f c rows pairs (UnderRead r)) works
@@ -67,6 +69,7 @@ step_asked : (c : Client) (r : Reading) → c.entry.state ≡ phase.Open → c.u
 step_asked c r in_work under_way =
     ap (λ (state : SessionState). step_asks_by c (step_refusal state (is_reading c))) in_work
     ∙ ap (λ (work : UnderWay). step_asks_by c (step_refusal phase.Open (is_reading_by work))) under_way
+    ∙ ap (λ (due : Option (ℕ × ℕ)). asked_next c due) (unhanded c phase.Open in_work refl)
     ∙ ap (λ (state : SessionState). store_asked (next_of (work_by state c.entry c.under_way))) in_work
     ∙ ap (λ (work : UnderWay). store_asked (next_of work)) under_way
 

@@ -1,19 +1,21 @@
 -- Lines whose request is served through to its answer, by the turns that serve it with any of others in between.
-use Rattle.std.proofs.Common.{◌≡◌, ℕ, ◌+◌, ◌<◌, Bool, cond, List, [], ◌∷◌, ◌++◌, Some, None, refl, ◌∙◌, ap, subst}
+use Rattle.std.proofs.Common.{◌≡◌, ℕ, ◌+◌, ◌<◌, Bool, true, false, cond, List, [], ◌∷◌, ◌++◌, Some, None, refl, sym, ◌∙◌, ap, subst}
 use Rattle.std.specs.Prelude.{fold}
 use Rattle.std.proofs.lemmas.Bool.{lt-leb}
+use Rattle.stamp_base.specs.SetupNumbers.{SetupNumbers}
 use Rattle.history_book.specs.Members.{◌∈◌}
 use Rattle.history_book.specs.declared.cause.Cause.TheVariants as cause
 use Rattle.history_book.specs.declared.item.Actor.TheVariants.{Session}
 use Rattle.history_book.specs.declared.item.Item.{Item}
 use Rattle.history_book.specs.declared.item.Item.TheVariants as item
 use Rattle.oracle_parts.specs.declared.buckets.Verdict.TheVariants.{Free}
+use Rattle.oracle_parts.specs.declared.instance.Progress.{Progress}
 use Rattle.oracle_parts.specs.declared.instance.Progress.TheVariants as progress
 use Rattle.oracle_parts.specs.declared.instance.Request.{Request}
 use Rattle.oracle_parts.specs.declared.instance.Request.TheVariants.{Begin, Commit}
 use Rattle.oracle_parts.specs.declared.instance.Settled.TheVariants as how
 use Rattle.oracle_parts.specs.Instance.{InstanceEntry, least_unsettled}
-use Rattle.oracle_parts.specs.InstanceSteps.{epoch_refusal}
+use Rattle.oracle_parts.specs.InstanceSteps.{drawn_as, epoch_refusal}
 use Rattle.machine.specs.declared.event.Event.TheVariants as event
 use Rattle.machine.specs.Events.Decide.{draw_item, both_verdict}
 use Rattle.script_data.specs.declared.line.Target.TheVariants as target
@@ -33,27 +35,34 @@ use Rattle.turn_rules.specs.declared.turn.Turn.TheVariants as turn
 use Rattle.turn_rules.specs.Waiting.{own_next}
 use Rattle.turn_rules.specs.Carried.{Carried, name_posted, own_ahead, turned, carried}
 use Rattle.grant_laws.specs.Granted.{reading_of}
-use Rattle.grant_laws.specs.Turns.{IsServed, Serves}
-use Rattle.grant_laws.specs.Lines.{AtNode, UpToDraw, all_up_to_draw, at_ask, at_accept, at_draw, CanServeBy, stamp_drawn, at_begin_answer, at_place, RunsGrantBegins, AsksCommit, RunsGrantCommits}
+use Rattle.grant_laws.specs.Turns.{IsServed, Serves, IsPlacing, Hands}
+use Rattle.grant_laws.specs.Lines.{AtNode, UpToDraw, with_others, all_up_to_draw, at_ask, at_accept, at_draw, CanServeBy, stamp_drawn, at_begin_answer, settling_turns, at_settle, PlacesAtNode, PlacesBySession, Settles, RunsGrantBegins, AsksCommit, RunsGrantCommits}
 use Rattle.grant_laws.proofs.AskTurns.{begin_asks, commit_asks}
 use Rattle.grant_laws.proofs.KnownTurns.{KnownTurns, known_stands, known_turned, known_on, known_carried}
 use Rattle.grant_laws.proofs.LeftRequests.{of_holder, left_served, left_waiting}
+use Rattle.grant_laws.proofs.Effects.{begin_drawn}
+use Rattle.grant_laws.proofs.LongerRuns.{in_last, in_one}
+use Rattle.grant_laws.proofs.Placings.{placing_carried, left_placing}
 use Rattle.grant_laws.proofs.LongerTurns.{turns_on, carries, still_has, has_added}
 use Rattle.grant_laws.proofs.OwnLines.{line_makes}
 use Rattle.grant_laws.proofs.ServedTurns.{Parts, parts_of}
 use Rattle.grant_laws.proofs.StageTurns.{served_by}
 use Rattle.machine.specs.State.{Client}
-use Rattle.isolation_laws.specs.Words.{ClientAt}
+use Rattle.isolation_laws.specs.Words.{InstanceAt, ClientAt}
 
 -- ---- up to the stamp
 -- after the turn and those of others
 known_after : (script : ScriptData) (c : Carried) (t : Turn) (others : List Turn) → IsPlayable script 0 script.lines → KnownTurns script c → KnownTurns script (fold (turned script) (turned script c t) others)
 known_after script c t others playable known = known_on script playable others (turned script c t) (known_turned script c t playable known)
 
+-- each instance is of the script's form
+of_form : (script : ScriptData) (c : Carried) (node : ℕ) (i : InstanceEntry) → KnownTurns script c → InstanceAt c.played.state.nodes node i → i.direct ≡ script.setup.direct
+of_form script c node i known at = (known_stands script c known).holds.memory.form.direct node i at ∙ ap (λ (setup : SetupNumbers). setup.direct) known.facts.reached.setup
+
 -- the request has its stamp
 record HasDrawn (script : ScriptData) (s node : ℕ) (u : UpToDraw) (request : Request) (stamp : ℕ) : Type 0 where
   known : KnownTurns script (at_draw script s node u)
-  served : IsServed (turned script (at_draw script s node u) (turn.Decide node s)).played node s request (progress.Drawn stamp)
+  served : IsServed (turned script (at_draw script s node u) (turn.Decide node s)).played node s request (drawn_as script.setup.direct request stamp)
 
 draws_through : (script : ScriptData) (s node : ℕ) (u : UpToDraw) (request : Request) → IsPlayable script 0 script.lines → KnownTurns script (at_ask script u) → IsServed (turned script (at_ask script u) (turn.Own (Session s))).played node s request progress.Asked → (serving : CanServeBy script s node u) → AtNode (at_accept script s u).played node (λ i. epoch_refusal i request ≡ None) → ((client : Client) → ClientAt (at_draw script s node u).played.state.clients s client → AtNode (at_draw script s node u).played node (λ i. both_verdict i.buckets client.reads request ≡ Free)) → HasDrawn script s node u request (stamp_drawn serving)
 draws_through script s node u request playable known asked serving above no_conflict =
@@ -69,11 +78,13 @@ draws_through script s node u request playable known asked serving above no_conf
     let parts : Parts d.played node s request progress.Accepted waits = parts_of d.played node s request progress.Accepted waits (known_stands script d known_d) in
     let clear : both_verdict waits.oracle.buckets parts.client.reads request ≡ Free = of_holder d.played node s request progress.Accepted (λ i. both_verdict i.buckets parts.client.reads request ≡ Free) waits (no_conflict parts.client parts.session_is) in
     let more : waits.oracle.last < waits.oracle.ceiling = of_holder d.played node s request progress.Accepted (λ i. i.last < i.ceiling) waits serving.stamp in
-    let drew : Serves script d (turn.Decide node s) (draw_item node waits.oracle.term request (waits.oracle.last + 1)) node s request (progress.Drawn (waits.oracle.last + 1)) = (served_by script d node s request (known_stands script d known_d)).draws waits parts.client parts.session_is clear more in
+    let drew : Serves script d (turn.Decide node s) (draw_item node waits.oracle.term request (waits.oracle.last + 1)) node s request (drawn_as waits.oracle.direct request (waits.oracle.last + 1)) = (served_by script d node s request (known_stands script d known_d)).draws waits parts.client parts.session_is clear more in
     let same : waits.oracle ≡ serving.stamp.oracle = one_instance d.played.state.nodes node waits.oracle serving.stamp.oracle waits.node_has serving.stamp.node_has in
+    let form : waits.oracle.direct ≡ script.setup.direct = of_form script d node waits.oracle known_d waits.node_has in
+    let served : IsServed (turned script d (turn.Decide node s)).played node s request (drawn_as script.setup.direct request (waits.oracle.last + 1)) = subst (λ (direct : Bool). IsServed (turned script d (turn.Decide node s)).played node s request (drawn_as direct request (waits.oracle.last + 1))) form drew.comes in
     record {
       known = known_d;
-      served = subst (λ (i : InstanceEntry). IsServed (turned script d (turn.Decide node s)).played node s request (progress.Drawn (i.last + 1))) same drew.comes;
+      served = subst (λ (i : InstanceEntry). IsServed (turned script d (turn.Decide node s)).played node s request (drawn_as script.setup.direct request (i.last + 1))) same served;
     }
 
 -- the turns up to the draw, and the rest
@@ -100,7 +111,8 @@ runs_grant_begins script s node u drawn later in_range playable ahead can =
     let known_d : KnownTurns script d = known_turned script (at_draw script s node u) (turn.Decide node s) playable drew.known in
     let f : Carried = at_begin_answer script s node u drawn in
     let known_f : KnownTurns script f = known_on script playable drawn d known_d in
-    let waits : IsServed f.played node s request (progress.Drawn start) = left_waiting script playable node s start drawn d known_d can.until_answered drew.served in
+    let drew_start : IsServed d.played node s request (progress.Drawn start) = subst (λ (at : Progress). IsServed d.played node s request at) (begin_drawn script.setup.direct s start) drew.served in
+    let waits : IsServed f.played node s request (progress.Drawn start) = left_waiting script playable node s start drawn d known_d can.until_answered drew_start in
     let settled : least_unsettled waits.oracle.requests start ≡ None = of_holder f.played node s request (progress.Drawn start) (λ i. least_unsettled i.requests start ≡ None) waits can.settled in
     let x : Item = item.Begin s start in
     let has : x ∈ (turned script f (turn.Answer node s)).played.items = has_added script f (turn.Answer node s) x ((served_by script f node s request (known_stands script f known_f)).begins start refl waits settled) in
@@ -117,8 +129,36 @@ asks_commit clocks posted unawaited view s node (verb.Commit to) asks = ap (λ (
 asks_commit clocks posted unawaited view s node (verb.Submit to) asks = ap (λ (n : ℕ). Makes (event.AskCommit s n)) asks
 asks_commit clocks posted unawaited view s node _ asks = absurd asks
 
+-- the node places it, and answers
+placed_by_node : (script : ScriptData) → IsPlayable script 0 script.lines → (s node start commit : ℕ) (keys : List ℕ) (f : Carried) (placed : List Turn) → KnownTurns script f → IsServed f.played node s (Commit s start keys) (progress.Drawn commit) → PlacesAtNode script s node start f placed → item.Committed s start commit ∈ (turned script (with_others script f (turn.Put node s) placed) (turn.Answer node s)).played.items
+placed_by_node script playable s node start commit keys f placed known_f waits can =
+    let request : Request = Commit s start keys in
+    let places : Serves script f (turn.Put node s) (item.Placed start commit) node s request (progress.Settled commit how.Placed) = (served_by script f node s request (known_stands script f known_f)).places start commit keys refl waits can.unmarked can.placing in
+    let g : Carried = turned script f (turn.Put node s) in
+    let h : Carried = fold (turned script) g placed in
+    let known_h : KnownTurns script h = known_after script f (turn.Put node s) placed playable known_f in
+    let stays : IsServed h.played node s request (progress.Settled commit how.Placed) = left_served script node s request (progress.Settled commit how.Placed) placed g can.until_answered places.comes in
+    has_added script h (turn.Answer node s) (item.Committed s start commit) ((served_by script h node s request (known_stands script h known_h)).commits start commit keys refl stays)
+
+-- or hands it to its session, which places it
+placed_by_session : (script : ScriptData) → IsPlayable script 0 script.lines → (s node start commit : ℕ) (keys : List ℕ) (f : Carried) (handed : List Turn) → KnownTurns script f → IsServed f.played node s (Commit s start keys) (progress.Handed commit) → PlacesBySession script s node start f handed → item.Committed s start commit ∈ (turned script (with_others script f (turn.Answer node s) handed) (turn.Own (Session s))).played.items
+placed_by_session script playable s node start commit keys f handed known_f waits can =
+    let request : Request = Commit s start keys in
+    let hands : Hands script f node s start commit = (served_by script f node s request (known_stands script f known_f)).hands start commit keys refl waits can.client can.session_is can.waits in
+    let g : Carried = turned script f (turn.Answer node s) in
+    let h : Carried = fold (turned script) g handed in
+    let known_h : KnownTurns script h = known_after script f (turn.Answer node s) handed playable known_f in
+    let stays : IsPlacing h.played s start commit = left_placing script playable s start commit handed g (known_turned script f (turn.Answer node s) playable known_f) can.until_placed hands.comes in
+    let x : Item = item.Committed s start commit in
+    let tells : (turned script h (turn.Own (Session s))).played.items ≡ h.played.items ++ item.Placed start commit ∷ x ∷ [] = placing_carried script h s start commit (known_stands script h known_h) can.steps stays can.unmarked can.placing in
+    subst (λ (items : List Item). x ∈ items) (sym tells) (in_last x h.played.items (item.Placed start commit ∷ x ∷ []) (in_last x (item.Placed start commit ∷ []) (x ∷ []) (in_one x)))
+
+settles_so : (script : ScriptData) → IsPlayable script 0 script.lines → (direct : Bool) (s node start commit : ℕ) (keys : List ℕ) (f : Carried) (between : List Turn) → KnownTurns script f → IsServed f.played node s (Commit s start keys) (drawn_as direct (Commit s start keys) commit) → Settles direct script s node start f between → item.Committed s start commit ∈ (turned script (with_others script f (settling_turns direct s node).0 between) (settling_turns direct s node).1).played.items
+settles_so script playable false s node start commit keys f between known waits can = placed_by_node script playable s node start commit keys f between known waits can
+settles_so script playable true s node start commit keys f between known waits can = placed_by_session script playable s node start commit keys f between known waits can
+
 pub runs_grant_commits : RunsGrantCommits
-runs_grant_commits script s node line u drawn placed later in_range playable ahead asks can =
+runs_grant_commits script s node line u drawn between later in_range playable ahead asks can =
     let c : Carried = at_ask script u in
     let start : ℕ = can.work.start in
     let keys : List ℕ = can.work.client.entry.keys in
@@ -137,17 +177,15 @@ runs_grant_commits script s node line u drawn placed later in_range playable ahe
     let drew : HasDrawn script s node u request commit = draws_through script s node u request playable known asked.comes can.serving above clear in
     let d : Carried = turned script (at_draw script s node u) (turn.Decide node s) in
     let known_d : KnownTurns script d = known_turned script (at_draw script s node u) (turn.Decide node s) playable drew.known in
-    let f : Carried = at_place script s node u drawn in
+    let f : Carried = at_settle script s node u drawn in
     let known_f : KnownTurns script f = known_on script playable drawn d known_d in
-    let waits : IsServed f.played node s request (progress.Drawn commit) = left_served script node s request (progress.Drawn commit) drawn d can.until_placed drew.served in
-    let places : Serves script f (turn.Put node s) (item.Placed start commit) node s request (progress.Settled commit how.Placed) = (served_by script f node s request (known_stands script f known_f)).places start commit keys refl waits can.unmarked can.placing in
-    let g : Carried = turned script f (turn.Put node s) in
-    let known_g : KnownTurns script g = known_turned script f (turn.Put node s) playable known_f in
-    let h : Carried = fold (turned script) g placed in
-    let stays : IsServed h.played node s request (progress.Settled commit how.Placed) = left_served script node s request (progress.Settled commit how.Placed) placed g can.until_answered places.comes in
+    let stamped : Progress = drawn_as script.setup.direct request commit in
+    let waits : IsServed f.played node s request stamped = left_served script node s request stamped drawn d can.until_settled drew.served in
+    let settling : Turn × Turn = settling_turns script.setup.direct s node in
+    let h : Carried = with_others script f settling.0 between in
     let x : Item = item.Committed s start commit in
-    let has : x ∈ (turned script h (turn.Answer node s)).played.items = has_added script h (turn.Answer node s) x ((served_by script h node s request (known_stands script h (known_on script playable placed g known_g))).commits start commit keys refl stays) in
-    let rest : List Turn = placed ++ turn.Answer node s ∷ later in
-    carries script (all_up_to_draw s node u (drawn ++ turn.Put node s ∷ rest)) (fold (turned script) (turned script h (turn.Answer node s)) later) x
-    (turns_to_draw script s node u (drawn ++ turn.Put node s ∷ rest) ∙ turns_on script d drawn (turn.Put node s ∷ rest) ∙ turns_on script g placed (turn.Answer node s ∷ later))
-    (still_has script later (turned script h (turn.Answer node s)) x has)
+    let has : x ∈ (turned script h settling.1).played.items = settles_so script playable script.setup.direct s node start commit keys f between known_f waits can.settles in
+    let rest : List Turn = between ++ settling.1 ∷ later in
+    carries script (all_up_to_draw s node u (drawn ++ settling.0 ∷ rest)) (fold (turned script) (turned script h settling.1) later) x
+    (turns_to_draw script s node u (drawn ++ settling.0 ∷ rest) ∙ turns_on script d drawn (settling.0 ∷ rest) ∙ turns_on script (turned script f settling.0) between (settling.1 ∷ later))
+    (still_has script later (turned script h settling.1) x has)

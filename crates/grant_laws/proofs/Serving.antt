@@ -88,7 +88,8 @@ pub record Drew (script : ScriptData) (line : Line) (node s most : ℕ) (p : Pla
   pub told : Bool
   pub leads : Leads script line steps (run_at Drives p) (run_at Drives next)
   pub at : IsAt script node s next spot
-  pub requests : spot.oracle.requests ≡ slice_set x.oracle.requests s (Some (with_stamp request told (x.oracle.last + 1)))
+  pub requests : spot.oracle.requests ≡ slice_set x.oracle.requests s (Some (with_stamp x.oracle.direct request told (x.oracle.last + 1)))
+  pub client : spot.client ≡ x.client
   pub pairs : spot.pairs ≡ x.pairs
   pub table : spot.calls.table ≡ x.calls.table
   pub longer : Longer x.items spot.items
@@ -110,6 +111,7 @@ draw_now script number node s verb p x request told to_answer k has no_conflict 
       leads = serves_on script number node s verb p x y (waiting request told) None Drives to_answer k has made refl;
       at = leads_there script node s p x (event.Decide node s) y None k made;
       requests = refl;
+      client = refl;
       pairs = refl;
       table = refl;
       longer = record { added = items; is = refl };

@@ -9,7 +9,7 @@ use Rattle.oracle_parts.specs.declared.instance.Progress.TheVariants as progress
 use Rattle.oracle_parts.specs.declared.instance.Request.{Request}
 use Rattle.oracle_parts.specs.declared.instance.Request.TheVariants.{Begin, Commit}
 use Rattle.oracle_parts.specs.Instance.{InstanceEntry, held_of, with_request}
-use Rattle.oracle_parts.specs.InstanceSteps.{just_asked}
+use Rattle.oracle_parts.specs.InstanceSteps.{drawn_as, just_asked}
 use Rattle.oracle_parts.proofs.InstanceRequests.{held_of-instance_new}
 use Rattle.machine.specs.State.{State}
 use Rattle.machine.specs.declared.event.Event.{Event}
@@ -22,7 +22,7 @@ use Rattle.isolation_laws.proofs.Lookups.{instance_changed, instance_ended, held
 use Rattle.isolation_laws.proofs.Inversions.InversionSound.{none_at}
 use Rattle.isolation_laws.proofs.Outcome.OutcomesOfRecord.{AlikeNodes, Granted, granted_nodes, Renewed, renewed_nodes, Extended, extended_nodes}
 use Rattle.isolation_laws.proofs.Outcome.OutcomesOfStamps.{AtDrawn, settled_nodes}
-use Rattle.isolation_laws.proofs.Outcome.Outcomes.{Outcome, OfStill, OfGranted, OfRenewed, OfExtended, OfCrashed, OfAskedBegin, OfAskedCommit, OfAccepted, OfEnded, OfDrew, OfPlaced, OfNotPlaced, OfAnsweredBegin, OfAnsweredCommit, OfEndedReadOnly, OfWrote, OfWriteFailed, OfAborted, OfVanished, OfHealed, OfFetched, OfReadDropped, OfReadStepped, OfOutcome, OfOutcomeFailed, OfCompleted, OfSweepOpened, OfSwept, OfSweepListed, OfSweepFailed, left_by}
+use Rattle.isolation_laws.proofs.Outcome.Outcomes.{Outcome, OfStill, OfGranted, OfRenewed, OfExtended, OfCrashed, OfAskedBegin, OfAskedCommit, OfAccepted, OfEnded, OfDrew, OfPlaced, OfNotPlaced, OfAnsweredBegin, OfAnsweredCommit, OfHanded, OfOwnPlaced, OfOwnNotPlaced, OfEndedReadOnly, OfWrote, OfWriteFailed, OfAborted, OfVanished, OfHealed, OfFetched, OfReadDropped, OfReadStepped, OfOutcome, OfOutcomeFailed, OfCompleted, OfSweepOpened, OfSwept, OfSweepListed, OfSweepFailed, left_by}
 use Rattle.isolation_laws.proofs.AlwaysHolds.{each_outcome}
 use Rattle.line_steps.specs.Laws.{IsPlayable}
 use Rattle.line_steps.specs.Runs.{fate_of, clocks_of}
@@ -36,9 +36,10 @@ use Rattle.turn_rules.proofs.OwnTurns.{OwnTurn, own_turn, stage_turn}
 use Rattle.turn_rules.specs.Carried.{Carried, event_of, all_passed, turned_by, turned, at_first, carried}
 use Rattle.turn_rules.proofs.Facts.{Facts, facts_turned, facts_at_first}
 
--- a begin is never settled
+-- a begin is never settled, nor handed over to be placed
 abbrev pub MaySettle : Request → Progress → Type 0
 MaySettle (Begin s) (progress.Settled commit how) = ⊥
+MaySettle (Begin s) (progress.Handed commit) = ⊥
 MaySettle request p = Unit {0}
 
 abbrev pub Fits : Held → Type 0
@@ -73,19 +74,22 @@ asked_fits : (request : Request) → Fits (just_asked request)
 asked_fits (Begin s) = tt
 asked_fits (Commit s start keys) = tt
 
-moved_fits : (request : Request) (p : Progress) → ((commit : ℕ) (how : Rattle.oracle_parts.specs.declared.instance.Settled.Settled) → p ≡ progress.Settled commit how → ⊥) → MaySettle request p
-moved_fits (Begin s) progress.Asked open_still = tt
-moved_fits (Begin s) progress.Accepted open_still = tt
-moved_fits (Begin s) (progress.Drawn stamp) open_still = tt
-moved_fits (Begin s) (progress.Settled commit how) open_still = open_still commit how refl
-moved_fits (Commit s start keys) p open_still = tt
+accepted_fits : (request : Request) → MaySettle request progress.Accepted
+accepted_fits (Begin s) = tt
+accepted_fits (Commit s start keys) = tt
+
+drawn_fits : (direct : Bool) (request : Request) (stamp : ℕ) → MaySettle request (drawn_as direct request stamp)
+drawn_fits true (Begin s) stamp = tt
+drawn_fits true (Commit s start keys) stamp = tt
+drawn_fits false (Begin s) stamp = tt
+drawn_fits false (Commit s start keys) stamp = tt
 
 commit_fits : (request : Request) (p : Progress) (s start : ℕ) (keys : List ℕ) → request ≡ Commit s start keys → MaySettle request p
 commit_fits request p s start keys is = subst (λ (q : Request). MaySettle q p) (sym is) tt
 
 granted_fits : (w : State) (k : Granted w) (failed : Bool) → AllFit w.nodes → AllFit (granted_nodes w k failed)
 granted_fits w k true all = all
-granted_fits w k false all = by_node w.nodes k.node (instance_of w.setup k.node (granted (rules_of w.setup) w.master k.reading)) all (λ s held has. absurd (none-some held (sym (held_of-instance_new (granted (rules_of w.setup) w.master k.reading) k.node w.setup.buckets w.setup.width w.setup.slots w.setup.direct s) ∙ has)))
+granted_fits w k false all = by_node w.nodes k.node (instance_of w.setup k.node (granted (rules_of w.setup) w.master k.reading)) all (λ s held has. absurd (none-some held (sym (held_of-instance_new (granted (rules_of w.setup) w.master k.reading) k.node w.setup.buckets w.setup.width w.setup.slots s w.setup.direct) ∙ has)))
 
 renewed_fits : (w : State) (k : Renewed w) (failed : Bool) → AllFit w.nodes → AllFit (renewed_nodes w k failed)
 renewed_fits w k true all = all
@@ -116,13 +120,18 @@ fits_by w (OfExtended k) all = extended_fits w k k.failed all
 fits_by w (OfCrashed k) all = λ n s i held at has. all n s i held (instance_ended w.nodes k.node n i at).1 has
 fits_by w (OfAskedBegin k) all = by_request w.nodes k.node k.session k.i _ (Some (just_asked (Begin k.session))) all k.at refl (λ held is. new_fits (just_asked (Begin k.session)) held tt is)
 fits_by w (OfAskedCommit k) all = by_request w.nodes k.node k.session k.i _ (Some (just_asked (Commit k.session k.start k.c.entry.keys))) all k.at refl (λ held is. new_fits (just_asked (Commit k.session k.start k.c.entry.keys)) held tt is)
-fits_by w (OfAccepted k) all = by_request w.nodes k.node k.session k.i _ (Some (record k.held { progress = progress.Accepted })) all k.at refl (λ held is. new_fits (record k.held { progress = progress.Accepted }) held (moved_fits k.held.request progress.Accepted (λ commit how clash. cc)) is)
+fits_by w (OfAccepted k) all = by_request w.nodes k.node k.session k.i _ (Some (record k.held { progress = progress.Accepted })) all k.at refl (λ held is. new_fits (record k.held { progress = progress.Accepted }) held (accepted_fits k.held.request) is)
 fits_by w (OfEnded k) all = over_fits w k.node k.session k.i k.at all
-fits_by w (OfDrew k) all = by_request w.nodes k.node k.session k.i _ (Some (record k.held { progress = progress.Drawn (k.i.last + 1) })) all k.at refl (λ held is. new_fits (record k.held { progress = progress.Drawn (k.i.last + 1) }) held (moved_fits k.held.request (progress.Drawn (k.i.last + 1)) (λ commit how clash. cc)) is)
+fits_by w (OfDrew k) all =
+    let now : Held = record k.held { progress = drawn_as k.i.direct k.held.request (k.i.last + 1) } in
+    by_request w.nodes k.node k.session k.i _ (Some now) all k.at refl (λ held is. new_fits now held (drawn_fits k.i.direct k.held.request (k.i.last + 1)) is)
 fits_by w (OfPlaced k) all = settled_fits w k.it k.by all
 fits_by w (OfNotPlaced k) all = settled_fits w k.it k.by all
 fits_by w (OfAnsweredBegin k) all = over_fits w k.node k.session k.i k.at all
 fits_by w (OfAnsweredCommit k) all = over_fits w k.node k.session k.i k.at all
+fits_by w (OfHanded k) all = over_fits w k.node k.session k.i k.at all
+fits_by w (OfOwnPlaced k) all = all
+fits_by w (OfOwnNotPlaced k) all = all
 fits_by w (OfEndedReadOnly k) all = all
 fits_by w (OfWrote k) all = all
 fits_by w (OfWriteFailed k) all = all

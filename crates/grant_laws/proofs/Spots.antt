@@ -117,6 +117,22 @@ holder_is_from k (post ∷ posts) (suc node) s i held at has alone =
 pub holder_is : (script : ScriptData) (node s : ℕ) (p : Played) (x : Spot) (held : Held) → IsAt script node s p x → held_of x.oracle s ≡ Some held → holder_of p.state s ≡ Some (node, held)
 holder_is script node s p x held k has = holder_is_from 0 p.state.nodes node s x.oracle held k.node_has has k.alone ∙ ap (λ (n : ℕ). Some (n, held)) (omega arith)
 
+-- and where the node holds none, nobody does
+holder_none_from : (k : ℕ) (nodes : List (Option InstanceEntry)) (s : ℕ) → ((m : ℕ) (j : InstanceEntry) → InstanceAt nodes m j → held_of j s ≡ None) → holder_from k nodes s ≡ None
+unfolding holder_from
+holder_none_from k [] s each = refl
+holder_none_from k (post ∷ posts) s each =
+    ap (λ (found : Option Held). first_holder k found (holder_from (k + 1) posts s)) (not_here post s (λ j is. each zero j (ap (λ (at : Option InstanceEntry). Some at) is)))
+    ∙ holder_none_from (k + 1) posts s (λ m j there. each (suc m) j there)
+
+pub holder_none : (script : ScriptData) (node s : ℕ) (p : Played) (x : Spot) (e : Event) (y : Spot) (stop : Option Stop) → IsAt script node s p x → Makes script node s p e y stop → held_of y.oracle s ≡ None → holder_of (played script p e).state s ≡ None
+holder_none script node s p x e y stop k made none =
+    let nodes : (step_of script p e).state.nodes ≡ slice_set p.state.nodes node (Some y.oracle) = ap (λ (step : Step). step.state.nodes) made.is ∙ made.nodes in
+    ap (λ (ns : List (Option InstanceEntry)). holder_from 0 ns s) nodes ∙ holder_none_from 0 (slice_set p.state.nodes node (Some y.oracle)) s (λ m j at. elim (instance_changed p.state.nodes node m y.oracle j at) [
+      | inl here ↦ subst (λ (i : InstanceEntry). held_of i s ≡ None) (sym here.1) none
+      | inr there ↦ k.alone m j there.0 there.1
+    ])
+
 -- the line serves it next, from where it stands
 pub serves_next : (script : ScriptData) (number node s : ℕ) (verb : Verb) (p : Played) (x : Spot) (held : Held) → ((at : Place) → is_served verb at ≡ true) → IsAt script node s p x → held_of x.oracle s ≡ Some held → next_in script (line_of number (Session s) verb) (run_at Drives p) ≡ Some (serves (clocks_of script p) s node (is_commit held.request) (place_of_progress held.progress))
 serves_next script number node s verb p x held to_answer k has =

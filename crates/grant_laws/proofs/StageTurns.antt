@@ -1,5 +1,5 @@
 -- The stages' turns, each under its premises.
-use Rattle.std.proofs.Common.{◌≡◌, ◌≢◌, ℕ, ◌+◌, ◌<◌, Bool, cond, List, [], ◌∷◌, Option, Some, None, refl, sym, ◌∙◌, ap, subst, arith}
+use Rattle.std.proofs.Common.{◌≡◌, ◌≢◌, ℕ, ◌+◌, ◌<◌, Bool, cond, List, [], ◌∷◌, Option, Some, None, refl, sym, ◌∙◌, ap, subst, inl, inr, arith}
 use Rattle.std.proofs.lemmas.Bool.{lt-ltb}
 use Rattle.stamp_base.specs.declared.stores.Store.{Store}
 use Rattle.stamp_base.specs.declared.stores.Store.TheVariants.{Table, Master}
@@ -7,8 +7,11 @@ use Rattle.stamp_base.specs.declared.stores.Mark.TheVariants.{Committed as Commi
 use Rattle.stamp_base.specs.SetupNumbers.{SetupNumbers}
 use Rattle.port_io.specs.declared.weather.Fate.TheVariants.{Works}
 use Rattle.history_book.specs.declared.cause.Cause.TheVariants as cause
+use Rattle.history_book.specs.declared.item.Actor.TheVariants.{Session}
 use Rattle.history_book.specs.declared.item.Item.{Item}
 use Rattle.history_book.specs.declared.item.Item.TheVariants as item
+use Rattle.history_book.specs.declared.item.StoreStep.TheVariants.{Handed}
+use Rattle.client_parts.specs.declared.session.State.TheVariants as phase
 use Rattle.store_parts.specs.Pairs.{Pairs, mark_of, put_pair}
 use Rattle.store_parts.specs.Record.{MasterRecord}
 use Rattle.oracle_parts.specs.declared.buckets.Verdict.TheVariants.{Free}
@@ -19,10 +22,11 @@ use Rattle.oracle_parts.specs.declared.instance.Request.{Request}
 use Rattle.oracle_parts.specs.declared.instance.Request.TheVariants.{Commit}
 use Rattle.oracle_parts.specs.declared.instance.Settled.TheVariants as how
 use Rattle.oracle_parts.specs.Instance.{InstanceEntry}
-use Rattle.oracle_parts.specs.InstanceSteps.{moved, accept_refusal, epoch_refusal, decide_drawn}
+use Rattle.oracle_parts.specs.InstanceSteps.{moved, drawn_as, without_request, accept_refusal, epoch_refusal, decide_drawn}
 use Rattle.oracle_parts.proofs.InstanceRequests.{held_of-with_request_same}
 use Rattle.machine.specs.State.{Client, State}
 use Rattle.machine.specs.Effect.{Effect, done}
+use Rattle.machine.specs.Clients.{client_handed}
 use Rattle.machine.specs.declared.event.Event.{Event}
 use Rattle.machine.specs.declared.event.Event.TheVariants as event
 use Rattle.machine.specs.Machine.{Step, step_by, with_post, with_reading, at_post, asks, asks_at_post}
@@ -33,15 +37,17 @@ use Rattle.machine.specs.Events.Answer.{answer_on}
 use Rattle.machine.specs.Events.Extend.{extend_on, extend_asks}
 use Rattle.script_data.specs.Data.{ScriptData}
 use Rattle.isolation_laws.specs.Words.{InstanceAt, ClientAt, Marked}
+use Rattle.isolation_laws.specs.Requests.{WaitsFor}
 use Rattle.isolation_laws.specs.Sound.{Stands}
 use Rattle.isolation_laws.proofs.Lookups.{set_found, one_client}
+use Rattle.line_steps.proofs.Serving.{node_step, on_both}
 use Rattle.line_steps.specs.Runs.{fate_by, fate_of, step_of, played}
 use Rattle.turn_rules.specs.declared.turn.Turn.TheVariants as turn
 use Rattle.turn_rules.specs.Carried.{Carried, carried}
 use Rattle.turn_rules.specs.Laws.{TurnsKeepFacts}
 use Rattle.grant_laws.specs.Granted.{reading_of, next_fate}
-use Rattle.grant_laws.specs.Turns.{Adds, IsServed, Serves, ServedAreGranted, ServedTurnsAreGranted, ExtensionsAreCarried}
-use Rattle.grant_laws.proofs.Effects.{widens}
+use Rattle.grant_laws.specs.Turns.{Adds, IsServed, Serves, Hands, ServedAreGranted, ServedTurnsAreGranted, ExtensionsAreCarried}
+use Rattle.grant_laws.proofs.Effects.{widens, commit_handed}
 use Rattle.grant_laws.proofs.OwnCarried.{turn_adds}
 use Rattle.grant_laws.proofs.ServedTurns.{Parts, parts_of, served_so, by_request, tells_by, accepts_so, draws_so, commit_answers, begin_answers, unplaced_by, places_so}
 
@@ -66,7 +72,7 @@ accepts script c node s request stands k leased above =
     by_request script c (turn.Accept node s) e x node s seen request progress.Asked progress.Accepted (accept_on node s reading) now k parts refl (turn_adds script c (turn.Accept node s) e x refl tells) refl effect refl
 
 draws : (script : ScriptData) (c : Carried) (node s : ℕ) (request : Request) → Stands c.played.state c.played.items → (k : IsServed c.played node s request progress.Accepted) → (client : Client) → ClientAt c.played.state.clients s client → both_verdict k.oracle.buckets client.reads request ≡ Free → k.oracle.last < k.oracle.ceiling →
-    Serves script c (turn.Decide node s) (draw_item node k.oracle.term request (k.oracle.last + 1)) node s request (progress.Drawn (k.oracle.last + 1))
+    Serves script c (turn.Decide node s) (draw_item node k.oracle.term request (k.oracle.last + 1)) node s request (drawn_as k.oracle.direct request (k.oracle.last + 1))
 draws script c node s request stands k client session_is no_conflict left =
     let e : Event = event.Decide node s in
     let i : InstanceEntry = k.oracle in
@@ -82,7 +88,7 @@ draws script c node s request stands k client session_is no_conflict left =
     let effect : decide_on node s (Some i) parts.client ≡ done (Some now, parts.client) (x ∷ []) =
     draws_so node s i parts.client held k.held.has k.held.stands free more ∙ ap (λ (asked : Request). done (Some now, parts.client) (draw_item node i.term asked stamp ∷ [])) k.held.asks in
     let tells : (step_of script c.played e).items ≡ x ∷ [] = tells_by script c e node s c.played.state.seen request progress.Accepted (decide_on node s) (x ∷ []) k parts refl (ap (λ (it : Effect (Option InstanceEntry × Client)). it.items) effect) in
-    by_request script c (turn.Decide node s) e x node s c.played.state.seen request progress.Accepted (progress.Drawn stamp) (decide_on node s) now k parts refl (turn_adds script c (turn.Decide node s) e x refl tells) refl effect refl
+    by_request script c (turn.Decide node s) e x node s c.played.state.seen request progress.Accepted (drawn_as i.direct request stamp) (decide_on node s) now k parts refl (turn_adds script c (turn.Decide node s) e x refl tells) refl effect (ap (λ (asked : Request). (moved i s held (drawn_as i.direct asked stamp)).requests) k.held.asks)
 
 -- ---- the turn of the persist stage
 commit_placed : (script : ScriptData) (c : Carried) (node s start commit : ℕ) (keys : List ℕ) → Stands c.played.state c.played.items → (k : IsServed c.played node s (Commit s start keys) (progress.Drawn commit)) → (Marked c.played.state.pairs start → ⊥) → next_fate script c.played Table ≡ Works →
@@ -125,12 +131,44 @@ answers script c node s request at x k stands tells =
     let parts : Parts c.played node s request at k = parts_of c.played node s request at k stands in
     turn_adds script c (turn.Answer node s) e x refl (tells_by script c e node s c.played.state.seen request at (answer_on node s) (x ∷ []) k parts refl (tells parts.client))
 
+-- a commit is handed to its session, which waits for it
+waiting_start : (s start : ℕ) (keys : List ℕ) (client : Client) → client.entry.state ≡ phase.Committing → WaitsFor (Commit s start keys) client → client.entry.start ≡ Some start
+waiting_start s start keys client waits (inl gone) = let clash : phase.Committing ≡ phase.Gone = sym waits ∙ gone in absurd (cc)
+waiting_start s start keys client waits (inr (committing, start_is)) = start_is
+
+commit_hands : (script : ScriptData) (c : Carried) (node s start commit : ℕ) (keys : List ℕ) → Stands c.played.state c.played.items → (k : IsServed c.played node s (Commit s start keys) (progress.Handed commit)) → (client : Client) → ClientAt c.played.state.clients s client → client.entry.state ≡ phase.Committing → Hands script c node s start commit
+commit_hands script c node s start commit keys stands k client session_is waits =
+    let w : State = c.played.state in
+    let e : Event = event.Answer node s in
+    let i : InstanceEntry = k.oracle in
+    let x : Item = item.Step (Session s) (Handed start commit) in
+    let asked = stands.holds.requests.requests.waits node s i (Commit s start keys) (progress.Handed commit) k.node_has k.held in
+    let waiting : WaitsFor (Commit s start keys) client = subst (λ (d : Client). WaitsFor (Commit s start keys) d) (one_client w.clients s asked.0 client asked.1 session_is) asked.2 in
+    let effect : Effect (Option InstanceEntry × Client) = done (Some (without_request i s), client_handed client commit) (x ∷ []) in
+    let made : step_of script c.played e ≡ node_step w node s effect =
+    on_both w node s i client (answer_on node s) k.node_has session_is
+    ∙ ap (λ (it : Effect (Option InstanceEntry × Client)). node_step w node s it) (commit_handed node s start commit keys i client k.held.held k.held.has k.held.asks k.held.stands waits) in
+    record {
+      adds = turn_adds script c (turn.Answer node s) e x refl (ap (λ (step : Step). step.items) made);
+      comes = record {
+        client = client_handed client commit;
+        session_is = subst (λ (step : Step). ClientAt step.state.clients s (client_handed client commit)) (sym made) (set_found w.clients s (client_handed client commit) client session_is);
+        in_work = refl;
+        begun = waiting_start s start keys client waits waiting;
+        commit_is = refl;
+      };
+    }
+
+as_handed : (script : ScriptData) (c : Carried) (node s start commit : ℕ) (keys : List ℕ) (request : Request) → request ≡ Commit s start keys → Stands c.played.state c.played.items → IsServed c.played node s request (progress.Handed commit) → (client : Client) → ClientAt c.played.state.clients s client → client.entry.state ≡ phase.Committing → Hands script c node s start commit
+as_handed script c node s start commit keys request is stands k client session_is waits = commit_hands script c node s start commit keys stands (subst (λ (asked : Request). IsServed c.played node s asked (progress.Handed commit)) is k) client session_is waits
+
 pub served_by : (script : ScriptData) (c : Carried) (node s : ℕ) (request : Request) → Stands c.played.state c.played.items → ServedAreGranted script c node s request
 served_by script c node s request stands = record {
   accepts = λ k leased above. accepts script c node s request stands k leased above;
   draws = λ k client session_is no_conflict left. draws script c node s request stands k client session_is no_conflict left;
   places = λ start commit keys is k unmarked works. as_commit script c node s start commit keys request is stands k unmarked works;
   commits = λ start commit keys is k. answers script c node s request (progress.Settled commit how.Placed) (item.Committed s start commit) k stands (λ client. commit_answers node s start commit keys k.oracle client k.held.held k.held.has (k.held.asks ∙ is) k.held.stands);
+  hands = λ start commit keys is k client session_is waits. as_handed script c node s start commit keys request is stands k client session_is waits;
   begins = λ start is k settled. answers script c node s request (progress.Drawn start) (item.Begin s start) k stands (λ client. begin_answers node s start k.oracle client k.held.held k.held.has (k.held.asks ∙ is) k.held.stands settled);
 }
 

@@ -11,13 +11,14 @@ use Rattle.oracle_parts.specs.declared.instance.Progress.{Progress}
 use Rattle.oracle_parts.specs.declared.instance.Progress.TheVariants as progress
 use Rattle.oracle_parts.specs.declared.instance.Request.{Request}
 use Rattle.oracle_parts.specs.declared.instance.Request.TheVariants.{Begin, Commit}
-use Rattle.oracle_parts.specs.Instance.{InstanceEntry, held_of, place_of_progress, unsettled_by, least_unsettled}
+use Rattle.oracle_parts.specs.Instance.{InstanceEntry, held_of, place_of_progress, stamps_by, unsettled_by, least_unsettled}
+use Rattle.oracle_parts.specs.InstanceSteps.{answer_if_ready}
 use Rattle.machine.specs.State.{Client, State}
 use Rattle.machine.specs.Readers.{holder_of, place_held, place_of, commit_held, asks_commit, is_commit}
 use Rattle.machine.specs.declared.event.Event.{Event}
 use Rattle.machine.specs.declared.event.Event.TheVariants as event
 use Rattle.machine.specs.Machine.{Step}
-use Rattle.machine.specs.Events.Answer.{answer_on}
+use Rattle.machine.specs.Events.Answer.{answer_by, answer_on}
 use Rattle.machine.specs.Events.Decide.{decide_on}
 use Rattle.script_data.specs.Data.{ScriptData}
 use Rattle.isolation_laws.specs.Sound.{Stands}
@@ -34,7 +35,7 @@ use Rattle.turn_rules.specs.Lawful.{answered_from, LacksStamps, IsTold}
 use Rattle.grant_laws.specs.Stuck.{stage_before, IsHeld, StandsBefore}
 use Rattle.grant_laws.proofs.Spots.{holder_is_from}
 use Rattle.grant_laws.proofs.SettledCommits.{MaySettle}
-use Rattle.grant_laws.proofs.StoodBefore.{Stuck, must_be_held, the_client, decide_quiet, some_waits, answer_begin_quiet, answer_commit_tells, Unsettled, some_unsettled}
+use Rattle.grant_laws.proofs.StoodBefore.{Stuck, must_be_held, the_client, decide_quiet, some_waits, answer_begin_quiet, settled_tells, handed_tells, answer_commit_tells, Unsettled, some_unsettled}
 
 -- the session's request at the node, as it is held there
 record Standing (c : Carried) (s node : ℕ) (request : Request) (p : Progress) : Type 0 where
@@ -64,10 +65,12 @@ is_put (Begin s) progress.Asked commit is = absurd (none-some commit is)
 is_put (Begin s) progress.Accepted commit is = absurd (none-some commit is)
 is_put (Begin s) (progress.Drawn stamp) commit is = absurd (none-some commit is)
 is_put (Begin s) (progress.Settled other by) commit is = absurd (none-some commit is)
+is_put (Begin s) (progress.Handed stamp) commit is = absurd (none-some commit is)
 is_put (Commit s start keys) progress.Asked commit is = absurd (none-some commit is)
 is_put (Commit s start keys) progress.Accepted commit is = absurd (none-some commit is)
 is_put (Commit s start keys) (progress.Drawn stamp) commit is = (refl, refl)
 is_put (Commit s start keys) (progress.Settled other by) commit is = absurd (none-some commit is)
+is_put (Commit s start keys) (progress.Handed stamp) commit is = absurd (none-some commit is)
 
 none_elsewhere : (w : State) (h : List Item) (node r m : ℕ) (i j : InstanceEntry) (held : Held) (found : Option Held) → Stands w h → InstanceAt w.nodes node i → held_of i r ≡ Some held → m ≢ node → InstanceAt w.nodes m j → held_of j r ≡ found → found ≡ None
 none_elsewhere w h node r m i j held None stands at has other there is = refl
@@ -114,6 +117,15 @@ by_begin script c k s node r start is [] made =
       held = inr (record { begins = is.commit_is; drawn = refl; held = put_is_held script c k node is.i is.node_has (some_unsettled is.i.requests start least.0 least.1) });
     }
 
+-- ---- a commit whose answer is told
+by_answer : (script : ScriptData) (c : Carried) (k : Stuck script c) (s node r start commit : ℕ) (keys : List ℕ) (at : Progress) → Standing c s node (Commit r start keys) at → place_of_progress at ≡ place.Settled → stamps_by (Commit r start keys) at ≡ Some (start, Some commit) → ((i : InstanceEntry) (held : Held) (client : Client) → (answer_by node s start client i (answer_if_ready i s held (Commit r start keys) at).left (answer_if_ready i s held (Commit r start keys) at).answer).items ≡ [] → ⊥) → StandsBefore c s
+by_answer script c k s node r start commit keys at is settled stamps told =
+    let w : State = c.played.state in
+    let tells : IsTold script c.played (event.Answer node s) = λ none. answer_commit_tells node s r start (Some commit) keys at is.i is.held is.client stamps (told is.i is.held is.client) is.has is.asks is.stands (sym (ap (λ (step : Step). step.items) (on_both w node s is.i is.client (answer_on node s) is.node_has is.session_is)) ∙ none) in
+    let there : place_of w s ≡ Some (node, place.Settled) = is.place_is ∙ ap (λ (p : Place). Some (node, p)) settled in
+    let held : IsHeld c node stage.Reply = must_be_held script c k (turn.Answer node s) node stage.Reply (event.Answer node s) refl (subst (λ (it : Bool). place_of w s ≡ Some (node, answered_from it)) (sym is.commit_is) there) tells refl in
+    before_held c s node (Commit r start keys) at is (subst (λ (p : Place). IsHeld c node (stage_before true p)) (sym settled) held)
+
 -- ---- by the request and how far it has come
 stood_by : (script : ScriptData) (c : Carried) (k : Stuck script c) (s node : ℕ) (request : Request) (p : Progress) → Standing c s node request p → StandsBefore c s
 stood_by script c k s node request progress.Asked is =
@@ -125,11 +137,11 @@ stood_by script c k s node (Begin r) (progress.Drawn start) is = by_begin script
 stood_by script c k s node (Commit r start keys) (progress.Drawn commit) is =
     let t : Turn = turn.Put node s in
     before_held c s node (Commit r start keys) (progress.Drawn commit) is (must_be_held script c k t node stage.Persist (event.Put node s) refl (is.place_is, is.commit_is) (k.tells script c t (event.Put node s) k.stands tt refl (is.place_is, is.commit_is)) refl)
-stood_by script c k s node (Commit r start keys) (progress.Settled commit by) is =
-    let w : State = c.played.state in
-    let tells : IsTold script c.played (event.Answer node s) = λ none. answer_commit_tells node s r start commit keys by is.i is.held is.client is.has is.asks is.stands (sym (ap (λ (step : Step). step.items) (on_both w node s is.i is.client (answer_on node s) is.node_has is.session_is)) ∙ none) in
-    before_held c s node (Commit r start keys) (progress.Settled commit by) is (must_be_held script c k (turn.Answer node s) node stage.Reply (event.Answer node s) refl (subst (λ (it : Bool). place_of w s ≡ Some (node, answered_from it)) (sym is.commit_is) is.place_is) tells refl)
+stood_by script c k s node (Commit r start keys) (progress.Settled commit by) is = by_answer script c k s node r start commit keys (progress.Settled commit by) is refl refl (λ i held client. settled_tells node s r start commit keys by i held client)
+stood_by script c k s node (Commit r start keys) (progress.Handed commit) is = by_answer script c k s node r start commit keys (progress.Handed commit) is refl refl (λ i held client. handed_tells node s r start commit keys i held client)
 stood_by script c k s node (Begin r) (progress.Settled commit by) is =
+    absurd (subst (λ (q : Progress). MaySettle (Begin r) q) is.stands (subst (λ (asked : Request). MaySettle asked is.held.progress) is.asks (k.fits node s is.i is.held is.node_has is.has)))
+stood_by script c k s node (Begin r) (progress.Handed commit) is =
     absurd (subst (λ (q : Progress). MaySettle (Begin r) q) is.stands (subst (λ (asked : Request). MaySettle asked is.held.progress) is.asks (k.fits node s is.i is.held is.node_has is.has)))
 
 pub stands_before : (script : ScriptData) (c : Carried) (k : Stuck script c) (s : ℕ) (request : ℕ × Place) → place_of c.played.state s ≡ Some request → StandsBefore c s

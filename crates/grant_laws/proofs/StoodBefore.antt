@@ -105,22 +105,26 @@ answer_begin_quiet node s r start i held c has asks stands quiet =
     ∙ ap (λ (p : Progress). (answer_by node s start c i (answer_if_ready i s held (Begin r) p).left (answer_if_ready i s held (Begin r) p).answer).items) stands in
     begin_quiet node s start i held c (least_unsettled i.requests start) (sym is ∙ quiet)
 
--- a settled commit is always told
-settled_tells : (node s r start commit : ℕ) (keys : List ℕ) (by : Settled) (i : InstanceEntry) (held : Held) (c : Client) → (answer_by node s start c i (answer_if_ready i s held (Commit r start keys) (progress.Settled commit by)).left (answer_if_ready i s held (Commit r start keys) (progress.Settled commit by)).answer).items ≡ [] → ⊥
+-- a settled commit is always told, and one that its session is to place is handed to it
+pub settled_tells : (node s r start commit : ℕ) (keys : List ℕ) (by : Settled) (i : InstanceEntry) (held : Held) (c : Client) → (answer_by node s start c i (answer_if_ready i s held (Commit r start keys) (progress.Settled commit by)).left (answer_if_ready i s held (Commit r start keys) (progress.Settled commit by)).answer).items ≡ [] → ⊥
 settled_tells node s r start commit keys how.Placed i held c quiet = cc
 settled_tells node s r start commit keys how.Invalid i held c quiet = cc
 settled_tells node s r start commit keys how.Faulted i held c quiet = cc
 
-pub answer_commit_tells : (node s r start commit : ℕ) (keys : List ℕ) (by : Settled) (i : InstanceEntry) (held : Held) (c : Client) → held_of i s ≡ Some held → held.request ≡ Commit r start keys → held.progress ≡ progress.Settled commit by → (answer_on node s (Some i) c).items ≡ [] → ⊥
-answer_commit_tells node s r start commit keys by i held c has asks stands quiet =
-    let is : (answer_on node s (Some i) c).items ≡ (answer_by node s start c i (answer_if_ready i s held (Commit r start keys) (progress.Settled commit by)).left (answer_if_ready i s held (Commit r start keys) (progress.Settled commit by)).answer).items =
+pub handed_tells : (node s r start commit : ℕ) (keys : List ℕ) (i : InstanceEntry) (held : Held) (c : Client) → (answer_by node s start c i (answer_if_ready i s held (Commit r start keys) (progress.Handed commit)).left (answer_if_ready i s held (Commit r start keys) (progress.Handed commit)).answer).items ≡ [] → ⊥
+handed_tells node s r start commit keys i held c quiet = cc
+
+pub answer_commit_tells : (node s r start : ℕ) (commit : Option ℕ) (keys : List ℕ) (at : Progress) (i : InstanceEntry) (held : Held) (c : Client) → stamps_by (Commit r start keys) at ≡ Some (start, commit) → ((answer_by node s start c i (answer_if_ready i s held (Commit r start keys) at).left (answer_if_ready i s held (Commit r start keys) at).answer).items ≡ [] → ⊥) → held_of i s ≡ Some held → held.request ≡ Commit r start keys → held.progress ≡ at → (answer_on node s (Some i) c).items ≡ [] → ⊥
+answer_commit_tells node s r start commit keys at i held c stamps tells has asks stands quiet =
+    let is : (answer_on node s (Some i) c).items ≡ (answer_by node s start c i (answer_if_ready i s held (Commit r start keys) at).left (answer_if_ready i s held (Commit r start keys) at).answer).items =
     ap (λ (found : Option Held). (answer_request node s i c (stamps_of_held found)).items) has
     ∙ ap (λ (request : Request). (answer_request node s i c (stamps_by request held.progress)).items) asks
     ∙ ap (λ (p : Progress). (answer_request node s i c (stamps_by (Commit r start keys) p)).items) stands
+    ∙ ap (λ (found : Option (ℕ × Option ℕ)). (answer_request node s i c found).items) stamps
     ∙ ap (λ (found : Option Held). (answer_by node s start c i (answer_held i s found).left (answer_held i s found).answer).items) has
     ∙ ap (λ (request : Request). (answer_by node s start c i (answer_if_ready i s held request held.progress).left (answer_if_ready i s held request held.progress).answer).items) asks
     ∙ ap (λ (p : Progress). (answer_by node s start c i (answer_if_ready i s held (Commit r start keys) p).left (answer_if_ready i s held (Commit r start keys) p).answer).items) stands in
-    settled_tells node s r start commit keys by i held c (sym is ∙ quiet)
+    tells (sym is ∙ quiet)
 
 -- ---- the unsettled commit is a request of the node
 pub record Unsettled (requests : List (Option Held)) : Type 0 where

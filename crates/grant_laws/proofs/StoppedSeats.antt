@@ -14,7 +14,7 @@ use Rattle.script_data.specs.Data.{ScriptData}
 use Rattle.line_steps.specs.declared.point.Point.{Point}
 use Rattle.line_steps.specs.declared.point.Point.TheVariants.{Opens, Drives, Extends, Finishes, Reads, Steps, Over}
 use Rattle.line_steps.specs.declared.point.View.{View}
-use Rattle.line_steps.specs.Next.{Clocks, is_served, finish_next, idle_next, next}
+use Rattle.line_steps.specs.Next.{Clocks, is_served, places, placing_next, idle_next, next}
 use Rattle.line_steps.specs.Runs.{clocks_of}
 use Rattle.line_steps.specs.Views.{view_of}
 use Rattle.turn_rules.specs.declared.ahead.Ahead.TheVariants.{Waits, Passes}
@@ -112,7 +112,7 @@ awaits_by false name e is = (name, refl, refl)
 
 collects_name : (s : ℕ) (view : View) (unawaited : Bool) (request : Option (ℕ × Place)) → collect_ahead s view unawaited request ≡ Waits Name → ⊥
 collects_name s view unawaited (Some request) is = absurd (cc)
-collects_name s view true None is = not_waiting Name (finish_next s view.doing) is
+collects_name s view true None is = not_waiting Name (placing_next s view.doing true) is
 collects_name s view false None is = not_waiting Name (idle_next s view.doing) is
 
 opens_name : (clocks : Clocks) (posted : Bool) (actor : Actor) (v : Verb) (view : View) (unawaited : Bool) → own_opens clocks posted actor v view unawaited ≡ Waits Name → LacksName posted v
@@ -127,7 +127,7 @@ opens_name clocks posted Janitor (verb.Await name) view unawaited is = awaits_by
 opens_name clocks posted Janitor v view unawaited is = absurd (not_waiting Name (next clocks Janitor v Opens view) is)
 
 drives_name : (s : ℕ) (v : Verb) (view : View) (request : Option (ℕ × Place)) → drive_ahead s v view request ≡ Waits Name → ⊥
-drives_name s v view None is = not_waiting Name (finish_next s view.doing) is
+drives_name s v view None is = not_waiting Name (placing_next s view.doing (places v)) is
 drives_name s v view (Some request) is = served_name (is_served v request.1) is
   where
     served_name : (served : Bool) → cond served (Waits Reply) Passes ≡ Waits Name → ⊥
@@ -156,11 +156,11 @@ has_request s view (Some request) is some = record { session = s; actor_is = ref
 
 collects_reply : (s : ℕ) (view : View) (unawaited : Bool) (request : Option (ℕ × Place)) → collect_ahead s view unawaited request ≡ Waits Reply → request ≡ None → ⊥
 collects_reply s view unawaited (Some request) is none = absurd (none-some request (sym none))
-collects_reply s view true None is none = not_waiting Reply (finish_next s view.doing) is
+collects_reply s view true None is none = not_waiting Reply (placing_next s view.doing true) is
 collects_reply s view false None is none = not_waiting Reply (idle_next s view.doing) is
 
 drives_reply : (s : ℕ) (v : Verb) (view : View) (request : Option (ℕ × Place)) → drive_ahead s v view request ≡ Waits Reply → request ≡ None → ⊥
-drives_reply s v view None is none = not_waiting Reply (finish_next s view.doing) is
+drives_reply s v view None is none = not_waiting Reply (placing_next s view.doing (places v)) is
 drives_reply s v view (Some request) is none = absurd (none-some request (sym none))
 
 awaits_reply : (posted : Bool) (e : Option Event) → cond posted (made_next e) (Waits Name) ≡ Waits Reply → ⊥

@@ -42,7 +42,7 @@ abbrev drawn : Held
 drawn = record { request = Commit 1 2 (0 ∷ []); progress = progress.Drawn 3; told_no_stamp = false; told_not_yet = false }
 
 abbrev oracle : InstanceEntry
-oracle = record (instance_new (record { term = 1; epoch = 0; until = 10; ceiling = 100 }) 0 64 4 64) { last = 3; buckets = contents 64 4 (record { key = 0; commit = 3 } ∷ []); requests = slice_set (replicate 16 None) 1 (Some drawn) }
+oracle = record (instance_new (record { term = 1; epoch = 0; until = 10; ceiling = 100 }) 0 64 4 64 false) { last = 3; buckets = contents 64 4 (record { key = 0; commit = 3 } ∷ []); requests = slice_set (replicate 16 None) 1 (Some drawn) }
 
 reader_is : ClientAt worked.before_crossing.state.clients 0 reader
 unfolding lines_played run_for planned_fate holder_from record_pairs added kept_commit verdict least_unsettled put_row without_bare fetched front_of recalled_over

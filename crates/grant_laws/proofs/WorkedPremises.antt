@@ -150,10 +150,8 @@ commit_can =
       serving = commit_serving;
       in_epoch = record { oracle = oracle_of q; node_has = refl; so = omega (arith, epoch) };
       no_conflict = record { oracle = oracle_of r; node_has = refl; client = client_of r; session_is = refl; so = refl };
-      unmarked = λ marked. none-some InvalidMark (sym (mark_of-empty 1) ∙ marked);
-      placing = refl;
-      until_placed = (refl, tt);
-      until_answered = (refl, tt);
+      until_settled = (refl, tt);
+      settles = record { unmarked = λ marked. none-some InvalidMark (sym (mark_of-empty 1) ∙ marked); placing = refl; until_answered = (refl, tt) };
     }
 
 -- the item that it asks for

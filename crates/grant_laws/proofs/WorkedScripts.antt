@@ -1,5 +1,5 @@
 -- The worked scripts, computed.
-use Rattle.std.proofs.Common.{◌≡◌, ℕ, zero, suc, ◌+◌, ◌≤◌, [], ◌∷◌, Option, Some, None, inl, inr, refl, sym, ◌∙◌, subst, arith}
+use Rattle.std.proofs.Common.{◌≡◌, ℕ, zero, suc, ◌+◌, ◌≤◌, false, [], ◌∷◌, Option, Some, None, inl, inr, refl, sym, ◌∙◌, subst, arith}
 use Rattle.std.specs.Prelude.{slice_index_or}
 use Rattle.stamp_base.specs.declared.stores.Store.TheVariants.{Cells, Table}
 use Rattle.port_io.specs.Planned.{planned_fate}
@@ -74,7 +74,7 @@ commit_refused = refl
 
 -- ---- premises
 abbrev none_here : InstanceEntry
-none_here = instance_new (record { term = 0; epoch = 0; until = 0; ceiling = 0 }) 0 0 0 0
+none_here = instance_new (record { term = 0; epoch = 0; until = 0; ceiling = 0 }) 0 0 0 0 false
 
 abbrev oracle_in : Option InstanceEntry → InstanceEntry
 oracle_in None = none_here

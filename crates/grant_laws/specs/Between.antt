@@ -1,4 +1,5 @@
--- The turns by which a session asks, an answer that comes too early, and turns of others while a read is under way.
+-- The turns by which a session asks, an answer that comes too early, and turns of others while a read is under way or a commit is
+-- to be placed.
 use Rattle.std.specs.Prelude.{◌≡◌, ◌≢◌, ℕ, ◌<◌, if◌then◌else◌, false, List, [], ◌∷◌, ◌++◌, Some}
 use Rattle.stamp_base.specs.SetupNumbers.{AreInRange}
 use Rattle.history_book.specs.declared.cause.Cause.TheVariants as cause
@@ -19,7 +20,7 @@ use Rattle.turn_rules.specs.declared.turn.Turn.{Turn}
 use Rattle.turn_rules.specs.declared.turn.Turn.TheVariants as turn
 use Rattle.turn_rules.specs.Carried.{Carried, own_ahead, turned, carried}
 use Rattle.grant_laws.specs.Premises.{IsAtWork}
-use Rattle.grant_laws.specs.Turns.{IsServed, Serves, ReadsKey}
+use Rattle.grant_laws.specs.Turns.{IsServed, Serves, IsPlacing, ReadsKey}
 use Rattle.grant_laws.specs.Lines.{AtNode, is_own}
 
 -- ---- asks
@@ -49,3 +50,9 @@ abbrev pub ReadsStay : Type 0
 ReadsStay =
     (script : ScriptData) (turns : List Turn) (t : Turn) (session start key : ℕ) (r : Reading) → let c = carried script turns in AreInRange script.setup → IsPlayable script 0 script.lines → is_own session t ≡ false → ReadsKey c.played session start key r →
     ReadsKey (turned script c t).played session start key r
+
+-- and a commit that the session is to place
+abbrev pub PlacingsStay : Type 0
+PlacingsStay =
+    (script : ScriptData) (turns : List Turn) (t : Turn) (session start commit : ℕ) → let c = carried script turns in AreInRange script.setup → IsPlayable script 0 script.lines → is_own session t ≡ false → IsPlacing c.played session start commit →
+    IsPlacing (turned script c t).played session start commit

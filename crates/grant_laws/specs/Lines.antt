@@ -16,6 +16,7 @@ use Rattle.oracle_parts.specs.Buckets.{verdict_both}
 use Rattle.oracle_parts.specs.Instance.{InstanceEntry, in_flight, least_unsettled}
 use Rattle.machine.specs.State.{Client}
 use Rattle.machine.specs.StoreSteps.{store_of}
+use Rattle.machine.specs.declared.event.Event.TheVariants as event
 use Rattle.script_data.specs.declared.line.Line.{Line}
 use Rattle.script_data.specs.declared.line.Target.TheVariants as target
 use Rattle.script_data.specs.declared.line.Verb.{Verb}
@@ -31,7 +32,8 @@ use Rattle.turn_rules.specs.declared.seat.Seat.{Seat}
 use Rattle.turn_rules.specs.declared.turn.Turn.{Turn}
 use Rattle.turn_rules.specs.declared.turn.Turn.TheVariants as turn
 use Rattle.turn_rules.specs.Seats.{present_line}
-use Rattle.turn_rules.specs.Carried.{Carried, seat_of, event_of, turned, carried, carried_items}
+use Rattle.turn_rules.specs.declared.ahead.Ahead.TheVariants.{Makes}
+use Rattle.turn_rules.specs.Carried.{Carried, seat_of, own_ahead, event_of, turned, carried, carried_items}
 use Rattle.grant_laws.specs.Granted.{reading_of, next_fate}
 use Rattle.grant_laws.specs.Premises.{IsAtWork, CanWrite, CanTake, CanFetch, cells_to_read}
 use Rattle.grant_laws.specs.Turns.{touches, ReadsKey}
@@ -70,6 +72,11 @@ abbrev pub RunsGrantTakes : Type 0
 RunsGrantTakes =
     (script : ScriptData) (before later : List Turn) (node : ℕ) → let c = carried script before in AreInRange script.setup → IsPlayable script 0 script.lines → IsAhead script c (Node node) verb.Take → CanTake script c.played node →
     item.Take node (reading_of script c.played node) (c.played.state.master.term + 1) c.played.state.master.ceiling (reading_of script c.played node + script.setup.lease) (c.played.state.master.ceiling + script.setup.range) ∈ carried_items script (before ++ turn.Own (Node node) ∷ later)
+
+-- the turn is the session's own
+abbrev pub is_own : ℕ → Turn → Bool
+is_own session (turn.Own actor) = same_actor actor (Session session)
+is_own session _ = false
 
 -- ---- turns in between
 -- what the turn comes to, and then these of others
@@ -147,11 +154,50 @@ RunsGrantBegins =
     item.Begin session (stamp_drawn can.serving) ∈ carried_items script (all_up_to_draw session node u (drawn ++ turn.Answer node session ∷ later))
 
 -- ---- a commit
-abbrev pub at_place : ScriptData → ℕ → ℕ → UpToDraw → List Turn → Carried
-at_place script session node u drawn = with_others script (at_draw script session node u) (turn.Decide node session) drawn
+-- the two turns by which a commit that was drawn ends: the node places it and answers, or it answers and the session places it
+abbrev pub settling_turns : Bool → ℕ → ℕ → Turn × Turn
+settling_turns false session node = (turn.Put node session, turn.Answer node session)
+settling_turns true session node = (turn.Answer node session, turn.Own (Session session))
 
--- `drawn` are the turns of others between the draw and the placing, `placed` those between the placing and the answer
-pub record CanCommitBy (script : ScriptData) (session node : ℕ) (u : UpToDraw) (drawn placed : List Turn) : Type 0 where
+-- what was carried out when the first of them is made
+abbrev pub at_settle : ScriptData → ℕ → ℕ → UpToDraw → List Turn → Carried
+at_settle script session node u drawn = with_others script (at_draw script session node u) (turn.Decide node session) drawn
+
+-- the node places the commit of the start, and then answers
+pub record PlacesAtNode (script : ScriptData) (session node start : ℕ) (c : Carried) (placed : List Turn) : Type 0 where
+  -- at the placing nobody has marked the transaction
+  pub unmarked : Marked c.played.state.pairs start → ⊥
+  -- and the next call on the commit table works
+  pub placing : next_fate script c.played Table ≡ Works
+  -- the turns of others leave the request
+  pub until_answered : Leave script node session (turned script c (turn.Put node session)) placed
+
+-- none of these turns is the session's own
+unfoldable pub NoneOwn : ℕ → List Turn → Type 0
+NoneOwn session [] = Unit {0}
+NoneOwn session (t ∷ turns) = (is_own session t ≡ false) × NoneOwn session turns
+
+-- the node hands the commit over, and the session's next turn places it
+pub record PlacesBySession (script : ScriptData) (session node start : ℕ) (c : Carried) (handed : List Turn) : Type 0 where
+  -- when it is handed the commit, the session waits for it
+  pub client : Client
+  pub session_is : ClientAt c.played.state.clients session client
+  pub waits : client.entry.state ≡ phase.Committing
+  pub until_placed : NoneOwn session handed
+  -- its line makes the placing, as a commit that waits for its answer does
+  pub steps : own_ahead script (with_others script c (turn.Answer node session) handed) (Session session) ≡ Makes (event.Step session)
+  -- at the placing nobody has marked the transaction
+  pub unmarked : Marked (with_others script c (turn.Answer node session) handed).played.state.pairs start → ⊥
+  -- and the next call on the commit table works
+  pub placing : next_fate script (with_others script c (turn.Answer node session) handed).played Table ≡ Works
+
+-- by the form of the script
+abbrev pub Settles : Bool → ScriptData → ℕ → ℕ → ℕ → Carried → List Turn → Type 0
+Settles false script session node start c turns = PlacesAtNode script session node start c turns
+Settles true script session node start c turns = PlacesBySession script session node start c turns
+
+-- `drawn` are the turns of others between the draw and the first turn that settles the commit, `between` those between the two
+pub record CanCommitBy (script : ScriptData) (session node : ℕ) (u : UpToDraw) (drawn between : List Turn) : Type 0 where
   -- when the session asks
   pub work : IsAtWork (at_ask script u).played session
   -- it has written
@@ -163,13 +209,10 @@ pub record CanCommitBy (script : ScriptData) (session node : ℕ) (u : UpToDraw)
   -- at the draw the conflict memory has nothing against the keys that it wrote, nor against those that its client keeps of what
   -- it read
   pub no_conflict : AtBoth (at_draw script session node u).played node session (λ i c. verdict_both i.buckets work.start work.client.entry.keys c.reads ≡ Free)
-  -- at the placing nobody has marked the transaction
-  pub unmarked : Marked (at_place script session node u drawn).played.state.pairs work.start → ⊥
-  -- and the next call on the commit table works
-  pub placing : next_fate script (at_place script session node u drawn).played Table ≡ Works
   -- the turns of others leave the request
-  pub until_placed : Leave script node session (turned script (at_draw script session node u) (turn.Decide node session)) drawn
-  pub until_answered : Leave script node session (turned script (at_place script session node u drawn) (turn.Put node session)) placed
+  pub until_settled : Leave script node session (turned script (at_draw script session node u) (turn.Decide node session)) drawn
+  -- the node places it, or the session does
+  pub settles : Settles script.setup.direct script session node work.start (at_settle script session node u drawn) between
 
 -- the line asks the node for a commit: it waits for the answer, or leaves that to a later line
 abbrev pub AsksCommit : ℕ → Verb → Type 0
@@ -179,15 +222,10 @@ AsksCommit node _ = ⊥
 
 abbrev pub RunsGrantCommits : Type 0
 RunsGrantCommits =
-    (script : ScriptData) (session node : ℕ) (line : Verb) (u : UpToDraw) (drawn placed later : List Turn) → AreInRange script.setup → IsPlayable script 0 script.lines → IsAhead script (at_ask script u) (Session session) line → AsksCommit node line → (can : CanCommitBy script session node u drawn placed) →
-    item.Committed session can.work.start (stamp_drawn can.serving) ∈ carried_items script (all_up_to_draw session node u (drawn ++ turn.Put node session ∷ (placed ++ turn.Answer node session ∷ later)))
+    (script : ScriptData) (session node : ℕ) (line : Verb) (u : UpToDraw) (drawn between later : List Turn) → let settling = settling_turns script.setup.direct session node in AreInRange script.setup → IsPlayable script 0 script.lines → IsAhead script (at_ask script u) (Session session) line → AsksCommit node line → (can : CanCommitBy script session node u drawn between) →
+    item.Committed session can.work.start (stamp_drawn can.serving) ∈ carried_items script (all_up_to_draw session node u (drawn ++ settling.0 ∷ (between ++ settling.1 ∷ later)))
 
 -- ---- a read
--- the turn is the session's own
-abbrev pub is_own : ℕ → Turn → Bool
-is_own session (turn.Own actor) = same_actor actor (Session session)
-is_own session _ = false
-
 -- on each own turn while a read is under way, the call that the read makes works
 unfoldable pub StepsWork : ScriptData → ℕ → Carried → List Turn → Type 0
 StepsWork script session c [] = Unit {0}

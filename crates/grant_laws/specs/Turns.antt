@@ -1,6 +1,6 @@
 -- What is granted to the lines of a script that is carried out by turns: an own turn that makes what its line asks for, and the
 -- turns by which the stages of a node serve a request, each under its premises when it is made, whatever turns came before.
-use Rattle.std.specs.Prelude.{length, ◌≡◌, ℕ, ◌+◌, ◌<◌, ◌≤◌, ◌^◌, ◌*◌, ◌⊎◌, ◌==◌, ◌&&◌, Bool, false, List, [], ◌∷◌, ◌++◌, Option, None, IfSome}
+use Rattle.std.specs.Prelude.{length, ◌≡◌, ℕ, ◌+◌, ◌<◌, ◌≤◌, ◌^◌, ◌*◌, ◌⊎◌, ◌==◌, ◌&&◌, Bool, false, List, [], ◌∷◌, ◌++◌, Option, None, Some, IfSome}
 use Rattle.std.specs.List.{filter}
 use Rattle.stamp_base.specs.SetupNumbers.{AreInRange}
 use Rattle.stamp_base.specs.declared.stores.Store.TheVariants.{Table, Master}
@@ -9,6 +9,7 @@ use Rattle.history_book.specs.declared.item.Actor.TheVariants.{Node, Session}
 use Rattle.history_book.specs.declared.item.Found.{Found}
 use Rattle.history_book.specs.declared.item.Item.{Item}
 use Rattle.history_book.specs.declared.item.Item.TheVariants as item
+use Rattle.history_book.specs.declared.item.StoreStep.TheVariants.{Handed}
 use Rattle.client_parts.specs.declared.session.State.TheVariants as phase
 use Rattle.client_parts.specs.Resolve.{settle_left}
 use Rattle.client_parts.specs.KeyRead.{Reading, read_ask}
@@ -19,7 +20,7 @@ use Rattle.oracle_parts.specs.declared.instance.Request.{Request}
 use Rattle.oracle_parts.specs.declared.instance.Request.TheVariants.{Begin, Commit}
 use Rattle.oracle_parts.specs.declared.instance.Settled.TheVariants as how
 use Rattle.oracle_parts.specs.Instance.{InstanceEntry, least_unsettled}
-use Rattle.oracle_parts.specs.InstanceSteps.{epoch_refusal}
+use Rattle.oracle_parts.specs.InstanceSteps.{drawn_as, epoch_refusal}
 use Rattle.machine.specs.State.{Reads, Client}
 use Rattle.machine.specs.StoreSteps.{store_of}
 use Rattle.machine.specs.declared.event.Event.{Event}
@@ -66,22 +67,44 @@ pub record Serves (script : ScriptData) (c : Carried) (t : Turn) (x : Item) (nod
   pub adds : Adds script c t x
   pub comes : IsServed (turned script c t).played node session request progress
 
+-- the session is to place this commit
+pub record IsPlacing (p : Played) (session start commit : ℕ) : Type 0 where
+  pub client : Client
+  pub session_is : ClientAt p.state.clients session client
+  pub in_work : client.entry.state ≡ phase.Placing
+  pub begun : client.entry.start ≡ Some start
+  pub commit_is : client.entry.commit ≡ Some commit
+
+-- the turn hands the commit to its session
+pub record Hands (script : ScriptData) (c : Carried) (node session start commit : ℕ) : Type 0 where
+  pub adds : Adds script c (turn.Answer node session) (item.Step (Session session) (Handed start commit))
+  pub comes : IsPlacing (turned script c (turn.Answer node session)).played session start commit
+
 -- in every state that turns lead to, the turn that serves the request next does so: the acceptance where the lease stands and a
 -- commit began above the epoch, the draw where the conflict memory is free of the commit's keys and of those that its client keeps
 -- of what it read, and a stamp is left, the placing where nobody has marked the transaction and the commit table's next call works,
--- and the answers
+-- and the answers: a commit that its session is to place is handed to it, unless it has vanished
 pub record ServedAreGranted (script : ScriptData) (c : Carried) (node session : ℕ) (request : Request) : Type 0 where
   pub accepts : (k : IsServed c.played node session request progress.Asked) → reading_of script c.played node < k.oracle.until → epoch_refusal k.oracle request ≡ None →
       Serves script c (turn.Accept node session) (item.Accept session node k.oracle.term (reading_of script c.played node)) node session request progress.Accepted
   pub draws : (k : IsServed c.played node session request progress.Accepted) → (client : Client) → ClientAt c.played.state.clients session client → both_verdict k.oracle.buckets client.reads request ≡ Free → k.oracle.last < k.oracle.ceiling →
-      Serves script c (turn.Decide node session) (draw_item node k.oracle.term request (k.oracle.last + 1)) node session request (progress.Drawn (k.oracle.last + 1))
+      Serves script c (turn.Decide node session) (draw_item node k.oracle.term request (k.oracle.last + 1)) node session request (drawn_as k.oracle.direct request (k.oracle.last + 1))
   pub places : (start commit : ℕ) (keys : List ℕ) → request ≡ Commit session start keys → IsServed c.played node session request (progress.Drawn commit) → (Marked c.played.state.pairs start → ⊥) → next_fate script c.played Table ≡ Works →
       Serves script c (turn.Put node session) (item.Placed start commit) node session request (progress.Settled commit how.Placed)
   pub commits : (start commit : ℕ) (keys : List ℕ) → request ≡ Commit session start keys → IsServed c.played node session request (progress.Settled commit how.Placed) → Adds script c (turn.Answer node session) (item.Committed session start commit)
+  pub hands : (start commit : ℕ) (keys : List ℕ) → request ≡ Commit session start keys → IsServed c.played node session request (progress.Handed commit) → (client : Client) → ClientAt c.played.state.clients session client → client.entry.state ≡ phase.Committing → Hands script c node session start commit
   pub begins : (start : ℕ) → request ≡ Begin session → (k : IsServed c.played node session request (progress.Drawn start)) → least_unsettled k.oracle.requests start ≡ None → Adds script c (turn.Answer node session) (item.Begin session start)
 
 abbrev pub ServedTurnsAreGranted : Type 0
 ServedTurnsAreGranted = (script : ScriptData) (turns : List Turn) (node session : ℕ) (request : Request) → AreInRange script.setup → IsPlayable script 0 script.lines → ServedAreGranted script (carried script turns) node session request
+
+-- ---- a commit that its session places
+-- an own turn that makes the placing appends the commit, where nobody has marked the transaction and the commit table's next call
+-- works
+abbrev pub PlacingsAreCarried : Type 0
+PlacingsAreCarried =
+    (script : ScriptData) (turns : List Turn) (session start commit : ℕ) → let c = carried script turns in AreInRange script.setup → IsPlayable script 0 script.lines → own_ahead script c (Session session) ≡ Makes (event.Step session) → IsPlacing c.played session start commit → (Marked c.played.state.pairs start → ⊥) → next_fate script c.played Table ≡ Works →
+    (turned script c (turn.Own (Session session))).played.items ≡ c.played.items ++ item.Placed start commit ∷ item.Committed session start commit ∷ []
 
 -- an extension that is due gives the node's instance stamps again
 abbrev pub ExtensionsAreCarried : Type 0

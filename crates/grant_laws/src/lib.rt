@@ -9,9 +9,9 @@ mod waiting;
 mod worked;
 mod worked_runs;
 
-pub use between::{asks_are_carried, early_answers_wait, reads_stay};
+pub use between::{asks_are_carried, early_answers_wait, placings_stay, reads_stay};
 pub use carried::{
-    extensions_are_carried, reads_are_carried, requests_stay, served_turns_are_granted,
+    extensions_are_carried, placings_are_carried, reads_are_carried, requests_stay, served_turns_are_granted,
     takes_are_carried, writes_are_carried,
 };
 pub use granted::{

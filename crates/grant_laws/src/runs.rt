@@ -23,10 +23,12 @@ pub fn runs_grant_begins()
     ensures { RunsGrantBegins }
 {}
 
-/// A commit or submit line whose request is asked, accepted, drawn, placed and answered appends its commit: with the transaction open,
-/// written and not reading and a slot free at the ask, the lease standing and the epoch below its start at the acceptance, the
-/// conflict memory free of its keys and a stamp left at the draw, and the transaction unmarked and the table's next call
-/// working at the placing. What the completion meets then takes nothing back.
+/// A commit or submit line whose request is asked, accepted and drawn appends its commit once it is placed and answered, or, where
+/// sessions place their commits, handed over and placed: with the transaction open, written and not reading and a slot free at the
+/// ask, the lease standing and the epoch below its start at the acceptance, the conflict memory free of its keys and a stamp left
+/// at the draw, and the transaction unmarked and the table's next call working at the placing. A session that is to place it must
+/// still wait when it is handed the commit, and its line must make the placing. What the completion meets then takes nothing
+/// back.
 pub fn runs_grant_commits()
     ensures { RunsGrantCommits }
 {}

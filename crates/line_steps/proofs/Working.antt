@@ -96,16 +96,17 @@ completes w h s c stands at true is =
     completes_by w h s c stands at true is busy.0 busy.1
 
 -- ---- a commit that was handed over is known, with its start
+pub handed_is : (c : Client) (start commit : ℕ) → c.entry.state ≡ phase.Placing → c.entry.start ≡ Some start → c.entry.commit ≡ Some commit → handed_commit c.entry ≡ Some (start, commit)
+handed_is c start commit placing start_is commit_is =
+    ap (λ (state : SessionState). handed_by state c.entry.start c.entry.commit) placing
+    ∙ ap (λ (t : Option ℕ). handed_by phase.Placing t c.entry.commit) start_is
+    ∙ ap (λ (drawn : Option ℕ). handed_by phase.Placing (Some start) drawn) commit_is
+
 pub places_commit : (w : State) (h : List Item) (s : ℕ) (c : Client) → Stands w h → ClientAt w.clients s c → c.entry.state ≡ phase.Placing → PlaceWork c
 places_commit w h s c stands at is =
     let begun = stands.holds.requests.have_begun.begun s c at (subst (λ (state : SessionState). IsTrue (has_transaction state)) (sym is) refl) in
     let handed = stands.holds.under_way.handed.commit s c at is in
-    record {
-      start = begun.0;
-      commit = handed.0;
-      placing = is;
-      handed = ap (λ (state : SessionState). handed_by state c.entry.start c.entry.commit) is ∙ ap (λ (t : Option ℕ). handed_by phase.Placing t c.entry.commit) begun.1 ∙ ap (λ (commit : Option ℕ). handed_by phase.Placing (Some begun.0) commit) handed.1;
-    }
+    record { start = begun.0; commit = handed.0; placing = is; handed = handed_is c begun.0 handed.0 is begun.1 handed.1 }
 
 -- ---- any of them
 by_state : (w : State) (h : List Item) (s : ℕ) (c : Client) → Stands w h → ClientAt w.clients s c → (state : SessionState) → c.entry.state ≡ state → step_refusal state false ≡ None → HasWork c

@@ -1,5 +1,5 @@
 -- The queues of all nodes as their contracts see them.
-use Rattle.std.specs.Prelude.{◌≡◌, ℕ, List, Some, slice_get}
+use Rattle.std.specs.Prelude.{◌≡◌, ℕ, Bool, List, Some, slice_get}
 use Rattle.queue_passes.specs.Holds.{Ring}
 
 -- one queue: of which node it is, and its ring
@@ -17,10 +17,11 @@ pub record NodeRings : Type 0 where
   pub batches : Ring
   pub settled : Ring
 
--- the rings of all nodes, and how many buffers each node's pool has
+-- the rings of all nodes, how many buffers each node's pool has, and whether sessions place their commits
 pub record Plan : Type 0 where
   pub nodes : List NodeRings
   pub buffers : ℕ
+  pub direct : Bool
 
 -- the nodes stand in the order of their numbers
 abbrev pub AreNumbered : List NodeRings → Type 0

@@ -55,6 +55,7 @@ impl Queues {
         ensures nodes { IfOk result (λ opened. length opened.0.nodes ≡ setup.now.nodes) }
         ensures numbered { IfOk result (λ opened. AreNumbered opened.0.nodes) }
         ensures buffers { IfOk result (λ opened. opened.0.buffers ≡ setup.now.workers + 2) }
+        ensures direct { IfOk result (λ opened. opened.0.direct ≡ setup.now.direct) }
         ensures room { IfOk result (λ opened. All (HasRoom opened.0.buffers) opened.0.nodes) }
         ensures passes { IfOk result (λ opened. opened.1.items ≡ opened_passes setup.now.nodes setup.now.workers senders opened.0.nodes) }
         ensures new { IfOk result (λ opened. All (IsNew opened.0) opened.1.items) }
@@ -102,7 +103,7 @@ impl Opening {
         ensures new { IfOk result (λ opened. All (IsNew opened.0) opened.1.items) }
         ensures numbered { IfOk result (λ opened. AreNumbered opened.0.nodes) }
         ensures room { IfOk result (λ opened. All (HasRoom opened.0.buffers) opened.0.nodes) }
-        ensures queues { IfOk result (λ opened. (opened.0.nodes ≡ self.queues.items) × (opened.0.buffers ≡ sizes.now.workers + 2)) }
+        ensures queues { IfOk result (λ opened. (opened.0.nodes ≡ self.queues.items) × (opened.0.buffers ≡ sizes.now.workers + 2) × (opened.0.direct ≡ sizes.now.direct)) }
         ensures passes { IfOk result (λ opened. opened.1.items ≡ opened_passes sizes.now.nodes sizes.now.workers sizes.now.senders self.queues.items) }
     {
         let mut passes = self.passes;
@@ -111,6 +112,7 @@ impl Opening {
         let queues = Queues {
             nodes: self.queues,
             buffers: sizes.workers + 2,
+            direct: sizes.direct,
             actors: parkers(alloc, ACTORS)?,
             closed: AtomicBool::new(false),
         };

@@ -24,6 +24,7 @@ use std::time::Duration;
 pub struct Queues {
     pub(crate) nodes: Vec<NodeQueues>,
     pub(crate) buffers: usize,
+    pub(crate) direct: bool,
     pub(crate) actors: Vec<Parker>,
     pub(crate) closed: AtomicBool,
 }
@@ -33,7 +34,7 @@ impl Model for Queues {
 
     ghost Value = { Plan };
 
-    ghost view = { λ q. record { nodes = q.nodes.items; buffers = q.buffers } };
+    ghost view = { λ q. record { nodes = q.nodes.items; buffers = q.buffers; direct = q.direct } };
 
     ghost invariant = { λ q. AreNumbered q.nodes.items };
 }
@@ -44,6 +45,13 @@ impl Queues {
         ensures { result ≡ self.now.buffers }
     {
         self.buffers
+    }
+
+    /// Whether sessions place their commits, so that no persist stage has anything to put.
+    pub fn direct(&self) -> bool
+        ensures { result ≡ self.now.direct }
+    {
+        self.direct
     }
 
     /// The queue of requests of a node.

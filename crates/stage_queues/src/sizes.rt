@@ -13,6 +13,8 @@ pub struct Sizes {
     /// How many entries a batch has room for.
     pub batch: usize,
     pub senders: usize,
+    /// Whether sessions place their commits.
+    pub direct: bool,
     pub ghost few: { workers ≤ 8 },
     pub ghost have_room: { 0 < batch },
 }
@@ -23,12 +25,14 @@ impl Sizes {
         ensures workers { result.workers ≡ setup.now.workers }
         ensures batch { result.batch ≡ setup.now.batch }
         ensures senders { result.senders ≡ senders }
+        ensures direct { result.direct ≡ setup.now.direct }
     {
         Sizes {
             nodes: setup.nodes as usize,
             workers: setup.workers as usize,
             batch: setup.batch as usize,
             senders,
+            direct: setup.direct,
         }
     }
 }

@@ -1,10 +1,11 @@
--- For grant_laws too. A session whose transaction is open has no request in flight. So an event that is not its own leaves its
--- client as it was, and a read under way goes on.
-use Rattle.std.proofs.Common.{◌≡◌, ℕ, zero, suc, false, List, [], ◌∷◌, Option, Some, None, inl, inr, refl, sym, ◌∙◌, ap, subst}
+-- For grant_laws too. A session whose transaction is open, or that is to place its commit, has no request in flight. So an event
+-- that is not its own leaves its client as it was, and a read under way goes on.
+use Rattle.std.proofs.Common.{◌≡◌, ◌⊎◌, ℕ, zero, suc, false, List, [], ◌∷◌, Option, Some, None, inl, inr, refl, sym, ◌∙◌, ap, subst}
 use Rattle.std.specs.Prelude.{slice_get, slice_set, slice_index_or}
 use Rattle.std.proofs.lemmas.Bool.Decides.{eqb_tells}
 use Rattle.port_io.specs.declared.weather.Fate.{Fate}
 use Rattle.history_book.specs.declared.item.Item.{Item}
+use Rattle.client_parts.specs.declared.session.State.{State as SessionState}
 use Rattle.client_parts.specs.declared.session.State.TheVariants as phase
 use Rattle.oracle_parts.specs.declared.instance.Held.{Held}
 use Rattle.oracle_parts.specs.declared.instance.Request.{Request}
@@ -26,20 +27,27 @@ use Rattle.isolation_laws.specs.Words.{InstanceAt, ClientAt}
 use Rattle.isolation_laws.proofs.Lookups.{set_found, set_other, one_client, held_by}
 use Rattle.line_steps.proofs.ReadLines.{ReadsKey}
 
--- ---- no request of an open transaction is in flight
-waits_not : (request : Request) (c : Client) → c.entry.state ≡ phase.Open → WaitsFor request c → ⊥
-waits_not (Begin session) c is (inl gone) = let clash : phase.Open ≡ phase.Gone = sym is ∙ gone in cc
-waits_not (Begin session) c is (inr asking) = let clash : phase.Open ≡ phase.Asking = sym is ∙ asking in cc
-waits_not (Commit session start keys) c is (inl gone) = let clash : phase.Open ≡ phase.Gone = sym is ∙ gone in cc
-waits_not (Commit session start keys) c is (inr (committing, start_is)) = let clash : phase.Open ≡ phase.Committing = sym is ∙ committing in cc
+-- ---- no request of an open transaction, or of a commit that was handed over, is in flight
+abbrev pub IsUnasked : SessionState → Type 0
+IsUnasked state = (state ≡ phase.Open) ⊎ (state ≡ phase.Placing)
 
-none_by : (w : State) (h : List Item) (s : ℕ) (c : Client) → Stands w h → ClientAt w.clients s c → c.entry.state ≡ phase.Open → (node : ℕ) (i : InstanceEntry) → InstanceAt w.nodes node i → (held : Option Held) → held_of i s ≡ held → held ≡ None
+waits_not : (request : Request) (c : Client) → IsUnasked c.entry.state → WaitsFor request c → ⊥
+waits_not (Begin session) c (inl is) (inl gone) = let clash : phase.Open ≡ phase.Gone = sym is ∙ gone in cc
+waits_not (Begin session) c (inl is) (inr asking) = let clash : phase.Open ≡ phase.Asking = sym is ∙ asking in cc
+waits_not (Begin session) c (inr is) (inl gone) = let clash : phase.Placing ≡ phase.Gone = sym is ∙ gone in cc
+waits_not (Begin session) c (inr is) (inr asking) = let clash : phase.Placing ≡ phase.Asking = sym is ∙ asking in cc
+waits_not (Commit session start keys) c (inl is) (inl gone) = let clash : phase.Open ≡ phase.Gone = sym is ∙ gone in cc
+waits_not (Commit session start keys) c (inl is) (inr (committing, start_is)) = let clash : phase.Open ≡ phase.Committing = sym is ∙ committing in cc
+waits_not (Commit session start keys) c (inr is) (inl gone) = let clash : phase.Placing ≡ phase.Gone = sym is ∙ gone in cc
+waits_not (Commit session start keys) c (inr is) (inr (committing, start_is)) = let clash : phase.Placing ≡ phase.Committing = sym is ∙ committing in cc
+
+none_by : (w : State) (h : List Item) (s : ℕ) (c : Client) → Stands w h → ClientAt w.clients s c → IsUnasked c.entry.state → (node : ℕ) (i : InstanceEntry) → InstanceAt w.nodes node i → (held : Option Held) → held_of i s ≡ held → held ≡ None
 none_by w h s c stands at is node i there None has = refl
 none_by w h s c stands at is node i there (Some held) has =
     let waits = stands.holds.requests.requests.waits node s i held.request held.progress there (held_by i s held has) in
     absurd (waits_not held.request c is (subst (λ (d : Client). WaitsFor held.request d) (one_client w.clients s waits.0 c waits.1 at) waits.2))
 
-none_held : (w : State) (h : List Item) (s : ℕ) (c : Client) → Stands w h → ClientAt w.clients s c → c.entry.state ≡ phase.Open → (node : ℕ) (i : InstanceEntry) → InstanceAt w.nodes node i → held_of i s ≡ None
+none_held : (w : State) (h : List Item) (s : ℕ) (c : Client) → Stands w h → ClientAt w.clients s c → IsUnasked c.entry.state → (node : ℕ) (i : InstanceEntry) → InstanceAt w.nodes node i → held_of i s ≡ None
 none_held w h s c stands at is node i there = none_by w h s c stands at is node i there (held_of i s) refl
 
 -- ---- looking up the parts
@@ -60,7 +68,7 @@ by_both w s f each (Some post) (Some c) = each post c
 abbrev NoneAt : ℕ → Option InstanceEntry → Type 0
 NoneAt s post = held_at post s ≡ None
 
-none_at : (w : State) (h : List Item) (s : ℕ) (c : Client) → Stands w h → ClientAt w.clients s c → c.entry.state ≡ phase.Open → (node : ℕ) (post : Option InstanceEntry) → slice_get w.nodes node ≡ Some post → NoneAt s post
+none_at : (w : State) (h : List Item) (s : ℕ) (c : Client) → Stands w h → ClientAt w.clients s c → IsUnasked c.entry.state → (node : ℕ) (post : Option InstanceEntry) → slice_get w.nodes node ≡ Some post → NoneAt s post
 none_at w h s c stands at is node None there = refl
 none_at w h s c stands at is node (Some i) there = none_held w h s c stands at is node i there
 
@@ -121,7 +129,7 @@ IsNotOf s e = Unit {0}
 untouched : (w : State) (s : ℕ) (e : Event) (fate : Fate) → Rattle.machine.specs.Laws.touches_clients e ≡ false → Same w s (stepped w e fate)
 untouched w s e fate not = ap (λ (cs : List Client). slice_get cs s) ((leaves_parts w e fate).clients not)
 
-pub client_stays : (w : State) (h : List Item) (s : ℕ) (c : Client) → Stands w h → ClientAt w.clients s c → c.entry.state ≡ phase.Open → (e : Event) (fate : Fate) → IsNotOf s e → Same w s (stepped w e fate)
+pub client_stays : (w : State) (h : List Item) (s : ℕ) (c : Client) → Stands w h → ClientAt w.clients s c → IsUnasked c.entry.state → (e : Event) (fate : Fate) → IsNotOf s e → Same w s (stepped w e fate)
 client_stays w h s c stands at is (event.Tick to) fate not = refl
 client_stays w h s c stands at is (event.Note actor said) fate not = refl
 client_stays w h s c stands at is (event.Take node reading) fate not = untouched w s (event.Take node reading) fate refl
@@ -145,4 +153,4 @@ client_stays w h s c stands at is (event.Vanish t) fate not = by_client w s _ (�
 
 -- a read under way goes on
 pub still_reads : (w : State) (h : List Item) (s key : ℕ) → Stands w h → ReadsKey w s key → (e : Event) (fate : Fate) → IsNotOf s e → ReadsKey (stepped w e fate).state s key
-still_reads w h s key stands k e fate not = record { c = k.c; at = client_stays w h s k.c stands k.at k.work.is_open e fate not ∙ k.at; work = k.work; key_is = k.key_is }
+still_reads w h s key stands k e fate not = record { c = k.c; at = client_stays w h s k.c stands k.at (inl k.work.is_open) e fate not ∙ k.at; work = k.work; key_is = k.key_is }
