@@ -1,6 +1,6 @@
 #!/usr/bin/env python3
-"""Measures the program `omid` beside `sort`, its strict reads and audits and its caches beside the others, and its compactions and
-its threads beside its replay, and prints one table of each.
+"""Measures the program `omid` beside `sort`, its strict reads and audits, its caches and its direct commits beside the others, and its
+compactions and its threads beside its replay, and prints one table of each.
 
 usage: bench/bench.py [--program PATH] [--runs N] [--only WORD] [--quick]
 
@@ -198,6 +198,47 @@ def remembering(program, work, runs, lines):
         print(f"{f'cache {size}':28} {calls:12} {median(costs[size]):8.3f} {median(costs[size]) / plain:8.2f}", flush=True)
 
 
+def waited_for(history):
+    """Of a history: the commits that were answered, the calls on the commit table that their answers waited for, the begins that
+    waited for a commit, and the commits that a reader's mark refused."""
+    handed, commits, calls, begins, invalid = set(), 0, 0, 0, 0
+    with open(history) as it:
+        for line in it:
+            words = line.split()
+            if words[0] == "step" and words[2] == "handed":
+                handed.add(words[3])
+            elif words[0] == "placed":
+                calls += words[1].split("=")[1] not in handed
+            elif words[0] == "committed":
+                commits += 1
+            elif words[0] == "refused":
+                begins += words[2] == "not-yet"
+                invalid += words[2] == "invalid"
+    return commits, calls, begins, invalid
+
+
+def directly(program, work, runs, loads):
+    """What it saves under `run` that sessions place their own commits: each load with the line and without."""
+    print(f"{'load of direct commits':28} {'commits':>8} {'calls before':>12} {'begins late':>11} {'invalid':>8} {'wall':>7} {'of plain':>8} {'a line':>7}")
+    for name, script in loads:
+        forms = {"plain": script, "direct": ["commits direct", *script]}
+        files = {form: os.path.join(work, form) for form in forms}
+        texts = {form: os.path.join(work, form + ".history") for form in forms}
+        for form, lines in forms.items():
+            with open(files[form], "w") as it:
+                it.write("\n".join(lines) + "\n")
+        costs = {form: [] for form in forms}
+        for _ in range(runs):
+            for form in forms:
+                costs[form].append(ran([program, "run"], files[form], texts[form]))
+        plain = median(costs["plain"], "wall")
+        for form in forms:
+            commits, calls, begins, invalid = waited_for(texts[form])
+            wall, switches = median(costs[form], "wall"), median(costs[form], "switches")
+            print(f"{f'{name}, {form}':28} {commits:8} {calls:12} {begins:11} {invalid:8} {wall:7.3f} {wall / plain:8.2f} "
+                  f"{switches / len(script):7.2f}", flush=True)
+
+
 def storms(program, work, runs):
     for count in (10_000, 20_000):
         costs = [ran([program, "storm", str(count)], None, os.path.join(work, "other")) for _ in range(runs)]
@@ -242,6 +283,9 @@ def main():
             strictly(said.program, work, said.runs, picked[0])
         if said.only in "hot reader":
             remembering(said.program, work, said.runs, lines)
+        if said.only in "direct commits":
+            directly(said.program, work, max(3, said.runs // 3),
+                     [("4 sessions", transactions(lines, 4)), ("16 sessions", transactions(lines, 16)), ("16 at random", at_random(lines))])
         if not said.only:
             storms(said.program, work, said.runs)
         if picked[1]:

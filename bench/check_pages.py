@@ -1,6 +1,6 @@
 #!/usr/bin/env python3
-"""Runs the commands of README.md, docs/AUDITING.md, docs/LIBRARY.md and docs/PICTURES.md, and compares what they print, and the status
-that they end with, with what the pages show and with the answers in examples/.
+"""Runs the commands of README.md, docs/AUDITING.md, docs/LIBRARY.md, docs/SCRIPT.md and docs/PICTURES.md, and compares what they print,
+and the status that they end with, with what the pages show and with the answers in examples/.
 
 Without arguments it runs them as they stand, so each `rt try` builds its program, and the programs in crates/*/out must stand there
 (behind a green gate they do). With `--built` these serve in place of `rt try` too, and all takes seconds."""
@@ -29,6 +29,7 @@ COMMANDS = [
     ('docs/AUDITING.md', 'jq -c -f examples/trace.jq examples/trace_late_commit.json > /tmp/trace.history', 0, None),
     ('docs/AUDITING.md', AUDIT, 7, 'examples/trace_late_commit.answer'),
     ('docs/LIBRARY.md', '(cd crates/bank && rt try)', 0, 'page'),
+    ('docs/SCRIPT.md', '(cd crates/omid && rt try -- replay < ../../examples/direct.omid)', 0, 'examples/direct.history'),
     ('docs/PICTURES.md', '(cd crates/omid && rt try -- replay < ../../examples/takeover.omid) > /tmp/history', 0, None),
     ('docs/PICTURES.md', '(cd crates/omid_view && rt try -- picture < /tmp/history) > /tmp/history.svg', 0, None),
     ('docs/PICTURES.md', 'cat /tmp/history.svg', 0, 'examples/pictures/takeover.svg'),

@@ -1,7 +1,7 @@
 -- The causes in the words of the error line.
 use Rattle.std.specs.Prelude.{ℕ, List, codes}
 use Rattle.script_lines.specs.declared.cause.ScriptCause.{ScriptCause}
-use Rattle.script_lines.specs.declared.cause.ScriptCause.TheVariants.{TooLong, TooManyLines, BadByte, UnknownActor, UnknownVerb, WrongNumberOfWords, NotYet, ReplayOnly, BadNumber, OutOfRange, UnknownNode, BadSession, BadKey, BadValue, UnknownStage, UnknownStore, UnknownKind, BadName, SetupOrder, SetupTwice, TooManyFaults, PostedTwice, NameNotPosted}
+use Rattle.script_lines.specs.declared.cause.ScriptCause.TheVariants.{TooLong, TooManyLines, BadByte, UnknownActor, UnknownVerb, WrongNumberOfWords, ReplayOnly, BadNumber, OutOfRange, UnknownNode, BadSession, BadKey, BadValue, UnknownStage, UnknownStore, UnknownKind, BadName, SetupOrder, SetupTwice, TooManyFaults, PostedTwice, NameNotPosted}
 
 abbrev pub cause_text : ScriptCause → List ℕ
 cause_text TooLong = codes "too long"
@@ -10,7 +10,6 @@ cause_text BadByte = codes "bad byte"
 cause_text UnknownActor = codes "unknown actor"
 cause_text UnknownVerb = codes "unknown verb"
 cause_text WrongNumberOfWords = codes "wrong number of words"
-cause_text NotYet = codes "not yet"
 cause_text ReplayOnly = codes "replay only"
 cause_text BadNumber = codes "bad number"
 cause_text OutOfRange = codes "out of range"

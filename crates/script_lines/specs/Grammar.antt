@@ -83,11 +83,6 @@ setup_words Buckets = 3
 setup_words Lead = 3
 setup_words Fault = 4
 
--- lines of the form can be carried out
-abbrev pub is_built : SetupForm → Bool
-is_built (Flag Direct) = false
-is_built _ = true
-
 -- how many words a line of the form has, the actor included
 abbrev pub verb_words : VerbForm → ℕ
 verb_words Tick = 3

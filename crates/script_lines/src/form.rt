@@ -1,6 +1,6 @@
 // The forms of lines: how many words each has, and which only a replay takes.
 ghost use Rattle.std.specs.Prelude.{◌≡◌};
-ghost use Rattle.script_lines.specs.Grammar.{setup_words, is_built, verb_words, is_replay_only};
+ghost use Rattle.script_lines.specs.Grammar.{setup_words, verb_words, is_replay_only};
 
 use stamp_base::{SetupFlag, SetupNumber};
 
@@ -61,16 +61,6 @@ impl SetupForm {
             SetupForm::Number(_) | SetupForm::Flag(_) => 2,
             SetupForm::Buckets | SetupForm::Lead => 3,
             SetupForm::Fault => 4,
-        }
-    }
-
-    /// Whether lines of the form can be carried out yet.
-    pub fn is_built(self) -> bool
-        ensures { result ≡ is_built self }
-    {
-        match self {
-            SetupForm::Flag(SetupFlag::Direct) => false,
-            _ => true,
         }
     }
 }

@@ -13,10 +13,10 @@ use Rattle.script_data.specs.declared.limits.TheConstants.{FAULT_LIMIT}
 use Rattle.session_script.specs.declared.setting.Setting.{Setting}
 use Rattle.session_script.specs.declared.setting.Setting.TheVariants.{Number, Flag, Buckets, Lead, Fault}
 use Rattle.script_lines.specs.declared.cause.ScriptCause.{ScriptCause}
-use Rattle.script_lines.specs.declared.cause.ScriptCause.TheVariants.{WrongNumberOfWords, NotYet, SetupOrder, SetupTwice, TooManyFaults}
+use Rattle.script_lines.specs.declared.cause.ScriptCause.TheVariants.{WrongNumberOfWords, SetupOrder, SetupTwice, TooManyFaults}
 use Rattle.script_lines.specs.Checked.{number_at, setup_number_at, flag_at, node_at, store_at, kind_at}
 use Rattle.script_data.specs.Data.{ScriptData}
-use Rattle.script_lines.specs.Grammar.{setup_words, is_built}
+use Rattle.script_lines.specs.Grammar.{setup_words}
 use Rattle.script_lines.specs.Results.{◌>>=◌}
 use Rattle.script_lines.specs.Words.{LineWords}
 
@@ -31,7 +31,6 @@ arguments_of setup forms.Fault words = store_at words.second >>= (λ store. numb
 unfoldable pub setting_of : SetupNumbers → SetupForm → LineWords → Result Setting ScriptCause
 setting_of setup form words =
     if not (words.count == setup_words form) then Err WrongNumberOfWords
-    else if not (is_built form) then Err NotYet
     else arguments_of setup form words
 
 -- the numbers are in their bounds

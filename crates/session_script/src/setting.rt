@@ -134,8 +134,6 @@ pub fn setting_of(setup: &Setup, form: SetupForm, words: &Words) -> Result<Setti
 {
     if words.count != form.words() {
         Err(ScriptCause::WrongNumberOfWords)
-    } else if !form.is_built() {
-        Err(ScriptCause::NotYet)
     } else {
         arguments_of(setup, form, words)
     }

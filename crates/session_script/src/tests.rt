@@ -5,7 +5,7 @@ use std::alloc::Global;
 use std::test::Fail;
 
 /// A script, its first bad line and the cause, in either mode.
-static BAD: [(&str, u64, &str); 78] = [
+static BAD: [(&str, u64, &str); 81] = [
     // The first bad line.
     ("a\0take", 1, "bad byte"),
     ("\0", 1, "bad byte"),
@@ -19,6 +19,7 @@ static BAD: [(&str, u64, &str); 78] = [
     ("buckets 1", 1, "wrong number of words"),
     ("fault cells 1", 1, "wrong number of words"),
     ("cache", 1, "wrong number of words"),
+    ("commits", 1, "wrong number of words"),
     ("# a take\n\n \t\na take\nq\n\0", 5, "unknown actor"),
     ("a take\r\nq\r\n", 2, "unknown actor"),
     ("a take\ns1 begin z", 2, "unknown node"),
@@ -56,6 +57,8 @@ static BAD: [(&str, u64, &str); 78] = [
     ("fault table 1000001 none", 1, "out of range"),
     ("fault master 1 none", 1, "unknown kind"),
     ("fault master 1 works", 1, "unknown kind"),
+    ("cache x", 1, "bad number"),
+    ("commits late", 1, "unknown kind"),
     ("reads serial", 1, "unknown kind"),
     // Setup lines stand in front, and each once.
     ("a take\nlease 5", 2, "setup order"),
@@ -66,6 +69,7 @@ static BAD: [(&str, u64, &str); 78] = [
     ("nodes 2\nlead a 0\nnodes 2", 3, "setup order"),
     ("skew 2\nlead b 0\nskew 2", 3, "setup order"),
     ("lease 5\na take\nlease 5", 3, "setup order"),
+    ("a take\ncommits direct", 2, "setup order"),
     ("a take\nreads strict", 2, "setup order"),
     ("nodes 2\nnodes 2", 2, "setup twice"),
     ("nodes 2\nnodes 3", 2, "setup twice"),
@@ -77,6 +81,7 @@ static BAD: [(&str, u64, &str); 78] = [
     ("batch 1\nbatch 2", 2, "setup twice"),
     ("workers 1\nworkers 2", 2, "setup twice"),
     ("lead a 1\nlead b 1\nlead a 1", 3, "setup twice"),
+    ("commits direct\ncommits direct", 2, "setup twice"),
     ("reads strict\nreads strict", 2, "setup twice"),
     (
         "fault cells 1 applied\nfault table 1 applied\nfault cells 1 unchanged",
@@ -90,9 +95,6 @@ static BAD: [(&str, u64, &str); 78] = [
     ("s0 await p\na post p", 1, "name not posted"),
     ("a post p\ns0 post p", 2, "posted twice"),
     ("a post p\na post q\njanitor post q", 3, "posted twice"),
-    // Forms that wait.
-    ("cache x", 1, "bad number"),
-    ("commits direct", 1, "not yet"),
 ];
 
 /// The same, of a script for threads.
@@ -103,7 +105,7 @@ static BAD_IN_A_RUN: [(&str, u64, &str); 3] = [
 ];
 
 /// A script, and how many lines it has that are not empty.
-static COUNTED: [(&str, usize); 13] = [
+static COUNTED: [(&str, usize); 14] = [
     ("", 0),
     ("\n\n \n", 0),
     ("# one\n  # two \x01\n\t\n#", 0),
@@ -113,6 +115,7 @@ static COUNTED: [(&str, usize); 13] = [
     ("a take\r\n\r\ns0 begin a\r\n", 2),
     ("s15 read k4095\ns0 read k0\n", 2),
     ("lease 5\nb take\ns0 begin b", 2),
+    ("commits direct\na take", 1),
     ("reads strict\na take", 1),
     (
         "s0 write k0 aaaaaaaaaaaaaaaaaaaaaaaaaaaaaaaaaaaaaaaaaaaaaaaaaaaaaaaaaaaaaaaa",
@@ -222,6 +225,19 @@ fn sets_what_setup_lines_say(rt: HostRuntime) -> Result<(), Fail> {
         return Err(Fail::from("lines"));
     };
     assert_eq!(rt; take.number, 14);
+    Ok(())
+}
+
+#[test]
+fn turns_on_what_setup_lines_name(rt: HostRuntime) -> Result<(), Fail> {
+    let bytes = b"commits direct\ncache 2\nreads strict\na take\n";
+    let Ok(script) = read_script(rt.alloc(), bytes, Mode::Run) else {
+        return Err(Fail::from("no script"));
+    };
+    let setup = script.setup;
+    assert!(rt; setup.direct);
+    assert!(rt; setup.strict);
+    assert_eq!(rt; setup.cache, 2);
     Ok(())
 }
 

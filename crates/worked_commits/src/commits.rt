@@ -126,7 +126,7 @@ const READ_ONLY_HISTORY: &[&str] = &[
 ];
 
 /// A begin waits for a commit that was drawn before it and is not placed.
-const NOT_YET: &str = "\
+pub const NOT_YET: &str = "\
 a take
 s0 begin a
 s0 write k0 v

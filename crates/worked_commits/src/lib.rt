@@ -3,6 +3,7 @@
 
 pub mod commits;
 pub mod conflicts;
+pub mod direct;
 pub mod json;
 pub mod many_keys;
 pub mod remembered;

@@ -1,8 +1,8 @@
 // Scripts whose lines wait for each other by names, so that threads have one order to carry them out in: that of the file.
 use worked_pieces::Replay;
 use worked_pieces::answers::{
-    DRAWN, S0_BEGINS, S0_COMPLETES_2, S0_IS_DEAD, S0_IS_INVALID, S0_PLACES_2, S1_BEGINS_2,
-    S1_BEGINS_AT_B, S1_BEGINS_WITH_AN_EXTENSION, S1_MARKS,
+    DRAWN, S0_BEGINS, S0_COMPLETES_2, S0_IS_DEAD, S0_IS_HANDED_2, S0_IS_INVALID, S0_PLACES_2,
+    S1_BEGINS_2, S1_BEGINS_3, S1_BEGINS_AT_B, S1_BEGINS_WITH_AN_EXTENSION, S1_MARKS,
 };
 
 /// A node with several workers, whose batches have one entry.
@@ -206,7 +206,40 @@ const STRICT_HISTORY: &[&str] = &[
     "step s1 erase k0 2\n",
 ];
 
-static REPLAYS: [Replay; 5] = [
+/// Sessions place their own commits: a persist stage that is held keeps none back.
+const DIRECT: &str = "\
+commits direct
+a take
+a hold persist
+a post p1
+s0 await p1
+s0 begin a
+s0 write k0 v
+s0 commit a
+s0 post p2
+s1 await p2
+s1 begin a
+s1 read k0
+";
+
+const DIRECT_HISTORY: &[&str] = &[
+    "take a reading=0 term=1 epoch=0 until=10 ceiling=100\n",
+    "note a hold persist\n",
+    "note a post p1\n",
+    "note s0 await p1\n",
+    S0_BEGINS,
+    DRAWN,
+    S0_IS_HANDED_2,
+    S0_PLACES_2,
+    S0_COMPLETES_2,
+    "note s0 post p2\n",
+    "note s1 await p2\n",
+    S1_BEGINS_3,
+    "step s1 fetch k0 cells=1\n",
+    "read s1 start=3 k0 from=1 v\n",
+];
+
+static REPLAYS: [Replay; 6] = [
     Replay {
         name: "threads",
         script: &[HELD, HELD_PUT],
@@ -231,6 +264,11 @@ static REPLAYS: [Replay; 5] = [
         name: "threads, strict reads",
         script: &[STRICT],
         history: STRICT_HISTORY,
+    },
+    Replay {
+        name: "threads, direct commits",
+        script: &[DIRECT],
+        history: DIRECT_HISTORY,
     },
 ];
 

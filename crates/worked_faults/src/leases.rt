@@ -5,7 +5,7 @@ use worked_pieces::answers::{
 };
 
 /// The last reading at which a lease serves, the first at which it has expired, and the first at which it can be taken over.
-const BOUNDARIES: &str = "\
+pub const BOUNDARIES: &str = "\
 a take
 clock tick 9
 s0 begin a
@@ -18,7 +18,7 @@ b take
 a take
 ";
 
-const BOUNDARIES_HISTORY: &str = "\
+pub const BOUNDARIES_HISTORY: &str = "\
 take a reading=0 term=1 epoch=0 until=10 ceiling=100
 tick 9
 ask-begin s0 a

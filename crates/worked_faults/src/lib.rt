@@ -2,6 +2,7 @@
 //! for byte, by topic.
 #![tactic(auto)]
 
+pub mod direct;
 pub mod leases;
 pub mod outcomes;
 pub mod refusals;

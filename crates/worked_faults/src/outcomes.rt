@@ -6,7 +6,7 @@ use worked_pieces::answers::{
 };
 
 /// The put of a commit fails: its session finds out what became of it.
-const FAULTED_PUT: &str = "\
+pub const FAULTED_PUT: &str = "\
 a take
 s0 begin a
 s0 write k0 v
@@ -49,7 +49,7 @@ const FAULTED_RESOLVE_HISTORY: &[&str] = &[
 ];
 
 /// The oracle crashes with a commit that was drawn. A reader and a sweep come after the takeover.
-const CRASH: &str = "\
+pub const CRASH: &str = "\
 a take
 s0 begin a
 s0 write k0 v
@@ -63,7 +63,7 @@ s1 read k0
 janitor sweep b 1
 ";
 
-const CRASH_HISTORY: &[&str] = &[
+pub const CRASH_HISTORY: &[&str] = &[
     BEGUN,
     DRAWN,
     "crash a term=1\n",
@@ -127,7 +127,7 @@ const SWEPT_HISTORY: &[&str] = &[
 ];
 
 /// A session vanishes while its commit is in flight. The commit goes on, and a sweep completes it.
-const GONE_IN_FLIGHT: &str = "\
+pub const GONE_IN_FLIGHT: &str = "\
 a take
 s0 begin a
 s0 write k0 v

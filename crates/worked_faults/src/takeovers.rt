@@ -6,7 +6,7 @@ use worked_pieces::answers::{
 };
 
 /// The first oracle has drawn a commit and not placed it when the second one takes over.
-const TAKEN_OVER: &str = "\
+pub const TAKEN_OVER: &str = "\
 a take
 s0 begin a
 s0 write k0 v
@@ -16,7 +16,7 @@ b take
 ";
 
 /// A reader of the second oracle marks the transaction before its commit is placed.
-const LATE_PUT: &str = "\
+pub const LATE_PUT: &str = "\
 s1 begin b
 s1 read k0
 s0 collect
@@ -32,7 +32,7 @@ const LATE_PUT_HISTORY: &[&str] = &[
 ];
 
 /// The commit is placed before the reader comes.
-const PUT_BEFORE_READ: &str = "\
+pub const PUT_BEFORE_READ: &str = "\
 a put s0
 s1 begin b
 s1 read k0
@@ -53,7 +53,7 @@ const PUT_BEFORE_READ_HISTORY: &[&str] = &[
 ];
 
 /// The commit is placed, completed and removed between the reader's look at the table and its mark.
-const STRAY_MARK: &str = "\
+pub const STRAY_MARK: &str = "\
 s1 begin b
 s1 fetch k0
 s1 step
@@ -132,7 +132,7 @@ const FOUND_MARK_HISTORY: &[&str] = &[
 ];
 
 /// A commit that was accepted in time is drawn after the takeover.
-const LATE_DRAW: &str = "\
+pub const LATE_DRAW: &str = "\
 a take
 s0 begin a
 s0 write k0 v
@@ -161,7 +161,7 @@ const LATE_DRAW_HISTORY: &[&str] = &[
 ];
 
 /// A begin that was accepted in time is answered after a takeover and a commit at the second oracle.
-const LATE_BEGIN: &str = "\
+pub const LATE_BEGIN: &str = "\
 a take
 s0 ask-begin a
 a accept s0
@@ -176,7 +176,7 @@ s0 read k0
 s0 write k1 z
 ";
 
-const LATE_BEGIN_HISTORY: &str = "\
+pub const LATE_BEGIN_HISTORY: &str = "\
 take a reading=0 term=1 epoch=0 until=10 ceiling=100
 ask-begin s0 a
 accept s0 a term=1 reading=0
@@ -190,7 +190,7 @@ write s1 start=101 k0 w
 ";
 
 /// Behind the commit at the second oracle.
-const ANSWERED_LATE_HISTORY: &str = "\
+pub const ANSWERED_LATE_HISTORY: &str = "\
 draw s0 a term=1 start=1
 begin s0 start=1
 step s0 fetch k0 cells=0
@@ -199,14 +199,14 @@ write s0 start=1 k1 z
 ";
 
 /// Its commit at the old oracle.
-const EXPIRED_HISTORY: &str = "\
+pub const EXPIRED_HISTORY: &str = "\
 ask-commit s0 a start=1
 refused s0 expired reading=12 until=10
 step s0 erase k1 1
 ";
 
 /// Its commit at the new one.
-const OLD_EPOCH_HISTORY: &str = "\
+pub const OLD_EPOCH_HISTORY: &str = "\
 ask-commit s0 b start=1
 refused s0 old-epoch start=1 epoch=100
 step s0 erase k1 1

@@ -197,3 +197,14 @@ step janitor shadow k0 1 2
 step janitor shadow k1 1 2
 step janitor remove 1
 ";
+
+/// Where commits are direct, `a answer s0`.
+pub const S0_IS_HANDED_2: &str = "step s0 handed 1 2\n";
+
+/// Where commits are direct, `s0 collect` of a transaction that was marked.
+pub const S0_MEETS_THE_MARK: &str = "\
+step s0 handed 1 2
+step s0 put 1 invalid
+refused s0 invalid start=1
+step s0 erase k0 1
+";

@@ -57,7 +57,7 @@ static BAD_SCRIPTS: [(&str, &str); 31] = [
     ("a\n", "script line 1: wrong number of words\n"),
     ("a take now\n", "script line 1: wrong number of words\n"),
     ("cache 1025\n", "script line 1: out of range\n"),
-    ("commits direct\n", "script line 1: not yet\n"),
+    ("commits late\n", "script line 1: unknown kind\n"),
     (
         "clock tick 12345678901234567890\n",
         "script line 1: bad number\n",

@@ -4,16 +4,16 @@ use std::alloc::{AllocError, Global};
 use std::sync::Wait;
 use std::test::Fail;
 use std::thread::Threads;
-use worked_commits::{commits, conflicts, many_keys, remembered, strict};
+use worked_commits::{commits, conflicts, direct, many_keys, remembered, strict};
 use worked_examples::{examples, threads};
-use worked_faults::{leases, outcomes, refusals, takeovers};
+use worked_faults::{direct as direct_faults, leases, outcomes, refusals, takeovers};
 use worked_pieces::Replay;
 
 /// How many topics the worked examples have.
-pub const TOPICS: usize = 11;
+pub const TOPICS: usize = 13;
 
 /// How many each topic has.
-const COUNTS: [usize; TOPICS] = [10, 5, 1, 4, 8, 6, 9, 8, 7, 4, 5];
+const COUNTS: [usize; TOPICS] = [10, 5, 1, 4, 8, 6, 9, 8, 7, 4, 4, 15, 6];
 
 /// The worked examples of a topic.
 pub fn topic(number: usize) -> &'static [Replay] {
@@ -28,6 +28,8 @@ pub fn topic(number: usize) -> &'static [Replay] {
         7 => refusals::replays(),
         8 => examples::replays(),
         9 => remembered::replays(),
+        10 => direct::replays(),
+        11 => direct_faults::replays(),
         _ => threads::replays(),
     }
 }
@@ -62,29 +64,78 @@ fn strict_histories_are_serial(rt: HostRuntime) -> Result<(), Fail> {
     Ok(())
 }
 
-/// Whether the example's script, behind more setup lines, is replayed to a history that is isolated and serial.
-fn is_serial_behind<R: Threads + Wait + Sync>(
+/// Whether the example's script, behind more setup lines, is replayed to a history that passes the audit of these words.
+fn passes_behind<R: Threads + Wait + Sync>(
     rt: &R,
     alloc: Global,
+    audit: &[&str],
     setup: &str,
     replay: &Replay,
 ) -> Result<bool, AllocError> {
     let mut script = joined(alloc, &[setup])?;
     script.extend_from_slice(&joined(alloc, replay.script)?)?;
     let (history, status) = answer_of(rt, alloc, &["replay"], &script)?;
-    Ok(status == 0 && is_serial(rt, alloc, &history)?)
+    let (_, verdict) = answer_of(rt, alloc, audit, &history)?;
+    Ok(status == 0 && verdict == 0)
+}
+
+const AUDIT: &[&str] = &["audit"];
+
+const STRICT_AUDIT: &[&str] = &["audit", "strict"];
+
+/// Setup lines in front of the examples of takeovers, and the audit that their histories pass.
+static FORMS: [(&str, &[&str]); 5] = [
+    ("commits direct\n", AUDIT),
+    ("commits direct\ncache 2\n", AUDIT),
+    ("cache 2\nreads strict\n", STRICT_AUDIT),
+    ("commits direct\nreads strict\n", STRICT_AUDIT),
+    ("commits direct\ncache 2\nreads strict\n", STRICT_AUDIT),
+];
+
+/// The same in front of the examples of direct commits, which have their own line.
+static FORMS_OF_DIRECT: [(&str, &[&str]); 3] = [
+    ("cache 2\n", AUDIT),
+    ("reads strict\n", STRICT_AUDIT),
+    ("cache 2\nreads strict\n", STRICT_AUDIT),
+];
+
+// Behind functions, a proof that goes over the forms does not look into their texts.
+
+fn forms() -> &'static [(&'static str, &'static [&'static str])] {
+    &FORMS
+}
+
+fn forms_of_direct() -> &'static [(&'static str, &'static [&'static str])] {
+    &FORMS_OF_DIRECT
 }
 
 #[test]
-fn takeovers_with_a_memory_are_serial(rt: HostRuntime) -> Result<(), Fail> {
-    for replays in [takeovers::replays(), leases::replays()] {
-        for replay in replays {
-            let setup = "cache 2\nreads strict\n";
-            assert!(rt;
-                is_serial_behind(&rt, rt.alloc(), setup, replay)?,
-                "{}",
-                replay.name
-            );
+fn takeovers_pass_in_each_form(rt: HostRuntime) -> Result<(), Fail> {
+    for (setup, audit) in forms() {
+        for replays in [takeovers::replays(), leases::replays()] {
+            for replay in replays {
+                assert!(rt;
+                    passes_behind(&rt, rt.alloc(), audit, setup, replay)?,
+                    "{}",
+                    replay.name
+                );
+            }
+        }
+    }
+    Ok(())
+}
+
+#[test]
+fn direct_commits_pass_in_each_form(rt: HostRuntime) -> Result<(), Fail> {
+    for (setup, audit) in forms_of_direct() {
+        for replays in [direct::replays(), direct_faults::replays()] {
+            for replay in replays {
+                assert!(rt;
+                    passes_behind(&rt, rt.alloc(), audit, setup, replay)?,
+                    "{}",
+                    replay.name
+                );
+            }
         }
     }
     Ok(())

@@ -1,6 +1,6 @@
 // Scripts carried out on threads: those with one order are carried out in that of the file, and whatever comes of the others is
 // isolated.
-use crate::calls::{answer_of, is_isolated, tells};
+use crate::calls::{answer_of, is_isolated, joined, tells};
 use crate::crowd::CROWD;
 use crate::faults::{keeps_lines, open_sink, open_source, reads_nothing};
 use omid_top::{Gate, GatePlace, omid};
@@ -176,20 +176,33 @@ fn free() -> &'static [&'static str] {
     &FREE
 }
 
-/// Whether the script is carried out on threads, and what they made is isolated.
+/// Whether the script behind this setup is carried out on threads, and what they made is isolated.
 fn is_run<R: Threads + Wait + Sync>(
     rt: &R,
     alloc: Global,
+    setup: &str,
     script: &str,
 ) -> Result<bool, AllocError> {
-    let (history, status) = answer_of(rt, alloc, RUN, script.as_bytes())?;
+    let whole = joined(alloc, &[setup, script])?;
+    let (history, status) = answer_of(rt, alloc, RUN, &whole)?;
     Ok(status == 0 && is_isolated(rt, alloc, &history)?)
 }
 
 #[test]
 fn whatever_threads_make_is_isolated(rt: HostRuntime) -> Result<(), Fail> {
     for script in free() {
-        assert!(rt; is_run(&rt, rt.alloc(), script)?, "{script}");
+        assert!(rt; is_run(&rt, rt.alloc(), "", script)?, "{script}");
+    }
+    Ok(())
+}
+
+#[test]
+fn whatever_threads_make_of_direct_commits_is_isolated(rt: HostRuntime) -> Result<(), Fail> {
+    for script in free() {
+        assert!(rt;
+            is_run(&rt, rt.alloc(), "commits direct\n", script)?,
+            "{script}"
+        );
     }
     Ok(())
 }
