@@ -96,24 +96,15 @@ pub decides : (w : State) (stage : Stage) (node s n other : ℕ) → stage_turn 
 decides w stage node s n other is = decide_any stage node s (session_view w s).commit (session_view w s).request n other is
 
 -- ---- the turn that serves
-
-used_by : (w : State) (n node : ℕ) (others : Bool) → IsUsedUp (slice_get w.nodes n) → (others ≡ true → IsUsedUp (slice_get w.nodes node)) → (here : Bool) → (n == node) ≡ here → here || others ≡ true → IsUsedUp (slice_get w.nodes node)
-used_by w n node others first later true here is = subst (λ (m : ℕ). IsUsedUp (slice_get w.nodes m)) (eqb-true n node here) first
-used_by w n node others first later false here is = later is
-
-used_at : (w : State) (node : ℕ) (lacking : List ℕ) → All (λ n. IsUsedUp (slice_get w.nodes n)) lacking → list_any (λ (n : ℕ). n == node) lacking ≡ true → IsUsedUp (slice_get w.nodes node)
-used_at w node [] all is = absurd (true≢false (sym is))
-used_at w node (n ∷ lacking) all is = used_by w n node (list_any (λ (m : ℕ). m == node) lacking) (All-head (λ m. IsUsedUp (slice_get w.nodes m)) n lacking all) (used_at w node lacking (All-tail (λ m. IsUsedUp (slice_get w.nodes m)) n lacking all)) (n == node) refl is
-
 -- where the node's last decision found no stamp, the range is extended in place of the next one
-pub extends_first : (r : Ran) (lacking : List ℕ) (stage : Stage) (node s n other : ℕ) → IsCarriedOut r.script r.turns lacking → list_any (λ (m : ℕ). m == node) lacking ≡ true → stage_turn stage node s (session_view (state_of r) s) ≡ Some (turn.Decide n other) → IsServable r node stage s (turn.Extend node)
+pub extends_first : (r : Ran) (lacking : List Bool) (stage : Stage) (node s n other : ℕ) → IsCarriedOut r.script r.turns lacking → slice_index_or lacking node false ≡ true → stage_turn stage node s (session_view (state_of r) s) ≡ Some (turn.Decide n other) → IsServable r node stage s (turn.Extend node)
 extends_first r lacking stage node s n other out lacks is =
     let w : State = state_of r in
     let decides_it : stage_turn stage node s (session_view w s) ≡ Some (turn.Decide node s) = decides w stage node s n other is in
     let k : IsOfStage w stage node (turn.Decide node s) = of_stage_turn w stage node s (turn.Decide node s) decides_it in
     record {
       of_stage = k.of_stage;
-      in_place = lacks_stamps w (reached_by r).played.items node s (facts r.script r.turns out.sound out.few).reached.stands k.in_place (used_at w node lacking out.used_up lacks);
+      in_place = lacks_stamps w (reached_by r).played.items node s (facts r.script r.turns out.sound out.few).reached.stands k.in_place (out.used_up node lacks);
       of_session = inr (refl, decides_it);
     }
 
