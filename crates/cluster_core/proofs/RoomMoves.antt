@@ -16,11 +16,11 @@ reserves_at_most : (held : Option Held) (result : Result Unit Stopped) (before n
 reserves_at_most None result before now within = within.1
 reserves_at_most (Some held) result before now five = (five_or_none result before now five).1
 
-spends_at_most : (served : Bool) (before now : ℕ) (history later : List Item) → length history ≤ length later → SpendsIf served before history now later → now ≤ before
+spends_at_most : (served : Bool) (before now : ℕ) (history later : List Item) → length history ≤ length later → SpendsIf served before history now later → now ≤ before + 0
 spends_at_most true before now history later grown all = omega (arith, grown, all)
 spends_at_most false before now history later grown same = omega (arith, same)
 
-keeps : (old now : Whole) → KeepsRoom old now → now.spare ≤ old.spare
+keeps : (old now : Whole) → KeepsRoom old now → now.spare ≤ old.spare + 0
 keeps old now room = omega (arith, room.spare)
 
 pub room_rises : (old now : Whole) (e : Event) (result : Result Unit Stopped) → length old.history ≤ length now.history → LeavesRoom e old now result → now.spare ≤ old.spare + most_reserved e

@@ -1,5 +1,5 @@
 -- A turn that serves a request has its room among what is kept for requests in flight, and every other turn leaves that room.
-use Rattle.std.proofs.Common.{◌≡◌, ◌≤◌, ◌<◌, ◌+◌, ℕ, Bool, true, false, List, [], ◌∷◌, length, Option, Some, None, Result, Ok, Err, refl, sym, ◌∙◌, ap, subst, arith}
+use Rattle.std.proofs.Common.{◌≡◌, ◌≤◌, ◌<◌, ◌+◌, ℕ, Bool, true, false, List, [], ◌∷◌, drop, length, length-drop, Option, Some, None, Result, refl, sym, ◌∙◌, ap, subst, arith}
 use Rattle.std.specs.Prelude.{is_ok, is_some, IsOk}
 use Rattle.std.proofs.lemmas.Bool.{true≢false}
 use Rattle.std.proofs.lemmas.Option.{same_Some}
@@ -163,3 +163,10 @@ never_refused r t e answer whole clock ahead names held seated lacking k can nev
 lacked_by : (served : Bool) {A B : Type 0} (room : Result A B) (answer : Result Unit Stopped) → (served ≡ true → IsOk room) → is_ok room ≡ false → NeverLacksIf served answer
 lacked_by true room answer free lacks = absurd (true≢false (sym (free refl) ∙ lacks))
 lacked_by false room answer free lacks = tt
+
+-- ---- as the call finds it
+pub has_room : (t : Turn) (e : Event) (spare found len capacity : ℕ) → found ≡ spare → len + found ≤ capacity → (serves t ≡ false → len + found + most_reserved e + 1 ≤ capacity) → HasRoom t e spare len capacity
+has_room t e spare found len capacity is kept more = record { kept = omega (arith, is, kept); more = λ none. omega (arith, is, more none) }
+
+pub grown_by : (before : ℕ) (items old now : List Item) → before ≡ length old → before ≤ length now → items ≡ drop before now → length now ≡ length old + length items
+grown_by before items old now is least appended = omega (arith, is, least, ap (λ (xs : List Item). length xs) appended, length-drop before now)
