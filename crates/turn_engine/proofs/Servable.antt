@@ -146,7 +146,7 @@ accepting (turn.Accept node session) = true
 accepting _ = false
 
 -- a turn of a request stage
-at_stage : (r : Ran) (node s n : ℕ) (stage : Stage) → Some (n, Request) ≡ Some (node, stage) → MayTakeMemory r n Request s → MayTakeMemory r node stage s
+at_stage : (r : Ran) (node s n : ℕ) (stage : Stage) → ◌≡◌ {A = Option (ℕ × Stage)} (Some (n, Request)) (Some (node, stage)) → MayTakeMemory r n Request s → MayTakeMemory r node stage s
 at_stage r node s n stage is may = subst (λ (p : ℕ × Stage). MayTakeMemory r p.0 p.1 s) (same_Some (n, Request) (node, stage) is) may
 
 accepts : (r : Ran) (node s n other : ℕ) (stage : Stage) → stage_turn stage node s (session_view (state_of r) s) ≡ Some (turn.Accept n other) → MayTakeMemory r node stage s

@@ -160,7 +160,7 @@ pub never_refused : (r : Ran) (t : Turn) (e : Event) (answer : Result Unit Stopp
 never_refused r t e answer whole clock ahead names held seated lacking k can never = never_lacks r.script (reached_by r) t e whole.state answer (facts r.script r.turns k.out.sound k.out.few).reached.stands can.in_place can.event k.stands.state never
 
 -- nor does it lack the room for it
-lacked_by : (served : Bool) {A B : Type 0} (room : Result A B) (answer : Result Unit Stopped) → (served ≡ true → IsOk room) → is_ok room ≡ false → NeverLacksIf served answer
+pub lacked_by : (served : Bool) {A B : Type 0} (room : Result A B) (answer : Result Unit Stopped) → (served ≡ true → IsOk room) → is_ok room ≡ false → NeverLacksIf served answer
 lacked_by true room answer free lacks = absurd (true≢false (sym (free refl) ∙ lacks))
 lacked_by false room answer free lacks = tt
 
