@@ -1,27 +1,22 @@
 // What the thread of an actor does.
-ghost use Rattle.std.specs.Prelude.{◌≡◌, length};
+ghost use Rattle.std.specs.Prelude.{◌≡◌, ◌+◌, drop, length};
 ghost use Rattle.reply_pipeline.specs.Seats.{IsSenderPass};
 ghost use Rattle.thread_steps.specs.Going.{GoesOn};
+ghost use Rattle.thread_crew.specs.Asking.{Follows, Offers};
+ghost use Rattle.thread_crew.specs.Lines.{own_left, AreLeft};
 
+use crate::asking::{Unsent, asked_ticket, node_asked, offer, offer_again};
 use crate::lines::LinesLeft;
 use crate::quiet::{Quiet, wait_quietly};
 use crate::shared::Shared;
 use crate::waking::wake_for;
 use history_book::Actor;
 use line_shares::ActorShare;
-use reply_pipeline::{Gate, offer_ticket};
-use stage_queues::{StagePass, Ticket};
-use stamp_base::{NodeNo, Stage, Term};
+use reply_pipeline::Gate;
+use stage_queues::StagePass;
 use std::sync::Wait;
 use std::sync::ledger::Ledger;
 use thread_steps::{ActorStep, ActorSteps, Steps};
-
-/// A ticket for which the queue of the node had no room.
-#[derive(Clone, Copy)]
-struct Unsent {
-    node: NodeNo,
-    ticket: Ticket,
-}
 
 /// Makes the events of the actor's lines until none is left, memory is refused, or it would wait and the queues are closed.
 pub fn act<L: Ledger, R: Wait, B: Steps + ActorSteps<L> + Sync, G: Gate>(
@@ -67,16 +62,52 @@ fn turn<L: Ledger, R: Wait, B: Steps + ActorSteps<L> + Sync, G: Gate>(
 ) -> bool
     requires pass { IsSenderPass shared.now.queues.now pass.old }
     requires nodes { length shared.now.queues.now.nodes ≡ shared.now.setup.nodes }
+    requires left { AreLeft shared.now.lines.now mine.old left.old }
     ensures share { GoesOn mine.old mine.new }
     ensures pass { IsSenderPass shared.now.queues.now pass.new }
+    ensures left { AreLeft shared.now.lines.now mine.new left.new }
 {
     let before = mine.done();
     let step = shared.board.actor_step(rt, mine);
     wake_others(shared, left, mine.done() - before);
+    follow(rt, shared, left, step, pass, unsent, quiet)
+}
+
+// Wakes those that wait for what the next lines of the actor do, which are done now.
+fn wake_others<B: Steps + Sync, G: Gate>(
+    shared: &Shared<'_, B, G>,
+    left: &mut LinesLeft<'_>,
+    more: u64,
+)
+    ensures actor { left.new.actor ≡ left.old.actor }
+    ensures rest { own_left left.new ≡ drop more (own_left left.old) }
+{
+    for _line in 0..more {
+        if let Some(verb) = left.next() {
+            wake_for(shared.queues, &shared.setup, left.actor, &verb);
+        }
+    }
+}
+
+// What follows from a step for the actor's own requests. A session goes on once its request is drawn or has ended, so that no stage
+// waits for a ticket of it that is not sent.
+fn follow<R: Wait, B: Steps + Sync, G: Gate>(
+    rt: &R,
+    shared: &Shared<'_, B, G>,
+    left: &LinesLeft<'_>,
+    step: ActorStep,
+    pass: &mut StagePass,
+    unsent: &mut Option<Unsent>,
+    quiet: &mut Quiet,
+) -> bool
+    requires pass { IsSenderPass shared.now.queues.now pass.old }
+    requires nodes { length shared.now.queues.now.nodes ≡ shared.now.setup.nodes }
+    ensures pass { IsSenderPass shared.now.queues.now pass.new }
+    ensures follows { Follows shared.now.setup.nodes left.now.actor step unsent.old unsent.new pass.old pass.new }
+{
     match step {
         ActorStep::Did { asked } => {
-            // A session goes on once its request is drawn or has ended, so that no stage waits for a ticket of it that is not sent.
-            *unsent = asked_ticket(mine.actor(), asked);
+            *unsent = asked_ticket(left.actor, asked);
             quiet.heed(node_asked(unsent));
             offer(rt, shared, pass, unsent);
             true
@@ -86,61 +117,6 @@ fn turn<L: Ledger, R: Wait, B: Steps + ActorSteps<L> + Sync, G: Gate>(
         ActorStep::NoMemory => {
             shared.give_up();
             false
-        }
-    }
-}
-
-// Wakes those that wait for what the next lines of the actor do, which are done now.
-fn wake_others<B: Steps + Sync, G: Gate>(
-    shared: &Shared<'_, B, G>,
-    left: &mut LinesLeft<'_>,
-    more: u64,
-) {
-    for _line in 0..more {
-        if let Some(verb) = left.next() {
-            wake_for(shared.queues, &shared.setup, left.actor, &verb);
-        }
-    }
-}
-
-// The ticket of an ask.
-fn asked_ticket(actor: Actor, asked: Option<(NodeNo, Term)>) -> Option<Unsent> {
-    match (asked, actor) {
-        (Some((node, term)), Actor::Session(session)) => {
-            Some(Unsent {
-                node,
-                ticket: Ticket { session, term },
-            })
-        }
-        _ => None,
-    }
-}
-
-// The node of an ask, as long as its ticket is at hand.
-fn node_asked(unsent: &Option<Unsent>) -> Option<NodeNo> {
-    match unsent {
-        Some(Unsent { node, .. }) => Some(*node),
-        None => None,
-    }
-}
-
-// Sends the ticket if the queue of its node has room.
-fn offer<R: Wait, B: Steps + Sync, G: Gate>(
-    rt: &R,
-    shared: &Shared<'_, B, G>,
-    pass: &mut StagePass,
-    unsent: &mut Option<Unsent>,
-)
-    requires pass { IsSenderPass shared.now.queues.now pass.old }
-    requires nodes { length shared.now.queues.now.nodes ≡ shared.now.setup.nodes }
-    ensures { IsSenderPass shared.now.queues.now pass.new }
-{
-    if let Some(Unsent { node, ticket }) = *unsent {
-        // No clause of the board says that the node is one of the setup.
-        if node.value() >= shared.setup.nodes
-            || offer_ticket(rt, node, shared.queues, pass, ticket).is_ok()
-        {
-            *unsent = None;
         }
     }
 }
@@ -157,16 +133,13 @@ fn wait<R: Wait, B: Steps + Sync, G: Gate>(
 ) -> bool
     requires pass { IsSenderPass shared.now.queues.now pass.old }
     requires nodes { length shared.now.queues.now.nodes ≡ shared.now.setup.nodes }
-    ensures { IsSenderPass shared.now.queues.now pass.new }
+    ensures pass { IsSenderPass shared.now.queues.now pass.new }
+    ensures offers { Offers shared.now.setup.nodes unsent.old unsent.new pass.old pass.new }
 {
     if shared.queues.closed() {
         return false;
     }
-    offer(rt, shared, pass, unsent);
-    if let Some(Unsent { node, .. }) = *unsent {
-        shared.queues.ask_for_room(node, Stage::Request);
-        offer(rt, shared, pass, unsent);
-    }
+    offer_again(rt, shared, pass, unsent);
     wait_quietly(rt, shared, left, quiet);
     true
 }

@@ -3,6 +3,7 @@
 #![tactic(auto)]
 
 mod actors;
+mod asking;
 mod before;
 mod crew;
 mod lines;

@@ -1,0 +1,10 @@
+use Rattle.std.proofs.Common.{◌∙◌, ap, drop}
+use Rattle.std.proofs.lemmas.List.{drop-drop}
+use Rattle.thread_crew.specs.Lines.{own}
+use Rattle.thread_crew.proofs.lines.LinesLeft.after.Goals as goal
+
+pub loop-line-preserved : goal.loop-line-preserved
+loop-line-preserved c = (
+  c.next-done.ensures.actor ∙ c.loop-line.invariant.0,
+  c.next-done.ensures.rest ∙ ap (drop 1) c.loop-line.invariant.1 ∙ drop-drop 1 c.loop-line._line (own c.args.actor c.args.lines.now),
+)

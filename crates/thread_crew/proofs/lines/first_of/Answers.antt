@@ -1,0 +1,10 @@
+use Rattle.std.proofs.Common.{◌≡◌, ◌<◌, ◌∙◌, true, length, rules}
+use Rattle.line_shares.specs.Done.{is_same}
+use Rattle.thread_crew.proofs.LineLemmas.{own_first}
+use Rattle.thread_crew.proofs.lines.first_of.Goals as goal
+
+pub returns-then-eq-clause-first : goal.returns-then-eq-clause-first
+returns-then-eq-clause-first c = λ line at.
+    let within : c.loop-place.place < length c.args.lines.now = search rules in
+    let seen : is_same c.index-lines-place.result.actor c.args.actor ≡ true = search rules in
+    c.loop-place.invariant ∙ own_first c.args.actor c.args.lines.now c.loop-place.place c.index-lines-place.result line within c.index-lines-place.is seen at

@@ -1,0 +1,12 @@
+//! Ticks: numbers from 1 on that any number of threads draw from one word, each number once. A thread draws through a seat of
+//! its own, which keeps what it has drawn; once all seats are joined, they hold the ticks from 1 to the last.
+#![tactic(auto)]
+
+mod rule;
+mod word;
+
+pub use rule::TickView;
+pub use word::{PART_LIMIT, SEAT_LIMIT, TickSeat, TickWord};
+
+#[cfg(test)]
+mod tests;
