@@ -35,20 +35,20 @@ use Rattle.grant_laws.proofs.StoodBefore.{Stuck}
 use Rattle.grant_laws.proofs.StandsBefore.{stands_before}
 
 -- an own turn that could be made
-makes_none : (script : ScriptData) (turns : List Turn) (actor : Actor) (e : Event) → OwnTurnsAreTold → AreInRange script.setup → IsPlayable script 0 script.lines → AreLinesOf script.setup script.lines → AreForThreads script.lines → IsStuck script turns → own_ahead script (carried script turns) actor ≡ Makes e → ⊥
-makes_none script turns actor e told in_range playable of_script on stuck ahead =
+makes_none : (script : ScriptData) (turns : List Turn) (aim : ℕ) (actor : Actor) (e : Event) → OwnTurnsAreTold → AreInRange script.setup → IsPlayable script 0 script.lines → AreLinesOf script.setup script.lines → AreForThreads script.lines → IsStuck script turns → own_ahead script (carried script turns) actor aim ≡ Makes e → ⊥
+makes_none script turns aim actor e told in_range playable of_script on stuck ahead =
     let c : Carried = carried script turns in
-    let made : event_of script c (turn.Own actor) ≡ Some e = ap made_by ahead in
-    let tells : IsTold script c.played e = told script turns actor e in_range playable of_script on made in
-    stuck (turn.Own actor) (record { free = tt; in_place = tt; told = subst (λ (found : Option Event). IsSomeAnd found (λ now. IsTold script c.played now)) (sym made) tells })
+    let made : event_of script c (turn.Own actor aim) ≡ Some e = ap made_by ahead in
+    let tells : IsTold script c.played e = told script turns actor aim e in_range playable of_script on made in
+    stuck (turn.Own actor aim) (record { free = tt; in_place = tt; told = subst (λ (found : Option Event). IsSomeAnd found (λ now. IsTold script c.played now)) (sym made) tells })
 
 -- a name that is not posted is one that the line awaits
 unposted : (names : List (List ℕ)) (v : Verb) (name : List ℕ) → v ≡ verb.Await name → name_posted names v ≡ false → is_posted names name ≡ false
 unposted names v name is lacks = ap (λ (w : Verb). name_posted names w) (sym is) ∙ lacks
 
 -- by what is ahead of the present line
-waits_by : (script : ScriptData) (c : Carried) (k : Stuck script c) (seat : Seat) (line : Line) → present_line script seat ≡ Some line → line.actor ≡ seat.actor → is_passed (ahead_of (clocks_of script c.played) true (view_of c.played.state seat.actor) line seat) ≡ false → ((e : Event) → seat_ahead script c seat ≡ Makes e → ⊥) → (ahead : Ahead) → ahead_of (clocks_of script c.played) (name_posted c.names line.verb) (view_of c.played.state seat.actor) line seat ≡ ahead → AwaitsName script c seat ⊎ AwaitsReply script c seat
-waits_by script c k seat line present own stays none (Makes e) is = absurd (none e (ap (λ (found : Option Line). ahead_at script c seat found) present ∙ is))
+waits_by : (script : ScriptData) (c : Carried) (k : Stuck script c) (seat : Seat) (line : Line) → present_line script seat ≡ Some line → line.actor ≡ seat.actor → is_passed (ahead_of (clocks_of script c.played) true (view_of c.played.state seat.actor) line seat) ≡ false → ((aim : ℕ) (e : Event) → seat_ahead script c seat aim ≡ Makes e → ⊥) → (ahead : Ahead) → ahead_of (clocks_of script c.played) (name_posted c.names line.verb) (view_of c.played.state seat.actor) line seat ≡ ahead → AwaitsName script c seat ⊎ AwaitsReply script c seat
+waits_by script c k seat line present own stays none (Makes e) is = absurd (none 0 e (ap (λ (found : Option Line). ahead_at script c seat found 0) present ∙ is))
 waits_by script c k seat line present own stays none Passes is =
     let view : View = view_of c.played.state seat.actor in
     let clocks : Clocks = clocks_of script c.played in
@@ -64,7 +64,7 @@ waits_by script c k seat line present own stays none (Waits Reply) is =
     inr (record {
       session = has.session;
       actor = actor_is;
-      waits = ap (λ (found : Option Line). ahead_at script c seat found) present ∙ is;
+      waits = λ aim. ap (λ (found : Option Line). ahead_at script c seat found aim) present ∙ is;
       before = stands_before script c k has.session has.request (subst (λ (actor : Actor). (view_of c.played.state actor).request ≡ Some has.request) actor_is has.is);
     })
 
@@ -72,7 +72,7 @@ waits_by script c k seat line present own stays none (Waits Reply) is =
 own_line : (script : ScriptData) (seat : Seat) (line : Line) → present_line script seat ≡ Some line → line.actor ≡ seat.actor
 own_line script seat line present = actor_same line.actor seat.actor (filtered (λ (l : Line). same_actor l.actor seat.actor) script.lines seat.place line present).passes
 
-waits : (script : ScriptData) (c : Carried) (k : Stuck script c) (seat : Seat) → ((e : Event) → seat_ahead script c seat ≡ Makes e → ⊥) → HasStopped script (clocks_of script c.played) (view_of c.played.state seat.actor) seat → (lines_left script seat ≡ []) ⊎ AwaitsName script c seat ⊎ AwaitsReply script c seat
+waits : (script : ScriptData) (c : Carried) (k : Stuck script c) (seat : Seat) → ((aim : ℕ) (e : Event) → seat_ahead script c seat aim ≡ Makes e → ⊥) → HasStopped script (clocks_of script c.played) (view_of c.played.state seat.actor) seat → (lines_left script seat ≡ []) ⊎ AwaitsName script c seat ⊎ AwaitsReply script c seat
 waits script c k seat none (inl over) = inl over
 waits script c k seat none (inr has) =
     let present : present_line script seat ≡ Some has.line = drop_get seat.place (lines_of script seat.actor) has.line has.rest has.left in
@@ -82,4 +82,4 @@ pub stuck_runs_wait : OwnTurnsAreTold → StageTurnsAreTold → TurnsKeepFacts �
 stuck_runs_wait own_told stage_told facts script turns actor seat in_range playable of_script on stuck sits =
     let c : Carried = carried script turns in
     let k : Stuck script c = record { stands = (facts script turns in_range playable).stands; fits = commits_alone_settle script turns in_range playable; tells = stage_told; none = stuck } in
-    waits script c k seat (λ e makes. makes_none script turns actor e own_told in_range playable of_script on stuck (ap (λ (found : Option Seat). ahead_in script c found) sits ∙ makes)) (always_stopped script turns actor seat sits)
+    waits script c k seat (λ aim e makes. makes_none script turns aim actor e own_told in_range playable of_script on stuck (ap (λ (found : Option Seat). ahead_in script c found aim) sits ∙ makes)) (always_stopped script turns actor seat sits)

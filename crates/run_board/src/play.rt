@@ -98,7 +98,7 @@ impl<L: Ledger> Play<L> {
     {
         advances_go_further();
         let actor = mine.actor();
-        match self.run.advance(actor) {
+        match self.run.advance(actor, NodeNo::FIRST) {
             Advance::NoMemory => Advance::NoMemory,
             answer => {
                 let place = self.run.place(&actor) as u64;

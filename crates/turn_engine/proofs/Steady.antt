@@ -54,8 +54,8 @@ record HasTime (clocks : Clocks) (e : Event) : Type 0 where
   timed : Timed clocks tick e
 
 has_time : (script : ScriptData) (c : Carried) (t : Turn) (e : Event) → event_of script c t ≡ Some e → HasTime (clocks_of script c.played) e
-has_time script c (turn.Own actor) e is =
-    let k : OwnTurn script c actor e = own_turn script c actor e is in
+has_time script c (turn.Own actor aim) e is =
+    let k : OwnTurn script c actor aim e = own_turn script c actor aim e is in
     record { tick = own_tick k.line.actor (tick_ahead k.seat.point k.line.verb); timed = own_timed (clocks_of script c.played) k.line.actor k.line.verb k.seat.point (view_of c.played.state k.line.actor) e k.next }
 has_time script c (turn.Accept node session) e is = record { tick = 0; timed = (stage_turn script c (turn.Accept node session) e (λ own. own) is).timed }
 has_time script c (turn.Decide node session) e is = record { tick = 0; timed = (stage_turn script c (turn.Decide node session) e (λ own. own) is).timed }

@@ -60,7 +60,7 @@ decide_used script turns lacking node s e stop k in_place is stopped none =
 
 pub lacks_on : (script : ScriptData) (turns : List Turn) (lacking nodes : List ℕ) (t : Turn) (e : Event) (stop : Option Halt) → IsCarriedOut script turns lacking → IsInPlace (carried script turns).played.state t → event_of script (carried script turns) t ≡ Some e → stop ≡ halt_of (step_of script (carried script turns).played e).stop → AreUsedUp (step_of script (carried script turns).played e).state nodes → AreUsedUp (step_of script (carried script turns).played e).state (lacking_after nodes t stop)
 lacks_on script turns lacking nodes (turn.Decide node s) e stop k in_place is stopped all = lacks_by_halt (step_of script (carried script turns).played e).state node s nodes stop (decide_used script turns lacking node s e stop k in_place is stopped) all
-lacks_on script turns lacking nodes (turn.Own actor) e stop k in_place is stopped all = all
+lacks_on script turns lacking nodes (turn.Own actor aim) e stop k in_place is stopped all = all
 lacks_on script turns lacking nodes (turn.Accept node s) e stop k in_place is stopped all = all
 lacks_on script turns lacking nodes (turn.Put node s) e stop k in_place is stopped all = all
 lacks_on script turns lacking nodes (turn.Answer node s) e stop k in_place is stopped all = all

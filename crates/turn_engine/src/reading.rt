@@ -31,20 +31,20 @@ impl ScriptRun {
         }
     }
 
-    /// What is ahead of the actor's present line.
-    pub(crate) fn ahead(&self, actor: &Actor) -> Ahead
-        ensures ahead { result ≡ own_ahead self.now.script (reached_by self.now) actor.now }
+    /// What is ahead of the actor's present line, where its share is aimed at this node.
+    pub(crate) fn ahead(&self, actor: &Actor, aim: NodeNo) -> Ahead
+        ensures ahead { result ≡ own_ahead self.now.script (reached_by self.now) actor.now aim }
         ensures ended { result ≡ Passes → HasEnded self.now actor.now }
     {
         match seated_of(self.seated.as_slice(), actor) {
-            Some(seated) => self.ahead_at(&seated.seat, seated.line()),
+            Some(seated) => self.ahead_at(&seated.seat, seated.line(), aim),
             None => Ahead::Passes,
         }
     }
 
-    fn ahead_at(&self, seat: &Seat, line: Option<Line>) -> Ahead
+    fn ahead_at(&self, seat: &Seat, line: Option<Line>, aim: NodeNo) -> Ahead
         requires { IfSome line (λ l. HaveRoom (reached_by self.now).played.clock self.now.script.leads l.verb) }
-        ensures { result ≡ ahead_at self.now.script (reached_by self.now) seat.now line }
+        ensures { result ≡ ahead_at self.now.script (reached_by self.now) seat.now line aim }
     {
         match line {
             None => Ahead::Passes,
@@ -112,7 +112,7 @@ impl ScriptRun {
         ensures { result ≡ event_of self.now.script (reached_by self.now) turn.now }
     {
         match *turn {
-            Turn::Own { actor } => event_ahead(&self.ahead(&actor)),
+            Turn::Own { actor, aim } => event_ahead(&self.ahead(&actor, aim)),
             Turn::Accept { node, session } => {
                 Some(Event::Accept {
                     node,

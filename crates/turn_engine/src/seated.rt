@@ -31,7 +31,7 @@ impl Seated {
     fn go_on(&mut self, turn: &Turn, halt: Option<Halt>, asked: bool)
         ensures { self.new ≡ after_turn turn.now halt asked self.old }
     {
-        let Turn::Own { actor } = turn else {
+        let Turn::Own { actor, .. } = turn else {
             return;
         };
         if self.seat.actor != *actor {

@@ -21,5 +21,5 @@ returns-in-Some c =
     ∙ ap (λ (leads : List ℕ). own_next (clocks (reached_by r).played.clock leads) c.name_posted.result line.actor line.verb seat.point c.view.result seat.unawaited) c.as_slice.ensures.value
     ∙ ap (λ (p : Bool). own_next (clocks (reached_by r).played.clock r.script.leads) p line.actor line.verb seat.point c.view.result seat.unawaited) posted
     ∙ ap (λ v. own_next (clocks (reached_by r).played.clock r.script.leads) (name_posted (reached_by r).names line.verb) line.actor line.verb seat.point v seat.unawaited) view
-    ∙ ap (λ (x : Ran). ahead_at x.script (reached_by x) seat (Some line)) c.self.view_is
-    ∙ ap (λ (l : Option Line). ahead_at c.args.self.now.script (reached_by c.args.self.now) seat l) (sym c.in-Some.is)
+    ∙ ap (λ (x : Ran). ahead_at x.script (reached_by x) seat (Some line) c.args.aim) c.self.view_is
+    ∙ ap (λ (l : Option Line). ahead_at c.args.self.now.script (reached_by c.args.self.now) seat l c.args.aim) (sym c.in-Some.is)
