@@ -2,7 +2,7 @@ ghost use Rattle.std.specs.Prelude.{◌≡◌, ◌≤◌, ◌<◌, ◌^◌, All,
 ghost use Rattle.std.specs.List.{AllZip};
 ghost use Rattle.std.specs.Vec.{vec_capacity};
 ghost use Rattle.reply_pipeline.specs.Seats.{AreReady, IsSenderPass};
-ghost use Rattle.thread_steps.specs.Going.{GoesOn};
+ghost use Rattle.thread_crew.specs.Sending.{ComesBack};
 
 use crate::crew::Crew;
 use crate::sending::{join_all, send_all};
@@ -38,7 +38,7 @@ pub fn play<
     shares: Vec<ActorShare<L>>,
     gate: &G,
 ) -> Result<Vec<ActorShare<L>>, NoMemory>
-    ensures { IfOk result (λ back. AllZip GoesOn shares.items back.items) }
+    ensures { IfOk result (λ back. AllZip ComesBack shares.items back.items) }
 {
     let Crew {
         queues,
@@ -79,7 +79,7 @@ fn run_all<
     requires paired { vec_len senders ≡ vec_len shares }
     requires nodes { length shared.now.queues.now.nodes ≡ shared.now.setup.nodes }
     requires buffers { shared.now.queues.now.buffers < 2 ^ 32 }
-    ensures { IfOk result (λ back. AllZip GoesOn shares.items back.items) }
+    ensures { IfOk result (λ back. AllZip ComesBack shares.items back.items) }
 {
     let sent = Vec::with_capacity(alloc, shares.len())?;
     let back = Vec::with_capacity(alloc, shares.len())?;
@@ -90,7 +90,7 @@ fn run_all<
             requires { AreReady shared.now.queues.now shared.now.setup.workers stages.now × All (IsSenderPass shared.now.queues.now) senders.items
                 × (vec_len senders ≡ vec_len shares) × (length shared.now.queues.now.nodes ≡ shared.now.setup.nodes) × (shared.now.queues.now.buffers < 2 ^ 32)
                 × (vec_len sent ≡ 0) × (vec_len shares ≤ vec_capacity sent) × (vec_len back ≡ 0) × (vec_len shares ≤ vec_capacity back) }
-            ensures { AllZip GoesOn shares.items result.items }
+            ensures { AllZip ComesBack shares.items result.items }
         {
             start_stages(scope, rt, alloc, shared, stages);
             let sent = send_all(scope, rt, shared, shares, senders, sent);

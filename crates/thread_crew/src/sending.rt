@@ -3,7 +3,7 @@ ghost use Rattle.std.specs.Prelude.{◌≡◌, ◌≤◌, All, length, vec_len};
 ghost use Rattle.std.specs.List.{AllZip};
 ghost use Rattle.std.specs.Vec.{vec_capacity};
 ghost use Rattle.reply_pipeline.specs.Seats.{IsSenderPass};
-ghost use Rattle.thread_steps.specs.Going.{GoesOn};
+ghost use Rattle.thread_crew.specs.Sending.{ComesBack};
 
 use crate::actors::act;
 use crate::before::Before;
@@ -76,7 +76,7 @@ fn send<
         Before::of(&mine),
         move || -> ActorShare<L>
             requires { IsSenderPass shared.now.queues.now pass × (length shared.now.queues.now.nodes ≡ shared.now.setup.nodes) }
-            ensures { GoesOn mine result }
+            ensures { ComesBack mine result }
         { act(rt, shared, mine, pass) },
     );
     match started {
@@ -97,7 +97,7 @@ pub fn join_all<L: Ledger, R: Threads>(
 ) -> Vec<ActorShare<L>>
     requires none { vec_len back ≡ 0 }
     requires room { vec_len sent ≤ vec_capacity back }
-    ensures { AllZip GoesOn sent.items result.items }
+    ensures { AllZip ComesBack sent.items result.items }
 {
     let mut back = back;
     for one in sent {
