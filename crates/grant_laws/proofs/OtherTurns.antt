@@ -13,7 +13,7 @@ use Rattle.line_steps.proofs.ScriptWalks.{actor_same, same_itself}
 use Rattle.turn_rules.specs.declared.seat.Seat.{Seat}
 use Rattle.turn_rules.specs.declared.turn.Turn.{Turn}
 use Rattle.turn_rules.specs.declared.turn.Turn.TheVariants as turn
-use Rattle.turn_rules.specs.Carried.{Carried, clocks_at, event_of, moved, turned_by, carried}
+use Rattle.turn_rules.specs.Carried.{Carried, aimed_clocks, event_of, moved, turned_by, carried}
 use Rattle.turn_rules.proofs.OwnSessions.{not_of}
 use Rattle.turn_rules.proofs.OwnTurns.{OwnTurn, own_turn, stage_turn}
 use Rattle.turn_rules.proofs.SeatsOn.{other_stays}
@@ -30,7 +30,7 @@ not_same who s other same =
     cc
 
 owned_not : (script : ScriptData) (c : Carried) (aim : ℕ) (who : Actor) (s : ℕ) (e : Event) → OwnTurn script c who aim e → same_actor who (Session s) ≡ false → IsNotOf s e
-owned_not script c aim who s e own other = not_of s (clocks_at script c aim) own.line.actor own.line.verb own.seat.point (view_of c.played.state own.line.actor) e (λ same. not_same who s other (sym own.own ∙ same)) own.next
+owned_not script c aim who s e own other = not_of s (aimed_clocks script c aim) own.line.actor own.line.verb own.seat.point (view_of c.played.state own.line.actor) e (λ same. not_same who s other (sym own.own ∙ same)) own.next
 
 other_event : (script : ScriptData) (c : Carried) (t : Turn) (s : ℕ) (e : Event) → event_of script c t ≡ Some e → is_own s t ≡ false → IsNotOf s e
 other_event script c (turn.Own who aim) s e is other = owned_not script c aim who s e (own_turn script c who aim e is) other

@@ -1,5 +1,5 @@
 -- What is ahead of an actor whose seat stands at a point of a line, and the lines of one turn.
-use Rattle.std.proofs.Common.{◌≡◌, List, [], ◌∷◌, ◌++◌, Option, Some, ◌∙◌, ap}
+use Rattle.std.proofs.Common.{◌≡◌, ℕ, List, [], ◌∷◌, ◌++◌, Option, Some, ◌∙◌, ap}
 use Rattle.std.specs.Prelude.{fold}
 use Rattle.history_book.specs.Members.{◌∈◌}
 use Rattle.history_book.specs.declared.item.Actor.{Actor}
@@ -24,7 +24,7 @@ use Rattle.turn_rules.specs.declared.turn.Turn.{Turn}
 use Rattle.turn_rules.specs.declared.turn.Turn.TheVariants as turn
 use Rattle.turn_rules.specs.Waiting.{own_next}
 use Rattle.turn_rules.specs.Seats.{present_line}
-use Rattle.turn_rules.specs.Carried.{Carried, clocks_at, seat_of, name_posted, ahead_at, ahead_in, own_ahead, made_by, turned, carried}
+use Rattle.turn_rules.specs.Carried.{Carried, aimed_clocks, seat_of, name_posted, ahead_at, ahead_in, own_ahead, made_by, turned, carried}
 use Rattle.turn_rules.proofs.SeatLists.{find_true}
 use Rattle.turn_rules.proofs.OwnTurns.{present_own}
 use Rattle.grant_laws.specs.Granted.{reading_of}
@@ -39,9 +39,9 @@ use Rattle.grant_laws.proofs.OneEvent.{write_tells, next_take, take_tells}
 pub seat_actor : (c : Carried) (actor : Actor) (seat : Seat) → seat_of c.seats actor ≡ Some seat → seat.actor ≡ actor
 seat_actor c actor seat sits = actor_same seat.actor actor (find_true (λ (x : Seat). same_actor x.actor actor) c.seats seat sits)
 
-pub seat_makes : (script : ScriptData) (c : Carried) (aim : ℕ) (actor : Actor) (seat : Seat) (line : Line) (v : Verb) (point : Point) → seat_of c.seats actor ≡ Some seat → present_line script seat ≡ Some line → line.verb ≡ v → seat.point ≡ point → own_ahead script c actor aim ≡ own_next (clocks_at script c aim) (name_posted c.names v) actor v point (view_of c.played.state actor) seat.unawaited
+pub seat_makes : (script : ScriptData) (c : Carried) (aim : ℕ) (actor : Actor) (seat : Seat) (line : Line) (v : Verb) (point : Point) → seat_of c.seats actor ≡ Some seat → present_line script seat ≡ Some line → line.verb ≡ v → seat.point ≡ point → own_ahead script c actor aim ≡ own_next (aimed_clocks script c aim) (name_posted c.names v) actor v point (view_of c.played.state actor) seat.unawaited
 seat_makes script c aim actor seat line v point sits present verb_is point_is =
-    let clocks : Clocks = clocks_at script c aim in
+    let clocks : Clocks = aimed_clocks script c aim in
     let same : seat.actor ≡ actor = seat_actor c actor seat sits in
     let own : line.actor ≡ actor = present_own script seat line present ∙ same in
     ap (λ (found : Option Seat). ahead_in script c found aim) sits
@@ -52,7 +52,7 @@ seat_makes script c aim actor seat line v point sits present verb_is point_is =
     ∙ ap (λ (at : Point). own_next clocks (name_posted c.names v) actor v at (view_of c.played.state actor) seat.unawaited) point_is
 
 -- a line that has made no event yet
-pub line_makes : (script : ScriptData) (c : Carried) (aim : ℕ) (actor : Actor) (v : Verb) (k : IsAhead script c actor v) → own_ahead script c actor aim ≡ own_next (clocks_at script c aim) (name_posted c.names v) actor v Opens (view_of c.played.state actor) k.seat.unawaited
+pub line_makes : (script : ScriptData) (c : Carried) (aim : ℕ) (actor : Actor) (v : Verb) (k : IsAhead script c actor v) → own_ahead script c actor aim ≡ own_next (aimed_clocks script c aim) (name_posted c.names v) actor v Opens (view_of c.played.state actor) k.seat.unawaited
 line_makes script c aim actor v k = seat_makes script c aim actor k.seat k.line v Opens k.sits k.present k.verb_is k.unopened
 
 -- ---- lines of one turn

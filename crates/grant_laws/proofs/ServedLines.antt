@@ -30,7 +30,7 @@ use Rattle.turn_rules.specs.declared.ahead.Ahead.TheVariants.{Makes}
 use Rattle.turn_rules.specs.declared.turn.Turn.{Turn}
 use Rattle.turn_rules.specs.declared.turn.Turn.TheVariants as turn
 use Rattle.turn_rules.specs.Waiting.{own_next}
-use Rattle.turn_rules.specs.Carried.{Carried, clocks_at, name_posted, own_ahead, turned, carried}
+use Rattle.turn_rules.specs.Carried.{Carried, aimed_clocks, name_posted, own_ahead, turned, carried}
 use Rattle.grant_laws.specs.Granted.{reading_of}
 use Rattle.grant_laws.specs.Turns.{IsServed, Serves}
 use Rattle.grant_laws.specs.Lines.{AtNode, UpToDraw, all_up_to_draw, at_ask, at_accept, at_draw, CanServeBy, stamp_drawn, at_begin_answer, at_place, RunsGrantBegins, AsksCommit, RunsGrantCommits}
@@ -124,7 +124,7 @@ runs_grant_commits script s node line u drawn placed later in_range playable ahe
     let request : Request = Commit s start keys in
     let commit : ℕ = stamp_drawn can.serving in
     let known : KnownTurns script c = known_carried script u.before in_range playable in
-    let makes : own_ahead script c (Session s) u.aim ≡ Makes (event.AskCommit s node) = line_makes script c u.aim (Session s) line ahead ∙ asks_commit (clocks_at script c u.aim) (name_posted c.names line) ahead.seat.unawaited (view_of c.played.state (Session s)) s node line asks in
+    let makes : own_ahead script c (Session s) u.aim ≡ Makes (event.AskCommit s node) = line_makes script c u.aim (Session s) line ahead ∙ asks_commit (aimed_clocks script c u.aim) (name_posted c.names line) ahead.seat.unawaited (view_of c.played.state (Session s)) s node line asks in
     let asked : Serves script c (turn.Own (Session s) u.aim) (item.AskCommit s node start) node s request progress.Asked = commit_asks script c u.aim s node known makes can.work can.wrote can.serving.slot in
     let above : AtNode (at_accept script s u).played node (λ i. epoch_refusal i request ≡ None) = record { oracle = can.in_epoch.oracle; node_has = can.in_epoch.node_has; so = above_epoch can.in_epoch.oracle s start keys can.in_epoch.so } in
     let clear : (client : Client) → ClientAt (at_draw script s node u).played.state.clients s client → AtNode (at_draw script s node u).played node (λ i. both_verdict i.buckets client.reads request ≡ Free) =

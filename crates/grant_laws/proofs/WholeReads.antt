@@ -24,7 +24,7 @@ use Rattle.line_steps.proofs.ScriptWalks.{actor_same}
 use Rattle.turn_rules.specs.declared.ahead.Ahead.TheVariants.{Makes}
 use Rattle.turn_rules.specs.declared.turn.Turn.{Turn}
 use Rattle.turn_rules.specs.declared.turn.Turn.TheVariants as turn
-use Rattle.turn_rules.specs.Carried.{Carried, clocks_at, own_ahead, name_posted, made_by, event_of, turned_by, turned, carried}
+use Rattle.turn_rules.specs.Carried.{Carried, aimed_clocks, own_ahead, name_posted, made_by, event_of, turned_by, turned, carried}
 use Rattle.grant_laws.specs.Granted.{next_fate}
 use Rattle.grant_laws.specs.Premises.{CanFetch, cells_to_read}
 use Rattle.grant_laws.specs.Lines.{IsAhead, is_own, StepsWork, RunsGrantReads}
@@ -53,7 +53,7 @@ ReadOrUnder script c s start key most = HasRead c s start key ⊎ IsUnder script
 own_step : BareReadsEnd → (script : ScriptData) (c : Carried) (aim : ℕ) (s start key many : ℕ) → (k : IsUnder script c s start key (many + 1)) → next_fate script c.played (store_of (read_ask k.r)) ≡ Works → ReadOrUnder script (turned script c (turn.Own (Session s) aim)) s start key many
 own_step ends script c aim s start key many k works =
     let e : Event = event.Step s in
-    let makes : own_ahead script c (Session s) aim ≡ Makes e = seat_makes script c aim (Session s) k.seat k.line (verb.Read key) Reads k.sits k.present k.verb_is k.point_is ∙ makes_step (clocks_at script c aim) (name_posted c.names (verb.Read key)) k.seat.unawaited c.played s start key k.r k.reads in
+    let makes : own_ahead script c (Session s) aim ≡ Makes e = seat_makes script c aim (Session s) k.seat k.line (verb.Read key) Reads k.sits k.present k.verb_is k.point_is ∙ makes_step (aimed_clocks script c aim) (name_posted c.names (verb.Read key)) k.seat.unawaited c.played s start key k.r k.reads in
     let is : event_of script c (turn.Own (Session s) aim) ≡ Some e = ap made_by makes in
     let reading : IsReading s key start c.played k.r = as_reading c.played s start key k.r k.reads in
     let so : StepsSo script s c.played reading.client k.r (recall_now c.played reading.client k.r) = steps_so script s key start c.played k.r reading works in

@@ -20,7 +20,7 @@ use Rattle.turn_rules.specs.declared.seat.Seat.{Seat}
 use Rattle.turn_rules.specs.declared.turn.Turn.{Turn}
 use Rattle.turn_rules.specs.declared.turn.Turn.TheVariants as turn
 use Rattle.turn_rules.specs.Seats.{present_line, ahead_of}
-use Rattle.turn_rules.specs.Carried.{Carried, clocks_at, name_posted, ahead_at, ahead_in, seat_of, made_by, event_of}
+use Rattle.turn_rules.specs.Carried.{Carried, aimed_clocks, name_posted, ahead_at, ahead_in, seat_of, made_by, event_of}
 use Rattle.turn_rules.proofs.OwnEvents.{IsNextOf, own_is_next}
 use Rattle.turn_rules.proofs.SeatLists.{find_true, Filtered, filtered}
 use Rattle.turn_rules.proofs.StillReading.{IsNotOf}
@@ -53,15 +53,15 @@ pub record OwnTurn (script : ScriptData) (c : Carried) (actor : Actor) (aim : �
   pub line : Line
   pub present : present_line script seat ≡ Some line
   pub own : line.actor ≡ actor
-  pub next : IsNextOf (clocks_at script c aim) line.actor line.verb seat.point (view_of c.played.state line.actor) e
-  pub makes : made_by (ahead_of (clocks_at script c aim) (name_posted c.names line.verb) (view_of c.played.state line.actor) line seat) ≡ Some e
+  pub next : IsNextOf (aimed_clocks script c aim) line.actor line.verb seat.point (view_of c.played.state line.actor) e
+  pub makes : made_by (ahead_of (aimed_clocks script c aim) (name_posted c.names line.verb) (view_of c.played.state line.actor) line seat) ≡ Some e
 
 own_line : (script : ScriptData) (c : Carried) (actor : Actor) (aim : ℕ) (e : Event) (seat : Seat) → seat_of c.seats actor ≡ Some seat → (line : Option Line) → present_line script seat ≡ line → made_by (ahead_at script c seat line aim) ≡ Some e → OwnTurn script c actor aim e
 own_line script c actor aim e seat sits None present makes = absurd (none-some e makes)
 own_line script c actor aim e seat sits (Some line) present makes =
     let same : seat.actor ≡ actor = actor_same seat.actor actor (find_true (λ (x : Seat). same_actor x.actor actor) c.seats seat sits) in
     let own : line.actor ≡ seat.actor = present_own script seat line present in
-    let mine : made_by (ahead_of (clocks_at script c aim) (name_posted c.names line.verb) (view_of c.played.state line.actor) line seat) ≡ Some e = subst (λ (a : Actor). made_by (ahead_of (clocks_at script c aim) (name_posted c.names line.verb) (view_of c.played.state a) line seat) ≡ Some e) (sym own) makes in
+    let mine : made_by (ahead_of (aimed_clocks script c aim) (name_posted c.names line.verb) (view_of c.played.state line.actor) line seat) ≡ Some e = subst (λ (a : Actor). made_by (ahead_of (aimed_clocks script c aim) (name_posted c.names line.verb) (view_of c.played.state a) line seat) ≡ Some e) (sym own) makes in
     record {
       seat = seat;
       sits = sits;
@@ -69,7 +69,7 @@ own_line script c actor aim e seat sits (Some line) present makes =
       line = line;
       present = present;
       own = own ∙ same;
-      next = own_is_next (clocks_at script c aim) (name_posted c.names line.verb) line.actor line.verb seat.point (view_of c.played.state line.actor) seat.unawaited e mine;
+      next = own_is_next (aimed_clocks script c aim) (name_posted c.names line.verb) line.actor line.verb seat.point (view_of c.played.state line.actor) seat.unawaited e mine;
       makes = mine;
     }
 

@@ -25,7 +25,7 @@ use Rattle.turn_rules.specs.declared.seat.Seat.{Seat}
 use Rattle.turn_rules.specs.declared.turn.Turn.{Turn}
 use Rattle.turn_rules.specs.declared.turn.Turn.TheVariants as turn
 use Rattle.turn_rules.specs.Seats.{lines_of, lines_left, with_event_of}
-use Rattle.turn_rules.specs.Carried.{Carried, clocks_at, seat_of, event_of, moved, with_event, seat_passed, all_passed, turned_by, turned}
+use Rattle.turn_rules.specs.Carried.{Carried, aimed_clocks, seat_of, event_of, moved, with_event, seat_passed, all_passed, turned_by, turned}
 use Rattle.turn_rules.specs.Laws.{IsAnsweredTo}
 use Rattle.turn_rules.proofs.Facts.{Facts, facts_turned}
 use Rattle.turn_rules.proofs.OwnEvents.{IsNextOf}
@@ -88,16 +88,16 @@ own_fits script c who aim e of_script k own =
       same = own.own;
     }
 
-others_not : (script : ScriptData) (c : Carried) (who : Actor) (aim : ℕ) (actor : Actor) (e : Event) → (own : OwnTurn script c who aim e) → OwnLine who c.played.state c.played.items own.line → (own.line.actor ≡ actor → ⊥) → IsNextOf (clocks_at script c aim) own.line.actor own.line.verb own.seat.point (view_of c.played.state own.line.actor) e → AllNot actor (step_of script c.played e).items
-others_not script c who aim actor e own k other (inl is) = any_not actor (clocks_at script c aim) c.played.state c.played.items own.line own.seat.point e (fate_of script c.played e) k.stands k.fit k.in_range k.asks (λ opening same. other same) is
-others_not script c who aim actor e own k other (inr (opens, collects, is)) = any_not actor (clocks_at script c aim) c.played.state c.played.items own.line Drives e (fate_of script c.played e) k.stands k.fit k.in_range k.asks (λ opening same. other same) is
+others_not : (script : ScriptData) (c : Carried) (who : Actor) (aim : ℕ) (actor : Actor) (e : Event) → (own : OwnTurn script c who aim e) → OwnLine who c.played.state c.played.items own.line → (own.line.actor ≡ actor → ⊥) → IsNextOf (aimed_clocks script c aim) own.line.actor own.line.verb own.seat.point (view_of c.played.state own.line.actor) e → AllNot actor (step_of script c.played e).items
+others_not script c who aim actor e own k other (inl is) = any_not actor (aimed_clocks script c aim) c.played.state c.played.items own.line own.seat.point e (fate_of script c.played e) k.stands k.fit k.in_range k.asks (λ opening same. other same) is
+others_not script c who aim actor e own k other (inr (opens, collects, is)) = any_not actor (aimed_clocks script c aim) c.played.state c.played.items own.line Drives e (fate_of script c.played e) k.stands k.fit k.in_range k.asks (λ opening same. other same) is
 
 apart_own : (script : ScriptData) (c : Carried) (who : Actor) (aim : ℕ) (actor : Actor) (e : Event) → AreLinesOf script.setup script.lines → Facts script c → OwnTurn script c who aim e → same_actor actor who ≡ false → Apart script c (turn.Own who aim) e actor
 apart_own script c who aim actor e of_script k own not =
     let other : own.line.actor ≡ actor → ⊥ = λ same. let clash : true ≡ false = sym (same_itself actor) ∙ ap (λ (a : Actor). same_actor actor a) (sym same ∙ own.own) ∙ not in cc in
     record {
       none = others_not script c who aim actor e own (own_fits script c who aim e of_script k own) other own.next;
-      reads = λ s key is reads. still_under_way script c e k s key (not_of s (clocks_at script c aim) own.line.actor own.line.verb own.seat.point (view_of c.played.state own.line.actor) e (λ same. other (same ∙ sym is)) own.next) reads;
+      reads = λ s key is reads. still_under_way script c e k s key (not_of s (aimed_clocks script c aim) own.line.actor own.line.verb own.seat.point (view_of c.played.state own.line.actor) e (λ same. other (same ∙ sym is)) own.next) reads;
       stays = λ seat same. other_stays script (step_of script c.played e) who aim seat (ap (λ (a : Actor). same_actor a who) same ∙ not);
     }
 
@@ -112,7 +112,7 @@ own_at script c actor aim e of_script k own at =
     let here : IsAt script c actor (Some own.seat) = subst (λ (found : Option Seat). IsAt script c actor found) own.sits at in
     let present : Present actor script.lines w h own.seat.point own.line lines = subst (λ (ls : List Line). StandsSo actor script.lines w h own.seat.point ls) left here.1 in
     let after : Seat = with_event_of own.line step own.seat in
-    let on : StandsSo actor script.lines step.state (h ++ step.items) after.point (own.line ∷ lines) = stands_on actor script.lines (clocks_at script c aim) w h own.seat.point own.line lines e (fate_of script c.played e) (own_fits script c actor aim e of_script k own) own.next present in
+    let on : StandsSo actor script.lines step.state (h ++ step.items) after.point (own.line ∷ lines) = stands_on actor script.lines (aimed_clocks script c aim) w h own.seat.point own.line lines e (fate_of script c.played e) (own_fits script c actor aim e of_script k own) own.next present in
     let now : IsAt script (with_event script c (turn.Own actor aim) e) actor (Some after) = (own.same, subst (λ (ls : List Line). StandsSo actor script.lines step.state (h ++ step.items) after.point ls) (sym left) on) in
     let moves : IsAt script (with_event script c (turn.Own actor aim) e) actor (Some (moved script (turn.Own actor aim) step own.seat)) = subst (λ (seat : Seat). IsAt script (with_event script c (turn.Own actor aim) e) actor (Some seat)) (sym (own_moved script actor aim step own.seat own.line own.same own.present)) now in
     subst (λ (found : Option Seat). IsAt script (with_event script c (turn.Own actor aim) e) actor (option_map (moved script (turn.Own actor aim) step) found)) (sym own.sits) moves

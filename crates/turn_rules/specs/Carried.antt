@@ -71,12 +71,12 @@ held_after held _ = held
 
 -- ---- what is ahead of a seat's present line, where its actor's share is aimed at this node
 -- the clocks at a turn of a share with this aim
-abbrev pub clocks_at : ScriptData → Carried → ℕ → Clocks
-clocks_at script c aim = clocks_of script c.played
+abbrev pub aimed_clocks : ScriptData → Carried → ℕ → Clocks
+aimed_clocks script c aim = clocks_of script c.played
 
 abbrev pub ahead_at : ScriptData → Carried → Seat → Option Line → ℕ → Ahead
 ahead_at script c seat None aim = Passes
-ahead_at script c seat (Some line) aim = ahead_of (clocks_at script c aim) (name_posted c.names line.verb) (view_of c.played.state seat.actor) line seat
+ahead_at script c seat (Some line) aim = ahead_of (aimed_clocks script c aim) (name_posted c.names line.verb) (view_of c.played.state seat.actor) line seat
 
 abbrev pub seat_ahead : ScriptData → Carried → Seat → ℕ → Ahead
 seat_ahead script c seat aim = ahead_at script c seat (present_line script seat) aim
