@@ -24,7 +24,7 @@ use Rattle.isolation_laws.proofs.Lookups.{one_instance, one_client}
 use Rattle.line_steps.specs.declared.point.Point.TheVariants.{Opens}
 use Rattle.line_steps.specs.declared.point.View.{View}
 use Rattle.line_steps.specs.Laws.{IsPlayable}
-use Rattle.line_steps.specs.Next.{Clocks}
+use Rattle.line_steps.specs.Next.{Clocks, target_node}
 use Rattle.line_steps.specs.Views.{view_of}
 use Rattle.turn_rules.specs.declared.ahead.Ahead.TheVariants.{Makes}
 use Rattle.turn_rules.specs.declared.turn.Turn.{Turn}
@@ -112,8 +112,8 @@ above_epoch : (i : InstanceEntry) (s start : ℕ) (keys : List ℕ) → i.epoch 
 above_epoch i s start keys in_epoch = ap (λ (old : Bool). cond old (Some (cause.OldEpoch start i.epoch)) None) (lt-leb start i.epoch in_epoch)
 
 asks_commit : (clocks : Clocks) (posted unawaited : Bool) (view : View) (s node : ℕ) (line : Verb) → AsksCommit node line → own_next clocks posted (Session s) line Opens view unawaited ≡ Makes (event.AskCommit s node)
-asks_commit clocks posted unawaited view s node (verb.Commit to) asks = ap (λ (n : ℕ). Makes (event.AskCommit s n)) asks
-asks_commit clocks posted unawaited view s node (verb.Submit to) asks = ap (λ (n : ℕ). Makes (event.AskCommit s n)) asks
+asks_commit clocks posted unawaited view s node (verb.Commit to) asks = ap (λ (at : Target). Makes (event.AskCommit s (target_node clocks at))) asks
+asks_commit clocks posted unawaited view s node (verb.Submit to) asks = ap (λ (at : Target). Makes (event.AskCommit s (target_node clocks at))) asks
 asks_commit clocks posted unawaited view s node _ asks = absurd asks
 
 pub runs_grant_commits : RunsGrantCommits

@@ -25,7 +25,6 @@ use Rattle.isolation_laws.specs.Words.{InstanceAt, ClientAt, Marked}
 use Rattle.line_steps.specs.declared.point.Point.TheVariants.{Opens}
 use Rattle.line_steps.specs.Answers.{same_actor}
 use Rattle.line_steps.specs.Laws.{IsPlayable}
-use Rattle.line_steps.specs.Next.{target_node}
 use Rattle.line_steps.specs.Runs.{Played}
 use Rattle.turn_rules.specs.declared.seat.Seat.{Seat}
 use Rattle.turn_rules.specs.declared.turn.Turn.{Turn}
@@ -175,8 +174,8 @@ pub record CanCommitBy (script : ScriptData) (session node : ℕ) (u : UpToDraw)
 
 -- the line asks the node for a commit: it waits for the answer, or leaves that to a later line
 abbrev pub AsksCommit : ℕ → Verb → Type 0
-AsksCommit node (verb.Commit to) = target_node to ≡ node
-AsksCommit node (verb.Submit to) = target_node to ≡ node
+AsksCommit node (verb.Commit to) = to ≡ target.Node node
+AsksCommit node (verb.Submit to) = to ≡ target.Node node
 AsksCommit node _ = ⊥
 
 abbrev pub RunsGrantCommits : Type 0

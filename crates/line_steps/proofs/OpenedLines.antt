@@ -14,12 +14,13 @@ use Rattle.machine.specs.declared.event.Event.{Event}
 use Rattle.machine.specs.declared.event.Event.TheVariants as event
 use Rattle.machine.specs.State.{Client, State}
 use Rattle.machine.specs.Machine.{Step, at_post, at_client, at_both, with_reading, stepped}
+use Rattle.script_data.specs.declared.line.Target.TheVariants as target
 use Rattle.script_data.specs.declared.line.Verb.{Verb}
 use Rattle.script_data.specs.declared.line.Verb.TheVariants as verb
 use Rattle.isolation_laws.specs.Sound.{Stands}
 use Rattle.line_steps.specs.declared.point.Point.TheVariants.{Opens}
 use Rattle.line_steps.specs.declared.point.View.{View}
-use Rattle.line_steps.specs.Next.{Clocks, reading_at, target_node, next}
+use Rattle.line_steps.specs.Next.{Clocks, reading_at, next}
 use Rattle.line_steps.specs.Laws.{ActorFits, VerbFits}
 use Rattle.line_steps.specs.Answers.{IsAnswer, has_opening}
 use Rattle.line_steps.proofs.Fitting.{fit_at}
@@ -105,10 +106,10 @@ noted : (w : State) (actor : Actor) (line : Verb) (said : Note) (fate : Fate) �
 noted w actor line said fate answers = alone _ _ answers
 
 session_answered : (clocks : Clocks) (w : State) (h : List Item) (s : ℕ) (line : Verb) (view : View) (e : Event) (fate : Fate) → Stands w h → Fit w → s < 16 → VerbFits w.setup line → has_opening (Session s) line ≡ true → next clocks (Session s) line Opens view ≡ Some e → Answered w (Session s) line e fate
-session_answered clocks w h s (verb.Begin to) view e fate stands fit in_range asks opening is = by_event w (Session s) (verb.Begin to) fate (event.AskBegin s (target_node to)) e is (begun w s (target_node to) (verb.Begin to) fate fit in_range asks)
+session_answered clocks w h s (verb.Begin (target.Node node)) view e fate stands fit in_range asks opening is = by_event w (Session s) (verb.Begin (target.Node node)) fate (event.AskBegin s node) e is (begun w s node (verb.AskBegin node) fate fit in_range asks)
 session_answered clocks w h s (verb.AskBegin node) view e fate stands fit in_range asks opening is = by_event w (Session s) (verb.AskBegin node) fate (event.AskBegin s node) e is (begun w s node (verb.AskBegin node) fate fit in_range asks)
-session_answered clocks w h s (verb.Commit to) view e fate stands fit in_range asks opening is = by_event w (Session s) (verb.Commit to) fate (event.AskCommit s (target_node to)) e is (asked w h s (target_node to) fate stands fit in_range asks)
-session_answered clocks w h s (verb.Submit to) view e fate stands fit in_range asks opening is = by_event w (Session s) (verb.Submit to) fate (event.AskCommit s (target_node to)) e is (asked w h s (target_node to) fate stands fit in_range asks)
+session_answered clocks w h s (verb.Commit (target.Node node)) view e fate stands fit in_range asks opening is = by_event w (Session s) (verb.Commit (target.Node node)) fate (event.AskCommit s node) e is (asked w h s node fate stands fit in_range asks)
+session_answered clocks w h s (verb.Submit (target.Node node)) view e fate stands fit in_range asks opening is = by_event w (Session s) (verb.Submit (target.Node node)) fate (event.AskCommit s node) e is (asked w h s node fate stands fit in_range asks)
 session_answered clocks w h s (verb.AskCommit node) view e fate stands fit in_range asks opening is = by_event w (Session s) (verb.AskCommit node) fate (event.AskCommit s node) e is (asked w h s node fate stands fit in_range asks)
 session_answered clocks w h s (verb.Write key value) view e fate stands fit in_range asks opening is = by_event w (Session s) (verb.Write key value) fate (event.Write s key value) e is (wrote w h s key value fate stands fit in_range)
 session_answered clocks w h s (verb.Read key) view e fate stands fit in_range asks opening is = by_event w (Session s) (verb.Read key) fate (event.Fetch s key) e is (fetches w h s key fate stands fit in_range)

@@ -10,8 +10,7 @@ use Rattle.history_book.specs.declared.item.Item.{Item}
 use Rattle.history_book.specs.declared.item.Item.TheVariants as item
 use Rattle.script_data.specs.declared.line.Verb.{Verb}
 use Rattle.script_data.specs.declared.line.Verb.TheVariants as verb
-use Rattle.line_steps.specs.Next.{target_node}
-use Rattle.line_steps.specs.Answers.{opener, Opens, IsTick, IsNote, IsTake, IsRenew, IsCrash, IsVanish, IsAskBegin, IsAskCommit, IsWrite, IsFetch, IsOpeningOf, IsRefusal, IsReadOnly, EndsInstead, IsAnswer}
+use Rattle.line_steps.specs.Answers.{opener, Opens, IsTick, IsNote, IsTake, IsRenew, IsCrash, IsVanish, IsAskBegin, IsAskCommit, IsWrite, IsFetch, named_node, IsOpeningOf, IsRefusal, IsReadOnly, EndsInstead, IsAnswer}
 
 tick_own : (x : Item) → IsTick x → opener x ≡ Some Clock
 tick_own (item.Tick to) is = refl
@@ -63,10 +62,10 @@ opening_own (Node n) verb.Take x is = take_own n x is
 opening_own (Node n) verb.Renew x is = renew_own n x is
 opening_own (Node n) verb.Crash x is = crash_own n x is
 opening_own (Session s) verb.Vanish x is = vanish_own s x is
-opening_own (Session s) (verb.Begin to) x is = begin_own s (target_node to) x is
+opening_own (Session s) (verb.Begin to) x is = begin_own s (named_node to) x is
 opening_own (Session s) (verb.AskBegin node) x is = begin_own s node x is
-opening_own (Session s) (verb.Commit to) x is = commit_own s (target_node to) x is
-opening_own (Session s) (verb.Submit to) x is = commit_own s (target_node to) x is
+opening_own (Session s) (verb.Commit to) x is = commit_own s (named_node to) x is
+opening_own (Session s) (verb.Submit to) x is = commit_own s (named_node to) x is
 opening_own (Session s) (verb.AskCommit node) x is = commit_own s node x is
 opening_own (Session s) (verb.Write key value) x is = write_own s key value x is
 opening_own (Session s) (verb.Read key) x is = fetch_own s key x is

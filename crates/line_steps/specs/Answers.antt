@@ -11,10 +11,11 @@ use Rattle.history_book.specs.declared.item.StoreStep.TheVariants as step
 use Rattle.history_book.specs.declared.item.Item.{Item}
 use Rattle.history_book.specs.declared.item.Item.TheVariants as item
 use Rattle.script_data.specs.declared.line.Line.{Line}
+use Rattle.script_data.specs.declared.line.Target.{Target}
+use Rattle.script_data.specs.declared.line.Target.TheVariants as target
 use Rattle.script_data.specs.declared.line.Verb.{Verb}
 use Rattle.script_data.specs.declared.line.Verb.TheVariants as verb
 use Rattle.script_data.specs.Data.{ScriptData}
-use Rattle.line_steps.specs.Next.{target_node}
 
 -- the actor whose line the item opens
 abbrev pub opener : Item → Option Actor
@@ -75,6 +76,9 @@ abbrev pub IsFetch : ℕ → ℕ → Item → Type 0
 IsFetch s k (item.Step actor (step.Fetch key cells)) = (actor ≡ Session s) × (key ≡ k)
 IsFetch s k _ = ⊥
 
+abbrev pub named_node : Target → ℕ
+named_node (target.Node node) = node
+
 abbrev pub IsOpeningOf : Actor → Verb → Item → Type 0
 IsOpeningOf actor (verb.Post name) x = IsNote actor (note.Post name) x
 IsOpeningOf actor (verb.Await name) x = IsNote actor (note.Await name) x
@@ -85,10 +89,10 @@ IsOpeningOf (Node n) verb.Take x = IsTake n x
 IsOpeningOf (Node n) verb.Renew x = IsRenew n x
 IsOpeningOf (Node n) verb.Crash x = IsCrash n x
 IsOpeningOf (Session s) verb.Vanish x = IsVanish s x
-IsOpeningOf (Session s) (verb.Begin to) x = IsAskBegin s (target_node to) x
+IsOpeningOf (Session s) (verb.Begin to) x = IsAskBegin s (named_node to) x
 IsOpeningOf (Session s) (verb.AskBegin node) x = IsAskBegin s node x
-IsOpeningOf (Session s) (verb.Commit to) x = IsAskCommit s (target_node to) x
-IsOpeningOf (Session s) (verb.Submit to) x = IsAskCommit s (target_node to) x
+IsOpeningOf (Session s) (verb.Commit to) x = IsAskCommit s (named_node to) x
+IsOpeningOf (Session s) (verb.Submit to) x = IsAskCommit s (named_node to) x
 IsOpeningOf (Session s) (verb.AskCommit node) x = IsAskCommit s node x
 IsOpeningOf (Session s) (verb.Write key value) x = IsWrite s key value x
 IsOpeningOf (Session s) (verb.Read key) x = IsFetch s key x

@@ -52,6 +52,7 @@ impl ScriptRun {
                 own_event(
                     self.planned.clock,
                     self.script.leads.as_slice(),
+                    self.planned.cluster.master(),
                     self.name_posted(&line.verb),
                     &line,
                     seat.point,

@@ -101,6 +101,6 @@ impl ScriptRun {
     {
         let ScriptRun { planned, turns, .. } = self;
         let PlannedCluster { cluster, .. } = planned;
-        (cluster, turns)
+        (cluster.into_cluster(), turns)
     }
 }

@@ -3,8 +3,8 @@ use Rattle.std.specs.Prelude.{replicate}
 use Rattle.port_io.specs.contracts.planned.PlannedWeatherWeather.TheImpl.{ahead-value}
 use Rattle.session_script.specs.Script.{data_of}
 use Rattle.script_data.specs.declared.line.Line.{Line}
-use Rattle.line_steps.specs.Clocks.{clocks}
 use Rattle.planned_cluster.specs.Fitting.{SessionIsThere}
+use Rattle.planned_cluster.specs.Standing.{clocks_at}
 use Rattle.turn_rules.specs.declared.seat.Holds.{Holds}
 use Rattle.turn_engine.specs.Seating.{AreSeatedFirst}
 use Rattle.turn_engine.proofs.Called.{same_made}
@@ -26,6 +26,6 @@ invariant_of-result c =
     let seated = subst (λ (ls : List Line). AreSeatedFirst script.setup.nodes ls c.in_ok-seated.seated.items) c.as_slice-3.ensures.value c.in_ok-seated.ensures in
     let held = c.in_ok-held.ensures.items_if_clones_equal (λ y same. same) ∙ ap (λ (h : Holds). replicate script.setup.nodes h) c.none.ensures in
     let there = subst (λ (ls : List Line). All (λ (line : Line). SessionIsThere line.actor) ls) c.as_slice.ensures.value c.see_sessions.ensures in
-    let made = opens script c.in_ok-planned.planned.cluster c.in_ok-planned.planned.clock (ahead-value.it c.in_ok-planned.planned.weather) (clocks c.in_ok-planned.planned.clock c.as_slice-4.result.now) c.in_ok-planned.planned.cluster.state [] c.in_ok-held.held.items c.in_ok-seated.seated.items [] c.args.script.sound (omega (arith, c.requires.few, c.args.script.lines.ok)) c.requires.for_threads there stands (sits_first script c.in_ok-held.held.items c.in_ok-seated.seated.items seated held) refl (ap (clocks c.in_ok-planned.planned.clock) c.as_slice-4.ensures.value) refl in
+    let made = opens script c.in_ok-planned.planned.cluster c.in_ok-planned.planned.clock (ahead-value.it c.in_ok-planned.planned.weather) (clocks_at c.in_ok-planned.planned.cluster c.in_ok-planned.planned.clock c.as_slice-4.result.now) c.in_ok-planned.planned.cluster.state [] c.in_ok-held.held.items c.in_ok-seated.seated.items [] c.args.script.sound (omega (arith, c.requires.few, c.args.script.lines.ok)) c.requires.for_threads there stands (sits_first script c.in_ok-held.held.items c.in_ok-seated.seated.items seated held) refl (ap (clocks_at c.in_ok-planned.planned.cluster c.in_ok-planned.planned.clock) c.as_slice-4.ensures.value) refl in
     let kept = same_made script [] c.new-3.result.items c.in_ok-planned.planned.cluster c.in_ok-planned.planned.clock (ahead-value.it c.in_ok-planned.planned.weather) [] c.new.result.names c.in_ok-held.held.items c.in_ok-held.held.items _ c.pass_all.new.seated.items [] c.new-2.result.items made c.new-3.ensures.items c.new.ensures refl c.pass_all.ensures c.new-2.ensures.items in
     (kept.stands, kept.sits, kept.out)
