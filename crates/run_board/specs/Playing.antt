@@ -56,12 +56,13 @@ pub record IsKeptPlay (ran : Ran) (cursors : List Cursor) : Type 0 where
 -- the cursor of the share's actor comes up to the actor's seat, and the share counts as much more
 pub record Counts (old new : Played) (mine now : Done) : Type 0 where
   pub actor : now.actor ≡ mine.actor
+  pub aim : now.aim ≡ mine.aim
   pub cursors : new.cursors ≡ caught_up mine.actor (steps.place_of new.ran mine.actor) old.cursors
   pub counted : now.amount + all_done old.cursors ≡ mine.amount + all_done new.cursors
 
 abbrev pub Advances : Played → Done → Advance → Played → Done → Type 0
 Advances old mine advance.NoMemory new now = (new ≡ old) × (now ≡ mine)
-Advances old mine answer new now = steps.Advances old.ran mine.actor 0 answer new.ran × Counts old new mine now
+Advances old mine answer new now = steps.Advances old.ran mine.actor mine.aim answer new.ran × Counts old new mine now
 
 -- ---- a stage's step
 abbrev pub Serves : Played → ℕ → ℕ → Stage → ℕ → StageStep → Played → Type 0

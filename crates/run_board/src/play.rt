@@ -90,15 +90,17 @@ impl<L: Ledger> Play<L> {
         self.run.history()
     }
 
-    /// Makes the next event of the present line of the share's actor, unless it waits or no line is left. The share counts the
-    /// lines that were passed since.
+    /// Makes the next event of the present line of the share's actor, unless it waits or no line is left: where the line names the
+    /// master, it asks the node at which the share is aimed, or the first where that node has not taken the record. The share counts
+    /// the lines that were passed since.
     pub fn advance(&mut self, mine: &mut ActorShare<L>) -> Advance
         ensures made { Advances self.old mine.old result self.new mine.new }
         ensures goes_on { GoesOn mine.old mine.new }
     {
         advances_go_further();
         let actor = mine.actor();
-        match self.run.advance(actor, NodeNo::FIRST) {
+        let aim = mine.aimed();
+        match self.run.advance(actor, aim) {
             Advance::NoMemory => Advance::NoMemory,
             answer => {
                 let place = self.run.place(&actor) as u64;

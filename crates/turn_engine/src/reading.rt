@@ -5,7 +5,7 @@ ghost use Rattle.line_steps.specs.Clocks.{HaveRoom};
 ghost use Rattle.line_steps.specs.Next.{reading_at};
 ghost use Rattle.line_steps.specs.Runs.{clocks_of};
 ghost use Rattle.turn_rules.specs.declared.ahead.Ahead.TheVariants.{Passes};
-ghost use Rattle.turn_rules.specs.Carried.{ahead_at, own_ahead, event_of, made_by, name_posted};
+ghost use Rattle.turn_rules.specs.Carried.{ahead_at, aimed_node, own_ahead, event_of, made_by, name_posted};
 ghost use Rattle.turn_rules.specs.Lawful as lawful;
 ghost use Rattle.turn_engine.specs.Run.{reached_by};
 ghost use Rattle.turn_engine.specs.Steps.{HasEnded, IsStageHeld, state_of, place_of, IsServable};
@@ -52,7 +52,7 @@ impl ScriptRun {
                 own_event(
                     self.planned.clock,
                     self.script.leads.as_slice(),
-                    self.planned.cluster.master(),
+                    self.aimed(aim),
                     self.name_posted(&line.verb),
                     &line,
                     seat.point,
@@ -61,6 +61,16 @@ impl ScriptRun {
                 )
             }
         }
+    }
+
+    // The node that a line asks which names the master. Without a take so far no node is master, whoever is aimed at.
+    fn aimed(&self, aim: NodeNo) -> NodeNo
+        ensures { result ≡ aimed_node (reached_by self.now).played.items aim }
+    {
+        if self.planned.cluster.has_taken(aim) {
+            return aim;
+        }
+        NodeNo::FIRST
     }
 
     fn name_posted(&self, verb: &Verb) -> bool

@@ -26,11 +26,11 @@ use Rattle.turn_rules.specs.declared.seat.Seat.{Seat}
 use Rattle.turn_rules.specs.declared.turn.Turn.{Turn}
 use Rattle.turn_rules.specs.declared.turn.Turn.TheVariants as turn
 use Rattle.turn_rules.specs.Seats.{lines_of, lines_left, with_event_of}
-use Rattle.turn_rules.specs.Carried.{Carried, aimed_clocks, seat_of, event_of, moved, with_event, seat_passed, all_passed, turned_by, turned, at_first}
+use Rattle.turn_rules.specs.Carried.{Carried, seat_of, event_of, moved, with_event, seat_passed, all_passed, turned_by, turned, at_first}
 use Rattle.turn_rules.specs.Laws.{unanswered, TurnsKeepFacts}
 use Rattle.turn_rules.proofs.MadeEvents.{Made, event_made}
-use Rattle.turn_rules.proofs.OwnTimes.{own_tick, own_timed}
-use Rattle.turn_rules.proofs.OwnTurns.{OwnTurn, own_turn, StageTurn, stage_turn}
+use Rattle.turn_rules.proofs.OwnTimes.{own_tick}
+use Rattle.turn_rules.proofs.OwnTurns.{OwnTurn, own_turn, turn_timed, StageTurn, stage_turn}
 use Rattle.turn_rules.proofs.SeatsOn.{passed_keeps, own_moved, other_stays, seat_after, passed_seat, turned_seat}
 use Rattle.turn_rules.proofs.SeatLists.{find_true, get_drop}
 
@@ -116,13 +116,13 @@ clock_ticks script c aim e k =
 
 facts_clock : (script : ScriptData) (c : Carried) (aim : ℕ) (e : Event) → IsPlayable script 0 script.lines → Facts script c → OwnTurn script c Clock aim e → Facts script (all_passed script (with_event script c (turn.Own Clock aim) e))
 facts_clock script c aim e playable k own =
-    let timed : Timed (clocks_of script c.played) (tick_ahead own.seat.point own.line.verb) e = subst (λ (a : Actor). Timed (clocks_of script c.played) (own_tick a (tick_ahead own.seat.point own.line.verb)) e) own.own (own_timed (aimed_clocks script c aim) own.line.actor own.line.verb own.seat.point (view_of c.played.state own.line.actor) e own.next) in
+    let timed : Timed (clocks_of script c.played) (tick_ahead own.seat.point own.line.verb) e = subst (λ (a : Actor). Timed (clocks_of script c.played) (own_tick a (tick_ahead own.seat.point own.line.verb)) e) own.own (turn_timed script c Clock aim e own) in
     facts_after script c (turn.Own Clock aim) (tick_ahead own.seat.point own.line.verb) e playable k timed (clock_ticks script c aim e own)
 
 -- of another actor
 facts_other : (script : ScriptData) (c : Carried) (actor : Actor) (aim : ℕ) (e : Event) → IsPlayable script 0 script.lines → Facts script c → OwnTurn script c actor aim e → ((tick : ℕ) → own_tick actor tick ≡ 0) → same_actor Clock actor ≡ false → Facts script (all_passed script (with_event script c (turn.Own actor aim) e))
 facts_other script c actor aim e playable k own quiet not =
-    let timed : Timed (clocks_of script c.played) (own_tick actor (tick_ahead own.seat.point own.line.verb)) e = subst (λ (a : Actor). Timed (clocks_of script c.played) (own_tick a (tick_ahead own.seat.point own.line.verb)) e) own.own (own_timed (aimed_clocks script c aim) own.line.actor own.line.verb own.seat.point (view_of c.played.state own.line.actor) e own.next) in
+    let timed : Timed (clocks_of script c.played) (own_tick actor (tick_ahead own.seat.point own.line.verb)) e = subst (λ (a : Actor). Timed (clocks_of script c.played) (own_tick a (tick_ahead own.seat.point own.line.verb)) e) own.own (turn_timed script c actor aim e own) in
     let still : Timed (clocks_of script c.played) 0 e = subst (λ (tick : ℕ). Timed (clocks_of script c.played) tick e) (quiet (tick_ahead own.seat.point own.line.verb)) timed in
     let less : ticks_left script (option_map (seat_after script c (turn.Own actor aim) e) (seat_of c.seats Clock)) ≤ ticks_left script (seat_of c.seats Clock) = still_ticks script c (turn.Own actor aim) e (seat_of c.seats Clock) (λ seat is. other_stays script (step_of script c.played e) actor aim seat (ap (λ (a : Actor). same_actor a actor) (actor_same seat.actor Clock (find_true (λ (x : Seat). same_actor x.actor Clock) c.seats seat is)) ∙ not)) in
     facts_after script c (turn.Own actor aim) 0 e playable k still (omega (arith, less))

@@ -14,7 +14,6 @@ use Rattle.line_steps.specs.Laws.{IsPlayable}
 use Rattle.line_steps.specs.Next.{reading_at}
 use Rattle.line_steps.specs.Planned.{with_tick, ticks_in}
 use Rattle.line_steps.specs.Runs.{clocks_of, step_of}
-use Rattle.line_steps.specs.Views.{view_of}
 use Rattle.line_steps.proofs.OwnLines.{follows_later}
 use Rattle.line_steps.proofs.ScriptWalks.{actor_same}
 use Rattle.line_steps.proofs.Timing.{tick_ahead}
@@ -25,11 +24,11 @@ use Rattle.turn_rules.specs.declared.seat.Seat.{Seat}
 use Rattle.turn_rules.specs.declared.turn.Turn.{Turn}
 use Rattle.turn_rules.specs.declared.turn.Turn.TheVariants as turn
 use Rattle.turn_rules.specs.Seats.{lines_of, lines_left, with_event_of}
-use Rattle.turn_rules.specs.Carried.{Carried, aimed_clocks, seat_of, event_of, moved, with_event, seat_passed, all_passed, turned_by, turned}
+use Rattle.turn_rules.specs.Carried.{Carried, seat_of, event_of, moved, with_event, seat_passed, all_passed, turned_by, turned}
 use Rattle.turn_rules.specs.Laws.{unanswered, ticks_ahead, IsPlannedSoFar}
 use Rattle.turn_rules.proofs.Facts.{Facts, facts_turned, later_ticks, clock_ticks, ticks_left}
 use Rattle.turn_rules.proofs.OwnTurns.{OwnTurn, own_turn}
-use Rattle.turn_rules.proofs.PlanTicks.{own_reads, stage_reads, IsOther, other_tick, clock_tick, first_ticks, ticks_moved, passing_ahead}
+use Rattle.turn_rules.proofs.PlanTicks.{turn_reads, stage_reads, IsOther, other_tick, clock_tick, first_ticks, ticks_moved, passing_ahead}
 use Rattle.turn_rules.proofs.SeatLists.{find_true, get_drop}
 use Rattle.turn_rules.proofs.SeatsOn.{own_moved, other_stays, seat_after, turned_seat}
 
@@ -90,13 +89,13 @@ quiet_plan laws script c t e playable k reads stays facts =
 clock_plan : PlanLaws → (script : ScriptData) (c : Carried) (aim : ℕ) (e : Event) → IsPlayable script 0 script.lines → OnPlan script c → OwnTurn script c Clock aim e → Facts script (all_passed script (with_event script c (turn.Own Clock aim) e)) → OnPlan script (all_passed script (with_event script c (turn.Own Clock aim) e))
 clock_plan laws script c aim e playable k own facts =
     let tick : Option ℕ = tick_at own.seat.point own.line.actor own.line.verb in
-    let reads : ReadsClocks (clocks_of script c.played) tick e = own_reads laws.read (aimed_clocks script c aim) own.line.actor own.line.verb own.seat.point (view_of c.played.state own.line.actor) e own.next in
+    let reads : ReadsClocks (clocks_of script c.played) tick e = turn_reads laws.read script c Clock aim e own in
     let long : unwrap_or tick 0 ≤ tick_ahead own.seat.point own.line.verb = subst (λ (a : Actor). unwrap_or (tick_at own.seat.point a own.line.verb) 0 ≤ tick_ahead own.seat.point own.line.verb) (sym own.own) (clock_tick own.line.verb own.seat.point) in
     plan_after laws script c (turn.Own Clock aim) tick e playable k reads (omega (arith, long, clock_ticks script c aim e own)) (clock_ahead script c aim e k.so_far.ticks own) facts
 
 other_plan : PlanLaws → (script : ScriptData) (c : Carried) (actor : Actor) (aim : ℕ) (e : Event) → IsPlayable script 0 script.lines → OnPlan script c → OwnTurn script c actor aim e → IsOther actor → Facts script (all_passed script (with_event script c (turn.Own actor aim) e)) → OnPlan script (all_passed script (with_event script c (turn.Own actor aim) e))
 other_plan laws script c actor aim e playable k own other facts =
-    let reads : ReadsClocks (clocks_of script c.played) (tick_at own.seat.point own.line.actor own.line.verb) e = own_reads laws.read (aimed_clocks script c aim) own.line.actor own.line.verb own.seat.point (view_of c.played.state own.line.actor) e own.next in
+    let reads : ReadsClocks (clocks_of script c.played) (tick_at own.seat.point own.line.actor own.line.verb) e = turn_reads laws.read script c actor aim e own in
     let none : tick_at own.seat.point own.line.actor own.line.verb ≡ None = ap (λ (a : Actor). tick_at own.seat.point a own.line.verb) own.own ∙ other_tick actor own.line.verb own.seat.point other in
     quiet_plan laws script c (turn.Own actor aim) e playable k (subst (λ (tick : Option ℕ). ReadsClocks (clocks_of script c.played) tick e) none reads) (λ seat same. other_stays script (step_of script c.played e) actor aim seat (ap (λ (a : Actor). same_actor a actor) same ∙ other)) facts
 

@@ -10,18 +10,20 @@ use Rattle.script_data.specs.declared.line.Line.{Line}
 use Rattle.script_data.specs.Data.{ScriptData}
 use Rattle.line_steps.specs.Answers.{same_actor}
 use Rattle.line_steps.specs.Laws.{ActorFits, VerbFits, AreLinesOf}
+use Rattle.line_steps.specs.Master.{last_master}
 use Rattle.line_steps.specs.Next.{reading_at}
 use Rattle.line_steps.specs.Runs.{clocks_of}
 use Rattle.line_steps.specs.Views.{view_of}
 use Rattle.line_steps.proofs.PlainEvents.{OpensNone}
 use Rattle.line_steps.proofs.ScriptWalks.{actor_same}
-use Rattle.line_steps.proofs.Timing.{Timed}
+use Rattle.line_steps.proofs.Timing.{Timed, tick_ahead}
 use Rattle.turn_rules.specs.declared.seat.Seat.{Seat}
 use Rattle.turn_rules.specs.declared.turn.Turn.{Turn}
 use Rattle.turn_rules.specs.declared.turn.Turn.TheVariants as turn
 use Rattle.turn_rules.specs.Seats.{present_line, ahead_of}
-use Rattle.turn_rules.specs.Carried.{Carried, aimed_clocks, name_posted, ahead_at, ahead_in, seat_of, made_by, event_of}
+use Rattle.turn_rules.specs.Carried.{Carried, aimed_node, aimed_clocks, name_posted, ahead_at, ahead_in, seat_of, made_by, event_of}
 use Rattle.turn_rules.proofs.OwnEvents.{IsNextOf, own_is_next}
+use Rattle.turn_rules.proofs.OwnTimes.{own_tick, own_timed, timed_anyhow}
 use Rattle.turn_rules.proofs.SeatLists.{find_true, Filtered, filtered}
 use Rattle.turn_rules.proofs.StillReading.{IsNotOf}
 
@@ -79,6 +81,11 @@ own_seat script c actor aim e (Some seat) sits makes = own_line script c actor a
 
 pub own_turn : (script : ScriptData) (c : Carried) (actor : Actor) (aim : ℕ) (e : Event) → event_of script c (turn.Own actor aim) ≡ Some e → OwnTurn script c actor aim e
 own_turn script c actor aim e makes = own_seat script c actor aim e (seat_of c.seats actor) refl makes
+
+pub turn_timed : (script : ScriptData) (c : Carried) (actor : Actor) (aim : ℕ) (e : Event) (k : OwnTurn script c actor aim e) → Timed (clocks_of script c.played) (own_tick k.line.actor (tick_ahead k.seat.point k.line.verb)) e
+turn_timed script c actor aim e k =
+    let tick : ℕ = own_tick k.line.actor (tick_ahead k.seat.point k.line.verb) in
+    timed_anyhow c.played.clock script.leads (aimed_node c.played.items aim) (last_master c.played.items) tick e (own_timed (aimed_clocks script c aim) k.line.actor k.line.verb k.seat.point (view_of c.played.state k.line.actor) e k.next)
 
 -- ---- a stage's turn
 pub record StageTurn (script : ScriptData) (c : Carried) (e : Event) : Type 0 where

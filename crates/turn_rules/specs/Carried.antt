@@ -16,6 +16,8 @@ use Rattle.script_data.specs.declared.line.Verb.{Verb}
 use Rattle.script_data.specs.declared.line.Verb.TheVariants as verb
 use Rattle.script_data.specs.Data.{ScriptData}
 use Rattle.line_steps.specs.Answers.{same_actor}
+use Rattle.line_steps.specs.Clocks.{clocks}
+use Rattle.line_steps.specs.Master.{has_take}
 use Rattle.line_steps.specs.Next.{Clocks, reading_at}
 use Rattle.line_steps.specs.Runs.{Played, clocks_of, step_of, played, opening_played}
 use Rattle.line_steps.specs.Views.{view_of}
@@ -70,9 +72,13 @@ held_after held (event.Note (Node node) (note.Free stage)) = slice_set held node
 held_after held _ = held
 
 -- ---- what is ahead of a seat's present line, where its actor's share is aimed at this node
--- the clocks at a turn of a share with this aim
+-- the node that a line asks which names the master: that at which the share is aimed, where it has taken the record, or else the
+-- first
+abbrev pub aimed_node : List Item → ℕ → ℕ
+aimed_node items aim = if has_take items aim then aim else 0
+
 abbrev pub aimed_clocks : ScriptData → Carried → ℕ → Clocks
-aimed_clocks script c aim = clocks_of script c.played
+aimed_clocks script c aim = clocks c.played.clock script.leads (aimed_node c.played.items aim)
 
 abbrev pub ahead_at : ScriptData → Carried → Seat → Option Line → ℕ → Ahead
 ahead_at script c seat None aim = Passes
