@@ -16,6 +16,7 @@ use Rattle.oracle_parts.specs.Instance.{InstanceEntry, least_unsettled}
 use Rattle.oracle_parts.specs.InstanceSteps.{epoch_refusal}
 use Rattle.machine.specs.declared.event.Event.TheVariants as event
 use Rattle.machine.specs.Events.Decide.{draw_item, both_verdict}
+use Rattle.script_data.specs.declared.line.Target.{Target}
 use Rattle.script_data.specs.declared.line.Target.TheVariants as target
 use Rattle.script_data.specs.declared.line.Verb.{Verb}
 use Rattle.script_data.specs.declared.line.Verb.TheVariants as verb
