@@ -65,6 +65,7 @@ ActorFits setup _ = Unit {0}
 
 abbrev pub TargetFits : SetupNumbers → Target → Type 0
 TargetFits setup (target.Node node) = node < setup.nodes
+TargetFits setup target.Master = Unit {0}
 
 abbrev pub VerbFits : SetupNumbers → Verb → Type 0
 VerbFits setup (verb.Begin to) = TargetFits setup to

@@ -30,6 +30,7 @@ reading_at clocks node = clocks.base + slice_index_or clocks.leads node 0
 -- the node that a line asks
 abbrev pub asked_node : ℕ → Target → ℕ
 asked_node master (target.Node node) = node
+asked_node master target.Master = master
 
 abbrev pub target_node : Clocks → Target → ℕ
 target_node clocks to = asked_node clocks.master to

@@ -289,11 +289,12 @@ fn reading_at(base: u64, leads: &[u64], node: NodeNo) -> u64
     base + lead
 }
 
-fn node_of(_master: NodeNo, target: Target) -> NodeNo
-    ensures { result ≡ next.asked_node _master target }
+fn node_of(master: NodeNo, target: Target) -> NodeNo
+    ensures { result ≡ next.asked_node master target }
 {
     match target {
         Target::Node(node) => node,
+        Target::Master => master,
     }
 }
 

@@ -4,7 +4,7 @@ ghost use Rattle.history_book.specs.Isolation.{Isolated};
 ghost use Rattle.cause_rules.specs.Explained.{Explained};
 ghost use Rattle.cause_rules.specs.Strict.{SerialIfStrict};
 ghost use Rattle.session_script.specs.Script.{data_of};
-ghost use Rattle.line_steps.specs.Answers.{Answers};
+ghost use Rattle.line_steps.specs.Answers.{AnswersOnThreads};
 ghost use Rattle.line_steps.specs.Planned.{Planned};
 ghost use Rattle.turn_rules.specs.Told.{AreForThreads};
 ghost use Rattle.turn_rules.specs.Carried.{carried_items};
@@ -156,7 +156,7 @@ impl<L: Ledger> Play<L> {
         ensures result { IfOk result (λ r. IsResult (data_of script.now) r.0.history r.1.items) }
         ensures isolated { IfOk result (λ r. Isolated r.0.history × Explained (data_of script.now).setup r.0.history) }
         ensures serial { IfOk result (λ r. SerialIfStrict (data_of script.now).setup r.0.history) }
-        ensures answered { IfOk result (λ r. Answers (data_of script.now) r.0.history) }
+        ensures answered { IfOk result (λ r. AnswersOnThreads (data_of script.now) r.0.history) }
         ensures planned { IfOk result (λ r. Planned (data_of script.now) r.0.history) }
         ensures counted { IfOk result (λ r. sum_by (λ s. s.amount) shares.items ≡ all_done self.cursors) }
         ensures back { IfErr result (λ r. (r.0 ≡ self) × (r.1.items ≡ shares.items)) }
@@ -182,7 +182,7 @@ impl<L: Ledger> Play<L> {
         ensures result { IsResult self.ran.script result.0.history result.1.items }
         ensures isolated { Isolated result.0.history × Explained self.ran.script.setup result.0.history }
         ensures serial { SerialIfStrict self.ran.script.setup result.0.history }
-        ensures answered { Answers self.ran.script result.0.history }
+        ensures answered { AnswersOnThreads self.ran.script result.0.history }
         ensures planned { Planned self.ran.script result.0.history }
         ensures counted { sum_by (λ s. s.amount) shares.items ≡ all_done self.cursors }
     {

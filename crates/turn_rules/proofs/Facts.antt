@@ -16,6 +16,7 @@ use Rattle.script_data.specs.Ticks.{ticks_of}
 use Rattle.line_steps.specs.Laws.{IsPlayable, IsReached}
 use Rattle.line_steps.specs.Runs.{clocks_of, step_of, played}
 use Rattle.line_steps.specs.Views.{view_of}
+use Rattle.line_steps.proofs.Takes.{TakesFit, takes_at_first}
 use Rattle.line_steps.proofs.AlwaysFit.{Fit, fit_at_first}
 use Rattle.line_steps.proofs.Ending.{opening_reached}
 use Rattle.line_steps.proofs.LaterEvents.{IsLater}
@@ -76,15 +77,17 @@ passed_ticks script c (Some seat) = passing_ticks script c seat
 pub record Facts (script : ScriptData) (c : Carried) : Type 0 where
   pub reached : IsReached script c.played
   pub fit : Fit c.played.state
+  pub takes : TakesFit c.played.state.setup.nodes c.played.items
   pub time : c.played.clock + ticks_left script (seat_of c.seats Clock) ≤ ticks_of script.lines
 
 -- an event keeps them, where its tick is taken off the clock's seat
 facts_after : (script : ScriptData) (c : Carried) (t : Turn) (tick : ℕ) (e : Event) → IsPlayable script 0 script.lines → Facts script c → Timed (clocks_of script c.played) tick e → ticks_left script (option_map (seat_after script c t e) (seat_of c.seats Clock)) + tick ≤ ticks_left script (seat_of c.seats Clock) → Facts script (all_passed script (with_event script c t e))
 facts_after script c t tick e playable k timed less =
-    let made : Made script c.played tick e = event_made script c.played tick e playable.leads (omega (arith, k.time, less, playable.ticks)) k.reached k.fit timed in
+    let made : Made script c.played tick e = event_made script c.played tick e playable.leads (omega (arith, k.time, less, playable.ticks)) k.reached k.fit k.takes timed in
     record {
       reached = made.reached;
       fit = made.fit;
+      takes = made.takes;
       time = subst (λ (found : Option Seat). (played script c.played e).clock + ticks_left script found ≤ ticks_of script.lines) (sym (turned_seat script c t e Clock)) (omega (arith, made.at_most, less, k.time));
     }
 
@@ -166,6 +169,7 @@ facts_at_first script in_range =
     record {
       reached = opening_reached script in_range;
       fit = fit_at_first script.setup;
+      takes = takes_at_first script.setup in_range;
       time = omega (arith, seated, all);
     }
 

@@ -14,7 +14,7 @@ use Rattle.isolation_laws.specs.Sound.{Stands}
 use Rattle.isolation_laws.specs.Words.{ClientAt}
 use Rattle.line_steps.specs.declared.point.Point.{Point}
 use Rattle.line_steps.specs.declared.point.Point.TheVariants.{Opens, Drives, Extends, Finishes, Reads, Steps, Over}
-use Rattle.line_steps.specs.Answers.{same_actor, has_opening, IsAnswer}
+use Rattle.line_steps.specs.Answers.{same_actor, has_opening, IsAnswer, asks_some}
 use Rattle.line_steps.specs.Laws.{ActorFits}
 use Rattle.line_steps.specs.Runs.{Played, fate_of, step_of}
 use Rattle.line_steps.specs.Views.{view_of}
@@ -81,21 +81,21 @@ present_threads script c actor aim e on k =
     threads_at script.lines there.place k.line on there.is
 
 -- its first event, where the form has an opening item
-opens_told : (script : ScriptData) (c : Carried) (actor : Actor) (aim : ℕ) (e : Event) → (k : OwnTurn script c actor aim e) → OwnLine actor c.played.state c.played.items k.line → has_opening k.line.actor k.line.verb ≡ true → IsNextOf (aimed_clocks script c aim) k.line.actor k.line.verb Opens (view_of c.played.state k.line.actor) e → IsTold script c.played e
+opens_told : (script : ScriptData) (c : Carried) (actor : Actor) (aim : ℕ) (e : Event) → (k : OwnTurn script c actor aim e) → OwnLine actor (aimed_clocks script c aim) c.played.state c.played.items k.line → has_opening k.line.actor k.line.verb ≡ true → IsNextOf (aimed_clocks script c aim) k.line.actor k.line.verb Opens (view_of c.played.state k.line.actor) e → IsTold script c.played e
 opens_told script c actor aim e k own opening (inr (at, collects, is)) = absurd (collects_not k.line.actor k.line.verb collects opening)
-opens_told script c actor aim e k own opening (inl is) = told_by script c.played e (begins_appends (IsAnswer k.line.actor k.line.verb) (step_of script c.played e).items (line_answered (aimed_clocks script c aim) c.played.state c.played.items k.line.actor k.line.verb (view_of c.played.state k.line.actor) e (fate_of script c.played e) own.stands own.fit own.in_range own.asks opening is))
+opens_told script c actor aim e k own opening (inl is) = told_by script c.played e (begins_appends (IsAnswer (asks_some c.played.items) k.line.actor k.line.verb) (step_of script c.played e).items (line_answered (asks_some c.played.items) (aimed_clocks script c aim) c.played.state c.played.items k.line.actor k.line.verb (view_of c.played.state k.line.actor) e (fate_of script c.played e) own.stands own.fit own.in_range own.asks own.master own.may opening is))
 
-first_told : (script : ScriptData) (c : Carried) (actor : Actor) (aim : ℕ) (e : Event) → AreForThreads script.lines → (k : OwnTurn script c actor aim e) → OwnLine actor c.played.state c.played.items k.line → k.seat.point ≡ Opens → (opening : Bool) → has_opening k.line.actor k.line.verb ≡ opening → IsTold script c.played e
+first_told : (script : ScriptData) (c : Carried) (actor : Actor) (aim : ℕ) (e : Event) → AreForThreads script.lines → (k : OwnTurn script c actor aim e) → OwnLine actor (aimed_clocks script c aim) c.played.state c.played.items k.line → k.seat.point ≡ Opens → (opening : Bool) → has_opening k.line.actor k.line.verb ≡ opening → IsTold script c.played e
 first_told script c actor aim e on k own at true opening = opens_told script c actor aim e k own opening (subst (λ (p : Point). IsNextOf (aimed_clocks script c aim) k.line.actor k.line.verb p (view_of c.played.state k.line.actor) e) at k.next)
 first_told script c actor aim e on k own at false none =
     let ahead : Ahead = own_next (aimed_clocks script c aim) (name_posted c.names k.line.verb) k.line.actor k.line.verb Opens (view_of c.played.state k.line.actor) k.seat.unawaited in
     let makes : made_by ahead ≡ Some e = subst (λ (p : Point). made_by (own_next (aimed_clocks script c aim) (name_posted c.names k.line.verb) k.line.actor k.line.verb p (view_of c.played.state k.line.actor) k.seat.unawaited) ≡ Some e) at k.makes in
     kind_told script c.played k.line.actor e own.stands own.fit own.in_range (kind_made k.line.actor ahead e (opens_kind (aimed_clocks script c aim) (name_posted c.names k.line.verb) k.line.actor k.line.verb (view_of c.played.state k.line.actor) k.seat.unawaited (present_threads script c actor aim e on k) none) makes)
 
-later_told : (script : ScriptData) (c : Carried) (actor : Actor) (aim : ℕ) (e : Event) → (k : OwnTurn script c actor aim e) → OwnLine actor c.played.state c.played.items k.line → IsLater k.seat.point → IsTold script c.played e
+later_told : (script : ScriptData) (c : Carried) (actor : Actor) (aim : ℕ) (e : Event) → (k : OwnTurn script c actor aim e) → OwnLine actor (aimed_clocks script c aim) c.played.state c.played.items k.line → IsLater k.seat.point → IsTold script c.played e
 later_told script c actor aim e k own later = kind_told script c.played k.line.actor e own.stands own.fit own.in_range (kind_made k.line.actor (own_next (aimed_clocks script c aim) (name_posted c.names k.line.verb) k.line.actor k.line.verb k.seat.point (view_of c.played.state k.line.actor) k.seat.unawaited) e (later_kind (aimed_clocks script c aim) (name_posted c.names k.line.verb) k.line.actor k.line.verb k.seat.point (view_of c.played.state k.line.actor) k.seat.unawaited later) k.makes)
 
-told_at : (script : ScriptData) (c : Carried) (actor : Actor) (aim : ℕ) (e : Event) → AreForThreads script.lines → (k : OwnTurn script c actor aim e) → OwnLine actor c.played.state c.played.items k.line → (at : Point) → k.seat.point ≡ at → IsTold script c.played e
+told_at : (script : ScriptData) (c : Carried) (actor : Actor) (aim : ℕ) (e : Event) → AreForThreads script.lines → (k : OwnTurn script c actor aim e) → OwnLine actor (aimed_clocks script c aim) c.played.state c.played.items k.line → (at : Point) → k.seat.point ≡ at → IsTold script c.played e
 told_at script c actor aim e on k own Opens at = first_told script c actor aim e on k own at (has_opening k.line.actor k.line.verb) refl
 told_at script c actor aim e on k own Drives at = later_told script c actor aim e k own (subst (λ (p : Point). IsLater p) (sym at) tt)
 told_at script c actor aim e on k own Extends at = later_told script c actor aim e k own (subst (λ (p : Point). IsLater p) (sym at) tt)

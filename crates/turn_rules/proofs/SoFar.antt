@@ -10,9 +10,13 @@ use Rattle.machine.specs.declared.event.Event.{Event}
 use Rattle.machine.specs.Machine.{Step}
 use Rattle.machine.specs.State.{State}
 use Rattle.script_data.specs.declared.line.Line.{Line}
+use Rattle.script_data.specs.declared.line.Target.{Target}
+use Rattle.script_data.specs.declared.line.Target.TheVariants as target
 use Rattle.script_data.specs.Data.{ScriptData}
-use Rattle.line_steps.specs.Answers.{same_actor}
+use Rattle.line_steps.specs.Answers.{same_actor, asks_some}
 use Rattle.line_steps.specs.Laws.{ActorFits, VerbFits, AreLinesOf, IsPlayable}
+use Rattle.line_steps.specs.Master.{has_take}
+use Rattle.line_steps.specs.Next.{target_node}
 use Rattle.line_steps.specs.Runs.{fate_of, clocks_of, step_of}
 use Rattle.line_steps.specs.Views.{view_of}
 use Rattle.line_steps.specs.declared.point.Point.TheVariants.{Drives}
@@ -20,12 +24,13 @@ use Rattle.line_steps.proofs.LineWalks.{any_not}
 use Rattle.line_steps.proofs.PlainEvents.{events_plain}
 use Rattle.line_steps.proofs.ReadLines.{ReadsKey}
 use Rattle.line_steps.proofs.ScriptWalks.{actor_same, same_itself}
+use Rattle.line_steps.proofs.Takes.{some_fits}
 use Rattle.line_steps.proofs.Walks.{AllNot, plain_not}
 use Rattle.turn_rules.specs.declared.seat.Seat.{Seat}
 use Rattle.turn_rules.specs.declared.turn.Turn.{Turn}
 use Rattle.turn_rules.specs.declared.turn.Turn.TheVariants as turn
 use Rattle.turn_rules.specs.Seats.{lines_of, lines_left, with_event_of}
-use Rattle.turn_rules.specs.Carried.{Carried, aimed_clocks, seat_of, event_of, moved, with_event, seat_passed, all_passed, turned_by, turned}
+use Rattle.turn_rules.specs.Carried.{Carried, aimed_node, aimed_clocks, seat_of, event_of, moved, with_event, seat_passed, all_passed, turned_by, turned}
 use Rattle.turn_rules.specs.Laws.{IsAnsweredTo}
 use Rattle.turn_rules.proofs.Facts.{Facts, facts_turned}
 use Rattle.turn_rules.proofs.OwnEvents.{IsNextOf}
@@ -75,9 +80,18 @@ apart_staged script c t e actor k staged stays = record {
   stays = λ seat same. stays (step_of script c.played e) seat;
 }
 
+-- a line asks the node that it names, or the one at which its actor's share is aimed, which has taken the record, or the first
+aimed_by : (h : List Item) (aim : ℕ) (has : Bool) → has_take h aim ≡ has → asks_some h target.Master (cond has aim 0)
+aimed_by h aim true has = inr has
+aimed_by h aim false none = inl refl
+
+may_ask : (script : ScriptData) (c : Carried) (aim : ℕ) (to : Target) → asks_some c.played.items to (target_node (aimed_clocks script c aim) to)
+may_ask script c aim (target.Node node) = refl
+may_ask script c aim target.Master = aimed_by c.played.items aim (has_take c.played.items aim) refl
+
 -- another actor's
 -- the line that makes it is one of the system
-pub own_fits : (script : ScriptData) (c : Carried) (who : Actor) (aim : ℕ) (e : Event) → AreLinesOf script.setup script.lines → Facts script c → (own : OwnTurn script c who aim e) → OwnLine who c.played.state c.played.items own.line
+pub own_fits : (script : ScriptData) (c : Carried) (who : Actor) (aim : ℕ) (e : Event) → AreLinesOf script.setup script.lines → Facts script c → (own : OwnTurn script c who aim e) → OwnLine who (aimed_clocks script c aim) c.played.state c.played.items own.line
 own_fits script c who aim e of_script k own =
     let fits : ActorFits script.setup own.line.actor × VerbFits script.setup own.line.verb = present_fits script own.seat own.line of_script own.present in
     record {
@@ -85,12 +99,14 @@ own_fits script c who aim e of_script k own =
       fit = k.fit;
       in_range = subst (λ (setup : SetupNumbers). ActorFits setup own.line.actor) (sym k.reached.setup) fits.0;
       asks = subst (λ (setup : SetupNumbers). VerbFits setup own.line.verb) (sym k.reached.setup) fits.1;
+      master = some_fits c.played.state.setup.nodes c.played.items (aimed_node c.played.items aim) k.takes (may_ask script c aim target.Master);
+      may = may_ask script c aim;
       same = own.own;
     }
 
-others_not : (script : ScriptData) (c : Carried) (who : Actor) (aim : ℕ) (actor : Actor) (e : Event) → (own : OwnTurn script c who aim e) → OwnLine who c.played.state c.played.items own.line → (own.line.actor ≡ actor → ⊥) → IsNextOf (aimed_clocks script c aim) own.line.actor own.line.verb own.seat.point (view_of c.played.state own.line.actor) e → AllNot actor (step_of script c.played e).items
-others_not script c who aim actor e own k other (inl is) = any_not actor (aimed_clocks script c aim) c.played.state c.played.items own.line own.seat.point e (fate_of script c.played e) k.stands k.fit k.in_range k.asks (λ opening same. other same) is
-others_not script c who aim actor e own k other (inr (opens, collects, is)) = any_not actor (aimed_clocks script c aim) c.played.state c.played.items own.line Drives e (fate_of script c.played e) k.stands k.fit k.in_range k.asks (λ opening same. other same) is
+others_not : (script : ScriptData) (c : Carried) (who : Actor) (aim : ℕ) (actor : Actor) (e : Event) → (own : OwnTurn script c who aim e) → OwnLine who (aimed_clocks script c aim) c.played.state c.played.items own.line → (own.line.actor ≡ actor → ⊥) → IsNextOf (aimed_clocks script c aim) own.line.actor own.line.verb own.seat.point (view_of c.played.state own.line.actor) e → AllNot actor (step_of script c.played e).items
+others_not script c who aim actor e own k other (inl is) = any_not actor (aimed_clocks script c aim) c.played.state c.played.items own.line own.seat.point e (fate_of script c.played e) k.stands k.fit k.in_range k.asks k.master (λ opening same. other same) is
+others_not script c who aim actor e own k other (inr (opens, collects, is)) = any_not actor (aimed_clocks script c aim) c.played.state c.played.items own.line Drives e (fate_of script c.played e) k.stands k.fit k.in_range k.asks k.master (λ opening same. other same) is
 
 apart_own : (script : ScriptData) (c : Carried) (who : Actor) (aim : ℕ) (actor : Actor) (e : Event) → AreLinesOf script.setup script.lines → Facts script c → OwnTurn script c who aim e → same_actor actor who ≡ false → Apart script c (turn.Own who aim) e actor
 apart_own script c who aim actor e of_script k own not =
