@@ -6,14 +6,14 @@ use std::test::Fail;
 use std::thread::Threads;
 use worked_commits::{commits, conflicts, many_keys, remembered, strict};
 use worked_examples::{examples, threads};
-use worked_faults::{leases, outcomes, refusals, takeovers};
+use worked_faults::{leases, masters, outcomes, refusals, takeovers};
 use worked_pieces::Replay;
 
 /// How many topics the worked examples have.
-pub const TOPICS: usize = 11;
+pub const TOPICS: usize = 12;
 
 /// How many each topic has.
-const COUNTS: [usize; TOPICS] = [10, 5, 1, 4, 8, 6, 9, 8, 7, 4, 5];
+const COUNTS: [usize; TOPICS] = [10, 5, 1, 4, 8, 6, 9, 8, 7, 4, 6, 5];
 
 /// The worked examples of a topic.
 pub fn topic(number: usize) -> &'static [Replay] {
@@ -28,6 +28,7 @@ pub fn topic(number: usize) -> &'static [Replay] {
         7 => refusals::replays(),
         8 => examples::replays(),
         9 => remembered::replays(),
+        10 => masters::replays(),
         _ => threads::replays(),
     }
 }
