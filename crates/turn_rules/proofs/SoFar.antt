@@ -1,5 +1,5 @@
 -- Whichever turns are made, each actor's lines are answered up to its seat.
-use Rattle.std.proofs.Common.{◌≡◌, ℕ, suc, Bool, true, false, List, [], ◌∷◌, ◌++◌, Option, Some, None, inl, inr, refl, sym, ◌∙◌, ap, subst}
+use Rattle.std.proofs.Common.{◌≡◌, ℕ, suc, Bool, true, false, cond, List, [], ◌∷◌, ◌++◌, Option, Some, None, inl, inr, refl, sym, ◌∙◌, ap, subst}
 use Rattle.std.specs.Prelude.{drop, fold}
 use Rattle.std.specs.Option.{option_map}
 use Rattle.stamp_base.specs.SetupNumbers.{SetupNumbers}
