@@ -33,6 +33,7 @@ pub struct WatchedCluster {
 }
 
 impl Model for WatchedCluster {
+    ghost use Rattle.std.specs.Prelude.{◌≡◌};
     ghost use Rattle.cause_rules.specs.Since.{last_told};
     ghost use Rattle.line_steps.specs.Master.{taken_by};
     ghost use Rattle.cluster_core.specs.Codes.{whole_code};
