@@ -3,7 +3,7 @@ use Rattle.std.proofs.Common.{◌≡◌, ℕ, zero, suc, ◌<◌, ◌≤◌, ◌
 use Rattle.std.specs.Prelude.{replicate}
 use Rattle.std.specs.List.{list_any}
 use Rattle.std.proofs.lemmas.Bool.Decides.{eqb_tells}
-use Rattle.std.proofs.lemmas.List.{append-nil, get_or-set_same, get_or-set_other, length-set}
+use Rattle.std.proofs.lemmas.List.{append-nil, get_or-set_same, get_or-set_other, get_or_read, length-set}
 use Rattle.history_book.specs.declared.item.Item.{Item}
 use Rattle.event_parts.specs.declared.stopped.Stopped.{Stopped}
 use Rattle.event_parts.specs.declared.stopped.Stopped.TheVariants.{Refused, StoreFault, NoMemory}
@@ -81,3 +81,12 @@ pub history_grows : (step : Step) (old new : Whole) (answer : Result Unit Stoppe
 history_grows step old new answer made =
     let k : (items : List Item) × (new.history ≡ old.history ++ items) = appended step old new answer made in
     subst (λ (h : List Item). length old.history ≤ length h) (sym k.1) (omega (arith, Rattle.std.proofs.lemmas.List.length-append old.history k.0))
+
+-- ---- as code reads them
+pub told_flag : (flags : List Bool) (h : List Item) (n i : ℕ) (b : Bool) → flags ≡ nodes_taken h → i ≡ n → n < 8 → b ≡ get_or flags i b → b ≡ has_take h n
+told_flag flags h n i b are same less is =
+    let at : b ≡ get_or (nodes_taken h) n b = is ∙ ap (λ (bs : List Bool). get_or bs i b) are ∙ ap (λ (k : ℕ). get_or (nodes_taken h) k b) same in
+    get_or_read (nodes_taken h) n b (subst (λ (k : ℕ). n < k) (sym (eight_flags h)) less) at false ∙ flags_are h n less
+
+pub flags_long : (flags : List Bool) (h : List Item) → flags ≡ nodes_taken h → length flags ≡ 8
+flags_long flags h are = ap (λ (bs : List Bool). length bs) are ∙ eight_flags h
