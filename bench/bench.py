@@ -80,8 +80,20 @@ def at_random(lines, sessions=16, keys=50, seed=7):
     return HEAD + [f"s{draw.randrange(sessions)} {draw.choice(verbs)()}" for _ in range(lines - len(HEAD))]
 
 
-def transactions(lines, sessions, nodes=1, takeovers=0):
-    """Sessions side by side, each over and over: begin, read, write of a key of its own, commit; with takeovers by clock."""
+def at_random_by_master(lines, sessions=16, keys=50, nodes=3, takeovers=9, seed=7):
+    """The same, but that begins and commits name the master, and that the nodes take over from each other."""
+    script = [f"nodes {nodes}", *at_random(lines - 4 * takeovers - 1, sessions, keys, seed)]
+    script = [line.replace("begin a", "begin master").replace("commit a", "commit master") for line in script]
+    apart = len(script) // (takeovers + 1)
+    for number in range(takeovers, 0, -1):
+        before, after = "abcdefgh"[(number - 1) % nodes], "abcdefgh"[number % nodes]
+        script[number * apart:number * apart] = [f"{before} crash", "clock tick 1000000", "clock tick 10", f"{after} take"]
+    return script
+
+
+def transactions(lines, sessions, nodes=1, takeovers=0, by_master=False):
+    """Sessions side by side, each over and over: begin, read, write of a key of its own, commit; with takeovers by clock. Begins and
+    commits name their node, or the master."""
     script = [f"nodes {max(nodes, 1)}", *WIDE]
     script += ["a take"]
     homes = "abcdefgh"
@@ -92,12 +104,16 @@ def transactions(lines, sessions, nodes=1, takeovers=0):
         if chunk:
             script += [f"clock await d{chunk}-{session}" for session in range(sessions)]
             script += ["clock tick 1000000", "clock tick 10", f"clock post c{chunk}", f"{node} await c{chunk}", f"{node} take", f"{node} post t{chunk}"]
+        asked = "master" if by_master else node
+        if chunk and by_master:
+            before = homes[(chunk - 1) % max(nodes, 1)]
+            script += [f"{before} await c{chunk}", f"{before} crash"]
         for session in range(sessions):
             if chunk:
                 script.append(f"s{session} await t{chunk}")
             for turn in range(each // chunks):
-                script += [f"s{session} begin {node}", f"s{session} read k{session}", f"s{session} write k{session} v{turn}",
-                           f"s{session} commit {node}"]
+                script += [f"s{session} begin {asked}", f"s{session} read k{session}", f"s{session} write k{session} v{turn}",
+                           f"s{session} commit {asked}"]
             if chunk + 1 < chunks:
                 script.append(f"s{session} post d{chunk + 1}-{session}")
     return script
@@ -271,10 +287,11 @@ def main():
         sys.exit(f"bench: {said.program} is not there: run `rt ci` first, or name one by --program")
     lines = LINES // 8 if said.quick else LINES
     files = [("whole lines", whole_lines(lines)), ("hot key", hot_key(lines)), ("single steps", single_steps(lines)),
-             ("16 sessions at random", at_random(lines))]
+             ("16 sessions at random", at_random(lines)), ("at random, by master", at_random_by_master(lines))]
     runs = [("1 session", transactions(lines, 1)), ("4 sessions", transactions(lines, 4)), ("16 sessions", transactions(lines, 16)),
             ("16 sessions, workers 4", ["workers 4", "batch 16"] + transactions(lines, 16)),
-            ("3 nodes, 9 takeovers", transactions(lines, 16, 3, 9)), ("posts and awaits", posts(lines))]
+            ("3 nodes, 9 takeovers", transactions(lines, 16, 3, 9)),
+            ("9 takeovers, by master", transactions(lines, 16, 3, 9, True)), ("posts and awaits", posts(lines))]
     picked = [[load for load in loads if said.only in load[0]] for loads in (files, runs)]
     with tempfile.TemporaryDirectory(prefix="omid-bench-") as work:
         if picked[0]:

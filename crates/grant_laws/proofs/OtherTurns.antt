@@ -7,13 +7,13 @@ use Rattle.machine.specs.declared.event.Event.{Event}
 use Rattle.machine.specs.Machine.{Step}
 use Rattle.script_data.specs.Data.{ScriptData}
 use Rattle.line_steps.specs.Answers.{same_actor}
-use Rattle.line_steps.specs.Runs.{clocks_of, fate_of, played}
+use Rattle.line_steps.specs.Runs.{fate_of, played}
 use Rattle.line_steps.specs.Views.{view_of}
 use Rattle.line_steps.proofs.ScriptWalks.{actor_same, same_itself}
 use Rattle.turn_rules.specs.declared.seat.Seat.{Seat}
 use Rattle.turn_rules.specs.declared.turn.Turn.{Turn}
 use Rattle.turn_rules.specs.declared.turn.Turn.TheVariants as turn
-use Rattle.turn_rules.specs.Carried.{Carried, event_of, moved, turned_by, carried}
+use Rattle.turn_rules.specs.Carried.{Carried, aimed_clocks, event_of, moved, turned_by, carried}
 use Rattle.turn_rules.proofs.OwnSessions.{not_of}
 use Rattle.turn_rules.proofs.OwnTurns.{OwnTurn, own_turn, stage_turn}
 use Rattle.turn_rules.proofs.SeatsOn.{other_stays}
@@ -29,11 +29,11 @@ not_same who s other same =
     let clash : true ≡ false = sym (same_itself (Session s)) ∙ ap (λ (a : Actor). same_actor a (Session s)) (sym same) ∙ other in
     cc
 
-owned_not : (script : ScriptData) (c : Carried) (who : Actor) (s : ℕ) (e : Event) → OwnTurn script c who e → same_actor who (Session s) ≡ false → IsNotOf s e
-owned_not script c who s e own other = not_of s (clocks_of script c.played) own.line.actor own.line.verb own.seat.point (view_of c.played.state own.line.actor) e (λ same. not_same who s other (sym own.own ∙ same)) own.next
+owned_not : (script : ScriptData) (c : Carried) (aim : ℕ) (who : Actor) (s : ℕ) (e : Event) → OwnTurn script c who aim e → same_actor who (Session s) ≡ false → IsNotOf s e
+owned_not script c aim who s e own other = not_of s (aimed_clocks script c aim) own.line.actor own.line.verb own.seat.point (view_of c.played.state own.line.actor) e (λ same. not_same who s other (sym own.own ∙ same)) own.next
 
 pub other_event : (script : ScriptData) (c : Carried) (t : Turn) (s : ℕ) (e : Event) → event_of script c t ≡ Some e → is_own s t ≡ false → IsNotOf s e
-other_event script c (turn.Own who) s e is other = owned_not script c who s e (own_turn script c who e is) other
+other_event script c (turn.Own who aim) s e is other = owned_not script c aim who s e (own_turn script c who aim e is) other
 other_event script c (turn.Accept node session) s e is other = (stage_turn script c (turn.Accept node session) e (λ own. own) is).of_none s
 other_event script c (turn.Decide node session) s e is other = (stage_turn script c (turn.Decide node session) e (λ own. own) is).of_none s
 other_event script c (turn.Put node session) s e is other = (stage_turn script c (turn.Put node session) e (λ own. own) is).of_none s
@@ -66,11 +66,11 @@ by_same : (who : Actor) (s : ℕ) (same : Bool) → same_actor (Session s) who �
 by_same who s false is other = is
 by_same who s true is other = absurd (not_same who s other (sym (actor_same (Session s) who is)))
 
-other_seat : (script : ScriptData) (step : Step) (who : Actor) (s : ℕ) (seat : Seat) → seat.actor ≡ Session s → same_actor who (Session s) ≡ false → moved script (turn.Own who) step seat ≡ seat
-other_seat script step who s seat mine other = other_stays script step who seat (ap (λ (a : Actor). same_actor a who) mine ∙ by_same who s (same_actor (Session s) who) refl other)
+other_seat : (script : ScriptData) (step : Step) (aim : ℕ) (who : Actor) (s : ℕ) (seat : Seat) → seat.actor ≡ Session s → same_actor who (Session s) ≡ false → moved script (turn.Own who aim) step seat ≡ seat
+other_seat script step aim who s seat mine other = other_stays script step who aim seat (ap (λ (a : Actor). same_actor a who) mine ∙ by_same who s (same_actor (Session s) who) refl other)
 
 pub seat_left : (script : ScriptData) (t : Turn) (step : Step) (s : ℕ) (seat : Seat) → seat.actor ≡ Session s → is_own s t ≡ false → moved script t step seat ≡ seat
-seat_left script (turn.Own who) step s seat mine other = other_seat script step who s seat mine other
+seat_left script (turn.Own who aim) step s seat mine other = other_seat script step aim who s seat mine other
 seat_left script (turn.Accept node session) step s seat mine other = refl
 seat_left script (turn.Decide node session) step s seat mine other = refl
 seat_left script (turn.Put node session) step s seat mine other = refl

@@ -21,15 +21,15 @@ pub turn_adds : (script : ScriptData) (c : Carried) (t : Turn) (e : Event) (x : 
 turn_adds script c t e x made tells = ap (λ (found : Option Event). (turned_by script c t found).played.items) made ∙ ap (λ (xs : List Item). c.played.items ++ xs) tells
 
 -- an own turn that makes the event comes to what the event plays
-pub own_plays : (script : ScriptData) (c : Carried) (s : ℕ) (e : Event) → own_ahead script c (Session s) ≡ Makes e → (turned script c (turn.Own (Session s))).played ≡ played script c.played e
-own_plays script c s e ahead = ap (λ (found : Option Event). (turned_by script c (turn.Own (Session s)) found).played) (ap made_by ahead)
+pub own_plays : (script : ScriptData) (c : Carried) (aim : ℕ) (s : ℕ) (e : Event) → own_ahead script c (Session s) aim ≡ Makes e → (turned script c (turn.Own (Session s) aim)).played ≡ played script c.played e
+own_plays script c aim s e ahead = ap (λ (found : Option Event). (turned_by script c (turn.Own (Session s) aim) found).played) (ap made_by ahead)
 
 pub writes_are_carried : WritesAreCarried
-writes_are_carried script turns s key value ahead can =
+writes_are_carried script turns aim s key value ahead can =
     let c : Carried = carried script turns in
-    turn_adds script c (turn.Own (Session s)) (event.Write s key value) (item.Write s can.work.start key value) (ap made_by ahead) (write_tells script c.played s key value can)
+    turn_adds script c (turn.Own (Session s) aim) (event.Write s key value) (item.Write s can.work.start key value) (ap made_by ahead) (write_tells script c.played s key value can)
 
 pub takes_are_carried : TurnsKeepFacts → TakesAreCarried
-takes_are_carried facts script turns node in_range playable ahead can =
+takes_are_carried facts script turns aim node in_range playable ahead can =
     let c : Carried = carried script turns in
-    turn_adds script c (turn.Own (Node node)) (event.Take node (reading_of script c.played node)) (next_take script c.played node) (ap made_by ahead) (take_tells script c.played node (facts script turns in_range playable).setup can)
+    turn_adds script c (turn.Own (Node node) aim) (event.Take node (reading_of script c.played node)) (next_take script c.played node) (ap made_by ahead) (take_tells script c.played node (facts script turns in_range playable).setup can)

@@ -98,8 +98,8 @@ under_after script c t e s start key most r old seat line makes sits goes mine p
 
 -- ---- an own turn of the line
 -- it goes on at the steps of the read where it did not stop
-pub own_under : (script : ScriptData) (c : Carried) (e : Event) (s start key most : ℕ) (r : Reading) (seat : Seat) (line : Line) → event_of script c (turn.Own (Session s)) ≡ Some e → seat_of c.seats (Session s) ≡ Some seat → present_line script seat ≡ Some line → line.verb ≡ verb.Read key → follows (verb.Read key) seat.point None ≡ Reads → (step_of script c.played e).stop ≡ None → ReadsKey (played script c.played e) s start key r → read_steps r ≤ most → IsUnder script (turned script c (turn.Own (Session s))) s start key most
-own_under script c e s start key most r seat line makes sits present verb_is goes_on stops k few =
+pub own_under : (script : ScriptData) (c : Carried) (aim : ℕ) (e : Event) (s start key most : ℕ) (r : Reading) (seat : Seat) (line : Line) → event_of script c (turn.Own (Session s) aim) ≡ Some e → seat_of c.seats (Session s) ≡ Some seat → present_line script seat ≡ Some line → line.verb ≡ verb.Read key → follows (verb.Read key) seat.point None ≡ Reads → (step_of script c.played e).stop ≡ None → ReadsKey (played script c.played e) s start key r → read_steps r ≤ most → IsUnder script (turned script c (turn.Own (Session s) aim)) s start key most
+own_under script c aim e s start key most r seat line makes sits present verb_is goes_on stops k few =
     let step : Step = step_of script c.played e in
     let mine : seat.actor ≡ Session s = seat_actor c (Session s) seat sits in
     let now : Seat = with_event_of line step seat in
@@ -107,4 +107,4 @@ own_under script c e s start key most r seat line makes sits present verb_is goe
     ap (λ (v : Verb). follows v seat.point (halt_of step.stop)) verb_is
     ∙ ap (λ (stop : Option Stop). follows (verb.Read key) seat.point (halt_of stop)) stops
     ∙ goes_on in
-    under_after script c (turn.Own (Session s)) e s start key most r seat now line makes sits (own_moved script (Session s) step seat line mine present) mine present verb_is point_is k few
+    under_after script c (turn.Own (Session s) aim) e s start key most r seat now line makes sits (own_moved script (Session s) aim step seat line mine present) mine present verb_is point_is k few

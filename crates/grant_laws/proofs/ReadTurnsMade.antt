@@ -68,12 +68,12 @@ step_made ends script s start key p r k so =
     let x : Remembering = recall_now p k.client r in
     step_by_turn script s start key p r k x.0 x.1 (told_recalls _ r (told_now p r)) (λ later. ends.falls _ r later (told_now p r)) so
 
-step_carried : BareReadsEnd → (script : ScriptData) (turns : List Turn) (s start key : ℕ) (r : Reading) → own_ahead script (carried script turns) (Session s) ≡ Makes (event.Step s) → ReadsKey (carried script turns).played s start key r → next_fate script (carried script turns).played (store_of (read_ask r)) ≡ Works → AnswersOr (carried script turns).played (turned script (carried script turns) (turn.Own (Session s))).played s start key (read_steps r)
-step_carried ends script turns s start key r ahead reads works =
+step_carried : BareReadsEnd → (script : ScriptData) (turns : List Turn) (aim : ℕ) (s start key : ℕ) (r : Reading) → own_ahead script (carried script turns) (Session s) aim ≡ Makes (event.Step s) → ReadsKey (carried script turns).played s start key r → next_fate script (carried script turns).played (store_of (read_ask r)) ≡ Works → AnswersOr (carried script turns).played (turned script (carried script turns) (turn.Own (Session s) aim)).played s start key (read_steps r)
+step_carried ends script turns aim s start key r ahead reads works =
     let c : Carried = carried script turns in
     let k : IsReading s key start c.played r = as_reading c.played s start key r reads in
     let so : StepsSo script s c.played k.client r (recall_now c.played k.client r) = steps_so script s key start c.played r k works in
-    subst (λ (after : Played). AnswersOr c.played after s start key (read_steps r)) (sym (own_plays script c s (event.Step s) ahead)) (step_made ends script s start key c.played r k so)
+    subst (λ (after : Played). AnswersOr c.played after s start key (read_steps r)) (sym (own_plays script c aim s (event.Step s) ahead)) (step_made ends script s start key c.played r k so)
 
 -- ---- the fetch
 fetch_by_turn : (script : ScriptData) (s start key most : ℕ) (p : Played) (c : Client) (turn : ReadTurn) (cache : Cache) → OfRead key start turn → ((r : Reading) → turn ≡ Asks r → read_steps r ≤ most) → FetchesSo script s key start p c (turn, cache) → AnswersOr p (played script p (event.Fetch s key)) s start key (most + 1)
@@ -102,16 +102,16 @@ fetch_made ends script s start key epoch p c so =
     let x : Remembering = first_recall p c key start epoch in
     fetch_by_turn script s start key (3 * cells_to_read p start key) p c x.0 x.1 (over_recalls (marks_every p.state.setup) key start epoch cells (put_fresh c.cache)) (ends.begins (marks_every p.state.setup) key start epoch cells (put_fresh c.cache)) so
 
-fetch_carried : BareReadsEnd → (script : ScriptData) (turns : List Turn) (s key : ℕ) → AreInRange script.setup → IsPlayable script 0 script.lines → own_ahead script (carried script turns) (Session s) ≡ Makes (event.Fetch s key) → (can : CanFetch script (carried script turns).played s key) → AnswersOr (carried script turns).played (turned script (carried script turns) (turn.Own (Session s))).played s can.work.start key (3 * cells_to_read (carried script turns).played can.work.start key + 1)
-fetch_carried ends script turns s key in_range playable ahead can =
+fetch_carried : BareReadsEnd → (script : ScriptData) (turns : List Turn) (aim : ℕ) (s key : ℕ) → AreInRange script.setup → IsPlayable script 0 script.lines → own_ahead script (carried script turns) (Session s) aim ≡ Makes (event.Fetch s key) → (can : CanFetch script (carried script turns).played s key) → AnswersOr (carried script turns).played (turned script (carried script turns) (turn.Own (Session s) aim)).played s can.work.start key (3 * cells_to_read (carried script turns).played can.work.start key + 1)
+fetch_carried ends script turns aim s key in_range playable ahead can =
     let c : Carried = carried script turns in
     let facts : Facts script c = facts_all script playable turns (all_passed script (at_first script)) (facts_at_first script in_range) in
     let epoch : (e : ℕ) × (can.work.client.entry.epoch ≡ Some e) = has_epoch c.played s can.work.client facts.fit can.work.session_is can.work.in_work in
     let so : FetchesSo script s key can.work.start c.played can.work.client (first_recall c.played can.work.client key can.work.start epoch.0) = fetches_so script s key can.work.start epoch.0 c.played can.work.client can.work.session_is can.work.in_work (may_fetch script c.played s key epoch.0 facts.reached.setup can.work can.room epoch.1) can.fetching in
-    subst (λ (after : Played). AnswersOr c.played after s can.work.start key (3 * cells_to_read c.played can.work.start key + 1)) (sym (own_plays script c s (event.Fetch s key) ahead)) (fetch_made ends script s can.work.start key epoch.0 c.played can.work.client so)
+    subst (λ (after : Played). AnswersOr c.played after s can.work.start key (3 * cells_to_read c.played can.work.start key + 1)) (sym (own_plays script c aim s (event.Fetch s key) ahead)) (fetch_made ends script s can.work.start key epoch.0 c.played can.work.client so)
 
 pub reads_are_carried : BareReadsEnd → ReadsAreCarried
 reads_are_carried ends = record {
-  steps = λ script turns s start key r ahead reads works. step_carried ends script turns s start key r ahead reads works;
-  fetches = λ script turns s key in_range playable ahead can. fetch_carried ends script turns s key in_range playable ahead can;
+  steps = λ script turns aim s start key r ahead reads works. step_carried ends script turns aim s start key r ahead reads works;
+  fetches = λ script turns aim s key in_range playable ahead can. fetch_carried ends script turns aim s key in_range playable ahead can;
 }

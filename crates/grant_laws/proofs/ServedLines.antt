@@ -18,6 +18,7 @@ use Rattle.oracle_parts.specs.Instance.{InstanceEntry, least_unsettled}
 use Rattle.oracle_parts.specs.InstanceSteps.{drawn_as, epoch_refusal}
 use Rattle.machine.specs.declared.event.Event.TheVariants as event
 use Rattle.machine.specs.Events.Decide.{draw_item, both_verdict}
+use Rattle.script_data.specs.declared.line.Target.{Target}
 use Rattle.script_data.specs.declared.line.Target.TheVariants as target
 use Rattle.script_data.specs.declared.line.Verb.{Verb}
 use Rattle.script_data.specs.declared.line.Verb.TheVariants as verb
@@ -26,14 +27,13 @@ use Rattle.isolation_laws.proofs.Lookups.{one_instance, one_client}
 use Rattle.line_steps.specs.declared.point.Point.TheVariants.{Opens}
 use Rattle.line_steps.specs.declared.point.View.{View}
 use Rattle.line_steps.specs.Laws.{IsPlayable}
-use Rattle.line_steps.specs.Next.{Clocks}
-use Rattle.line_steps.specs.Runs.{clocks_of}
+use Rattle.line_steps.specs.Next.{Clocks, target_node}
 use Rattle.line_steps.specs.Views.{view_of}
 use Rattle.turn_rules.specs.declared.ahead.Ahead.TheVariants.{Makes}
 use Rattle.turn_rules.specs.declared.turn.Turn.{Turn}
 use Rattle.turn_rules.specs.declared.turn.Turn.TheVariants as turn
 use Rattle.turn_rules.specs.Waiting.{own_next}
-use Rattle.turn_rules.specs.Carried.{Carried, name_posted, own_ahead, turned, carried}
+use Rattle.turn_rules.specs.Carried.{Carried, aimed_clocks, name_posted, own_ahead, turned, carried}
 use Rattle.grant_laws.specs.Granted.{reading_of}
 use Rattle.grant_laws.specs.Turns.{IsServed, Serves, IsPlacing, Hands}
 use Rattle.grant_laws.specs.Lines.{AtNode, UpToDraw, with_others, all_up_to_draw, at_ask, at_accept, at_draw, CanServeBy, stamp_drawn, at_begin_answer, settling_turns, at_settle, PlacesAtNode, PlacesBySession, Settles, RunsGrantBegins, AsksCommit, RunsGrantCommits}
@@ -64,12 +64,12 @@ record HasDrawn (script : ScriptData) (s node : ℕ) (u : UpToDraw) (request : R
   known : KnownTurns script (at_draw script s node u)
   served : IsServed (turned script (at_draw script s node u) (turn.Decide node s)).played node s request (drawn_as script.setup.direct request stamp)
 
-draws_through : (script : ScriptData) (s node : ℕ) (u : UpToDraw) (request : Request) → IsPlayable script 0 script.lines → KnownTurns script (at_ask script u) → IsServed (turned script (at_ask script u) (turn.Own (Session s))).played node s request progress.Asked → (serving : CanServeBy script s node u) → AtNode (at_accept script s u).played node (λ i. epoch_refusal i request ≡ None) → ((client : Client) → ClientAt (at_draw script s node u).played.state.clients s client → AtNode (at_draw script s node u).played node (λ i. both_verdict i.buckets client.reads request ≡ Free)) → HasDrawn script s node u request (stamp_drawn serving)
+draws_through : (script : ScriptData) (s node : ℕ) (u : UpToDraw) (request : Request) → IsPlayable script 0 script.lines → KnownTurns script (at_ask script u) → IsServed (turned script (at_ask script u) (turn.Own (Session s) u.aim)).played node s request progress.Asked → (serving : CanServeBy script s node u) → AtNode (at_accept script s u).played node (λ i. epoch_refusal i request ≡ None) → ((client : Client) → ClientAt (at_draw script s node u).played.state.clients s client → AtNode (at_draw script s node u).played node (λ i. both_verdict i.buckets client.reads request ≡ Free)) → HasDrawn script s node u request (stamp_drawn serving)
 draws_through script s node u request playable known asked serving above no_conflict =
     let c : Carried = at_accept script s u in
     let d : Carried = at_draw script s node u in
-    let known_c : KnownTurns script c = known_after script (at_ask script u) (turn.Own (Session s)) u.asked playable known in
-    let held : IsServed c.played node s request progress.Asked = left_served script node s request progress.Asked u.asked (turned script (at_ask script u) (turn.Own (Session s))) serving.until_accepted asked in
+    let known_c : KnownTurns script c = known_after script (at_ask script u) (turn.Own (Session s) u.aim) u.asked playable known in
+    let held : IsServed c.played node s request progress.Asked = left_served script node s request progress.Asked u.asked (turned script (at_ask script u) (turn.Own (Session s) u.aim)) serving.until_accepted asked in
     let leased : reading_of script c.played node < held.oracle.until = of_holder c.played node s request progress.Asked (λ i. reading_of script c.played node < i.until) held serving.leased in
     let free : epoch_refusal held.oracle request ≡ None = of_holder c.played node s request progress.Asked (λ i. epoch_refusal i request ≡ None) held above in
     let accepted : Serves script c (turn.Accept node s) (item.Accept s node held.oracle.term (reading_of script c.played node)) node s request progress.Accepted = (served_by script c node s request (known_stands script c known_c)).accepts held leased free in
@@ -90,8 +90,8 @@ draws_through script s node u request playable known asked serving above no_conf
 -- the turns up to the draw, and the rest
 turns_to_draw : (script : ScriptData) (s node : ℕ) (u : UpToDraw) (rest : List Turn) → carried script (all_up_to_draw s node u rest) ≡ fold (turned script) (turned script (at_draw script s node u) (turn.Decide node s)) rest
 turns_to_draw script s node u rest =
-    turns_on script (carried script []) u.before (turn.Own (Session s) ∷ (u.asked ++ turn.Accept node s ∷ (u.accepted ++ turn.Decide node s ∷ rest)))
-    ∙ turns_on script (turned script (at_ask script u) (turn.Own (Session s))) u.asked (turn.Accept node s ∷ (u.accepted ++ turn.Decide node s ∷ rest))
+    turns_on script (carried script []) u.before (turn.Own (Session s) u.aim ∷ (u.asked ++ turn.Accept node s ∷ (u.accepted ++ turn.Decide node s ∷ rest)))
+    ∙ turns_on script (turned script (at_ask script u) (turn.Own (Session s) u.aim)) u.asked (turn.Accept node s ∷ (u.accepted ++ turn.Decide node s ∷ rest))
     ∙ turns_on script (turned script (at_accept script s u) (turn.Accept node s)) u.accepted (turn.Decide node s ∷ rest)
 
 -- ---- a begin
@@ -101,8 +101,8 @@ runs_grant_begins script s node u drawn later in_range playable ahead can =
     let request : Request = Begin s in
     let start : ℕ = stamp_drawn can.serving in
     let known : KnownTurns script c = known_carried script u.before in_range playable in
-    let makes : own_ahead script c (Session s) ≡ Makes (event.AskBegin s node) = line_makes script c (Session s) (verb.Begin (target.Node node)) ahead in
-    let asked : Serves script c (turn.Own (Session s)) (item.AskBegin s node) node s request progress.Asked = begin_asks script c s node can.client known makes can.session_is can.is_free can.serving.slot in
+    let makes : own_ahead script c (Session s) u.aim ≡ Makes (event.AskBegin s node) = line_makes script c u.aim (Session s) (verb.Begin (target.Node node)) ahead in
+    let asked : Serves script c (turn.Own (Session s) u.aim) (item.AskBegin s node) node s request progress.Asked = begin_asks script c u.aim s node can.client known makes can.session_is can.is_free can.serving.slot in
     let above : AtNode (at_accept script s u).played node (λ i. epoch_refusal i request ≡ None) = record { oracle = can.serving.leased.oracle; node_has = can.serving.leased.node_has; so = refl } in
     let clear : (client : Client) → ClientAt (at_draw script s node u).played.state.clients s client → AtNode (at_draw script s node u).played node (λ i. both_verdict i.buckets client.reads request ≡ Free) =
     λ client session_is. record { oracle = can.serving.stamp.oracle; node_has = can.serving.stamp.node_has; so = refl } in
@@ -125,8 +125,8 @@ above_epoch : (i : InstanceEntry) (s start : ℕ) (keys : List ℕ) → i.epoch 
 above_epoch i s start keys in_epoch = ap (λ (old : Bool). cond old (Some (cause.OldEpoch start i.epoch)) None) (lt-leb start i.epoch in_epoch)
 
 asks_commit : (clocks : Clocks) (posted unawaited : Bool) (view : View) (s node : ℕ) (line : Verb) → AsksCommit node line → own_next clocks posted (Session s) line Opens view unawaited ≡ Makes (event.AskCommit s node)
-asks_commit clocks posted unawaited view s node (verb.Commit to) asks = ap (λ (n : ℕ). Makes (event.AskCommit s n)) asks
-asks_commit clocks posted unawaited view s node (verb.Submit to) asks = ap (λ (n : ℕ). Makes (event.AskCommit s n)) asks
+asks_commit clocks posted unawaited view s node (verb.Commit to) asks = ap (λ (at : Target). Makes (event.AskCommit s (target_node clocks at))) asks
+asks_commit clocks posted unawaited view s node (verb.Submit to) asks = ap (λ (at : Target). Makes (event.AskCommit s (target_node clocks at))) asks
 asks_commit clocks posted unawaited view s node _ asks = absurd asks
 
 -- the node places it, and answers
@@ -165,8 +165,8 @@ runs_grant_commits script s node line u drawn between later in_range playable ah
     let request : Request = Commit s start keys in
     let commit : ℕ = stamp_drawn can.serving in
     let known : KnownTurns script c = known_carried script u.before in_range playable in
-    let makes : own_ahead script c (Session s) ≡ Makes (event.AskCommit s node) = line_makes script c (Session s) line ahead ∙ asks_commit (clocks_of script c.played) (name_posted c.names line) ahead.seat.unawaited (view_of c.played.state (Session s)) s node line asks in
-    let asked : Serves script c (turn.Own (Session s)) (item.AskCommit s node start) node s request progress.Asked = commit_asks script c s node known makes can.work can.wrote can.serving.slot in
+    let makes : own_ahead script c (Session s) u.aim ≡ Makes (event.AskCommit s node) = line_makes script c u.aim (Session s) line ahead ∙ asks_commit (aimed_clocks script c u.aim) (name_posted c.names line) ahead.seat.unawaited (view_of c.played.state (Session s)) s node line asks in
+    let asked : Serves script c (turn.Own (Session s) u.aim) (item.AskCommit s node start) node s request progress.Asked = commit_asks script c u.aim s node known makes can.work can.wrote can.serving.slot in
     let above : AtNode (at_accept script s u).played node (λ i. epoch_refusal i request ≡ None) = record { oracle = can.in_epoch.oracle; node_has = can.in_epoch.node_has; so = above_epoch can.in_epoch.oracle s start keys can.in_epoch.so } in
     let clear : (client : Client) → ClientAt (at_draw script s node u).played.state.clients s client → AtNode (at_draw script s node u).played node (λ i. both_verdict i.buckets client.reads request ≡ Free) =
     λ client session_is. record {

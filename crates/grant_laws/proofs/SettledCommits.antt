@@ -26,13 +26,12 @@ use Rattle.isolation_laws.proofs.Outcome.Outcomes.{Outcome, OfStill, OfGranted, 
 use Rattle.isolation_laws.proofs.AlwaysHolds.{each_outcome}
 use Rattle.line_steps.specs.Laws.{IsPlayable}
 use Rattle.line_steps.specs.Runs.{fate_of, clocks_of}
-use Rattle.line_steps.specs.Views.{view_of}
 use Rattle.line_steps.proofs.Timing.{tick_ahead, Timed, in_time}
 use Rattle.history_book.specs.declared.item.Actor.{Actor}
 use Rattle.turn_rules.specs.declared.turn.Turn.{Turn}
 use Rattle.turn_rules.specs.declared.turn.Turn.TheVariants as turn
-use Rattle.turn_rules.proofs.OwnTimes.{own_tick, own_timed}
-use Rattle.turn_rules.proofs.OwnTurns.{OwnTurn, own_turn, stage_turn}
+use Rattle.turn_rules.proofs.OwnTimes.{own_tick}
+use Rattle.turn_rules.proofs.OwnTurns.{OwnTurn, own_turn, turn_timed, stage_turn}
 use Rattle.turn_rules.specs.Carried.{Carried, event_of, all_passed, turned_by, turned, at_first, carried}
 use Rattle.turn_rules.proofs.Facts.{Facts, facts_turned, facts_at_first}
 
@@ -155,12 +154,12 @@ steady_at script c e tick playable k timed =
     subst (λ (setup : SetupNumbers). IsSteadyAt setup.skew c.played.state.seen (reading_of e)) (sym k.reached.setup)
     (in_time (clocks_of script c.played) tick script.setup.skew c.played.state.seen e timed (record { leads = playable.leads; room = omega (arith, k.time, playable.ticks); before = k.reached.seen })).steady
 
-own_steady : (script : ScriptData) (c : Carried) (actor : Actor) (e : Event) → IsPlayable script 0 script.lines → Facts script c → OwnTurn script c actor e → IsSteadyAt c.played.state.setup.skew c.played.state.seen (reading_of e)
-own_steady script c actor e playable k own =
-    steady_at script c e (own_tick own.line.actor (tick_ahead own.seat.point own.line.verb)) playable k (own_timed (clocks_of script c.played) own.line.actor own.line.verb own.seat.point (view_of c.played.state own.line.actor) e own.next)
+own_steady : (script : ScriptData) (c : Carried) (aim : ℕ) (actor : Actor) (e : Event) → IsPlayable script 0 script.lines → Facts script c → OwnTurn script c actor aim e → IsSteadyAt c.played.state.setup.skew c.played.state.seen (reading_of e)
+own_steady script c aim actor e playable k own =
+    steady_at script c e (own_tick own.line.actor (tick_ahead own.seat.point own.line.verb)) playable k (turn_timed script c actor aim e own)
 
 pub turn_steady : (script : ScriptData) (c : Carried) (t : Turn) (e : Event) → IsPlayable script 0 script.lines → Facts script c → event_of script c t ≡ Some e → IsSteadyAt c.played.state.setup.skew c.played.state.seen (reading_of e)
-turn_steady script c (turn.Own actor) e playable k is = own_steady script c actor e playable k (own_turn script c actor e is)
+turn_steady script c (turn.Own actor aim) e playable k is = own_steady script c aim actor e playable k (own_turn script c actor aim e is)
 turn_steady script c (turn.Accept node session) e playable k is = steady_at script c e 0 playable k (stage_turn script c (turn.Accept node session) e (λ own. own) is).timed
 turn_steady script c (turn.Decide node session) e playable k is = steady_at script c e 0 playable k (stage_turn script c (turn.Decide node session) e (λ own. own) is).timed
 turn_steady script c (turn.Put node session) e playable k is = steady_at script c e 0 playable k (stage_turn script c (turn.Put node session) e (λ own. own) is).timed

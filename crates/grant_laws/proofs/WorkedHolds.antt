@@ -23,9 +23,9 @@ abbrev held : Carried
 held = carried runs.holding runs.held_turns
 
 -- ---- own turns
-all_quiet : Quiet runs.holding held held.seats
+all_quiet : (aim : ℕ) → Quiet runs.holding held aim held.seats
 unfolding seats_of passed holder_from planned_fate record_pairs least_unsettled kept_commit verdict put_row Quiet
-all_quiet = (refl, (refl, (refl, (refl, (refl, (refl, (refl, (refl, (refl, (refl, (refl, (refl, (refl, (refl, (refl, (refl, (refl, (refl, (refl, (refl, tt))))))))))))))))))))
+all_quiet aim = (refl, (refl, (refl, (refl, (refl, (refl, (refl, (refl, (refl, (refl, (refl, (refl, (refl, (refl, (refl, (refl, (refl, (refl, (refl, (refl, tt))))))))))))))))))))
 
 -- ---- turns of stages
 -- the commit of the first session stands before its put, and no other has a request
@@ -81,7 +81,7 @@ none_extends (suc zero) k = k.in_place
 none_extends (suc (suc node)) k = k.in_place
 
 pub held_stuck : IsStuck runs.holding runs.held_turns
-held_stuck (turn.Own actor) k = none_told runs.holding held (event_of runs.holding held (turn.Own actor)) (found_quiet runs.holding held actor held.seats all_quiet) k.told
+held_stuck (turn.Own actor aim) k = none_told runs.holding held (event_of runs.holding held (turn.Own actor aim)) (found_quiet runs.holding held aim actor held.seats (all_quiet aim)) k.told
 held_stuck (turn.Accept node s) k = elsewhere s node place.Asked (λ same. cc) k.in_place
 held_stuck (turn.Decide node s) k = elsewhere s node place.Accepted (λ same. cc) k.in_place
 held_stuck (turn.Put node s) k = put_held s node k.free k.in_place.0

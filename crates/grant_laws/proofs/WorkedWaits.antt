@@ -20,26 +20,26 @@ use Rattle.grant_laws.specs.Stuck.{IsStuck, AwaitsName}
 use Rattle.grant_laws.specs.WorkedRuns as runs
 
 -- ---- own turns
--- none of these seats makes an event
-unfoldable pub Quiet : ScriptData → Carried → List Seat → Type 0
-Quiet script c [] = Unit {0}
-Quiet script c (seat ∷ seats) = (made_by (seat_ahead script c seat) ≡ None) × Quiet script c seats
+-- none of these seats makes an event at a turn with this aim
+unfoldable pub Quiet : ScriptData → Carried → ℕ → List Seat → Type 0
+Quiet script c aim [] = Unit {0}
+Quiet script c aim (seat ∷ seats) = (made_by (seat_ahead script c seat aim) ≡ None) × Quiet script c aim seats
 
-first_quiet : (script : ScriptData) (c : Carried) (seat : Seat) (rest : Option Seat) (here : Bool) → made_by (seat_ahead script c seat) ≡ None → made_by (ahead_in script c rest) ≡ None → made_by (ahead_in script c (cond here (Some seat) rest)) ≡ None
-first_quiet script c seat rest true first later = first
-first_quiet script c seat rest false first later = later
+first_quiet : (script : ScriptData) (c : Carried) (aim : ℕ) (seat : Seat) (rest : Option Seat) (here : Bool) → made_by (seat_ahead script c seat aim) ≡ None → made_by (ahead_in script c rest aim) ≡ None → made_by (ahead_in script c (cond here (Some seat) rest) aim) ≡ None
+first_quiet script c aim seat rest true first later = first
+first_quiet script c aim seat rest false first later = later
 
-pub found_quiet : (script : ScriptData) (c : Carried) (actor : Actor) (seats : List Seat) → Quiet script c seats → made_by (ahead_in script c (seat_of seats actor)) ≡ None
+pub found_quiet : (script : ScriptData) (c : Carried) (aim : ℕ) (actor : Actor) (seats : List Seat) → Quiet script c aim seats → made_by (ahead_in script c (seat_of seats actor) aim) ≡ None
 unfolding Quiet
-found_quiet script c actor [] quiet = refl
-found_quiet script c actor (seat ∷ seats) quiet = first_quiet script c seat (seat_of seats actor) (same_actor seat.actor actor) quiet.0 (found_quiet script c actor seats quiet.1)
+found_quiet script c aim actor [] quiet = refl
+found_quiet script c aim actor (seat ∷ seats) quiet = first_quiet script c aim seat (seat_of seats actor) (same_actor seat.actor actor) quiet.0 (found_quiet script c aim actor seats quiet.1)
 
 abbrev start : Carried
 start = carried runs.awaiting []
 
-all_quiet : Quiet runs.awaiting start start.seats
+all_quiet : (aim : ℕ) → Quiet runs.awaiting start aim start.seats
 unfolding Quiet seats_of passed holder_from
-all_quiet = (refl, (refl, (refl, (refl, (refl, (refl, (refl, (refl, (refl, (refl, (refl, (refl, (refl, (refl, (refl, (refl, (refl, (refl, (refl, (refl, tt))))))))))))))))))))
+all_quiet aim = (refl, (refl, (refl, (refl, (refl, (refl, (refl, (refl, (refl, (refl, (refl, (refl, (refl, (refl, (refl, (refl, (refl, (refl, (refl, (refl, tt))))))))))))))))))))
 
 pub none_told : (script : ScriptData) (c : Carried) (found : Option Event) → found ≡ None → IsSomeAnd found (λ e. IsTold script c.played e) → ⊥
 none_told script c None is told = told
@@ -57,7 +57,7 @@ none_extends (suc zero) k = k.in_place
 none_extends (suc (suc node)) k = k.in_place
 
 pub none_lawful : IsStuck runs.awaiting []
-none_lawful (turn.Own actor) k = none_told runs.awaiting start (event_of runs.awaiting start (turn.Own actor)) (found_quiet runs.awaiting start actor start.seats all_quiet) k.told
+none_lawful (turn.Own actor aim) k = none_told runs.awaiting start (event_of runs.awaiting start (turn.Own actor aim)) (found_quiet runs.awaiting start aim actor start.seats (all_quiet aim)) k.told
 none_lawful (turn.Accept node s) k = none_asked s node place.Asked k.in_place
 none_lawful (turn.Decide node s) k = none_asked s node place.Accepted k.in_place
 none_lawful (turn.Put node s) k = none_asked s node place.Drawn k.in_place.0
@@ -71,6 +71,6 @@ name_awaited = record { line = runs.await_line; name = runs.p; present = refl; a
 pub some_item : (x : Item) → x ∷ [] ≡ [] → ⊥
 some_item x none = cc
 
-pub posts : IsLawful runs.posting (carried runs.posting []) (turn.Own (Session 1))
+pub posts : IsLawful runs.posting (carried runs.posting []) (turn.Own (Session 1) 0)
 unfolding seats_of passed holder_from
 posts = record { free = tt; in_place = tt; told = λ none. some_item _ none }

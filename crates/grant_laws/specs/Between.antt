@@ -27,10 +27,10 @@ use Rattle.grant_laws.specs.Lines.{AtNode, is_own}
 -- a session's own turn that asks is told as asked, and the node's instance holds the request, where a slot is free there: a begin
 -- of a session that is free, and a commit of one that has written and reads nothing
 pub record AsksAreCarried : Type 0 where
-  pub begins : (script : ScriptData) (turns : List Turn) (session node : ℕ) (client : Client) → let c = carried script turns in AreInRange script.setup → IsPlayable script 0 script.lines → own_ahead script c (Session session) ≡ Makes (event.AskBegin session node) → ClientAt c.played.state.clients session client → client.entry.state ≡ phase.Free → AtNode c.played node (λ i. in_flight i < i.slots) →
-      Serves script c (turn.Own (Session session)) (item.AskBegin session node) node session (Begin session) progress.Asked
-  pub commits : (script : ScriptData) (turns : List Turn) (session node : ℕ) → let c = carried script turns in AreInRange script.setup → IsPlayable script 0 script.lines → own_ahead script c (Session session) ≡ Makes (event.AskCommit session node) → (work : IsAtWork c.played session) → work.client.entry.keys ≢ [] → AtNode c.played node (λ i. in_flight i < i.slots) →
-      Serves script c (turn.Own (Session session)) (item.AskCommit session node work.start) node session (Commit session work.start work.client.entry.keys) progress.Asked
+  pub begins : (script : ScriptData) (turns : List Turn) (aim session node : ℕ) (client : Client) → let c = carried script turns in AreInRange script.setup → IsPlayable script 0 script.lines → own_ahead script c (Session session) aim ≡ Makes (event.AskBegin session node) → ClientAt c.played.state.clients session client → client.entry.state ≡ phase.Free → AtNode c.played node (λ i. in_flight i < i.slots) →
+      Serves script c (turn.Own (Session session) aim) (item.AskBegin session node) node session (Begin session) progress.Asked
+  pub commits : (script : ScriptData) (turns : List Turn) (aim session node : ℕ) → let c = carried script turns in AreInRange script.setup → IsPlayable script 0 script.lines → own_ahead script c (Session session) aim ≡ Makes (event.AskCommit session node) → (work : IsAtWork c.played session) → work.client.entry.keys ≢ [] → AtNode c.played node (λ i. in_flight i < i.slots) →
+      Serves script c (turn.Own (Session session) aim) (item.AskCommit session node work.start) node session (Commit session work.start work.client.entry.keys) progress.Asked
 
 -- ---- an answer that comes too early
 -- the session is told to wait for the commit, once, and its begin stays as far as it has come

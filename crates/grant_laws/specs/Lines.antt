@@ -26,7 +26,6 @@ use Rattle.isolation_laws.specs.Words.{InstanceAt, ClientAt, Marked}
 use Rattle.line_steps.specs.declared.point.Point.TheVariants.{Opens}
 use Rattle.line_steps.specs.Answers.{same_actor}
 use Rattle.line_steps.specs.Laws.{IsPlayable}
-use Rattle.line_steps.specs.Next.{target_node}
 use Rattle.line_steps.specs.Runs.{Played}
 use Rattle.turn_rules.specs.declared.seat.Seat.{Seat}
 use Rattle.turn_rules.specs.declared.turn.Turn.{Turn}
@@ -65,17 +64,17 @@ pub record AtBoth (p : Played) (node session : ℕ) (P : InstanceEntry → Clien
 -- ---- a write and a take: one turn of their own
 abbrev pub RunsGrantWrites : Type 0
 RunsGrantWrites =
-    (script : ScriptData) (before later : List Turn) (session key : ℕ) (value : List ℕ) → let c = carried script before in IsAhead script c (Session session) (verb.Write key value) → (can : CanWrite script c.played session key) →
-    item.Write session can.work.start key value ∈ carried_items script (before ++ turn.Own (Session session) ∷ later)
+    (script : ScriptData) (before later : List Turn) (aim session key : ℕ) (value : List ℕ) → let c = carried script before in IsAhead script c (Session session) (verb.Write key value) → (can : CanWrite script c.played session key) →
+    item.Write session can.work.start key value ∈ carried_items script (before ++ turn.Own (Session session) aim ∷ later)
 
 abbrev pub RunsGrantTakes : Type 0
 RunsGrantTakes =
-    (script : ScriptData) (before later : List Turn) (node : ℕ) → let c = carried script before in AreInRange script.setup → IsPlayable script 0 script.lines → IsAhead script c (Node node) verb.Take → CanTake script c.played node →
-    item.Take node (reading_of script c.played node) (c.played.state.master.term + 1) c.played.state.master.ceiling (reading_of script c.played node + script.setup.lease) (c.played.state.master.ceiling + script.setup.range) ∈ carried_items script (before ++ turn.Own (Node node) ∷ later)
+    (script : ScriptData) (before later : List Turn) (aim node : ℕ) → let c = carried script before in AreInRange script.setup → IsPlayable script 0 script.lines → IsAhead script c (Node node) verb.Take → CanTake script c.played node →
+    item.Take node (reading_of script c.played node) (c.played.state.master.term + 1) c.played.state.master.ceiling (reading_of script c.played node + script.setup.lease) (c.played.state.master.ceiling + script.setup.range) ∈ carried_items script (before ++ turn.Own (Node node) aim ∷ later)
 
 -- the turn is the session's own
 abbrev pub is_own : ℕ → Turn → Bool
-is_own session (turn.Own actor) = same_actor actor (Session session)
+is_own session (turn.Own actor aim) = same_actor actor (Session session)
 is_own session _ = false
 
 -- ---- turns in between
@@ -99,22 +98,24 @@ LeaveWaiting script node session start c [] = Unit {0}
 LeaveWaiting script node session start c (t ∷ turns) = (IfSome (event_of script c t) (λ e. touches node session e ≡ false) ⊎ AnswersEarly c node session start t) × LeaveWaiting script node session start (turned script c t) turns
 
 -- ---- a request up to its stamp
--- the turns before the session asks, and those of others before the acceptance and before the draw
+-- the turns before the session asks, the node at which its share is aimed then, and the turns of others before the acceptance and
+-- before the draw
 pub record UpToDraw : Type 0 where
   pub before : List Turn
+  pub aim : ℕ
   pub asked : List Turn
   pub accepted : List Turn
 
 -- all of them, with the three that serve the request, and the rest
 abbrev pub all_up_to_draw : ℕ → ℕ → UpToDraw → List Turn → List Turn
-all_up_to_draw session node u rest = u.before ++ turn.Own (Session session) ∷ (u.asked ++ turn.Accept node session ∷ (u.accepted ++ turn.Decide node session ∷ rest))
+all_up_to_draw session node u rest = u.before ++ turn.Own (Session session) u.aim ∷ (u.asked ++ turn.Accept node session ∷ (u.accepted ++ turn.Decide node session ∷ rest))
 
 -- what was carried out when the session asks, when the request is accepted, and when its stamp is drawn
 abbrev pub at_ask : ScriptData → UpToDraw → Carried
 at_ask script u = carried script u.before
 
 abbrev pub at_accept : ScriptData → ℕ → UpToDraw → Carried
-at_accept script session u = with_others script (at_ask script u) (turn.Own (Session session)) u.asked
+at_accept script session u = with_others script (at_ask script u) (turn.Own (Session session) u.aim) u.asked
 
 abbrev pub at_draw : ScriptData → ℕ → ℕ → UpToDraw → Carried
 at_draw script session node u = with_others script (at_accept script session u) (turn.Accept node session) u.accepted
@@ -125,7 +126,7 @@ pub record CanServeBy (script : ScriptData) (session node : ℕ) (u : UpToDraw) 
   pub leased : AtNode (at_accept script session u).played node (λ i. reading_of script (at_accept script session u).played node < i.until)
   pub stamp : AtNode (at_draw script session node u).played node (λ i. i.last < i.ceiling)
   -- the turns of others leave the request
-  pub until_accepted : Leave script node session (turned script (at_ask script u) (turn.Own (Session session))) u.asked
+  pub until_accepted : Leave script node session (turned script (at_ask script u) (turn.Own (Session session) u.aim)) u.asked
   pub until_drawn : Leave script node session (turned script (at_accept script session u) (turn.Accept node session)) u.accepted
 
 -- the stamp that it draws
@@ -216,8 +217,8 @@ pub record CanCommitBy (script : ScriptData) (session node : ℕ) (u : UpToDraw)
 
 -- the line asks the node for a commit: it waits for the answer, or leaves that to a later line
 abbrev pub AsksCommit : ℕ → Verb → Type 0
-AsksCommit node (verb.Commit to) = target_node to ≡ node
-AsksCommit node (verb.Submit to) = target_node to ≡ node
+AsksCommit node (verb.Commit to) = to ≡ target.Node node
+AsksCommit node (verb.Submit to) = to ≡ target.Node node
 AsksCommit node _ = ⊥
 
 abbrev pub RunsGrantCommits : Type 0
@@ -234,5 +235,5 @@ StepsWork script session c (t ∷ turns) = (is_own session t ≡ true → (start
 -- a read line has its answer once as many own turns are made as three for each cell without a shadow, whatever turns of others are made in between
 abbrev pub RunsGrantReads : Type 0
 RunsGrantReads =
-    (script : ScriptData) (before turns later : List Turn) (session key : ℕ) → let c = carried script before in let fetched = turned script c (turn.Own (Session session)) in AreInRange script.setup → IsPlayable script 0 script.lines → IsAhead script c (Session session) (verb.Read key) → (can : CanFetch script c.played session key) → StepsWork script session fetched turns → 3 * cells_to_read c.played can.work.start key ≤ length (filter (is_own session) turns) →
-    (answer : Option Found) × (item.Read session can.work.start key answer ∈ carried_items script (before ++ turn.Own (Session session) ∷ (turns ++ later)))
+    (script : ScriptData) (before turns later : List Turn) (aim session key : ℕ) → let c = carried script before in let fetched = turned script c (turn.Own (Session session) aim) in AreInRange script.setup → IsPlayable script 0 script.lines → IsAhead script c (Session session) (verb.Read key) → (can : CanFetch script c.played session key) → StepsWork script session fetched turns → 3 * cells_to_read c.played can.work.start key ≤ length (filter (is_own session) turns) →
+    (answer : Option Found) × (item.Read session can.work.start key answer ∈ carried_items script (before ++ turn.Own (Session session) aim ∷ (turns ++ later)))

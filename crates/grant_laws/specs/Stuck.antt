@@ -60,7 +60,7 @@ pub record AwaitsName (script : ScriptData) (c : Carried) (seat : Seat) : Type 0
 pub record AwaitsReply (script : ScriptData) (c : Carried) (seat : Seat) : Type 0 where
   pub session : ℕ
   pub actor : seat.actor ≡ Session session
-  pub waits : seat_ahead script c seat ≡ Waits why.Reply
+  pub waits : (aim : ℕ) → seat_ahead script c seat aim ≡ Waits why.Reply
   pub before : StandsBefore c session
 
 -- where no turn can be made each actor has passed all its lines, or awaits a name that no turn has posted, or waits for a request

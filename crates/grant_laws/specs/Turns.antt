@@ -46,14 +46,14 @@ Adds script c t x = (turned script c t).played.items ≡ c.played.items ++ x ∷
 -- an own turn that makes a write appends it
 abbrev pub WritesAreCarried : Type 0
 WritesAreCarried =
-    (script : ScriptData) (turns : List Turn) (session key : ℕ) (value : List ℕ) → let c = carried script turns in own_ahead script c (Session session) ≡ Makes (event.Write session key value) → (can : CanWrite script c.played session key) →
-    Adds script c (turn.Own (Session session)) (item.Write session can.work.start key value)
+    (script : ScriptData) (turns : List Turn) (aim session key : ℕ) (value : List ℕ) → let c = carried script turns in own_ahead script c (Session session) aim ≡ Makes (event.Write session key value) → (can : CanWrite script c.played session key) →
+    Adds script c (turn.Own (Session session) aim) (item.Write session can.work.start key value)
 
 -- an own turn that takes the record appends the take
 abbrev pub TakesAreCarried : Type 0
 TakesAreCarried =
-    (script : ScriptData) (turns : List Turn) (node : ℕ) → let c = carried script turns in AreInRange script.setup → IsPlayable script 0 script.lines → own_ahead script c (Node node) ≡ Makes (event.Take node (reading_of script c.played node)) → CanTake script c.played node →
-    Adds script c (turn.Own (Node node)) (item.Take node (reading_of script c.played node) (c.played.state.master.term + 1) c.played.state.master.ceiling (reading_of script c.played node + script.setup.lease) (c.played.state.master.ceiling + script.setup.range))
+    (script : ScriptData) (turns : List Turn) (aim node : ℕ) → let c = carried script turns in AreInRange script.setup → IsPlayable script 0 script.lines → own_ahead script c (Node node) aim ≡ Makes (event.Take node (reading_of script c.played node)) → CanTake script c.played node →
+    Adds script c (turn.Own (Node node) aim) (item.Take node (reading_of script c.played node) (c.played.state.master.term + 1) c.played.state.master.ceiling (reading_of script c.played node + script.setup.lease) (c.played.state.master.ceiling + script.setup.range))
 
 -- ---- turns that serve a request
 -- the node's instance holds this request of the session, which has come so far
@@ -156,7 +156,7 @@ AnswersOr before after session start key most = ((answer : Option Found) × Appe
 -- an own turn that makes a step of a read, no call of which fails now, appends the answer or leaves fewer steps; so does the fetch
 -- that begins it, which leaves at most three for each cell without a shadow
 pub record ReadsAreCarried : Type 0 where
-  pub steps : (script : ScriptData) (turns : List Turn) (session start key : ℕ) (r : Reading) → let c = carried script turns in own_ahead script c (Session session) ≡ Makes (event.Step session) → ReadsKey c.played session start key r → next_fate script c.played (store_of (read_ask r)) ≡ Works →
-      AnswersOr c.played (turned script c (turn.Own (Session session))).played session start key (read_steps r)
-  pub fetches : (script : ScriptData) (turns : List Turn) (session key : ℕ) → let c = carried script turns in AreInRange script.setup → IsPlayable script 0 script.lines → own_ahead script c (Session session) ≡ Makes (event.Fetch session key) → (can : CanFetch script c.played session key) →
-      AnswersOr c.played (turned script c (turn.Own (Session session))).played session can.work.start key (3 * cells_to_read c.played can.work.start key + 1)
+  pub steps : (script : ScriptData) (turns : List Turn) (aim session start key : ℕ) (r : Reading) → let c = carried script turns in own_ahead script c (Session session) aim ≡ Makes (event.Step session) → ReadsKey c.played session start key r → next_fate script c.played (store_of (read_ask r)) ≡ Works →
+      AnswersOr c.played (turned script c (turn.Own (Session session) aim)).played session start key (read_steps r)
+  pub fetches : (script : ScriptData) (turns : List Turn) (aim session key : ℕ) → let c = carried script turns in AreInRange script.setup → IsPlayable script 0 script.lines → own_ahead script c (Session session) aim ≡ Makes (event.Fetch session key) → (can : CanFetch script c.played session key) →
+      AnswersOr c.played (turned script c (turn.Own (Session session) aim)).played session can.work.start key (3 * cells_to_read c.played can.work.start key + 1)

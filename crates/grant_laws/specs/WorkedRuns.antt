@@ -28,7 +28,7 @@ abbrev pub beginning : ScriptData
 beginning = of_lines (take 0 ∷ begin ∷ other_begin ∷ [])
 
 abbrev pub to_begin : UpToDraw
-to_begin = record { before = turn.Own (Node 0) ∷ []; asked = turn.Own (Session 1) ∷ []; accepted = turn.Accept 0 1 ∷ [] }
+to_begin = record { before = turn.Own (Node 0) 0 ∷ []; aim = 0; asked = turn.Own (Session 1) 0 ∷ []; accepted = turn.Accept 0 1 ∷ [] }
 
 abbrev pub begin_turns : List Turn
 begin_turns = all_up_to_draw 0 0 to_begin (turn.Decide 0 1 ∷ turn.Answer 0 0 ∷ [])
@@ -44,20 +44,20 @@ abbrev pub beginning_late : ScriptData
 beginning_late = of_lines (take 0 ∷ begin ∷ line_of 0 Clock (verb.Tick 10) ∷ [])
 
 abbrev pub late_turns : List Turn
-late_turns = turn.Own (Node 0) ∷ turn.Own (Session 0) ∷ turn.Own Clock ∷ turn.Accept 0 0 ∷ []
+late_turns = turn.Own (Node 0) 0 ∷ turn.Own (Session 0) 0 ∷ turn.Own Clock 0 ∷ turn.Accept 0 0 ∷ []
 
 abbrev pub late_items : List Item
 late_items = taking_items ++ item.AskBegin 0 0 ∷ item.Tick 10 ∷ item.Refused (Session 0) (cause.Expired 10 10) ∷ []
 
 -- ---- a commit, between the turns of another that begins
 abbrev pub begun : List Turn
-begun = turn.Own (Node 0) ∷ turn.Own (Session 0) ∷ turn.Accept 0 0 ∷ turn.Decide 0 0 ∷ turn.Answer 0 0 ∷ []
+begun = turn.Own (Node 0) 0 ∷ turn.Own (Session 0) 0 ∷ turn.Accept 0 0 ∷ turn.Decide 0 0 ∷ turn.Answer 0 0 ∷ []
 
 abbrev pub committing : ScriptData
 committing = of_lines (take 0 ∷ begin ∷ write ∷ commit ∷ other_begin ∷ [])
 
 abbrev pub to_commit : UpToDraw
-to_commit = record { before = begun ++ turn.Own (Session 0) ∷ []; asked = turn.Own (Session 1) ∷ []; accepted = [] }
+to_commit = record { before = begun ++ turn.Own (Session 0) 0 ∷ []; aim = 0; asked = turn.Own (Session 1) 0 ∷ []; accepted = [] }
 
 abbrev pub commit_turns : List Turn
 commit_turns = all_up_to_draw 0 0 to_commit (turn.Accept 0 1 ∷ turn.Put 0 0 ∷ turn.Decide 0 1 ∷ turn.Answer 0 0 ∷ [])
@@ -75,7 +75,7 @@ abbrev pub waiting : ScriptData
 waiting = failing Table committing
 
 abbrev pub to_wait : UpToDraw
-to_wait = record { before = begun ++ turn.Own (Session 0) ∷ turn.Own (Session 0) ∷ turn.Accept 0 0 ∷ turn.Decide 0 0 ∷ []; asked = []; accepted = [] }
+to_wait = record { before = begun ++ turn.Own (Session 0) 0 ∷ turn.Own (Session 0) 0 ∷ turn.Accept 0 0 ∷ turn.Decide 0 0 ∷ []; aim = 0; asked = []; accepted = [] }
 
 -- answered too early, and again, and then the put
 abbrev pub early : List Turn
@@ -93,17 +93,17 @@ wait_items = writing_items ++ item.AskCommit 0 0 1 ∷ item.Accept 0 0 1 0 ∷ i
 -- ---- lines of one turn
 -- the session's line after the begin makes its first turn
 abbrev pub one_more : List Turn
-one_more = begun ++ turn.Own (Session 0) ∷ []
+one_more = begun ++ turn.Own (Session 0) 0 ∷ []
 
 -- a write that fails: its transaction ends, and what it may have written is erased by a turn more
 abbrev pub failed_write_items : List Item
 failed_write_items = worked_begun ++ item.Fault (Session 0) Cells ∷ item.End 0 1 Aborted ∷ []
 
 abbrev pub take_turn : List Turn
-take_turn = turn.Own (Node 0) ∷ []
+take_turn = turn.Own (Node 0) 0 ∷ []
 
 abbrev pub take_turns : List Turn
-take_turns = turn.Own (Node 0) ∷ turn.Own (Node 1) ∷ []
+take_turns = turn.Own (Node 0) 0 ∷ turn.Own (Node 1) 0 ∷ []
 
 -- ---- a name that is awaited
 abbrev pub p : List ℕ
@@ -131,8 +131,8 @@ holding = failing Table (of_lines (take 0 ∷ begin ∷ write ∷ commit ∷ hol
 
 -- up to the draw of the commit
 abbrev pub drawn_turns : List Turn
-drawn_turns = begun ++ turn.Own (Session 0) ∷ turn.Own (Session 0) ∷ turn.Accept 0 0 ∷ turn.Decide 0 0 ∷ []
+drawn_turns = begun ++ turn.Own (Session 0) 0 ∷ turn.Own (Session 0) 0 ∷ turn.Accept 0 0 ∷ turn.Decide 0 0 ∷ []
 
 -- and then the node holds its persist stage
 abbrev pub held_turns : List Turn
-held_turns = drawn_turns ++ turn.Own (Node 0) ∷ []
+held_turns = drawn_turns ++ turn.Own (Node 0) 0 ∷ []

@@ -65,7 +65,7 @@ pub fn a_read_on_threads()
 pub fn a_name_on_threads()
     ensures stuck { IsStuck runs.awaiting [] }
     ensures waits { AwaitsName runs.awaiting (carried runs.awaiting []) runs.first_seat }
-    ensures goes_on { IsLawful runs.posting (carried runs.posting []) (Own (Session 1)) }
+    ensures goes_on { IsLawful runs.posting (carried runs.posting []) (Own (Session 1) 0) }
 {}
 
 /// A commit that is drawn waits behind a persist stage that is held, and no turn can be made. Before the hold its put can.

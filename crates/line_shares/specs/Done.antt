@@ -4,13 +4,17 @@ use Rattle.history_book.specs.declared.item.Actor.{Actor}
 use Rattle.history_book.specs.declared.item.Actor.TheVariants.{Clock, Node, Session, Janitor}
 use Rattle.line_shares.specs.declared.cursor.Cursor.{Cursor}
 
--- what a share tells: its actor, and how many lines were done through it
+-- what a share tells: its actor, how many lines were done through it, and at which node it is aimed
 pub record Done : Type 0 where
   pub actor : Actor
   pub amount : ℕ
+  pub aim : ℕ
 
 abbrev pub fresh : Actor → Done
-fresh actor = record { actor = actor; amount = 0 }
+fresh actor = record { actor = actor; amount = 0; aim = 0 }
+
+abbrev pub aimed_at : ℕ → Done → Done
+aimed_at node share = record share { aim = node }
 
 -- ---- cursors
 abbrev pub first_cursor : Actor → Cursor

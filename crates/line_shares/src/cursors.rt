@@ -74,6 +74,7 @@ impl<L: Ledger> Cursors<L> {
         requires small { place < 2 ^ 32 }
         ensures cursors { self.new ≡ caught_up mine.old.actor place self.old }
         ensures actor { mine.new.actor ≡ mine.old.actor }
+        ensures aim { mine.new.aim ≡ mine.old.aim }
         ensures rises { mine.old.amount ≤ mine.new.amount }
         ensures counted { mine.new.amount + all_done self.old ≡ mine.old.amount + all_done self.new }
     {

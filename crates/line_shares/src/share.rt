@@ -1,8 +1,8 @@
 ghost use Rattle.std.specs.Prelude.{◌≡◌, ◌+◌, ◌<◌, ◌≤◌, ◌^◌, length, map, IfOk, sum_by, vec_len};
-ghost use Rattle.line_shares.specs.Done.{fresh};
+ghost use Rattle.line_shares.specs.Done.{fresh, aimed_at};
 
 use history_book::Actor;
-use stamp_base::NoMemory;
+use stamp_base::{NoMemory, NodeNo};
 use std::alloc::Global;
 use std::marker::Model;
 use std::sync::ledger::{Book, Ledger, Share};
@@ -12,6 +12,7 @@ use std::sync::ledger::{Book, Ledger, Share};
 pub struct ActorShare<L: Ledger> {
     actor: Actor,
     done: u64,
+    aim: NodeNo,
     part: Share<L>,
 }
 
@@ -21,7 +22,7 @@ impl<L: Ledger> Model for ActorShare<L> {
 
     ghost Value = { Done };
 
-    ghost view = { λ s. record { actor = s.actor; amount = s.part.amount } };
+    ghost view = { λ s. record { actor = s.actor; amount = s.part.amount; aim = s.aim } };
 
     ghost invariant = { λ s. (s.part.parts ≡ 1) × (s.done ≡ s.part.amount) };
 }
@@ -41,6 +42,20 @@ impl<L: Ledger> ActorShare<L> {
         self.done
     }
 
+    /// At which node it is aimed: a new share at the first.
+    pub fn aimed(&self) -> NodeNo
+        ensures { result ≡ self.now.aim }
+    {
+        self.aim
+    }
+
+    /// Aims it at the node: the one that its actor's next line asks which names the master.
+    pub fn aim(&mut self, node: NodeNo)
+        ensures { self.new ≡ aimed_at node self.old }
+    {
+        self.aim = node;
+    }
+
     fn new(actor: Actor, part: Share<L>) -> ActorShare<L>
         requires { (part.parts ≡ 1) × (part.amount ≡ 0) }
         ensures { result ≡ fresh actor }
@@ -48,6 +63,7 @@ impl<L: Ledger> ActorShare<L> {
         ActorShare {
             actor,
             done: 0,
+            aim: NodeNo::FIRST,
             part,
         }
     }
@@ -56,6 +72,7 @@ impl<L: Ledger> ActorShare<L> {
     pub(crate) fn count(&mut self, book: &mut Book<L>, more: u64)
         requires { book.old.total + more < 2 ^ 64 }
         ensures actor { self.new.actor ≡ self.old.actor }
+        ensures aim { self.new.aim ≡ self.old.aim }
         ensures amount { self.new.amount ≡ self.old.amount + more }
         ensures total { book.new.total ≡ book.old.total + more }
     {

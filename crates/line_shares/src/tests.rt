@@ -3,7 +3,7 @@ ghost use Rattle.std.specs.Prelude.{◌≡◌};
 
 use crate::{Cursor, Cursors};
 use history_book::Actor;
-use stamp_base::NoMemory;
+use stamp_base::{NoMemory, NodeNo};
 use std::alloc::Global;
 use std::marker::Brand;
 use std::sync::ledger::{Blank, Ledger};
@@ -81,5 +81,29 @@ fn a_cursor_stays_at_its_place(rt: HostRuntime) -> Result<(), Fail> {
         .ok_or("memory")?;
     assert!(rt; actor == Actor::Janitor);
     assert_eq!(rt; done, 0);
+    Ok(())
+}
+
+/// Where a new share is aimed, and where it is once it was aimed and a cursor has come up.
+fn aims<L: Ledger>(alloc: Global, blank: Blank) -> Result<(NodeNo, NodeNo), NoMemory>
+    requires name { blank.name ≡ L.name }
+    requires of_blank { blank.parts ≡ L.parts }
+    requires parts { L.parts ≡ 1 }
+{
+    let (mut cursors, mut shares) = Cursors::<L>::open(alloc, &[Actor::Clock], blank)?;
+    let mut share = shares.remove(0);
+    let first = share.aimed();
+    share.aim(NodeNo::LAST);
+    cursors.catch_up(&mut share, 1);
+    Ok((first, share.aimed()))
+}
+
+#[test]
+fn a_share_stays_aimed(rt: HostRuntime) -> Result<(), Fail> {
+    let (first, then) = aims::<Brand>(rt.alloc(), Blank::new(1))
+        .ok()
+        .ok_or("memory")?;
+    assert_eq!(rt; first, NodeNo::FIRST);
+    assert_eq!(rt; then, NodeNo::LAST);
     Ok(())
 }

@@ -26,32 +26,36 @@ use Rattle.script_data.specs.declared.line.Verb.TheVariants as verb
 use Rattle.isolation_laws.specs.Words.{ClientAt}
 use Rattle.isolation_laws.specs.Sound.{Stands}
 use Rattle.isolation_laws.proofs.Lookups.{set_found}
-use Rattle.line_steps.specs.Answers.{RefusesLine, IsAnswer, read_begun}
+use Rattle.line_steps.specs.Answers.{RefusesLine, IsFetch, IsRefusal, read_begun}
 use Rattle.line_steps.proofs.Fitting.{fit_at}
 use Rattle.line_steps.proofs.AlwaysFit.{Fit}
 use Rattle.line_steps.proofs.WorkItems.{HasNumber, starts}
 use Rattle.line_steps.proofs.Walks.{AllNot, LineItems}
 use Rattle.line_steps.proofs.ReadLines.{OfRead, over_recalls, ReadsKey, read_pays}
 
+-- what answers a read line
+abbrev pub ReadAnswer : ℕ → ℕ → Item → Type 0
+ReadAnswer s key x = IsFetch s key x ⊎ IsRefusal (Session s) x ⊎ ⊥
+
 -- the items so far: the first has begun a read of the key, which is under way
 pub record ReadBegun (w : State) (s key : ℕ) (xs : List Item) : Type 0 where
   pub first : Item
   pub rest : List Item
   pub is : xs ≡ first ∷ rest
-  pub answers : IsAnswer (Session s) (verb.Read key) first
+  pub answers : ReadAnswer s key first
   pub begun : read_begun (verb.Read key) first ≡ Some key
   pub none : AllNot (Session s) rest
   pub reads : ReadsKey w s key
 
 -- after the fetch
 abbrev pub FetchDone : ℕ → ℕ → Step → Type 0
-FetchDone s key step = LineItems (Session s) (Session s) (verb.Read key) step.items ⊎ (ReadBegun step.state s key step.items × (step.stop ≡ None))
+FetchDone s key step = LineItems (ReadAnswer s key) (Session s) (verb.Read key) step.items ⊎ (ReadBegun step.state s key step.items × (step.stop ≡ None))
 
-refusal_line : (s key : ℕ) (why : Cause) → RefusesLine (Session s) why → LineItems (Session s) (Session s) (verb.Read key) (item.Refused (Session s) why ∷ [])
+refusal_line : (s key : ℕ) (why : Cause) → RefusesLine (Session s) why → LineItems (ReadAnswer s key) (Session s) (verb.Read key) (item.Refused (Session s) why ∷ [])
 unfolding AllNot
 refusal_line s key why refuses = record { first = item.Refused (Session s) why; rest = []; is = refl; answers = inr (inl (refl, refuses)); behind = tt }
 
-fault_line : (s key : ℕ) (store : Store) → LineItems (Session s) (Session s) (verb.Read key) (item.Fault (Session s) store ∷ [])
+fault_line : (s key : ℕ) (store : Store) → LineItems (ReadAnswer s key) (Session s) (verb.Read key) (item.Fault (Session s) store ∷ [])
 unfolding AllNot
 fault_line s key store = record { first = item.Fault (Session s) store; rest = []; is = refl; answers = inr (inl refl); behind = tt }
 

@@ -23,6 +23,7 @@ mod FittingSteps
 pub mod AlwaysFit
 pub mod OpeningItems
 pub mod WorkItems
+pub mod Takes
 pub mod Walks
 pub mod LaterEvents
 pub mod OpenedLines

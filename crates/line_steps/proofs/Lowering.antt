@@ -169,9 +169,9 @@ collect_at clocks w h s fate e stands (Some request) at is = omega (arith, drive
 
 -- ---- any line of a session
 opens_lower : (ends : StepsEnd) (clocks : Clocks) (w : State) (h : List Item) (s : ℕ) (line : Verb) (fate : Fate) (e : Event) → Stands w h → session_opens clocks s line (view_of w (Session s)) ≡ Some e → SessionLowers w s line Opens e fate
-opens_lower ends clocks w h s (verb.Begin to) fate e stands is = subst (λ (x : Event). SessionLowers w s (verb.Begin to) Opens x fate) (same_Some (event.AskBegin s (target_node to)) e is) (begin_lowers w s (target_node to) (verb.Begin to) fate)
-opens_lower ends clocks w h s (verb.Commit to) fate e stands is = subst (λ (x : Event). SessionLowers w s (verb.Commit to) Opens x fate) (same_Some (event.AskCommit s (target_node to)) e is) (commit_lowers w s (target_node to) (verb.Commit to) fate)
-opens_lower ends clocks w h s (verb.Submit to) fate e stands is = subst (λ (x : Event). SessionLowers w s (verb.Submit to) Opens x fate) (same_Some (event.AskCommit s (target_node to)) e is) (commit_lowers w s (target_node to) (verb.Submit to) fate)
+opens_lower ends clocks w h s (verb.Begin to) fate e stands is = subst (λ (x : Event). SessionLowers w s (verb.Begin to) Opens x fate) (same_Some (event.AskBegin s (target_node clocks to)) e is) (begin_lowers w s (target_node clocks to) (verb.Begin to) fate)
+opens_lower ends clocks w h s (verb.Commit to) fate e stands is = subst (λ (x : Event). SessionLowers w s (verb.Commit to) Opens x fate) (same_Some (event.AskCommit s (target_node clocks to)) e is) (commit_lowers w s (target_node clocks to) (verb.Commit to) fate)
+opens_lower ends clocks w h s (verb.Submit to) fate e stands is = subst (λ (x : Event). SessionLowers w s (verb.Submit to) Opens x fate) (same_Some (event.AskCommit s (target_node clocks to)) e is) (commit_lowers w s (target_node clocks to) (verb.Submit to) fate)
 opens_lower ends clocks w h s (verb.Write key value) fate e stands is = subst (λ (x : Event). SessionLowers w s (verb.Write key value) Opens x fate) (same_Some (event.Write s key value) e is) (write_lowers w s key value (verb.Write key value) fate)
 opens_lower ends clocks w h s (verb.Read key) fate e stands is = subst (λ (x : Event). SessionLowers w s (verb.Read key) Opens x fate) (same_Some (event.Fetch s key) e is) (fetch_lowers ends.reads w s key (verb.Read key) fate)
 opens_lower ends clocks w h s verb.Abort fate e stands is = subst (λ (x : Event). SessionLowers w s verb.Abort Opens x fate) (same_Some (event.Abort s) e is) (abort_lowers w s verb.Abort fate)

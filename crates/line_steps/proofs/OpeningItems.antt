@@ -111,7 +111,7 @@ ask_begins_if s c ask A i request true asked refused = alone A _ (refused (in_fl
 ask_begins_if s c ask A i request false asked refused = alone A _ asked
 
 abbrev pub BeginAnswer : ℕ → ℕ → Item → Type 0
-BeginAnswer s node x = IsAskBegin s node x ⊎ IsRefusal (Session s) x
+BeginAnswer s node x = IsAskBegin s (λ asked. asked ≡ node) x ⊎ IsRefusal (Session s) x
 
 begin_begins_free : (s node : ℕ) (c : Client) (post : Option InstanceEntry) → Begins (BeginAnswer s node) (ask_begin_by s node c post None).items
 begin_begins_free s node c None = alone _ _ (inr (refl, tt))

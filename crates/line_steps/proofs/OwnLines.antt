@@ -10,6 +10,7 @@ use Rattle.machine.specs.declared.event.Event.TheVariants as event
 use Rattle.machine.specs.State.{State}
 use Rattle.machine.specs.Machine.{Step, stepped}
 use Rattle.machine.specs.Readers.{doing_of}
+use Rattle.script_data.specs.declared.line.Target.{Target}
 use Rattle.script_data.specs.declared.line.Verb.{Verb}
 use Rattle.script_data.specs.declared.line.Verb.TheVariants as verb
 use Rattle.isolation_laws.specs.Sound.{Stands}
@@ -17,7 +18,7 @@ use Rattle.line_steps.specs.declared.point.Point.{Point}
 use Rattle.line_steps.specs.declared.point.Point.TheVariants.{Opens}
 use Rattle.line_steps.specs.declared.point.View.{View}
 use Rattle.line_steps.specs.Halts.{halt_of, follows}
-use Rattle.line_steps.specs.Next.{Clocks, read_next, next}
+use Rattle.line_steps.specs.Next.{Clocks, target_node, read_next, next}
 use Rattle.line_steps.specs.Left.{one_left}
 use Rattle.line_steps.specs.Answers.{IsAnswer, read_begun, has_opening}
 use Rattle.line_steps.proofs.AllLower.{followed_once}
@@ -30,7 +31,7 @@ use Rattle.line_steps.proofs.LaterEvents.{IsLater, later_opens_none}
 use Rattle.line_steps.proofs.Walks.{AllNot, plain_not, not_append, paid_before, paid_behind, Behind, LineItems}
 use Rattle.line_steps.proofs.ReadLines.{ReadsKey, EndsOrReads}
 use Rattle.line_steps.proofs.ReadSteps.{read_has_next}
-use Rattle.line_steps.proofs.FetchLines.{ReadBegun, fetch_done}
+use Rattle.line_steps.proofs.FetchLines.{ReadAnswer, ReadBegun, fetch_done}
 
 -- ---- a run that has opened
 later_of : (at : Point) → one_left at ≡ 0 → IsLater at
@@ -49,35 +50,35 @@ pub record ReadOn (actor : Actor) (line : Verb) (w : State) (xs : List Item) : T
   pub verb_is : line ≡ verb.Read key
   pub begun : ReadBegun w s key xs
 
-abbrev pub AfterOpen : Actor → Verb → Step → Type 0
-AfterOpen actor line step = LineItems actor actor line step.items ⊎ (ReadOn actor line step.state step.items × (step.stop ≡ None))
+abbrev pub AfterOpen : (Target → ℕ → Type 0) → Actor → Verb → Step → Type 0
+AfterOpen asks actor line step = LineItems (IsAnswer asks actor line) actor line step.items ⊎ (ReadOn actor line step.state step.items × (step.stop ≡ None))
 
 -- a line that reads nothing
-answered_line : (actor : Actor) (line : Verb) (xs : List Item) → ((x : Item) → read_begun line x ≡ None) → Begins (IsAnswer actor line) xs → LineItems actor actor line xs
-answered_line actor line xs reads k = record { first = k.first; rest = k.rest; is = k.is; answers = k.answers; behind = subst (λ (begun : Option ℕ). Behind actor begun k.rest) (sym (reads k.first)) (plain_not actor k.rest k.plain) }
+answered_line : (A : Item → Type 0) (actor : Actor) (line : Verb) (xs : List Item) → ((x : Item) → read_begun line x ≡ None) → Begins A xs → LineItems A actor line xs
+answered_line A actor line xs reads k = record { first = k.first; rest = k.rest; is = k.is; answers = k.answers; behind = subst (λ (begun : Option ℕ). Behind actor begun k.rest) (sym (reads k.first)) (plain_not actor k.rest k.plain) }
 
-fetch_opens : (w : State) (h : List Item) (s key : ℕ) (fate : Fate) → Stands w h → Fit w → s < 16 → AfterOpen (Session s) (verb.Read key) (stepped w (event.Fetch s key) fate)
-fetch_opens w h s key fate stands fit in_range =
+fetch_opens : (asks : Target → ℕ → Type 0) (w : State) (h : List Item) (s key : ℕ) (fate : Fate) → Stands w h → Fit w → s < 16 → AfterOpen asks (Session s) (verb.Read key) (stepped w (event.Fetch s key) fate)
+fetch_opens asks w h s key fate stands fit in_range =
     let mine = found w.clients s (subst (λ (m : ℕ). s < m) (sym fit.clients) in_range) in
     elim (fetch_done w h s key fate mine.0 stands fit mine.1) [
       | inl line ↦ inl line
       | inr on ↦ inr (record { s = s; key = key; actor_is = refl; verb_is = refl; begun = on.0 }, on.1)
     ]
 
-pub opens_line : (clocks : Clocks) (w : State) (h : List Item) (actor : Actor) (line : Verb) (view : View) (e : Event) (fate : Fate) → Stands w h → Fit w → ActorFits w.setup actor → VerbFits w.setup line → has_opening actor line ≡ true → next clocks actor line Opens view ≡ Some e → AfterOpen actor line (stepped w e fate)
-opens_line clocks w h (Session s) (verb.Read key) view e fate stands fit in_range asks opening is = subst (λ (x : Event). AfterOpen (Session s) (verb.Read key) (stepped w x fate)) (same_Some (event.Fetch s key) e is) (fetch_opens w h s key fate stands fit in_range)
-opens_line clocks w h Clock (verb.Read key) view e fate stands fit in_range asks opening is = absurd (cc)
-opens_line clocks w h (Node n) (verb.Read key) view e fate stands fit in_range asks opening is = absurd (cc)
-opens_line clocks w h Janitor (verb.Read key) view e fate stands fit in_range asks opening is = absurd (cc)
-opens_line clocks w h actor line view e fate stands fit in_range asks opening is = inl (answered_line actor line (stepped w e fate).items (λ x. refl) (line_answered clocks w h actor line view e fate stands fit in_range asks opening is))
+pub opens_line : (asks : Target → ℕ → Type 0) (clocks : Clocks) (w : State) (h : List Item) (actor : Actor) (line : Verb) (view : View) (e : Event) (fate : Fate) → Stands w h → Fit w → ActorFits w.setup actor → VerbFits w.setup line → clocks.master < w.setup.nodes → ((to : Target) → asks to (target_node clocks to)) → has_opening actor line ≡ true → next clocks actor line Opens view ≡ Some e → AfterOpen asks actor line (stepped w e fate)
+opens_line asks clocks w h (Session s) (verb.Read key) view e fate stands fit in_range fits master may opening is = subst (λ (x : Event). AfterOpen asks (Session s) (verb.Read key) (stepped w x fate)) (same_Some (event.Fetch s key) e is) (fetch_opens asks w h s key fate stands fit in_range)
+opens_line asks clocks w h Clock (verb.Read key) view e fate stands fit in_range fits master may opening is = absurd (cc)
+opens_line asks clocks w h (Node n) (verb.Read key) view e fate stands fit in_range fits master may opening is = absurd (cc)
+opens_line asks clocks w h Janitor (verb.Read key) view e fate stands fit in_range fits master may opening is = absurd (cc)
+opens_line asks clocks w h actor line view e fate stands fit in_range fits master may opening is = inl (answered_line (IsAnswer asks actor line) actor line (stepped w e fate).items (λ x. refl) (line_answered asks clocks w h actor line view e fate stands fit in_range fits master may opening is))
 
 -- ---- later events
 behind_more : (actor : Actor) (begun : Option ℕ) (rest items : List Item) → Behind actor begun rest → AllNot actor items → Behind actor begun (rest ++ items)
 behind_more actor None rest items behind none = not_append actor rest items behind none
 behind_more actor (Some key) rest items behind none = paid_behind actor key rest items behind none
 
-pub line_longer : (actor who : Actor) (line : Verb) (xs items : List Item) → LineItems actor who line xs → AllNot actor items → LineItems actor who line (xs ++ items)
-line_longer actor who line xs items k none = record {
+pub line_longer : (A : Item → Type 0) (actor : Actor) (line : Verb) (xs items : List Item) → LineItems A actor line xs → AllNot actor items → LineItems A actor line (xs ++ items)
+line_longer A actor line xs items k none = record {
   first = k.first;
   rest = k.rest ++ items;
   is = ap (λ (ys : List Item). ys ++ items) k.is;
@@ -89,7 +90,7 @@ pub later_plain : (clocks : Clocks) (w : State) (actor other : Actor) (line : Ve
 later_plain clocks w actor other line at view e fate later is = plain_not other (stepped w e fate).items (events_plain w e fate (later_opens_none clocks actor line at view e later is))
 
 -- a read goes on, or has ended
-pub read_longer : (w : State) (s key : ℕ) (xs : List Item) (step : Step) → ReadBegun w s key xs → EndsOrReads s key step → LineItems (Session s) (Session s) (verb.Read key) (xs ++ step.items) ⊎ (ReadBegun step.state s key (xs ++ step.items) × (step.stop ≡ None))
+pub read_longer : (w : State) (s key : ℕ) (xs : List Item) (step : Step) → ReadBegun w s key xs → EndsOrReads s key step → LineItems (ReadAnswer s key) (Session s) (verb.Read key) (xs ++ step.items) ⊎ (ReadBegun step.state s key (xs ++ step.items) × (step.stop ≡ None))
 read_longer w s key xs step k (inl paid) = inl (record {
   first = k.first;
   rest = k.rest ++ step.items;

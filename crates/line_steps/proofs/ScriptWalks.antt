@@ -6,17 +6,19 @@ use Rattle.std.proofs.lemmas.Bool.Decides.{eqb_tells}
 use Rattle.history_book.specs.declared.item.Actor.{Actor}
 use Rattle.history_book.specs.declared.item.Actor.TheVariants.{Clock, Node, Session, Janitor}
 use Rattle.history_book.specs.declared.item.Item.{Item}
+use Rattle.isolation_laws.proofs.AlwaysHolds.{facts_stay}
 use Rattle.script_data.specs.declared.line.Line.{Line}
 use Rattle.script_data.specs.Data.{ScriptData}
-use Rattle.line_steps.specs.Answers.{same_actor, has_opening, is_of, Answered}
+use Rattle.line_steps.specs.Answers.{same_actor, has_opening, is_of, asks_last, Answered}
 use Rattle.line_steps.specs.Runs.{Played, left_in, opened, line_run, lines_played, opening_played, script_played}
 use Rattle.script_data.specs.Ticks.{tick_of, ticks_of}
 use Rattle.line_steps.specs.Laws.{EventsLowerWhatIsLeft, IsPlayable, IsReached, ActorFits, VerbFits, AreLinesOf, LinesAreAnswered}
 use Rattle.line_steps.proofs.AlwaysFit.{Fit, fit_stays, fit_at_first}
 use Rattle.line_steps.proofs.Ending.{Keeps, Going, Ended, line_ends, opening_reached}
 use Rattle.line_steps.proofs.Timing.{tick_ahead}
+use Rattle.line_steps.proofs.Takes.{TakesFit, takes_stay, takes_at_first}
 use Rattle.line_steps.proofs.Walks.{AllNot, LineItems, walks_over, walks_line, walks_end}
-use Rattle.line_steps.proofs.LineWalks.{IsFit, run_keeps, Other, other_goes_on, Own, own_goes_on, own_ends}
+use Rattle.line_steps.proofs.LineWalks.{IsFit, run_keeps, Other, other_goes_on, LastAnswer, Own, own_goes_on, own_ends}
 
 -- ---- whether a line is one of the actor's
 pub actor_same : (a b : Actor) → same_actor a b ≡ true → a ≡ b
@@ -57,28 +59,29 @@ not_own actor line is opening same =
 
 -- ---- one line
 pub fit_kept : Keeps IsFit
-fit_kept w h e fate fit steady = fit_stays w e fate fit
+fit_kept w h e fate (stands, fit, takes) steady = (facts_stay w h e fate stands steady, fit_stays w e fate fit, takes_stay w h e fate stands fit takes)
 
 -- what was played has its parts, and the line is of the script
 record AtLine (script : ScriptData) (line : Line) (p : Played) : Type 0 where
   pub reached : IsReached script p
   pub fit : Fit p.state
+  pub takes : TakesFit p.state.setup.nodes p.items
   pub leads : (node : ℕ) → Rattle.std.specs.Prelude.slice_index_or script.leads node 0 ≤ script.setup.skew
   pub room : p.clock + tick_of line.verb + script.setup.skew ≤ 2 ^ 61
   pub in_range : ActorFits script.setup line.actor
   pub asks : VerbFits script.setup line.verb
 
 going_first : (script : ScriptData) (line : Line) (p : Played) → AtLine script line p → Going IsFit script line (p.clock + tick_of line.verb) (opened p)
-going_first script line p k = record { reached = k.reached; has = k.fit; leads = k.leads; ahead = omega arith; room = k.room }
+going_first script line p k = record { reached = k.reached; has = (k.reached.stands, k.fit, k.takes); leads = k.leads; ahead = omega arith; room = k.room }
 
 line_ended : EventsLowerWhatIsLeft → (script : ScriptData) (line : Line) (p : Played) → AtLine script line p → Ended IsFit script line (p.clock + tick_of line.verb) (line_run script line p)
-line_ended lowers script line p k = line_ends lowers IsFit script line p fit_kept k.reached k.fit k.leads k.room
+line_ended lowers script line p k = line_ends lowers IsFit script line p fit_kept k.reached (k.reached.stands, k.fit, k.takes) k.leads k.room
 
 -- the items of a run, and that they take the walk of the actor to the rest
 record LineWalk (actor : Actor) (line : Line) (p next : Played) : Type 0 where
   pub xs : List Item
   pub is : next.items ≡ p.items ++ xs
-  pub walks : (lines : List Line) (ys : List Item) → Answered actor None lines ys → Answered actor None (cond (is_of actor line) (line ∷ lines) lines) (xs ++ ys)
+  pub walks : (lines : List Line) (ys : List Item) → Answered asks_last actor (p.items ++ xs) None lines ys → Answered asks_last actor p.items None (cond (is_of actor line) (line ∷ lines) lines) (xs ++ ys)
 
 walk_other : (actor : Actor) (script : ScriptData) (line : Line) (p : Played) → AtLine script line p → is_of actor line ≡ false → LineWalk actor line p (line_run script line p).played
 unfolding AllNot
@@ -88,7 +91,7 @@ walk_other actor script line p k none =
     record {
       xs = other.xs;
       is = other.is;
-      walks = λ lines ys walks. subst (λ (b : Bool). Answered actor None (cond b (line ∷ lines) lines) (other.xs ++ ys)) (sym none) (walks_over actor lines other.xs ys other.none walks);
+      walks = λ lines ys walks. subst (λ (b : Bool). Answered asks_last actor p.items None (cond b (line ∷ lines) lines) (other.xs ++ ys)) (sym none) (walks_over asks_last actor p.items lines other.xs ys other.none walks);
     }
 
 walk_own : EventsLowerWhatIsLeft → (actor : Actor) (script : ScriptData) (line : Line) (p : Played) → AtLine script line p → is_of actor line ≡ true → LineWalk actor line p (line_run script line p).played
@@ -97,12 +100,12 @@ walk_own lowers actor script line p k is =
     let both : (same_actor line.actor actor ≡ true) × (has_opening line.actor line.verb ≡ true) = both_true (same_actor line.actor actor) (has_opening line.actor line.verb) is in
     let same : line.actor ≡ actor = actor_same line.actor actor both.0 in
     let own : Own line p.items (line_run script line p) = run_keeps IsFit script line most (Own line p.items) fit_kept (own_goes_on script line most p.items k.in_range k.asks both.1) (left_in line (opened p)) (opened p) (going_first script line p k) (record { xs = []; is = sym (append-nil p.items); so_far = inl (refl, refl) }) in
-    let items : LineItems line.actor line.actor line.verb own.xs = own_ends script line (line_run script line p) own.xs both.1 (line_ended lowers script line p k).over own.so_far in
-    let answered : LineItems actor line.actor line.verb own.xs = subst (λ (a : Actor). LineItems a line.actor line.verb own.xs) same items in
+    let items : LineItems (LastAnswer p.items line) line.actor line.verb own.xs = own_ends script line p.items (line_run script line p) own.xs both.1 (line_ended lowers script line p k).over own.so_far in
+    let answered : LineItems (LastAnswer p.items line) actor line.verb own.xs = subst (λ (a : Actor). LineItems (LastAnswer p.items line) a line.verb own.xs) same items in
     record {
       xs = own.xs;
       is = own.is;
-      walks = λ lines ys walks. subst (λ (b : Bool). Answered actor None (cond b (line ∷ lines) lines) (own.xs ++ ys)) (sym is) (walks_line actor line lines own.xs ys answered walks);
+      walks = λ lines ys walks. subst (λ (b : Bool). Answered asks_last actor p.items None (cond b (line ∷ lines) lines) (own.xs ++ ys)) (sym is) (walks_line asks_last actor p.items line lines own.xs ys answered walks);
     }
 
 walk_line : EventsLowerWhatIsLeft → (actor : Actor) (script : ScriptData) (line : Line) (p : Played) → AtLine script line p → (own : Bool) → is_of actor line ≡ own → LineWalk actor line p (line_run script line p).played
@@ -113,28 +116,28 @@ walk_line lowers actor script line p k false is = walk_other actor script line p
 record LinesWalk (actor : Actor) (lines : List Line) (p next : Played) : Type 0 where
   pub xs : List Item
   pub is : next.items ≡ p.items ++ xs
-  pub walks : Answered actor None (filter (is_of actor) lines) xs
+  pub walks : Answered asks_last actor p.items None (filter (is_of actor) lines) xs
 
-lines_walk : EventsLowerWhatIsLeft → (actor : Actor) (script : ScriptData) (lines : List Line) (p : Played) → IsReached script p → Fit p.state → IsPlayable script p.clock lines → AreLinesOf script.setup lines → LinesWalk actor lines p (lines_played script lines p)
+lines_walk : EventsLowerWhatIsLeft → (actor : Actor) (script : ScriptData) (lines : List Line) (p : Played) → IsReached script p → Fit p.state → TakesFit p.state.setup.nodes p.items → IsPlayable script p.clock lines → AreLinesOf script.setup lines → LinesWalk actor lines p (lines_played script lines p)
 unfolding lines_played ticks_of AreLinesOf
-lines_walk lowers actor script [] p reached fit playable of_script = record { xs = []; is = sym (append-nil p.items); walks = walks_end actor }
-lines_walk lowers actor script (line ∷ lines) p reached fit playable of_script =
+lines_walk lowers actor script [] p reached fit takes playable of_script = record { xs = []; is = sym (append-nil p.items); walks = walks_end asks_last actor p.items }
+lines_walk lowers actor script (line ∷ lines) p reached fit takes playable of_script =
     let tick : ℕ = tick_of line.verb in
     let rest : ℕ = ticks_of lines in
     let room : p.clock + (tick + rest) + script.setup.skew ≤ 2 ^ 61 = playable.ticks in
-    let k : AtLine script line p = record { reached = reached; fit = fit; leads = playable.leads; room = omega (arith, room); in_range = of_script.0; asks = of_script.1 } in
+    let k : AtLine script line p = record { reached = reached; fit = fit; takes = takes; leads = playable.leads; room = omega (arith, room); in_range = of_script.0; asks = of_script.1 } in
     let ended : Ended IsFit script line (p.clock + tick) (line_run script line p) = line_ended lowers script line p k in
     let next : Played = (line_run script line p).played in
     let by_then : next.clock + tick_ahead (line_run script line p).point line.verb ≤ p.clock + tick = ended.going.ahead in
     let first : LineWalk actor line p next = walk_line lowers actor script line p k (is_of actor line) refl in
-    let later : LinesWalk actor lines next (lines_played script lines next) = lines_walk lowers actor script lines next ended.going.reached ended.going.has (record { leads = playable.leads; ticks = omega (arith, by_then, room) }) of_script.2 in
+    let later : LinesWalk actor lines next (lines_played script lines next) = lines_walk lowers actor script lines next ended.going.reached ended.going.has.1 ended.going.has.2 (record { leads = playable.leads; ticks = omega (arith, by_then, room) }) of_script.2 in
     record {
       xs = first.xs ++ later.xs;
       is = later.is ∙ ap (λ (h : List Item). h ++ later.xs) first.is ∙ append_assoc p.items first.xs later.xs;
-      walks = first.walks (filter (is_of actor) lines) later.xs later.walks;
+      walks = first.walks (filter (is_of actor) lines) later.xs (subst (λ (h : List Item). Answered asks_last actor h None (filter (is_of actor) lines) later.xs) first.is later.walks);
     }
 
 pub lines_are_answered : EventsLowerWhatIsLeft → LinesAreAnswered
 lines_are_answered lowers script in_range playable of_script actor =
-    let k : LinesWalk actor script.lines (opening_played script) (script_played script) = lines_walk lowers actor script script.lines (opening_played script) (opening_reached script in_range) (fit_at_first script.setup) playable of_script in
-    subst (λ (h : List Item). Answered actor None (filter (is_of actor) script.lines) h) (sym k.is) k.walks
+    let k : LinesWalk actor script.lines (opening_played script) (script_played script) = lines_walk lowers actor script script.lines (opening_played script) (opening_reached script in_range) (fit_at_first script.setup) (takes_at_first script.setup in_range) playable of_script in
+    subst (λ (h : List Item). Answered asks_last actor [] None (filter (is_of actor) script.lines) h) (sym k.is) k.walks

@@ -48,7 +48,7 @@ starts w h s c stands at = starts_by c.entry.state c.entry.start (λ has. let be
 
 -- ---- a commit
 abbrev pub CommitAnswer : ℕ → ℕ → Item → Type 0
-CommitAnswer s node x = IsAskCommit s node x ⊎ IsRefusal (Session s) x ⊎ IsReadOnly s x
+CommitAnswer s node x = IsAskCommit s (λ asked. asked ≡ node) x ⊎ IsRefusal (Session s) x ⊎ IsReadOnly s x
 
 commit_begins_of : (s node : ℕ) (c : Client) (start : ℕ) (keys : List ℕ) (post : Option InstanceEntry) → Begins (CommitAnswer s node) (commit_of s node c start keys post).items
 commit_begins_of s node c start [] post = alone _ _ (inr (inr refl))

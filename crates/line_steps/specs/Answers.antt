@@ -1,5 +1,5 @@
 -- Each line of a script is answered in the history, in the order of its actor's lines.
-use Rattle.std.specs.Prelude.{◌≡◌, ◌⊎◌, ℕ, ◌==◌, Bool, true, false, ◌&&◌, List, [], ◌∷◌, filter, Option, None, Some}
+use Rattle.std.specs.Prelude.{◌≡◌, ◌⊎◌, ℕ, ◌==◌, Bool, true, false, ◌&&◌, List, [], ◌∷◌, ◌++◌, filter, Option, None, Some}
 use Rattle.history_book.specs.declared.cause.Cause.{Cause}
 use Rattle.history_book.specs.declared.cause.Cause.TheVariants as cause
 use Rattle.history_book.specs.declared.item.Actor.{Actor}
@@ -11,10 +11,12 @@ use Rattle.history_book.specs.declared.item.StoreStep.TheVariants as step
 use Rattle.history_book.specs.declared.item.Item.{Item}
 use Rattle.history_book.specs.declared.item.Item.TheVariants as item
 use Rattle.script_data.specs.declared.line.Line.{Line}
+use Rattle.script_data.specs.declared.line.Target.{Target}
+use Rattle.script_data.specs.declared.line.Target.TheVariants as target
 use Rattle.script_data.specs.declared.line.Verb.{Verb}
 use Rattle.script_data.specs.declared.line.Verb.TheVariants as verb
 use Rattle.script_data.specs.Data.{ScriptData}
-use Rattle.line_steps.specs.Next.{target_node}
+use Rattle.line_steps.specs.Master.{last_master, HasTake}
 
 -- the actor whose line the item opens
 abbrev pub opener : Item → Option Actor
@@ -59,13 +61,14 @@ abbrev pub IsVanish : ℕ → Item → Type 0
 IsVanish s (item.Vanish session) = session ≡ s
 IsVanish s _ = ⊥
 
-abbrev pub IsAskBegin : ℕ → ℕ → Item → Type 0
-IsAskBegin s n (item.AskBegin session node) = (session ≡ s) × (node ≡ n)
-IsAskBegin s n _ = ⊥
+-- the session asks a node that may be asked
+abbrev pub IsAskBegin : ℕ → (ℕ → Type 0) → Item → Type 0
+IsAskBegin s asked (item.AskBegin session node) = (session ≡ s) × asked node
+IsAskBegin s asked _ = ⊥
 
-abbrev pub IsAskCommit : ℕ → ℕ → Item → Type 0
-IsAskCommit s n (item.AskCommit session node start) = (session ≡ s) × (node ≡ n)
-IsAskCommit s n _ = ⊥
+abbrev pub IsAskCommit : ℕ → (ℕ → Type 0) → Item → Type 0
+IsAskCommit s asked (item.AskCommit session node start) = (session ≡ s) × asked node
+IsAskCommit s asked _ = ⊥
 
 abbrev pub IsWrite : ℕ → ℕ → List ℕ → Item → Type 0
 IsWrite s k v (item.Write session start key value) = (session ≡ s) × (key ≡ k) × (value ≡ v)
@@ -75,25 +78,26 @@ abbrev pub IsFetch : ℕ → ℕ → Item → Type 0
 IsFetch s k (item.Step actor (step.Fetch key cells)) = (actor ≡ Session s) × (key ≡ k)
 IsFetch s k _ = ⊥
 
-abbrev pub IsOpeningOf : Actor → Verb → Item → Type 0
-IsOpeningOf actor (verb.Post name) x = IsNote actor (note.Post name) x
-IsOpeningOf actor (verb.Await name) x = IsNote actor (note.Await name) x
-IsOpeningOf Clock (verb.Tick by) x = IsTick x
-IsOpeningOf (Node n) (verb.Hold stage) x = IsNote (Node n) (note.Hold stage) x
-IsOpeningOf (Node n) (verb.Free stage) x = IsNote (Node n) (note.Free stage) x
-IsOpeningOf (Node n) verb.Take x = IsTake n x
-IsOpeningOf (Node n) verb.Renew x = IsRenew n x
-IsOpeningOf (Node n) verb.Crash x = IsCrash n x
-IsOpeningOf (Session s) verb.Vanish x = IsVanish s x
-IsOpeningOf (Session s) (verb.Begin to) x = IsAskBegin s (target_node to) x
-IsOpeningOf (Session s) (verb.AskBegin node) x = IsAskBegin s node x
-IsOpeningOf (Session s) (verb.Commit to) x = IsAskCommit s (target_node to) x
-IsOpeningOf (Session s) (verb.Submit to) x = IsAskCommit s (target_node to) x
-IsOpeningOf (Session s) (verb.AskCommit node) x = IsAskCommit s node x
-IsOpeningOf (Session s) (verb.Write key value) x = IsWrite s key value x
-IsOpeningOf (Session s) (verb.Read key) x = IsFetch s key x
-IsOpeningOf (Session s) (verb.Fetch key) x = IsFetch s key x
-IsOpeningOf actor verb x = ⊥
+-- `asks` tells which nodes a line may ask that names a target
+abbrev pub IsOpeningOf : (Target → ℕ → Type 0) → Actor → Verb → Item → Type 0
+IsOpeningOf asks actor (verb.Post name) x = IsNote actor (note.Post name) x
+IsOpeningOf asks actor (verb.Await name) x = IsNote actor (note.Await name) x
+IsOpeningOf asks Clock (verb.Tick by) x = IsTick x
+IsOpeningOf asks (Node n) (verb.Hold stage) x = IsNote (Node n) (note.Hold stage) x
+IsOpeningOf asks (Node n) (verb.Free stage) x = IsNote (Node n) (note.Free stage) x
+IsOpeningOf asks (Node n) verb.Take x = IsTake n x
+IsOpeningOf asks (Node n) verb.Renew x = IsRenew n x
+IsOpeningOf asks (Node n) verb.Crash x = IsCrash n x
+IsOpeningOf asks (Session s) verb.Vanish x = IsVanish s x
+IsOpeningOf asks (Session s) (verb.Begin to) x = IsAskBegin s (asks to) x
+IsOpeningOf asks (Session s) (verb.AskBegin node) x = IsAskBegin s (λ asked. asked ≡ node) x
+IsOpeningOf asks (Session s) (verb.Commit to) x = IsAskCommit s (asks to) x
+IsOpeningOf asks (Session s) (verb.Submit to) x = IsAskCommit s (asks to) x
+IsOpeningOf asks (Session s) (verb.AskCommit node) x = IsAskCommit s (λ asked. asked ≡ node) x
+IsOpeningOf asks (Session s) (verb.Write key value) x = IsWrite s key value x
+IsOpeningOf asks (Session s) (verb.Read key) x = IsFetch s key x
+IsOpeningOf asks (Session s) (verb.Fetch key) x = IsFetch s key x
+IsOpeningOf asks actor verb x = ⊥
 
 -- ---- an answer without an opening item
 -- the causes by which a line can be refused before anything comes of it; a node may also be told of the master record
@@ -127,8 +131,8 @@ EndsInstead (Session s) (verb.Submit to) x = IsReadOnly s x
 EndsInstead (Session s) (verb.AskCommit node) x = IsReadOnly s x
 EndsInstead actor verb x = ⊥
 
-abbrev pub IsAnswer : Actor → Verb → Item → Type 0
-IsAnswer actor verb x = IsOpeningOf actor verb x ⊎ IsRefusal actor x ⊎ EndsInstead actor verb x
+abbrev pub IsAnswer : (Target → ℕ → Type 0) → Actor → Verb → Item → Type 0
+IsAnswer asks actor verb x = IsOpeningOf asks actor verb x ⊎ IsRefusal actor x ⊎ EndsInstead actor verb x
 
 -- ---- a read that was begun comes to its value or to a fault
 -- the key of the read that this item has begun for a line
@@ -141,14 +145,26 @@ EndsRead actor key (item.Read session start read answer) = (Session session ≡ 
 EndsRead actor key (item.Fault who store) = who ≡ actor
 EndsRead actor key _ = ⊥
 
--- Walks the history along the actor's lines. Each item answers the next line, or opens no line of the actor; a read that was
+-- ---- which nodes a line may ask
+-- the node that it names; and one that names the master asks the node that took the record last before the line's place, or
+-- the first node where none did
+abbrev pub asks_last : List Item → Target → ℕ → Type 0
+asks_last before (target.Node named) node = node ≡ named
+asks_last before target.Master node = node ≡ last_master before
+
+-- the same, but that any node may be asked for the master which took the record before the line's place, and the first
+abbrev pub asks_some : List Item → Target → ℕ → Type 0
+asks_some before (target.Node named) node = node ≡ named
+asks_some before target.Master node = (node ≡ 0) ⊎ HasTake before node
+
+-- Walks the history along the actor's lines, behind the part of it before. Each item answers the next line, or opens no line of the actor; a read that was
 -- begun ends before the next line is answered. At the end no line is left, and no read. So each line is answered once, in
 -- order, and nothing opens a line that is not there.
-unfoldable pub Answered : Actor → Option ℕ → List Line → List Item → Type 0
-Answered actor begun lines [] = (begun ≡ None) × (lines ≡ [])
-Answered actor (Some key) lines (x ∷ xs) = (EndsRead actor key x × Answered actor None lines xs) ⊎ ((Opens actor x → ⊥) × Answered actor (Some key) lines xs)
-Answered actor None [] (x ∷ xs) = (Opens actor x → ⊥) × Answered actor None [] xs
-Answered actor None (line ∷ lines) (x ∷ xs) = (IsAnswer line.actor line.verb x × Answered actor (read_begun line.verb x) lines xs) ⊎ ((Opens actor x → ⊥) × Answered actor None (line ∷ lines) xs)
+unfoldable pub Answered : (List Item → Target → ℕ → Type 0) → Actor → List Item → Option ℕ → List Line → List Item → Type 0
+Answered asks actor before begun lines [] = (begun ≡ None) × (lines ≡ [])
+Answered asks actor before (Some key) lines (x ∷ xs) = (EndsRead actor key x × Answered asks actor (before ++ x ∷ []) None lines xs) ⊎ ((Opens actor x → ⊥) × Answered asks actor (before ++ x ∷ []) (Some key) lines xs)
+Answered asks actor before None [] (x ∷ xs) = (Opens actor x → ⊥) × Answered asks actor (before ++ x ∷ []) None [] xs
+Answered asks actor before None (line ∷ lines) (x ∷ xs) = (IsAnswer (asks before) line.actor line.verb x × Answered asks actor (before ++ x ∷ []) (read_begun line.verb x) lines xs) ⊎ ((Opens actor x → ⊥) × Answered asks actor (before ++ x ∷ []) None (line ∷ lines) xs)
 
 -- ---- the lines of an actor
 -- the two are one actor
@@ -203,6 +219,14 @@ has_opening Janitor verb = name_opening verb
 abbrev pub is_of : Actor → Line → Bool
 is_of actor line = same_actor line.actor actor && has_opening line.actor line.verb
 
--- each line of each actor is answered
+-- each line of each actor is answered, by a rule for the nodes that lines ask
+abbrev pub AnswersBy : (List Item → Target → ℕ → Type 0) → ScriptData → List Item → Type 0
+AnswersBy asks script h = (actor : Actor) → Answered asks actor [] None (filter (is_of actor) script.lines) h
+
+-- each line of each actor is answered: in file order, where a line that names the master finds the last
 abbrev pub Answers : ScriptData → List Item → Type 0
-Answers script h = (actor : Actor) → Answered actor None (filter (is_of actor) script.lines) h
+Answers script h = AnswersBy asks_last script h
+
+-- and on threads, where it may find one that was
+abbrev pub AnswersOnThreads : ScriptData → List Item → Type 0
+AnswersOnThreads script h = AnswersBy asks_some script h

@@ -4,8 +4,8 @@ use Rattle.script_data.specs.declared.line.Verb.{Verb}
 use Rattle.script_data.specs.declared.line.Verb.TheVariants as verb
 use Rattle.line_steps.specs.Next.{Clocks}
 
-abbrev pub clocks : ℕ → List ℕ → Clocks
-clocks base leads = record { base = base; leads = leads }
+abbrev pub clocks : ℕ → List ℕ → ℕ → Clocks
+clocks base leads master = record { base = base; leads = leads; master = master }
 
 -- a tick is at most this long
 abbrev pub TicksWithin : ℕ → Verb → Type 0

@@ -9,6 +9,8 @@ use Rattle.machine.specs.declared.event.Event.{Event}
 use Rattle.machine.specs.State.{State}
 use Rattle.machine.specs.Machine.{stepped}
 use Rattle.script_data.specs.declared.line.Line.{Line}
+use Rattle.script_data.specs.declared.line.Target.{Target}
+use Rattle.script_data.specs.declared.line.Target.TheVariants as target
 use Rattle.script_data.specs.declared.line.Verb.{Verb}
 use Rattle.script_data.specs.declared.line.Verb.TheVariants as verb
 use Rattle.script_data.specs.Data.{ScriptData}
@@ -17,7 +19,7 @@ use Rattle.isolation_laws.specs.Sound.{Stands}
 use Rattle.line_steps.specs.declared.point.Point.{Point}
 use Rattle.line_steps.specs.Halts.{halt_of, follows}
 use Rattle.line_steps.specs.Views.{view_of}
-use Rattle.line_steps.specs.Next.{Clocks, target_node, next}
+use Rattle.line_steps.specs.Next.{Clocks, next}
 use Rattle.line_steps.specs.Answers.{Answers}
 use Rattle.line_steps.specs.Left.{left}
 use Rattle.line_steps.specs.Runs.{Played, next_in, line_run, lines_played, script_played, replayed}
@@ -61,10 +63,14 @@ ActorFits setup (Node n) = n < setup.nodes
 ActorFits setup (Session s) = s < 16
 ActorFits setup _ = Unit {0}
 
+abbrev pub TargetFits : SetupNumbers → Target → Type 0
+TargetFits setup (target.Node node) = node < setup.nodes
+TargetFits setup target.Master = Unit {0}
+
 abbrev pub VerbFits : SetupNumbers → Verb → Type 0
-VerbFits setup (verb.Begin to) = target_node to < setup.nodes
-VerbFits setup (verb.Commit to) = target_node to < setup.nodes
-VerbFits setup (verb.Submit to) = target_node to < setup.nodes
+VerbFits setup (verb.Begin to) = TargetFits setup to
+VerbFits setup (verb.Commit to) = TargetFits setup to
+VerbFits setup (verb.Submit to) = TargetFits setup to
 VerbFits setup (verb.AskBegin node) = node < setup.nodes
 VerbFits setup (verb.AskCommit node) = node < setup.nodes
 VerbFits setup _ = Unit {0}

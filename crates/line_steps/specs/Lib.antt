@@ -1,6 +1,7 @@
 pub mod Clocks
 pub mod Halts
 pub mod Views
+pub mod Master
 pub mod Next
 pub mod Left
 pub mod Runs

@@ -17,17 +17,23 @@ use Rattle.line_steps.specs.declared.point.Point.{Point}
 use Rattle.line_steps.specs.declared.point.Point.TheVariants.{Opens, Drives, Extends, Finishes, Reads, Steps, Over}
 use Rattle.line_steps.specs.declared.point.View.{View}
 
--- the base clock, and the lead of each node's clock
+-- the base clock, the lead of each node's clock, and the node that a line asks which names the master
 pub record Clocks : Type 0 where
   pub base : ℕ
   pub leads : List ℕ
+  pub master : ℕ
 
 -- what a node's clock shows
 abbrev pub reading_at : Clocks → ℕ → ℕ
 reading_at clocks node = clocks.base + slice_index_or clocks.leads node 0
 
-abbrev pub target_node : Target → ℕ
-target_node (target.Node node) = node
+-- the node that a line asks
+abbrev pub asked_node : ℕ → Target → ℕ
+asked_node master (target.Node node) = node
+asked_node master target.Master = master
+
+abbrev pub target_node : Clocks → Target → ℕ
+target_node clocks to = asked_node clocks.master to
 
 -- ---- serving a request
 -- the event that serves a request of a session at a node from this place on
@@ -130,9 +136,9 @@ node_opens clocks node (verb.Answer session) = Some (event.Answer node session)
 node_opens clocks node verb = name_opens (Node node) verb
 
 abbrev pub session_opens : Clocks → ℕ → Verb → View → Option Event
-session_opens clocks session (verb.Begin to) view = Some (event.AskBegin session (target_node to))
-session_opens clocks session (verb.Commit to) view = Some (event.AskCommit session (target_node to))
-session_opens clocks session (verb.Submit to) view = Some (event.AskCommit session (target_node to))
+session_opens clocks session (verb.Begin to) view = Some (event.AskBegin session (target_node clocks to))
+session_opens clocks session (verb.Commit to) view = Some (event.AskCommit session (target_node clocks to))
+session_opens clocks session (verb.Submit to) view = Some (event.AskCommit session (target_node clocks to))
 session_opens clocks session (verb.AskBegin node) view = Some (event.AskBegin session node)
 session_opens clocks session (verb.AskCommit node) view = Some (event.AskCommit session node)
 session_opens clocks session (verb.Write key value) view = Some (event.Write session key value)

@@ -16,6 +16,7 @@ use Rattle.line_steps.specs.declared.point.Point.{Point}
 use Rattle.line_steps.specs.declared.point.Point.TheVariants.{Opens}
 use Rattle.line_steps.specs.Halts.{halt_of, follows}
 use Rattle.line_steps.specs.Views.{view_of}
+use Rattle.line_steps.specs.Master.{last_master}
 use Rattle.line_steps.specs.Next.{Clocks, next}
 use Rattle.line_steps.specs.Left.{left}
 
@@ -78,7 +79,7 @@ pub record Run : Type 0 where
   pub played : Played
 
 abbrev pub clocks_of : ScriptData → Played → Clocks
-clocks_of script p = record { base = p.clock; leads = script.leads }
+clocks_of script p = record { base = p.clock; leads = script.leads; master = last_master p.items }
 
 -- the next event, if there is one
 abbrev pub next_in : ScriptData → Line → Run → Option Event

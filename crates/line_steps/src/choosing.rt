@@ -1,5 +1,5 @@
 // The next event of a line.
-ghost use Rattle.std.specs.Prelude.{◌≡◌, ◌≢◌, ◌≤◌, ◌^◌};
+ghost use Rattle.std.specs.Prelude.{◌≡◌, ◌≢◌, ◌≤◌, ◌^◌, ℕ};
 ghost use Rattle.line_steps.specs.Next as next;
 ghost use Rattle.line_steps.specs.Clocks.{clocks, TicksWithin, HaveRoom};
 
@@ -11,13 +11,20 @@ use script_data::{Line, Target, Verb};
 use stamp_base::{NodeNo, SessionNo};
 
 /// The event that the run of the line makes next from this point on; None where the run is over. The base clock and the leads
-/// of the nodes' clocks give the readings.
-pub fn next_event(base: u64, leads: &[u64], line: &Line, point: Point, view: &View) -> Option<Event>
+/// of the nodes' clocks give the readings; `master` is the node that a line asks which names the master.
+pub fn next_event(
+    base: u64,
+    leads: &[u64],
+    master: NodeNo,
+    line: &Line,
+    point: Point,
+    view: &View,
+) -> Option<Event>
     requires { HaveRoom base leads.now line.now.verb }
-    ensures { result ≡ next.next (clocks base leads.now) line.now.actor line.now.verb point view.now }
+    ensures { result ≡ next.next (clocks base leads.now master) line.now.actor line.now.verb point view.now }
 {
     if point == Point::Opens {
-        return opens(base, leads, line, view);
+        return opens(base, leads, master, line, view);
     }
     match line.actor {
         Actor::Session(session) => session_goes_on(base, leads, session, &line.verb, view, point),
@@ -37,7 +44,7 @@ fn session_goes_on(
 ) -> Option<Event>
     requires room { HaveRoom base leads.now verb.now }
     requires later { point ≢ Point.Opens }
-    ensures { result ≡ next.session_next (clocks base leads.now) session verb.now view.now point }
+    ensures { (master : ℕ) → result ≡ next.session_next (clocks base leads.now master) session verb.now view.now point }
 {
     match point {
         Point::Drives => drive_next(base, leads, session, verb, view),
@@ -62,14 +69,20 @@ fn janitor_goes_on(verb: &Verb, view: &View, point: Point) -> Option<Event>
 
 // ---- the first event of a line
 
-fn opens(base: u64, leads: &[u64], line: &Line, view: &View) -> Option<Event>
+fn opens(
+    base: u64,
+    leads: &[u64],
+    master: NodeNo,
+    line: &Line,
+    view: &View,
+) -> Option<Event>
     requires { HaveRoom base leads.now line.now.verb }
-    ensures { result ≡ next.next (clocks base leads.now) line.now.actor line.now.verb Point.Opens view.now }
+    ensures { result ≡ next.next (clocks base leads.now master) line.now.actor line.now.verb Point.Opens view.now }
 {
     match line.actor {
         Actor::Clock => clock_opens(base, &line.verb),
         Actor::Node(node) => node_opens(base, leads, node, &line.verb),
-        Actor::Session(session) => session_opens(base, leads, session, &line.verb, view),
+        Actor::Session(session) => session_opens(base, leads, master, session, &line.verb, view),
         Actor::Janitor => janitor_opens(&line.verb),
     }
 }
@@ -87,7 +100,7 @@ fn clock_opens(base: u64, verb: &Verb) -> Option<Event>
 
 fn node_opens(base: u64, leads: &[u64], node: NodeNo, verb: &Verb) -> Option<Event>
     requires { HaveRoom base leads.now verb.now }
-    ensures { result ≡ next.node_opens (clocks base leads.now) node verb.now }
+    ensures { (master : ℕ) → result ≡ next.node_opens (clocks base leads.now master) node verb.now }
 {
     let actor = Actor::Node(node);
     match *verb {
@@ -124,21 +137,22 @@ fn node_opens(base: u64, leads: &[u64], node: NodeNo, verb: &Verb) -> Option<Eve
 fn session_opens(
     base: u64,
     leads: &[u64],
+    master: NodeNo,
     session: SessionNo,
     verb: &Verb,
     view: &View,
 ) -> Option<Event>
     requires { HaveRoom base leads.now verb.now }
-    ensures { result ≡ next.session_opens (clocks base leads.now) session verb.now view.now }
+    ensures { result ≡ next.session_opens (clocks base leads.now master) session verb.now view.now }
 {
     match *verb {
         Verb::Begin { target } => Some(Event::AskBegin {
             session,
-            node: node_of(target),
+            node: node_of(master, target),
         }),
         Verb::Commit { target } | Verb::Submit { target } => Some(Event::AskCommit {
             session,
-            node: node_of(target),
+            node: node_of(master, target),
         }),
         Verb::AskBegin { node } => Some(Event::AskBegin { session, node }),
         Verb::AskCommit { node } => Some(Event::AskCommit { session, node }),
@@ -197,7 +211,7 @@ fn drive_next(
     view: &View,
 ) -> Option<Event>
     requires { HaveRoom base leads.now verb.now }
-    ensures { result ≡ next.drive_next (clocks base leads.now) session verb.now view.now view.now.request }
+    ensures { (master : ℕ) → result ≡ next.drive_next (clocks base leads.now master) session verb.now view.now view.now.request }
 {
     match view.request {
         None => placing_next(session, view.doing, places(verb)),
@@ -218,7 +232,7 @@ fn collect_next(
 ) -> Option<Event>
     requires verb { verb.now ≡ Verb.Collect }
     requires room { HaveRoom base leads.now verb.now }
-    ensures { result ≡ next.collect_next (clocks base leads.now) session view.now view.now.request }
+    ensures { (master : ℕ) → result ≡ next.collect_next (clocks base leads.now master) session view.now view.now.request }
 {
     match view.request {
         None => idle_next(session, view.doing),
@@ -251,7 +265,7 @@ fn serves(
     place: Place,
 ) -> Event
     requires { HaveRoom base leads.now Verb.Take }
-    ensures { result ≡ next.serves (clocks base leads.now) session node commit place }
+    ensures { (master : ℕ) → result ≡ next.serves (clocks base leads.now master) session node commit place }
 {
     match place {
         Place::Asked => Event::Accept {
@@ -268,18 +282,19 @@ fn serves(
 /// What the node's clock shows.
 fn reading_at(base: u64, leads: &[u64], node: NodeNo) -> u64
     requires { HaveRoom base leads.now Verb.Take }
-    ensures { result ≡ next.reading_at (clocks base leads.now) node }
+    ensures { result ≡ next.reading_at (clocks base leads.now 0) node }
 {
     let place = node.value() as usize;
     let lead = if place < leads.len() { leads[place] } else { 0 };
     base + lead
 }
 
-fn node_of(target: Target) -> NodeNo
-    ensures { result ≡ next.target_node target }
+fn node_of(master: NodeNo, target: Target) -> NodeNo
+    ensures { result ≡ next.asked_node master target }
 {
     match target {
         Target::Node(node) => node,
+        Target::Master => master,
     }
 }
 

@@ -1,6 +1,6 @@
 -- A publisher and a pass as their contracts see them.
 use Rattle.std.specs.Prelude.{List}
-use Rattle.atomic_table.specs.Seated.{TableId}
+pub use Rattle.atomic_table.specs.Seated.{TableId}
 use Rattle.master_beacon.specs.declared.rule.Announced.{Announced}
 
 -- of which beacon the publisher is, and what was published there

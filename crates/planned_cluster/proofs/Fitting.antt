@@ -31,6 +31,9 @@ verb_fits : (setup : SetupNumbers) (verb : Verb) → verb_needs verb ≤ setup.n
 verb_fits setup (verbs.Begin (targets.Node node)) needs = omega (arith, needs)
 verb_fits setup (verbs.Commit (targets.Node node)) needs = omega (arith, needs)
 verb_fits setup (verbs.Submit (targets.Node node)) needs = omega (arith, needs)
+verb_fits setup (verbs.Begin targets.Master) needs = tt
+verb_fits setup (verbs.Commit targets.Master) needs = tt
+verb_fits setup (verbs.Submit targets.Master) needs = tt
 verb_fits setup (verbs.AskBegin node) needs = omega (arith, needs)
 verb_fits setup (verbs.AskCommit node) needs = omega (arith, needs)
 verb_fits setup verb needs = tt

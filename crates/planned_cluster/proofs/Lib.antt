@@ -1,4 +1,6 @@
 mod Ahead
+mod TakeFlags
+pub mod Clocks
 pub mod Making
 pub mod Rooms
 pub mod Playable

@@ -9,6 +9,9 @@ use Rattle.machine.specs.Effect.{Stop, Refuses, Faults}
 use Rattle.event_parts.specs.declared.stopped.Stopped.{Stopped}
 use Rattle.event_parts.specs.declared.stopped.Stopped.TheVariants.{Refused, StoreFault, NoMemory}
 use Rattle.script_data.specs.Data.{ScriptData}
+use Rattle.line_steps.specs.Clocks.{clocks}
+use Rattle.line_steps.specs.Master.{last_master}
+use Rattle.line_steps.specs.Next.{Clocks}
 use Rattle.line_steps.specs.Runs.{Played, calls_on, clock_after, step_of, played, opening_played}
 use Rattle.cluster_core.specs.Whole.{Whole}
 
@@ -37,6 +40,10 @@ abbrev pub PlaysOn : Event → Result Unit Stopped → Whole → ℕ → (Store 
 PlaysOn event result old clock before new later now =
     (script : ScriptData) (p : Played) → StandsAt script p old clock before →
     Reaches (step_of script p event).stop result (StandsAt script p new later now) (StandsAt script (played script p event) new later now)
+
+-- the clocks of such a script there
+abbrev pub clocks_at : Whole → ℕ → List ℕ → Clocks
+clocks_at whole clock leads = clocks clock leads (last_master whole.history)
 
 -- a tick that was made sets the base clock
 abbrev pub clock_made : ℕ → Event → Result Unit Stopped → ℕ

@@ -3,6 +3,8 @@
 #![tactic(auto)]
 
 mod planned;
+mod watched;
 
 pub use cluster_core::{Cluster, Stopped};
 pub use planned::{PlannedCluster, see_session};
+pub use watched::WatchedCluster;

@@ -8,7 +8,8 @@ ghost use Rattle.cluster_core.specs.Served.{LeavesRoom, NeverLacksIf, is_served}
 ghost use Rattle.planned_cluster.specs.Fitting.{SessionIsThere};
 ghost use Rattle.planned_cluster.specs.Standing.{OpensFor, PlaysOn, clock_made};
 
-use cluster_core::{Cluster, Stopped};
+use crate::watched::WatchedCluster;
+use cluster_core::Stopped;
 use history_book::Actor;
 use line_steps::View;
 use machine::{Doing, Event};
@@ -19,7 +20,7 @@ use std::alloc::Global;
 /// The cluster, the weather that is still ahead, and the base clock.
 #[derive(Drop)]
 pub struct PlannedCluster {
-    pub cluster: Cluster,
+    pub cluster: WatchedCluster,
     pub weather: PlannedWeather,
     pub clock: u64,
 }
@@ -37,7 +38,7 @@ impl PlannedCluster {
         ensures spare { IfOk result (λ made. made.cluster.spare ≡ 0) }
     {
         Ok(PlannedCluster {
-            cluster: Cluster::open(alloc, setup)?,
+            cluster: WatchedCluster::open(alloc, setup)?,
             weather: PlannedWeather::new(copied(alloc, faults)?),
             clock: 0,
         })

@@ -19,13 +19,15 @@ use Rattle.line_steps.specs.Halts.{halt_of, follows}
 use Rattle.script_data.specs.Ticks.{tick_of}
 use Rattle.line_steps.specs.Laws.{IsReached, EventsLowerWhatIsLeft}
 use Rattle.line_steps.specs.Left.{left}
+use Rattle.line_steps.specs.Master.{last_master}
 use Rattle.line_steps.specs.Next.{Clocks, next}
-use Rattle.line_steps.specs.Runs.{Played, Run, step_of, played, next_in, run_after, left_in, going_on, run_for, opened, line_run}
+use Rattle.line_steps.specs.Runs.{Played, Run, clocks_of, step_of, played, next_in, run_after, left_in, going_on, run_for, opened, line_run}
 use Rattle.line_steps.specs.declared.point.View.{View}
 use Rattle.line_steps.specs.Views.{view_of}
 use Rattle.line_steps.proofs.Ending.{Keeps, Going, Nothing, less_left, steady_next, goes_on as event_goes_on}
 use Rattle.cluster_core.specs.Whole.{Whole}
-use Rattle.planned_cluster.specs.Standing.{StandsAt}
+use Rattle.planned_cluster.specs.Standing.{StandsAt, clocks_at}
+use Rattle.planned_cluster.proofs.Clocks.{clocks_there}
 use Rattle.replay_driver.specs.Playing.{Advances}
 
 -- the run of a line from what was played before it is under way: where it stands, and that it leads where the whole run does
@@ -50,12 +52,15 @@ begins script line p whole clock ahead at reached leads room = record {
 }
 
 -- the next event that the code chooses is that of the run
-pub next_same : (script : ScriptData) (line : Line) (p : Played) (whole : Whole) (clock : ℕ) (ahead : Store → ℕ → Fate) (point : Point) (k : IsUnderWay script line p whole clock ahead point) → next (clocks clock script.leads) line.actor line.verb point (view_of whole.state line.actor) ≡ next_in script line k.run
-next_same script line p whole clock ahead point k = rw (k.stands.time, k.stands.state, k.point_is) refl
+pub next_same : (script : ScriptData) (line : Line) (p : Played) (whole : Whole) (clock : ℕ) (ahead : Store → ℕ → Fate) (point : Point) (k : IsUnderWay script line p whole clock ahead point) → next (clocks_at whole clock script.leads) line.actor line.verb point (view_of whole.state line.actor) ≡ next_in script line k.run
+next_same script line p whole clock ahead point k =
+    ap (λ (times : Clocks). next times line.actor line.verb point (view_of whole.state line.actor)) (clocks_there script k.run.played whole clock ahead k.stands)
+    ∙ ap (λ (w : State). next (clocks_of script k.run.played) line.actor line.verb point (view_of w line.actor)) k.stands.state
+    ∙ ap (λ (at : Point). next (clocks_of script k.run.played) line.actor line.verb at (view_of k.run.played.state line.actor)) k.point_is
 
-pub chosen : (script : ScriptData) (line : Line) (p : Played) (whole : Whole) (clock : ℕ) (ahead : Store → ℕ → Fate) (point : Point) (k : IsUnderWay script line p whole clock ahead point) (leads : List ℕ) (event : Option Event) → leads ≡ script.leads → event ≡ next (clocks clock leads) line.actor line.verb point (view_of whole.state line.actor) → next_in script line k.run ≡ event
-chosen script line p whole clock ahead point k leads event same is =
-    sym (next_same script line p whole clock ahead point k) ∙ sym (is ∙ ap (λ (xs : List ℕ). next (clocks clock xs) line.actor line.verb point (view_of whole.state line.actor)) same)
+pub chosen : (script : ScriptData) (line : Line) (p : Played) (whole : Whole) (clock : ℕ) (ahead : Store → ℕ → Fate) (point : Point) (k : IsUnderWay script line p whole clock ahead point) (leads : List ℕ) (master : ℕ) (event : Option Event) → leads ≡ script.leads → master ≡ last_master whole.history → event ≡ next (clocks clock leads master) line.actor line.verb point (view_of whole.state line.actor) → next_in script line k.run ≡ event
+chosen script line p whole clock ahead point k leads master event same latest is =
+    sym (next_same script line p whole clock ahead point k) ∙ sym (is ∙ ap (λ (xs : List ℕ). next (clocks clock xs master) line.actor line.verb point (view_of whole.state line.actor)) same ∙ ap (λ (n : ℕ). next (clocks clock script.leads n) line.actor line.verb point (view_of whole.state line.actor)) latest)
 
 -- ---- one event more
 one_run : (script : ScriptData) (line : Line) (r : Run) (e : Event) (most : ℕ) → next_in script line r ≡ Some e → run_for (suc most) script line r ≡ run_for most script line (run_after script line r e)

@@ -53,7 +53,7 @@ pub fn replay_told<P: Progress>(
         play_line(&mut play, script, place)?;
         progress.carried_out(place + 1, script.lines.len());
     }
-    Ok(play.cluster)
+    Ok(play.cluster.into_cluster())
 }
 
 /// Carries out the line at this place, event by event, to its end.
@@ -70,6 +70,7 @@ fn play_line(play: &mut PlannedCluster, script: &Script, place: usize) -> Result
     while let Some(event) = &next_event(
         play.clock,
         &script.leads,
+        play.cluster.master(),
         line,
         point,
         &seen(play, line, point),

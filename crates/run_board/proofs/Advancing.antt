@@ -6,7 +6,7 @@ use Rattle.turn_engine.specs.declared.answers.Advance.TheVariants as advance
 use Rattle.turn_engine.specs.Steps as steps
 use Rattle.run_board.specs.Playing.{Played, Counts, Advances}
 
-pub advances : (old new : Played) (mine now : Done) (answer : Advance) → (answer ≡ advance.NoMemory → ⊥) → steps.Advances old.ran mine.actor answer new.ran → Counts old new mine now → Advances old mine answer new now
+pub advances : (old new : Played) (mine now : Done) (answer : Advance) → (answer ≡ advance.NoMemory → ⊥) → steps.Advances old.ran mine.actor mine.aim answer new.ran → Counts old new mine now → Advances old mine answer new now
 advances old new mine now (advance.Did asked) some made counts = (made, counts)
 advances old new mine now (advance.Waits why) some made counts = (made, counts)
 advances old new mine now advance.Ended some made counts = (made, counts)

@@ -2,7 +2,7 @@
 use Rattle.std.proofs.Common.{◌≡◌, List, sym, subst}
 use Rattle.history_book.specs.declared.item.Item.{Item}
 use Rattle.script_data.specs.Data.{ScriptData}
-use Rattle.line_steps.specs.Answers.{Answers}
+use Rattle.line_steps.specs.Answers.{AnswersOnThreads}
 use Rattle.line_steps.specs.Planned.{Planned}
 use Rattle.line_shares.specs.declared.cursor.Cursor.{Cursor}
 use Rattle.planned_cluster.proofs.Playable.{playable_at_first}
@@ -33,8 +33,8 @@ result_at_end r cursors history turns law k of ends = subst (λ (ts : List Turn)
   whole = whole_at_end r cursors law k ends;
 })
 
-pub answered_at_end : (r : Ran) (cursors : List Cursor) (history : List Item) → EndedRunsAreWhole → TurnsAnswer → IsKept r cursors → history ≡ carried_items r.script r.turns → AreAtTheirEnds r.script cursors → Answers r.script history
-answered_at_end r cursors history law answer k is ends = subst (λ (h : List Item). Answers r.script h) (sym is) (answer r.script r.turns k.sound.setup (playable_at_first r.script k.sound k.few) k.sessions (whole_at_end r cursors law k ends))
+pub answered_at_end : (r : Ran) (cursors : List Cursor) (history : List Item) → EndedRunsAreWhole → TurnsAnswer → IsKept r cursors → history ≡ carried_items r.script r.turns → AreAtTheirEnds r.script cursors → AnswersOnThreads r.script history
+answered_at_end r cursors history law answer k is ends = subst (λ (h : List Item). AnswersOnThreads r.script h) (sym is) (answer r.script r.turns k.sound.setup (playable_at_first r.script k.sound k.few) k.sessions (whole_at_end r cursors law k ends))
 
 pub planned_at_end : (r : Ran) (cursors : List Cursor) (history : List Item) → EndedRunsAreWhole → TurnsArePlanned → IsKept r cursors → history ≡ carried_items r.script r.turns → AreAtTheirEnds r.script cursors → Planned r.script history
 planned_at_end r cursors history law plan k is ends = subst (λ (h : List Item). Planned r.script h) (sym is) (plan r.script r.turns k.sound.setup (playable_at_first r.script k.sound k.few) (whole_at_end r cursors law k ends))

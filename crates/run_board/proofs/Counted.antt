@@ -55,33 +55,33 @@ comes_up actor place (c ∷ cs) = here_by actor place c cs (caught_up actor plac
 -- ---- the turns
 pub counted_up : (r : Ran) (cursors : List Cursor) (actor : Actor) (place : ℕ) → All (λ (c : Cursor). c.actor ≡ actor → c.done ≤ place) cursors → AreCounted r cursors → AreCounted r (caught_up actor place cursors)
 counted_up r cursors actor place low counted = λ other. AtEach-weaker (IsCountedAt r cursors other) (IsCountedAt r (caught_up actor place cursors) other) r.turns (counted other)
-    (λ before t among is own. still_up (place_of (record { script = r.script; turns = before ++ t ∷ [] }) other) other actor place cursors low (is own))
+    (λ before t among is aim own. still_up (place_of (record { script = r.script; turns = before ++ t ∷ [] }) other) other actor place cursors low (is aim own))
 
 made : (old : Ran) (t : Turn) (cursors : List Cursor) → ((other : Actor) → IsCountedAt (with_turn old t) cursors other old.turns t) → AreCounted old cursors → AreCounted (with_turn old t) cursors
 made old t cursors last counted = λ other. AtEach-push (IsCountedAt old cursors other) old.turns t (counted other) (last other)
 
 own_of : Turn → Actor
-own_of (turn.Own actor) = actor
+own_of (turn.Own actor aim) = actor
 own_of _ = Clock
 
-own : (old : Ran) (actor : Actor) (cursors : List Cursor) (place : ℕ) → place ≡ place_of (with_turn old (turn.Own actor)) actor → All (λ (c : Cursor). c.actor ≡ actor → c.done ≤ place) cursors → AreCounted old cursors → AreCounted (with_turn old (turn.Own actor)) (caught_up actor place cursors)
+own : (old : Ran) (actor : Actor) (aim : ℕ) (cursors : List Cursor) (place : ℕ) → place ≡ place_of (with_turn old (turn.Own actor aim)) actor → All (λ (c : Cursor). c.actor ≡ actor → c.done ≤ place) cursors → AreCounted old cursors → AreCounted (with_turn old (turn.Own actor aim)) (caught_up actor place cursors)
 unfolding own_of
-own old actor cursors place at low counted = made old (turn.Own actor) (caught_up actor place cursors)
-    (λ other is. subst (λ (a : Actor). IsUpTo (place_of (with_turn old (turn.Own actor)) a) (cursor_of (caught_up actor place cursors) a)) (ap own_of is) (subst (λ (n : ℕ). IsUpTo n (cursor_of (caught_up actor place cursors) actor)) at (comes_up actor place cursors)))
+own old actor aim cursors place at low counted = made old (turn.Own actor aim) (caught_up actor place cursors)
+    (λ other other_aim is. subst (λ (a : Actor). IsUpTo (place_of (with_turn old (turn.Own actor aim)) a) (cursor_of (caught_up actor place cursors) a)) (ap own_of is) (subst (λ (n : ℕ). IsUpTo n (cursor_of (caught_up actor place cursors) actor)) at (comes_up actor place cursors)))
     (counted_up old cursors actor place low counted)
 
-pub counted_advanced : (old new : Ran) (actor : Actor) (answer : Advance) (cursors : List Cursor) (place : ℕ) → Advances old actor answer new → place ≡ place_of new actor → All (λ (c : Cursor). c.actor ≡ actor → c.done ≤ place) cursors → AreCounted old cursors → AreCounted new (caught_up actor place cursors)
-counted_advanced old new actor (advance.Did asked) cursors place k at low counted = subst (λ (r : Ran). AreCounted r (caught_up actor place cursors)) (sym k.turns) (own old actor cursors place (at ∙ ap (λ (r : Ran). place_of r actor) k.turns) low counted)
-counted_advanced old new actor (advance.Waits why) cursors place k at low counted = subst (λ (r : Ran). AreCounted r (caught_up actor place cursors)) (sym k.1) (counted_up old cursors actor place low counted)
-counted_advanced old new actor advance.Ended cursors place k at low counted = subst (λ (r : Ran). AreCounted r (caught_up actor place cursors)) (sym k.1) (counted_up old cursors actor place low counted)
-counted_advanced old new actor advance.NoMemory cursors place k at low counted = subst (λ (r : Ran). AreCounted r (caught_up actor place cursors)) (sym k) (counted_up old cursors actor place low counted)
+pub counted_advanced : (old new : Ran) (actor : Actor) (aim : ℕ) (answer : Advance) (cursors : List Cursor) (place : ℕ) → Advances old actor aim answer new → place ≡ place_of new actor → All (λ (c : Cursor). c.actor ≡ actor → c.done ≤ place) cursors → AreCounted old cursors → AreCounted new (caught_up actor place cursors)
+counted_advanced old new actor aim (advance.Did asked) cursors place k at low counted = subst (λ (r : Ran). AreCounted r (caught_up actor place cursors)) (sym k.turns) (own old actor aim cursors place (at ∙ ap (λ (r : Ran). place_of r actor) k.turns) low counted)
+counted_advanced old new actor aim (advance.Waits why) cursors place k at low counted = subst (λ (r : Ran). AreCounted r (caught_up actor place cursors)) (sym k.1) (counted_up old cursors actor place low counted)
+counted_advanced old new actor aim advance.Ended cursors place k at low counted = subst (λ (r : Ran). AreCounted r (caught_up actor place cursors)) (sym k.1) (counted_up old cursors actor place low counted)
+counted_advanced old new actor aim advance.NoMemory cursors place k at low counted = subst (λ (r : Ran). AreCounted r (caught_up actor place cursors)) (sym k) (counted_up old cursors actor place low counted)
 
 -- ---- a stage's turn is nobody's own
 counted_same : (old new : Ran) (cursors : List Cursor) → new ≡ old → AreCounted old cursors → AreCounted new cursors
 counted_same old new cursors same counted = subst (λ (r : Ran). AreCounted r cursors) (sym same) counted
 
 turned : (old new : Ran) (t : Turn) (e : Event) (cursors : List Cursor) (stage : ℕ × Stage) → stage_of t ≡ Some stage → TurnsBy old t e new → AreCounted old cursors → AreCounted new cursors
-turned old new t e cursors stage of (inl k) counted = subst (λ (r : Ran). AreCounted r cursors) (sym k.1) (made old t cursors (λ other is. absurd (none-some stage (sym (ap stage_of is) ∙ of))) counted)
+turned old new t e cursors stage of (inl k) counted = subst (λ (r : Ran). AreCounted r cursors) (sym k.1) (made old t cursors (λ other aim is. absurd (none-some stage (sym (ap stage_of is) ∙ of))) counted)
 turned old new t e cursors stage of (inr quiet) counted = counted_same old new cursors quiet.same counted
 
 told : (old new : Ran) (t : Turn) (result : StageStep) (found : Option Event) (cursors : List Cursor) (stage : ℕ × Stage) → stage_of t ≡ Some stage → IsSomeAnd found (λ e. TellsTurn old t e result new) → AreCounted old cursors → AreCounted new cursors

@@ -44,7 +44,7 @@ IsUpTo place cursor = IfSome cursor (λ c. place ≤ c.done)
 
 -- where the actor had come to with a turn of its own its cursor has come too: what it lacks are lines that had nothing left to do
 abbrev pub IsCountedAt : Ran → List Cursor → Actor → List Turn → Turn → Type 0
-IsCountedAt ran cursors actor before t = t ≡ turn.Own actor → IsUpTo (steps.place_of (record { script = ran.script; turns = before ++ t ∷ [] }) actor) (cursor_of cursors actor)
+IsCountedAt ran cursors actor before t = (aim : ℕ) → t ≡ turn.Own actor aim → IsUpTo (steps.place_of (record { script = ran.script; turns = before ++ t ∷ [] }) actor) (cursor_of cursors actor)
 
 abbrev pub AreCounted : Ran → List Cursor → Type 0
 AreCounted ran cursors = (actor : Actor) → AtEach (IsCountedAt ran cursors actor) ran.turns
@@ -58,12 +58,13 @@ pub record IsKeptPlay (ran : Ran) (cursors : List Cursor) : Type 0 where
 -- the cursor of the share's actor comes up to the actor's seat, and the share counts as much more
 pub record Counts (old new : Played) (mine now : Done) : Type 0 where
   pub actor : now.actor ≡ mine.actor
+  pub aim : now.aim ≡ mine.aim
   pub cursors : new.cursors ≡ caught_up mine.actor (steps.place_of new.ran mine.actor) old.cursors
   pub counted : now.amount + all_done old.cursors ≡ mine.amount + all_done new.cursors
 
 abbrev pub Advances : Played → Done → Advance → Played → Done → Type 0
 Advances old mine advance.NoMemory new now = (new ≡ old) × (now ≡ mine)
-Advances old mine answer new now = steps.Advances old.ran mine.actor answer new.ran × Counts old new mine now
+Advances old mine answer new now = steps.Advances old.ran mine.actor mine.aim answer new.ran × Counts old new mine now
 
 -- ---- a stage's step
 abbrev pub Serves : Played → ℕ → ℕ → Stage → ℕ → StageStep → Played → Type 0

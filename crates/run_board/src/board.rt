@@ -4,7 +4,7 @@ ghost use Rattle.history_book.specs.Isolation.{Isolated};
 ghost use Rattle.cause_rules.specs.Explained.{Explained};
 ghost use Rattle.cause_rules.specs.Strict.{SerialIfStrict};
 ghost use Rattle.session_script.specs.Script.{data_of};
-ghost use Rattle.line_steps.specs.Answers.{Answers};
+ghost use Rattle.line_steps.specs.Answers.{AnswersOnThreads};
 ghost use Rattle.line_steps.specs.Planned.{Planned};
 ghost use Rattle.turn_rules.specs.Told.{AreForThreads};
 ghost use Rattle.line_shares.specs.Done.{parts_for, fresh};
@@ -80,7 +80,7 @@ impl<L: Ledger> Board<L> {
         ensures result { IfOk result (λ r. IsResult (data_of self.script) r.0.history r.1.items) }
         ensures isolated { IfOk result (λ r. Isolated r.0.history × Explained (data_of self.script).setup r.0.history) }
         ensures serial { IfOk result (λ r. SerialIfStrict (data_of self.script).setup r.0.history) }
-        ensures answered { IfOk result (λ r. Answers (data_of self.script) r.0.history) }
+        ensures answered { IfOk result (λ r. AnswersOnThreads (data_of self.script) r.0.history) }
         ensures planned { IfOk result (λ r. Planned (data_of self.script) r.0.history) }
         ensures back { IfErr result (λ r. (data_of r.0.script ≡ data_of self.script) × (r.1.items ≡ shares.items)) }
     {

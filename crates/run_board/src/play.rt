@@ -4,7 +4,7 @@ ghost use Rattle.history_book.specs.Isolation.{Isolated};
 ghost use Rattle.cause_rules.specs.Explained.{Explained};
 ghost use Rattle.cause_rules.specs.Strict.{SerialIfStrict};
 ghost use Rattle.session_script.specs.Script.{data_of};
-ghost use Rattle.line_steps.specs.Answers.{Answers};
+ghost use Rattle.line_steps.specs.Answers.{AnswersOnThreads};
 ghost use Rattle.line_steps.specs.Planned.{Planned};
 ghost use Rattle.turn_rules.specs.Told.{AreForThreads};
 ghost use Rattle.turn_rules.specs.Carried.{carried_items};
@@ -90,15 +90,17 @@ impl<L: Ledger> Play<L> {
         self.run.history()
     }
 
-    /// Makes the next event of the present line of the share's actor, unless it waits or no line is left. The share counts the
-    /// lines that were passed since.
+    /// Makes the next event of the present line of the share's actor, unless it waits or no line is left: where the line names the
+    /// master, it asks the node at which the share is aimed, or the first where that node has not taken the record. The share counts
+    /// the lines that were passed since.
     pub fn advance(&mut self, mine: &mut ActorShare<L>) -> Advance
         ensures made { Advances self.old mine.old result self.new mine.new }
         ensures goes_on { GoesOn mine.old mine.new }
     {
         advances_go_further();
         let actor = mine.actor();
-        match self.run.advance(actor) {
+        let aim = mine.aimed();
+        match self.run.advance(actor, aim) {
             Advance::NoMemory => Advance::NoMemory,
             answer => {
                 let place = self.run.place(&actor) as u64;
@@ -156,7 +158,7 @@ impl<L: Ledger> Play<L> {
         ensures result { IfOk result (λ r. IsResult (data_of script.now) r.0.history r.1.items) }
         ensures isolated { IfOk result (λ r. Isolated r.0.history × Explained (data_of script.now).setup r.0.history) }
         ensures serial { IfOk result (λ r. SerialIfStrict (data_of script.now).setup r.0.history) }
-        ensures answered { IfOk result (λ r. Answers (data_of script.now) r.0.history) }
+        ensures answered { IfOk result (λ r. AnswersOnThreads (data_of script.now) r.0.history) }
         ensures planned { IfOk result (λ r. Planned (data_of script.now) r.0.history) }
         ensures counted { IfOk result (λ r. sum_by (λ s. s.amount) shares.items ≡ all_done self.cursors) }
         ensures back { IfErr result (λ r. (r.0 ≡ self) × (r.1.items ≡ shares.items)) }
@@ -182,7 +184,7 @@ impl<L: Ledger> Play<L> {
         ensures result { IsResult self.ran.script result.0.history result.1.items }
         ensures isolated { Isolated result.0.history × Explained self.ran.script.setup result.0.history }
         ensures serial { SerialIfStrict self.ran.script.setup result.0.history }
-        ensures answered { Answers self.ran.script result.0.history }
+        ensures answered { AnswersOnThreads self.ran.script result.0.history }
         ensures planned { Planned self.ran.script result.0.history }
         ensures counted { sum_by (λ s. s.amount) shares.items ≡ all_done self.cursors }
     {

@@ -5,7 +5,7 @@ use Rattle.history_book.specs.Isolation.{Isolated}
 use Rattle.cause_rules.specs.Explained.{Explained}
 use Rattle.cause_rules.specs.Strict.{SerialIfStrict}
 use Rattle.script_data.specs.Data.{ScriptData}
-use Rattle.line_steps.specs.Answers.{Answers}
+use Rattle.line_steps.specs.Answers.{AnswersOnThreads}
 use Rattle.line_steps.specs.Planned.{Planned}
 use Rattle.turn_rules.specs.declared.turn.Turn.{Turn}
 use Rattle.run_board.specs.Playing.{IsResult}
@@ -18,5 +18,5 @@ pub record RunsTo (script : ScriptData) (history : List Item) (turns : List Turn
   pub isolated : Isolated history
   pub explained : Explained script.setup history
   pub serial : SerialIfStrict script.setup history
-  pub answers : Answers script history
+  pub answers : AnswersOnThreads script history
   pub planned : Planned script history

@@ -4,7 +4,7 @@ ghost use Rattle.session_script.specs.Script.{data_of};
 ghost use Rattle.run_driver.specs.Runs.{RunsTo};
 
 use cluster_core::Cluster;
-use history_book::Cause;
+use history_book::{Actor, Cause};
 use line_shares::ActorShare;
 use run_board::{Advance, Board};
 use stamp_base::{NoMemory, NodeNo, SessionNo, Setup, Stage};
@@ -57,7 +57,7 @@ fn make_rest<L: Ledger, R: Wait>(
 ) -> Result<bool, NoMemory> {
     let mut made = false;
     for share in shares.iter_mut() {
-        made |= make_own(rt, board, share)?;
+        made |= make_own(rt, setup, board, share)?;
     }
     for number in 0..setup.nodes {
         if let Some(node) = NodeNo::new(number) {
@@ -69,11 +69,15 @@ fn make_rest<L: Ledger, R: Wait>(
 
 fn make_own<L: Ledger, R: Wait>(
     rt: &R,
+    setup: &Setup,
     board: &Board<L>,
     share: &mut ActorShare<L>,
 ) -> Result<bool, NoMemory> {
     let mut made = false;
     for _ in rt.forever() {
+        if let Actor::Session(_) = share.actor() {
+            aim_at_master(rt, setup, board, share);
+        }
         match board.advance(rt, share) {
             Advance::Did { .. } => made = true,
             Advance::Waits(_) | Advance::Ended => return Ok(made),
@@ -81,6 +85,25 @@ fn make_own<L: Ledger, R: Wait>(
         }
     }
     unreachable!()
+}
+
+// The node whose oracle has the greatest term. Where there is none the share stays aimed as it was.
+fn aim_at_master<L: Ledger, R: Wait>(
+    rt: &R,
+    setup: &Setup,
+    board: &Board<L>,
+    share: &mut ActorShare<L>,
+) {
+    let mut greatest = 0;
+    for number in 0..setup.nodes {
+        if let Some(node) = NodeNo::new(number) {
+            let term = board.term_of(rt, node).map_or(0, |term| term.value());
+            if term > greatest {
+                greatest = term;
+                share.aim(node);
+            }
+        }
+    }
 }
 
 // A step of each stage of the node for each session.

@@ -18,6 +18,7 @@ actor_needs actors.Janitor = 0
 
 abbrev pub target_needs : Target → ℕ
 target_needs (targets.Node node) = node + 1
+target_needs targets.Master = 0
 
 -- how many nodes there must be for the node that the verb names to be one of them
 abbrev pub verb_needs : Verb → ℕ

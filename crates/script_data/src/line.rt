@@ -1,10 +1,11 @@
 use history_book::Actor;
 use stamp_base::{KeyNo, Name, NodeNo, SessionNo, Stage, TxnId, Value};
 
-/// Where a begin or a commit is sent.
+/// Where a begin or a commit is sent: to a node, or to the master, which whoever carries the line out finds.
 #[derive(Clone, Copy, Debug, PartialEq, Eq)]
 pub enum Target {
     Node(NodeNo),
+    Master,
 }
 
 /// What an actor's line asks for.

@@ -1,11 +1,13 @@
 -- What the words of a line name: numbers, keys, sessions, nodes, actors, values.
-use Rattle.std.specs.Prelude.{ℕ, ◌+◌, ◌-◌, ◌*◌, ◌==◌, nat_lt, nat_le, Bool, false, ◌&&◌, ◌||◌, not, if◌then◌else◌, List, [], ◌∷◌, Option, None, Some, length, codes}
+use Rattle.std.specs.Prelude.{ℕ, ◌+◌, ◌-◌, ◌*◌, ◌==◌, nat_lt, nat_le, Bool, false, ◌&&◌, ◌||◌, not, if◌then◌else◌, List, [], ◌∷◌, Option, None, Some, option_map, length, codes}
 use Rattle.std.specs.List.{list_all}
 use Rattle.std.specs.Str.{bytes_eq}
 use Rattle.stamp_base.specs.declared.numbers.TheConstants.KeyNo as keys
 use Rattle.stamp_base.specs.declared.numbers.TheConstants.SessionNo as sessions
 use Rattle.history_book.specs.declared.item.Actor.{Actor}
 use Rattle.history_book.specs.declared.item.Actor.TheVariants.{Clock, Node, Session, Janitor}
+use Rattle.script_data.specs.declared.line.Target.{Target}
+use Rattle.script_data.specs.declared.line.Target.TheVariants as targets
 
 abbrev pub is_digit : ℕ → Bool
 is_digit b = nat_le 48 b && nat_le b 57
@@ -46,6 +48,10 @@ abbrev pub node_of : ℕ → List ℕ → Option ℕ
 node_of nodes [] = None
 node_of nodes (b ∷ []) = if nat_le 97 b && nat_lt b (97 + nodes) then Some (b - 97) else None
 node_of nodes (b ∷ c ∷ bs) = None
+
+-- `master`, or a node
+abbrev pub target_of : ℕ → List ℕ → Option Target
+target_of nodes word = if bytes_eq word (codes "master") then Some targets.Master else option_map (λ node. targets.Node node) (node_of nodes word)
 
 -- 1 to 64 bytes that can be seen
 abbrev pub value_of : List ℕ → Option (List ℕ)

@@ -7,9 +7,10 @@ use Rattle.stamp_base.specs.declared.setup_number.SetupNumber.{SetupNumber}
 use Rattle.stamp_base.specs.declared.stage.Stage.{Stage}
 use Rattle.stamp_base.specs.declared.stores.Store.{Store}
 use Rattle.port_io.specs.declared.weather.Fate.{Fate}
+use Rattle.script_data.specs.declared.line.Target.{Target}
 use Rattle.script_lines.specs.declared.cause.ScriptCause.{ScriptCause}
 use Rattle.script_lines.specs.declared.cause.ScriptCause.TheVariants.{BadNumber, OutOfRange, UnknownNode, BadSession, BadKey, BadValue, UnknownStage, UnknownStore, UnknownKind, BadName}
-use Rattle.script_lines.specs.Arguments.{number_of, node_of, session_of, key_of, value_of, name_of}
+use Rattle.script_lines.specs.Arguments.{number_of, node_of, target_of, session_of, key_of, value_of, name_of}
 use Rattle.script_lines.specs.Grammar.{named, stages, stores, kinds, flag_word}
 use Rattle.script_lines.specs.Results.{or_cause}
 
@@ -35,6 +36,10 @@ start_at word = number_at 1 (2 ^ 62) word
 
 unfoldable pub node_at : ℕ → List ℕ → Result ℕ ScriptCause
 node_at nodes word = or_cause UnknownNode (node_of nodes word)
+
+-- where a line is sent
+unfoldable pub target_at : ℕ → List ℕ → Result Target ScriptCause
+target_at nodes word = or_cause UnknownNode (target_of nodes word)
 
 unfoldable pub session_at : List ℕ → Result ℕ ScriptCause
 session_at word = or_cause BadSession (session_of word)

@@ -5,12 +5,11 @@ use Rattle.script_lines.specs.declared.form.VerbForm.{VerbForm}
 use Rattle.script_lines.specs.declared.form.VerbForm.TheVariants.{Tick, Take, Renew, Crash, Extend, Hold, Free, Accept, Decide, Put, Answer, Begin, Commit, Submit, AskBegin, AskCommit, Write, Read, Fetch, Collect, Abort, Heal, Vanish, Step, Finish, Sweep, OpenSweep, SweepStep, SweepFinish, Post, Await}
 use Rattle.script_lines.specs.declared.mode.Mode.{Mode}
 use Rattle.script_lines.specs.declared.mode.Mode.TheVariants.{Replay, Run}
-use Rattle.script_data.specs.declared.line.Target.TheVariants as targets
 use Rattle.script_data.specs.declared.line.Verb.{Verb}
 use Rattle.script_data.specs.declared.line.Verb.TheVariants as verbs
 use Rattle.script_lines.specs.declared.cause.ScriptCause.{ScriptCause}
 use Rattle.script_lines.specs.declared.cause.ScriptCause.TheVariants.{UnknownVerb, WrongNumberOfWords, ReplayOnly}
-use Rattle.script_lines.specs.Checked.{number_at, start_at, node_at, session_at, key_at, value_at, stage_at, name_at}
+use Rattle.script_lines.specs.Checked.{number_at, start_at, node_at, target_at, session_at, key_at, value_at, stage_at, name_at}
 use Rattle.script_lines.specs.Grammar.{named, verb_forms, verb_words, is_replay_only}
 use Rattle.script_lines.specs.Results.{◌>>=◌}
 use Rattle.script_lines.specs.Words.{LineWords}
@@ -46,9 +45,9 @@ verb_of nodes Accept words = session_at words.third >>= (λ session. Ok (verbs.A
 verb_of nodes Decide words = session_at words.third >>= (λ session. Ok (verbs.Decide session))
 verb_of nodes Put words = session_at words.third >>= (λ session. Ok (verbs.Put session))
 verb_of nodes Answer words = session_at words.third >>= (λ session. Ok (verbs.Answer session))
-verb_of nodes Begin words = node_at nodes words.third >>= (λ node. Ok (verbs.Begin (targets.Node node)))
-verb_of nodes Commit words = node_at nodes words.third >>= (λ node. Ok (verbs.Commit (targets.Node node)))
-verb_of nodes Submit words = node_at nodes words.third >>= (λ node. Ok (verbs.Submit (targets.Node node)))
+verb_of nodes Begin words = target_at nodes words.third >>= (λ target. Ok (verbs.Begin target))
+verb_of nodes Commit words = target_at nodes words.third >>= (λ target. Ok (verbs.Commit target))
+verb_of nodes Submit words = target_at nodes words.third >>= (λ target. Ok (verbs.Submit target))
 verb_of nodes AskBegin words = node_at nodes words.third >>= (λ node. Ok (verbs.AskBegin node))
 verb_of nodes AskCommit words = node_at nodes words.third >>= (λ node. Ok (verbs.AskCommit node))
 verb_of nodes Write words = key_at words.third >>= (λ key. value_at words.fourth >>= (λ value. Ok (verbs.Write key value)))

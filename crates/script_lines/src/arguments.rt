@@ -1,10 +1,11 @@
 // What the words of a line name.
 ghost use Rattle.std.specs.Prelude.{◌≡◌, ◌<◌, ◌≤◌, length, IfSome};
-ghost use Rattle.script_lines.specs.Arguments.{is_digit, leads_well, spelled_from, number_of, number_behind, session_of, key_of, node_of, value_of, name_of, actor_of};
-ghost use Rattle.script_data.specs.Sound.{actor_needs};
+ghost use Rattle.script_lines.specs.Arguments.{is_digit, leads_well, spelled_from, number_of, number_behind, session_of, key_of, node_of, target_of, value_of, name_of, actor_of};
+ghost use Rattle.script_data.specs.Sound.{actor_needs, target_needs};
 
 use crate::tables::is_same;
 use history_book::Actor;
+use script_data::Target;
 use stamp_base::{KeyNo, Name, NodeNo, SessionNo, Setup, Value};
 
 /// The actor that begins a line.
@@ -37,6 +38,20 @@ pub fn node_of(setup: &Setup, word: &[u8]) -> Option<NodeNo>
             NodeNo::new((*letter - b'a') as u64)
         }
         _ => None,
+    }
+}
+
+/// Where a line is sent: `master`, or a node of the setup.
+pub fn target_of(setup: &Setup, word: &[u8]) -> Option<Target>
+    ensures target { result ≡ target_of setup.now.nodes word.now }
+    ensures there { IfSome result (λ target. target_needs target ≤ setup.now.nodes) }
+{
+    if is_same(word, b"master") {
+        return Some(Target::Master);
+    }
+    match node_of(setup, word) {
+        Some(node) => Some(Target::Node(node)),
+        None => None,
     }
 }
 

@@ -1,13 +1,15 @@
 // The arguments of a line, each with the cause where it is wrong.
-ghost use Rattle.std.specs.Prelude.{◌≡◌, ◌<◌, IfOk};
+ghost use Rattle.std.specs.Prelude.{◌≡◌, ◌<◌, ◌≤◌, IfOk};
 ghost use Rattle.stamp_base.specs.Ranges.{IsWithin};
 ghost use Rattle.stamp_base.specs.SetupNumbers.{MayBe};
-ghost use Rattle.script_lines.specs.Checked.{number_at, number_within, setup_number_at, flag_at, start_at, node_at, session_at, key_at, value_at, stage_at, store_at, kind_at, name_at};
+ghost use Rattle.script_data.specs.Sound.{target_needs};
+ghost use Rattle.script_lines.specs.Checked.{number_at, number_within, setup_number_at, flag_at, start_at, node_at, target_at, session_at, key_at, value_at, stage_at, store_at, kind_at, name_at};
 
-use crate::arguments::{key_of, name_of, node_of, number_of, session_of, value_of};
+use crate::arguments::{key_of, name_of, node_of, number_of, session_of, target_of, value_of};
 use crate::cause::ScriptCause;
 use crate::tables::{kind_of, stage_of, store_of, turns_on};
 use port_io::Fate;
+use script_data::Target;
 use stamp_base::{
     KeyNo, Name, NodeNo, SessionNo, Setup, SetupFlag, SetupNumber, Stage, Stamp, Store, TxnId,
     Value,
@@ -73,6 +75,15 @@ pub fn node_at(setup: &Setup, word: &[u8]) -> Result<NodeNo, ScriptCause>
     ensures there { IfOk result (λ node. node < setup.now.nodes) }
 {
     node_of(setup, word).ok_or(ScriptCause::UnknownNode)
+}
+
+/// Where a line is sent.
+#[tactic(auto, unfolding(crate::specs::Checked::target_at))]
+pub fn target_at(setup: &Setup, word: &[u8]) -> Result<Target, ScriptCause>
+    ensures target { result ≡ target_at setup.now.nodes word.now }
+    ensures there { IfOk result (λ target. target_needs target ≤ setup.now.nodes) }
+{
+    target_of(setup, word).ok_or(ScriptCause::UnknownNode)
 }
 
 #[tactic(auto, unfolding(crate::specs::Checked::session_at))]

@@ -6,14 +6,14 @@ ghost use Rattle.script_lines.specs.Words.{seen};
 
 use crate::cause::ScriptCause;
 use crate::checked::{
-    key_at, name_at, node_at, number_at, session_at, stage_at, start_at, value_at,
+    key_at, name_at, node_at, number_at, session_at, stage_at, start_at, target_at, value_at,
 };
 use crate::form::VerbForm;
 use crate::mode::Mode;
 use crate::tables::verb_form;
 use crate::words::Words;
 use history_book::Actor;
-use script_data::{Target, Verb};
+use script_data::Verb;
 use stamp_base::Setup;
 
 /// What a line of the actor asks for.
@@ -92,13 +92,13 @@ fn verb_of(setup: &Setup, form: VerbForm, words: &Words) -> Result<Verb, ScriptC
             session: session_at(third)?,
         }),
         VerbForm::Begin => Ok(Verb::Begin {
-            target: Target::Node(node_at(setup, third)?),
+            target: target_at(setup, third)?,
         }),
         VerbForm::Commit => Ok(Verb::Commit {
-            target: Target::Node(node_at(setup, third)?),
+            target: target_at(setup, third)?,
         }),
         VerbForm::Submit => Ok(Verb::Submit {
-            target: Target::Node(node_at(setup, third)?),
+            target: target_at(setup, third)?,
         }),
         VerbForm::AskBegin => Ok(Verb::AskBegin {
             node: node_at(setup, third)?,

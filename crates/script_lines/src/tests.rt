@@ -1,12 +1,12 @@
 use super::*;
 use history_book::Actor;
 use port_io::Fate;
-use script_data::Verb;
+use script_data::{Target, Verb};
 use stamp_base::{KeyNo, NodeNo, SessionNo, Setup, Store, Value};
 use std::test::Fail;
 
 /// A line, and the cause why a replay takes none like it.
-static BAD: [(&str, &str); 55] = [
+static BAD: [(&str, &str); 57] = [
     // Its words.
     ("s16 begin a", "unknown actor"),
     ("s00 begin a", "unknown actor"),
@@ -44,8 +44,10 @@ static BAD: [(&str, &str); 55] = [
     ("janitor sweep c 0", "unknown node"),
     ("s1 begin c", "unknown node"),
     ("s1 begin ab", "unknown node"),
-    ("s1 begin master", "unknown node"),
-    ("s1 commit master", "unknown node"),
+    ("s1 begin masters", "unknown node"),
+    ("s1 ask-begin master", "unknown node"),
+    ("s1 ask-commit master", "unknown node"),
+    ("janitor sweep master 1", "unknown node"),
     ("s1 submit 0", "unknown node"),
     ("s1 ask-commit A", "unknown node"),
     ("a accept s16", "bad session"),
@@ -147,6 +149,29 @@ fn reads_a_line_of_each_actor() -> Result<(), Fail> {
         Verb::Write { key, value },
     )?;
     says("janitor step", Actor::Janitor, Verb::Step)
+}
+
+/// The line asks for the verb in both modes.
+fn sends(text: &str, verb: Verb) -> Result<(), Fail> {
+    let session = SessionNo::new(3).ok_or("session")?;
+    for mode in [Mode::Replay, Mode::Run] {
+        match said(mode, text) {
+            Ok((given, asked)) if given == Actor::Session(session) && asked == verb => {}
+            _ => return Err(Fail::from(text)),
+        }
+    }
+    Ok(())
+}
+
+#[test]
+fn reads_where_a_line_is_sent() -> Result<(), Fail> {
+    let node = NodeNo::new(1).ok_or("node")?;
+    let target = Target::Master;
+    sends("s3 begin master", Verb::Begin { target })?;
+    sends("s3 commit master", Verb::Commit { target })?;
+    sends("s3 submit master", Verb::Submit { target })?;
+    let target = Target::Node(node);
+    sends("s3 submit b", Verb::Submit { target })
 }
 
 #[test]

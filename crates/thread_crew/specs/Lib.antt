@@ -1,4 +1,5 @@
 pub mod Asking
 pub mod Lines
 pub mod Sending
+pub mod Sights
 pub mod Waking

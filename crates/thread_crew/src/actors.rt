@@ -1,17 +1,20 @@
 // What the thread of an actor does.
 ghost use Rattle.std.specs.Prelude.{◌≡◌, ◌+◌, drop, length};
 ghost use Rattle.reply_pipeline.specs.Seats.{IsSenderPass};
-ghost use Rattle.thread_steps.specs.Going.{GoesOn};
 ghost use Rattle.thread_crew.specs.Asking.{Follows, Offers};
 ghost use Rattle.thread_crew.specs.Lines.{own_left, AreLeft};
+ghost use Rattle.thread_crew.specs.Sending.{ComesBack};
+ghost use Rattle.thread_crew.specs.Sights.{IsSightOf};
 
 use crate::asking::{Unsent, asked_ticket, node_asked, offer, offer_again};
 use crate::lines::LinesLeft;
+use crate::masters::{look, tell_taken};
 use crate::quiet::{Quiet, wait_quietly};
 use crate::shared::Shared;
 use crate::waking::wake_for;
 use history_book::Actor;
 use line_shares::ActorShare;
+use master_beacon::BeaconPass;
 use reply_pipeline::Gate;
 use stage_queues::StagePass;
 use std::sync::Wait;
@@ -24,13 +27,16 @@ pub fn act<L: Ledger, R: Wait, B: Steps + ActorSteps<L> + Sync, G: Gate>(
     shared: &Shared<'_, B, G>,
     mine: ActorShare<L>,
     pass: StagePass,
+    sight: BeaconPass,
 ) -> ActorShare<L>
     requires pass { IsSenderPass shared.now.queues.now pass }
+    requires sight { IsSightOf shared.now.beacon.now sight }
     requires nodes { length shared.now.queues.now.nodes ≡ shared.now.setup.nodes }
-    ensures { GoesOn mine result }
+    ensures { ComesBack mine result }
 {
     let mut mine = mine;
     let mut pass = pass;
+    let mut sight = sight;
     let mut left = LinesLeft::after(mine.actor(), shared.lines, mine.done());
     let mut unsent = None;
     let mut quiet = Quiet::none();
@@ -41,6 +47,7 @@ pub fn act<L: Ledger, R: Wait, B: Steps + ActorSteps<L> + Sync, G: Gate>(
             &mut left,
             &mut mine,
             &mut pass,
+            &mut sight,
             &mut unsent,
             &mut quiet,
         ) {
@@ -57,24 +64,45 @@ fn turn<L: Ledger, R: Wait, B: Steps + ActorSteps<L> + Sync, G: Gate>(
     left: &mut LinesLeft<'_>,
     mine: &mut ActorShare<L>,
     pass: &mut StagePass,
+    sight: &mut BeaconPass,
     unsent: &mut Option<Unsent>,
     quiet: &mut Quiet,
 ) -> bool
     requires pass { IsSenderPass shared.now.queues.now pass.old }
     requires nodes { length shared.now.queues.now.nodes ≡ shared.now.setup.nodes }
+    requires sight { IsSightOf shared.now.beacon.now sight.old }
     requires left { AreLeft shared.now.lines.now mine.old left.old }
-    ensures share { GoesOn mine.old mine.new }
+    ensures share { ComesBack mine.old mine.new }
     ensures pass { IsSenderPass shared.now.queues.now pass.new }
+    ensures sight { IsSightOf shared.now.beacon.now sight.new }
     ensures left { AreLeft shared.now.lines.now mine.new left.new }
 {
     let before = mine.done();
-    let step = shared.board.actor_step(rt, mine);
-    wake_others(shared, left, mine.done() - before);
+    let step = step(rt, shared, mine, sight);
+    tell_others(rt, shared, left, mine.done() - before);
     follow(rt, shared, left, step, pass, unsent, quiet)
 }
 
-// Wakes those that wait for what the next lines of the actor do, which are done now.
-fn wake_others<B: Steps + Sync, G: Gate>(
+// One step, for which a session looks who is master.
+fn step<L: Ledger, R: Wait, B: Steps + ActorSteps<L> + Sync, G: Gate>(
+    rt: &R,
+    shared: &Shared<'_, B, G>,
+    mine: &mut ActorShare<L>,
+    sight: &mut BeaconPass,
+) -> ActorStep
+    requires { IsSightOf shared.now.beacon.now sight.old }
+    ensures share { ComesBack mine.old mine.new }
+    ensures sight { IsSightOf shared.now.beacon.now sight.new }
+{
+    if let Actor::Session(_) = mine.actor() {
+        look(rt, shared.beacon, mine, sight);
+    }
+    shared.board.actor_step(rt, mine)
+}
+
+// Tells who is master now, and wakes those that wait for what the next lines of the actor do, which are done now.
+fn tell_others<R: Wait, B: Steps + Sync, G: Gate>(
+    rt: &R,
     shared: &Shared<'_, B, G>,
     left: &mut LinesLeft<'_>,
     more: u64,
@@ -84,6 +112,7 @@ fn wake_others<B: Steps + Sync, G: Gate>(
 {
     for _line in 0..more {
         if let Some(verb) = left.next() {
+            tell_taken(rt, shared, left.actor, &verb);
             wake_for(shared.queues, &shared.setup, left.actor, &verb);
         }
     }

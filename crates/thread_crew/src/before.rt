@@ -3,6 +3,7 @@ ghost use Rattle.thread_crew.specs.Sending.{done_of};
 
 use history_book::Actor;
 use line_shares::ActorShare;
+use stamp_base::NodeNo;
 use std::sync::ledger::Ledger;
 
 /// A share as it was before its actor's thread began.
@@ -10,6 +11,7 @@ use std::sync::ledger::Ledger;
 pub struct Before {
     pub actor: Actor,
     pub done: u64,
+    pub aim: NodeNo,
 }
 
 impl Before {
@@ -20,6 +22,7 @@ impl Before {
         Before {
             actor: mine.actor(),
             done: mine.done(),
+            aim: mine.aimed(),
         }
     }
 }

@@ -7,6 +7,7 @@ mod asking;
 mod before;
 mod crew;
 mod lines;
+mod masters;
 mod playing;
 mod quiet;
 mod sending;

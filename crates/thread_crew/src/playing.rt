@@ -2,21 +2,24 @@ ghost use Rattle.std.specs.Prelude.{◌≡◌, ◌≤◌, ◌<◌, ◌^◌, All,
 ghost use Rattle.std.specs.List.{AllZip};
 ghost use Rattle.std.specs.Vec.{vec_capacity};
 ghost use Rattle.reply_pipeline.specs.Seats.{AreReady, IsSenderPass};
-ghost use Rattle.thread_steps.specs.Going.{GoesOn};
+ghost use Rattle.thread_crew.specs.Sending.{ComesBack};
+ghost use Rattle.thread_crew.specs.Sights.{IsSightOf};
 
 use crate::crew::Crew;
+use crate::masters::open_sights;
 use crate::sending::{join_all, send_all};
 use crate::shared::Shared;
 use crate::stages::start_stages;
 use line_shares::ActorShare;
+use master_beacon::{Beacon, BeaconPass, Desk};
 use reply_pipeline::Gate;
 use script_data::Line;
 use stage_queues::StagePass;
 use stamp_base::{NoMemory, Setup};
 use std::alloc::Global;
-use std::sync::Wait;
 use std::sync::atomic::{AtomicBool, Ordering};
 use std::sync::ledger::Ledger;
+use std::sync::{Mutex, Wait};
 use std::thread;
 use std::thread::Threads;
 use thread_steps::{ActorSteps, Steps};
@@ -38,22 +41,26 @@ pub fn play<
     shares: Vec<ActorShare<L>>,
     gate: &G,
 ) -> Result<Vec<ActorShare<L>>, NoMemory>
-    ensures { IfOk result (λ back. AllZip GoesOn shares.items back.items) }
+    ensures { IfOk result (λ back. AllZip ComesBack shares.items back.items) }
 {
     let Crew {
         queues,
         mut stages,
         senders,
     } = Crew::open(alloc, setup, shares.len())?;
+    let (beacon, mut publisher) = Beacon::open(alloc)?;
+    let sights = open_sights(rt, alloc, &beacon, &mut publisher, shares.len())?;
     let shared = Shared {
         setup: *setup,
         lines,
         board,
         queues: &queues,
         gate,
+        beacon: &beacon,
+        desk: Mutex::new(Desk::new(&beacon, publisher)),
         short: AtomicBool::new(false),
     };
-    let back = run_all(rt, alloc, &shared, &mut stages, shares, senders)?;
+    let back = run_all(rt, alloc, &shared, &mut stages, shares, senders, sights)?;
     if shared.short.load(Ordering::SeqCst) {
         return Err(NoMemory);
     }
@@ -73,13 +80,16 @@ fn run_all<
     stages: &mut [StagePass],
     shares: Vec<ActorShare<L>>,
     senders: Vec<StagePass>,
+    sights: Vec<BeaconPass>,
 ) -> Result<Vec<ActorShare<L>>, NoMemory>
     requires stages { AreReady shared.now.queues.now shared.now.setup.workers stages.old }
     requires senders { All (IsSenderPass shared.now.queues.now) senders.items }
     requires paired { vec_len senders ≡ vec_len shares }
+    requires sights { All (IsSightOf shared.now.beacon.now) sights.items }
+    requires looked { vec_len sights ≡ vec_len shares }
     requires nodes { length shared.now.queues.now.nodes ≡ shared.now.setup.nodes }
     requires buffers { shared.now.queues.now.buffers < 2 ^ 32 }
-    ensures { IfOk result (λ back. AllZip GoesOn shares.items back.items) }
+    ensures { IfOk result (λ back. AllZip ComesBack shares.items back.items) }
 {
     let sent = Vec::with_capacity(alloc, shares.len())?;
     let back = Vec::with_capacity(alloc, shares.len())?;
@@ -88,12 +98,12 @@ fn run_all<
         rt,
         move |scope| -> Vec<ActorShare<L>>
             requires { AreReady shared.now.queues.now shared.now.setup.workers stages.now × All (IsSenderPass shared.now.queues.now) senders.items
-                × (vec_len senders ≡ vec_len shares) × (length shared.now.queues.now.nodes ≡ shared.now.setup.nodes) × (shared.now.queues.now.buffers < 2 ^ 32)
+                × (vec_len senders ≡ vec_len shares) × All (IsSightOf shared.now.beacon.now) sights.items × (vec_len sights ≡ vec_len shares) × (length shared.now.queues.now.nodes ≡ shared.now.setup.nodes) × (shared.now.queues.now.buffers < 2 ^ 32)
                 × (vec_len sent ≡ 0) × (vec_len shares ≤ vec_capacity sent) × (vec_len back ≡ 0) × (vec_len shares ≤ vec_capacity back) }
-            ensures { AllZip GoesOn shares.items result.items }
+            ensures { AllZip ComesBack shares.items result.items }
         {
             start_stages(scope, rt, alloc, shared, stages);
-            let sent = send_all(scope, rt, shared, shares, senders, sent);
+            let sent = send_all(scope, rt, shared, shares, senders, sights, sent);
             let back = join_all(rt, sent, back);
             shared.queues.close();
             back

@@ -3,13 +3,15 @@ ghost use Rattle.std.specs.Prelude.{◌≡◌, ◌≤◌, All, length, vec_len};
 ghost use Rattle.std.specs.List.{AllZip};
 ghost use Rattle.std.specs.Vec.{vec_capacity};
 ghost use Rattle.reply_pipeline.specs.Seats.{IsSenderPass};
-ghost use Rattle.thread_steps.specs.Going.{GoesOn};
+ghost use Rattle.thread_crew.specs.Sending.{ComesBack};
+ghost use Rattle.thread_crew.specs.Sights.{IsSightOf};
 
 use crate::actors::act;
 use crate::before::Before;
 use crate::sent::Sent;
 use crate::shared::Shared;
 use line_shares::ActorShare;
+use master_beacon::BeaconPass;
 use reply_pipeline::Gate;
 use stage_queues::StagePass;
 use std::sync::Wait;
@@ -20,6 +22,7 @@ use thread_steps::{ActorSteps, Steps};
 /// Starts the thread of each actor.
 pub fn send_all<
     's,
+    'a: 's,
     E: 's,
     L: Ledger + Send + Sync + 's,
     R: Threads + Wait + Sync + 's,
@@ -28,24 +31,30 @@ pub fn send_all<
 >(
     scope: &Scope<'s, E>,
     rt: &'s R,
-    shared: &'s Shared<'s, B, G>,
+    shared: &'s Shared<'a, B, G>,
     shares: Vec<ActorShare<L>>,
     senders: Vec<StagePass>,
+    sights: Vec<BeaconPass>,
     sent: Vec<Sent<L>>,
 ) -> Vec<Sent<L>>
     requires senders { All (IsSenderPass shared.now.queues.now) senders.items }
     requires paired { vec_len senders ≡ vec_len shares }
+    requires sights { All (IsSightOf shared.now.beacon.now) sights.items }
+    requires looked { vec_len sights ≡ vec_len shares }
     requires nodes { length shared.now.queues.now.nodes ≡ shared.now.setup.nodes }
     requires none { vec_len sent ≡ 0 }
     requires room { vec_len shares ≤ vec_capacity sent }
     ensures { result.items ≡ shares.items }
 {
     let mut senders = senders;
+    let mut sights = sights;
     let mut sent = sent;
     for mine in shares {
-        // There is a pass for each share.
+        // There are passes for each share.
         if let Some(pass) = senders.pop() {
-            sent.push_reserved(send(scope, rt, shared, mine, pass));
+            if let Some(sight) = sights.pop() {
+                sent.push_reserved(send(scope, rt, shared, mine, pass, sight));
+            }
         }
     }
     sent
@@ -55,6 +64,7 @@ pub fn send_all<
 // can without waiting.
 fn send<
     's,
+    'a: 's,
     E: 's,
     L: Ledger + Send + Sync + 's,
     R: Threads + Wait + Sync + 's,
@@ -63,11 +73,13 @@ fn send<
 >(
     scope: &Scope<'s, E>,
     rt: &'s R,
-    shared: &'s Shared<'s, B, G>,
+    shared: &'s Shared<'a, B, G>,
     mine: ActorShare<L>,
     pass: StagePass,
+    sight: BeaconPass,
 ) -> Sent<L>
     requires pass { IsSenderPass shared.now.queues.now pass }
+    requires sight { IsSightOf shared.now.beacon.now sight }
     requires nodes { length shared.now.queues.now.nodes ≡ shared.now.setup.nodes }
     ensures { result ≡ mine }
 {
@@ -75,9 +87,9 @@ fn send<
     let started = scope.spawn_with(
         Before::of(&mine),
         move || -> ActorShare<L>
-            requires { IsSenderPass shared.now.queues.now pass × (length shared.now.queues.now.nodes ≡ shared.now.setup.nodes) }
-            ensures { GoesOn mine result }
-        { act(rt, shared, mine, pass) },
+            requires { IsSenderPass shared.now.queues.now pass × IsSightOf shared.now.beacon.now sight × (length shared.now.queues.now.nodes ≡ shared.now.setup.nodes) }
+            ensures { ComesBack mine result }
+        { act(rt, shared, mine, pass, sight) },
     );
     match started {
         Ok(handle) => Sent::there(before, handle),
@@ -97,7 +109,7 @@ pub fn join_all<L: Ledger, R: Threads>(
 ) -> Vec<ActorShare<L>>
     requires none { vec_len back ≡ 0 }
     requires room { vec_len sent ≤ vec_capacity back }
-    ensures { AllZip GoesOn sent.items result.items }
+    ensures { AllZip ComesBack sent.items result.items }
 {
     let mut back = back;
     for one in sent {

@@ -1,6 +1,5 @@
 ghost use Rattle.std.specs.Prelude.{◌≡◌};
-ghost use Rattle.thread_steps.specs.Going.{GoesOn};
-ghost use Rattle.thread_crew.specs.Sending.{done_of};
+ghost use Rattle.thread_crew.specs.Sending.{ComesBack, done_of};
 
 use crate::before::Before;
 use line_shares::ActorShare;
@@ -10,10 +9,9 @@ use std::thread::{Promise, PromisedHandle, Threads};
 
 // An actor's thread gives back the share that it was given, with a count that did not fall.
 impl<L: Ledger> Promise<ActorShare<L>> for Before {
-    ghost use Rattle.thread_steps.specs.Going.{GoesOn};
-    ghost use Rattle.thread_crew.specs.Sending.{done_of};
+    ghost use Rattle.thread_crew.specs.Sending.{ComesBack, done_of};
 
-    ghost kept_by = { λ before mine. GoesOn (done_of before) mine };
+    ghost kept_by = { λ before mine. ComesBack (done_of before) mine };
 }
 
 /// A share that its actor's thread has, or that has come back at once since there was no thread. Contracts see the share as it was
@@ -27,14 +25,13 @@ pub struct Sent<L: Ledger> {
 impl<L: Ledger> Model for Sent<L> {
     ghost use Rattle.std.specs.Prelude.{◌≡◌, MatchResult};
     ghost use Rattle.line_shares.specs.Done.{Done};
-    ghost use Rattle.thread_steps.specs.Going.{GoesOn};
-    ghost use Rattle.thread_crew.specs.Sending.{done_of};
+    ghost use Rattle.thread_crew.specs.Sending.{ComesBack, done_of};
 
     ghost Value = { Done };
 
     ghost view = { λ s. done_of s.before };
 
-    ghost invariant = { λ s. MatchResult s.thread (λ handle. handle.promise ≡ s.before) (λ mine. GoesOn (done_of s.before) mine) };
+    ghost invariant = { λ s. MatchResult s.thread (λ handle. handle.promise ≡ s.before) (λ mine. ComesBack (done_of s.before) mine) };
 }
 
 impl<L: Ledger> Sent<L> {
@@ -51,7 +48,7 @@ impl<L: Ledger> Sent<L> {
 
     /// It has come back.
     pub fn here(before: Before, mine: ActorShare<L>) -> Sent<L>
-        requires { GoesOn (done_of before) mine }
+        requires { ComesBack (done_of before) mine }
         ensures { result ≡ done_of before }
     {
         Sent {
@@ -62,7 +59,7 @@ impl<L: Ledger> Sent<L> {
 
     /// The share, once the thread has ended.
     pub fn join<R: Threads>(self, rt: &R) -> ActorShare<L>
-        ensures { GoesOn self result }
+        ensures { ComesBack self result }
     {
         match self.thread {
             Ok(handle) => handle.join(rt),

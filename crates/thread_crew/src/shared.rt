@@ -1,7 +1,9 @@
+use master_beacon::{Beacon, Desk};
 use reply_pipeline::Gate;
 use script_data::Line;
 use stage_queues::Queues;
 use stamp_base::Setup;
+use std::sync::Mutex;
 use std::sync::atomic::{AtomicBool, Ordering};
 use thread_steps::Steps;
 
@@ -13,6 +15,9 @@ pub struct Shared<'a, B: Steps + Sync, G: Gate> {
     pub board: &'a B,
     pub queues: &'a Queues,
     pub gate: &'a G,
+    /// Sessions look at it, and nodes tell it through the desk.
+    pub beacon: &'a Beacon,
+    pub desk: Mutex<Desk<'a>>,
     /// Whether memory was refused.
     pub short: AtomicBool,
 }

@@ -12,11 +12,18 @@ use std::thread::{Scope, Threads};
 use thread_steps::Steps;
 
 /// Starts every stage of every node. Where no thread can be made the queues are closed, so that nobody waits for this stage for ever.
-pub fn start_stages<'s, E: 's, R: Threads + Wait + Sync + 's, B: Steps + Sync + 's, G: Gate + 's>(
+pub fn start_stages<
+    's,
+    'a: 's,
+    E: 's,
+    R: Threads + Wait + Sync + 's,
+    B: Steps + Sync + 's,
+    G: Gate + 's,
+>(
     scope: &Scope<'s, E>,
     rt: &'s R,
     alloc: Global,
-    shared: &'s Shared<'s, B, G>,
+    shared: &'s Shared<'a, B, G>,
     stages: &'s mut [StagePass],
 )
     requires stages { AreReady shared.now.queues.now shared.now.setup.workers stages.old }

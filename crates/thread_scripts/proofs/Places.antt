@@ -60,7 +60,7 @@ moved_by true line step seat = event_place line step seat
 moved_by false line step seat = refl
 
 moved_place : (script : ScriptData) (t : Turn) (step : Step) (seat : Seat) → (moved script t step seat).place ≡ seat.place
-moved_place script (turn.Own actor) step seat = moved_by (same_actor seat.actor actor) (present_line script seat) step seat
+moved_place script (turn.Own actor aim) step seat = moved_by (same_actor seat.actor actor) (present_line script seat) step seat
 moved_place script (turn.Accept node s) step seat = refl
 moved_place script (turn.Decide node s) step seat = refl
 moved_place script (turn.Put node s) step seat = refl

@@ -7,7 +7,7 @@ use Rattle.script_lines.specs.declared.cause.ScriptCause.TheVariants.{WrongNumbe
 use Rattle.script_lines.specs.declared.form.VerbForm.{VerbForm}
 use Rattle.script_lines.specs.declared.form.VerbForm.TheVariants.{Tick, Take, Renew, Crash, Extend, Hold, Free, Accept, Decide, Put, Answer, Begin, Commit, Submit, AskBegin, AskCommit, Write, Read, Fetch, Collect, Abort, Heal, Vanish, Step, Finish, Sweep, OpenSweep, SweepStep, SweepFinish, Post, Await}
 use Rattle.script_lines.specs.declared.mode.Mode.TheVariants.{Run}
-use Rattle.script_lines.specs.Checked.{number_at, start_at, node_at, key_at, value_at, stage_at, name_at}
+use Rattle.script_lines.specs.Checked.{number_at, start_at, node_at, target_at, key_at, value_at, stage_at, name_at}
 use Rattle.script_lines.specs.Grammar.{named, verb_forms, verb_words, is_replay_only}
 use Rattle.script_lines.specs.Results.{◌>>=◌}
 use Rattle.script_lines.specs.Verbs.{form_at, form_of, verb_of, verb_at}
@@ -40,9 +40,9 @@ verb_fits nodes Accept words only = absurd (cc)
 verb_fits nodes Decide words only = absurd (cc)
 verb_fits nodes Put words only = absurd (cc)
 verb_fits nodes Answer words only = absurd (cc)
-verb_fits nodes Begin words only = always (node_at nodes words.third) _ _ (λ node. tt)
-verb_fits nodes Commit words only = always (node_at nodes words.third) _ _ (λ node. tt)
-verb_fits nodes Submit words only = always (node_at nodes words.third) _ _ (λ node. tt)
+verb_fits nodes Begin words only = always (target_at nodes words.third) _ _ (λ target. tt)
+verb_fits nodes Commit words only = always (target_at nodes words.third) _ _ (λ target. tt)
+verb_fits nodes Submit words only = always (target_at nodes words.third) _ _ (λ target. tt)
 verb_fits nodes AskBegin words only = absurd (cc)
 verb_fits nodes AskCommit words only = absurd (cc)
 verb_fits nodes Write words only = always (key_at words.third) _ _ (λ key. always (value_at words.fourth) _ _ (λ value. tt))

@@ -2,7 +2,8 @@
 use Rattle.std.specs.Prelude.{◌≡◌, ◌≤◌}
 use Rattle.line_shares.specs.Done.{Done}
 
--- the share's count never falls, and its actor stays
+-- the share's count never falls, and its actor and its aim stay
 pub record GoesOn (mine now : Done) : Type 0 where
   pub actor : now.actor ≡ mine.actor
   pub amount : mine.amount ≤ now.amount
+  pub aim : now.aim ≡ mine.aim

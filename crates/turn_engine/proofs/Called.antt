@@ -10,11 +10,10 @@ use Rattle.machine.specs.State.{State}
 use Rattle.event_parts.specs.declared.stopped.Stopped.{Stopped}
 use Rattle.script_data.specs.Data.{ScriptData}
 use Rattle.line_steps.specs.declared.point.Halt.{Halt}
-use Rattle.line_steps.specs.Clocks.{clocks}
 use Rattle.line_steps.specs.Halts.{halt_of}
 use Rattle.line_steps.specs.Runs.{Played, played}
 use Rattle.cluster_core.specs.Whole.{Whole}
-use Rattle.planned_cluster.specs.Standing.{StandsAt, Reaches, PlaysOn}
+use Rattle.planned_cluster.specs.Standing.{StandsAt, Reaches, PlaysOn, clocks_at}
 use Rattle.turn_rules.specs.declared.seat.Holds.{Holds}
 use Rattle.turn_rules.specs.declared.turn.Turn.{Turn}
 use Rattle.turn_rules.specs.Seats.{was_asked}
@@ -79,11 +78,11 @@ may_pass r t e stop asked before items leads whole now clock after ahead later n
 
 -- ---- the turn was made
 pub is_made : (r : Ran) (t : Turn) (e : Event) (stop : Option Halt) (asked : Bool) (before : ℕ) (items : List Item) (leads : List ℕ) (whole now : Whole) (clock after : ℕ) (ahead later : Store → ℕ → Fate) (names : List (List ℕ)) (held : List Holds) (seated moved : List Seated) (lacking : List Bool) → IsMade r.script r.turns whole clock ahead names held seated lacking → CanTurn r t e → HasGone r e stop before now after later → items ≡ drop before now.history → asked ≡ was_asked items → leads ≡ r.script.leads → moved ≡ map (after_turn t stop asked) seated → is_told e items ≡ true →
-    IsMade r.script (r.turns ++ t ∷ []) now after later (names_after names e) (held_after held e) (map (after_passing (clocks after leads) now.state) moved) (lacking_after (cleared lacking) t stop)
+    IsMade r.script (r.turns ++ t ∷ []) now after later (names_after names e) (held_after held e) (map (after_passing (clocks_at now after leads) now.state) moved) (lacking_after (cleared lacking) t stop)
 is_made r t e stop asked before items leads whole now clock after ahead later names held seated moved lacking k can gone items_are was same is tells =
-    let made : IsMade r.script (r.turns ++ t ∷ []) now after later (names_after names e) (held_after held e) (map (after_passing (clocks after r.script.leads) now.state) (map (after_turn t stop (was_asked items)) seated)) (lacking_after (cleared lacking) t stop) = turn_made r.script r.turns t e stop items now after later names held seated lacking k.sits k.out can.event can.free can.in_place gone.stands gone.stopped (items_are ∙ gone.grown.since) tells in
+    let made : IsMade r.script (r.turns ++ t ∷ []) now after later (names_after names e) (held_after held e) (map (after_passing (clocks_at now after r.script.leads) now.state) (map (after_turn t stop (was_asked items)) seated)) (lacking_after (cleared lacking) t stop) = turn_made r.script r.turns t e stop items now after later names held seated lacking k.sits k.out can.event can.free can.in_place gone.stands gone.stopped (items_are ∙ gone.grown.since) tells in
     let moved_is : moved ≡ map (after_turn t stop (was_asked items)) seated = is ∙ ap (λ (b : Bool). map (after_turn t stop b) seated) was in
-    same_made r.script (r.turns ++ t ∷ []) (r.turns ++ t ∷ []) now after later (names_after names e) (names_after names e) (held_after held e) (held_after held e) _ (map (after_passing (clocks after leads) now.state) moved) (lacking_after (cleared lacking) t stop) (lacking_after (cleared lacking) t stop) made refl refl refl (ap (λ (ls : List ℕ). map (after_passing (clocks after ls) now.state) moved) same ∙ ap (λ (ss : List Seated). map (after_passing (clocks after r.script.leads) now.state) ss) moved_is) refl
+    same_made r.script (r.turns ++ t ∷ []) (r.turns ++ t ∷ []) now after later (names_after names e) (names_after names e) (held_after held e) (held_after held e) _ (map (after_passing (clocks_at now after leads) now.state) moved) (lacking_after (cleared lacking) t stop) (lacking_after (cleared lacking) t stop) made refl refl refl (ap (λ (ls : List ℕ). map (after_passing (clocks_at now after ls) now.state) moved) same ∙ ap (λ (ss : List Seated). map (after_passing (clocks_at now after r.script.leads) now.state) ss) moved_is) refl
 
 turns_on : (r old new : Ran) (t : Turn) (e : Event) (stop : Option Halt) (before : ℕ) (items : List Item) (now : Whole) (after : ℕ) (later : Store → ℕ → Fate) → r ≡ old → CanTurn r t e → HasGone r e stop before now after later → items ≡ drop before now.history → is_told e items ≡ true → new ≡ with_turn r t → TurnsBy old t e new
 turns_on r old new t e stop before items now after later same can gone items_are tells made = subst (λ (x : Ran). TurnsBy x t e new) same (inl (lawful r.script (reached_by r) t e items can.event can.free can.in_place (items_are ∙ gone.grown.since) tells, made))

@@ -26,7 +26,8 @@ use Rattle.turn_rules.specs.declared.seat.Seat.{Seat}
 use Rattle.turn_rules.specs.declared.turn.Turn.{Turn}
 use Rattle.turn_rules.specs.Waiting.{own_opens, own_next}
 use Rattle.turn_rules.specs.Seats.{lines_of, lines_left, present_line, with_next_line, ahead_of, is_passed, passed}
-use Rattle.turn_rules.specs.Carried.{Carried, name_posted, seat_of, event_of, ahead_at, ahead_in, own_ahead, seat_passed, all_passed, turned_by, turned, with_event, at_first, carried}
+use Rattle.turn_rules.specs.Carried.{Carried, aimed_clocks, name_posted, seat_of, event_of, ahead_at, ahead_in, own_ahead, seat_passed, all_passed, turned_by, turned, with_event, at_first, carried}
+use Rattle.turn_rules.proofs.AimsAlike.{Alike, ahead_alike, passed_alike}
 use Rattle.turn_rules.proofs.AllSeats.{has_seat}
 use Rattle.turn_rules.proofs.SeatLists.{find_true, drop_get, drop_next}
 use Rattle.turn_rules.proofs.SeatsOn.{passed_actor, passed_seat}
@@ -113,18 +114,21 @@ no_own_lines setup actor (line ∷ lines) fit none =
 abbrev HasEndedAt : ScriptData → Actor → Option Seat → Type 0
 HasEndedAt script actor found = slice_get (lines_of script actor) (place_in found) ≡ None
 
-line_ended : (script : ScriptData) (c : Carried) (seat : Seat) (line : Option Line) → IsThroughIn script c.played (Some seat) → present_line script seat ≡ line → ahead_at script c seat line ≡ Passes → line ≡ None
-line_ended script c seat None is present ahead = refl
-line_ended script c seat (Some line) is present ahead =
-    let passes : is_passed (ahead_of (clocks_of script c.played) true (view_of c.played.state seat.actor) line seat) ≡ true = ap is_passed (posted_next (clocks_of script c.played) (name_posted c.names line.verb) line.actor line.verb seat.point (view_of c.played.state seat.actor) seat.unawaited ahead) in
+line_ended : (script : ScriptData) (c : Carried) (aim : ℕ) (seat : Seat) (line : Option Line) → IsThroughIn script c.played (Some seat) → present_line script seat ≡ line → ahead_at script c seat line aim ≡ Passes → line ≡ None
+line_ended script c aim seat None is present ahead = refl
+line_ended script c aim seat (Some line) is present ahead =
+    let view : View = view_of c.played.state seat.actor in
+    let anyway : ahead_of (aimed_clocks script c aim) true view line seat ≡ Passes = posted_next (aimed_clocks script c aim) (name_posted c.names line.verb) line.actor line.verb seat.point view seat.unawaited ahead in
+    let alike : Alike (ahead_of (clocks_of script c.played) true view line seat) (ahead_of (aimed_clocks script c aim) true view line seat) = ahead_alike (clocks_of script c.played) (aimed_clocks script c aim) true line.actor line.verb seat.point view seat.unawaited in
+    let passes : is_passed (ahead_of (clocks_of script c.played) true view line seat) ≡ true = passed_alike _ _ alike ∙ ap is_passed anyway in
     absurd (true≢false (sym passes ∙ is line present))
 
-seat_ended : (script : ScriptData) (turns : List Turn) (actor : Actor) (found : Option Seat) → AreLinesOf script.setup script.lines → seat_of (carried script turns).seats actor ≡ found → IsThroughIn script (carried script turns).played found → ahead_in script (carried script turns) found ≡ Passes → HasEndedAt script actor found
-seat_ended script turns actor None fit is passes ahead =
+seat_ended : (script : ScriptData) (turns : List Turn) (actor : Actor) (aim : ℕ) (found : Option Seat) → AreLinesOf script.setup script.lines → seat_of (carried script turns).seats actor ≡ found → IsThroughIn script (carried script turns).played found → ahead_in script (carried script turns) found aim ≡ Passes → HasEndedAt script actor found
+seat_ended script turns actor aim None fit is passes ahead =
     ap (λ (lines : List Line). slice_get lines 0) (no_own_lines script.setup actor script.lines fit (λ fits. has_seat script actor turns fits is))
-seat_ended script turns actor (Some seat) fit is passes ahead =
+seat_ended script turns actor aim (Some seat) fit is passes ahead =
     let same : seat.actor ≡ actor = actor_same seat.actor actor (find_true (λ (x : Seat). same_actor x.actor actor) (carried script turns).seats seat is) in
-    ap (λ (a : Actor). slice_get (lines_of script a) seat.place) (sym same) ∙ line_ended script (carried script turns) seat (present_line script seat) passes refl ahead
+    ap (λ (a : Actor). slice_get (lines_of script a) seat.place) (sym same) ∙ line_ended script (carried script turns) aim seat (present_line script seat) passes refl ahead
 
-pub has_ended : (script : ScriptData) (turns : List Turn) (actor : Actor) → AreLinesOf script.setup script.lines → own_ahead script (carried script turns) actor ≡ Passes → slice_get (lines_of script actor) (place_in (seat_of (carried script turns).seats actor)) ≡ None
-has_ended script turns actor fit ahead = seat_ended script turns actor (seat_of (carried script turns).seats actor) fit refl (through_carried script turns actor) ahead
+pub has_ended : (script : ScriptData) (turns : List Turn) (actor : Actor) (aim : ℕ) → AreLinesOf script.setup script.lines → own_ahead script (carried script turns) actor aim ≡ Passes → slice_get (lines_of script actor) (place_in (seat_of (carried script turns).seats actor)) ≡ None
+has_ended script turns actor aim fit ahead = seat_ended script turns actor aim (seat_of (carried script turns).seats actor) fit refl (through_carried script turns actor) ahead

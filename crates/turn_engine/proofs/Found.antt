@@ -47,10 +47,10 @@ place_missing script c names held seated actor k is = ap place_in (sym (is_found
 pub line_present : (script : ScriptData) (s : Seated) → IsSeated script s → line_of s ≡ present_line script s.seat
 line_present script s k = ap (λ (ls : List Line). slice_get ls s.seat.place) k.lines
 
-pub ahead_found : (script : ScriptData) (c : Carried) (names : List (List ℕ)) (held : List Holds) (seated : List Seated) (actor : Actor) (s : Seated) (ahead : Ahead) → SitsAt script c names held seated → seated_of seated actor ≡ Some s → ahead ≡ ahead_at script c s.seat (line_of s) → ahead ≡ own_ahead script c actor
-ahead_found script c names held seated actor s ahead k is has =
+pub ahead_found : (script : ScriptData) (c : Carried) (names : List (List ℕ)) (held : List Holds) (seated : List Seated) (actor : Actor) (aim : ℕ) (s : Seated) (ahead : Ahead) → SitsAt script c names held seated → seated_of seated actor ≡ Some s → ahead ≡ ahead_at script c s.seat (line_of s) aim → ahead ≡ own_ahead script c actor aim
+ahead_found script c names held seated actor aim s ahead k is has =
     let f : IsFound script (Some s) (seat_of c.seats actor) = is_found script c names held seated actor (Some s) k is in
-    has ∙ ap (λ (line : Option Line). ahead_at script c s.seat line) (line_present script s f.1) ∙ ap (λ (o : Option Seat). ahead_in script c o) (sym f.0)
+    has ∙ ap (λ (line : Option Line). ahead_at script c s.seat line aim) (line_present script s f.1) ∙ ap (λ (o : Option Seat). ahead_in script c o aim) (sym f.0)
 
-pub ahead_missing : (script : ScriptData) (c : Carried) (names : List (List ℕ)) (held : List Holds) (seated : List Seated) (actor : Actor) → SitsAt script c names held seated → seated_of seated actor ≡ None → Passes ≡ own_ahead script c actor
-ahead_missing script c names held seated actor k is = ap (λ (o : Option Seat). ahead_in script c o) (sym (is_found script c names held seated actor None k is))
+pub ahead_missing : (script : ScriptData) (c : Carried) (names : List (List ℕ)) (held : List Holds) (seated : List Seated) (actor : Actor) (aim : ℕ) → SitsAt script c names held seated → seated_of seated actor ≡ None → Passes ≡ own_ahead script c actor aim
+ahead_missing script c names held seated actor aim k is = ap (λ (o : Option Seat). ahead_in script c o aim) (sym (is_found script c names held seated actor None k is))

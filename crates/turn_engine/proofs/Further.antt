@@ -28,10 +28,10 @@ turns old new t made = record {
 }
 
 pub advances_go_further : AdvancesGoFurther
-advances_go_further old new actor (advance.Did asked) k = turns old new (turn.Own actor) k.turns
-advances_go_further old new actor (advance.Waits why) k = stays old new k.1
-advances_go_further old new actor advance.Ended k = stays old new k.1
-advances_go_further old new actor advance.NoMemory k = stays old new k
+advances_go_further old new actor aim (advance.Did asked) k = turns old new (turn.Own actor aim) k.turns
+advances_go_further old new actor aim (advance.Waits why) k = stays old new k.1
+advances_go_further old new actor aim advance.Ended k = stays old new k.1
+advances_go_further old new actor aim advance.NoMemory k = stays old new k
 
 turned : (old new : Ran) (t : Turn) (e : Event) → TurnsBy old t e new → IsFurther old new
 turned old new t e (inl made) = turns old new t made.1

@@ -7,13 +7,14 @@ use Rattle.stamp_base.specs.declared.stores.Store.{Store}
 use Rattle.port_io.specs.declared.weather.Fate.{Fate}
 use Rattle.script_data.specs.declared.line.Line.{Line}
 use Rattle.script_data.specs.Data.{ScriptData, IsSound}
-use Rattle.line_steps.specs.Clocks.{HaveRoom, clocks}
+use Rattle.line_steps.specs.Clocks.{HaveRoom}
 use Rattle.line_steps.specs.Laws.{AreLinesOf}
 use Rattle.line_steps.specs.Next.{Clocks}
 use Rattle.line_steps.specs.Runs.{opening_played}
 use Rattle.cluster_core.specs.Whole.{Whole}
 use Rattle.planned_cluster.specs.Fitting.{SessionIsThere}
-use Rattle.planned_cluster.specs.Standing.{StandsAt}
+use Rattle.planned_cluster.specs.Standing.{StandsAt, clocks_at}
+use Rattle.planned_cluster.proofs.Clocks.{clocks_there}
 use Rattle.planned_cluster.proofs.Fitting.{lines_fit}
 use Rattle.turn_rules.specs.declared.seat.Holds.{Holds}
 use Rattle.turn_rules.specs.declared.turn.Turn.{Turn}
@@ -62,10 +63,10 @@ are_lines_of : (script : ScriptData) → IsSound script → All (λ (line : Line
 are_lines_of script sound there = lines_fit script.setup script.lines sound.lines (λ k d within here. there k d here)
 
 -- each actor passes its first lines with nothing to do
-pub opens : (script : ScriptData) (whole : Whole) (clock : ℕ) (ahead : Store → ℕ → Fate) (clock_times : Clocks) (w : State) (names : List (List ℕ)) (held : List Holds) (seated : List Seated) (lacking : List Bool) → IsSound script → length script.lines ≤ 131072 → AreForThreads script.lines → All (λ (line : Line). SessionIsThere line.actor) script.lines → StandsAt script (opening_played script) whole clock ahead → SitsAt script (at_first script) names held seated → lacking ≡ replicate script.setup.nodes false → clock_times ≡ clocks clock script.leads → w ≡ whole.state → IsMade script [] whole clock ahead names held (map (after_passing clock_times w) seated) lacking
+pub opens : (script : ScriptData) (whole : Whole) (clock : ℕ) (ahead : Store → ℕ → Fate) (clock_times : Clocks) (w : State) (names : List (List ℕ)) (held : List Holds) (seated : List Seated) (lacking : List Bool) → IsSound script → length script.lines ≤ 131072 → AreForThreads script.lines → All (λ (line : Line). SessionIsThere line.actor) script.lines → StandsAt script (opening_played script) whole clock ahead → SitsAt script (at_first script) names held seated → lacking ≡ [] → clock_times ≡ clocks_at whole clock script.leads → w ≡ whole.state → IsMade script [] whole clock ahead names held (map (after_passing clock_times w) seated) lacking
 opens script whole clock ahead clock_times w names held seated lacking sound few threads there stands sits none times state = record {
   stands = stands;
-  sits = passed_all script (at_first script) clock_times w names held seated sits (times ∙ ap (λ (n : ℕ). clocks n script.leads) stands.time) (state ∙ stands.state);
+  sits = passed_all script (at_first script) clock_times w names held seated sits (times ∙ clocks_there script (opening_played script) whole clock ahead stands) (state ∙ stands.state);
   out = record {
     sound = sound;
     few = few;

@@ -1,5 +1,5 @@
 -- A turn is told where its event appends an item or opens a sweep, and else all is as before.
-use Rattle.std.proofs.Common.{◌≡◌, ◌≢◌, ◌≤◌, true, false, List, [], ◌∷◌, Some, length, refl, sym, ◌∙◌, ap, subst}
+use Rattle.std.proofs.Common.{◌≡◌, ℕ, ◌≢◌, ◌≤◌, true, false, List, [], ◌∷◌, Some, length, refl, sym, ◌∙◌, ap, subst}
 use Rattle.std.proofs.lemmas.Bool.{true≢false}
 use Rattle.std.proofs.lemmas.Option.{same_Some}
 use Rattle.history_book.specs.declared.item.Actor.{Actor}
@@ -57,16 +57,16 @@ told_stays script c e is quiet = absurd (is (none_there (step_of script c.played
 quiet_stays : (script : ScriptData) (c : Carried) (made e : Event) → Some made ≡ Some e → StaysPlayed script c made → StaysPlayed script c e
 quiet_stays script c made e is stays = subst (λ (x : Event). StaysPlayed script c x) (same_Some made e is) stays
 
-stays_by : (laws : ToldLaws) (script : ScriptData) (c : Carried) (t : Turn) (e : Event) → Stands c.played.state c.played.items → IsInPlace c.played.state t → event_of script c t ≡ Some e → ((actor : Actor) → t ≡ turn.Own actor → IsTold script c.played e) → StaysPlayed script c e
-stays_by laws script c (turn.Own actor) e stands in_place is own = told_stays script c e (own actor refl)
+stays_by : (laws : ToldLaws) (script : ScriptData) (c : Carried) (t : Turn) (e : Event) → Stands c.played.state c.played.items → IsInPlace c.played.state t → event_of script c t ≡ Some e → ((actor : Actor) (aim : ℕ) → t ≡ turn.Own actor aim → IsTold script c.played e) → StaysPlayed script c e
+stays_by laws script c (turn.Own actor aim) e stands in_place is own = told_stays script c e (own actor aim refl)
 stays_by laws script c (turn.Accept node s) e stands in_place is own = told_stays script c e (laws.stage script c (turn.Accept node s) e stands tt is in_place)
 stays_by laws script c (turn.Put node s) e stands in_place is own = told_stays script c e (laws.stage script c (turn.Put node s) e stands tt is in_place)
 stays_by laws script c (turn.Extend node) e stands in_place is own = told_stays script c e (laws.stage script c (turn.Extend node) e stands tt is in_place)
 stays_by laws script c (turn.Decide node s) e stands in_place is own = quiet_stays script c (event.Decide node s) e is (λ quiet. laws.quiet.decide script c.played node s stands (none_there (step_of script c.played (event.Decide node s)).items quiet))
 stays_by laws script c (turn.Answer node s) e stands in_place is own = quiet_stays script c (event.Answer node s) e is (λ quiet. laws.quiet.answer script c.played node s stands (none_there (step_of script c.played (event.Answer node s)).items quiet))
 
-own_told : (laws : ToldLaws) (script : ScriptData) (turns : List Turn) (t : Turn) (e : Event) → IsSound script → length script.lines ≤ 131072 → AreLinesOf script.setup script.lines → AreForThreads script.lines → event_of script (carried script turns) t ≡ Some e → (actor : Actor) → t ≡ turn.Own actor → IsTold script (carried script turns).played e
-own_told laws script turns t e sound few lines threads is actor own = laws.own script turns actor e sound.setup (playable_at_first script sound few) lines threads (ap (λ (x : Turn). event_of script (carried script turns) x) (sym own) ∙ is)
+own_told : (laws : ToldLaws) (script : ScriptData) (turns : List Turn) (t : Turn) (e : Event) → IsSound script → length script.lines ≤ 131072 → AreLinesOf script.setup script.lines → AreForThreads script.lines → event_of script (carried script turns) t ≡ Some e → (actor : Actor) (aim : ℕ) → t ≡ turn.Own actor aim → IsTold script (carried script turns).played e
+own_told laws script turns t e sound few lines threads is actor aim own = laws.own script turns actor aim e sound.setup (playable_at_first script sound few) lines threads (ap (λ (x : Turn). event_of script (carried script turns) x) (sym own) ∙ is)
 
 pub stays : (laws : ToldLaws) (script : ScriptData) (turns : List Turn) (t : Turn) (e : Event) → IsSound script → length script.lines ≤ 131072 → AreLinesOf script.setup script.lines → AreForThreads script.lines → IsInPlace (carried script turns).played.state t → event_of script (carried script turns) t ≡ Some e → StaysPlayed script (carried script turns) e
 stays laws script turns t e sound few lines threads in_place is = stays_by laws script (carried script turns) t e (facts script turns sound few).reached.stands in_place is (own_told laws script turns t e sound few lines threads is)

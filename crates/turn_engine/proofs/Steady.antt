@@ -15,7 +15,6 @@ use Rattle.line_steps.specs.Clocks.{HaveRoom}
 use Rattle.line_steps.specs.Laws.{IsPlayable}
 use Rattle.line_steps.specs.Next.{Clocks}
 use Rattle.line_steps.specs.Runs.{clocks_of}
-use Rattle.line_steps.specs.Views.{view_of}
 use Rattle.line_steps.proofs.Timing.{Timed, tick_ahead}
 use Rattle.planned_cluster.proofs.Playable.{playable_at_first}
 use Rattle.planned_cluster.proofs.Rooms.{have_room}
@@ -24,8 +23,8 @@ use Rattle.turn_rules.specs.declared.turn.Turn.TheVariants as turn
 use Rattle.turn_rules.specs.Seats.{lines_of}
 use Rattle.turn_rules.specs.Carried.{Carried, event_of, all_passed, at_first, carried}
 use Rattle.turn_rules.proofs.Facts.{Facts, facts_all, facts_at_first}
-use Rattle.turn_rules.proofs.OwnTimes.{own_tick, own_timed}
-use Rattle.turn_rules.proofs.OwnTurns.{OwnTurn, own_turn, stage_turn}
+use Rattle.turn_rules.proofs.OwnTimes.{own_tick}
+use Rattle.turn_rules.proofs.OwnTurns.{OwnTurn, own_turn, turn_timed, stage_turn}
 
 pub facts : (script : ScriptData) (turns : List Turn) → IsSound script → length script.lines ≤ 131072 → Facts script (carried script turns)
 facts script turns sound few = facts_all script (playable_at_first script sound few) turns (all_passed script (at_first script)) (facts_at_first script sound.setup)
@@ -54,9 +53,9 @@ record HasTime (clocks : Clocks) (e : Event) : Type 0 where
   timed : Timed clocks tick e
 
 has_time : (script : ScriptData) (c : Carried) (t : Turn) (e : Event) → event_of script c t ≡ Some e → HasTime (clocks_of script c.played) e
-has_time script c (turn.Own actor) e is =
-    let k : OwnTurn script c actor e = own_turn script c actor e is in
-    record { tick = own_tick k.line.actor (tick_ahead k.seat.point k.line.verb); timed = own_timed (clocks_of script c.played) k.line.actor k.line.verb k.seat.point (view_of c.played.state k.line.actor) e k.next }
+has_time script c (turn.Own actor aim) e is =
+    let k : OwnTurn script c actor aim e = own_turn script c actor aim e is in
+    record { tick = own_tick k.line.actor (tick_ahead k.seat.point k.line.verb); timed = turn_timed script c actor aim e k }
 has_time script c (turn.Accept node session) e is = record { tick = 0; timed = (stage_turn script c (turn.Accept node session) e (λ own. own) is).timed }
 has_time script c (turn.Decide node session) e is = record { tick = 0; timed = (stage_turn script c (turn.Decide node session) e (λ own. own) is).timed }
 has_time script c (turn.Put node session) e is = record { tick = 0; timed = (stage_turn script c (turn.Put node session) e (λ own. own) is).timed }

@@ -35,7 +35,7 @@ done_plain : (by : Turn) (items : List Item) → is_plain (done_by by items) ≡
 done_plain (turn.Decide node session) items = did_plain (drawn_in items)
 done_plain (turn.Put node session) items = refl
 done_plain (turn.Answer node session) items = refl
-done_plain (turn.Own actor) items = refl
+done_plain (turn.Own actor aim) items = refl
 done_plain (turn.Accept node session) items = refl
 done_plain (turn.Extend node) items = refl
 
@@ -56,7 +56,7 @@ done_answer : (by : Turn) (items : List Item) → is_answer (done_by by items) �
 done_answer (turn.Decide node session) items = did_answer (drawn_in items)
 done_answer (turn.Put node session) items = refl
 done_answer (turn.Answer node session) items = refl
-done_answer (turn.Own actor) items = refl
+done_answer (turn.Own actor aim) items = refl
 done_answer (turn.Accept node session) items = refl
 done_answer (turn.Extend node) items = refl
 
@@ -123,24 +123,24 @@ pub done_lacks_none : (by : Turn) (items : List Item) (result : StageStep) → r
 done_lacks_none by items result told = answers_lack_none by result (ap is_answer told ∙ done_answer by items)
 
 -- ---- an actor's turn
-own_by : (old new : Ran) (actor : Actor) (e : Event) (asked : Option (ℕ × ℕ)) → event_of old.script (reached_by old) (turn.Own actor) ≡ Some e → IsTold old.script (reached_by old).played e → asked ≡ asked_of (state_of new) (node_asked (step_in old e).items) → TurnsBy old (turn.Own actor) e new → MakesOwn old actor asked new
-own_by old new actor e asked is told asks (inl made) = record {
+own_by : (old new : Ran) (actor : Actor) (aim : ℕ) (e : Event) (asked : Option (ℕ × ℕ)) → event_of old.script (reached_by old) (turn.Own actor aim) ≡ Some e → IsTold old.script (reached_by old).played e → asked ≡ asked_of (state_of new) (node_asked (step_in old e).items) → TurnsBy old (turn.Own actor aim) e new → MakesOwn old actor aim asked new
+own_by old new actor aim e asked is told asks (inl made) = record {
   lawful = made.0;
   turns = made.1;
   asks = subst (λ (found : Option Event). IsSomeAnd found (λ x. asked ≡ asked_of (state_of new) (node_asked (step_in old x).items))) (sym is) asks;
 }
-own_by old new actor e asked is told asks (inr quiet) = absurd (quiet.untold told)
+own_by old new actor aim e asked is told asks (inr quiet) = absurd (quiet.untold told)
 
-pub makes_own : (old new : Ran) (actor : Actor) (e : Event) (stop : Option Stop) (asked : Option (ℕ × ℕ)) (items : List Item) → event_of old.script (reached_by old) (turn.Own actor) ≡ Some e → (step_in old e).items ≡ items → MakesTurn old (turn.Own actor) e stop new → IsTold old.script (reached_by old).played e → asked ≡ asked_of (state_of new) (node_asked items) → MakesOwn old actor asked new
-makes_own old new actor e stop asked items is appended made told asks = own_by old new actor e asked is told (asks ∙ ap (λ (xs : List Item). asked_of (state_of new) (node_asked xs)) (sym appended)) made.made
+pub makes_own : (old new : Ran) (actor : Actor) (aim : ℕ) (e : Event) (stop : Option Stop) (asked : Option (ℕ × ℕ)) (items : List Item) → event_of old.script (reached_by old) (turn.Own actor aim) ≡ Some e → (step_in old e).items ≡ items → MakesTurn old (turn.Own actor aim) e stop new → IsTold old.script (reached_by old).played e → asked ≡ asked_of (state_of new) (node_asked items) → MakesOwn old actor aim asked new
+makes_own old new actor aim e stop asked items is appended made told asks = own_by old new actor aim e asked is told (asks ∙ ap (λ (xs : List Item). asked_of (state_of new) (node_asked xs)) (sym appended)) made.made
 
-own_stopped : (old new : Ran) (actor : Actor) (e : Event) (stop : Option Stop) (before : ℕ) (asked : Option (ℕ × ℕ)) → event_of old.script (reached_by old) (turn.Own actor) ≡ Some e → IsTold old.script (reached_by old).played e → before ≡ length (items_of old) → asked ≡ asked_of (state_of new) (node_asked (drop before (items_of new))) → MakesTurn old (turn.Own actor) e stop new → MakesOwn old actor asked new
-own_stopped old new actor e stop before asked is told length_is asks made =
-    makes_own old new actor e stop asked (drop before (items_of new)) is (sym (has_grown old new (turn.Own actor) e before is length_is made.made).since) made told asks
+own_stopped : (old new : Ran) (actor : Actor) (aim : ℕ) (e : Event) (stop : Option Stop) (before : ℕ) (asked : Option (ℕ × ℕ)) → event_of old.script (reached_by old) (turn.Own actor aim) ≡ Some e → IsTold old.script (reached_by old).played e → before ≡ length (items_of old) → asked ≡ asked_of (state_of new) (node_asked (drop before (items_of new))) → MakesTurn old (turn.Own actor aim) e stop new → MakesOwn old actor aim asked new
+own_stopped old new actor aim e stop before asked is told length_is asks made =
+    makes_own old new actor aim e stop asked (drop before (items_of new)) is (sym (has_grown old new (turn.Own actor aim) e before is length_is made.made).since) made told asks
 
 -- unless memory was refused
-pub own_made : (old new : Ran) (actor : Actor) (e : Event) (answer : Result Unit Stopped) (before : ℕ) (asked : Option (ℕ × ℕ)) → event_of old.script (reached_by old) (turn.Own actor) ≡ Some e → IsTold old.script (reached_by old).played e → before ≡ length (items_of old) → asked ≡ asked_of (state_of new) (node_asked (drop before (items_of new))) → (answer ≡ Err NoMemory → ⊥) → Makes old (turn.Own actor) e answer new → MakesOwn old actor asked new
-own_made old new actor e (Ok done) before asked is told length_is asks some made = own_stopped old new actor e None before asked is told length_is asks made
-own_made old new actor e (Err (Refused why)) before asked is told length_is asks some made = own_stopped old new actor e (Some (Refuses why)) before asked is told length_is asks made
-own_made old new actor e (Err (StoreFault store)) before asked is told length_is asks some made = own_stopped old new actor e (Some (Faults store)) before asked is told length_is asks made
-own_made old new actor e (Err NoMemory) before asked is told length_is asks some made = absurd (some refl)
+pub own_made : (old new : Ran) (actor : Actor) (aim : ℕ) (e : Event) (answer : Result Unit Stopped) (before : ℕ) (asked : Option (ℕ × ℕ)) → event_of old.script (reached_by old) (turn.Own actor aim) ≡ Some e → IsTold old.script (reached_by old).played e → before ≡ length (items_of old) → asked ≡ asked_of (state_of new) (node_asked (drop before (items_of new))) → (answer ≡ Err NoMemory → ⊥) → Makes old (turn.Own actor aim) e answer new → MakesOwn old actor aim asked new
+own_made old new actor aim e (Ok done) before asked is told length_is asks some made = own_stopped old new actor aim e None before asked is told length_is asks made
+own_made old new actor aim e (Err (Refused why)) before asked is told length_is asks some made = own_stopped old new actor aim e (Some (Refuses why)) before asked is told length_is asks made
+own_made old new actor aim e (Err (StoreFault store)) before asked is told length_is asks some made = own_stopped old new actor aim e (Some (Faults store)) before asked is told length_is asks made
+own_made old new actor aim e (Err NoMemory) before asked is told length_is asks some made = absurd (some refl)

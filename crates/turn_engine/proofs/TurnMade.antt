@@ -13,12 +13,12 @@ use Rattle.machine.specs.State.{State}
 use Rattle.script_data.specs.Data.{ScriptData}
 use Rattle.line_steps.specs.declared.point.Halt.{Halt}
 use Rattle.line_steps.specs.declared.point.Halt.TheVariants as halt
-use Rattle.line_steps.specs.Clocks.{clocks}
 use Rattle.line_steps.specs.Halts.{halt_of}
 use Rattle.line_steps.specs.Runs.{Played, clocks_of, fate_of, step_of, played}
 use Rattle.line_steps.proofs.Serving.{Serving}
 use Rattle.cluster_core.specs.Whole.{Whole}
-use Rattle.planned_cluster.specs.Standing.{StandsAt}
+use Rattle.planned_cluster.specs.Standing.{StandsAt, clocks_at}
+use Rattle.planned_cluster.proofs.Clocks.{clocks_there}
 use Rattle.turn_rules.specs.declared.seat.Holds.{Holds}
 use Rattle.turn_rules.specs.declared.turn.Turn.{Turn}
 use Rattle.turn_rules.specs.declared.turn.Turn.TheVariants as turn
@@ -58,7 +58,7 @@ decide_used script turns lacking node s e stop k in_place is stopped none =
 
 pub lacks_on : (script : ScriptData) (turns : List Turn) (lacking nodes : List Bool) (t : Turn) (e : Event) (stop : Option Halt) → IsCarriedOut script turns lacking → IsInPlace (carried script turns).played.state t → event_of script (carried script turns) t ≡ Some e → stop ≡ halt_of (step_of script (carried script turns).played e).stop → AreUsedUp (step_of script (carried script turns).played e).state nodes → AreUsedUp (step_of script (carried script turns).played e).state (lacking_after nodes t stop)
 lacks_on script turns lacking nodes (turn.Decide node s) e stop k in_place is stopped all = lacks_by_halt (step_of script (carried script turns).played e).state node s nodes stop (decide_used script turns lacking node s e stop k in_place is stopped) all
-lacks_on script turns lacking nodes (turn.Own actor) e stop k in_place is stopped all = all
+lacks_on script turns lacking nodes (turn.Own actor aim) e stop k in_place is stopped all = all
 lacks_on script turns lacking nodes (turn.Accept node s) e stop k in_place is stopped all = all
 lacks_on script turns lacking nodes (turn.Put node s) e stop k in_place is stopped all = all
 lacks_on script turns lacking nodes (turn.Answer node s) e stop k in_place is stopped all = all
@@ -82,15 +82,15 @@ pub record IsMade (script : ScriptData) (turns : List Turn) (whole : Whole) (clo
   pub out : IsCarriedOut script turns lacking
 
 pub turn_made : (script : ScriptData) (turns : List Turn) (t : Turn) (e : Event) (stop : Option Halt) (items : List Item) (whole : Whole) (clock : ℕ) (ahead : Store → ℕ → Fate) (names : List (List ℕ)) (held : List Holds) (seated : List Seated) (lacking : List Bool) → SitsAt script (carried script turns) names held seated → IsCarriedOut script turns lacking → event_of script (carried script turns) t ≡ Some e → IsFree (carried script turns).held (stage_of t) → IsInPlace (carried script turns).played.state t → StandsAt script (played script (carried script turns).played e) whole clock ahead → stop ≡ halt_of (step_of script (carried script turns).played e).stop → items ≡ (step_of script (carried script turns).played e).items → is_told e items ≡ true →
-    IsMade script (turns ++ t ∷ []) whole clock ahead (names_after names e) (held_after held e) (map (after_passing (clocks clock script.leads) whole.state) (map (after_turn t stop (was_asked items)) seated)) (lacking_after (cleared lacking) t stop)
+    IsMade script (turns ++ t ∷ []) whole clock ahead (names_after names e) (held_after held e) (map (after_passing (clocks_at whole clock script.leads) whole.state) (map (after_turn t stop (was_asked items)) seated)) (lacking_after (cleared lacking) t stop)
 turn_made script turns t e stop items whole clock ahead names held seated lacking sits out is free in_place stands stopped appended tells =
     let c : Carried = carried script turns in
     let on : (carried script (turns ++ t ∷ [])).played ≡ played script c.played e = played_on script turns t e is in
-    let time : clocks clock script.leads ≡ clocks_of script (played script c.played e) = ap (λ (n : ℕ). clocks n script.leads) stands.time in
+    let time : clocks_at whole clock script.leads ≡ clocks_of script (played script c.played e) = clocks_there script (played script c.played e) whole clock ahead stands in
     let none : AreUsedUp (step_of script c.played e).state (cleared lacking) = λ node is. absurd (none_cleared lacking node is) in
     record {
       stands = subst (λ (p : Played). StandsAt script p whole clock ahead) (sym on) stands;
-      sits = sits_on script turns t e stop (was_asked items) (clocks clock script.leads) whole.state names held seated sits is stopped (ap (λ (xs : List Item). was_asked xs) appended) time stands.state;
+      sits = sits_on script turns t e stop (was_asked items) (clocks_at whole clock script.leads) whole.state names held seated sits is stopped (ap (λ (xs : List Item). was_asked xs) appended) time stands.state;
       out = record {
         sound = out.sound;
         few = out.few;

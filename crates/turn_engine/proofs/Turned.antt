@@ -40,7 +40,7 @@ goes_on None step halt asked seat stopped was = refl
 goes_on (Some line) step halt asked seat stopped was = λ i. gone_on line.verb (stopped i) (was i) seat
 
 turned_seat : (script : ScriptData) (t : Turn) (step : Step) (halt : Option Halt) (asked : Bool) (s : Seated) → IsSeated script s → halt ≡ halt_of step.stop → asked ≡ was_asked step.items → (after_turn t halt asked s).seat ≡ moved script t step s.seat
-turned_seat script (turn.Own actor) step halt asked s k stopped was =
+turned_seat script (turn.Own actor aim) step halt asked s k stopped was =
     let line : line_of s ≡ present_line script s.seat = ap (λ (ls : List Line). slice_get ls s.seat.place) k.lines in
     seat_of_two (same_actor s.seat.actor actor) s (gone_on_at (line_of s) halt asked s.seat)
     ∙ ap (λ (seat : Seat). cond (same_actor s.seat.actor actor) seat s.seat) (ap (λ (o : Option Line). gone_on_at o halt asked s.seat) line ∙ goes_on (present_line script s.seat) step halt asked s.seat stopped was)
@@ -59,7 +59,7 @@ seated_by script true line halt asked s k = still_seated script line halt asked 
 seated_by script false line halt asked s k = k
 
 pub turned_seated : (script : ScriptData) (t : Turn) (halt : Option Halt) (asked : Bool) (s : Seated) → IsSeated script s → IsSeated script (after_turn t halt asked s)
-turned_seated script (turn.Own actor) halt asked s k = seated_by script (same_actor s.seat.actor actor) (line_of s) halt asked s k
+turned_seated script (turn.Own actor aim) halt asked s k = seated_by script (same_actor s.seat.actor actor) (line_of s) halt asked s k
 turned_seated script (turn.Accept node session) halt asked s k = k
 turned_seated script (turn.Decide node session) halt asked s k = k
 turned_seated script (turn.Put node session) halt asked s k = k

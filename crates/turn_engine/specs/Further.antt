@@ -15,7 +15,7 @@ pub record IsFurther (old new : Ran) : Type 0 where
 
 -- so it is after an actor's step
 abbrev pub AdvancesGoFurther : Type 0
-AdvancesGoFurther = (old new : Ran) (actor : Actor) (answer : Advance) → Advances old actor answer new → IsFurther old new
+AdvancesGoFurther = (old new : Ran) (actor : Actor) (aim : ℕ) (answer : Advance) → Advances old actor aim answer new → IsFurther old new
 
 -- and after a stage's
 abbrev pub StageStepsGoFurther : Type 0

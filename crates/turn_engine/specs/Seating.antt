@@ -32,7 +32,7 @@ gone_on_at None halt asked seat = seat
 gone_on_at (Some line) halt asked seat = gone_on line.verb halt asked seat
 
 abbrev pub after_turn : Turn → Option Halt → Bool → Seated → Seated
-after_turn (turn.Own actor) halt asked s = if same_actor s.seat.actor actor then record s { seat = gone_on_at (line_of s) halt asked s.seat } else s
+after_turn (turn.Own actor aim) halt asked s = if same_actor s.seat.actor actor then record s { seat = gone_on_at (line_of s) halt asked s.seat } else s
 after_turn _ halt asked s = s
 
 -- ---- passing lines

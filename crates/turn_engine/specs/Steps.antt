@@ -51,17 +51,17 @@ abbrev pub asked_of : State → Option ℕ → Option (ℕ × ℕ)
 asked_of w None = None
 asked_of w (Some node) = and_term node (term_of w node)
 
--- exactly one turn was made, the actor's own; it asked this, if it asked
-pub record MakesOwn (old : Ran) (actor : Actor) (asked : Option (ℕ × ℕ)) (new : Ran) : Type 0 where
-  pub lawful : IsLawful old.script (reached_by old) (turn.Own actor)
-  pub turns : new ≡ with_turn old (turn.Own actor)
-  pub asks : IsSomeAnd (event_of old.script (reached_by old) (turn.Own actor)) (λ e. asked ≡ asked_of (state_of new) (node_asked (step_in old e).items))
+-- exactly one turn was made, the actor's own with this aim; it asked this, if it asked
+pub record MakesOwn (old : Ran) (actor : Actor) (aim : ℕ) (asked : Option (ℕ × ℕ)) (new : Ran) : Type 0 where
+  pub lawful : IsLawful old.script (reached_by old) (turn.Own actor aim)
+  pub turns : new ≡ with_turn old (turn.Own actor aim)
+  pub asks : IsSomeAnd (event_of old.script (reached_by old) (turn.Own actor aim)) (λ e. asked ≡ asked_of (state_of new) (node_asked (step_in old e).items))
 
-abbrev pub Advances : Ran → Actor → Advance → Ran → Type 0
-Advances old actor (advance.Did asked) new = MakesOwn old actor asked new
-Advances old actor (advance.Waits why) new = (own_ahead old.script (reached_by old) actor ≡ Waits why) × (new ≡ old)
-Advances old actor advance.Ended new = HasEnded old actor × (new ≡ old)
-Advances old actor advance.NoMemory new = new ≡ old
+abbrev pub Advances : Ran → Actor → ℕ → Advance → Ran → Type 0
+Advances old actor aim (advance.Did asked) new = MakesOwn old actor aim asked new
+Advances old actor aim (advance.Waits why) new = (own_ahead old.script (reached_by old) actor aim ≡ Waits why) × (new ≡ old)
+Advances old actor aim advance.Ended new = HasEnded old actor × (new ≡ old)
+Advances old actor aim advance.NoMemory new = new ≡ old
 
 -- ---- a stage's step
 abbrev pub IsStageHeld : Ran → ℕ → Stage → Bool

@@ -5,7 +5,7 @@ ghost use Rattle.line_steps.specs.Clocks.{HaveRoom};
 ghost use Rattle.line_steps.specs.Next.{reading_at};
 ghost use Rattle.line_steps.specs.Runs.{clocks_of};
 ghost use Rattle.turn_rules.specs.declared.ahead.Ahead.TheVariants.{Passes};
-ghost use Rattle.turn_rules.specs.Carried.{ahead_at, own_ahead, event_of, made_by, name_posted};
+ghost use Rattle.turn_rules.specs.Carried.{ahead_at, aimed_node, own_ahead, event_of, made_by, name_posted};
 ghost use Rattle.turn_rules.specs.Lawful as lawful;
 ghost use Rattle.turn_engine.specs.Run.{reached_by};
 ghost use Rattle.turn_engine.specs.Steps.{HasEnded, IsStageHeld, state_of, place_of, IsServable};
@@ -31,20 +31,20 @@ impl ScriptRun {
         }
     }
 
-    /// What is ahead of the actor's present line.
-    pub(crate) fn ahead(&self, actor: &Actor) -> Ahead
-        ensures ahead { result ≡ own_ahead self.now.script (reached_by self.now) actor.now }
+    /// What is ahead of the actor's present line, where its share is aimed at this node.
+    pub(crate) fn ahead(&self, actor: &Actor, aim: NodeNo) -> Ahead
+        ensures ahead { result ≡ own_ahead self.now.script (reached_by self.now) actor.now aim }
         ensures ended { result ≡ Passes → HasEnded self.now actor.now }
     {
         match seated_of(self.seated.as_slice(), actor) {
-            Some(seated) => self.ahead_at(&seated.seat, seated.line()),
+            Some(seated) => self.ahead_at(&seated.seat, seated.line(), aim),
             None => Ahead::Passes,
         }
     }
 
-    fn ahead_at(&self, seat: &Seat, line: Option<Line>) -> Ahead
+    fn ahead_at(&self, seat: &Seat, line: Option<Line>, aim: NodeNo) -> Ahead
         requires { IfSome line (λ l. HaveRoom (reached_by self.now).played.clock self.now.script.leads l.verb) }
-        ensures { result ≡ ahead_at self.now.script (reached_by self.now) seat.now line }
+        ensures { result ≡ ahead_at self.now.script (reached_by self.now) seat.now line aim }
     {
         match line {
             None => Ahead::Passes,
@@ -52,6 +52,7 @@ impl ScriptRun {
                 own_event(
                     self.planned.clock,
                     self.script.leads.as_slice(),
+                    self.aimed(aim),
                     self.name_posted(&line.verb),
                     &line,
                     seat.point,
@@ -60,6 +61,16 @@ impl ScriptRun {
                 )
             }
         }
+    }
+
+    // The node that a line asks which names the master. Without a take so far no node is master, whoever is aimed at.
+    fn aimed(&self, aim: NodeNo) -> NodeNo
+        ensures { result ≡ aimed_node (reached_by self.now).played.items aim }
+    {
+        if self.planned.cluster.has_taken(aim) {
+            return aim;
+        }
+        NodeNo::FIRST
     }
 
     fn name_posted(&self, verb: &Verb) -> bool
@@ -112,7 +123,7 @@ impl ScriptRun {
         ensures { result ≡ event_of self.now.script (reached_by self.now) turn.now }
     {
         match *turn {
-            Turn::Own { actor } => event_ahead(&self.ahead(&actor)),
+            Turn::Own { actor, aim } => event_ahead(&self.ahead(&actor, aim)),
             Turn::Accept { node, session } => {
                 Some(Event::Accept {
                     node,

@@ -106,6 +106,6 @@ impl ScriptRun {
     {
         let ScriptRun { planned, turns, .. } = self;
         let PlannedCluster { cluster, .. } = planned;
-        (cluster, turns)
+        (cluster.into_cluster(), turns)
     }
 }

@@ -1,8 +1,8 @@
 // The seats of the actors, each with its actor's lines.
 ghost use Rattle.std.specs.Prelude.{◌≡◌, ◌<◌, ◌≤◌, All, map, IfOk, OnOk, MatchOption, None, Some};
 ghost use Rattle.history_book.specs.declared.item.Actor.TheVariants.{Node, Session};
-ghost use Rattle.line_steps.specs.Clocks.{clocks};
 ghost use Rattle.planned_cluster.specs.Fitting.{SessionIsThere};
+ghost use Rattle.planned_cluster.specs.Standing.{clocks_at};
 ghost use Rattle.turn_engine.specs.Seating.{own_lines, line_of, seated_of, after_turn, after_passing, CanPass, AreSeatedFirst, SitsDown};
 
 use history_book::Actor;
@@ -31,7 +31,7 @@ impl Seated {
     fn go_on(&mut self, turn: &Turn, halt: Option<Halt>, asked: bool)
         ensures { self.new ≡ after_turn turn.now halt asked self.old }
     {
-        let Turn::Own { actor } = turn else {
+        let Turn::Own { actor, .. } = turn else {
             return;
         };
         if self.seat.actor != *actor {
@@ -44,12 +44,13 @@ impl Seated {
 
     fn pass(&mut self, planned: &PlannedCluster, leads: &[u64])
         requires { CanPass planned.now.clock leads.now self.old }
-        ensures { self.new ≡ after_passing (clocks planned.now.clock leads.now) planned.now.cluster.state self.old }
+        ensures { self.new ≡ after_passing (clocks_at planned.now.cluster planned.now.clock leads.now) planned.now.cluster.state self.old }
     {
         let view = planned.view(self.seat.actor);
         pass(
             planned.clock,
             leads,
+            planned.cluster.master(),
             &view,
             self.lines.as_slice(),
             &mut self.seat,
@@ -160,7 +161,7 @@ pub fn go_on(seated: &mut Vec<Seated>, turn: &Turn, halt: Option<Halt>, asked: b
 /// Each actor passes its lines with nothing left to do.
 pub fn pass_all(planned: &PlannedCluster, leads: &[u64], seated: &mut Vec<Seated>)
     requires { All (CanPass planned.now.clock leads.now) seated.old.items }
-    ensures { seated.new.items ≡ map (after_passing (clocks planned.now.clock leads.now) planned.now.cluster.state) seated.old.items }
+    ensures { seated.new.items ≡ map (after_passing (clocks_at planned.now.cluster planned.now.clock leads.now) planned.now.cluster.state) seated.old.items }
 {
     for number in 0..seated.len() {
         seated[number].pass(planned, leads);

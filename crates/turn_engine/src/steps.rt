@@ -17,24 +17,28 @@ use thread_steps::StageStep;
 use turn_rules::{Ahead, Turn, own_turns_are_told};
 
 impl ScriptRun {
-    /// Makes the next event of the actor's present line, unless it waits or no line is left.
-    pub fn advance(&mut self, actor: Actor) -> Advance
-        ensures { Advances self.old actor result self.new }
+    /// Makes the next event of the actor's present line, its share being aimed at this node, unless it waits or no line is left.
+    pub fn advance(&mut self, actor: Actor, aim: NodeNo) -> Advance
+        ensures { Advances self.old actor aim result self.new }
     {
-        match &self.ahead(&actor) {
-            Ahead::Makes(event) => self.make_own(&actor, event),
+        match &self.ahead(&actor, aim) {
+            Ahead::Makes(event) => self.make_own(&actor, aim, event),
             Ahead::Waits(why) => Advance::Waits(*why),
             Ahead::Passes => Advance::Ended,
         }
     }
 
-    fn make_own(&mut self, actor: &Actor, event: &Event) -> Advance
-        requires { own_ahead self.old.script (reached_by self.old) actor.now ≡ Makes event.now }
-        ensures { Advances self.old actor.now result self.new }
+    fn make_own(&mut self, actor: &Actor, aim: NodeNo, event: &Event) -> Advance
+        requires { own_ahead self.old.script (reached_by self.old) actor.now aim ≡ Makes event.now }
+        ensures { Advances self.old actor.now aim result self.new }
     {
         own_turns_are_told();
         let before = self.planned.cluster.history().len();
-        match self.make(Turn::Own { actor: *actor }, event) {
+        let turn = Turn::Own {
+            actor: *actor,
+            aim,
+        };
+        match self.make(turn, event) {
             Err(Stopped::NoMemory) => Advance::NoMemory,
             Ok(()) | Err(Stopped::Refused(_)) | Err(Stopped::StoreFault(_)) => {
                 Advance::Did {

@@ -11,7 +11,7 @@ use Rattle.machine.specs.declared.event.Event.{Event}
 use Rattle.script_data.specs.declared.line.Line.{Line}
 use Rattle.script_data.specs.Data.{ScriptData}
 use Rattle.line_steps.specs.declared.point.Point.TheVariants.{Opens}
-use Rattle.line_steps.specs.Answers.{same_actor, has_opening, is_of}
+use Rattle.line_steps.specs.Answers.{same_actor, has_opening, is_of, asks_some, Answered}
 use Rattle.line_steps.specs.Laws.{ActorFits, AreLinesOf}
 use Rattle.line_steps.proofs.ScriptWalks.{actor_same, same_itself}
 use Rattle.turn_rules.specs.declared.seat.Seat.{Seat}
@@ -134,7 +134,7 @@ mine_alone : (script : ScriptData) (actor : Actor) → filter (is_of actor) (lin
 mine_alone script actor = filter_both (λ (line : Line). same_actor line.actor actor) (is_of actor) (λ line is. both_of (same_actor line.actor actor) (has_opening line.actor line.verb) is) script.lines
 
 answered_mine : (script : ScriptData) (actor : Actor) → IsAnsweredTo actor script.lines [] None (lines_of script actor)
-answered_mine script actor later walks = subst (λ (lines : List Line). Rattle.line_steps.specs.Answers.Answered actor None lines later) (mine_alone script actor) walks
+answered_mine script actor later walks = subst (λ (lines : List Line). Answered asks_some actor [] None lines later) (mine_alone script actor) walks
 
 at_seat : (script : ScriptData) (actor : Actor) (found : Option Seat) → seat_of (first_seats script.setup) actor ≡ found → IsAt script (at_first script) actor found
 at_seat script actor None is = answered_none actor script.lines

@@ -14,7 +14,7 @@ use Rattle.script_data.specs.declared.line.Line.{Line}
 use Rattle.script_data.specs.Data.{ScriptData}
 use Rattle.line_steps.specs.declared.point.Point.{Point}
 use Rattle.line_steps.specs.declared.point.Point.TheVariants.{Opens, Drives, Extends, Finishes, Reads, Steps, Over}
-use Rattle.line_steps.specs.Answers.{same_actor, is_of, Answered}
+use Rattle.line_steps.specs.Answers.{same_actor, is_of, asks_some, Answered}
 use Rattle.line_steps.specs.Laws.{AreLinesOf, IsPlayable}
 use Rattle.line_steps.specs.Next.{read_next}
 use Rattle.line_steps.specs.Views.{view_of}
@@ -87,10 +87,10 @@ whole_seat script c actor seat whole sits =
     let k : Place c.seats seat = find_place (λ (x : Seat). same_actor x.actor actor) c.seats seat sits in
     subst (λ (s : Seat). lines_left script s ≡ []) (k.is seat) (whole k.place seat k.inside)
 
-answered_now : (actor : Actor) (all : List Line) (h : List Item) (lines : List Line) → filter (is_of actor) lines ≡ [] → IsAnsweredTo actor all h None lines → Answered actor None (filter (is_of actor) all) h
-answered_now actor all h lines none so = subst (λ (items : List Item). Answered actor None (filter (is_of actor) all) items) (append-nil h) (so [] (subst (λ (ls : List Line). Answered actor None ls []) (sym none) (walks_end actor)))
+answered_now : (actor : Actor) (all : List Line) (h : List Item) (lines : List Line) → filter (is_of actor) lines ≡ [] → IsAnsweredTo actor all h None lines → Answered asks_some actor [] None (filter (is_of actor) all) h
+answered_now actor all h lines none so = subst (λ (items : List Item). Answered asks_some actor [] None (filter (is_of actor) all) items) (append-nil h) (so [] (subst (λ (ls : List Line). Answered asks_some actor h None ls []) (sym none) (walks_end asks_some actor h)))
 
-whole_at : (script : ScriptData) (turns : List Turn) (actor : Actor) → AreLinesOf script.setup script.lines → AreWhole script turns → (found : Option Seat) → seat_of (carried script turns).seats actor ≡ found → IsAt script (carried script turns) actor found → Answered actor None (filter (is_of actor) script.lines) (carried_items script turns)
+whole_at : (script : ScriptData) (turns : List Turn) (actor : Actor) → AreLinesOf script.setup script.lines → AreWhole script turns → (found : Option Seat) → seat_of (carried script turns).seats actor ≡ found → IsAt script (carried script turns) actor found → Answered asks_some actor [] None (filter (is_of actor) script.lines) (carried_items script turns)
 whole_at script turns actor of_script whole None none at = answered_now actor script.lines (carried_items script turns) script.lines (no_lines script.setup actor script.lines of_script (λ fits. has_seat script actor turns fits none)) at
 whole_at script turns actor of_script whole (Some seat) sits (same, so) =
     let c : Carried = carried script turns in

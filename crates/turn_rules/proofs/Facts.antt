@@ -16,6 +16,7 @@ use Rattle.script_data.specs.Ticks.{ticks_of}
 use Rattle.line_steps.specs.Laws.{IsPlayable, IsReached}
 use Rattle.line_steps.specs.Runs.{clocks_of, step_of, played}
 use Rattle.line_steps.specs.Views.{view_of}
+use Rattle.line_steps.proofs.Takes.{TakesFit, takes_at_first}
 use Rattle.line_steps.proofs.AlwaysFit.{Fit, fit_at_first}
 use Rattle.line_steps.proofs.Ending.{opening_reached}
 use Rattle.line_steps.proofs.LaterEvents.{IsLater}
@@ -29,8 +30,8 @@ use Rattle.turn_rules.specs.Seats.{lines_of, lines_left, with_event_of}
 use Rattle.turn_rules.specs.Carried.{Carried, seat_of, event_of, moved, with_event, seat_passed, all_passed, turned_by, turned, at_first}
 use Rattle.turn_rules.specs.Laws.{unanswered, TurnsKeepFacts}
 use Rattle.turn_rules.proofs.MadeEvents.{Made, event_made}
-use Rattle.turn_rules.proofs.OwnTimes.{own_tick, own_timed}
-use Rattle.turn_rules.proofs.OwnTurns.{OwnTurn, own_turn, StageTurn, stage_turn}
+use Rattle.turn_rules.proofs.OwnTimes.{own_tick}
+use Rattle.turn_rules.proofs.OwnTurns.{OwnTurn, own_turn, turn_timed, StageTurn, stage_turn}
 use Rattle.turn_rules.proofs.SeatsOn.{passed_keeps, own_moved, other_stays, seat_after, passed_seat, turned_seat}
 use Rattle.turn_rules.proofs.SeatLists.{find_true, get_drop}
 
@@ -76,15 +77,17 @@ passed_ticks script c (Some seat) = passing_ticks script c seat
 pub record Facts (script : ScriptData) (c : Carried) : Type 0 where
   pub reached : IsReached script c.played
   pub fit : Fit c.played.state
+  pub takes : TakesFit c.played.state.setup.nodes c.played.items
   pub time : c.played.clock + ticks_left script (seat_of c.seats Clock) ≤ ticks_of script.lines
 
 -- an event keeps them, where its tick is taken off the clock's seat
 facts_after : (script : ScriptData) (c : Carried) (t : Turn) (tick : ℕ) (e : Event) → IsPlayable script 0 script.lines → Facts script c → Timed (clocks_of script c.played) tick e → ticks_left script (option_map (seat_after script c t e) (seat_of c.seats Clock)) + tick ≤ ticks_left script (seat_of c.seats Clock) → Facts script (all_passed script (with_event script c t e))
 facts_after script c t tick e playable k timed less =
-    let made : Made script c.played tick e = event_made script c.played tick e playable.leads (omega (arith, k.time, less, playable.ticks)) k.reached k.fit timed in
+    let made : Made script c.played tick e = event_made script c.played tick e playable.leads (omega (arith, k.time, less, playable.ticks)) k.reached k.fit k.takes timed in
     record {
       reached = made.reached;
       fit = made.fit;
+      takes = made.takes;
       time = subst (λ (found : Option Seat). (played script c.played e).clock + ticks_left script found ≤ ticks_of script.lines) (sym (turned_seat script c t e Clock)) (omega (arith, made.at_most, less, k.time));
     }
 
@@ -101,38 +104,38 @@ facts_staged script c t e playable k staged stays =
 
 -- ---- an own turn
 -- of the clock
-pub clock_ticks : (script : ScriptData) (c : Carried) (e : Event) (k : OwnTurn script c Clock e) → ticks_left script (option_map (seat_after script c (turn.Own Clock) e) (seat_of c.seats Clock)) + tick_ahead k.seat.point k.line.verb ≤ ticks_left script (seat_of c.seats Clock)
-clock_ticks script c e k =
+pub clock_ticks : (script : ScriptData) (c : Carried) (aim : ℕ) (e : Event) (k : OwnTurn script c Clock aim e) → ticks_left script (option_map (seat_after script c (turn.Own Clock aim) e) (seat_of c.seats Clock)) + tick_ahead k.seat.point k.line.verb ≤ ticks_left script (seat_of c.seats Clock)
+clock_ticks script c aim e k =
     let step : Step = step_of script c.played e in
     let after : Seat = with_event_of k.line step k.seat in
     let lines : List Line = drop (suc k.seat.place) (lines_of script k.seat.actor) in
     let left : lines_left script k.seat ≡ k.line ∷ lines = get_drop k.seat.place (lines_of script k.seat.actor) k.line k.present in
     let before : seat_ticks script k.seat ≡ tick_ahead k.seat.point k.line.verb + ticks_of lines = ap (λ (ls : List Line). ticks_of (unanswered k.seat.point ls)) left ∙ first_tick k.line lines k.seat.point in
     let now : seat_ticks script after ≡ ticks_of lines = ap (λ (ls : List Line). ticks_of (unanswered after.point ls)) left ∙ ap (λ (ls : List Line). ticks_of ls) (later_ticks after.point k.line lines (follows_later k.line.verb k.seat.point step)) in
-    let passes : seat_ticks script (seat_passed script (with_event script c (turn.Own Clock) e) after) ≤ seat_ticks script after = passing_ticks script (with_event script c (turn.Own Clock) e) after in
-    let moves : seat_ticks script (seat_after script c (turn.Own Clock) e k.seat) ≡ seat_ticks script (seat_passed script (with_event script c (turn.Own Clock) e) after) = ap (λ (seat : Seat). seat_ticks script (seat_passed script (with_event script c (turn.Own Clock) e) seat)) (own_moved script Clock step k.seat k.line k.same k.present) in
-    let here : seat_ticks script (seat_after script c (turn.Own Clock) e k.seat) + tick_ahead k.seat.point k.line.verb ≤ seat_ticks script k.seat = omega (arith, before, now, passes, moves) in
-    subst (λ (found : Option Seat). ticks_left script (option_map (seat_after script c (turn.Own Clock) e) found) + tick_ahead k.seat.point k.line.verb ≤ ticks_left script found) (sym k.sits) here
+    let passes : seat_ticks script (seat_passed script (with_event script c (turn.Own Clock aim) e) after) ≤ seat_ticks script after = passing_ticks script (with_event script c (turn.Own Clock aim) e) after in
+    let moves : seat_ticks script (seat_after script c (turn.Own Clock aim) e k.seat) ≡ seat_ticks script (seat_passed script (with_event script c (turn.Own Clock aim) e) after) = ap (λ (seat : Seat). seat_ticks script (seat_passed script (with_event script c (turn.Own Clock aim) e) seat)) (own_moved script Clock aim step k.seat k.line k.same k.present) in
+    let here : seat_ticks script (seat_after script c (turn.Own Clock aim) e k.seat) + tick_ahead k.seat.point k.line.verb ≤ seat_ticks script k.seat = omega (arith, before, now, passes, moves) in
+    subst (λ (found : Option Seat). ticks_left script (option_map (seat_after script c (turn.Own Clock aim) e) found) + tick_ahead k.seat.point k.line.verb ≤ ticks_left script found) (sym k.sits) here
 
-facts_clock : (script : ScriptData) (c : Carried) (e : Event) → IsPlayable script 0 script.lines → Facts script c → OwnTurn script c Clock e → Facts script (all_passed script (with_event script c (turn.Own Clock) e))
-facts_clock script c e playable k own =
-    let timed : Timed (clocks_of script c.played) (tick_ahead own.seat.point own.line.verb) e = subst (λ (a : Actor). Timed (clocks_of script c.played) (own_tick a (tick_ahead own.seat.point own.line.verb)) e) own.own (own_timed (clocks_of script c.played) own.line.actor own.line.verb own.seat.point (view_of c.played.state own.line.actor) e own.next) in
-    facts_after script c (turn.Own Clock) (tick_ahead own.seat.point own.line.verb) e playable k timed (clock_ticks script c e own)
+facts_clock : (script : ScriptData) (c : Carried) (aim : ℕ) (e : Event) → IsPlayable script 0 script.lines → Facts script c → OwnTurn script c Clock aim e → Facts script (all_passed script (with_event script c (turn.Own Clock aim) e))
+facts_clock script c aim e playable k own =
+    let timed : Timed (clocks_of script c.played) (tick_ahead own.seat.point own.line.verb) e = subst (λ (a : Actor). Timed (clocks_of script c.played) (own_tick a (tick_ahead own.seat.point own.line.verb)) e) own.own (turn_timed script c Clock aim e own) in
+    facts_after script c (turn.Own Clock aim) (tick_ahead own.seat.point own.line.verb) e playable k timed (clock_ticks script c aim e own)
 
 -- of another actor
-facts_other : (script : ScriptData) (c : Carried) (actor : Actor) (e : Event) → IsPlayable script 0 script.lines → Facts script c → OwnTurn script c actor e → ((tick : ℕ) → own_tick actor tick ≡ 0) → same_actor Clock actor ≡ false → Facts script (all_passed script (with_event script c (turn.Own actor) e))
-facts_other script c actor e playable k own quiet not =
-    let timed : Timed (clocks_of script c.played) (own_tick actor (tick_ahead own.seat.point own.line.verb)) e = subst (λ (a : Actor). Timed (clocks_of script c.played) (own_tick a (tick_ahead own.seat.point own.line.verb)) e) own.own (own_timed (clocks_of script c.played) own.line.actor own.line.verb own.seat.point (view_of c.played.state own.line.actor) e own.next) in
+facts_other : (script : ScriptData) (c : Carried) (actor : Actor) (aim : ℕ) (e : Event) → IsPlayable script 0 script.lines → Facts script c → OwnTurn script c actor aim e → ((tick : ℕ) → own_tick actor tick ≡ 0) → same_actor Clock actor ≡ false → Facts script (all_passed script (with_event script c (turn.Own actor aim) e))
+facts_other script c actor aim e playable k own quiet not =
+    let timed : Timed (clocks_of script c.played) (own_tick actor (tick_ahead own.seat.point own.line.verb)) e = subst (λ (a : Actor). Timed (clocks_of script c.played) (own_tick a (tick_ahead own.seat.point own.line.verb)) e) own.own (turn_timed script c actor aim e own) in
     let still : Timed (clocks_of script c.played) 0 e = subst (λ (tick : ℕ). Timed (clocks_of script c.played) tick e) (quiet (tick_ahead own.seat.point own.line.verb)) timed in
-    let less : ticks_left script (option_map (seat_after script c (turn.Own actor) e) (seat_of c.seats Clock)) ≤ ticks_left script (seat_of c.seats Clock) = still_ticks script c (turn.Own actor) e (seat_of c.seats Clock) (λ seat is. other_stays script (step_of script c.played e) actor seat (ap (λ (a : Actor). same_actor a actor) (actor_same seat.actor Clock (find_true (λ (x : Seat). same_actor x.actor Clock) c.seats seat is)) ∙ not)) in
-    facts_after script c (turn.Own actor) 0 e playable k still (omega (arith, less))
+    let less : ticks_left script (option_map (seat_after script c (turn.Own actor aim) e) (seat_of c.seats Clock)) ≤ ticks_left script (seat_of c.seats Clock) = still_ticks script c (turn.Own actor aim) e (seat_of c.seats Clock) (λ seat is. other_stays script (step_of script c.played e) actor aim seat (ap (λ (a : Actor). same_actor a actor) (actor_same seat.actor Clock (find_true (λ (x : Seat). same_actor x.actor Clock) c.seats seat is)) ∙ not)) in
+    facts_after script c (turn.Own actor aim) 0 e playable k still (omega (arith, less))
 
 -- ---- each turn
 facts_made : (script : ScriptData) (c : Carried) (t : Turn) (e : Event) → IsPlayable script 0 script.lines → Facts script c → event_of script c t ≡ Some e → Facts script (all_passed script (with_event script c t e))
-facts_made script c (turn.Own Clock) e playable k is = facts_clock script c e playable k (own_turn script c Clock e is)
-facts_made script c (turn.Own (Node n)) e playable k is = facts_other script c (Node n) e playable k (own_turn script c (Node n) e is) (λ tick. refl) refl
-facts_made script c (turn.Own (Session s)) e playable k is = facts_other script c (Session s) e playable k (own_turn script c (Session s) e is) (λ tick. refl) refl
-facts_made script c (turn.Own Janitor) e playable k is = facts_other script c Janitor e playable k (own_turn script c Janitor e is) (λ tick. refl) refl
+facts_made script c (turn.Own Clock aim) e playable k is = facts_clock script c aim e playable k (own_turn script c Clock aim e is)
+facts_made script c (turn.Own (Node n) aim) e playable k is = facts_other script c (Node n) aim e playable k (own_turn script c (Node n) aim e is) (λ tick. refl) refl
+facts_made script c (turn.Own (Session s) aim) e playable k is = facts_other script c (Session s) aim e playable k (own_turn script c (Session s) aim e is) (λ tick. refl) refl
+facts_made script c (turn.Own Janitor aim) e playable k is = facts_other script c Janitor aim e playable k (own_turn script c Janitor aim e is) (λ tick. refl) refl
 facts_made script c (turn.Accept node session) e playable k is = facts_staged script c (turn.Accept node session) e playable k (stage_turn script c (turn.Accept node session) e (λ own. own) is) (λ step seat. refl)
 facts_made script c (turn.Decide node session) e playable k is = facts_staged script c (turn.Decide node session) e playable k (stage_turn script c (turn.Decide node session) e (λ own. own) is) (λ step seat. refl)
 facts_made script c (turn.Put node session) e playable k is = facts_staged script c (turn.Put node session) e playable k (stage_turn script c (turn.Put node session) e (λ own. own) is) (λ step seat. refl)
@@ -166,6 +169,7 @@ facts_at_first script in_range =
     record {
       reached = opening_reached script in_range;
       fit = fit_at_first script.setup;
+      takes = takes_at_first script.setup in_range;
       time = omega (arith, seated, all);
     }
 

@@ -8,6 +8,7 @@ pub mod OwnTimes
 pub mod OwnTurns
 pub mod SeatsOn
 mod PassLines
+pub mod AimsAlike
 mod MadeEvents
 pub mod Facts
 mod SoFar

@@ -11,16 +11,18 @@ use Rattle.isolation_laws.proofs.AlwaysHolds.{facts_stay}
 use Rattle.line_steps.specs.Laws.{IsReached}
 use Rattle.line_steps.specs.Runs.{Played, fate_of, clocks_of, played}
 use Rattle.line_steps.proofs.AlwaysFit.{Fit, fit_stays}
+use Rattle.line_steps.proofs.Takes.{TakesFit, takes_stay}
 use Rattle.line_steps.proofs.Timing.{Timed, InTime, in_time}
 
 -- what was played after it
 pub record Made (script : ScriptData) (p : Played) (tick : ℕ) (e : Event) : Type 0 where
   pub reached : IsReached script (played script p e)
   pub fit : Fit (played script p e).state
+  pub takes : TakesFit (played script p e).state.setup.nodes (played script p e).items
   pub at_most : (played script p e).clock ≤ p.clock + tick
 
-pub event_made : (script : ScriptData) (p : Played) (tick : ℕ) (e : Event) → ((node : ℕ) → slice_index_or script.leads node 0 ≤ script.setup.skew) → p.clock + tick + script.setup.skew ≤ 2 ^ 61 → IsReached script p → Fit p.state → Timed (clocks_of script p) tick e → Made script p tick e
-event_made script p tick e leads room reached fit timed =
+pub event_made : (script : ScriptData) (p : Played) (tick : ℕ) (e : Event) → ((node : ℕ) → slice_index_or script.leads node 0 ≤ script.setup.skew) → p.clock + tick + script.setup.skew ≤ 2 ^ 61 → IsReached script p → Fit p.state → TakesFit p.state.setup.nodes p.items → Timed (clocks_of script p) tick e → Made script p tick e
+event_made script p tick e leads room reached fit takes timed =
     let skew : ℕ = script.setup.skew in
     let fate : Fate = fate_of script p e in
     let it : InTime (clocks_of script p) tick skew p.state.seen e = in_time (clocks_of script p) tick skew p.state.seen e timed (record { leads = leads; room = omega (arith, room); before = reached.seen }) in
@@ -33,5 +35,6 @@ event_made script p tick e leads room reached fit timed =
         seen = omega (arith, seen, it.seen_most, it.at_least);
       };
       fit = fit_stays p.state e fate fit;
+      takes = takes_stay p.state p.items e fate reached.stands fit takes;
       at_most = it.at_most;
     }

@@ -1,15 +1,17 @@
 -- The events of own turns come at their time, and so do those of stages; only the clock's own line ticks.
-use Rattle.std.proofs.Common.{◌≡◌, ℕ, Some, inl, inr, refl, sym, ◌∙◌, ap, subst}
+use Rattle.std.proofs.Common.{◌≡◌, ℕ, List, Some, inl, inr, refl, sym, ◌∙◌, ap, subst}
 use Rattle.std.proofs.lemmas.Option.{none-some}
 use Rattle.history_book.specs.declared.item.Actor.{Actor}
 use Rattle.history_book.specs.declared.item.Actor.TheVariants.{Clock, Node, Session, Janitor}
 use Rattle.machine.specs.declared.event.Event.{Event}
+use Rattle.machine.specs.declared.event.Event.TheVariants as event
 use Rattle.script_data.specs.declared.line.Verb.{Verb}
 use Rattle.script_data.specs.declared.line.Verb.TheVariants as verb
 use Rattle.line_steps.specs.declared.point.Point.{Point}
 use Rattle.line_steps.specs.declared.point.Point.TheVariants.{Opens, Drives, Extends, Finishes, Reads, Steps, Over}
 use Rattle.line_steps.specs.declared.point.View.{View}
 use Rattle.script_data.specs.Ticks.{tick_of}
+use Rattle.line_steps.specs.Clocks.{clocks}
 use Rattle.line_steps.specs.Next.{Clocks, next}
 use Rattle.line_steps.proofs.Timing.{tick_ahead, Timed, event_timed}
 use Rattle.turn_rules.proofs.OwnEvents.{IsNextOf}
@@ -58,3 +60,11 @@ own_timed clocks actor line at view e (inr (opens, collects, is)) =
     let drives : Timed clocks (own_tick actor 0) e = next_timed clocks actor line Drives view e is in
     let none : tick_ahead at line ≡ 0 = ap (λ (p : Point). tick_ahead p line) opens ∙ ap tick_of collects in
     subst (λ (tick : ℕ). Timed clocks (own_tick actor tick) e) (sym none) drives
+
+-- the time of an event does not depend on the node that a line asks
+pub timed_anyhow : (base : ℕ) (leads : List ℕ) (one two tick : ℕ) (e : Event) → Timed (clocks base leads one) tick e → Timed (clocks base leads two) tick e
+timed_anyhow base leads one two tick (event.Tick to) timed = timed
+timed_anyhow base leads one two tick (event.Take node reading) timed = timed
+timed_anyhow base leads one two tick (event.Renew node reading) timed = timed
+timed_anyhow base leads one two tick (event.Accept node session reading) timed = timed
+timed_anyhow base leads one two tick _ timed = tt

@@ -14,9 +14,9 @@ use Rattle.isolation_laws.specs.Sound.{Stands}
 use Rattle.isolation_laws.specs.Words.{ClientAt}
 use Rattle.line_steps.specs.declared.point.Point.{Point}
 use Rattle.line_steps.specs.declared.point.Point.TheVariants.{Opens, Drives, Extends, Finishes, Reads, Steps, Over}
-use Rattle.line_steps.specs.Answers.{same_actor, has_opening, IsAnswer}
+use Rattle.line_steps.specs.Answers.{same_actor, has_opening, IsAnswer, asks_some}
 use Rattle.line_steps.specs.Laws.{ActorFits}
-use Rattle.line_steps.specs.Runs.{Played, fate_of, clocks_of, step_of}
+use Rattle.line_steps.specs.Runs.{Played, fate_of, step_of}
 use Rattle.line_steps.specs.Views.{view_of}
 use Rattle.line_steps.proofs.AlwaysFit.{Fit, found}
 use Rattle.line_steps.proofs.LaterEvents.{IsLater}
@@ -24,7 +24,7 @@ use Rattle.line_steps.proofs.OpenedLines.{line_answered}
 use Rattle.line_steps.proofs.OpeningItems.{Begins}
 use Rattle.turn_rules.specs.declared.ahead.Ahead.{Ahead}
 use Rattle.turn_rules.specs.declared.ahead.Ahead.TheVariants.{Makes, Waits, Passes}
-use Rattle.turn_rules.specs.Carried.{Carried, name_posted, made_by, all_passed, at_first, carried}
+use Rattle.turn_rules.specs.Carried.{Carried, aimed_clocks, name_posted, made_by, all_passed, at_first, carried}
 use Rattle.turn_rules.specs.Lawful.{IsTold}
 use Rattle.turn_rules.specs.Told.{IsForThreads, AreForThreads, OwnTurnsAreTold}
 use Rattle.turn_rules.specs.Waiting.{own_next}
@@ -75,38 +75,38 @@ threads_at [] n line on is = absurd (none-some line is)
 threads_at (x ∷ xs) zero line on is = subst (λ (z : Line). IsForThreads z.verb) (same_Some x line is) on.0
 threads_at (x ∷ xs) (suc n) line on is = threads_at xs n line on.1 is
 
-present_threads : (script : ScriptData) (c : Carried) (actor : Actor) (e : Event) → AreForThreads script.lines → (k : OwnTurn script c actor e) → IsForThreads k.line.verb
-present_threads script c actor e on k =
+present_threads : (script : ScriptData) (c : Carried) (actor : Actor) (aim : ℕ) (e : Event) → AreForThreads script.lines → (k : OwnTurn script c actor aim e) → IsForThreads k.line.verb
+present_threads script c actor aim e on k =
     let there : Filtered (λ (x : Line). same_actor x.actor k.seat.actor) script.lines k.line = filtered (λ (x : Line). same_actor x.actor k.seat.actor) script.lines k.seat.place k.line k.present in
     threads_at script.lines there.place k.line on there.is
 
 -- its first event, where the form has an opening item
-opens_told : (script : ScriptData) (c : Carried) (actor : Actor) (e : Event) → (k : OwnTurn script c actor e) → OwnLine actor c.played.state c.played.items k.line → has_opening k.line.actor k.line.verb ≡ true → IsNextOf (clocks_of script c.played) k.line.actor k.line.verb Opens (view_of c.played.state k.line.actor) e → IsTold script c.played e
-opens_told script c actor e k own opening (inr (at, collects, is)) = absurd (collects_not k.line.actor k.line.verb collects opening)
-opens_told script c actor e k own opening (inl is) = told_by script c.played e (begins_appends (IsAnswer k.line.actor k.line.verb) (step_of script c.played e).items (line_answered (clocks_of script c.played) c.played.state c.played.items k.line.actor k.line.verb (view_of c.played.state k.line.actor) e (fate_of script c.played e) own.stands own.fit own.in_range own.asks opening is))
+opens_told : (script : ScriptData) (c : Carried) (actor : Actor) (aim : ℕ) (e : Event) → (k : OwnTurn script c actor aim e) → OwnLine actor (aimed_clocks script c aim) c.played.state c.played.items k.line → has_opening k.line.actor k.line.verb ≡ true → IsNextOf (aimed_clocks script c aim) k.line.actor k.line.verb Opens (view_of c.played.state k.line.actor) e → IsTold script c.played e
+opens_told script c actor aim e k own opening (inr (at, collects, is)) = absurd (collects_not k.line.actor k.line.verb collects opening)
+opens_told script c actor aim e k own opening (inl is) = told_by script c.played e (begins_appends (IsAnswer (asks_some c.played.items) k.line.actor k.line.verb) (step_of script c.played e).items (line_answered (asks_some c.played.items) (aimed_clocks script c aim) c.played.state c.played.items k.line.actor k.line.verb (view_of c.played.state k.line.actor) e (fate_of script c.played e) own.stands own.fit own.in_range own.asks own.master own.may opening is))
 
-first_told : (script : ScriptData) (c : Carried) (actor : Actor) (e : Event) → AreForThreads script.lines → (k : OwnTurn script c actor e) → OwnLine actor c.played.state c.played.items k.line → k.seat.point ≡ Opens → (opening : Bool) → has_opening k.line.actor k.line.verb ≡ opening → IsTold script c.played e
-first_told script c actor e on k own at true opening = opens_told script c actor e k own opening (subst (λ (p : Point). IsNextOf (clocks_of script c.played) k.line.actor k.line.verb p (view_of c.played.state k.line.actor) e) at k.next)
-first_told script c actor e on k own at false none =
-    let ahead : Ahead = own_next (clocks_of script c.played) (name_posted c.names k.line.verb) k.line.actor k.line.verb Opens (view_of c.played.state k.line.actor) k.seat.unawaited in
-    let makes : made_by ahead ≡ Some e = subst (λ (p : Point). made_by (own_next (clocks_of script c.played) (name_posted c.names k.line.verb) k.line.actor k.line.verb p (view_of c.played.state k.line.actor) k.seat.unawaited) ≡ Some e) at k.makes in
-    kind_told script c.played k.line.actor e own.stands own.fit own.in_range (kind_made k.line.actor ahead e (opens_kind (clocks_of script c.played) (name_posted c.names k.line.verb) k.line.actor k.line.verb (view_of c.played.state k.line.actor) k.seat.unawaited (present_threads script c actor e on k) none) makes)
+first_told : (script : ScriptData) (c : Carried) (actor : Actor) (aim : ℕ) (e : Event) → AreForThreads script.lines → (k : OwnTurn script c actor aim e) → OwnLine actor (aimed_clocks script c aim) c.played.state c.played.items k.line → k.seat.point ≡ Opens → (opening : Bool) → has_opening k.line.actor k.line.verb ≡ opening → IsTold script c.played e
+first_told script c actor aim e on k own at true opening = opens_told script c actor aim e k own opening (subst (λ (p : Point). IsNextOf (aimed_clocks script c aim) k.line.actor k.line.verb p (view_of c.played.state k.line.actor) e) at k.next)
+first_told script c actor aim e on k own at false none =
+    let ahead : Ahead = own_next (aimed_clocks script c aim) (name_posted c.names k.line.verb) k.line.actor k.line.verb Opens (view_of c.played.state k.line.actor) k.seat.unawaited in
+    let makes : made_by ahead ≡ Some e = subst (λ (p : Point). made_by (own_next (aimed_clocks script c aim) (name_posted c.names k.line.verb) k.line.actor k.line.verb p (view_of c.played.state k.line.actor) k.seat.unawaited) ≡ Some e) at k.makes in
+    kind_told script c.played k.line.actor e own.stands own.fit own.in_range (kind_made k.line.actor ahead e (opens_kind (aimed_clocks script c aim) (name_posted c.names k.line.verb) k.line.actor k.line.verb (view_of c.played.state k.line.actor) k.seat.unawaited (present_threads script c actor aim e on k) none) makes)
 
-later_told : (script : ScriptData) (c : Carried) (actor : Actor) (e : Event) → (k : OwnTurn script c actor e) → OwnLine actor c.played.state c.played.items k.line → IsLater k.seat.point → IsTold script c.played e
-later_told script c actor e k own later = kind_told script c.played k.line.actor e own.stands own.fit own.in_range (kind_made k.line.actor (own_next (clocks_of script c.played) (name_posted c.names k.line.verb) k.line.actor k.line.verb k.seat.point (view_of c.played.state k.line.actor) k.seat.unawaited) e (later_kind (clocks_of script c.played) (name_posted c.names k.line.verb) k.line.actor k.line.verb k.seat.point (view_of c.played.state k.line.actor) k.seat.unawaited later) k.makes)
+later_told : (script : ScriptData) (c : Carried) (actor : Actor) (aim : ℕ) (e : Event) → (k : OwnTurn script c actor aim e) → OwnLine actor (aimed_clocks script c aim) c.played.state c.played.items k.line → IsLater k.seat.point → IsTold script c.played e
+later_told script c actor aim e k own later = kind_told script c.played k.line.actor e own.stands own.fit own.in_range (kind_made k.line.actor (own_next (aimed_clocks script c aim) (name_posted c.names k.line.verb) k.line.actor k.line.verb k.seat.point (view_of c.played.state k.line.actor) k.seat.unawaited) e (later_kind (aimed_clocks script c aim) (name_posted c.names k.line.verb) k.line.actor k.line.verb k.seat.point (view_of c.played.state k.line.actor) k.seat.unawaited later) k.makes)
 
-told_at : (script : ScriptData) (c : Carried) (actor : Actor) (e : Event) → AreForThreads script.lines → (k : OwnTurn script c actor e) → OwnLine actor c.played.state c.played.items k.line → (at : Point) → k.seat.point ≡ at → IsTold script c.played e
-told_at script c actor e on k own Opens at = first_told script c actor e on k own at (has_opening k.line.actor k.line.verb) refl
-told_at script c actor e on k own Drives at = later_told script c actor e k own (subst (λ (p : Point). IsLater p) (sym at) tt)
-told_at script c actor e on k own Extends at = later_told script c actor e k own (subst (λ (p : Point). IsLater p) (sym at) tt)
-told_at script c actor e on k own Finishes at = later_told script c actor e k own (subst (λ (p : Point). IsLater p) (sym at) tt)
-told_at script c actor e on k own Reads at = later_told script c actor e k own (subst (λ (p : Point). IsLater p) (sym at) tt)
-told_at script c actor e on k own Steps at = later_told script c actor e k own (subst (λ (p : Point). IsLater p) (sym at) tt)
-told_at script c actor e on k own Over at = later_told script c actor e k own (subst (λ (p : Point). IsLater p) (sym at) tt)
+told_at : (script : ScriptData) (c : Carried) (actor : Actor) (aim : ℕ) (e : Event) → AreForThreads script.lines → (k : OwnTurn script c actor aim e) → OwnLine actor (aimed_clocks script c aim) c.played.state c.played.items k.line → (at : Point) → k.seat.point ≡ at → IsTold script c.played e
+told_at script c actor aim e on k own Opens at = first_told script c actor aim e on k own at (has_opening k.line.actor k.line.verb) refl
+told_at script c actor aim e on k own Drives at = later_told script c actor aim e k own (subst (λ (p : Point). IsLater p) (sym at) tt)
+told_at script c actor aim e on k own Extends at = later_told script c actor aim e k own (subst (λ (p : Point). IsLater p) (sym at) tt)
+told_at script c actor aim e on k own Finishes at = later_told script c actor aim e k own (subst (λ (p : Point). IsLater p) (sym at) tt)
+told_at script c actor aim e on k own Reads at = later_told script c actor aim e k own (subst (λ (p : Point). IsLater p) (sym at) tt)
+told_at script c actor aim e on k own Steps at = later_told script c actor aim e k own (subst (λ (p : Point). IsLater p) (sym at) tt)
+told_at script c actor aim e on k own Over at = later_told script c actor aim e k own (subst (λ (p : Point). IsLater p) (sym at) tt)
 
 pub own_turns_are_told : OwnTurnsAreTold
-own_turns_are_told script turns actor e in_range playable of_script on is =
+own_turns_are_told script turns actor aim e in_range playable of_script on is =
     let c : Carried = carried script turns in
     let facts : Facts script c = facts_all script playable turns (all_passed script (at_first script)) (facts_at_first script in_range) in
-    let k : OwnTurn script c actor e = own_turn script c actor e is in
-    told_at script c actor e on k (own_fits script c actor e of_script facts k) k.seat.point refl
+    let k : OwnTurn script c actor aim e = own_turn script c actor aim e is in
+    told_at script c actor aim e on k (own_fits script c actor aim e of_script facts k) k.seat.point refl

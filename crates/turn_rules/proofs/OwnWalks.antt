@@ -1,6 +1,6 @@
 -- What an event leaves of an actor's walk: one of its own line takes it further, and one of another leaves it; and a line with
 -- nothing left to do is answered.
-use Rattle.std.proofs.Common.{◌≡◌, ℕ, Bool, true, false, cond, ◌&&◌, List, [], ◌∷◌, ◌++◌, Option, Some, None, inl, inr, refl, sym, ◌∙◌, ap, subst}
+use Rattle.std.proofs.Common.{◌≡◌, ℕ, ◌<◌, Bool, true, false, cond, ◌&&◌, List, [], ◌∷◌, ◌++◌, Option, Some, None, inl, inr, refl, sym, ◌∙◌, ap, subst}
 use Rattle.std.proofs.lemmas.Option.{none-some}
 use Rattle.port_io.specs.declared.weather.Fate.{Fate}
 use Rattle.history_book.specs.declared.item.Actor.{Actor}
@@ -13,16 +13,17 @@ use Rattle.machine.specs.Machine.{Step, stepped}
 use Rattle.machine.specs.Readers.{doing_of}
 use Rattle.machine.specs.State.{State}
 use Rattle.script_data.specs.declared.line.Line.{Line}
+use Rattle.script_data.specs.declared.line.Target.{Target}
 use Rattle.script_data.specs.declared.line.Verb.{Verb}
 use Rattle.script_data.specs.declared.line.Verb.TheVariants as verb
 use Rattle.isolation_laws.specs.Sound.{Stands}
 use Rattle.line_steps.specs.declared.point.Point.{Point}
 use Rattle.line_steps.specs.declared.point.Point.TheVariants.{Opens, Drives, Reads}
 use Rattle.line_steps.specs.declared.point.View.{View}
-use Rattle.line_steps.specs.Answers.{same_actor, has_opening, is_of}
+use Rattle.line_steps.specs.Answers.{same_actor, has_opening, is_of, IsAnswer, asks_some}
 use Rattle.line_steps.specs.Halts.{halt_of, follows}
 use Rattle.line_steps.specs.Laws.{ActorFits, VerbFits}
-use Rattle.line_steps.specs.Next.{Clocks, read_next, next}
+use Rattle.line_steps.specs.Next.{Clocks, target_node, read_next, next}
 use Rattle.line_steps.specs.Views.{view_of}
 use Rattle.line_steps.proofs.AlwaysFit.{Fit}
 use Rattle.line_steps.proofs.LaterEvents.{IsLater}
@@ -59,24 +60,27 @@ collect_none Janitor is = cc
 pub collects_not : (actor : Actor) (line : Verb) → line ≡ verb.Collect → has_opening actor line ≡ true → ⊥
 collects_not actor line is opening = collect_none actor (ap (λ (v : Verb). has_opening actor v) (sym is) ∙ opening)
 
--- what the events of a line need: the state is reached, and the line is the actor's
-pub record OwnLine (actor : Actor) (w : State) (h : List Item) (line : Line) : Type 0 where
+-- what the events of a line need: the state is reached, the line is the actor's, and what it asks may be asked
+pub record OwnLine (actor : Actor) (clocks : Clocks) (w : State) (h : List Item) (line : Line) : Type 0 where
   pub stands : Stands w h
   pub fit : Fit w
   pub in_range : ActorFits w.setup line.actor
   pub asks : VerbFits w.setup line.verb
+  -- the node that the clocks tell is of the system, and may be asked
+  pub master : clocks.master < w.setup.nodes
+  pub may : (to : Target) → asks_some h to (target_node clocks to)
   pub same : line.actor ≡ actor
 
 own_opening : (actor : Actor) (line : Line) → line.actor ≡ actor → (own : Bool) → is_of actor line ≡ own → has_opening line.actor line.verb ≡ own
 own_opening actor line same own is = ap (λ (first : Bool). first && has_opening line.actor line.verb) (sym (ap (λ (a : Actor). same_actor line.actor a) (sym same) ∙ same_itself line.actor)) ∙ is
 
 -- a line without an opening item
-plain_line : (actor : Actor) (clocks : Clocks) (w : State) (h : List Item) (line : Line) (at : Point) (e : Event) (fate : Fate) → OwnLine actor w h line → is_of actor line ≡ false → next clocks line.actor line.verb at (view_of w line.actor) ≡ Some e → AllNot actor (stepped w e fate).items
+plain_line : (actor : Actor) (clocks : Clocks) (w : State) (h : List Item) (line : Line) (at : Point) (e : Event) (fate : Fate) → OwnLine actor clocks w h line → is_of actor line ≡ false → next clocks line.actor line.verb at (view_of w line.actor) ≡ Some e → AllNot actor (stepped w e fate).items
 plain_line actor clocks w h line at e fate k not is =
     let none : has_opening line.actor line.verb ≡ false = own_opening actor line k.same false not in
-    any_not actor clocks w h line at e fate k.stands k.fit k.in_range k.asks (λ opening same. let clash : true ≡ false = sym opening ∙ none in cc) is
+    any_not actor clocks w h line at e fate k.stands k.fit k.in_range k.asks k.master (λ opening same. let clash : true ≡ false = sym opening ∙ none in cc) is
 
-plain_event : (actor : Actor) (clocks : Clocks) (w : State) (h : List Item) (line : Line) (at : Point) (e : Event) (fate : Fate) → OwnLine actor w h line → is_of actor line ≡ false → IsNextOf clocks line.actor line.verb at (view_of w line.actor) e → AllNot actor (stepped w e fate).items
+plain_event : (actor : Actor) (clocks : Clocks) (w : State) (h : List Item) (line : Line) (at : Point) (e : Event) (fate : Fate) → OwnLine actor clocks w h line → is_of actor line ≡ false → IsNextOf clocks line.actor line.verb at (view_of w line.actor) e → AllNot actor (stepped w e fate).items
 plain_event actor clocks w h line at e fate k not (inl is) = plain_line actor clocks w h line at e fate k not is
 plain_event actor clocks w h line at e fate k not (inr (opens, collects, is)) = plain_line actor clocks w h line Drives e fate k not is
 
@@ -86,11 +90,11 @@ later_event actor clocks w line at e fate later (inl is) = later_plain clocks w 
 later_event actor clocks w line at e fate later (inr (opens, collects, is)) = later_plain clocks w line.actor actor line.verb Drives (view_of w line.actor) e fate tt is
 
 -- the first event of a line with an opening item
-first_event : (actor : Actor) (all : List Line) (clocks : Clocks) (w : State) (h : List Item) (line : Line) (lines : List Line) (e : Event) (fate : Fate) → OwnLine actor w h line → is_of actor line ≡ true → next clocks line.actor line.verb Opens (view_of w line.actor) ≡ Some e → IsAnsweredTo actor all h None (line ∷ lines) → let step : Step = stepped w e fate in Present actor all step.state (h ++ step.items) (follows line.verb Opens (halt_of step.stop)) line lines
+first_event : (actor : Actor) (all : List Line) (clocks : Clocks) (w : State) (h : List Item) (line : Line) (lines : List Line) (e : Event) (fate : Fate) → OwnLine actor clocks w h line → is_of actor line ≡ true → next clocks line.actor line.verb Opens (view_of w line.actor) ≡ Some e → IsAnsweredTo actor all h None (line ∷ lines) → let step : Step = stepped w e fate in Present actor all step.state (h ++ step.items) (follows line.verb Opens (halt_of step.stop)) line lines
 first_event actor all clocks w h line lines e fate k own is so =
     let step : Step = stepped w e fate in
-    elim (opens_line clocks w h line.actor line.verb (view_of w line.actor) e fate k.stands k.fit k.in_range k.asks (own_opening actor line k.same true own) is) [
-      | inl items ↦ inr (inl (follows_later line.verb Opens step, answered_line actor all h step.items line lines own (subst (λ (a : Actor). Rattle.line_steps.proofs.Walks.LineItems a line.actor line.verb step.items) k.same items) so))
+    elim (opens_line (asks_some h) clocks w h line.actor line.verb (view_of w line.actor) e fate k.stands k.fit k.in_range k.asks k.master k.may (own_opening actor line k.same true own) is) [
+      | inl items ↦ inr (inl (follows_later line.verb Opens step, answered_line actor all h step.items line lines own (subst (λ (a : Actor). Rattle.line_steps.proofs.Walks.LineItems (IsAnswer (asks_some h) line.actor line.verb) a line.verb step.items) k.same items) so))
       | inr (on, stop) ↦
           let mine : actor ≡ Session on.s = sym k.same ∙ on.actor_is in
           inr (inr (record {
@@ -104,7 +108,7 @@ first_event actor all clocks w h line lines e fate k own is so =
           }))
     ]
 
-opened_by : (actor : Actor) (all : List Line) (clocks : Clocks) (w : State) (h : List Item) (line : Line) (lines : List Line) (e : Event) (fate : Fate) → OwnLine actor w h line → IsNextOf clocks line.actor line.verb Opens (view_of w line.actor) e → IsAnsweredTo actor all h None (line ∷ lines) → (own : Bool) → is_of actor line ≡ own → let step : Step = stepped w e fate in Present actor all step.state (h ++ step.items) (follows line.verb Opens (halt_of step.stop)) line lines
+opened_by : (actor : Actor) (all : List Line) (clocks : Clocks) (w : State) (h : List Item) (line : Line) (lines : List Line) (e : Event) (fate : Fate) → OwnLine actor clocks w h line → IsNextOf clocks line.actor line.verb Opens (view_of w line.actor) e → IsAnsweredTo actor all h None (line ∷ lines) → (own : Bool) → is_of actor line ≡ own → let step : Step = stepped w e fate in Present actor all step.state (h ++ step.items) (follows line.verb Opens (halt_of step.stop)) line lines
 opened_by actor all clocks w h line lines e fate k is so false not =
     let step : Step = stepped w e fate in
     inr (inl (follows_later line.verb Opens step, answered_past actor all h step.items None lines (plain_event actor clocks w h line Opens e fate k not is) (answered_skip actor all h line lines not so)))
@@ -112,7 +116,7 @@ opened_by actor all clocks w h line lines e fate k (inl is) so true own = first_
 opened_by actor all clocks w h line lines e fate k (inr (opens, collects, is)) so true own = absurd (collects_not line.actor line.verb collects (own_opening actor line k.same true own))
 
 -- a step of a read that is under way
-read_event : (actor : Actor) (all : List Line) (clocks : Clocks) (w : State) (h : List Item) (line : Line) (lines : List Line) (e : Event) (fate : Fate) → OwnLine actor w h line → (k : ReadUnderWay actor all w h Reads line lines) → next clocks line.actor line.verb Reads (view_of w line.actor) ≡ Some e → let step : Step = stepped w e fate in Present actor all step.state (h ++ step.items) (follows line.verb Reads (halt_of step.stop)) line lines
+read_event : (actor : Actor) (all : List Line) (clocks : Clocks) (w : State) (h : List Item) (line : Line) (lines : List Line) (e : Event) (fate : Fate) → OwnLine actor clocks w h line → (k : ReadUnderWay actor all w h Reads line lines) → next clocks line.actor line.verb Reads (view_of w line.actor) ≡ Some e → let step : Step = stepped w e fate in Present actor all step.state (h ++ step.items) (follows line.verb Reads (halt_of step.stop)) line lines
 read_event actor all clocks w h line lines e fate own k is =
     let step : Step = stepped w e fate in
     let mine : read_next k.s (doing_of w k.s) ≡ Some e = subst (λ (a : Actor). next clocks a line.verb Reads (view_of w a) ≡ Some e) (own.same ∙ k.actor_is) is in
@@ -130,11 +134,11 @@ read_event actor all clocks w h line lines e fate own k is =
       }))
     ]
 
-reads_by : (actor : Actor) (all : List Line) (clocks : Clocks) (w : State) (h : List Item) (line : Line) (lines : List Line) (e : Event) (fate : Fate) → OwnLine actor w h line → ReadUnderWay actor all w h Reads line lines → IsNextOf clocks line.actor line.verb Reads (view_of w line.actor) e → let step : Step = stepped w e fate in Present actor all step.state (h ++ step.items) (follows line.verb Reads (halt_of step.stop)) line lines
+reads_by : (actor : Actor) (all : List Line) (clocks : Clocks) (w : State) (h : List Item) (line : Line) (lines : List Line) (e : Event) (fate : Fate) → OwnLine actor clocks w h line → ReadUnderWay actor all w h Reads line lines → IsNextOf clocks line.actor line.verb Reads (view_of w line.actor) e → let step : Step = stepped w e fate in Present actor all step.state (h ++ step.items) (follows line.verb Reads (halt_of step.stop)) line lines
 reads_by actor all clocks w h line lines e fate own k (inl is) = read_event actor all clocks w h line lines e fate own k is
 reads_by actor all clocks w h line lines e fate own k (inr (opens, collects, is)) = absurd (cc)
 
-pub stands_on : (actor : Actor) (all : List Line) (clocks : Clocks) (w : State) (h : List Item) (at : Point) (line : Line) (lines : List Line) (e : Event) (fate : Fate) → OwnLine actor w h line → IsNextOf clocks line.actor line.verb at (view_of w line.actor) e → Present actor all w h at line lines → let step : Step = stepped w e fate in Present actor all step.state (h ++ step.items) (follows line.verb at (halt_of step.stop)) line lines
+pub stands_on : (actor : Actor) (all : List Line) (clocks : Clocks) (w : State) (h : List Item) (at : Point) (line : Line) (lines : List Line) (e : Event) (fate : Fate) → OwnLine actor clocks w h line → IsNextOf clocks line.actor line.verb at (view_of w line.actor) e → Present actor all w h at line lines → let step : Step = stepped w e fate in Present actor all step.state (h ++ step.items) (follows line.verb at (halt_of step.stop)) line lines
 stands_on actor all clocks w h at line lines e fate k is (inl (opens, so)) =
     let step : Step = stepped w e fate in
     subst (λ (p : Point). Present actor all step.state (h ++ step.items) (follows line.verb p (halt_of step.stop)) line lines) (sym opens) (opened_by actor all clocks w h line lines e fate k (subst (λ (p : Point). IsNextOf clocks line.actor line.verb p (view_of w line.actor) e) opens is) so (is_of actor line) refl)

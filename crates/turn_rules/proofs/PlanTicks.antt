@@ -5,6 +5,7 @@ use Rattle.std.proofs.lemmas.Option.{same_Some}
 use Rattle.history_book.specs.declared.item.Actor.{Actor}
 use Rattle.history_book.specs.declared.item.Actor.TheVariants.{Clock, Node, Session, Janitor}
 use Rattle.machine.specs.declared.event.Event.{Event}
+use Rattle.machine.specs.declared.event.Event.TheVariants as event
 use Rattle.script_data.specs.declared.line.Line.{Line}
 use Rattle.script_data.specs.declared.line.Verb.{Verb}
 use Rattle.script_data.specs.declared.line.Verb.TheVariants as verb
@@ -13,6 +14,8 @@ use Rattle.line_steps.specs.declared.point.Point.{Point}
 use Rattle.line_steps.specs.declared.point.Point.TheVariants.{Opens, Drives, Extends, Finishes, Reads, Steps, Over}
 use Rattle.line_steps.specs.declared.point.View.{View}
 use Rattle.line_steps.specs.Answers.{same_actor}
+use Rattle.line_steps.specs.Clocks.{clocks}
+use Rattle.line_steps.specs.Master.{last_master}
 use Rattle.line_steps.specs.Next.{Clocks}
 use Rattle.line_steps.specs.Planned.{tick_by, with_tick, ticks_in}
 use Rattle.line_steps.specs.Runs.{clocks_of}
@@ -24,10 +27,10 @@ use Rattle.turn_rules.specs.declared.ahead.Ahead.TheVariants.{Passes}
 use Rattle.turn_rules.specs.declared.seat.Seat.{Seat}
 use Rattle.turn_rules.specs.Seats.{lines_of, lines_left, ahead_of}
 use Rattle.turn_rules.specs.Waiting.{own_opens}
-use Rattle.turn_rules.specs.Carried.{Carried, seat_passed}
+use Rattle.turn_rules.specs.Carried.{Carried, aimed_node, aimed_clocks, seat_passed}
 use Rattle.turn_rules.specs.Laws.{unanswered, ticks_ahead}
 use Rattle.turn_rules.proofs.OwnEvents.{IsNextOf}
-use Rattle.turn_rules.proofs.OwnTurns.{present_own}
+use Rattle.turn_rules.proofs.OwnTurns.{present_own, OwnTurn}
 use Rattle.turn_rules.proofs.SeatLists.{drop_get}
 use Rattle.turn_rules.proofs.SeatsOn.{passed_keeps}
 
@@ -38,11 +41,24 @@ collect_tick (Node n) = refl
 collect_tick (Session s) = refl
 collect_tick Janitor = refl
 
-pub own_reads : LinesReadClocks → (clocks : Clocks) (actor : Actor) (line : Verb) (at : Point) (view : View) (e : Event) → IsNextOf clocks actor line at view e → ReadsClocks clocks (tick_at at actor line) e
+own_reads : LinesReadClocks → (clocks : Clocks) (actor : Actor) (line : Verb) (at : Point) (view : View) (e : Event) → IsNextOf clocks actor line at view e → ReadsClocks clocks (tick_at at actor line) e
 own_reads read clocks actor line at view e (inl is) = read clocks actor line at view e is
 own_reads read clocks actor line at view e (inr (opens, collects, is)) =
     let none : tick_at at actor line ≡ None = ap (λ (p : Point). tick_at p actor line) opens ∙ ap (λ (v : Verb). tick_by actor v) collects ∙ collect_tick actor in
     subst (λ (tick : Option ℕ). ReadsClocks clocks tick e) (sym none) (read clocks actor line Drives view e is)
+
+-- what an event reads does not depend on the node that a line asks
+reads_anyhow : (base : ℕ) (leads : List ℕ) (one two : ℕ) (tick : Option ℕ) (e : Event) → ReadsClocks (clocks base leads one) tick e → ReadsClocks (clocks base leads two) tick e
+reads_anyhow base leads one two tick (event.Tick to) reads = reads
+reads_anyhow base leads one two tick (event.Take node reading) reads = reads
+reads_anyhow base leads one two tick (event.Renew node reading) reads = reads
+reads_anyhow base leads one two tick (event.Accept node session reading) reads = reads
+reads_anyhow base leads one two tick _ reads = reads
+
+pub turn_reads : LinesReadClocks → (script : ScriptData) (c : Carried) (actor : Actor) (aim : ℕ) (e : Event) (k : OwnTurn script c actor aim e) → ReadsClocks (clocks_of script c.played) (tick_at k.seat.point k.line.actor k.line.verb) e
+turn_reads read script c actor aim e k =
+    let tick : Option ℕ = tick_at k.seat.point k.line.actor k.line.verb in
+    reads_anyhow c.played.clock script.leads (aimed_node c.played.items aim) (last_master c.played.items) tick e (own_reads read (aimed_clocks script c aim) k.line.actor k.line.verb k.seat.point (view_of c.played.state k.line.actor) e k.next)
 
 pub stage_reads : (clocks : Clocks) (made e : Event) → Some made ≡ Some e → ReadsClocks clocks None made → ReadsClocks clocks None e
 stage_reads clocks made e is reads = subst (λ (x : Event). ReadsClocks clocks None x) (same_Some made e is) reads

@@ -1,5 +1,5 @@
 -- What a seat keeps while it passes lines, and what a turn makes of the seats.
-use Rattle.std.proofs.Common.{◌≡◌, Bool, true, false, cond, List, [], ◌∷◌, Option, Some, None, refl, sym, ◌∙◌, ap, subst}
+use Rattle.std.proofs.Common.{◌≡◌, ℕ, Bool, true, false, cond, List, [], ◌∷◌, Option, Some, None, refl, sym, ◌∙◌, ap, subst}
 use Rattle.std.specs.Prelude.{map}
 use Rattle.std.specs.Option.{option_map}
 use Rattle.history_book.specs.declared.item.Actor.{Actor}
@@ -51,7 +51,7 @@ moved_by step seat None true = refl
 moved_by step seat (Some line) true = refl
 
 pub moved_actor : (script : ScriptData) (t : Turn) (step : Step) (seat : Seat) → (moved script t step seat).actor ≡ seat.actor
-moved_actor script (turn.Own actor) step seat = moved_by step seat (present_line script seat) (same_actor seat.actor actor)
+moved_actor script (turn.Own actor aim) step seat = moved_by step seat (present_line script seat) (same_actor seat.actor actor)
 moved_actor script (turn.Accept node session) step seat = refl
 moved_actor script (turn.Decide node session) step seat = refl
 moved_actor script (turn.Put node session) step seat = refl
@@ -59,13 +59,13 @@ moved_actor script (turn.Answer node session) step seat = refl
 moved_actor script (turn.Extend node) step seat = refl
 
 -- the seat of the actor whose turn it is goes on
-pub own_moved : (script : ScriptData) (actor : Actor) (step : Step) (seat : Seat) (line : Line) → seat.actor ≡ actor → present_line script seat ≡ Some line → moved script (turn.Own actor) step seat ≡ with_event_of line step seat
-own_moved script actor step seat line same present =
+pub own_moved : (script : ScriptData) (actor : Actor) (aim : ℕ) (step : Step) (seat : Seat) (line : Line) → seat.actor ≡ actor → present_line script seat ≡ Some line → moved script (turn.Own actor aim) step seat ≡ with_event_of line step seat
+own_moved script actor aim step seat line same present =
     ap (λ (mine : Bool). cond mine (with_event_at (present_line script seat) step seat) seat) (ap (λ (a : Actor). same_actor a actor) same ∙ same_itself actor) ∙ ap (λ (found : Option Line). with_event_at found step seat) present
 
 -- and that of another stays
-pub other_stays : (script : ScriptData) (step : Step) (actor : Actor) (seat : Seat) → same_actor seat.actor actor ≡ false → moved script (turn.Own actor) step seat ≡ seat
-other_stays script step actor seat not = ap (λ (mine : Bool). cond mine (with_event_at (present_line script seat) step seat) seat) not
+pub other_stays : (script : ScriptData) (step : Step) (actor : Actor) (aim : ℕ) (seat : Seat) → same_actor seat.actor actor ≡ false → moved script (turn.Own actor aim) step seat ≡ seat
+other_stays script step actor aim seat not = ap (λ (mine : Bool). cond mine (with_event_at (present_line script seat) step seat) seat) not
 
 -- ---- the seats after a turn
 mapped : (f : Seat → Seat) → ((seat : Seat) → (f seat).actor ≡ seat.actor) → (seats : List Seat) (actor : Actor) → seat_of (map f seats) actor ≡ option_map f (seat_of seats actor)

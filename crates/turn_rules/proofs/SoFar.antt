@@ -1,5 +1,5 @@
 -- Whichever turns are made, each actor's lines are answered up to its seat.
-use Rattle.std.proofs.Common.{◌≡◌, ℕ, suc, Bool, true, false, List, [], ◌∷◌, ◌++◌, Option, Some, None, inl, inr, refl, sym, ◌∙◌, ap, subst}
+use Rattle.std.proofs.Common.{◌≡◌, ℕ, suc, Bool, true, false, cond, List, [], ◌∷◌, ◌++◌, Option, Some, None, inl, inr, refl, sym, ◌∙◌, ap, subst}
 use Rattle.std.specs.Prelude.{drop, fold}
 use Rattle.std.specs.Option.{option_map}
 use Rattle.stamp_base.specs.SetupNumbers.{SetupNumbers}
@@ -10,9 +10,13 @@ use Rattle.machine.specs.declared.event.Event.{Event}
 use Rattle.machine.specs.Machine.{Step}
 use Rattle.machine.specs.State.{State}
 use Rattle.script_data.specs.declared.line.Line.{Line}
+use Rattle.script_data.specs.declared.line.Target.{Target}
+use Rattle.script_data.specs.declared.line.Target.TheVariants as target
 use Rattle.script_data.specs.Data.{ScriptData}
-use Rattle.line_steps.specs.Answers.{same_actor}
+use Rattle.line_steps.specs.Answers.{same_actor, asks_some}
 use Rattle.line_steps.specs.Laws.{ActorFits, VerbFits, AreLinesOf, IsPlayable}
+use Rattle.line_steps.specs.Master.{has_take}
+use Rattle.line_steps.specs.Next.{target_node}
 use Rattle.line_steps.specs.Runs.{fate_of, clocks_of, step_of}
 use Rattle.line_steps.specs.Views.{view_of}
 use Rattle.line_steps.specs.declared.point.Point.TheVariants.{Drives}
@@ -20,12 +24,13 @@ use Rattle.line_steps.proofs.LineWalks.{any_not}
 use Rattle.line_steps.proofs.PlainEvents.{events_plain}
 use Rattle.line_steps.proofs.ReadLines.{ReadsKey}
 use Rattle.line_steps.proofs.ScriptWalks.{actor_same, same_itself}
+use Rattle.line_steps.proofs.Takes.{some_fits}
 use Rattle.line_steps.proofs.Walks.{AllNot, plain_not}
 use Rattle.turn_rules.specs.declared.seat.Seat.{Seat}
 use Rattle.turn_rules.specs.declared.turn.Turn.{Turn}
 use Rattle.turn_rules.specs.declared.turn.Turn.TheVariants as turn
 use Rattle.turn_rules.specs.Seats.{lines_of, lines_left, with_event_of}
-use Rattle.turn_rules.specs.Carried.{Carried, seat_of, event_of, moved, with_event, seat_passed, all_passed, turned_by, turned}
+use Rattle.turn_rules.specs.Carried.{Carried, aimed_node, aimed_clocks, seat_of, event_of, moved, with_event, seat_passed, all_passed, turned_by, turned}
 use Rattle.turn_rules.specs.Laws.{IsAnsweredTo}
 use Rattle.turn_rules.proofs.Facts.{Facts, facts_turned}
 use Rattle.turn_rules.proofs.OwnEvents.{IsNextOf}
@@ -75,35 +80,46 @@ apart_staged script c t e actor k staged stays = record {
   stays = λ seat same. stays (step_of script c.played e) seat;
 }
 
+-- a line asks the node that it names, or the one at which its actor's share is aimed, which has taken the record, or the first
+aimed_by : (h : List Item) (aim : ℕ) (has : Bool) → has_take h aim ≡ has → asks_some h target.Master (cond has aim 0)
+aimed_by h aim true has = inr has
+aimed_by h aim false none = inl refl
+
+may_ask : (script : ScriptData) (c : Carried) (aim : ℕ) (to : Target) → asks_some c.played.items to (target_node (aimed_clocks script c aim) to)
+may_ask script c aim (target.Node node) = refl
+may_ask script c aim target.Master = aimed_by c.played.items aim (has_take c.played.items aim) refl
+
 -- another actor's
 -- the line that makes it is one of the system
-pub own_fits : (script : ScriptData) (c : Carried) (who : Actor) (e : Event) → AreLinesOf script.setup script.lines → Facts script c → (own : OwnTurn script c who e) → OwnLine who c.played.state c.played.items own.line
-own_fits script c who e of_script k own =
+pub own_fits : (script : ScriptData) (c : Carried) (who : Actor) (aim : ℕ) (e : Event) → AreLinesOf script.setup script.lines → Facts script c → (own : OwnTurn script c who aim e) → OwnLine who (aimed_clocks script c aim) c.played.state c.played.items own.line
+own_fits script c who aim e of_script k own =
     let fits : ActorFits script.setup own.line.actor × VerbFits script.setup own.line.verb = present_fits script own.seat own.line of_script own.present in
     record {
       stands = k.reached.stands;
       fit = k.fit;
       in_range = subst (λ (setup : SetupNumbers). ActorFits setup own.line.actor) (sym k.reached.setup) fits.0;
       asks = subst (λ (setup : SetupNumbers). VerbFits setup own.line.verb) (sym k.reached.setup) fits.1;
+      master = some_fits c.played.state.setup.nodes c.played.items (aimed_node c.played.items aim) k.takes (may_ask script c aim target.Master);
+      may = may_ask script c aim;
       same = own.own;
     }
 
-others_not : (script : ScriptData) (c : Carried) (who actor : Actor) (e : Event) → (own : OwnTurn script c who e) → OwnLine who c.played.state c.played.items own.line → (own.line.actor ≡ actor → ⊥) → IsNextOf (clocks_of script c.played) own.line.actor own.line.verb own.seat.point (view_of c.played.state own.line.actor) e → AllNot actor (step_of script c.played e).items
-others_not script c who actor e own k other (inl is) = any_not actor (clocks_of script c.played) c.played.state c.played.items own.line own.seat.point e (fate_of script c.played e) k.stands k.fit k.in_range k.asks (λ opening same. other same) is
-others_not script c who actor e own k other (inr (opens, collects, is)) = any_not actor (clocks_of script c.played) c.played.state c.played.items own.line Drives e (fate_of script c.played e) k.stands k.fit k.in_range k.asks (λ opening same. other same) is
+others_not : (script : ScriptData) (c : Carried) (who : Actor) (aim : ℕ) (actor : Actor) (e : Event) → (own : OwnTurn script c who aim e) → OwnLine who (aimed_clocks script c aim) c.played.state c.played.items own.line → (own.line.actor ≡ actor → ⊥) → IsNextOf (aimed_clocks script c aim) own.line.actor own.line.verb own.seat.point (view_of c.played.state own.line.actor) e → AllNot actor (step_of script c.played e).items
+others_not script c who aim actor e own k other (inl is) = any_not actor (aimed_clocks script c aim) c.played.state c.played.items own.line own.seat.point e (fate_of script c.played e) k.stands k.fit k.in_range k.asks k.master (λ opening same. other same) is
+others_not script c who aim actor e own k other (inr (opens, collects, is)) = any_not actor (aimed_clocks script c aim) c.played.state c.played.items own.line Drives e (fate_of script c.played e) k.stands k.fit k.in_range k.asks k.master (λ opening same. other same) is
 
-apart_own : (script : ScriptData) (c : Carried) (who actor : Actor) (e : Event) → AreLinesOf script.setup script.lines → Facts script c → OwnTurn script c who e → same_actor actor who ≡ false → Apart script c (turn.Own who) e actor
-apart_own script c who actor e of_script k own not =
+apart_own : (script : ScriptData) (c : Carried) (who : Actor) (aim : ℕ) (actor : Actor) (e : Event) → AreLinesOf script.setup script.lines → Facts script c → OwnTurn script c who aim e → same_actor actor who ≡ false → Apart script c (turn.Own who aim) e actor
+apart_own script c who aim actor e of_script k own not =
     let other : own.line.actor ≡ actor → ⊥ = λ same. let clash : true ≡ false = sym (same_itself actor) ∙ ap (λ (a : Actor). same_actor actor a) (sym same ∙ own.own) ∙ not in cc in
     record {
-      none = others_not script c who actor e own (own_fits script c who e of_script k own) other own.next;
-      reads = λ s key is reads. still_under_way script c e k s key (not_of s (clocks_of script c.played) own.line.actor own.line.verb own.seat.point (view_of c.played.state own.line.actor) e (λ same. other (same ∙ sym is)) own.next) reads;
-      stays = λ seat same. other_stays script (step_of script c.played e) who seat (ap (λ (a : Actor). same_actor a who) same ∙ not);
+      none = others_not script c who aim actor e own (own_fits script c who aim e of_script k own) other own.next;
+      reads = λ s key is reads. still_under_way script c e k s key (not_of s (aimed_clocks script c aim) own.line.actor own.line.verb own.seat.point (view_of c.played.state own.line.actor) e (λ same. other (same ∙ sym is)) own.next) reads;
+      stays = λ seat same. other_stays script (step_of script c.played e) who aim seat (ap (λ (a : Actor). same_actor a who) same ∙ not);
     }
 
 -- ---- the actor's own event
-own_at : (script : ScriptData) (c : Carried) (actor : Actor) (e : Event) → AreLinesOf script.setup script.lines → Facts script c → OwnTurn script c actor e → IsAt script c actor (seat_of c.seats actor) → IsAt script (with_event script c (turn.Own actor) e) actor (option_map (moved script (turn.Own actor) (step_of script c.played e)) (seat_of c.seats actor))
-own_at script c actor e of_script k own at =
+own_at : (script : ScriptData) (c : Carried) (actor : Actor) (aim : ℕ) (e : Event) → AreLinesOf script.setup script.lines → Facts script c → OwnTurn script c actor aim e → IsAt script c actor (seat_of c.seats actor) → IsAt script (with_event script c (turn.Own actor aim) e) actor (option_map (moved script (turn.Own actor aim) (step_of script c.played e)) (seat_of c.seats actor))
+own_at script c actor aim e of_script k own at =
     let w : State = c.played.state in
     let h : List Item = c.played.items in
     let step : Step = step_of script c.played e in
@@ -112,24 +128,24 @@ own_at script c actor e of_script k own at =
     let here : IsAt script c actor (Some own.seat) = subst (λ (found : Option Seat). IsAt script c actor found) own.sits at in
     let present : Present actor script.lines w h own.seat.point own.line lines = subst (λ (ls : List Line). StandsSo actor script.lines w h own.seat.point ls) left here.1 in
     let after : Seat = with_event_of own.line step own.seat in
-    let on : StandsSo actor script.lines step.state (h ++ step.items) after.point (own.line ∷ lines) = stands_on actor script.lines (clocks_of script c.played) w h own.seat.point own.line lines e (fate_of script c.played e) (own_fits script c actor e of_script k own) own.next present in
-    let now : IsAt script (with_event script c (turn.Own actor) e) actor (Some after) = (own.same, subst (λ (ls : List Line). StandsSo actor script.lines step.state (h ++ step.items) after.point ls) (sym left) on) in
-    let moves : IsAt script (with_event script c (turn.Own actor) e) actor (Some (moved script (turn.Own actor) step own.seat)) = subst (λ (seat : Seat). IsAt script (with_event script c (turn.Own actor) e) actor (Some seat)) (sym (own_moved script actor step own.seat own.line own.same own.present)) now in
-    subst (λ (found : Option Seat). IsAt script (with_event script c (turn.Own actor) e) actor (option_map (moved script (turn.Own actor) step) found)) (sym own.sits) moves
+    let on : StandsSo actor script.lines step.state (h ++ step.items) after.point (own.line ∷ lines) = stands_on actor script.lines (aimed_clocks script c aim) w h own.seat.point own.line lines e (fate_of script c.played e) (own_fits script c actor aim e of_script k own) own.next present in
+    let now : IsAt script (with_event script c (turn.Own actor aim) e) actor (Some after) = (own.same, subst (λ (ls : List Line). StandsSo actor script.lines step.state (h ++ step.items) after.point ls) (sym left) on) in
+    let moves : IsAt script (with_event script c (turn.Own actor aim) e) actor (Some (moved script (turn.Own actor aim) step own.seat)) = subst (λ (seat : Seat). IsAt script (with_event script c (turn.Own actor aim) e) actor (Some seat)) (sym (own_moved script actor aim step own.seat own.line own.same own.present)) now in
+    subst (λ (found : Option Seat). IsAt script (with_event script c (turn.Own actor aim) e) actor (option_map (moved script (turn.Own actor aim) step) found)) (sym own.sits) moves
 
 -- ---- each turn
-own_by : (script : ScriptData) (c : Carried) (who actor : Actor) (e : Event) → AreLinesOf script.setup script.lines → Facts script c → OwnTurn script c who e → IsAt script c actor (seat_of c.seats actor) → (mine : Bool) → same_actor actor who ≡ mine → IsAt script (with_event script c (turn.Own who) e) actor (option_map (moved script (turn.Own who) (step_of script c.played e)) (seat_of c.seats actor))
-own_by script c who actor e of_script k own at false not = apart_at script c (turn.Own who) e actor (apart_own script c who actor e of_script k own not) (seat_of c.seats actor) at
-own_by script c who actor e of_script k own at true is =
+own_by : (script : ScriptData) (c : Carried) (who : Actor) (aim : ℕ) (actor : Actor) (e : Event) → AreLinesOf script.setup script.lines → Facts script c → OwnTurn script c who aim e → IsAt script c actor (seat_of c.seats actor) → (mine : Bool) → same_actor actor who ≡ mine → IsAt script (with_event script c (turn.Own who aim) e) actor (option_map (moved script (turn.Own who aim) (step_of script c.played e)) (seat_of c.seats actor))
+own_by script c who aim actor e of_script k own at false not = apart_at script c (turn.Own who aim) e actor (apart_own script c who aim actor e of_script k own not) (seat_of c.seats actor) at
+own_by script c who aim actor e of_script k own at true is =
     let same : actor ≡ who = actor_same actor who is in
-    let mine : OwnTurn script c actor e = subst (λ (a : Actor). OwnTurn script c a e) (sym same) own in
-    subst (λ (a : Actor). IsAt script (with_event script c (turn.Own a) e) actor (option_map (moved script (turn.Own a) (step_of script c.played e)) (seat_of c.seats actor))) same (own_at script c actor e of_script k mine at)
+    let mine : OwnTurn script c actor aim e = subst (λ (a : Actor). OwnTurn script c a aim e) (sym same) own in
+    subst (λ (a : Actor). IsAt script (with_event script c (turn.Own a aim) e) actor (option_map (moved script (turn.Own a aim) (step_of script c.played e)) (seat_of c.seats actor))) same (own_at script c actor aim e of_script k mine at)
 
 staged_at : (script : ScriptData) (c : Carried) (t : Turn) (e : Event) (actor : Actor) → Facts script c → StageTurn script c e → ((step : Step) (seat : Seat) → moved script t step seat ≡ seat) → IsAt script c actor (seat_of c.seats actor) → IsAt script (with_event script c t e) actor (option_map (moved script t (step_of script c.played e)) (seat_of c.seats actor))
 staged_at script c t e actor k staged stays at = apart_at script c t e actor (apart_staged script c t e actor k staged stays) (seat_of c.seats actor) at
 
 made_at : (script : ScriptData) (c : Carried) (t : Turn) (e : Event) (actor : Actor) → AreLinesOf script.setup script.lines → Facts script c → event_of script c t ≡ Some e → IsAt script c actor (seat_of c.seats actor) → IsAt script (with_event script c t e) actor (option_map (moved script t (step_of script c.played e)) (seat_of c.seats actor))
-made_at script c (turn.Own who) e actor of_script k is at = own_by script c who actor e of_script k (own_turn script c who e is) at (same_actor actor who) refl
+made_at script c (turn.Own who aim) e actor of_script k is at = own_by script c who aim actor e of_script k (own_turn script c who aim e is) at (same_actor actor who) refl
 made_at script c (turn.Accept node session) e actor of_script k is at = staged_at script c (turn.Accept node session) e actor k (stage_turn script c (turn.Accept node session) e (λ own. own) is) (λ step seat. refl) at
 made_at script c (turn.Decide node session) e actor of_script k is at = staged_at script c (turn.Decide node session) e actor k (stage_turn script c (turn.Decide node session) e (λ own. own) is) (λ step seat. refl) at
 made_at script c (turn.Put node session) e actor of_script k is at = staged_at script c (turn.Put node session) e actor k (stage_turn script c (turn.Put node session) e (λ own. own) is) (λ step seat. refl) at

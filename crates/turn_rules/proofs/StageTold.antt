@@ -110,6 +110,6 @@ pub stage_turns_are_told : StageTurnsAreTold
 stage_turns_are_told script c (turn.Accept node s) e stands tells is in_place = by_event script c.played (event.Accept node s (reading_at (clocks_of script c.played) node)) e is (accept_told script c.played node s place.Asked stands in_place (reading_at (clocks_of script c.played) node))
 stage_turns_are_told script c (turn.Put node s) e stands tells is in_place = by_event script c.played (event.Put node s) e is (put_told script c.played node s place.Drawn in_place.0)
 stage_turns_are_told script c (turn.Extend node) e stands tells is in_place = by_event script c.played (event.Extend node) e is (extend_by_post script c.played node (slice_get c.played.state.nodes node) refl in_place)
-stage_turns_are_told script c (turn.Own actor) e stands tells is in_place = absurd tells
+stage_turns_are_told script c (turn.Own actor aim) e stands tells is in_place = absurd tells
 stage_turns_are_told script c (turn.Decide node s) e stands tells is in_place = absurd tells
 stage_turns_are_told script c (turn.Answer node s) e stands tells is in_place = absurd tells

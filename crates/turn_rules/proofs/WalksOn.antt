@@ -2,6 +2,7 @@
 -- take further.
 use Rattle.std.proofs.Common.{◌≡◌, ℕ, Bool, true, false, cond, List, [], ◌∷◌, ◌++◌, append_assoc, Option, Some, None, ◌⊎◌, inl, inr, refl, sym, subst}
 use Rattle.std.specs.Prelude.{filter}
+use Rattle.std.proofs.lemmas.List.{append-nil}
 use Rattle.history_book.specs.declared.item.Actor.{Actor}
 use Rattle.history_book.specs.declared.item.Actor.TheVariants.{Session}
 use Rattle.history_book.specs.declared.item.Item.{Item}
@@ -11,54 +12,56 @@ use Rattle.script_data.specs.declared.line.Verb.{Verb}
 use Rattle.script_data.specs.declared.line.Verb.TheVariants as verb
 use Rattle.line_steps.specs.declared.point.Point.{Point}
 use Rattle.line_steps.specs.declared.point.Point.TheVariants.{Opens, Reads}
-use Rattle.line_steps.specs.Answers.{is_of, Answered}
+use Rattle.line_steps.specs.Answers.{is_of, IsAnswer, read_begun, asks_some, Answered}
 use Rattle.line_steps.proofs.FetchLines.{ReadBegun}
 use Rattle.line_steps.proofs.LaterEvents.{IsLater}
 use Rattle.line_steps.proofs.ReadLines.{ReadsKey}
-use Rattle.line_steps.proofs.Walks.{AllNot, Paid, LineItems, walks_over, walks_read, walks_line}
+use Rattle.line_steps.proofs.Walks.{AllNot, Paid, LineItems, shifted, walks_over, walks_read, walks_line}
 use Rattle.turn_rules.specs.Laws.{IsAnsweredTo}
 
 -- ---- the walk
 -- over items that open no line, to a read that is owed
-walks_owed : (actor : Actor) (key : ℕ) (lines : List Line) (xs ys : List Item) → AllNot actor xs → Answered actor (Some key) lines ys → Answered actor (Some key) lines (xs ++ ys)
+walks_owed : (actor : Actor) (key : ℕ) (before : List Item) (lines : List Line) (xs ys : List Item) → AllNot actor xs → Answered asks_some actor (before ++ xs) (Some key) lines ys → Answered asks_some actor before (Some key) lines (xs ++ ys)
 unfolding AllNot Answered
-walks_owed actor key lines [] ys none walks = walks
-walks_owed actor key lines (x ∷ xs) ys none walks = inr (none.0, walks_owed actor key lines xs ys none.1 walks)
+walks_owed actor key before lines [] ys none walks = subst (λ (h : List Item). Answered asks_some actor h (Some key) lines ys) (append-nil before) walks
+walks_owed actor key before lines (x ∷ xs) ys none walks = inr (none.0, walks_owed actor key (before ++ x ∷ []) lines xs ys none.1 (shifted asks_some actor before (Some key) lines x xs ys walks))
 
-walks_past : (actor : Actor) (begun : Option ℕ) (lines : List Line) (xs ys : List Item) → AllNot actor xs → Answered actor begun lines ys → Answered actor begun lines (xs ++ ys)
-walks_past actor None lines xs ys none walks = walks_over actor lines xs ys none walks
-walks_past actor (Some key) lines xs ys none walks = walks_owed actor key lines xs ys none walks
+walks_past : (actor : Actor) (before : List Item) (begun : Option ℕ) (lines : List Line) (xs ys : List Item) → AllNot actor xs → Answered asks_some actor (before ++ xs) begun lines ys → Answered asks_some actor before begun lines (xs ++ ys)
+walks_past actor before None lines xs ys none walks = walks_over asks_some actor before lines xs ys none walks
+walks_past actor before (Some key) lines xs ys none walks = walks_owed actor key before lines xs ys none walks
 
 -- over the items with which a read of a line begins
-walks_begun : (w : State) (s key : ℕ) (line : Line) (lines : List Line) (xs ys : List Item) → line.actor ≡ Session s → line.verb ≡ verb.Read key → ReadBegun w s key xs → Answered (Session s) (Some key) lines ys → Answered (Session s) None (line ∷ lines) (xs ++ ys)
+walks_begun : (w : State) (s key : ℕ) (before : List Item) (line : Line) (lines : List Line) (xs ys : List Item) → line.actor ≡ Session s → line.verb ≡ verb.Read key → ReadBegun w s key xs → Answered asks_some (Session s) (before ++ xs) (Some key) lines ys → Answered asks_some (Session s) before None (line ∷ lines) (xs ++ ys)
 unfolding Answered
-walks_begun w s key line lines xs ys actor_is verb_is k walks =
-    let rest : Answered (Session s) (Some key) lines (k.rest ++ ys) = walks_owed (Session s) key lines k.rest ys k.none walks in
-    let begins : Answered (Session s) (Rattle.line_steps.specs.Answers.read_begun (verb.Read key) k.first) lines (k.rest ++ ys) = subst (λ (begun : Option ℕ). Answered (Session s) begun lines (k.rest ++ ys)) (sym k.begun) rest in
-    let first : Rattle.line_steps.specs.Answers.IsAnswer line.actor line.verb k.first = subst (λ (a : Actor). Rattle.line_steps.specs.Answers.IsAnswer a line.verb k.first) (sym actor_is) (subst (λ (v : Verb). Rattle.line_steps.specs.Answers.IsAnswer (Session s) v k.first) (sym verb_is) k.answers) in
-    let begun : Answered (Session s) (Rattle.line_steps.specs.Answers.read_begun line.verb k.first) lines (k.rest ++ ys) = subst (λ (v : Verb). Answered (Session s) (Rattle.line_steps.specs.Answers.read_begun v k.first) lines (k.rest ++ ys)) (sym verb_is) begins in
-    subst (λ (items : List Item). Answered (Session s) None (line ∷ lines) (items ++ ys)) (sym k.is) (inl (first, begun))
+walks_begun w s key before line lines xs ys actor_is verb_is k walks =
+    let behind : List Item = before ++ k.first ∷ [] in
+    let at : Answered asks_some (Session s) (before ++ k.first ∷ k.rest) (Some key) lines ys = subst (λ (items : List Item). Answered asks_some (Session s) (before ++ items) (Some key) lines ys) k.is walks in
+    let rest : Answered asks_some (Session s) behind (Some key) lines (k.rest ++ ys) = walks_owed (Session s) key behind lines k.rest ys k.none (shifted asks_some (Session s) before (Some key) lines k.first k.rest ys at) in
+    let begins : Answered asks_some (Session s) behind (read_begun (verb.Read key) k.first) lines (k.rest ++ ys) = subst (λ (begun : Option ℕ). Answered asks_some (Session s) behind begun lines (k.rest ++ ys)) (sym k.begun) rest in
+    let first : IsAnswer (asks_some before) line.actor line.verb k.first = subst (λ (a : Actor). IsAnswer (asks_some before) a line.verb k.first) (sym actor_is) (subst (λ (v : Verb). IsAnswer (asks_some before) (Session s) v k.first) (sym verb_is) k.answers) in
+    let begun : Answered asks_some (Session s) behind (read_begun line.verb k.first) lines (k.rest ++ ys) = subst (λ (v : Verb). Answered asks_some (Session s) behind (read_begun v k.first) lines (k.rest ++ ys)) (sym verb_is) begins in
+    subst (λ (items : List Item). Answered asks_some (Session s) before None (line ∷ lines) (items ++ ys)) (sym k.is) (inl (first, begun))
 
 -- ---- what answers the rest, answers all
 -- more items answer some of the lines
-answered_on : (actor : Actor) (all : List Line) (h items : List Item) (begun then : Option ℕ) (lines rest : List Line) → IsAnsweredTo actor all h begun lines → ((later : List Item) → Answered actor then (filter (is_of actor) rest) later → Answered actor begun (filter (is_of actor) lines) (items ++ later)) → IsAnsweredTo actor all (h ++ items) then rest
-answered_on actor all h items begun then lines rest so on later walks = subst (λ (xs : List Item). Answered actor None (filter (is_of actor) all) xs) (sym (append_assoc h items later)) (so (items ++ later) (on later walks))
+answered_on : (actor : Actor) (all : List Line) (h items : List Item) (begun then : Option ℕ) (lines rest : List Line) → IsAnsweredTo actor all h begun lines → ((later : List Item) → Answered asks_some actor (h ++ items) then (filter (is_of actor) rest) later → Answered asks_some actor h begun (filter (is_of actor) lines) (items ++ later)) → IsAnsweredTo actor all (h ++ items) then rest
+answered_on actor all h items begun then lines rest so on later walks = subst (λ (xs : List Item). Answered asks_some actor [] None (filter (is_of actor) all) xs) (sym (append_assoc h items later)) (so (items ++ later) (on later walks))
 
 pub answered_past : (actor : Actor) (all : List Line) (h items : List Item) (begun : Option ℕ) (lines : List Line) → AllNot actor items → IsAnsweredTo actor all h begun lines → IsAnsweredTo actor all (h ++ items) begun lines
-answered_past actor all h items begun lines none so = answered_on actor all h items begun begun lines lines so (λ later walks. walks_past actor begun (filter (is_of actor) lines) items later none walks)
+answered_past actor all h items begun lines none so = answered_on actor all h items begun begun lines lines so (λ later walks. walks_past actor h begun (filter (is_of actor) lines) items later none walks)
 
 -- a line of a form without an opening item is not waited for
 pub answered_skip : (actor : Actor) (all : List Line) (h : List Item) (line : Line) (lines : List Line) → is_of actor line ≡ false → IsAnsweredTo actor all h None (line ∷ lines) → IsAnsweredTo actor all h None lines
-answered_skip actor all h line lines not so later walks = so later (subst (λ (own : Bool). Answered actor None (cond own (line ∷ filter (is_of actor) lines) (filter (is_of actor) lines)) later) (sym not) walks)
+answered_skip actor all h line lines not so later walks = so later (subst (λ (own : Bool). Answered asks_some actor h None (cond own (line ∷ filter (is_of actor) lines) (filter (is_of actor) lines)) later) (sym not) walks)
 
-pub answered_line : (actor : Actor) (all : List Line) (h items : List Item) (line : Line) (lines : List Line) → is_of actor line ≡ true → LineItems actor line.actor line.verb items → IsAnsweredTo actor all h None (line ∷ lines) → IsAnsweredTo actor all (h ++ items) None lines
-answered_line actor all h items line lines own k so = answered_on actor all h items None None (line ∷ lines) lines so (λ later walks. subst (λ (mine : Bool). Answered actor None (cond mine (line ∷ filter (is_of actor) lines) (filter (is_of actor) lines)) (items ++ later)) (sym own) (walks_line actor line (filter (is_of actor) lines) items later k walks))
+pub answered_line : (actor : Actor) (all : List Line) (h items : List Item) (line : Line) (lines : List Line) → is_of actor line ≡ true → LineItems (IsAnswer (asks_some h) line.actor line.verb) actor line.verb items → IsAnsweredTo actor all h None (line ∷ lines) → IsAnsweredTo actor all (h ++ items) None lines
+answered_line actor all h items line lines own k so = answered_on actor all h items None None (line ∷ lines) lines so (λ later walks. subst (λ (mine : Bool). Answered asks_some actor h None (cond mine (line ∷ filter (is_of actor) lines) (filter (is_of actor) lines)) (items ++ later)) (sym own) (walks_line asks_some actor h line (filter (is_of actor) lines) items later k walks))
 
 pub answered_begun : (w : State) (s key : ℕ) (all : List Line) (h items : List Item) (line : Line) (lines : List Line) → line.actor ≡ Session s → line.verb ≡ verb.Read key → is_of (Session s) line ≡ true → ReadBegun w s key items → IsAnsweredTo (Session s) all h None (line ∷ lines) → IsAnsweredTo (Session s) all (h ++ items) (Some key) lines
-answered_begun w s key all h items line lines actor_is verb_is own k so = answered_on (Session s) all h items None (Some key) (line ∷ lines) lines so (λ later walks. subst (λ (mine : Bool). Answered (Session s) None (cond mine (line ∷ filter (is_of (Session s)) lines) (filter (is_of (Session s)) lines)) (items ++ later)) (sym own) (walks_begun w s key line (filter (is_of (Session s)) lines) items later actor_is verb_is k walks))
+answered_begun w s key all h items line lines actor_is verb_is own k so = answered_on (Session s) all h items None (Some key) (line ∷ lines) lines so (λ later walks. subst (λ (mine : Bool). Answered asks_some (Session s) h None (cond mine (line ∷ filter (is_of (Session s)) lines) (filter (is_of (Session s)) lines)) (items ++ later)) (sym own) (walks_begun w s key h line (filter (is_of (Session s)) lines) items later actor_is verb_is k walks))
 
 pub answered_read : (actor : Actor) (key : ℕ) (all : List Line) (h items : List Item) (lines : List Line) → Paid actor key items → IsAnsweredTo actor all h (Some key) lines → IsAnsweredTo actor all (h ++ items) None lines
-answered_read actor key all h items lines paid so = answered_on actor all h items (Some key) None lines lines so (λ later walks. walks_read actor key (filter (is_of actor) lines) items later paid walks)
+answered_read actor key all h items lines paid so = answered_on actor all h items (Some key) None lines lines so (λ later walks. walks_read asks_some actor key h (filter (is_of actor) lines) items later paid walks)
 
 -- at first nothing is answered
 pub answered_none : (actor : Actor) (all : List Line) → IsAnsweredTo actor all [] None all

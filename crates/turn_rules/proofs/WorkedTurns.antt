@@ -14,11 +14,11 @@ use Rattle.turn_rules.specs.Seats.{seats_of, passed}
 use Rattle.turn_rules.specs.Carried.{own_ahead, carried, carried_items}
 use Rattle.turn_rules.specs.WorkedTurns as worked
 
-pub begin_waits : own_ahead worked.script (carried worked.script worked.asked_turns) (Session 0) ≡ Waits Reply
+pub begin_waits : own_ahead worked.script (carried worked.script worked.asked_turns) (Session 0) 0 ≡ Waits Reply
 unfolding seats_of passed holder_from planned_fate
 begin_waits = refl
 
-pub name_is_awaited : own_ahead worked.script (carried worked.script worked.asked_turns) (Node 0) ≡ Waits Name
+pub name_is_awaited : own_ahead worked.script (carried worked.script worked.asked_turns) (Node 0) 0 ≡ Waits Name
 unfolding seats_of passed holder_from planned_fate
 name_is_awaited = refl
 

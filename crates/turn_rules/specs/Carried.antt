@@ -16,7 +16,9 @@ use Rattle.script_data.specs.declared.line.Verb.{Verb}
 use Rattle.script_data.specs.declared.line.Verb.TheVariants as verb
 use Rattle.script_data.specs.Data.{ScriptData}
 use Rattle.line_steps.specs.Answers.{same_actor}
-use Rattle.line_steps.specs.Next.{reading_at}
+use Rattle.line_steps.specs.Clocks.{clocks}
+use Rattle.line_steps.specs.Master.{has_take}
+use Rattle.line_steps.specs.Next.{Clocks, reading_at}
 use Rattle.line_steps.specs.Runs.{Played, clocks_of, step_of, played, opening_played}
 use Rattle.line_steps.specs.Views.{view_of}
 use Rattle.turn_rules.specs.declared.ahead.Ahead.{Ahead}
@@ -69,24 +71,32 @@ held_after held (event.Note (Node node) (note.Hold stage)) = slice_set held node
 held_after held (event.Note (Node node) (note.Free stage)) = slice_set held node (with_stage (holds_at held node) stage false)
 held_after held _ = held
 
--- ---- what is ahead of a seat's present line
-abbrev pub ahead_at : ScriptData → Carried → Seat → Option Line → Ahead
-ahead_at script c seat None = Passes
-ahead_at script c seat (Some line) = ahead_of (clocks_of script c.played) (name_posted c.names line.verb) (view_of c.played.state seat.actor) line seat
+-- ---- what is ahead of a seat's present line, where its actor's share is aimed at this node
+-- the node that a line asks which names the master: that at which the share is aimed, where it has taken the record, or else the
+-- first
+abbrev pub aimed_node : List Item → ℕ → ℕ
+aimed_node items aim = if has_take items aim then aim else 0
 
-abbrev pub seat_ahead : ScriptData → Carried → Seat → Ahead
-seat_ahead script c seat = ahead_at script c seat (present_line script seat)
+abbrev pub aimed_clocks : ScriptData → Carried → ℕ → Clocks
+aimed_clocks script c aim = clocks c.played.clock script.leads (aimed_node c.played.items aim)
 
-abbrev pub ahead_in : ScriptData → Carried → Option Seat → Ahead
-ahead_in script c None = Passes
-ahead_in script c (Some seat) = seat_ahead script c seat
+abbrev pub ahead_at : ScriptData → Carried → Seat → Option Line → ℕ → Ahead
+ahead_at script c seat None aim = Passes
+ahead_at script c seat (Some line) aim = ahead_of (aimed_clocks script c aim) (name_posted c.names line.verb) (view_of c.played.state seat.actor) line seat
+
+abbrev pub seat_ahead : ScriptData → Carried → Seat → ℕ → Ahead
+seat_ahead script c seat aim = ahead_at script c seat (present_line script seat) aim
+
+abbrev pub ahead_in : ScriptData → Carried → Option Seat → ℕ → Ahead
+ahead_in script c None aim = Passes
+ahead_in script c (Some seat) aim = seat_ahead script c seat aim
 
 -- the seat of an actor
 abbrev pub seat_of : List Seat → Actor → Option Seat
 seat_of seats actor = find (λ seat. same_actor seat.actor actor) seats
 
-abbrev pub own_ahead : ScriptData → Carried → Actor → Ahead
-own_ahead script c actor = ahead_in script c (seat_of c.seats actor)
+abbrev pub own_ahead : ScriptData → Carried → Actor → ℕ → Ahead
+own_ahead script c actor aim = ahead_in script c (seat_of c.seats actor) aim
 
 -- ---- the event of a turn
 abbrev pub made_by : Ahead → Option Event
@@ -95,7 +105,7 @@ made_by _ = None
 
 -- none where the actor's line waits, or no line is left
 abbrev pub event_of : ScriptData → Carried → Turn → Option Event
-event_of script c (turn.Own actor) = made_by (own_ahead script c actor)
+event_of script c (turn.Own actor aim) = made_by (own_ahead script c actor aim)
 event_of script c (turn.Accept node session) = Some (event.Accept node session (reading_at (clocks_of script c.played) node))
 event_of script c (turn.Decide node session) = Some (event.Decide node session)
 event_of script c (turn.Put node session) = Some (event.Put node session)
@@ -105,7 +115,7 @@ event_of script c (turn.Extend node) = Some (event.Extend node)
 -- ---- what comes of it
 -- an actor's own turn moves its seat
 abbrev pub moved : ScriptData → Turn → Step → Seat → Seat
-moved script (turn.Own actor) step seat = if same_actor seat.actor actor then with_event_at (present_line script seat) step seat else seat
+moved script (turn.Own actor aim) step seat = if same_actor seat.actor actor then with_event_at (present_line script seat) step seat else seat
 moved script _ step seat = seat
 
 abbrev pub with_event : ScriptData → Carried → Turn → Event → Carried

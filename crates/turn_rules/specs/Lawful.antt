@@ -25,7 +25,7 @@ use Rattle.turn_rules.specs.Carried.{Carried, is_held, holds_at, event_of, carri
 
 -- ---- the stage that makes a turn is not held
 abbrev pub stage_of : Turn → Option (ℕ × Stage)
-stage_of (turn.Own actor) = None
+stage_of (turn.Own actor aim) = None
 stage_of (turn.Accept node session) = Some (node, Request)
 stage_of (turn.Decide node session) = Some (node, Request)
 stage_of (turn.Put node session) = Some (node, Persist)
@@ -59,7 +59,7 @@ abbrev pub session_view : State → ℕ → View
 session_view w session = view_of w (Session session)
 
 abbrev pub IsInPlace : State → Turn → Type 0
-IsInPlace w (turn.Own actor) = Unit {0}
+IsInPlace w (turn.Own actor aim) = Unit {0}
 IsInPlace w (turn.Accept node session) = (session_view w session).request ≡ Some (node, place.Asked)
 IsInPlace w (turn.Decide node session) = (session_view w session).request ≡ Some (node, place.Accepted)
 IsInPlace w (turn.Put node session) = ((session_view w session).request ≡ Some (node, place.Drawn)) × ((session_view w session).commit ≡ true)

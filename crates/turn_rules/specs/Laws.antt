@@ -16,7 +16,7 @@ use Rattle.script_data.specs.Data.{ScriptData}
 use Rattle.isolation_laws.specs.Sound.{Stands}
 use Rattle.line_steps.specs.declared.point.Point.{Point}
 use Rattle.line_steps.specs.declared.point.Point.TheVariants.{Opens, Reads}
-use Rattle.line_steps.specs.Answers.{is_of, Answered, Answers}
+use Rattle.line_steps.specs.Answers.{is_of, asks_some, Answered, AnswersOnThreads}
 use Rattle.line_steps.specs.Halts.{halt_of, follows}
 use Rattle.line_steps.specs.Laws.{IsPlayable, IsReached, AreLinesOf}
 use Rattle.line_steps.specs.Left.{left}
@@ -70,7 +70,7 @@ TurnsArePlanned = (script : ScriptData) (turns : List Turn) → AreInRange scrip
 -- ---- lines are answered
 -- what answers these lines from here on answers all lines of the actor from the beginning
 abbrev pub IsAnsweredTo : Actor → List Line → List Item → Option ℕ → List Line → Type 0
-IsAnsweredTo actor all h begun lines = (later : List Item) → Answered actor begun (filter (is_of actor) lines) later → Answered actor None (filter (is_of actor) all) (h ++ later)
+IsAnsweredTo actor all h begun lines = (later : List Item) → Answered asks_some actor h begun (filter (is_of actor) lines) later → Answered asks_some actor [] None (filter (is_of actor) all) (h ++ later)
 
 -- the present line has begun a read, which is under way
 pub record OwesRead (script : ScriptData) (c : Carried) (seat : Seat) : Type 0 where
@@ -93,4 +93,4 @@ TurnsAnswerSoFar =
 
 -- whole turns answer every line
 abbrev pub TurnsAnswer : Type 0
-TurnsAnswer = (script : ScriptData) (turns : List Turn) → AreInRange script.setup → IsPlayable script 0 script.lines → AreLinesOf script.setup script.lines → AreWhole script turns → Answers script (carried_items script turns)
+TurnsAnswer = (script : ScriptData) (turns : List Turn) → AreInRange script.setup → IsPlayable script 0 script.lines → AreLinesOf script.setup script.lines → AreWhole script turns → AnswersOnThreads script (carried_items script turns)

@@ -35,7 +35,7 @@ AreForThreads (line ∷ lines) = IsForThreads line.verb × AreForThreads lines
 -- each event of an own turn appends an item, or opens a sweep
 abbrev pub OwnTurnsAreTold : Type 0
 OwnTurnsAreTold =
-    (script : ScriptData) (turns : List Turn) (actor : Actor) (e : Event) → AreInRange script.setup → IsPlayable script 0 script.lines → AreLinesOf script.setup script.lines → AreForThreads script.lines → event_of script (carried script turns) (turn.Own actor) ≡ Some e →
+    (script : ScriptData) (turns : List Turn) (actor : Actor) (aim : ℕ) (e : Event) → AreInRange script.setup → IsPlayable script 0 script.lines → AreLinesOf script.setup script.lines → AreForThreads script.lines → event_of script (carried script turns) (turn.Own actor aim) ≡ Some e →
     IsTold script (carried script turns).played e
 
 -- ---- turns of stages

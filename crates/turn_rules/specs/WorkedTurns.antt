@@ -47,16 +47,16 @@ script = record {
 
 -- up to the begin, which waits, while the node waits for the name
 abbrev pub asked_turns : List Turn
-asked_turns = turn.Own (Node 0) ∷ turn.Own (Session 0) ∷ []
+asked_turns = turn.Own (Node 0) 0 ∷ turn.Own (Session 0) 0 ∷ []
 
 -- up to the crash: the commit is drawn, and its put is held
 abbrev pub drawn_turns : List Turn
 drawn_turns =
-    turn.Accept 0 0 ∷ turn.Decide 0 0 ∷ turn.Answer 0 0 ∷ turn.Own (Session 0) ∷ turn.Own (Session 0) ∷ turn.Own (Node 0) ∷ turn.Own (Node 0) ∷ turn.Own (Session 0) ∷ turn.Accept 0 0 ∷ turn.Decide 0 0 ∷ turn.Own Clock ∷ []
+    turn.Accept 0 0 ∷ turn.Decide 0 0 ∷ turn.Answer 0 0 ∷ turn.Own (Session 0) 0 ∷ turn.Own (Session 0) 0 ∷ turn.Own (Node 0) 0 ∷ turn.Own (Node 0) 0 ∷ turn.Own (Session 0) 0 ∷ turn.Accept 0 0 ∷ turn.Decide 0 0 ∷ turn.Own Clock 0 ∷ []
 
 -- the crash ends the request, and so the collect has nothing left to do
 abbrev pub whole_turns : List Turn
-whole_turns = asked_turns ++ drawn_turns ++ turn.Own (Node 0) ∷ []
+whole_turns = asked_turns ++ drawn_turns ++ turn.Own (Node 0) 0 ∷ []
 
 abbrev pub items : List Item
 items =

@@ -8,13 +8,14 @@ use history_book::Actor;
 use line_steps::{Point, View, idle_next, is_served, next_event, places, placing_next};
 use machine::Event;
 use script_data::{Line, Verb};
-use stamp_base::SessionNo;
+use stamp_base::{NodeNo, SessionNo};
 
 /// What is ahead of the actor's present line from this point on: `posted` says whether the name that it awaits is posted, and
 /// `unawaited` whether its session's last ask was made and no later line has waited for the answer.
 pub fn own_event(
     base: u64,
     leads: &[u64],
+    master: NodeNo,
     posted: bool,
     line: &Line,
     point: Point,
@@ -22,31 +23,32 @@ pub fn own_event(
     unawaited: bool,
 ) -> Ahead
     requires { HaveRoom base leads.now line.now.verb }
-    ensures { result ≡ waiting.own_next (clocks base leads.now) posted line.now.actor line.now.verb point view.now unawaited }
+    ensures { result ≡ waiting.own_next (clocks base leads.now master) posted line.now.actor line.now.verb point view.now unawaited }
 {
     match (point, line.actor) {
-        (Point::Opens, _) => own_opens(base, leads, posted, line, view, unawaited),
+        (Point::Opens, _) => own_opens(base, leads, master, posted, line, view, unawaited),
         (Point::Drives, Actor::Session(session)) => drive_ahead(session, &line.verb, view),
         (Point::Extends, Actor::Session(_)) => Ahead::Passes,
-        _ => made_next(next_event(base, leads, line, point, view)),
+        _ => made_next(next_event(base, leads, master, line, point, view)),
     }
 }
 
 fn own_opens(
     base: u64,
     leads: &[u64],
+    master: NodeNo,
     posted: bool,
     line: &Line,
     view: &View,
     unawaited: bool,
 ) -> Ahead
     requires { HaveRoom base leads.now line.now.verb }
-    ensures { result ≡ waiting.own_opens (clocks base leads.now) posted line.now.actor line.now.verb view.now unawaited }
+    ensures { result ≡ waiting.own_opens (clocks base leads.now master) posted line.now.actor line.now.verb view.now unawaited }
 {
     match (&line.verb, line.actor) {
         (Verb::Await { .. }, _) if !posted => Ahead::Waits(Why::Name),
         (Verb::Collect, Actor::Session(session)) => collect_ahead(session, view, unawaited),
-        _ => made_next(next_event(base, leads, line, Point::Opens, view)),
+        _ => made_next(next_event(base, leads, master, line, Point::Opens, view)),
     }
 }
 

@@ -8,24 +8,50 @@ use crate::choosing::own_event;
 use crate::seat::Seat;
 use line_steps::{Point, View};
 use script_data::{Line, Verb};
+use stamp_base::NodeNo;
 
 /// Passes each of the actor's lines with nothing left to do, from the seat's place on.
-pub fn pass(base: u64, leads: &[u64], view: &View, lines: &[Line], seat: &mut Seat)
+pub fn pass(
+    base: u64,
+    leads: &[u64],
+    master: NodeNo,
+    view: &View,
+    lines: &[Line],
+    seat: &mut Seat,
+)
     requires room { All (λ line. HaveRoom base leads.now line.verb) lines.now }
     requires place { seat.old.place ≤ length lines.now }
-    ensures { seat.new ≡ seats.passed (clocks base leads.now) view.now (drop seat.old.place lines.now) seat.old }
+    ensures { seat.new ≡ seats.passed (clocks base leads.now master) view.now (drop seat.old.place lines.now) seat.old }
 {
-    while seat.place < lines.len() && is_passed(base, leads, view, &lines[seat.place], seat) {
+    while seat.place < lines.len()
+        && is_passed(base, leads, master, view, &lines[seat.place], seat)
+    {
         *seat = with_next_line(&lines[seat.place], seat);
     }
 }
 
 /// A line that awaits a name has something to do, whether or not the name is posted.
-fn is_passed(base: u64, leads: &[u64], view: &View, line: &Line, seat: &Seat) -> bool
+fn is_passed(
+    base: u64,
+    leads: &[u64],
+    master: NodeNo,
+    view: &View,
+    line: &Line,
+    seat: &Seat,
+) -> bool
     requires { HaveRoom base leads.now line.now.verb }
-    ensures { result ≡ seats.is_passed (seats.ahead_of (clocks base leads.now) true view.now line.now seat.now) }
+    ensures { result ≡ seats.is_passed (seats.ahead_of (clocks base leads.now master) true view.now line.now seat.now) }
 {
-    let ahead = own_event(base, leads, true, line, seat.point, view, seat.unawaited);
+    let ahead = own_event(
+        base,
+        leads,
+        master,
+        true,
+        line,
+        seat.point,
+        view,
+        seat.unawaited,
+    );
     matches!(ahead, Ahead::Passes)
 }
 

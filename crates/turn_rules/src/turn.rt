@@ -9,8 +9,8 @@ use stamp_base::{NodeNo, SessionNo, Stage};
 /// Who makes the next event. On threads the order of the turns is the order in which the lock round the cluster was taken.
 #[derive(Clone, Copy, Debug, PartialEq, Eq)]
 pub enum Turn {
-    /// The actor makes the next event of its present line.
-    Own { actor: Actor },
+    /// The actor makes the next event of its present line, its share being aimed at this node.
+    Own { actor: Actor, aim: NodeNo },
     /// The request stage of the node accepts the session's request.
     Accept { node: NodeNo, session: SessionNo },
     /// The request stage draws the stamp of the session's request.

@@ -239,7 +239,46 @@ const DIRECT_HISTORY: &[&str] = &[
     "read s1 start=3 k0 from=1 v\n",
 ];
 
-static REPLAYS: [Replay; 6] = [
+/// Sessions name the master, before a takeover and behind it.
+const MASTER: &str = "\
+a take
+a post p1
+s0 await p1
+s0 begin master
+s0 post p2
+a await p2
+a crash
+a post p3
+clock await p3
+clock tick 12
+clock post p4
+b await p4
+b take
+b post p5
+s1 await p5
+s1 begin master
+";
+
+const MASTER_HISTORY: &[&str] = &[
+    "take a reading=0 term=1 epoch=0 until=10 ceiling=100\n",
+    "note a post p1\n",
+    "note s0 await p1\n",
+    S0_BEGINS,
+    "note s0 post p2\n",
+    "note a await p2\n",
+    "crash a term=1\n",
+    "note a post p3\n",
+    "note clock await p3\n",
+    "tick 12\n",
+    "note clock post p4\n",
+    "note b await p4\n",
+    "take b reading=12 term=2 epoch=100 until=22 ceiling=200\n",
+    "note b post p5\n",
+    "note s1 await p5\n",
+    S1_BEGINS_AT_B,
+];
+
+static REPLAYS: [Replay; 7] = [
     Replay {
         name: "threads",
         script: &[HELD, HELD_PUT],
@@ -269,6 +308,11 @@ static REPLAYS: [Replay; 6] = [
         name: "threads, direct commits",
         script: &[DIRECT],
         history: DIRECT_HISTORY,
+    },
+    Replay {
+        name: "threads, sessions find the master",
+        script: &[MASTER],
+        history: MASTER_HISTORY,
     },
 ];
 

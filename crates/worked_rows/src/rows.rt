@@ -6,14 +6,14 @@ use std::test::Fail;
 use std::thread::Threads;
 use worked_commits::{commits, conflicts, direct, many_keys, remembered, strict};
 use worked_examples::{examples, threads};
-use worked_faults::{direct as direct_faults, leases, outcomes, refusals, takeovers};
+use worked_faults::{direct as direct_faults, leases, masters, outcomes, refusals, takeovers};
 use worked_pieces::Replay;
 
 /// How many topics the worked examples have.
-pub const TOPICS: usize = 13;
+pub const TOPICS: usize = 14;
 
 /// How many each topic has.
-const COUNTS: [usize; TOPICS] = [10, 5, 1, 4, 8, 6, 9, 8, 7, 4, 4, 15, 6];
+const COUNTS: [usize; TOPICS] = [10, 5, 1, 4, 8, 6, 9, 8, 7, 4, 4, 15, 6, 7];
 
 /// The worked examples of a topic.
 pub fn topic(number: usize) -> &'static [Replay] {
@@ -30,6 +30,7 @@ pub fn topic(number: usize) -> &'static [Replay] {
         9 => remembered::replays(),
         10 => direct::replays(),
         11 => direct_faults::replays(),
+        12 => masters::replays(),
         _ => threads::replays(),
     }
 }

@@ -24,7 +24,7 @@ fn scripts_with_one_order_are_run_in_it(rt: HostRuntime) -> Result<(), Fail> {
 }
 
 /// Scripts that threads carry out in many orders.
-static FREE: [&str; 9] = [
+static FREE: [&str; 10] = [
     PLAIN_PATH,
     "\
 a take
@@ -169,6 +169,26 @@ s0 finish
 s1 commit a
 ",
     CROWD,
+    "\
+nodes 3
+a take
+s0 begin master
+s0 write k0 v0
+s0 commit master
+clock tick 12
+b take
+s1 begin master
+s1 read k0
+s1 write k1 v1
+s1 commit master
+clock tick 24
+c take
+a crash
+s2 begin master
+s2 write k0 v2
+s2 submit master
+s2 collect
+",
 ];
 
 /// Behind a function, a proof that goes over the scripts does not look into their texts.

@@ -25,25 +25,25 @@ next_event-requires c =
 pub make-requires : goal.make-requires
 make-requires c =
     steady_under_way (data_of c.args.script.now) c.index-line.result.now _ _ _ _ _ c.loop-event.invariant c.in-Some.event
-    (chosen (data_of c.args.script.now) c.index-line.result.now _ _ _ _ _ c.loop-event.invariant _ _ c.deref.ensures.value (c.next_event.ensures ∙ c.seen.ensures _) ∙ c.in-Some.is)
+    (chosen (data_of c.args.script.now) c.index-line.result.now _ _ _ _ _ c.loop-event.invariant _ _ _ c.deref.ensures.value c.master.ensures (c.next_event.ensures ∙ c.seen.ensures _) ∙ c.in-Some.is)
 
 pub loop-event-smaller : goal.loop-event-smaller
 loop-event-smaller c =
     falls c.events_lower_what_is_left.ensures (data_of c.args.script.now) c.index-line.result.now _ _ _ _ _ _ _ _ _ c.in-Some.event c.in_ok-halt.halt c.loop-event.invariant
-    (chosen (data_of c.args.script.now) c.index-line.result.now _ _ _ _ _ c.loop-event.invariant _ _ c.deref.ensures.value (c.next_event.ensures ∙ c.seen.ensures _) ∙ c.in-Some.is)
+    (chosen (data_of c.args.script.now) c.index-line.result.now _ _ _ _ _ c.loop-event.invariant _ _ _ c.deref.ensures.value c.master.ensures (c.next_event.ensures ∙ c.seen.ensures _) ∙ c.in-Some.is)
     (c.in_ok-halt.ensures (data_of c.args.script.now) c.loop-event.invariant.run.played c.loop-event.invariant.stands) c.follows-point.ensures
 
 pub loop-event-preserved : goal.loop-event-preserved
 loop-event-preserved c =
     goes_on c.events_lower_what_is_left.ensures (data_of c.args.script.now) c.index-line.result.now _ _ _ _ _ _ _ _ _ c.in-Some.event c.in_ok-halt.halt c.loop-event.invariant
-    (chosen (data_of c.args.script.now) c.index-line.result.now _ _ _ _ _ c.loop-event.invariant _ _ c.deref.ensures.value (c.next_event.ensures ∙ c.seen.ensures _) ∙ c.in-Some.is)
+    (chosen (data_of c.args.script.now) c.index-line.result.now _ _ _ _ _ c.loop-event.invariant _ _ _ c.deref.ensures.value c.master.ensures (c.next_event.ensures ∙ c.seen.ensures _) ∙ c.in-Some.is)
     (c.in_ok-halt.ensures (data_of c.args.script.now) c.loop-event.invariant.run.played c.loop-event.invariant.stands) c.follows-point.ensures
 
 pub returns : goal.returns
 returns c =
     let script = data_of c.args.script.now in
     ended_more script c.args.place c.index-line.result.now _ _ _ _ _ _ c.requires.place c.index-line.ensures c.requires.played
-    (ends script c.index-line.result.now _ _ _ _ _ c.loop-event.invariant (chosen script c.index-line.result.now _ _ _ _ _ c.loop-event.invariant _ _ c.deref.ensures.value (c.next_event.ensures ∙ c.seen.ensures _) ∙ c.in_default.is))
+    (ends script c.index-line.result.now _ _ _ _ _ c.loop-event.invariant (chosen script c.index-line.result.now _ _ _ _ _ c.loop-event.invariant _ _ _ c.deref.ensures.value c.master.ensures (c.next_event.ensures ∙ c.seen.ensures _) ∙ c.in_default.is))
 
 pub returns-in-Over : goal.returns-in-Over
 returns-in-Over c =
@@ -52,5 +52,5 @@ returns-in-Over c =
     ended_more script c.args.place line _ _ _ _ _ _ c.requires.place c.index-line.ensures c.requires.played
     (ends_over script line _ _ _ _ _
     (goes_on c.events_lower_what_is_left.ensures script line _ _ _ _ _ _ _ _ _ c.in-Some.event c.in_ok-halt.halt c.loop-event.invariant
-    (chosen script line _ _ _ _ _ c.loop-event.invariant _ _ c.deref.ensures.value (c.next_event.ensures ∙ c.seen.ensures _) ∙ c.in-Some.is)
+    (chosen script line _ _ _ _ _ c.loop-event.invariant _ _ _ c.deref.ensures.value c.master.ensures (c.next_event.ensures ∙ c.seen.ensures _) ∙ c.in-Some.is)
     (c.in_ok-halt.ensures script c.loop-event.invariant.run.played c.loop-event.invariant.stands) c.follows-point.ensures) c.in-Over.is)

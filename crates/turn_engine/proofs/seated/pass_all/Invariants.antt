@@ -1,10 +1,10 @@
 use Rattle.std.specs.Prelude.{◌≡◌, ◌++◌, drop, take, map, vec_len}
-use Rattle.line_steps.specs.Clocks.{clocks}
+use Rattle.planned_cluster.specs.Standing.{clocks_at}
 use Rattle.turn_engine.specs.Seating.{after_passing}
 use Rattle.turn_engine.proofs.seated.pass_all.Given as goal
 
 abbrev pub invariant-loop-number : goal.invariant-loop-number
 invariant-loop-number l = record {
-  passed : l.seated.items ≡ map (after_passing (clocks l.planned.clock l.leads) l.planned.cluster.state) (take l.number l.fn.seated.items) ++ drop l.number l.fn.seated.items;
+  passed : l.seated.items ≡ map (after_passing (clocks_at l.planned.cluster l.planned.clock l.leads) l.planned.cluster.state) (take l.number l.fn.seated.items) ++ drop l.number l.fn.seated.items;
   same : vec_len l.seated ≡ vec_len l.fn.seated;
 }

@@ -1,5 +1,5 @@
 use Rattle.script_data.specs.Data.{ScriptData}
-use Rattle.line_steps.specs.Answers.{Answers}
+use Rattle.line_steps.specs.Answers.{AnswersOnThreads}
 use Rattle.line_steps.specs.Planned.{Planned}
 use Rattle.run_board.specs.Playing.{IsResult}
 use Rattle.run_board.proofs.Closing.{AreOf, result_at_end, answered_at_end, planned_at_end, of_parts}
@@ -19,7 +19,7 @@ returns-clause-answered g c =
     let run = c.self.inside.run in
     let cursors = c.self.inside.cursors in
     let history = c.into_parts.result.0.history in
-    of_parts run cursors c.args.self (λ (script : ScriptData). Answers script history) c.self.view_is (answered_at_end run cursors history c.ended_runs_are_whole.ensures c.turns_answer.ensures c.self.invariant.kept c.into_parts.ensures.history) c.requires.ends
+    of_parts run cursors c.args.self (λ (script : ScriptData). AnswersOnThreads script history) c.self.view_is (answered_at_end run cursors history c.ended_runs_are_whole.ensures c.turns_answer.ensures c.self.invariant.kept c.into_parts.ensures.history) c.requires.ends
 
 pub returns-clause-planned : goal.returns-clause-planned
 returns-clause-planned g c =

@@ -1,7 +1,7 @@
 use Rattle.std.proofs.Common.{refl, subst}
 use Rattle.script_data.specs.Data.{ScriptData}
-use Rattle.line_steps.specs.Answers.{Answers}
+use Rattle.line_steps.specs.Answers.{AnswersOnThreads}
 use Rattle.run_board.proofs.play.Play.finish.Goals as goal
 
 pub returns-clause-answered : goal.returns-clause-answered
-returns-clause-answered g c = subst (λ (script : ScriptData). Answers script c.close.result.0.history) (c.if-not-is_over.ensures.0 refl).same_script c.close.ensures.answered
+returns-clause-answered g c = subst (λ (script : ScriptData). AnswersOnThreads script c.close.result.0.history) (c.if-not-is_over.ensures.0 refl).same_script c.close.ensures.answered

@@ -1,7 +1,7 @@
 use Rattle.std.proofs.Common.{◌∙◌, ap, drop}
 use Rattle.std.proofs.lemmas.List.{drop-drop}
 use Rattle.thread_crew.specs.Lines.{own_left}
-use Rattle.thread_crew.proofs.actors.wake_others.Goals as goal
+use Rattle.thread_crew.proofs.actors.tell_others.Goals as goal
 
 pub loop-line-preserved : goal.loop-line-preserved
 loop-line-preserved g c = (
