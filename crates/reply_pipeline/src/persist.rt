@@ -1,6 +1,6 @@
 // The persist workers: each makes the commits of the batches that it takes durable, and sends the batches on.
-ghost use Rattle.std.specs.Prelude.{◌≡◌, ◌∷◌, [], MatchOption, MatchResult};
-ghost use Rattle.reply_pipeline.specs.Persisting.{IsPersistPass, IsPersisting};
+ghost use Rattle.std.specs.Prelude.{◌≡◌, ◌∷◌, [], IfSome, MatchOption, MatchResult, OnOk};
+ghost use Rattle.reply_pipeline.specs.Persisting.{IsPersistPass, IsPersisting, Carries, PutsAllButOne};
 
 use crate::desk::Desk;
 use crate::ending::StageEnd;
@@ -24,6 +24,7 @@ pub fn persist_worker<R: Wait, B: Steps, G: Gate>(
     requires pass { IsPersistPass queues.now node pass.old }
     requires held { pass.old.held ≡ 0 }
     ensures pass { IsPersistPass queues.now node pass.new }
+    ensures all { PutsAllButOne node pass.old pass.new }
     ensures held { pass.new.held ≡ 0 }
 {
     let desk = Desk {
@@ -42,7 +43,8 @@ fn serve<R: Wait, B: Steps, G: Gate>(
     pass: &mut StagePass,
 ) -> StageEnd
     requires { IsPersisting desk.now.queues.now desk.now.node [] pass.old }
-    ensures { IsPersisting desk.now.queues.now desk.now.node [] pass.new }
+    ensures pass { IsPersisting desk.now.queues.now desk.now.node [] pass.new }
+    ensures all { PutsAllButOne desk.now.node pass.old pass.new }
 {
     let worker = pass.worker();
     for _ in rt.forever() {
@@ -61,7 +63,8 @@ fn turn<R: Wait, B: Steps, G: Gate>(
     pass: &mut StagePass,
 ) -> Result<(), StageEnd>
     requires { IsPersisting desk.now.queues.now desk.now.node [] pass.old }
-    ensures { IsPersisting desk.now.queues.now desk.now.node [] pass.new }
+    ensures pass { IsPersisting desk.now.queues.now desk.now.node [] pass.new }
+    ensures all { MatchResult result (λ _. Carries desk.now.node [] [] pass.old pass.new) (λ _. PutsAllButOne desk.now.node pass.old pass.new) }
 {
     match receive(rt, desk, pass) {
         Some(batch) => {
@@ -80,7 +83,8 @@ fn settle<R: Wait, B: Steps, G: Gate>(
     batch: Numbered,
 ) -> Result<(), StageEnd>
     requires { IsPersisting desk.now.queues.now desk.now.node (batch ∷ []) pass.old }
-    ensures { IsPersisting desk.now.queues.now desk.now.node [] pass.new }
+    ensures pass { IsPersisting desk.now.queues.now desk.now.node [] pass.new }
+    ensures put { MatchResult result (λ _. Carries desk.now.node (batch ∷ []) [] pass.old pass.new) (λ _. pass.new.nodes ≡ pass.old.nodes) }
 {
     match put_all(rt, desk, worker, batch.batch.entries()) {
         Ok(()) => send_on(rt, desk, worker, pass, batch),
@@ -115,7 +119,8 @@ fn send_on<R: Wait, B: Steps, G: Gate>(
     batch: Numbered,
 ) -> Result<(), StageEnd>
     requires { IsPersisting desk.now.queues.now desk.now.node (batch ∷ []) pass.old }
-    ensures { IsPersisting desk.now.queues.now desk.now.node [] pass.new }
+    ensures pass { IsPersisting desk.now.queues.now desk.now.node [] pass.new }
+    ensures put { MatchResult result (λ _. Carries desk.now.node (batch ∷ []) [] pass.old pass.new) (λ _. pass.new.nodes ≡ pass.old.nodes) }
 {
     let mut batch = batch;
     let mut asked = false;
@@ -139,7 +144,8 @@ fn receive<R: Wait, B: Steps, G: Gate>(
     pass: &mut StagePass,
 ) -> Option<Numbered>
     requires { IsPersisting desk.now.queues.now desk.now.node [] pass.old }
-    ensures { MatchOption result (pass.new ≡ pass.old) (λ batch. IsPersisting desk.now.queues.now desk.now.node (batch ∷ []) pass.new) }
+    ensures pass { MatchOption result (pass.new ≡ pass.old) (λ batch. IsPersisting desk.now.queues.now desk.now.node (batch ∷ []) pass.new) }
+    ensures taken { IfSome result (λ batch. Carries desk.now.node [] (batch ∷ []) pass.old pass.new) }
 {
     desk.queues.batches(desk.node).receive(rt, pass)
 }
@@ -151,7 +157,8 @@ fn send<R: Wait, B: Steps, G: Gate>(
     batch: Numbered,
 ) -> Result<(), Numbered>
     requires { IsPersisting desk.now.queues.now desk.now.node (batch ∷ []) pass.old }
-    ensures { MatchResult result (λ _. IsPersisting desk.now.queues.now desk.now.node [] pass.new) (λ back. (back ≡ batch) × (pass.new ≡ pass.old)) }
+    ensures pass { MatchResult result (λ _. IsPersisting desk.now.queues.now desk.now.node [] pass.new) (λ back. (back ≡ batch) × (pass.new ≡ pass.old)) }
+    ensures put { OnOk result (Carries desk.now.node (batch ∷ []) [] pass.old pass.new) }
 {
     desk.queues.settled(desk.node).send(rt, pass, batch)
 }
@@ -163,7 +170,8 @@ fn give_back<R: Wait, B: Steps, G: Gate>(
     batch: Numbered,
 )
     requires { IsPersisting desk.now.queues.now desk.now.node (batch ∷ []) pass.old }
-    ensures { IsPersisting desk.now.queues.now desk.now.node [] pass.new }
+    ensures pass { IsPersisting desk.now.queues.now desk.now.node [] pass.new }
+    ensures put { pass.new.nodes ≡ pass.old.nodes }
 {
     desk.queues.give_batch(rt, desk.node, pass, batch.batch);
 }
