@@ -10,7 +10,7 @@ use Rattle.script_data.specs.declared.line.Verb.TheVariants as verb
 use Rattle.line_steps.specs.declared.point.Point.{Point}
 use Rattle.line_steps.specs.declared.point.Point.TheVariants.{Opens, Drives, Extends, Finishes, Reads, Steps, Over}
 use Rattle.line_steps.specs.declared.point.View.{View}
-use Rattle.line_steps.specs.Next.{Clocks, is_served, name_opens, finish_next, idle_next, extend_next, read_next, steps_next, collect_next, drive_next, serves, clock_opens, node_opens, session_opens, session_next, janitor_next, opens_alone, next}
+use Rattle.line_steps.specs.Next.{Clocks, is_served, places, name_opens, finish_next, placing_next, idle_next, extend_next, read_next, steps_next, collect_next, drive_next, serves, clock_opens, node_opens, session_opens, session_next, janitor_next, opens_alone, next}
 use Rattle.turn_rules.specs.declared.ahead.Ahead.{Ahead}
 use Rattle.turn_rules.specs.declared.ahead.Ahead.TheVariants.{Makes, Waits, Passes}
 use Rattle.turn_rules.specs.declared.ahead.Why.{Why}
@@ -46,7 +46,7 @@ served_alike one two true = tt
 served_alike one two false = tt
 
 drive_alike : (one two : Clocks) (session : ℕ) (v : Verb) (view : View) (request : Option (ℕ × Place)) → BothOrNone (drive_next one session v view request) (drive_next two session v view request)
-drive_alike one two session v view None = same_next (finish_next session view.doing)
+drive_alike one two session v view None = same_next (placing_next session view.doing (places v))
 drive_alike one two session v view (Some request) = served_alike (serves one session request.0 view.commit request.1) (serves two session request.0 view.commit request.1) (is_served v request.1)
 
 collect_alike : (one two : Clocks) (session : ℕ) (view : View) (request : Option (ℕ × Place)) → BothOrNone (collect_next one session view request) (collect_next two session view request)
