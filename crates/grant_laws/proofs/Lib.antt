@@ -11,6 +11,7 @@ mod Commits
 mod Facts
 mod CommitLines
 mod BeginLines
+mod BeginsNeverWait
 mod ReadTurns
 mod BareReads
 mod ReadLines
@@ -20,6 +21,7 @@ mod WorkedScripts
 mod WorkedCrossing
 mod WorkedPremises
 mod WorkedTurns
+mod WorkedDirect
 mod WorkedWaits
 mod WorkedHolds
 mod StoppedSeats

@@ -1,5 +1,5 @@
 -- A commit that its session is to place: the step that places it, and that turns of others leave it.
-use Rattle.std.proofs.Common.{◌≡◌, ℕ, false, List, [], ◌∷◌, ◌++◌, fold, Option, Some, None, inr, refl, ◌∙◌, ap}
+use Rattle.std.proofs.Common.{◌≡◌, ℕ, true, false, List, [], ◌∷◌, ◌++◌, fold, Option, Some, None, inr, refl, ◌∙◌, ap}
 use Rattle.stamp_base.specs.declared.stores.Mark.{Mark}
 use Rattle.stamp_base.specs.declared.stores.Mark.TheVariants.{Committed as CommittedMark, Invalid as InvalidMark}
 use Rattle.stamp_base.specs.declared.stores.Store.{Store}
@@ -12,33 +12,44 @@ use Rattle.history_book.specs.declared.item.Item.{Item}
 use Rattle.history_book.specs.declared.item.Item.TheVariants as item
 use Rattle.store_parts.specs.Pairs.{Pairs, mark_of, put_pair}
 use Rattle.client_parts.specs.declared.session.State.{State as SessionState}
+use Rattle.client_parts.specs.declared.session.State.TheVariants as phase
 use Rattle.client_parts.specs.SessionSteps.{step_refusal}
+use Rattle.oracle_parts.specs.declared.instance.Held.{Held}
 use Rattle.machine.specs.State.{Client, State}
 use Rattle.machine.specs.Clients.{is_reading}
 use Rattle.machine.specs.declared.event.Event.{Event}
 use Rattle.machine.specs.declared.event.Event.TheVariants as event
 use Rattle.machine.specs.Machine.{Step, asks, asks_at_client}
+use Rattle.machine.specs.Readers.{doing_by, doing_at, doing_of, holder_of, place_held, commit_held, sweeping}
 use Rattle.machine.specs.Events.Place.{place_by, place_on}
 use Rattle.machine.specs.Events.Step.{asked_next, step_asks_by, step_asks}
+use Rattle.script_data.specs.declared.line.Verb.{Verb}
+use Rattle.script_data.specs.declared.line.Verb.TheVariants as verb
 use Rattle.script_data.specs.Data.{ScriptData}
 use Rattle.isolation_laws.specs.Pending.{Has, InFlight, is_placing, PlacingAt}
 use Rattle.isolation_laws.specs.Sound.{Stands}
 use Rattle.isolation_laws.specs.Words.{ClientAt, Marked}
+use Rattle.line_steps.specs.declared.point.Point.TheVariants.{Drives}
 use Rattle.line_steps.specs.Laws.{IsPlayable}
+use Rattle.line_steps.specs.Next.{placing_next}
 use Rattle.line_steps.specs.Runs.{Played, fate_by, fate_of, step_of, played}
 use Rattle.line_steps.proofs.Stepping.{place_is}
 use Rattle.line_steps.proofs.Working.{PlaceWork, handed_is}
+use Rattle.turn_rules.specs.declared.ahead.Ahead.{Ahead}
 use Rattle.turn_rules.specs.declared.ahead.Ahead.TheVariants.{Makes}
+use Rattle.turn_rules.specs.Waiting.{made_next, drive_ahead}
 use Rattle.turn_rules.specs.declared.turn.Turn.{Turn}
 use Rattle.turn_rules.specs.declared.turn.Turn.TheVariants as turn
 use Rattle.turn_rules.specs.Carried.{Carried, own_ahead, event_of, turned_by, turned, carried, made_by}
-use Rattle.turn_rules.proofs.StillReading.{client_stays}
+use Rattle.turn_rules.proofs.StillReading.{none_held, client_stays}
 use Rattle.grant_laws.specs.Between.{PlacingsStay}
 use Rattle.grant_laws.specs.Granted.{next_fate}
-use Rattle.grant_laws.specs.Lines.{is_own, NoneOwn}
+use Rattle.grant_laws.specs.Lines.{is_own, NoneOwn, CommitLinesPlace}
 use Rattle.grant_laws.specs.Turns.{IsPlacing, PlacingsAreCarried}
 use Rattle.grant_laws.proofs.KnownTurns.{KnownTurns, known_stands, known_turned, known_carried}
 use Rattle.grant_laws.proofs.OtherTurns.{other_event}
+use Rattle.grant_laws.proofs.OwnLines.{seat_makes}
+use Rattle.grant_laws.proofs.Spots.{holder_none_from}
 
 -- ---- the step
 abbrev place_work : (p : Played) (s start commit : ℕ) (k : IsPlacing p s start commit) → PlaceWork k.client
@@ -104,3 +115,18 @@ pub left_placing : (script : ScriptData) → IsPlayable script 0 script.lines �
 unfolding NoneOwn
 left_placing script playable s start commit [] c known none k = k
 left_placing script playable s start commit (t ∷ turns) c known none k = left_placing script playable s start commit turns (turned script c t) (known_turned script c t playable known) none.1 (placing_stays script c t s start commit known none.0 k)
+
+-- ---- a commit line makes the step
+unheld : (w : State) (h : List Item) (s : ℕ) (c : Client) → Stands w h → ClientAt w.clients s c → c.entry.state ≡ phase.Placing → holder_of w s ≡ None
+unheld w h s c stands at is = holder_none_from 0 w.nodes s (λ m j there. none_held w h s c stands at (inr is) m j there)
+
+pub commit_lines_place : CommitLinesPlace
+commit_lines_place script turns s start commit to in_range playable k placing =
+    let c : Carried = carried script turns in
+    let w : State = c.played.state in
+    let v : Verb = verb.Commit to in
+    let ahead : Option (ℕ × Held) → Ahead = λ (found : Option (ℕ × Held)). drive_ahead s v (record { doing = doing_of w s; request = place_held found; commit = commit_held found; sweeping = sweeping w }) (place_held found) in
+    seat_makes script c (Session s) k.seat k.line v Drives k.sits k.present k.verb_is k.asked
+    ∙ ap ahead (unheld w c.played.items s placing.client (known_stands script c (known_carried script turns in_range playable)) placing.session_is placing.in_work)
+    ∙ ap (λ (found : Option Client). made_next (placing_next s (doing_at found) true)) placing.session_is
+    ∙ ap (λ (state : SessionState). made_next (placing_next s (doing_by state (is_reading placing.client)) true)) placing.in_work

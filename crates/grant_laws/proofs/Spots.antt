@@ -118,7 +118,7 @@ pub holder_is : (script : ScriptData) (node s : ℕ) (p : Played) (x : Spot) (he
 holder_is script node s p x held k has = holder_is_from 0 p.state.nodes node s x.oracle held k.node_has has k.alone ∙ ap (λ (n : ℕ). Some (n, held)) (omega arith)
 
 -- and where the node holds none, nobody does
-holder_none_from : (k : ℕ) (nodes : List (Option InstanceEntry)) (s : ℕ) → ((m : ℕ) (j : InstanceEntry) → InstanceAt nodes m j → held_of j s ≡ None) → holder_from k nodes s ≡ None
+pub holder_none_from : (k : ℕ) (nodes : List (Option InstanceEntry)) (s : ℕ) → ((m : ℕ) (j : InstanceEntry) → InstanceAt nodes m j → held_of j s ≡ None) → holder_from k nodes s ≡ None
 unfolding holder_from
 holder_none_from k [] s each = refl
 holder_none_from k (post ∷ posts) s each =

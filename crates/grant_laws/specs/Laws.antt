@@ -1,16 +1,17 @@
 -- What is asked for is granted, where its premises hold.
-use Rattle.std.specs.Prelude.{ℕ, ◌+◌, ◌*◌, ◌≤◌, List, length, Option, MatchOption}
+use Rattle.std.specs.Prelude.{◌≡◌, ℕ, ◌+◌, ◌*◌, ◌≤◌, true, List, length, Option, None, MatchOption}
 use Rattle.stamp_base.specs.SetupNumbers.{AreInRange}
 use Rattle.history_book.specs.declared.cause.Cause.TheVariants as cause
 use Rattle.history_book.specs.declared.item.Actor.TheVariants.{Node, Session}
 use Rattle.history_book.specs.declared.item.Found.{Found}
 use Rattle.history_book.specs.declared.item.Item.TheVariants as item
-use Rattle.oracle_parts.specs.Instance.{least_unsettled}
+use Rattle.oracle_parts.specs.Instance.{InstanceEntry, least_unsettled}
 use Rattle.script_data.specs.declared.limits.TheConstants.{FAULT_LIMIT}
 use Rattle.script_data.specs.declared.line.Line.{Line}
 use Rattle.script_data.specs.declared.line.Target.TheVariants as target
 use Rattle.script_data.specs.declared.line.Verb.TheVariants as verb
 use Rattle.script_data.specs.Data.{ScriptData}
+use Rattle.isolation_laws.specs.Words.{InstanceAt}
 use Rattle.line_steps.specs.Laws.{IsPlayable}
 use Rattle.line_steps.specs.Runs.{Played}
 use Rattle.turn_rules.specs.declared.turn.Turn.{Turn}
@@ -37,6 +38,12 @@ abbrev pub BeginsAreGranted : Type 0
 BeginsAreGranted =
     (script : ScriptData) (p : Played) (number session node : ℕ) → let line = line_of number (Session session) (verb.Begin (target.Node node)) in IsBefore script line p → (can : CanBegin script p session node) →
     MatchOption (least_unsettled can.serving.oracle.requests (can.serving.oracle.last + 1)) (Grants script line p (item.Begin session (can.serving.oracle.last + 1))) (λ commit. Grants script line p (item.Refused (Session session) (cause.NotYet commit)))
+
+-- where sessions place their commits no instance has one in the way of a begin, in file order and by turns: so a begin waits for
+-- nothing
+pub record DirectBeginsNeverWait : Type 0 where
+  pub in_file_order : (script : ScriptData) (line : Line) (p : Played) (node start : ℕ) (oracle : InstanceEntry) → script.setup.direct ≡ true → IsBefore script line p → InstanceAt p.state.nodes node oracle → least_unsettled oracle.requests start ≡ None
+  pub by_turns : (script : ScriptData) (turns : List Turn) (node start : ℕ) (oracle : InstanceEntry) → script.setup.direct ≡ true → AreInRange script.setup → IsPlayable script 0 script.lines → InstanceAt (carried script turns).played.state.nodes node oracle → least_unsettled oracle.requests start ≡ None
 
 -- a commit line appends the commit, by the next stamp
 abbrev pub CommitsAreGranted : Type 0

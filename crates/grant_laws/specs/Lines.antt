@@ -18,12 +18,13 @@ use Rattle.machine.specs.State.{Client}
 use Rattle.machine.specs.StoreSteps.{store_of}
 use Rattle.machine.specs.declared.event.Event.TheVariants as event
 use Rattle.script_data.specs.declared.line.Line.{Line}
+use Rattle.script_data.specs.declared.line.Target.{Target}
 use Rattle.script_data.specs.declared.line.Target.TheVariants as target
 use Rattle.script_data.specs.declared.line.Verb.{Verb}
 use Rattle.script_data.specs.declared.line.Verb.TheVariants as verb
 use Rattle.script_data.specs.Data.{ScriptData}
 use Rattle.isolation_laws.specs.Words.{InstanceAt, ClientAt, Marked}
-use Rattle.line_steps.specs.declared.point.Point.TheVariants.{Opens}
+use Rattle.line_steps.specs.declared.point.Point.TheVariants.{Opens, Drives}
 use Rattle.line_steps.specs.Answers.{same_actor}
 use Rattle.line_steps.specs.Laws.{IsPlayable}
 use Rattle.line_steps.specs.Runs.{Played}
@@ -35,7 +36,7 @@ use Rattle.turn_rules.specs.declared.ahead.Ahead.TheVariants.{Makes}
 use Rattle.turn_rules.specs.Carried.{Carried, seat_of, own_ahead, event_of, turned, carried, carried_items}
 use Rattle.grant_laws.specs.Granted.{reading_of, next_fate}
 use Rattle.grant_laws.specs.Premises.{IsAtWork, CanWrite, CanTake, CanFetch, cells_to_read}
-use Rattle.grant_laws.specs.Turns.{touches, ReadsKey}
+use Rattle.grant_laws.specs.Turns.{touches, IsPlacing, ReadsKey}
 
 -- ---- a line
 -- the actor's present line has this form, and has made no event yet
@@ -46,6 +47,15 @@ pub record IsAhead (script : ScriptData) (c : Carried) (actor : Actor) (verb : V
   pub present : present_line script seat ≡ Some line
   pub verb_is : line.verb ≡ verb
   pub unopened : seat.point ≡ Opens
+
+-- the actor's present line has this form, and its request is served or was
+pub record HasAsked (script : ScriptData) (c : Carried) (actor : Actor) (verb : Verb) : Type 0 where
+  pub seat : Seat
+  pub sits : seat_of c.seats actor ≡ Some seat
+  pub line : Line
+  pub present : present_line script seat ≡ Some line
+  pub verb_is : line.verb ≡ verb
+  pub asked : seat.point ≡ Drives
 
 -- the node has an instance, of which this holds
 pub record AtNode (p : Played) (node : ℕ) (P : InstanceEntry → Type 0) : Type 0 where
@@ -185,12 +195,18 @@ pub record PlacesBySession (script : ScriptData) (session node start : ℕ) (c :
   pub session_is : ClientAt c.played.state.clients session client
   pub waits : client.entry.state ≡ phase.Committing
   pub until_placed : NoneOwn session handed
-  -- its line makes the placing, as a commit that waits for its answer does
+  -- its line makes the placing, as a commit line that has asked does (`CommitLinesPlace`)
   pub steps : own_ahead script (with_others script c (turn.Answer node session) handed) (Session session) ≡ Makes (event.Step session)
   -- at the placing nobody has marked the transaction
   pub unmarked : Marked (with_others script c (turn.Answer node session) handed).played.state.pairs start → ⊥
   -- and the next call on the commit table works
   pub placing : next_fate script (with_others script c (turn.Answer node session) handed).played Table ≡ Works
+
+-- a commit line that has asked goes on with the placing of a commit that was handed over
+abbrev pub CommitLinesPlace : Type 0
+CommitLinesPlace =
+    (script : ScriptData) (turns : List Turn) (session start commit : ℕ) (to : Target) → let c = carried script turns in AreInRange script.setup → IsPlayable script 0 script.lines → HasAsked script c (Session session) (verb.Commit to) → IsPlacing c.played session start commit →
+    own_ahead script c (Session session) ≡ Makes (event.Step session)
 
 -- by the form of the script
 abbrev pub Settles : Bool → ScriptData → ℕ → ℕ → ℕ → Carried → List Turn → Type 0

@@ -180,3 +180,20 @@ refused_crossing_items =
     ∷ item.AskCommit 1 0 2 ∷ item.Accept 1 0 1 0 ∷ item.Draw 1 0 1 2 (Some 3)
     ∷ item.AskCommit 0 0 1 ∷ item.Accept 0 0 1 0 ∷ item.Refused (Session 0) (cause.Conflict 0 3)
     ∷ item.Step (Session 0) (step.Erase 1 1) ∷ []
+
+-- ---- a commit that its session places
+abbrev pub directly : ScriptData → ScriptData
+directly script = record script { setup = record script.setup { direct = true } }
+
+abbrev pub before_direct : Played
+before_direct = after (directly committing) (take 0 ∷ begin ∷ write ∷ [])
+
+abbrev pub failed_direct_items : List Item
+failed_direct_items = asking_items ++ item.Step (Session 0) (step.Handed 1 2) ∷ item.Fault (Session 0) Table ∷ item.Refused (Session 0) (cause.Open 1) ∷ []
+
+-- a begin that comes between the hand-over and the placing waits for nothing
+abbrev pub direct_begin : ScriptData
+direct_begin = directly (of_lines (take 0 ∷ begin ∷ write ∷ line_of 0 (Session 0) (verb.Submit (target.Node 0)) ∷ other_begin ∷ []))
+
+abbrev pub direct_begin_items : List Item
+direct_begin_items = asking_items ++ item.AskBegin 1 0 ∷ item.Accept 1 0 1 0 ∷ item.Draw 1 0 1 3 None ∷ item.Begin 1 3 ∷ []

@@ -6,6 +6,7 @@ use Rattle.stamp_base.specs.declared.stores.Store.TheVariants.{Cells, Table}
 use Rattle.history_book.specs.declared.cause.Cause.TheVariants as cause
 use Rattle.history_book.specs.declared.item.Actor.TheVariants.{Clock, Node, Session}
 use Rattle.history_book.specs.declared.item.Ending.TheVariants.{Aborted}
+use Rattle.history_book.specs.declared.item.StoreStep.TheVariants as step
 use Rattle.history_book.specs.declared.item.Item.{Item}
 use Rattle.history_book.specs.declared.item.Item.TheVariants as item
 use Rattle.script_data.specs.declared.line.Line.{Line}
@@ -68,6 +69,13 @@ commit_seat = record { actor = Session 0; place = 2; point = Opens; unawaited = 
 
 abbrev pub failed_commit_items : List Item
 failed_commit_items = writing_items ++ item.AskCommit 0 0 1 ∷ item.AskBegin 1 0 ∷ item.Accept 0 0 1 0 ∷ item.Draw 0 0 1 1 (Some 2) ∷ item.Accept 1 0 1 0 ∷ item.Fault (Node 0) Table ∷ item.Draw 1 0 1 3 None ∷ item.Refused (Session 0) (cause.Open 1) ∷ []
+
+-- ---- a commit that its session places: it is handed over in the place of the put, and placed in that of the answer
+abbrev pub direct_turns : List Turn
+direct_turns = all_up_to_draw 0 0 to_commit (turn.Accept 0 1 ∷ turn.Answer 0 0 ∷ turn.Decide 0 1 ∷ turn.Own (Session 0) ∷ [])
+
+abbrev pub failed_direct_items : List Item
+failed_direct_items = writing_items ++ item.AskCommit 0 0 1 ∷ item.AskBegin 1 0 ∷ item.Accept 0 0 1 0 ∷ item.Draw 0 0 1 1 (Some 2) ∷ item.Accept 1 0 1 0 ∷ item.Step (Session 0) (step.Handed 1 2) ∷ item.Draw 1 0 1 3 None ∷ item.Fault (Session 0) Table ∷ item.Refused (Session 0) (cause.Open 1) ∷ []
 
 -- ---- a begin that is answered too early
 -- its commit drawn and its put to come, the first session is in the other's way; the put fails, and so it is in it no more

@@ -1,5 +1,5 @@
 // What is asked for by a line of a script that is carried out in file order is granted.
-ghost use Rattle.grant_laws.specs.Laws.{WritesAreGranted, TakesAreGranted, BeginsAreGranted, CommitsAreGranted, ReadsAreGranted, ReadsAreShort};
+ghost use Rattle.grant_laws.specs.Laws.{WritesAreGranted, TakesAreGranted, BeginsAreGranted, DirectBeginsNeverWait, CommitsAreGranted, ReadsAreGranted, ReadsAreShort};
 
 use client_parts::recalled_reads_end;
 use line_steps::events_lower_what_is_left;
@@ -25,6 +25,14 @@ pub fn takes_are_granted()
 /// of the record. Where the instance has drawn a commit that is not settled the session is told to wait, by the least of these.
 pub fn begins_are_granted()
     ensures { BeginsAreGranted }
+{
+    events_lower_what_is_left();
+}
+
+/// Where sessions place their commits no begin waits: no instance has a commit in its way, whatever came before, in file order and
+/// on threads.
+pub fn direct_begins_never_wait()
+    ensures { DirectBeginsNeverWait }
 {
     events_lower_what_is_left();
 }

@@ -1,6 +1,6 @@
 // The same five on threads: a line that was served through to its answer ends with what it asked for, whatever turns of others
 // came before, between and after.
-ghost use Rattle.grant_laws.specs.Lines.{RunsGrantWrites, RunsGrantTakes, RunsGrantBegins, RunsGrantCommits, RunsGrantReads};
+ghost use Rattle.grant_laws.specs.Lines.{RunsGrantWrites, RunsGrantTakes, RunsGrantBegins, RunsGrantCommits, CommitLinesPlace, RunsGrantReads};
 ghost use Rattle.grant_laws.specs.Laws.{ReadsOnThreadsAreShort};
 
 use client_parts::recalled_reads_end;
@@ -31,6 +31,11 @@ pub fn runs_grant_begins()
 /// back.
 pub fn runs_grant_commits()
     ensures { RunsGrantCommits }
+{}
+
+/// A commit line that has asked goes on with the placing of the commit that was handed to its session.
+pub fn commit_lines_place()
+    ensures { CommitLinesPlace }
 {}
 
 /// A read line appends its answer once its session has made as many own turns as three for each cell without a shadow down to the

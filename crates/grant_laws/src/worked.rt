@@ -65,3 +65,14 @@ pub fn a_strict_commit()
 {
     commits_are_granted();
 }
+
+/// A commit that its session places is granted, by the law. Where the placing fails, all else being the same, its outcome is open;
+/// and a begin that comes before the placing is answered.
+pub fn a_direct_commit()
+    ensures can { CanCommit (worked.directly worked.committing) worked.before_direct 0 0 }
+    ensures granted { Grants (worked.directly worked.committing) worked.commit worked.before_direct (Committed 0 1 2) }
+    ensures refused { replayed (worked.failing Table (worked.directly worked.committing)) ≡ worked.failed_direct_items }
+    ensures begins { replayed worked.direct_begin ≡ worked.direct_begin_items }
+{
+    commits_are_granted();
+}

@@ -54,6 +54,16 @@ pub fn a_commit_on_threads()
     runs_grant_commits();
 }
 
+/// A commit that its session places is granted, by the law, while another session begins. Where the placing fails, all else being
+/// the same, its outcome is open.
+pub fn a_direct_commit_on_threads()
+    ensures can { CanCommitBy (worked.directly runs.committing) 0 0 runs.to_commit (Accept 0 1 ∷ []) (Decide 0 1 ∷ []) }
+    ensures granted { Committed 0 1 2 ∈ carried_items (worked.directly runs.committing) runs.direct_turns }
+    ensures refused { carried_items (worked.failing Table (worked.directly runs.committing)) runs.direct_turns ≡ runs.failed_direct_items }
+{
+    runs_grant_commits();
+}
+
 /// A read has its answer. Where the cells fail, all else being the same, it has none.
 pub fn a_read_on_threads()
     ensures can { CanFetch worked.reading (carried worked.reading runs.begun).played 0 0 }

@@ -103,6 +103,7 @@ accepted_at progress.Accepted is = refl
 accepted_at progress.Asked is = absurd (cc)
 accepted_at (progress.Drawn stamp) is = absurd (cc)
 accepted_at (progress.Settled stamp how) is = absurd (cc)
+accepted_at (progress.Handed stamp) is = absurd (cc)
 
 pub serving : (w : State) (h : List Item) (node session : ℕ) (at : Place) → Stands w h → (session_view w session).request ≡ Some (node, at) → Serving w h session (node, at)
 serving w h node session at stands is = serving_at w h session (node, at) stands is

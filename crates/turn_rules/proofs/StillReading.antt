@@ -47,7 +47,7 @@ none_by w h s c stands at is node i there (Some held) has =
     let waits = stands.holds.requests.requests.waits node s i held.request held.progress there (held_by i s held has) in
     absurd (waits_not held.request c is (subst (λ (d : Client). WaitsFor held.request d) (one_client w.clients s waits.0 c waits.1 at) waits.2))
 
-none_held : (w : State) (h : List Item) (s : ℕ) (c : Client) → Stands w h → ClientAt w.clients s c → IsUnasked c.entry.state → (node : ℕ) (i : InstanceEntry) → InstanceAt w.nodes node i → held_of i s ≡ None
+pub none_held : (w : State) (h : List Item) (s : ℕ) (c : Client) → Stands w h → ClientAt w.clients s c → IsUnasked c.entry.state → (node : ℕ) (i : InstanceEntry) → InstanceAt w.nodes node i → held_of i s ≡ None
 none_held w h s c stands at is node i there = none_by w h s c stands at is node i there (held_of i s) refl
 
 -- ---- looking up the parts
