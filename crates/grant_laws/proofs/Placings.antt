@@ -86,13 +86,13 @@ absent_by p s start commit k (Some (CommittedMark other)) stands unmarked is =
     absurd ((stands.holds.requests.pending.so_far q (inr placing)).1 other (stands.holds.cells.pairs_are.placed start other is))
 
 -- an own turn
-pub placing_carried : (script : ScriptData) (c : Carried) (s start commit : ℕ) → Stands c.played.state c.played.items → own_ahead script c (Session s) ≡ Makes (event.Step s) → IsPlacing c.played s start commit → (Marked c.played.state.pairs start → ⊥) → next_fate script c.played Table ≡ Works → (turned script c (turn.Own (Session s))).played.items ≡ c.played.items ++ item.Placed start commit ∷ item.Committed s start commit ∷ []
-placing_carried script c s start commit stands ahead k unmarked works =
-    ap (λ (found : Option Event). (turned_by script c (turn.Own (Session s)) found).played.items) (ap made_by ahead)
+pub placing_carried : (script : ScriptData) (c : Carried) (aim s start commit : ℕ) → Stands c.played.state c.played.items → own_ahead script c (Session s) aim ≡ Makes (event.Step s) → IsPlacing c.played s start commit → (Marked c.played.state.pairs start → ⊥) → next_fate script c.played Table ≡ Works → (turned script c (turn.Own (Session s) aim)).played.items ≡ c.played.items ++ item.Placed start commit ∷ item.Committed s start commit ∷ []
+placing_carried script c aim s start commit stands ahead k unmarked works =
+    ap (λ (found : Option Event). (turned_by script c (turn.Own (Session s) aim) found).played.items) (ap made_by ahead)
     ∙ ap (λ (items : List Item). c.played.items ++ items) (place_tells script c.played s start commit k (absent_by c.played s start commit k (mark_of c.played.state.pairs start) stands unmarked refl) works)
 
 pub placings_are_carried : PlacingsAreCarried
-placings_are_carried script turns s start commit in_range playable ahead k unmarked works = placing_carried script (carried script turns) s start commit (known_stands script (carried script turns) (known_carried script turns in_range playable)) ahead k unmarked works
+placings_are_carried script turns aim s start commit in_range playable ahead k unmarked works = placing_carried script (carried script turns) aim s start commit (known_stands script (carried script turns) (known_carried script turns in_range playable)) ahead k unmarked works
 
 -- ---- turns of others
 left_by : (script : ScriptData) (c : Carried) (t : Turn) (s start commit : ℕ) (found : Option Event) → KnownTurns script c → event_of script c t ≡ found → is_own s t ≡ false → IsPlacing c.played s start commit → IsPlacing (turned_by script c t found).played s start commit
@@ -121,12 +121,12 @@ unheld : (w : State) (h : List Item) (s : ℕ) (c : Client) → Stands w h → C
 unheld w h s c stands at is = holder_none_from 0 w.nodes s (λ m j there. none_held w h s c stands at (inr is) m j there)
 
 pub commit_lines_place : CommitLinesPlace
-commit_lines_place script turns s start commit to in_range playable k placing =
+commit_lines_place script turns aim s start commit to in_range playable k placing =
     let c : Carried = carried script turns in
     let w : State = c.played.state in
     let v : Verb = verb.Commit to in
     let ahead : Option (ℕ × Held) → Ahead = λ (found : Option (ℕ × Held)). drive_ahead s v (record { doing = doing_of w s; request = place_held found; commit = commit_held found; sweeping = sweeping w }) (place_held found) in
-    seat_makes script c (Session s) k.seat k.line v Drives k.sits k.present k.verb_is k.asked
+    seat_makes script c aim (Session s) k.seat k.line v Drives k.sits k.present k.verb_is k.asked
     ∙ ap ahead (unheld w c.played.items s placing.client (known_stands script c (known_carried script turns in_range playable)) placing.session_is placing.in_work)
     ∙ ap (λ (found : Option Client). made_next (placing_next s (doing_at found) true)) placing.session_is
     ∙ ap (λ (state : SessionState). made_next (placing_next s (doing_by state (is_reading placing.client)) true)) placing.in_work

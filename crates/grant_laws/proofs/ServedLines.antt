@@ -141,8 +141,8 @@ placed_by_node script playable s node start commit keys f placed known_f waits c
     has_added script h (turn.Answer node s) (item.Committed s start commit) ((served_by script h node s request (known_stands script h known_h)).commits start commit keys refl stays)
 
 -- or hands it to its session, which places it
-placed_by_session : (script : ScriptData) → IsPlayable script 0 script.lines → (s node start commit : ℕ) (keys : List ℕ) (f : Carried) (handed : List Turn) → KnownTurns script f → IsServed f.played node s (Commit s start keys) (progress.Handed commit) → PlacesBySession script s node start f handed → item.Committed s start commit ∈ (turned script (with_others script f (turn.Answer node s) handed) (turn.Own (Session s))).played.items
-placed_by_session script playable s node start commit keys f handed known_f waits can =
+placed_by_session : (script : ScriptData) → IsPlayable script 0 script.lines → (aim s node start commit : ℕ) (keys : List ℕ) (f : Carried) (handed : List Turn) → KnownTurns script f → IsServed f.played node s (Commit s start keys) (progress.Handed commit) → PlacesBySession script aim s node start f handed → item.Committed s start commit ∈ (turned script (with_others script f (turn.Answer node s) handed) (turn.Own (Session s) aim)).played.items
+placed_by_session script playable aim s node start commit keys f handed known_f waits can =
     let request : Request = Commit s start keys in
     let hands : Hands script f node s start commit = (served_by script f node s request (known_stands script f known_f)).hands start commit keys refl waits can.client can.session_is can.waits in
     let g : Carried = turned script f (turn.Answer node s) in
@@ -150,15 +150,15 @@ placed_by_session script playable s node start commit keys f handed known_f wait
     let known_h : KnownTurns script h = known_after script f (turn.Answer node s) handed playable known_f in
     let stays : IsPlacing h.played s start commit = left_placing script playable s start commit handed g (known_turned script f (turn.Answer node s) playable known_f) can.until_placed hands.comes in
     let x : Item = item.Committed s start commit in
-    let tells : (turned script h (turn.Own (Session s))).played.items ≡ h.played.items ++ item.Placed start commit ∷ x ∷ [] = placing_carried script h s start commit (known_stands script h known_h) can.steps stays can.unmarked can.placing in
+    let tells : (turned script h (turn.Own (Session s) aim)).played.items ≡ h.played.items ++ item.Placed start commit ∷ x ∷ [] = placing_carried script h aim s start commit (known_stands script h known_h) can.steps stays can.unmarked can.placing in
     subst (λ (items : List Item). x ∈ items) (sym tells) (in_last x h.played.items (item.Placed start commit ∷ x ∷ []) (in_last x (item.Placed start commit ∷ []) (x ∷ []) (in_one x)))
 
-settles_so : (script : ScriptData) → IsPlayable script 0 script.lines → (direct : Bool) (s node start commit : ℕ) (keys : List ℕ) (f : Carried) (between : List Turn) → KnownTurns script f → IsServed f.played node s (Commit s start keys) (drawn_as direct (Commit s start keys) commit) → Settles direct script s node start f between → item.Committed s start commit ∈ (turned script (with_others script f (settling_turns direct s node).0 between) (settling_turns direct s node).1).played.items
-settles_so script playable false s node start commit keys f between known waits can = placed_by_node script playable s node start commit keys f between known waits can
-settles_so script playable true s node start commit keys f between known waits can = placed_by_session script playable s node start commit keys f between known waits can
+settles_so : (script : ScriptData) → IsPlayable script 0 script.lines → (direct : Bool) (aim s node start commit : ℕ) (keys : List ℕ) (f : Carried) (between : List Turn) → KnownTurns script f → IsServed f.played node s (Commit s start keys) (drawn_as direct (Commit s start keys) commit) → Settles direct script aim s node start f between → item.Committed s start commit ∈ (turned script (with_others script f (settling_turns direct aim s node).0 between) (settling_turns direct aim s node).1).played.items
+settles_so script playable false aim s node start commit keys f between known waits can = placed_by_node script playable s node start commit keys f between known waits can
+settles_so script playable true aim s node start commit keys f between known waits can = placed_by_session script playable aim s node start commit keys f between known waits can
 
 pub runs_grant_commits : RunsGrantCommits
-runs_grant_commits script s node line u drawn between later in_range playable ahead asks can =
+runs_grant_commits script aim s node line u drawn between later in_range playable ahead asks can =
     let c : Carried = at_ask script u in
     let start : ℕ = can.work.start in
     let keys : List ℕ = can.work.client.entry.keys in
@@ -181,10 +181,10 @@ runs_grant_commits script s node line u drawn between later in_range playable ah
     let known_f : KnownTurns script f = known_on script playable drawn d known_d in
     let stamped : Progress = drawn_as script.setup.direct request commit in
     let waits : IsServed f.played node s request stamped = left_served script node s request stamped drawn d can.until_settled drew.served in
-    let settling : Turn × Turn = settling_turns script.setup.direct s node in
+    let settling : Turn × Turn = settling_turns script.setup.direct aim s node in
     let h : Carried = with_others script f settling.0 between in
     let x : Item = item.Committed s start commit in
-    let has : x ∈ (turned script h settling.1).played.items = settles_so script playable script.setup.direct s node start commit keys f between known_f waits can.settles in
+    let has : x ∈ (turned script h settling.1).played.items = settles_so script playable script.setup.direct aim s node start commit keys f between known_f waits can.settles in
     let rest : List Turn = between ++ settling.1 ∷ later in
     carries script (all_up_to_draw s node u (drawn ++ settling.0 ∷ rest)) (fold (turned script) (turned script h settling.1) later) x
     (turns_to_draw script s node u (drawn ++ settling.0 ∷ rest) ∙ turns_on script d drawn (settling.0 ∷ rest) ∙ turns_on script (turned script f settling.0) between (settling.1 ∷ later))

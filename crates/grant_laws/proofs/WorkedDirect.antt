@@ -126,7 +126,7 @@ direct_serving =
       until_drawn = tt;
     }
 
-pub direct_can_by : CanCommitBy committing 0 0 runs.to_commit (turn.Accept 0 1 ∷ []) (turn.Decide 0 1 ∷ [])
+pub direct_can_by : CanCommitBy committing 0 0 0 runs.to_commit (turn.Accept 0 1 ∷ []) (turn.Decide 0 1 ∷ [])
 unfolding seats_of passed holder_from planned_fate record_pairs least_unsettled kept_commit verdict put_row without_bare fetched front_of recalled_over Leave NoneOwn direct_serving
 direct_can_by =
     let p : Played = (at_ask committing runs.to_commit).played in
@@ -169,7 +169,7 @@ playable = record { leads = no_lead; ticks = omega arith }
 
 pub direct_granted_by : RunsGrantCommits → item.Committed 0 1 2 ∈ carried_items committing runs.direct_turns
 direct_granted_by law =
-    let has : item.Committed 0 direct_can_by.work.start (stamp_drawn direct_can_by.serving) ∈ carried_items committing runs.direct_turns = law committing 0 0 (worked.commit).verb runs.to_commit (turn.Accept 0 1 ∷ []) (turn.Decide 0 1 ∷ []) [] direct_in_range playable ahead refl direct_can_by in
+    let has : item.Committed 0 direct_can_by.work.start (stamp_drawn direct_can_by.serving) ∈ carried_items committing runs.direct_turns = law committing 0 0 0 (worked.commit).verb runs.to_commit (turn.Accept 0 1 ∷ []) (turn.Decide 0 1 ∷ []) [] direct_in_range playable ahead refl direct_can_by in
     subst (λ (x : Item). x ∈ carried_items committing runs.direct_turns) direct_item_by has
 
 pub direct_refused_by : carried_items (worked.failing Table committing) runs.direct_turns ≡ runs.failed_direct_items

@@ -134,7 +134,7 @@ commit_serving =
       until_drawn = tt;
     }
 
-pub commit_can : CanCommitBy runs.committing 0 0 runs.to_commit (turn.Accept 0 1 ∷ []) (turn.Decide 0 1 ∷ [])
+pub commit_can : CanCommitBy runs.committing 0 0 0 runs.to_commit (turn.Accept 0 1 ∷ []) (turn.Decide 0 1 ∷ [])
 unfolding seats_of passed holder_from planned_fate record_pairs least_unsettled kept_commit verdict put_row without_bare fetched front_of recalled_over Leave commit_serving
 commit_can =
     let p : Played = (at_ask runs.committing runs.to_commit).played in

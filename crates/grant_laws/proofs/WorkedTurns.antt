@@ -74,5 +74,5 @@ playable = record { leads = no_lead; ticks = omega arith }
 
 pub commit_granted : RunsGrantCommits → item.Committed 0 1 2 ∈ carried_items runs.committing runs.commit_turns
 commit_granted law =
-    let has : item.Committed 0 commit_can.work.start (stamp_drawn commit_can.serving) ∈ carried_items runs.committing runs.commit_turns = law runs.committing 0 0 (worked.commit).verb runs.to_commit (turn.Accept 0 1 ∷ []) (turn.Decide 0 1 ∷ []) [] in_range playable commit_ahead refl commit_can in
+    let has : item.Committed 0 commit_can.work.start (stamp_drawn commit_can.serving) ∈ carried_items runs.committing runs.commit_turns = law runs.committing 0 0 0 (worked.commit).verb runs.to_commit (turn.Accept 0 1 ∷ []) (turn.Decide 0 1 ∷ []) [] in_range playable commit_ahead refl commit_can in
     subst (λ (x : Item). x ∈ carried_items runs.committing runs.commit_turns) commit_item has

@@ -165,10 +165,11 @@ RunsGrantBegins =
     item.Begin session (stamp_drawn can.serving) ∈ carried_items script (all_up_to_draw session node u (drawn ++ turn.Answer node session ∷ later))
 
 -- ---- a commit
--- the two turns by which a commit that was drawn ends: the node places it and answers, or it answers and the session places it
-abbrev pub settling_turns : Bool → ℕ → ℕ → Turn × Turn
-settling_turns false session node = (turn.Put node session, turn.Answer node session)
-settling_turns true session node = (turn.Answer node session, turn.Own (Session session))
+-- the two turns by which a commit that was drawn ends: the node places it and answers, or it answers and the session places it, by a
+-- turn with some aim
+abbrev pub settling_turns : Bool → ℕ → ℕ → ℕ → Turn × Turn
+settling_turns false aim session node = (turn.Put node session, turn.Answer node session)
+settling_turns true aim session node = (turn.Answer node session, turn.Own (Session session) aim)
 
 -- what was carried out when the first of them is made
 abbrev pub at_settle : ScriptData → ℕ → ℕ → UpToDraw → List Turn → Carried
@@ -189,14 +190,14 @@ NoneOwn session [] = Unit {0}
 NoneOwn session (t ∷ turns) = (is_own session t ≡ false) × NoneOwn session turns
 
 -- the node hands the commit over, and the session's next turn places it
-pub record PlacesBySession (script : ScriptData) (session node start : ℕ) (c : Carried) (handed : List Turn) : Type 0 where
+pub record PlacesBySession (script : ScriptData) (aim session node start : ℕ) (c : Carried) (handed : List Turn) : Type 0 where
   -- when it is handed the commit, the session waits for it
   pub client : Client
   pub session_is : ClientAt c.played.state.clients session client
   pub waits : client.entry.state ≡ phase.Committing
   pub until_placed : NoneOwn session handed
   -- its line makes the placing, as a commit line that has asked does (`CommitLinesPlace`)
-  pub steps : own_ahead script (with_others script c (turn.Answer node session) handed) (Session session) ≡ Makes (event.Step session)
+  pub steps : own_ahead script (with_others script c (turn.Answer node session) handed) (Session session) aim ≡ Makes (event.Step session)
   -- at the placing nobody has marked the transaction
   pub unmarked : Marked (with_others script c (turn.Answer node session) handed).played.state.pairs start → ⊥
   -- and the next call on the commit table works
@@ -205,16 +206,17 @@ pub record PlacesBySession (script : ScriptData) (session node start : ℕ) (c :
 -- a commit line that has asked goes on with the placing of a commit that was handed over
 abbrev pub CommitLinesPlace : Type 0
 CommitLinesPlace =
-    (script : ScriptData) (turns : List Turn) (session start commit : ℕ) (to : Target) → let c = carried script turns in AreInRange script.setup → IsPlayable script 0 script.lines → HasAsked script c (Session session) (verb.Commit to) → IsPlacing c.played session start commit →
-    own_ahead script c (Session session) ≡ Makes (event.Step session)
+    (script : ScriptData) (turns : List Turn) (aim session start commit : ℕ) (to : Target) → let c = carried script turns in AreInRange script.setup → IsPlayable script 0 script.lines → HasAsked script c (Session session) (verb.Commit to) → IsPlacing c.played session start commit →
+    own_ahead script c (Session session) aim ≡ Makes (event.Step session)
 
 -- by the form of the script
-abbrev pub Settles : Bool → ScriptData → ℕ → ℕ → ℕ → Carried → List Turn → Type 0
-Settles false script session node start c turns = PlacesAtNode script session node start c turns
-Settles true script session node start c turns = PlacesBySession script session node start c turns
+abbrev pub Settles : Bool → ScriptData → ℕ → ℕ → ℕ → ℕ → Carried → List Turn → Type 0
+Settles false script aim session node start c turns = PlacesAtNode script session node start c turns
+Settles true script aim session node start c turns = PlacesBySession script aim session node start c turns
 
--- `drawn` are the turns of others between the draw and the first turn that settles the commit, `between` those between the two
-pub record CanCommitBy (script : ScriptData) (session node : ℕ) (u : UpToDraw) (drawn between : List Turn) : Type 0 where
+-- `drawn` are the turns of others between the draw and the first turn that settles the commit, `between` those between the two, and
+-- `aim` is that of the session's turn where it places the commit
+pub record CanCommitBy (script : ScriptData) (aim session node : ℕ) (u : UpToDraw) (drawn between : List Turn) : Type 0 where
   -- when the session asks
   pub work : IsAtWork (at_ask script u).played session
   -- it has written
@@ -229,7 +231,7 @@ pub record CanCommitBy (script : ScriptData) (session node : ℕ) (u : UpToDraw)
   -- the turns of others leave the request
   pub until_settled : Leave script node session (turned script (at_draw script session node u) (turn.Decide node session)) drawn
   -- the node places it, or the session does
-  pub settles : Settles script.setup.direct script session node work.start (at_settle script session node u drawn) between
+  pub settles : Settles script.setup.direct script aim session node work.start (at_settle script session node u drawn) between
 
 -- the line asks the node for a commit: it waits for the answer, or leaves that to a later line
 abbrev pub AsksCommit : ℕ → Verb → Type 0
@@ -239,7 +241,7 @@ AsksCommit node _ = ⊥
 
 abbrev pub RunsGrantCommits : Type 0
 RunsGrantCommits =
-    (script : ScriptData) (session node : ℕ) (line : Verb) (u : UpToDraw) (drawn between later : List Turn) → let settling = settling_turns script.setup.direct session node in AreInRange script.setup → IsPlayable script 0 script.lines → IsAhead script (at_ask script u) (Session session) line → AsksCommit node line → (can : CanCommitBy script session node u drawn between) →
+    (script : ScriptData) (aim session node : ℕ) (line : Verb) (u : UpToDraw) (drawn between later : List Turn) → let settling = settling_turns script.setup.direct aim session node in AreInRange script.setup → IsPlayable script 0 script.lines → IsAhead script (at_ask script u) (Session session) line → AsksCommit node line → (can : CanCommitBy script aim session node u drawn between) →
     item.Committed session can.work.start (stamp_drawn can.serving) ∈ carried_items script (all_up_to_draw session node u (drawn ++ settling.0 ∷ (between ++ settling.1 ∷ later)))
 
 -- ---- a read

@@ -103,8 +103,8 @@ ServedTurnsAreGranted = (script : ScriptData) (turns : List Turn) (node session 
 -- works
 abbrev pub PlacingsAreCarried : Type 0
 PlacingsAreCarried =
-    (script : ScriptData) (turns : List Turn) (session start commit : ℕ) → let c = carried script turns in AreInRange script.setup → IsPlayable script 0 script.lines → own_ahead script c (Session session) ≡ Makes (event.Step session) → IsPlacing c.played session start commit → (Marked c.played.state.pairs start → ⊥) → next_fate script c.played Table ≡ Works →
-    (turned script c (turn.Own (Session session))).played.items ≡ c.played.items ++ item.Placed start commit ∷ item.Committed session start commit ∷ []
+    (script : ScriptData) (turns : List Turn) (aim session start commit : ℕ) → let c = carried script turns in AreInRange script.setup → IsPlayable script 0 script.lines → own_ahead script c (Session session) aim ≡ Makes (event.Step session) → IsPlacing c.played session start commit → (Marked c.played.state.pairs start → ⊥) → next_fate script c.played Table ≡ Works →
+    (turned script c (turn.Own (Session session) aim)).played.items ≡ c.played.items ++ item.Placed start commit ∷ item.Committed session start commit ∷ []
 
 -- an extension that is due gives the node's instance stamps again
 abbrev pub ExtensionsAreCarried : Type 0

@@ -72,7 +72,7 @@ failed_commit_items = writing_items ++ item.AskCommit 0 0 1 ∷ item.AskBegin 1 
 
 -- ---- a commit that its session places: it is handed over in the place of the put, and placed in that of the answer
 abbrev pub direct_turns : List Turn
-direct_turns = all_up_to_draw 0 0 to_commit (turn.Accept 0 1 ∷ turn.Answer 0 0 ∷ turn.Decide 0 1 ∷ turn.Own (Session 0) ∷ [])
+direct_turns = all_up_to_draw 0 0 to_commit (turn.Accept 0 1 ∷ turn.Answer 0 0 ∷ turn.Decide 0 1 ∷ turn.Own (Session 0) 0 ∷ [])
 
 abbrev pub failed_direct_items : List Item
 failed_direct_items = writing_items ++ item.AskCommit 0 0 1 ∷ item.AskBegin 1 0 ∷ item.Accept 0 0 1 0 ∷ item.Draw 0 0 1 1 (Some 2) ∷ item.Accept 1 0 1 0 ∷ item.Step (Session 0) (step.Handed 1 2) ∷ item.Draw 1 0 1 3 None ∷ item.Fault (Session 0) Table ∷ item.Refused (Session 0) (cause.Open 1) ∷ []

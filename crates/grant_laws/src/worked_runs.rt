@@ -47,7 +47,7 @@ pub fn an_early_answer_on_threads()
 /// A commit is granted, by the law, while another session begins. Where its put fails, all else being the same, its outcome is
 /// open.
 pub fn a_commit_on_threads()
-    ensures can { CanCommitBy runs.committing 0 0 runs.to_commit (Accept 0 1 ∷ []) (Decide 0 1 ∷ []) }
+    ensures can { CanCommitBy runs.committing 0 0 0 runs.to_commit (Accept 0 1 ∷ []) (Decide 0 1 ∷ []) }
     ensures granted { Committed 0 1 2 ∈ carried_items runs.committing runs.commit_turns }
     ensures refused { carried_items (worked.failing Table runs.committing) runs.commit_turns ≡ runs.failed_commit_items }
 {
@@ -57,7 +57,7 @@ pub fn a_commit_on_threads()
 /// A commit that its session places is granted, by the law, while another session begins. Where the placing fails, all else being
 /// the same, its outcome is open.
 pub fn a_direct_commit_on_threads()
-    ensures can { CanCommitBy (worked.directly runs.committing) 0 0 runs.to_commit (Accept 0 1 ∷ []) (Decide 0 1 ∷ []) }
+    ensures can { CanCommitBy (worked.directly runs.committing) 0 0 0 runs.to_commit (Accept 0 1 ∷ []) (Decide 0 1 ∷ []) }
     ensures granted { Committed 0 1 2 ∈ carried_items (worked.directly runs.committing) runs.direct_turns }
     ensures refused { carried_items (worked.failing Table (worked.directly runs.committing)) runs.direct_turns ≡ runs.failed_direct_items }
 {
