@@ -10,7 +10,7 @@ ghost use Rattle.machine.specs.Machine.{IsSteadyAt, reading_of, asks};
 ghost use Rattle.machine.specs.Readers as read;
 ghost use Rattle.event_parts.specs.Made.{Asks};
 ghost use Rattle.line_steps.specs.Master.{taken_by, last_master, has_take};
-ghost use Rattle.cluster_core.specs.Served.{NeverLacksIf, is_served};
+ghost use Rattle.cluster_core.specs.Served.{LeavesRoom, NeverLacksIf, is_served};
 ghost use Rattle.cluster_core.specs.Whole.{MakesStep, step_under};
 ghost use Rattle.planned_cluster.specs.Takes.{with_node, then_taken};
 
@@ -55,6 +55,7 @@ impl WatchedCluster {
     pub fn open(alloc: Global, setup: Setup) -> Result<WatchedCluster, NoMemory>
         ensures state { IfOk result (λ made. made.state ≡ opening (numbers_of setup)) }
         ensures history { IfOk result (λ made. made.history ≡ []) }
+        ensures spare { IfOk result (λ made. made.spare ≡ 0) }
     {
         Ok(WatchedCluster {
             cluster: Cluster::open(alloc, setup)?,
@@ -69,6 +70,7 @@ impl WatchedCluster {
         ensures made { MakesStep (step_under (W.ahead weather.old) self.old.state event.now) self.old self.new result }
         ensures asked { Asks result (asks self.old.state event.now) (W.ahead weather.old) (W.ahead weather.new)
             (W.faults weather.old) (W.faults weather.new) }
+        ensures room { LeavesRoom event.now self.old self.new result }
         ensures served { NeverLacksIf (is_served self.old.state event.now) result }
     {
         let before = self.cluster.history().len();
@@ -97,6 +99,13 @@ impl WatchedCluster {
         ensures serial { SerialIfStrict self.now.state.setup self.now.history }
     {
         self.cluster.history()
+    }
+
+    /// For how many items more there is room that was reserved for requests.
+    pub fn spare(&self) -> usize
+        ensures { result ≡ self.now.spare }
+    {
+        self.cluster.spare()
     }
 
     /// What the session is doing.
