@@ -1,6 +1,6 @@
 -- What is kept for requests that were accepted stays kept, and is there when it is needed.
 use Rattle.std.proofs.Common.{◌≡◌, ◌≢◌, ◌≤◌, ◌+◌, ℕ, Bool, true, false, List, ◌++◌, length, Option, Some, None, Result, Ok, Err, inl, inr, refl, sym, ap, subst, ◌∙◌, arith}
-use Rattle.std.specs.Prelude.{slice_get, slice_set, slice_index_or, IsTrue, is_some, OnOk}
+use Rattle.std.specs.Prelude.{slice_get, slice_set, IsTrue, is_some, OnOk}
 use Rattle.std.specs.FinSet as set
 use Rattle.std.proofs.lemmas.List.{length-append}
 use Rattle.std.proofs.lemmas.Option.{same_Some, none-some}
