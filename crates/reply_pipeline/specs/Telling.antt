@@ -1,5 +1,5 @@
 -- What the board says to a stage of requests, and how far a stage is with a batch.
-use Rattle.std.specs.Prelude.{◌≡◌, ℕ, Bool, true, false, Option, None, Some, length}
+use Rattle.std.specs.Prelude.{◌≡◌, ℕ, Bool, true, false, ◌||◌, Option, None, Some, is_none, length}
 use Rattle.history_book.specs.declared.cause.Cause.{Cause}
 use Rattle.history_book.specs.declared.cause.Cause.TheVariants.{NotYet}
 use Rattle.stamp_base.specs.declared.stage.Stage.{Stage}
@@ -32,6 +32,10 @@ pub record IsSaidOf (stage : Stage) (entry : Entry) (said : Said) : Type 0 where
   pub session : said.session ≡ entry.session
   pub term : said.term ≡ entry.term
   pub over : is_over said.step ≡ true
+
+-- nothing is to be put of the entry: it is no commit, or sessions place their commits
+abbrev pub puts_nothing : Bool → Entry → Bool
+puts_nothing direct entry = is_none entry.commit || direct
 
 -- so many entries of the batch of this number, from the first on
 abbrev pub counted : Stage → ℕ → ℕ → Told

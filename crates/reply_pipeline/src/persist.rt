@@ -1,7 +1,8 @@
-// The persist workers: each makes the commits of the batches that it takes durable, and sends the batches on.
+// The persist workers: each makes the commits of the batches that it takes durable, and sends the batches on. Where sessions
+// place their commits it only sends them on.
 ghost use Rattle.std.specs.Prelude.{◌≡◌, ◌+◌, ◌<◌, ◌∷◌, [], Some, IfOk, IfSome, MatchOption, MatchResult, OnOk, length, slice_get};
 ghost use Rattle.stamp_base.specs.declared.stage.Stage.TheVariants.{Persist};
-ghost use Rattle.reply_pipeline.specs.Telling.{counted, IsTold};
+ghost use Rattle.reply_pipeline.specs.Telling.{counted, puts_nothing, IsTold};
 ghost use Rattle.reply_pipeline.specs.Persisting.{IsPersistPass, IsPersisting, Carries, PutsAllButOne};
 
 use crate::desk::Desk;
@@ -114,6 +115,13 @@ fn put_all<R: Wait, B: Steps, G: Gate>(
     Ok(told)
 }
 
+// Whether there is nothing to put of the entry: then no step is asked for, and a held stage holds nothing.
+fn puts_nothing(queues: &Queues, entry: &Entry) -> bool
+    ensures { result ≡ puts_nothing queues.now.direct entry.now }
+{
+    entry.commit.is_none() || queues.direct()
+}
+
 fn put_one<R: Wait, B: Steps, G: Gate>(
     rt: &R,
     desk: &Desk<'_, B, G>,
@@ -127,8 +135,8 @@ fn put_one<R: Wait, B: Steps, G: Gate>(
     requires next { slice_get batch.now.batch.entries told.old.count ≡ Some entry.now }
     ensures { OnOk result (told.new ≡ counted Persist batch.now.number (told.old.count + 1)) }
 {
-    if entry.commit.is_none() {
-        told.pass_over(batch, entry);
+    if puts_nothing(desk.queues, entry) {
+        told.pass_over(desk.queues, batch, entry);
         return Ok(());
     }
     let said = desk.step_in_turn(rt, Stage::Persist, worker, entry)?;

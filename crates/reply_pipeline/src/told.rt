@@ -1,10 +1,11 @@
-ghost use Rattle.std.specs.Prelude.{◌≡◌, ◌+◌, ◌<◌, None, Some, length, slice_get};
+ghost use Rattle.std.specs.Prelude.{◌≡◌, ◌+◌, ◌<◌, true, Some, length, slice_get};
 ghost use Rattle.stamp_base.specs.declared.stage.Stage.TheVariants.{Persist};
-ghost use Rattle.reply_pipeline.specs.Telling.{counted, IsSaidOf};
+ghost use Rattle.reply_pipeline.specs.Telling.{counted, puts_nothing, IsSaidOf};
 
 use crate::desk::Said;
 use batch_pool::Entry;
 use persist_batches::Numbered;
+use stage_queues::Queues;
 use stamp_base::Stage;
 
 /// With how many entries of a batch a stage is through, from the first on.
@@ -39,15 +40,16 @@ impl Told {
         self.go_on(batch);
     }
 
-    /// With the next one, which is no commit, so that a persist worker has nothing to ask.
-    pub fn pass_over(&mut self, batch: &Numbered, entry: &Entry)
+    /// With the next one, which is no commit, or one that its session places, so that a persist worker has nothing to ask.
+    pub fn pass_over(&mut self, queues: &Queues, batch: &Numbered, entry: &Entry)
         requires number { batch.now.number ≡ self.old.number }
         requires within { self.old.count < length batch.now.batch.entries }
         requires next { slice_get batch.now.batch.entries self.old.count ≡ Some entry.now }
         requires stage { self.old.stage ≡ Persist }
-        requires begin { entry.now.commit ≡ None }
+        requires nothing { puts_nothing queues.now.direct entry.now ≡ true }
         ensures { self.new ≡ counted self.old.stage self.old.number (self.old.count + 1) }
     {
+        let _queues = queues;
         self.go_on(batch);
     }
 

@@ -30,7 +30,19 @@ pub fn opened(alloc: Global) -> Result<Crew, Fail>
     ensures nodes { IfOk result (λ crew. length crew.queues.nodes ≡ 2) }
     ensures buffers { IfOk result (λ crew. crew.queues.buffers ≡ 4) }
 {
-    let (queues, mut stages) = Queues::open(alloc, &Setup::default(), 1)?;
+    opened_by(alloc, &Setup::default())
+}
+
+/// The same by a setup that has two nodes with two workers each.
+pub fn opened_by(alloc: Global, setup: &Setup) -> Result<Crew, Fail>
+    requires nodes { setup.now.nodes ≡ 2 }
+    requires workers { setup.now.workers ≡ 2 }
+    ensures stages { IfOk result (λ crew. AreReady crew.queues 2 crew.stages.items) }
+    ensures session { IfOk result (λ crew. IsSenderPass crew.queues crew.session × (crew.session.held ≡ 0)) }
+    ensures nodes { IfOk result (λ crew. length crew.queues.nodes ≡ 2) }
+    ensures buffers { IfOk result (λ crew. crew.queues.buffers ≡ 4) }
+{
+    let (queues, mut stages) = Queues::open(alloc, setup, 1)?;
     let session = stages.pop().ok_or("a session's pass")?;
     Ok(Crew {
         queues,

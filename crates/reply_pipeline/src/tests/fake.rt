@@ -18,6 +18,7 @@ pub struct Fake {
     made: Mutex<Vec<Made>>,
     instead: Option<(Stage, StageStep)>,
     held: Option<SessionNo>,
+    direct: bool,
 }
 
 impl Fake {
@@ -27,6 +28,7 @@ impl Fake {
             made: Mutex::new(Vec::with_capacity(alloc, 16)?),
             instead,
             held: None,
+            direct: false,
         })
     }
 
@@ -34,6 +36,14 @@ impl Fake {
     pub fn holding(self, session: SessionNo) -> Fake {
         Fake {
             held: Some(session),
+            ..self
+        }
+    }
+
+    /// The same, where sessions place their commits: a commit that is decided is answered.
+    pub fn placed_by_sessions(self) -> Fake {
+        Fake {
+            direct: true,
             ..self
         }
     }
@@ -52,6 +62,7 @@ impl Fake {
         match self.instead {
             _ if self.held == Some(session) => StageStep::Held,
             Some((at, answer)) if at == stage => answer,
+            _ if self.direct => next_direct_step(stage, before),
             _ => next_step(stage, before),
         }
     }
@@ -106,6 +117,15 @@ fn next_step(stage: Stage, before: usize) -> StageStep {
         },
         (Stage::Persist, 2) => StageStep::Settled,
         (Stage::Reply, 3) => StageStep::Answered,
+        _ => StageStep::Stale { found: None },
+    }
+}
+
+// The same, where its session is to place the commit: the reply stage comes next, and nothing is put.
+fn next_direct_step(stage: Stage, before: usize) -> StageStep {
+    match (stage, before) {
+        (Stage::Request, _) => next_step(stage, before),
+        (Stage::Reply, 2) => StageStep::Answered,
         _ => StageStep::Stale { found: None },
     }
 }

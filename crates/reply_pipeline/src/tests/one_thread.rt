@@ -6,7 +6,7 @@ use super::crew::*;
 use super::fake::{Fake, Made};
 use super::*;
 use stage_queues::{Queues, StagePass};
-use stamp_base::{NodeNo, SessionNo, Stage};
+use stamp_base::{NodeNo, SessionNo, Setup, SetupFlag, Stage};
 use std::alloc::Global;
 use std::sync::Wait;
 use std::sync::atomic::{AtomicU64, Ordering};
@@ -64,6 +64,34 @@ fn a_stale_ticket_is_passed_over(rt: HostRuntime) -> Result<(), Fail> {
     let ended = serve_by_turn(&rt, rt.alloc(), &board, &queues, &mut stages);
     assert_eq!(rt; ended, 8);
     let steps = [Stage::Request, Stage::Request, Stage::Persist, Stage::Reply];
+    assert!(rt; are_steps(&board.into_made(), &steps));
+    assert_eq!(rt; at_home(&rt, NodeNo::FIRST, &queues, &mut session), BUFFERS);
+    Ok(())
+}
+
+// Where sessions place their commits the persist stage asks for no step, and a batch gets through to its answer.
+#[test]
+fn batches_pass_on_where_sessions_place(rt: HostRuntime) -> Result<(), Fail> {
+    let board = Fake::open(rt.alloc(), None)?.placed_by_sessions();
+    let mut setup = Setup::default();
+    setup.turn_on(SetupFlag::Direct);
+    let Crew {
+        queues,
+        mut stages,
+        mut session,
+    } = opened_by(rt.alloc(), &setup)?;
+    let sent = offer_ticket(
+        &rt,
+        NodeNo::FIRST,
+        &queues,
+        &mut session,
+        ticket_of(SessionNo::LAST),
+    );
+    assert!(rt; sent.is_ok());
+    queues.close();
+    let ended = serve_by_turn(&rt, rt.alloc(), &board, &queues, &mut stages);
+    assert_eq!(rt; ended, 8);
+    let steps = [Stage::Request, Stage::Request, Stage::Reply];
     assert!(rt; are_steps(&board.into_made(), &steps));
     assert_eq!(rt; at_home(&rt, NodeNo::FIRST, &queues, &mut session), BUFFERS);
     Ok(())

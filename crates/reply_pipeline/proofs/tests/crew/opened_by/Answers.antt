@@ -7,7 +7,7 @@ use Rattle.stage_queues.specs.Plan.{Plan}
 use Rattle.stage_queues.specs.Passes.{StageAccount}
 use Rattle.stage_queues.specs.Opening.{opened_passes, IsNew}
 use Rattle.reply_pipeline.proofs.SeatLemmas.{length-opened_passes, stages_ready, sender_at}
-use Rattle.reply_pipeline.proofs.tests.crew.opened.Goals as goal
+use Rattle.reply_pipeline.proofs.tests.crew.opened_by.Goals as goal
 
 module _ (plan : Plan) (nodes workers : ℕ) (passes : List StageAccount) (listed : passes ≡ opened_passes nodes workers 1 plan.nodes) (fit : length plan.nodes ≡ nodes) (two : workers ≡ 2) where
   of_two : passes ≡ opened_passes (length plan.nodes) 2 1 plan.nodes
@@ -21,10 +21,10 @@ returns-clause-stages c =
     let plan : Plan = c.in_ok-queues.queues in
     let passes : List StageAccount = c.in_ok-queues.stages.items in
     let e = c.in_ok-queues.ensures in
-    let two : c.default.result.workers ≡ 2 = ap (λ s. s.workers) c.default.ensures in
-    let all = count plan c.default.result.nodes c.default.result.workers passes e.passes e.nodes two in
+    let two : c.args.setup.now.workers ≡ 2 = c.requires.workers in
+    let all = count plan c.args.setup.now.nodes c.args.setup.now.workers passes e.passes e.nodes two in
     let rest : vec_len c.in_ok-queues.stages - 1 ≡ length plan.nodes * (2 + 2) = omega arith in
-    stages_ready plan 2 1 passes (of_two plan c.default.result.nodes c.default.result.workers passes e.passes e.nodes two) c.pop.new.self.items e.numbered e.new
+    stages_ready plan 2 1 passes (of_two plan c.args.setup.now.nodes c.args.setup.now.workers passes e.passes e.nodes two) c.pop.new.self.items e.numbered e.new
     (c.pop.ensures.rest ∙ ap (λ n. take n passes) rest)
 
 pub returns-clause-session : goal.returns-clause-session
@@ -33,12 +33,12 @@ returns-clause-session c =
     let passes : List StageAccount = c.in_ok-queues.stages.items in
     let p : StageAccount = c.in_ok-session.session in
     let e = c.in_ok-queues.ensures in
-    let two : c.default.result.workers ≡ 2 = ap (λ s. s.workers) c.default.ensures in
-    let all = count plan c.default.result.nodes c.default.result.workers passes e.passes e.nodes two in
+    let two : c.args.setup.now.workers ≡ 2 = c.requires.workers in
+    let all = count plan c.args.setup.now.nodes c.args.setup.now.workers passes e.passes e.nodes two in
     let last : vec_len c.in_ok-queues.stages - 1 ≡ length plan.nodes * (2 + 2) + 0 = omega arith in
     let read = c.pop.ensures.value p (omega arith) in
     let told : c.pop.result ≡ Some p = c.ok_or.ensures.ok_part ∙ ap (λ r. result_ok r) c.in_ok-session.was in
     let at : p ≡ get_or passes (vec_len c.in_ok-queues.stages - 1) p = same_Some p (get_or passes (vec_len c.in_ok-queues.stages - 1) p) (sym told ∙ read) in (
-      sender_at plan 2 1 passes (of_two plan c.default.result.nodes c.default.result.workers passes e.passes e.nodes two) 0 p (omega arith) (at ∙ ap (λ n. get_or passes n p) last),
+      sender_at plan 2 1 passes (of_two plan c.args.setup.now.nodes c.args.setup.now.workers passes e.passes e.nodes two) 0 p (omega arith) (at ∙ ap (λ n. get_or passes n p) last),
       (subst (IsNew plan) (sym at) (All-get_or (IsNew plan) passes (vec_len c.in_ok-queues.stages - 1) p (omega arith) e.new)).holds,
     )
