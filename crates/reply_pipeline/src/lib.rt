@@ -9,6 +9,7 @@ mod persist;
 mod reply;
 mod request;
 mod tickets;
+mod told;
 
 pub use ending::StageEnd;
 pub use gate::{Gate, GatePlace, OpenGate, WaitsFor};
