@@ -2,7 +2,6 @@
 -- The nodes whose takes a history tells are those of the system, whatever events are made.
 use Rattle.std.proofs.Common.{◌≡◌, ℕ, zero, suc, ◌<◌, ◌==◌, Bool, true, false, ◌||◌, List, [], ◌∷◌, ◌++◌, Option, None, Some, ◌⊎◌, inl, inr, refl, sym, ◌∙◌, ap, subst, arith, length, fold}
 use Rattle.std.specs.Prelude.{slice_get, IfSome, unwrap_or}
-use Rattle.std.specs.List.{list_any}
 use Rattle.std.specs.Option.{option_or}
 use Rattle.std.proofs.lemmas.Bool.Decides.{eqb_tells}
 use Rattle.std.proofs.lemmas.List.Folds.{list_any-append}
@@ -26,7 +25,7 @@ use Rattle.line_steps.proofs.AlwaysFit.{Fit}
 use Rattle.line_steps.proofs.Fitting.{fit_at}
 use Rattle.line_steps.proofs.OpeningItems.{Begins, TakeAnswer, RenewAnswer, BeginAnswer, take_begins, renew_begins, crash_begins, ask_begin_begins, vanish_begins}
 use Rattle.line_steps.proofs.Plain.{AllPlain}
-use Rattle.line_steps.proofs.PlainEvents.{OpensNone, events_plain}
+use Rattle.line_steps.proofs.PlainEvents.{events_plain}
 use Rattle.line_steps.proofs.WorkItems.{CommitAnswer, WriteAnswer, FetchAnswer, starts, ask_commit_begins, write_begins, fetch_begins}
 
 -- ---- the last take

@@ -69,13 +69,7 @@ fn janitor_goes_on(verb: &Verb, view: &View, point: Point) -> Option<Event>
 
 // ---- the first event of a line
 
-fn opens(
-    base: u64,
-    leads: &[u64],
-    master: NodeNo,
-    line: &Line,
-    view: &View,
-) -> Option<Event>
+fn opens(base: u64, leads: &[u64], master: NodeNo, line: &Line, view: &View) -> Option<Event>
     requires { HaveRoom base leads.now line.now.verb }
     ensures { result ≡ next.next (clocks base leads.now master) line.now.actor line.now.verb Point.Opens view.now }
 {

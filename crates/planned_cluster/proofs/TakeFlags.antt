@@ -1,15 +1,11 @@
--- The flags that code keeps tell which nodes have taken the record, and a call's items are those behind the history before it.
-use Rattle.std.proofs.Common.{◌≡◌, ℕ, zero, suc, ◌<◌, ◌≤◌, ◌==◌, Bool, true, false, ◌||◌, List, [], ◌∷◌, ◌++◌, Option, None, Some, Result, Ok, Err, inl, inr, refl, sym, ap, ◌∙◌, arith, subst, length, drop, fold, get_or, slice_set}
+-- The flags that code keeps tell which nodes have taken the record.
+use Rattle.std.proofs.Common.{◌≡◌, ℕ, zero, suc, ◌<◌, ◌==◌, Bool, true, false, ◌||◌, List, [], ◌∷◌, Option, None, Some, inl, inr, refl, sym, ap, ◌∙◌, arith, subst, length, fold, get_or, slice_set}
 use Rattle.std.specs.Prelude.{replicate}
 use Rattle.std.specs.List.{list_any}
 use Rattle.std.proofs.lemmas.Bool.Decides.{eqb_tells}
-use Rattle.std.proofs.lemmas.List.{append-nil, get_or-set_same, get_or-set_other, get_or_read, length-set}
+use Rattle.std.proofs.lemmas.List.{get_or-set_same, get_or-set_other, get_or_read, length-set}
 use Rattle.history_book.specs.declared.item.Item.{Item}
-use Rattle.event_parts.specs.declared.stopped.Stopped.{Stopped}
-use Rattle.event_parts.specs.declared.stopped.Stopped.TheVariants.{Refused, StoreFault, NoMemory}
-use Rattle.machine.specs.Machine.{Step}
 use Rattle.line_steps.specs.Master.{taken_by, is_node, takes, has_take}
-use Rattle.cluster_core.specs.Whole.{Whole, MakesStep}
 use Rattle.planned_cluster.specs.Takes.{with_node, then_taken, nodes_taken}
 
 -- ---- flags
@@ -60,27 +56,6 @@ long_by (x ∷ xs) taken = long_by xs (then_taken taken x) ∙ as_long taken (ta
 
 pub eight_flags : (h : List Item) → length (nodes_taken h) ≡ 8
 eight_flags h = long_by h (replicate 8 false)
-
--- ---- what a call appends
-since_append : (h items : List Item) → drop (length h) (h ++ items) ≡ items
-since_append [] items = refl
-since_append (x ∷ xs) items = since_append xs items
-
-appended : (step : Step) (old new : Whole) (answer : Result Unit Stopped) → MakesStep step old new answer → (items : List Item) × (new.history ≡ old.history ++ items)
-appended step old new (Ok done) made = (step.items, made.items)
-appended step old new (Err (Refused why)) made = (step.items, made.items)
-appended step old new (Err (StoreFault store)) made = (step.items, made.items)
-appended step old new (Err NoMemory) made = ([], made.1 ∙ sym (append-nil old.history))
-
-pub since_then : (step : Step) (old new : Whole) (answer : Result Unit Stopped) → MakesStep step old new answer → new.history ≡ old.history ++ drop (length old.history) new.history
-since_then step old new answer made =
-    let k : (items : List Item) × (new.history ≡ old.history ++ items) = appended step old new answer made in
-    k.1 ∙ ap (λ (items : List Item). old.history ++ items) (sym (ap (λ (h : List Item). drop (length old.history) h) k.1 ∙ since_append old.history k.0))
-
-pub history_grows : (step : Step) (old new : Whole) (answer : Result Unit Stopped) → MakesStep step old new answer → length old.history ≤ length new.history
-history_grows step old new answer made =
-    let k : (items : List Item) × (new.history ≡ old.history ++ items) = appended step old new answer made in
-    subst (λ (h : List Item). length old.history ≤ length h) (sym k.1) (omega (arith, Rattle.std.proofs.lemmas.List.length-append old.history k.0))
 
 -- ---- as code reads them
 pub told_flag : (flags : List Bool) (h : List Item) (n i : ℕ) (b : Bool) → flags ≡ nodes_taken h → i ≡ n → n < 8 → b ≡ get_or flags i b → b ≡ has_take h n

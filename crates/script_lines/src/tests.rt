@@ -166,12 +166,22 @@ fn sends(text: &str, verb: Verb) -> Result<(), Fail> {
 #[test]
 fn reads_where_a_line_is_sent() -> Result<(), Fail> {
     let node = NodeNo::new(1).ok_or("node")?;
-    let target = Target::Master;
-    sends("s3 begin master", Verb::Begin { target })?;
-    sends("s3 commit master", Verb::Commit { target })?;
-    sends("s3 submit master", Verb::Submit { target })?;
-    let target = Target::Node(node);
-    sends("s3 submit b", Verb::Submit { target })
+    let master = Verb::Begin {
+        target: Target::Master,
+    };
+    sends("s3 begin master", master)?;
+    let master = Verb::Commit {
+        target: Target::Master,
+    };
+    sends("s3 commit master", master)?;
+    let master = Verb::Submit {
+        target: Target::Master,
+    };
+    sends("s3 submit master", master)?;
+    let there = Verb::Submit {
+        target: Target::Node(node),
+    };
+    sends("s3 submit b", there)
 }
 
 #[test]
