@@ -152,14 +152,14 @@ abbrev pub asks_last : List Item → Target → ℕ → Type 0
 asks_last before (target.Node named) node = node ≡ named
 asks_last before target.Master node = node ≡ last_master before
 
--- the same, but that any node may be asked for the master which took the record before the line's place, and the first
+-- the same, but that one that names the master asks the first node, or any that took the record before the line's place
 abbrev pub asks_some : List Item → Target → ℕ → Type 0
 asks_some before (target.Node named) node = node ≡ named
 asks_some before target.Master node = (node ≡ 0) ⊎ HasTake before node
 
--- Walks the history along the actor's lines, behind the part of it before. Each item answers the next line, or opens no line of the actor; a read that was
--- begun ends before the next line is answered. At the end no line is left, and no read. So each line is answered once, in
--- order, and nothing opens a line that is not there.
+-- Walks the history along the actor's lines, behind the part of it before. Each item answers the next line, or opens no line of
+-- the actor; a read that was begun ends before the next line is answered. At the end no line is left, and no read. So each line
+-- is answered once, in order, and nothing opens a line that is not there.
 unfoldable pub Answered : (List Item → Target → ℕ → Type 0) → Actor → List Item → Option ℕ → List Line → List Item → Type 0
 Answered asks actor before begun lines [] = (begun ≡ None) × (lines ≡ [])
 Answered asks actor before (Some key) lines (x ∷ xs) = (EndsRead actor key x × Answered asks actor (before ++ x ∷ []) None lines xs) ⊎ ((Opens actor x → ⊥) × Answered asks actor (before ++ x ∷ []) (Some key) lines xs)

@@ -57,7 +57,7 @@ abbrev pub ScriptsAreReached : Type 0
 ScriptsAreReached = (script : ScriptData) → AreInRange script.setup → IsPlayable script 0 script.lines → IsReached script (script_played script)
 
 -- ---- each line is answered
--- the actor is one of the system's, and so is the node that a session asks
+-- the actor is one of the system's, and so is the node that a session's line names
 abbrev pub ActorFits : SetupNumbers → Actor → Type 0
 ActorFits setup (Node n) = n < setup.nodes
 ActorFits setup (Session s) = s < 16

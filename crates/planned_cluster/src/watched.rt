@@ -12,7 +12,7 @@ ghost use Rattle.event_parts.specs.Made.{Asks};
 ghost use Rattle.line_steps.specs.Master.{taken_by, last_master, has_take};
 ghost use Rattle.cluster_core.specs.Served.{LeavesRoom, NeverLacksIf, is_served};
 ghost use Rattle.cluster_core.specs.Whole.{MakesStep, step_under};
-ghost use Rattle.planned_cluster.specs.Takes.{with_node, then_taken};
+ghost use Rattle.planned_cluster.specs.Takes.{then_taken};
 
 use cluster_core::{Cluster, Stopped};
 use history_book::Item;
