@@ -12,3 +12,4 @@ mod NodeMoves
 mod OneStart
 mod RoomKept
 mod RoomThere
+pub mod RoomMoves

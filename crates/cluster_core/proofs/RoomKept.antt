@@ -35,11 +35,11 @@ use Rattle.cluster_core.proofs.RequestMoves.{requests_of, spends, gains, put_sta
 use Rattle.cluster_core.proofs.OneStart.{one_start}
 use Rattle.cluster_core.proofs.NodeMoves.{NodesBecame, StartsAt, is_plain, plain_became, accept_became, decide_became, answer_became, put_became}
 
-five_or_none : (result : Result Unit Stopped) (before now : ℕ) → ReservesFive result before now → before ≤ now
-five_or_none (Ok _) before now five = omega (arith, five)
-five_or_none (Err (Refused why)) before now same = omega (arith, same)
-five_or_none (Err (StoreFault store)) before now same = omega (arith, same)
-five_or_none (Err NoMemory) before now more = more
+pub five_or_none : (result : Result Unit Stopped) (before now : ℕ) → ReservesFive result before now → (before ≤ now) × (now ≤ before + 5)
+five_or_none (Ok _) before now five = (omega (arith, five), omega (arith, five))
+five_or_none (Err (Refused why)) before now same = (omega (arith, same), omega (arith, same))
+five_or_none (Err (StoreFault store)) before now same = (omega (arith, same), omega (arith, same))
+five_or_none (Err NoMemory) before now same = (omega (arith, same), omega (arith, same))
 
 -- an accept reserves five items, or none where nothing is held
 pub reserves_for : (held : Option Held) (result : Result Unit Stopped) (before now : ℕ) → ReservesFive result before now → ReservesFor held result before now
@@ -49,7 +49,7 @@ reserves_for (Some held) result before now five = five
 -- ---- the room in the history
 -- what an event gained of it
 gained : (held : Option Held) (stop : Option Stop) (result : Result Unit Stopped) (before now : ℕ) → result ≡ ended stop → ReservesFor held result before now → before + gains held stop ≤ now
-gained None stop result before now is more = omega (arith, more)
+gained None stop result before now is more = omega (arith, more.0)
 gained (Some held) None result before now is five = omega (arith, subst (λ (r : Result Unit Stopped). ReservesFive r before now) is five)
 gained (Some held) (Some (Refuses why)) result before now is five = omega (arith, subst (λ (r : Result Unit Stopped). ReservesFive r before now) is five)
 gained (Some held) (Some (Faults store)) result before now is five = omega (arith, subst (λ (r : Result Unit Stopped). ReservesFive r before now) is five)
@@ -197,8 +197,8 @@ spent_none true old now same all = omega (arith, ap length same, all)
 spent_none false old now same all = all
 
 reserved_none : (held : Option Held) (before now : ℕ) → ReservesFor held (Err NoMemory) before now → before ≤ now
-reserved_none None before now more = more
-reserved_none (Some held) before now more = more
+reserved_none None before now more = more.0
+reserved_none (Some held) before now same = omega (arith, same)
 
 unserved_places : (stamps : Option (ℕ × ℕ)) (places now : Places) → NeverLacksIf (is_some stamps) (Err NoMemory) → now ≡ places_after stamps places → now ≡ places
 unserved_places None places now never is = is

@@ -1,5 +1,5 @@
 -- Which event serves a request that was accepted, what it needs for that, and what each event leaves of the room and the places.
-use Rattle.std.specs.Prelude.{◌≡◌, ◌≤◌, ℕ, Bool, false, slice_get, Option, None, Some, Result, OnOk}
+use Rattle.std.specs.Prelude.{◌≡◌, ◌≤◌, ◌+◌, ℕ, Bool, false, slice_get, Option, None, Some, Result, OnOk}
 use Rattle.oracle_parts.specs.declared.instance.Held.{Held}
 use Rattle.oracle_parts.specs.Instance.{InstanceEntry}
 use Rattle.machine.specs.declared.event.Event.{Event}
@@ -48,7 +48,7 @@ pub record Spends (served : Bool) (stamps : Option (ℕ × ℕ)) (old now : Whol
 
 -- a request that is accepted has room for five items more; where none is held nothing is accepted
 abbrev pub ReservesFor : Option Held → Result Unit Stopped → ℕ → ℕ → Type 0
-ReservesFor None result before now = before ≤ now
+ReservesFor None result before now = (before ≤ now) × (now ≤ before + 5)
 ReservesFor (Some held) result before now = ReservesFive result before now
 
 -- and a commit has a place
@@ -63,3 +63,8 @@ LeavesRoom (event.Decide node session) old now result = Spends (is_to_decide (he
 LeavesRoom (event.Put node session) old now result = Spends (is_to_put (held_in old.state node session)) (to_place (held_in old.state node session)) old now
 LeavesRoom (event.Answer node session) old now result = Spends (is_to_answer (held_in old.state node session)) None old now
 LeavesRoom _ old now result = KeepsRoom old now
+
+-- the room for so many items more is all that an event can reserve
+abbrev pub most_reserved : Event → ℕ
+most_reserved (event.Accept node session reading) = 5
+most_reserved _ = 0

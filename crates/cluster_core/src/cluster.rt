@@ -8,7 +8,7 @@ ghost use Rattle.machine.specs.State.{opening};
 ghost use Rattle.machine.specs.Machine.{IsSteadyAt, reading_of, asks};
 ghost use Rattle.machine.specs.Readers as read;
 ghost use Rattle.event_parts.specs.Made.{Asks};
-ghost use Rattle.cluster_core.specs.Served.{NeverLacksIf, is_served};
+ghost use Rattle.cluster_core.specs.Served.{LeavesRoom, NeverLacksIf, is_served};
 ghost use Rattle.cluster_core.specs.Whole.{MakesStep, step_under};
 
 use crate::Engine;
@@ -49,6 +49,7 @@ impl Cluster {
     pub fn open(alloc: Global, setup: Setup) -> Result<Cluster, NoMemory>
         ensures state { IfOk result (λ made. made.state ≡ opening (numbers_of setup)) }
         ensures history { IfOk result (λ made. made.history ≡ []) }
+        ensures spare { IfOk result (λ made. made.spare ≡ 0) }
     {
         Ok(Cluster {
             engine: Engine::open(alloc, setup)?,
@@ -57,12 +58,14 @@ impl Cluster {
 
     /// The event is one step of the machine, under the fate that the weather has ahead for the one store that it asks. Where
     /// memory is refused all is as before, and the weather was not asked; it is never refused to an event that serves a request
-    /// which was accepted. A reading is behind none before it by more than the skew, and far from the end of the numbers.
+    /// which was accepted, since an accept reserves room for all that is still appended for the request. A reading is behind none
+    /// before it by more than the skew, and far from the end of the numbers.
     pub fn make<W: Weather>(&mut self, weather: &mut W, event: &Event) -> Result<(), Stopped>
         requires { IsSteadyAt self.old.state.setup.skew self.old.state.seen (reading_of event.now) }
         ensures made { MakesStep (step_under (W.ahead weather.old) self.old.state event.now) self.old self.new result }
         ensures asked { Asks result (asks self.old.state event.now) (W.ahead weather.old) (W.ahead weather.new)
             (W.faults weather.old) (W.faults weather.new) }
+        ensures room { LeavesRoom event.now self.old self.new result }
         ensures served { NeverLacksIf (is_served self.old.state event.now) result }
     {
         self.engine.make(weather, event)
@@ -76,6 +79,13 @@ impl Cluster {
         ensures serial { SerialIfStrict self.now.state.setup self.now.history }
     {
         self.engine.history()
+    }
+
+    /// For how many items more there is room that was reserved for requests.
+    pub fn spare(&self) -> usize
+        ensures { result ≡ self.now.spare }
+    {
+        self.engine.spare()
     }
 
     /// The greatest reading that was handed in, at first 0.

@@ -125,6 +125,13 @@ impl Engine {
     {
         self.book.items()
     }
+
+    /// For how many items more there is room that was reserved for requests.
+    pub fn spare(&self) -> usize
+        ensures { result ≡ self.now.spare }
+    {
+        self.book.spare()
+    }
 }
 
 /// A free client for each session, which remembers so many decisions.

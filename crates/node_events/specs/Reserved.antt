@@ -1,5 +1,5 @@
 -- What an accept reserves for the request: five items, and for a commit a place in the commit table.
-use Rattle.std.specs.Prelude.{◌≡◌, ℕ, ◌+◌, ◌≤◌, Option, None, Some, Result, Ok, Err, IsTrue}
+use Rattle.std.specs.Prelude.{◌≡◌, ℕ, ◌+◌, Option, None, Some, Result, Ok, Err, IsTrue}
 use Rattle.std.specs.FinSet as set
 use Rattle.store_parts.specs.Pairs.{Places}
 use Rattle.oracle_parts.specs.declared.instance.Held.{Held}
@@ -8,12 +8,12 @@ use Rattle.oracle_parts.specs.declared.instance.Request.TheVariants.{Begin, Comm
 use Rattle.event_parts.specs.declared.stopped.Stopped.{Stopped}
 use Rattle.event_parts.specs.declared.stopped.Stopped.TheVariants.{Refused, StoreFault, NoMemory}
 
--- a request that is accepted has room for five items more; a refusal leaves the room, and want of memory takes none of it
+-- a request that is accepted has room for five items more; a refusal and want of memory leave the room
 abbrev pub ReservesFive : Result Unit Stopped → ℕ → ℕ → Type 0
 ReservesFive (Ok _) before now = now ≡ before + 5
 ReservesFive (Err (Refused why)) before now = now ≡ before
 ReservesFive (Err (StoreFault store)) before now = now ≡ before
-ReservesFive (Err NoMemory) before now = before ≤ now
+ReservesFive (Err NoMemory) before now = now ≡ before
 
 -- a commit has a place
 abbrev pub HasPlace : Places → Request → Type 0

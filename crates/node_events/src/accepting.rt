@@ -21,7 +21,7 @@ const ITEMS: usize = 5;
 
 /// The node accepts the session's request: refused as NoOracle, then as NoRequest unless it was asked, then as Expired or
 /// OldEpoch, which end the request. No other event looks at the lease. All memory that the request needs from then on is
-/// reserved first, and none for a request that is refused; where memory is refused, what was reserved before stays so.
+/// reserved first, and none for a request that is refused; where memory is refused a place may have been reserved, and no item.
 pub fn accept(
     book: &mut Book,
     post: &mut Post,
@@ -99,8 +99,8 @@ fn accept_held(
     if !instance.may_accept(session, reading) {
         return accept_or_refuse(book, instance, client, node, session, reading, request);
     }
-    book.reserve(ITEMS)?;
     reserve_place(table, request)?;
+    book.reserve(ITEMS)?;
     accept_or_refuse(book, instance, client, node, session, reading, request)
 }
 

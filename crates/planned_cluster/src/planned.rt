@@ -4,7 +4,7 @@ ghost use Rattle.port_io.specs.Planned.{OneEach};
 ghost use Rattle.history_book.specs.declared.item.Actor.TheVariants.{Session};
 ghost use Rattle.machine.specs.Machine.{IsSteadyAt, reading_of};
 ghost use Rattle.line_steps.specs.Views.{view_of};
-ghost use Rattle.cluster_core.specs.Served.{NeverLacksIf, is_served};
+ghost use Rattle.cluster_core.specs.Served.{LeavesRoom, NeverLacksIf, is_served};
 ghost use Rattle.planned_cluster.specs.Fitting.{SessionIsThere};
 ghost use Rattle.planned_cluster.specs.Standing.{OpensFor, PlaysOn, clock_made};
 
@@ -32,8 +32,9 @@ impl PlannedCluster {
         faults: &[(Store, u64, Fate)],
     ) -> Result<PlannedCluster, NoMemory>
         requires { OneEach faults.now }
-        ensures { IfOk result (λ made. OpensFor (numbers_of setup) faults.now made.cluster made.clock
+        ensures opens { IfOk result (λ made. OpensFor (numbers_of setup) faults.now made.cluster made.clock
             (⟦<PlannedWeather as Weather>⟧.ahead made.weather)) }
+        ensures spare { IfOk result (λ made. made.cluster.spare ≡ 0) }
     {
         Ok(PlannedCluster {
             cluster: Cluster::open(alloc, setup)?,
@@ -49,6 +50,7 @@ impl PlannedCluster {
         ensures played { PlaysOn event.now result
             self.old.cluster self.old.clock (⟦<PlannedWeather as Weather>⟧.ahead self.old.weather)
             self.new.cluster self.new.clock (⟦<PlannedWeather as Weather>⟧.ahead self.new.weather) }
+        ensures room { LeavesRoom event.now self.old.cluster self.new.cluster result }
         ensures served { NeverLacksIf (is_served self.old.cluster.state event.now) result }
     {
         let answer = self.cluster.make(&mut self.weather, event);

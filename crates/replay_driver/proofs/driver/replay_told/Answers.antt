@@ -18,7 +18,7 @@ loop-place-init g c =
     record {
       played =
           none_played script _ _ _ c.args.script.now.sound (omega (arith, c.requires, c.args.script.now.lines.ok))
-          (c.in_ok-play.ensures script refl (sym c.deref.ensures.value));
+          (c.in_ok-play.ensures.opens script refl (sym c.deref.ensures.value));
       there = λ k d none within. absurd (omega (arith, none));
     }
 

@@ -25,7 +25,7 @@ returns-clause-made c =
 pub returns-then-index-len-clause-room : goal.returns-then-index-len-clause-room
 returns-then-index-len-clause-room c =
     let none = missing c.self.inside.posts.items c.args.node (grind arith) in
-    rw (← c.self.view_is) (rw none (record { spare = grind arith; place = tt; places = λ txn has. has }))
+    rw (← c.self.view_is) (rw none (record { spare = (grind arith, grind arith); place = tt; places = λ txn has. has }))
 
 pub returns-clause-room : goal.returns-clause-room
 returns-clause-room c =
