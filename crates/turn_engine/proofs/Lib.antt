@@ -17,3 +17,4 @@ mod Called
 mod Here
 mod Lacking
 mod AllEnded
+mod TurnRoom

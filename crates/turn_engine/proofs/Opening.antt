@@ -1,6 +1,6 @@
 -- What a script run keeps before its first turn.
-use Rattle.std.proofs.Common.{◌≡◌, ℕ, ◌+◌, ◌≤◌, ◌^◌, List, [], All, length, get_or, refl, sym, ◌∙◌, ap, subst, arith}
-use Rattle.std.specs.Prelude.{map, replicate, slice_get}
+use Rattle.std.proofs.Common.{◌≡◌, ℕ, ◌+◌, ◌≤◌, ◌^◌, Bool, false, List, [], All, length, get_or, refl, sym, ◌∙◌, ap, subst, arith}
+use Rattle.std.specs.Prelude.{map, replicate, slice_get, slice_index_or}
 use Rattle.std.proofs.lemmas.List.Elements.{All-nil, All-weaker}
 use Rattle.std.proofs.lemmas.Option.{none-some}
 use Rattle.stamp_base.specs.declared.stores.Store.{Store}
@@ -23,6 +23,7 @@ use Rattle.machine.specs.State.{State}
 use Rattle.turn_engine.specs.declared.seated.Seated.{Seated}
 use Rattle.turn_engine.specs.Run.{IsSeated, IsUsedUp, SitsAt}
 use Rattle.turn_engine.specs.Seating.{own_lines, after_passing, CanPass, AreSeatedFirst}
+use Rattle.turn_engine.proofs.Lacking.{none_at_first}
 use Rattle.turn_engine.proofs.Steady.{clock_room, lines_have_room}
 use Rattle.turn_engine.proofs.TurnMade.{IsMade}
 use Rattle.turn_engine.proofs.Turned.{passed_all}
@@ -61,7 +62,7 @@ are_lines_of : (script : ScriptData) → IsSound script → All (λ (line : Line
 are_lines_of script sound there = lines_fit script.setup script.lines sound.lines (λ k d within here. there k d here)
 
 -- each actor passes its first lines with nothing to do
-pub opens : (script : ScriptData) (whole : Whole) (clock : ℕ) (ahead : Store → ℕ → Fate) (clock_times : Clocks) (w : State) (names : List (List ℕ)) (held : List Holds) (seated : List Seated) (lacking : List ℕ) → IsSound script → length script.lines ≤ 131072 → AreForThreads script.lines → All (λ (line : Line). SessionIsThere line.actor) script.lines → StandsAt script (opening_played script) whole clock ahead → SitsAt script (at_first script) names held seated → lacking ≡ [] → clock_times ≡ clocks clock script.leads → w ≡ whole.state → IsMade script [] whole clock ahead names held (map (after_passing clock_times w) seated) lacking
+pub opens : (script : ScriptData) (whole : Whole) (clock : ℕ) (ahead : Store → ℕ → Fate) (clock_times : Clocks) (w : State) (names : List (List ℕ)) (held : List Holds) (seated : List Seated) (lacking : List Bool) → IsSound script → length script.lines ≤ 131072 → AreForThreads script.lines → All (λ (line : Line). SessionIsThere line.actor) script.lines → StandsAt script (opening_played script) whole clock ahead → SitsAt script (at_first script) names held seated → lacking ≡ replicate script.setup.nodes false → clock_times ≡ clocks clock script.leads → w ≡ whole.state → IsMade script [] whole clock ahead names held (map (after_passing clock_times w) seated) lacking
 opens script whole clock ahead clock_times w names held seated lacking sound few threads there stands sits none times state = record {
   stands = stands;
   sits = passed_all script (at_first script) clock_times w names held seated sits (times ∙ ap (λ (n : ℕ). clocks n script.leads) stands.time) (state ∙ stands.state);
@@ -71,6 +72,6 @@ opens script whole clock ahead clock_times w names held seated lacking sound few
     sessions = are_lines_of script sound there;
     for_threads = threads;
     lawful = record { at = λ place turn is. absurd (none-some turn is) };
-    used_up = subst (λ (nodes : List ℕ). All (λ node. IsUsedUp (slice_get (carried script []).played.state.nodes node)) nodes) (sym none) (All-nil (λ node. IsUsedUp (slice_get (carried script []).played.state.nodes node)));
+    used_up = λ node is. absurd (none_at_first script.setup.nodes node (ap (λ (bs : List Bool). slice_index_or bs node false) (sym none) ∙ is));
   };
 }

@@ -21,7 +21,10 @@ use Rattle.turn_rules.specs.declared.turn.Turn.TheVariants as turn
 use Rattle.turn_rules.specs.Lawful as lawful
 use Rattle.turn_rules.specs.Lawful.{stage_of, IsInPlace, LacksStamps, session_view, serving_turn, serving_turn_of, stage_turn}
 use Rattle.turn_engine.specs.Run.{Ran, reached_by, IsUsedUp, IsCarriedOut}
-use Rattle.turn_engine.specs.Steps.{state_of, IsServable}
+use Rattle.thread_steps.specs.declared.stages.StageStep.{StageStep}
+use Rattle.thread_steps.specs.declared.stages.StageStep.TheVariants as step
+use Rattle.turn_engine.specs.Making.{serves}
+use Rattle.turn_engine.specs.Steps.{state_of, IsServable, MayTakeMemory, LacksOnlyThere, LacksUnserved}
 use Rattle.turn_engine.proofs.Steady.{facts}
 use Rattle.turn_engine.proofs.Silent.{serving, is_accepted}
 
@@ -96,24 +99,15 @@ pub decides : (w : State) (stage : Stage) (node s n other : ℕ) → stage_turn 
 decides w stage node s n other is = decide_any stage node s (session_view w s).commit (session_view w s).request n other is
 
 -- ---- the turn that serves
-
-used_by : (w : State) (n node : ℕ) (others : Bool) → IsUsedUp (slice_get w.nodes n) → (others ≡ true → IsUsedUp (slice_get w.nodes node)) → (here : Bool) → (n == node) ≡ here → here || others ≡ true → IsUsedUp (slice_get w.nodes node)
-used_by w n node others first later true here is = subst (λ (m : ℕ). IsUsedUp (slice_get w.nodes m)) (eqb-true n node here) first
-used_by w n node others first later false here is = later is
-
-used_at : (w : State) (node : ℕ) (lacking : List ℕ) → All (λ n. IsUsedUp (slice_get w.nodes n)) lacking → list_any (λ (n : ℕ). n == node) lacking ≡ true → IsUsedUp (slice_get w.nodes node)
-used_at w node [] all is = absurd (true≢false (sym is))
-used_at w node (n ∷ lacking) all is = used_by w n node (list_any (λ (m : ℕ). m == node) lacking) (All-head (λ m. IsUsedUp (slice_get w.nodes m)) n lacking all) (used_at w node lacking (All-tail (λ m. IsUsedUp (slice_get w.nodes m)) n lacking all)) (n == node) refl is
-
 -- where the node's last decision found no stamp, the range is extended in place of the next one
-pub extends_first : (r : Ran) (lacking : List ℕ) (stage : Stage) (node s n other : ℕ) → IsCarriedOut r.script r.turns lacking → list_any (λ (m : ℕ). m == node) lacking ≡ true → stage_turn stage node s (session_view (state_of r) s) ≡ Some (turn.Decide n other) → IsServable r node stage s (turn.Extend node)
+pub extends_first : (r : Ran) (lacking : List Bool) (stage : Stage) (node s n other : ℕ) → IsCarriedOut r.script r.turns lacking → slice_index_or lacking node false ≡ true → stage_turn stage node s (session_view (state_of r) s) ≡ Some (turn.Decide n other) → IsServable r node stage s (turn.Extend node)
 extends_first r lacking stage node s n other out lacks is =
     let w : State = state_of r in
     let decides_it : stage_turn stage node s (session_view w s) ≡ Some (turn.Decide node s) = decides w stage node s n other is in
     let k : IsOfStage w stage node (turn.Decide node s) = of_stage_turn w stage node s (turn.Decide node s) decides_it in
     record {
       of_stage = k.of_stage;
-      in_place = lacks_stamps w (reached_by r).played.items node s (facts r.script r.turns out.sound out.few).reached.stands k.in_place (used_at w node lacking out.used_up lacks);
+      in_place = lacks_stamps w (reached_by r).played.items node s (facts r.script r.turns out.sound out.few).reached.stands k.in_place (out.used_up node lacks);
       of_session = inr (refl, decides_it);
     }
 
@@ -128,3 +122,57 @@ serves_there r x stage node s by same is = subst (λ (y : Ran). IsServable y nod
 pub serves_found : (r : Ran) (stage : Stage) (node s : ℕ) (found : Option Turn) → stage_turn stage node s (session_view (state_of r) s) ≡ found → MatchOption found (stage_turn stage node s (session_view (state_of r) s) ≡ None) (λ by. IsServable r node stage s by)
 serves_found r stage node s None is = is
 serves_found r stage node s (Some by) is = serves_itself r stage node s by is
+
+-- ---- where memory may be refused
+-- an accept that serves is of the node and the session
+accept_by : (stage : Stage) (node s : ℕ) (commit : Bool) (at : Place) (n other : ℕ) → serving_turn stage node s commit at ≡ Some (turn.Accept n other) → serving_turn stage node s commit at ≡ Some (turn.Accept node s)
+accept_by Request node s commit place.Asked n other is = refl
+accept_by Request node s commit place.Accepted n other is = absurd (cc)
+accept_by Persist node s true place.Drawn n other is = absurd (cc)
+accept_by Reply node s false place.Drawn n other is = absurd (cc)
+accept_by Reply node s true place.Settled n other is = absurd (cc)
+accept_by _ node s commit at n other is = absurd (none-some (turn.Accept n other) is)
+
+accept_here : (stage : Stage) (node s : ℕ) (commit : Bool) (at : Place) (n other : ℕ) (here : Bool) → cond here (serving_turn stage node s commit at) None ≡ Some (turn.Accept n other) → cond here (serving_turn stage node s commit at) None ≡ Some (turn.Accept node s)
+accept_here stage node s commit at n other true is = accept_by stage node s commit at n other is
+accept_here stage node s commit at n other false is = absurd (none-some (turn.Accept n other) is)
+
+accept_any : (stage : Stage) (node s : ℕ) (commit : Bool) (request : Option (ℕ × Place)) (n other : ℕ) → serving_turn_of stage node s commit request ≡ Some (turn.Accept n other) → serving_turn_of stage node s commit request ≡ Some (turn.Accept node s)
+accept_any stage node s commit None n other is = absurd (none-some (turn.Accept n other) is)
+accept_any stage node s commit (Some request) n other is = accept_here stage node s commit request.1 n other (request.0 == node) is
+
+abbrev accepting : Turn → Bool
+accepting (turn.Accept node session) = true
+accepting _ = false
+
+-- a turn of a request stage
+at_stage : (r : Ran) (node s n : ℕ) (stage : Stage) → ◌≡◌ {A = Option (ℕ × Stage)} (Some (n, Request)) (Some (node, stage)) → MayTakeMemory r n Request s → MayTakeMemory r node stage s
+at_stage r node s n stage is may = subst (λ (p : ℕ × Stage). MayTakeMemory r p.0 p.1 s) (same_Some (n, Request) (node, stage) is) may
+
+accepts : (r : Ran) (node s n other : ℕ) (stage : Stage) → stage_turn stage node s (session_view (state_of r) s) ≡ Some (turn.Accept n other) → MayTakeMemory r node stage s
+accepts r node s n other stage is =
+    let k : IsOfStage (state_of r) stage node (turn.Accept node s) = of_stage_turn (state_of r) stage node s (turn.Accept node s) (accept_any stage node s (session_view (state_of r) s).commit (session_view (state_of r) s).request n other is) in
+    at_stage r node s node stage k.of_stage (inl k.in_place)
+
+-- a turn that serves no request that was accepted accepts one, or extends a range
+takes_by : (r : Ran) (node s : ℕ) (stage : Stage) (by : Turn) → IsServable r node stage s by → serves by ≡ false → MayTakeMemory r node stage s
+takes_by r node s stage (turn.Accept n other) k none = elim k.of_session [
+  | inl is ↦ accepts r node s n other stage is
+  | inr other_turn ↦ absurd (true≢false (ap accepting other_turn.0))
+]
+takes_by r node s stage (turn.Extend n) k none = at_stage r node s n stage k.of_stage (inr k.in_place)
+takes_by r node s stage (turn.Own actor) k none = absurd (none-some (node, stage) k.of_stage)
+takes_by r node s stage (turn.Decide n other) k none = absurd (true≢false none)
+takes_by r node s stage (turn.Put n other) k none = absurd (true≢false none)
+takes_by r node s stage (turn.Answer n other) k none = absurd (true≢false none)
+
+pub lacks_there : (r : Ran) (node s : ℕ) (stage : Stage) (by : Turn) (result : StageStep) → IsServable r node stage s by → LacksUnserved by result → LacksOnlyThere r node stage s result
+lacks_there r node s stage by step.NoMemory k none = takes_by r node s stage by k none
+lacks_there r node s stage by step.Held k none = tt
+lacks_there r node s stage by (step.Stale found) k none = tt
+lacks_there r node s stage by step.Went k none = tt
+lacks_there r node s stage by (step.Did start commit) k none = tt
+lacks_there r node s stage by step.Settled k none = tt
+lacks_there r node s stage by step.Answered k none = tt
+lacks_there r node s stage by (step.Refused why) k none = tt
+lacks_there r node s stage by step.Fault k none = tt

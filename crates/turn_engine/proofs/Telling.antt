@@ -18,7 +18,7 @@ use Rattle.turn_engine.specs.Making.{step_in, TurnsBy, MakesTurn, Makes}
 use Rattle.thread_steps.specs.declared.stages.StageStep.{StageStep}
 use Rattle.thread_steps.specs.declared.stages.StageStep.TheVariants as step
 use Rattle.turn_engine.specs.Run.{Ran, reached_by}
-use Rattle.turn_engine.specs.Steps.{state_of, asked_of, node_asked, drawn_in, did, done_by, told_by, TellsTurn, ServesBy, IsServable, ServesOnce, Serves, IsStageHeld, MakesOwn}
+use Rattle.turn_engine.specs.Steps.{state_of, asked_of, node_asked, drawn_in, did, done_by, told_by, TellsTurn, ServesBy, LacksUnserved, IsServable, ServesOnce, Serves, IsStageHeld, MakesOwn}
 use Rattle.turn_engine.proofs.Since.{items_of, has_grown}
 
 -- ---- a turn is told neither as held nor as stale
@@ -106,6 +106,21 @@ pub done_serves : (old new : Ran) (by : Turn) (e : Event) (before : ℕ) (result
 done_serves old new by e before result is length_is told made =
     by_step old new by e result (ap is_answer told ∙ done_answer by (drop before (items_of new)))
     (record { stop = None; made = made; told = told ∙ ap (λ (xs : List Item). done_by by xs) (has_grown old new by e before is length_is made.made).since })
+
+-- it did not lack memory
+answers_lack_none : (by : Turn) (result : StageStep) → is_answer result ≡ true → LacksUnserved by result
+answers_lack_none by step.NoMemory some = absurd (true≢false (sym some))
+answers_lack_none by step.Held some = tt
+answers_lack_none by (step.Stale found) some = tt
+answers_lack_none by step.Went some = tt
+answers_lack_none by (step.Did start commit) some = tt
+answers_lack_none by step.Settled some = tt
+answers_lack_none by step.Answered some = tt
+answers_lack_none by (step.Refused why) some = tt
+answers_lack_none by step.Fault some = tt
+
+pub done_lacks_none : (by : Turn) (items : List Item) (result : StageStep) → result ≡ done_by by items → LacksUnserved by result
+done_lacks_none by items result told = answers_lack_none by result (ap is_answer told ∙ done_answer by items)
 
 -- ---- an actor's turn
 own_by : (old new : Ran) (actor : Actor) (e : Event) (asked : Option (ℕ × ℕ)) → event_of old.script (reached_by old) (turn.Own actor) ≡ Some e → IsTold old.script (reached_by old).played e → asked ≡ asked_of (state_of new) (node_asked (step_in old e).items) → TurnsBy old (turn.Own actor) e new → MakesOwn old actor asked new

@@ -1,9 +1,9 @@
 -- What one event makes of a script run.
-use Rattle.std.specs.Prelude.{◌≡◌, ◌⊎◌, ◌==◌, ℕ, Bool, true, false, List, [], ◌∷◌, ◌++◌, Option, None, Some, Result, Ok, Err}
-use Rattle.std.specs.List.{list_any}
+use Rattle.std.specs.Prelude.{◌≡◌, ◌⊎◌, ℕ, Bool, true, false, List, [], ◌∷◌, map, slice_set, Option, None, Some, Result, Ok, Err}
 use Rattle.history_book.specs.declared.item.Item.{Item}
 use Rattle.machine.specs.declared.event.Event.{Event}
 use Rattle.machine.specs.declared.event.Event.TheVariants as event
+use Rattle.history_book.specs.declared.item.Note.TheVariants as note
 use Rattle.machine.specs.Effect.{Stop, Refuses, Faults}
 use Rattle.line_steps.specs.declared.point.Halt.{Halt}
 use Rattle.line_steps.specs.declared.point.Halt.TheVariants as halt
@@ -63,11 +63,24 @@ abbrev pub finds_no_stamp : Option Halt → Bool
 finds_no_stamp (Some halt.NoStamp) = true
 finds_no_stamp _ = false
 
-abbrev pub with_node : Bool → ℕ → List ℕ → List ℕ
-with_node true node nodes = nodes
-with_node false node nodes = nodes ++ node ∷ []
+-- whether a node's last decision found no stamp
+abbrev pub lacking_after : List Bool → Turn → Option Halt → List Bool
+lacking_after lacking (turn.Decide node session) (Some halt.NoStamp) = slice_set lacking node true
+lacking_after lacking _ _ = lacking
 
--- the nodes whose last decision found no stamp
-abbrev pub lacking_after : List ℕ → Turn → Option Halt → List ℕ
-lacking_after nodes (turn.Decide node session) (Some halt.NoStamp) = with_node (list_any (λ n. n == node) nodes) node nodes
-lacking_after nodes _ _ = nodes
+-- none is noted to
+abbrev pub cleared : List Bool → List Bool
+cleared lacking = map (λ lacks. false) lacking
+
+-- ---- room for turns
+-- the turn serves a request that was accepted, which has room for it
+abbrev pub serves : Turn → Bool
+serves (turn.Decide node session) = true
+serves (turn.Put node session) = true
+serves (turn.Answer node session) = true
+serves _ = false
+
+-- the event posts a name
+abbrev pub posts : Event → Bool
+posts (event.Note actor (note.Post name)) = true
+posts _ = false

@@ -1,7 +1,8 @@
 -- A script run as its contracts see it, and what its parts keep.
-use Rattle.std.specs.Prelude.{◌≡◌, ℕ, ◌≤◌, List, ◌++◌, [], ◌∷◌, All, map, length, slice_get, Option, Some}
+use Rattle.std.specs.Prelude.{◌≡◌, ℕ, ◌≤◌, Bool, true, false, List, ◌++◌, [], ◌∷◌, All, map, length, slice_get, slice_index_or, Option, Some}
 use Rattle.stamp_base.specs.declared.limits.TheConstants.{LINE_LIMIT}
 use Rattle.oracle_parts.specs.Instance.{InstanceEntry}
+use Rattle.machine.specs.State.{State}
 use Rattle.script_data.specs.Data.{ScriptData, IsSound}
 use Rattle.line_steps.specs.Laws.{AreLinesOf}
 use Rattle.turn_rules.specs.declared.seat.Holds.{Holds}
@@ -34,6 +35,10 @@ abbrev pub IsUsedUp : Option (Option InstanceEntry) → Type 0
 IsUsedUp (Some (Some i)) = i.last ≡ i.ceiling
 IsUsedUp _ = ⊥
 
+-- nor has any node that is noted to lack stamps
+abbrev pub AreUsedUp : State → List Bool → Type 0
+AreUsedUp w lacking = (node : ℕ) → slice_index_or lacking node false ≡ true → IsUsedUp (slice_get w.nodes node)
+
 -- names, holds and seats are what the turns made of them
 pub record SitsAt (script : ScriptData) (c : Carried) (names : List (List ℕ)) (held : List Holds) (seated : List Seated) : Type 0 where
   pub posted : names ≡ c.names
@@ -42,10 +47,10 @@ pub record SitsAt (script : ScriptData) (c : Carried) (names : List (List ℕ)) 
   pub each : All (IsSeated script) seated
 
 -- the script is one that was read, and the turns are lawful
-pub record IsCarriedOut (script : ScriptData) (turns : List Turn) (lacking : List ℕ) : Type 0 where
+pub record IsCarriedOut (script : ScriptData) (turns : List Turn) (lacking : List Bool) : Type 0 where
   pub sound : IsSound script
   pub few : length script.lines ≤ LINE_LIMIT
   pub sessions : AreLinesOf script.setup script.lines
   pub for_threads : AreForThreads script.lines
   pub lawful : AreLawful script turns
-  pub used_up : All (λ node. IsUsedUp (slice_get (carried script turns).played.state.nodes node)) lacking
+  pub used_up : AreUsedUp (carried script turns).played.state lacking

@@ -1,6 +1,7 @@
 -- What an actor's step and a stage's step make of a script run.
 use Rattle.std.specs.Prelude.{◌≡◌, ◌≢◌, ◌⊎◌, ℕ, Bool, true, false, List, [], ◌∷◌, Option, None, Some, IsSomeAnd, slice_get}
 use Rattle.stamp_base.specs.declared.stage.Stage.{Stage}
+use Rattle.stamp_base.specs.declared.stage.Stage.TheVariants.{Request}
 use Rattle.history_book.specs.declared.item.Actor.{Actor}
 use Rattle.history_book.specs.declared.item.Item.{Item}
 use Rattle.history_book.specs.declared.item.Item.TheVariants as item
@@ -13,14 +14,14 @@ use Rattle.turn_rules.specs.declared.turn.Turn.{Turn}
 use Rattle.turn_rules.specs.declared.turn.Turn.TheVariants as turn
 use Rattle.turn_rules.specs.Seats.{lines_of}
 use Rattle.turn_rules.specs.Carried.{seat_of, own_ahead, event_of, is_held, holds_at}
-use Rattle.turn_rules.specs.Lawful.{IsLawful, IsInPlace, stage_of, session_view, stage_turn}
+use Rattle.turn_rules.specs.Lawful.{IsLawful, IsInPlace, LacksStamps, stage_of, session_view, stage_turn}
 pub use Rattle.thread_scripts.specs.Places.{place_in}
 use Rattle.turn_engine.specs.declared.answers.Advance.{Advance}
 use Rattle.turn_engine.specs.declared.answers.Advance.TheVariants as advance
 use Rattle.thread_steps.specs.declared.stages.StageStep.{StageStep}
 use Rattle.thread_steps.specs.declared.stages.StageStep.TheVariants as step
 use Rattle.turn_engine.specs.Run.{Ran, reached_by, with_turn}
-use Rattle.turn_engine.specs.Making.{step_in, MakesTurn}
+use Rattle.turn_engine.specs.Making.{step_in, MakesTurn, serves}
 
 abbrev pub state_of : Ran → State
 state_of r = (reached_by r).played.state
@@ -122,3 +123,18 @@ Serves old node term stage session step.Held new = (IsStageHeld old node stage �
 Serves old node term stage session (step.Stale found) new = (IsStageHeld old node stage ≡ false) × IsStale old node term stage session × (found ≡ term_of (state_of old) node) × (new ≡ old)
 Serves old node term stage session step.NoMemory new = (IsStageHeld old node stage ≡ false) × (new ≡ old)
 Serves old node term stage session result new = ServesOnce old node term stage session result new
+
+-- ---- where memory may be refused
+-- to a request stage alone: where it accepts the request, or extends a range that is used up
+abbrev pub MayTakeMemory : Ran → ℕ → Stage → ℕ → Type 0
+MayTakeMemory r node Request session = IsInPlace (state_of r) (turn.Accept node session) ⊎ LacksStamps (slice_get (state_of r).nodes node)
+MayTakeMemory r node _ session = ⊥
+
+abbrev pub LacksOnlyThere : Ran → ℕ → Stage → ℕ → StageStep → Type 0
+LacksOnlyThere r node stage session step.NoMemory = MayTakeMemory r node stage session
+LacksOnlyThere r node stage session result = Unit {0}
+
+-- a turn that serves a request never lacks memory
+abbrev pub LacksUnserved : Turn → StageStep → Type 0
+LacksUnserved by step.NoMemory = serves by ≡ false
+LacksUnserved by result = Unit {0}

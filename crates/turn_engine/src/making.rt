@@ -1,12 +1,12 @@
 // Making one event of a script run.
-ghost use Rattle.std.specs.Prelude.{◌≡◌, ℕ, ◌<◌, ◌≤◌, ◌==◌, IfOk, IfSome, OnOk, Some, false, drop, length, option_map, vec_len};
-ghost use Rattle.std.specs.List.{list_any};
+ghost use Rattle.std.specs.Prelude.{◌≡◌, ◌+◌, ◌<◌, ◌≤◌, IfOk, IfSome, IsOk, OnOk, Some, true, false, drop, length, option_map, slice_index_or, slice_set, vec_len};
 ghost use Rattle.std.specs.Vec.{vec_capacity};
 ghost use Rattle.turn_rules.specs.Carried.{event_of, is_posted, names_after};
 ghost use Rattle.turn_rules.specs.Lawful.{IsFree, IsInPlace, stage_of};
+ghost use Rattle.cluster_core.specs.Served.{NeverLacksIf, most_reserved};
 ghost use Rattle.turn_engine.specs.Names.{with_name};
 ghost use Rattle.turn_engine.specs.Run.{reached_by};
-ghost use Rattle.turn_engine.specs.Making.{Makes, halted, is_told, finds_no_stamp, with_node, lacking_after};
+ghost use Rattle.turn_engine.specs.Making.{Makes, halted, is_told, finds_no_stamp, lacking_after, cleared, serves, posts};
 
 use crate::ScriptRun;
 use crate::marks::note_stage;
@@ -22,17 +22,20 @@ use turn_rules::{
 };
 
 impl ScriptRun {
-    /// Makes the event of a turn that may be made. A turn whose event appends nothing is not told, and leaves all as it was.
+    /// Makes the event of a turn that may be made. A turn whose event appends nothing is not told, and leaves all as it was. A turn
+    /// that serves a request takes no memory.
     pub(crate) fn make(&mut self, turn: Turn, event: &Event) -> Result<(), Stopped>
         requires event { event_of self.old.script (reached_by self.old) turn ≡ Some event.now }
         requires free { IsFree (reached_by self.old).held (stage_of turn) }
         requires in_place { IsInPlace (reached_by self.old).played.state turn }
-        ensures { Makes self.old turn event.now result self.new }
+        ensures made { Makes self.old turn event.now result self.new }
+        ensures served { NeverLacksIf (serves turn) result }
     {
         own_turns_are_told();
         stage_turns_are_told();
         quiet_turns_change_nothing();
-        let Ok(name) = make_room(&mut self.turns, &mut self.names, &mut self.lacking, event) else {
+        let spare = self.planned.cluster.spare();
+        let Ok(name) = make_room(&mut self.turns, &mut self.names, spare, &turn, event) else {
             return Err(Stopped::NoMemory);
         };
         let before = self.planned.cluster.history().len();
@@ -54,31 +57,76 @@ impl ScriptRun {
             self.script.leads.as_slice(),
             &mut self.seated,
         );
-        self.lacking.clear();
+        clear_lacks(&mut self.lacking);
         self.turns.push_reserved(turn);
         note_lack(&mut self.lacking, &turn, halt);
         answer
     }
 }
 
-/// Room for one turn, one node, and the name that the event posts, which is given.
+/// Room for the turn, and for the name that the event posts, which is given. A turn that serves a request takes no memory.
 fn make_room(
     turns: &mut Vec<Turn>,
     names: &mut PostedNames,
-    lacking: &mut Vec<NodeNo>,
+    spare: usize,
+    turn: &Turn,
     event: &Event,
 ) -> Result<Option<Vec<u8>>, NoMemory>
+    requires { vec_len turns.old + spare ≤ vec_capacity turns.old }
     ensures turns { turns.new.items ≡ turns.old.items }
     ensures names { names.new.names ≡ names.old.names }
-    ensures lacking { lacking.new.items ≡ lacking.old.items }
-    ensures room { OnOk result ((vec_len turns.new < vec_capacity turns.new)
-        × (0 < names.new.room) × (vec_len lacking.new < vec_capacity lacking.new)) }
+    ensures kept { vec_len turns.new + spare ≤ vec_capacity turns.new }
+    ensures room { OnOk result (serves turn.now ≡ false → vec_len turns.new + spare + most_reserved event.now + 1 ≤ vec_capacity turns.new) }
+    ensures free { serves turn.now ≡ true → posts event.now ≡ false → IsOk result }
+    ensures posting { IfOk result (λ name. IfSome name (λ n. 0 < names.new.room)) }
     ensures name { IfOk result (λ name. with_name names.old.names (option_map (λ n. n.items) name) ≡ names_after names.old.names event.now) }
     ensures absent { IfOk result (λ name. IfSome name (λ n. is_posted names.new.names n.items ≡ false)) }
 {
-    turns.reserve(1)?;
-    lacking.reserve(1)?;
+    reserve_turns(turns, spare, turn, event)?;
     names.make_room(event)
+}
+
+/// Room for the turn beside that for what is kept for requests in flight, and for as much as an accept will keep for its request.
+/// A turn that serves a request has its room there.
+fn reserve_turns(
+    turns: &mut Vec<Turn>,
+    spare: usize,
+    turn: &Turn,
+    event: &Event,
+) -> Result<(), NoMemory>
+    requires { vec_len turns.old + spare ≤ vec_capacity turns.old }
+    ensures turns { turns.new.items ≡ turns.old.items }
+    ensures kept { vec_len turns.new + spare ≤ vec_capacity turns.new }
+    ensures room { OnOk result (serves turn.now ≡ false → vec_len turns.new + spare + most_reserved event.now + 1 ≤ vec_capacity turns.new) }
+    ensures free { serves turn.now ≡ true → IsOk result }
+{
+    if serves(turn) {
+        return Ok(());
+    }
+    let both = spare.checked_add(most_reserved(event) + 1).ok_or(NoMemory)?;
+    turns.reserve(both)?;
+    Ok(())
+}
+
+/// Whether the turn serves a request that was accepted.
+fn serves(turn: &Turn) -> bool
+    ensures { result ≡ serves turn.now }
+{
+    matches!(
+        turn,
+        Turn::Decide { .. } | Turn::Put { .. } | Turn::Answer { .. }
+    )
+}
+
+/// How many items an event may reserve for a request.
+fn most_reserved(event: &Event) -> usize
+    ensures value { result ≡ most_reserved event.now }
+    ensures few { result ≤ 5 }
+{
+    match event {
+        Event::Accept { .. } => 5,
+        _ => 0,
+    }
 }
 
 /// The items of a history from this place on.
@@ -111,16 +159,15 @@ fn is_told(event: &Event, items: &[Item]) -> bool
     }
 }
 
-/// Notes that a decision of the node has found no stamp. There is room for one node.
-fn note_lack(lacking: &mut Vec<NodeNo>, turn: &Turn, halt: Option<Halt>)
-    requires { vec_len lacking.old < vec_capacity lacking.old }
+/// Notes that a decision of the node has found no stamp.
+fn note_lack(lacking: &mut Vec<bool>, turn: &Turn, halt: Option<Halt>)
     ensures { lacking.new.items ≡ lacking_after lacking.old.items turn.now halt }
 {
     let Turn::Decide { node, .. } = turn else {
         return;
     };
     if finds_no_stamp(&halt) {
-        add_node(lacking, *node);
+        set_lack(lacking, *node);
     }
 }
 
@@ -130,18 +177,30 @@ fn finds_no_stamp(halt: &Option<Halt>) -> bool
     matches!(halt, Some(Halt::NoStamp))
 }
 
-fn add_node(nodes: &mut Vec<NodeNo>, node: NodeNo)
-    requires { vec_len nodes.old < vec_capacity nodes.old }
-    ensures { nodes.new.items ≡ with_node (list_any (λ (n : ℕ). n == node) nodes.old.items) node nodes.old.items }
+fn set_lack(lacking: &mut Vec<bool>, node: NodeNo)
+    ensures { lacking.new.items ≡ slice_set lacking.old.items node true }
 {
-    if !is_lacking(nodes.as_slice(), &node) {
-        nodes.push_reserved(node);
+    let number = node.index();
+    if number < lacking.len() {
+        lacking[number] = true;
     }
 }
 
 /// Whether the node's last decision found no stamp.
-pub(crate) fn is_lacking(lacking: &[NodeNo], node: &NodeNo) -> bool
-    ensures { result ≡ list_any (λ (n : ℕ). n == node.now) lacking.now }
+pub(crate) fn is_lacking(lacking: &[bool], node: &NodeNo) -> bool
+    ensures { result ≡ slice_index_or lacking.now node.now false }
 {
-    lacking.iter().any(|lacks| lacks == node)
+    match lacking.get(node.index()) {
+        Some(lacks) => *lacks,
+        None => false,
+    }
+}
+
+/// No node is noted to lack stamps.
+fn clear_lacks(lacking: &mut Vec<bool>)
+    ensures { lacking.new.items ≡ cleared lacking.old.items }
+{
+    for number in 0..lacking.len() {
+        lacking[number] = false;
+    }
 }

@@ -1,6 +1,7 @@
 // The names that are posted.
-ghost use Rattle.std.specs.Prelude.{◌≡◌, ◌<◌, ◌∷◌, ◌++◌, [], false, option_map, IfOk, IfSome, OnOk};
+ghost use Rattle.std.specs.Prelude.{◌≡◌, ◌<◌, ◌∷◌, ◌++◌, [], false, option_map, IfOk, IfSome, IsOk};
 ghost use Rattle.turn_rules.specs.Carried.{is_posted, names_after};
+ghost use Rattle.turn_engine.specs.Making.{posts};
 ghost use Rattle.turn_engine.specs.Names.{with_name, new_name};
 
 use history_book::Note;
@@ -45,14 +46,15 @@ impl PostedNames {
         self.names.contains(name.as_slice())
     }
 
-    /// Makes room for the name that the event posts, and gives it. None where it posts no name, or one that is posted.
+    /// Makes room for the name that the event posts, and gives it. None where it posts no name, or one that is posted. An event
+    /// that posts no name takes no memory.
     pub fn make_room(&mut self, event: &Event) -> Result<Option<Vec<u8>>, NoMemory>
         ensures names { self.new.names ≡ self.old.names }
-        ensures room { OnOk result (0 < self.new.room) }
+        ensures room { IfOk result (λ name. IfSome name (λ n. 0 < self.new.room)) }
+        ensures free { posts event.now ≡ false → IsOk result }
         ensures name { IfOk result (λ name. with_name self.old.names (option_map (λ n. n.items) name) ≡ names_after self.old.names event.now) }
         ensures absent { IfOk result (λ name. IfSome name (λ n. is_posted self.old.names n.items ≡ false)) }
     {
-        self.names.reserve(1)?;
         match event {
             Event::Note {
                 note: Note::Post(name),
@@ -62,18 +64,21 @@ impl PostedNames {
         }
     }
 
-    fn new_name(&self, name: &Name) -> Result<Option<Vec<u8>>, NoMemory>
-        ensures { IfOk result (λ found. option_map (λ n. n.items) found ≡ new_name self.now.names name.now) }
+    fn new_name(&mut self, name: &Name) -> Result<Option<Vec<u8>>, NoMemory>
+        ensures names { self.new.names ≡ self.old.names }
+        ensures room { IfOk result (λ found. IfSome found (λ n. 0 < self.new.room)) }
+        ensures name { IfOk result (λ found. option_map (λ n. n.items) found ≡ new_name self.old.names name.now) }
     {
         if self.contains(name) {
             return Ok(None);
         }
+        self.names.reserve(1)?;
         Ok(Some(name.as_slice().to_vec(self.alloc)?))
     }
 
     /// Adds a name that is not posted, for which there is room.
     pub fn add(&mut self, name: Option<Vec<u8>>)
-        requires room { 0 < self.old.room }
+        requires room { IfSome name (λ n. 0 < self.old.room) }
         requires absent { IfSome name (λ n. is_posted self.old.names n.items ≡ false) }
         ensures { self.new.names ≡ with_name self.old.names (option_map (λ n. n.items) name) }
     {

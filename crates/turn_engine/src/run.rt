@@ -15,7 +15,7 @@ use history_book::Item;
 use planned_cluster::{Cluster, PlannedCluster};
 use port_io::{PlannedWeather, Weather};
 use session_script::Script;
-use stamp_base::{NoMemory, NodeNo};
+use stamp_base::NoMemory;
 use std::alloc::Global;
 use std::marker::Model;
 use turn_rules::{Holds, Turn};
@@ -28,12 +28,15 @@ pub struct ScriptRun {
     pub(crate) names: PostedNames,
     pub(crate) held: Vec<Holds>,
     pub(crate) seated: Vec<Seated>,
-    // The nodes whose last decision found no stamp, where nothing else was made since.
-    pub(crate) lacking: Vec<NodeNo>,
+    // Whether the last decision found no stamp, and nothing else was made since, one for each node.
+    pub(crate) lacking: Vec<bool>,
+    // Beside these there is room for one more for each item that is still kept for a request in flight.
     pub(crate) turns: Vec<Turn>,
 }
 
 impl Model for ScriptRun {
+    ghost use Rattle.std.specs.Prelude.{◌+◌, ◌≤◌, vec_len};
+    ghost use Rattle.std.specs.Vec.{vec_capacity};
     ghost use Rattle.session_script.specs.Script.{data_of};
     ghost use Rattle.planned_cluster.specs.Standing.{StandsAt};
     ghost use Rattle.turn_rules.specs.Carried.{carried};
@@ -46,7 +49,8 @@ impl Model for ScriptRun {
     ghost invariant = { λ r.
         StandsAt (data_of r.script) (carried (data_of r.script) r.turns.items).played r.planned.cluster r.planned.clock (⟦<PlannedWeather as Weather>⟧.ahead r.planned.weather)
         × SitsAt (data_of r.script) (carried (data_of r.script) r.turns.items) r.names.names r.held.items r.seated.items
-        × IsCarriedOut (data_of r.script) r.turns.items r.lacking.items };
+        × IsCarriedOut (data_of r.script) r.turns.items r.lacking.items
+        × (vec_len r.turns + r.planned.cluster.spare ≤ vec_capacity r.turns) };
 }
 
 impl ScriptRun {
@@ -62,6 +66,7 @@ impl ScriptRun {
         let nodes = script.setup.nodes;
         let mut seated = all_seated(alloc, nodes, script.lines.as_slice())?;
         let held = Vec::from_elem(alloc, Holds::none(), nodes as usize)?;
+        let lacking = Vec::from_elem(alloc, false, nodes as usize)?;
         pass_all(&planned, script.leads.as_slice(), &mut seated);
         Ok(ScriptRun {
             script,
@@ -69,7 +74,7 @@ impl ScriptRun {
             names: PostedNames::new(alloc),
             held,
             seated,
-            lacking: Vec::new(alloc),
+            lacking,
             turns: Vec::new(alloc),
         })
     }

@@ -4,7 +4,7 @@ ghost use Rattle.turn_rules.specs.declared.ahead.Ahead.TheVariants.{Makes};
 ghost use Rattle.turn_rules.specs.Carried.{own_ahead, event_of, carried_items};
 ghost use Rattle.turn_rules.specs.Lawful.{IsFree, IsInPlace, stage_of};
 ghost use Rattle.turn_engine.specs.Run.{reached_by};
-ghost use Rattle.turn_engine.specs.Steps.{Advances, Serves, ServesBy, state_of, asked_of, node_asked, drawn_in, done_by};
+ghost use Rattle.turn_engine.specs.Steps.{Advances, Serves, ServesBy, LacksOnlyThere, LacksUnserved, state_of, asked_of, node_asked, drawn_in, done_by};
 
 use crate::ScriptRun;
 use crate::answers::Advance;
@@ -54,7 +54,8 @@ impl ScriptRun {
         Some((node, term))
     }
 
-    /// Makes one event of the node's stage for the session's request, unless the stage is held, or the request is not there.
+    /// Makes one event of the node's stage for the session's request, unless the stage is held, or the request is not there. Memory
+    /// may be refused only where the request is accepted, or the range extended.
     pub fn stage_step(
         &mut self,
         node: NodeNo,
@@ -62,7 +63,8 @@ impl ScriptRun {
         stage: Stage,
         session: SessionNo,
     ) -> StageStep
-        ensures { Serves self.old node term stage session result self.new }
+        ensures made { Serves self.old node term stage session result self.new }
+        ensures memory { LacksOnlyThere self.old node stage session result }
     {
         if self.is_held(node, stage) {
             return StageStep::Held;
@@ -84,7 +86,8 @@ impl ScriptRun {
         requires event { event_of self.old.script (reached_by self.old) turn ≡ Some event.now }
         requires free { IsFree (reached_by self.old).held (stage_of turn) }
         requires in_place { IsInPlace (state_of self.old) turn }
-        ensures { ServesBy self.old turn event.now result self.new }
+        ensures made { ServesBy self.old turn event.now result self.new }
+        ensures memory { LacksUnserved turn result }
     {
         let before = self.history().len();
         match self.make(turn, event) {

@@ -1,4 +1,4 @@
-use Rattle.std.proofs.Common.{◌≡◌, ℕ, List, ◌∙◌, ap, sym, subst}
+use Rattle.std.proofs.Common.{◌≡◌, Bool, ℕ, List, ◌∙◌, ap, sym, subst}
 use Rattle.stamp_base.specs.SetupNumbers.{SetupNumbers}
 use Rattle.history_book.specs.declared.item.Item.{Item}
 use Rattle.cause_rules.specs.Explained.{Explained}
@@ -12,7 +12,7 @@ use Rattle.turn_engine.specs.Run.{Ran, IsCarriedOut}
 use Rattle.turn_engine.proofs.Steady.{facts}
 use Rattle.turn_engine.proofs.run.ScriptRun.history.Goals as goal
 
-setup_kept : (script : ScriptData) (turns : List Turn) (lacking : List ℕ) (w : State) → w ≡ (carried script turns).played.state → IsCarriedOut script turns lacking → w.setup ≡ script.setup
+setup_kept : (script : ScriptData) (turns : List Turn) (lacking : List Bool) (w : State) → w ≡ (carried script turns).played.state → IsCarriedOut script turns lacking → w.setup ≡ script.setup
 setup_kept script turns lacking w is out = ap (λ (s : State). s.setup) is ∙ (facts script turns out.sound out.few).reached.setup
 
 -- what is said of the cluster's setup and history is said of the script's setup and of what the turns made

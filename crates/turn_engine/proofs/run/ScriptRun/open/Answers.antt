@@ -14,7 +14,7 @@ use Rattle.turn_engine.proofs.run.ScriptRun.open.Goals as goal
 pub pass_all-requires : goal.pass_all-requires
 pass_all-requires c =
     let script = data_of c.args.script in
-    let stands = c.in_ok-planned.ensures script refl (sym c.as_slice-2.ensures.value) in
+    let stands = c.in_ok-planned.ensures.opens script refl (sym c.as_slice-2.ensures.value) in
     let seated = subst (λ (ls : List Line). AreSeatedFirst script.setup.nodes ls c.in_ok-seated.seated.items) c.as_slice-3.ensures.value c.in_ok-seated.ensures in
     let held = c.in_ok-held.ensures.items_if_clones_equal (λ y same. same) ∙ ap (λ (h : Holds). replicate script.setup.nodes h) c.none.ensures in
     all_can_pass script [] c.in_ok-planned.planned.clock c.as_slice-4.result.now c.in_ok-seated.seated.items c.args.script.sound (omega (arith, c.requires.few, c.args.script.lines.ok)) stands.time c.as_slice-4.ensures.value (sits_first script c.in_ok-held.held.items c.in_ok-seated.seated.items seated held).each
@@ -22,10 +22,11 @@ pass_all-requires c =
 pub invariant_of-result : goal.invariant_of-result
 invariant_of-result c =
     let script = data_of c.args.script in
-    let stands = c.in_ok-planned.ensures script refl (sym c.as_slice-2.ensures.value) in
+    let stands = c.in_ok-planned.ensures.opens script refl (sym c.as_slice-2.ensures.value) in
     let seated = subst (λ (ls : List Line). AreSeatedFirst script.setup.nodes ls c.in_ok-seated.seated.items) c.as_slice-3.ensures.value c.in_ok-seated.ensures in
     let held = c.in_ok-held.ensures.items_if_clones_equal (λ y same. same) ∙ ap (λ (h : Holds). replicate script.setup.nodes h) c.none.ensures in
+    let lacking = c.in_ok-lacking.ensures.items_if_clones_equal (λ y same. same) in
     let there = subst (λ (ls : List Line). All (λ (line : Line). SessionIsThere line.actor) ls) c.as_slice.ensures.value c.see_sessions.ensures in
-    let made = opens script c.in_ok-planned.planned.cluster c.in_ok-planned.planned.clock (ahead-value.it c.in_ok-planned.planned.weather) (clocks c.in_ok-planned.planned.clock c.as_slice-4.result.now) c.in_ok-planned.planned.cluster.state [] c.in_ok-held.held.items c.in_ok-seated.seated.items [] c.args.script.sound (omega (arith, c.requires.few, c.args.script.lines.ok)) c.requires.for_threads there stands (sits_first script c.in_ok-held.held.items c.in_ok-seated.seated.items seated held) refl (ap (clocks c.in_ok-planned.planned.clock) c.as_slice-4.ensures.value) refl in
-    let kept = same_made script [] c.new-3.result.items c.in_ok-planned.planned.cluster c.in_ok-planned.planned.clock (ahead-value.it c.in_ok-planned.planned.weather) [] c.new.result.names c.in_ok-held.held.items c.in_ok-held.held.items _ c.pass_all.new.seated.items [] c.new-2.result.items made c.new-3.ensures.items c.new.ensures refl c.pass_all.ensures c.new-2.ensures.items in
-    (kept.stands, kept.sits, kept.out)
+    let made = opens script c.in_ok-planned.planned.cluster c.in_ok-planned.planned.clock (ahead-value.it c.in_ok-planned.planned.weather) (clocks c.in_ok-planned.planned.clock c.as_slice-4.result.now) c.in_ok-planned.planned.cluster.state [] c.in_ok-held.held.items c.in_ok-seated.seated.items c.in_ok-lacking.lacking.items c.args.script.sound (omega (arith, c.requires.few, c.args.script.lines.ok)) c.requires.for_threads there stands (sits_first script c.in_ok-held.held.items c.in_ok-seated.seated.items seated held) lacking (ap (clocks c.in_ok-planned.planned.clock) c.as_slice-4.ensures.value) refl in
+    let kept = same_made script [] c.new-2.result.items c.in_ok-planned.planned.cluster c.in_ok-planned.planned.clock (ahead-value.it c.in_ok-planned.planned.weather) [] c.new.result.names c.in_ok-held.held.items c.in_ok-held.held.items _ c.pass_all.new.seated.items c.in_ok-lacking.lacking.items c.in_ok-lacking.lacking.items made c.new-2.ensures.items c.new.ensures refl c.pass_all.ensures refl in
+    (kept.stands, kept.sits, kept.out, omega (arith, c.in_ok-planned.ensures.spare, c.new-2.ensures.len))

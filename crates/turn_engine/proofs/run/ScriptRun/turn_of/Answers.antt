@@ -1,6 +1,5 @@
 use Rattle.std.proofs.Common.{◌≡◌, Some, None, subst, sym, ap, ◌∙◌}
-use Rattle.std.specs.Prelude.{◌==◌, MatchOption}
-use Rattle.std.specs.List.{list_any}
+use Rattle.std.specs.Prelude.{MatchOption, false, slice_index_or}
 use Rattle.history_book.specs.declared.item.Actor.TheVariants.{Session}
 use Rattle.line_steps.specs.Views.{view_of}
 use Rattle.turn_rules.specs.declared.turn.Turn.TheVariants as turn
@@ -17,7 +16,7 @@ returns-in-Some-Decide c =
     let r : Ran = record { script = data_of s.script; turns = s.turns.items } in
     let seen = c.view-view.ensures ∙ ap (λ w. view_of w (Session c.args.session)) c.self.invariant.0.state in
     let decides = ap (λ view. lawful.stage_turn c.args.stage c.args.node c.args.session view) (sym seen) ∙ sym c.stage_turn.ensures ∙ c.in-Some-Decide.is ∙ ap (λ t. Some t) c.in-Some-Decide.field-0-is in
-    let lacks = ap (λ nodes. list_any (λ n. n == c.args.node) nodes) (sym c.as_slice.ensures.value) ∙ sym c.is_lacking.ensures ∙ c.if-is_lacking.true in
+    let lacks = ap (λ lacking. slice_index_or lacking c.args.node false) (sym c.as_slice.ensures.value) ∙ sym c.is_lacking.ensures ∙ c.if-is_lacking.true in
     subst (λ (x : Ran). IsServable x c.args.node c.args.stage c.args.session (turn.Extend c.args.node)) c.self.view_is (extends_first r s.lacking.items c.args.stage c.args.node c.args.session _ _ c.self.invariant.2 lacks decides)
 
 pub returns-in_default : goal.returns-in_default
