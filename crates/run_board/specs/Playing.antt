@@ -1,6 +1,7 @@
 -- A play as its contracts see it, and what the calls make of it.
 use Rattle.std.specs.Prelude.{◌≡◌, ℕ, ◌+◌, ◌≤◌, List, [], ◌∷◌, ◌++◌, length, find, Option, IfSome}
 use Rattle.stamp_base.specs.declared.stage.Stage.{Stage}
+use Rattle.stamp_base.specs.declared.stage.Stage.TheVariants.{Request}
 use Rattle.stamp_base.specs.declared.limits.TheConstants.{LINE_LIMIT}
 use Rattle.history_book.specs.declared.item.Actor.{Actor}
 use Rattle.history_book.specs.declared.item.Item.{Item}
@@ -14,6 +15,7 @@ use Rattle.turn_rules.specs.Lawful.{AreLawful}
 use Rattle.turn_engine.specs.declared.answers.Advance.{Advance}
 use Rattle.turn_engine.specs.declared.answers.Advance.TheVariants as advance
 use Rattle.thread_steps.specs.declared.stages.StageStep.{StageStep}
+use Rattle.thread_steps.specs.declared.stages.StageStep.TheVariants as step
 use Rattle.turn_engine.specs.Run.{Ran}
 use Rattle.turn_engine.specs.Steps as steps
 use Rattle.line_shares.specs.declared.cursor.Cursor.{Cursor}
@@ -66,6 +68,11 @@ Advances old mine answer new now = steps.Advances old.ran mine.actor answer new.
 -- ---- a stage's step
 abbrev pub Serves : Played → ℕ → ℕ → Stage → ℕ → StageStep → Played → Type 0
 Serves old node term stage session answer new = steps.Serves old.ran node term stage session answer new.ran × (new.cursors ≡ old.cursors)
+
+-- memory may be refused to a request stage alone
+abbrev pub LacksAtRequest : Stage → StageStep → Type 0
+LacksAtRequest stage step.NoMemory = stage ≡ Request
+LacksAtRequest stage result = Unit {0}
 
 -- ---- the end
 -- every share is there, every cursor is at its end, and the script is this one

@@ -10,7 +10,7 @@ ghost use Rattle.turn_rules.specs.Told.{AreForThreads};
 ghost use Rattle.line_shares.specs.Done.{parts_for, fresh};
 ghost use Rattle.thread_scripts.specs.Actors.{actors_of};
 ghost use Rattle.thread_steps.specs.Going.{GoesOn};
-ghost use Rattle.run_board.specs.Playing.{IsResult};
+ghost use Rattle.run_board.specs.Playing.{IsResult, LacksAtRequest};
 
 use crate::play::Play;
 use cluster_core::Cluster;
@@ -111,7 +111,8 @@ impl<L: Ledger> ActorSteps<L> for Board<L> {
 }
 
 impl<L: Ledger> Steps for Board<L> {
-    /// Makes one event of the node's stage for the session's request, as `Play::stage_step` does.
+    /// Makes one event of the node's stage for the session's request, as `Play::stage_step` does. A stage that persists or replies
+    /// is never refused memory.
     fn stage_step<R: Wait>(
         &self,
         rt: &R,
@@ -119,7 +120,9 @@ impl<L: Ledger> Steps for Board<L> {
         term: Term,
         stage: Stage,
         session: SessionNo,
-    ) -> StageStep {
+    ) -> StageStep
+        ensures memory { LacksAtRequest stage result }
+    {
         self.play.lock(rt).stage_step(node, term, stage, session)
     }
 

@@ -13,7 +13,7 @@ ghost use Rattle.thread_scripts.specs.Actors.{actors_of, AreBehind, AreAtTheirEn
 ghost use Rattle.turn_rules.specs.Laws.{IsPlannedSoFar};
 ghost use Rattle.turn_engine.specs.Run.{reached_by};
 ghost use Rattle.machine.specs.Readers.{term_of};
-ghost use Rattle.turn_engine.specs.Steps.{place_of, state_of, IsStageHeld};
+ghost use Rattle.turn_engine.specs.Steps.{place_of, state_of, IsStageHeld, LacksOnlyThere};
 ghost use Rattle.thread_steps.specs.Going.{GoesOn};
 ghost use Rattle.run_board.specs.Playing.{Advances, Serves, AreCounted, IsOver, IsResult};
 ghost use Rattle.run_board.specs.SoFar.{AreAnsweredSoFar};
@@ -108,7 +108,8 @@ impl<L: Ledger> Play<L> {
         }
     }
 
-    /// Makes one event of the node's stage for the session's request, unless the stage is held, or the request is not there.
+    /// Makes one event of the node's stage for the session's request, unless the stage is held, or the request is not there. Memory
+    /// may be refused only where the request is accepted, or a range that is used up is extended.
     pub fn stage_step(
         &mut self,
         node: NodeNo,
@@ -116,7 +117,8 @@ impl<L: Ledger> Play<L> {
         stage: Stage,
         session: SessionNo,
     ) -> StageStep
-        ensures { Serves self.old node term stage session result self.new }
+        ensures made { Serves self.old node term stage session result self.new }
+        ensures memory { LacksOnlyThere self.old.ran node stage session result }
     {
         stage_steps_go_further();
         self.run.stage_step(node, term, stage, session)
