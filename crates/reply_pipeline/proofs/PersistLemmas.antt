@@ -1,6 +1,6 @@
 -- A persist worker's pass after each of its calls.
 use Rattle.std.proofs.Common.{◌≡◌, ℕ, ◌+◌, List, [], ◌∷◌, ◌++◌, sym, ap, ◌∙◌, subst, arith}
-use Rattle.std.specs.Prelude.{Option, None, Some, Result, Ok, Err, IfSome, IsSomeAnd, MatchOption, MatchResult, OnOk, sum_by, flat_map, slice_get}
+use Rattle.std.specs.Prelude.{Option, None, Some, Result, Ok, Err, IfSome, IsSomeAnd, MatchOption, MatchResult, sum_by, flat_map, slice_get}
 use Rattle.std.proofs.lemmas.List.Sums.{sum_by-append, sum_by_push}
 use Rattle.persist_batches.specs.declared.numbered.Numbered.{Numbered}
 use Rattle.queue_passes.specs.Holds.{Holds}
@@ -10,8 +10,8 @@ use Rattle.settled_rule.specs.declared.account.SettledAccount.{SettledAccount}
 use Rattle.settled_rule.specs.Accounts as settled
 use Rattle.stage_queues.specs.Plan.{Plan, NodeRing, node_ring}
 use Rattle.stage_queues.specs.NodePasses.{changed, batch_taken, settled_put, IsOfRing}
-use Rattle.stage_queues.specs.Passes.{StageAccount, pass_at, at_node, let_go, got, ReceivesBatches, UsesSettled}
-use Rattle.reply_pipeline.specs.Persisting.{SaidOf, PutsWithout, IsPersisting, settled_by, taken_by, settled_at, taken_at, Carries, PutsAllButOne}
+use Rattle.stage_queues.specs.Passes.{StageAccount, at_node, let_go, got, ReceivesBatches, UsesSettled}
+use Rattle.reply_pipeline.specs.Persisting.{SaidOf, PutsWithout, IsPersisting}
 use Rattle.reply_pipeline.proofs.ReachLemmas.{rings_here, ring_node, changed_of, now_here, still_reaches}
 
 batches_there : (said : BatchAccount → SettledAccount → Type 0) (P : Holds BatchAccount → Type 0) (b : Option (Holds BatchAccount)) (s : Option (Holds SettledAccount)) → SaidOf said b s → IfSome b P → IsSomeAnd b P
@@ -79,67 +79,3 @@ module _ (queues : Plan) (node : ℕ) (p q : StageAccount) (ring : NodeRing) whe
       → MatchResult result (λ _. IsPersisting queues node [] q) (λ back. (back ≡ item) × (q ≡ p))
   has_sent (Ok x) item h is e = sent queues node p q item h (subst (λ n. q ≡ let_go p n (settled_put item (at_node p n))) (ring_node queues node p ring (λ rings. rings.settled) h.reaches is) e)
   has_sent (Err back) item h is e = e
-
--- ---- what was taken and put from one moment to another
-taken_by_more : (weight : Numbered → ℕ) (item : Numbered) (b : Option (Holds BatchAccount)) → IsSomeAnd b (λ _. Unit {0}) → sum_by weight (taken_by (changed (λ a. batch.with_taken a item) b)) ≡ sum_by weight (taken_by b) + weight item
-taken_by_more weight item None some = absurd some
-taken_by_more weight item (Some b) some = takes_more weight b.account item
-
-settled_by_more : (weight : Numbered → ℕ) (item : Numbered) (s : Option (Holds SettledAccount)) → IsSomeAnd s (λ _. Unit {0}) → sum_by weight (settled_by (changed (λ a. settled.with_put a item) s)) ≡ sum_by weight (settled_by s) + weight item
-settled_by_more weight item None some = absurd some
-settled_by_more weight item (Some s) some = sum_by_push weight s.account.put item
-
-batches_some : (said : BatchAccount → SettledAccount → Type 0) (b : Option (Holds BatchAccount)) (s : Option (Holds SettledAccount)) → SaidOf said b s → IsSomeAnd b (λ _. Unit {0})
-batches_some said None s h = absurd h
-batches_some said (Some b) s h = tt
-
-settled_some : (said : BatchAccount → SettledAccount → Type 0) (b : Option (Holds BatchAccount)) (s : Option (Holds SettledAccount)) → SaidOf said b s → IsSomeAnd s (λ _. Unit {0})
-settled_some said None s h = absurd h
-settled_some said (Some b) None h = absurd h
-settled_some said (Some b) (Some s) h = tt
-
-module _ (queues : Plan) (node : ℕ) (p q : StageAccount) (ring : NodeRing) where
-  pub carries_taken : (result : Option Numbered) → IsPersisting queues node [] p → IfSome (slice_get queues.nodes node) (λ rings. ring ≡ node_ring node rings.batches)
-      → MatchOption result (q ≡ p) (λ item. q ≡ got p ring.node (batch_taken item (at_node p ring.node))) → IfSome result (λ item. Carries node [] (item ∷ []) p q)
-  carries_taken None h is e = tt
-  carries_taken (Some item) h is e = λ weight.
-      let is_here : q ≡ got p node (batch_taken item (at_node p node)) = subst (λ n. q ≡ got p n (batch_taken item (at_node p n))) (ring_node queues node p ring (λ rings. rings.batches) h.reaches is) e in
-      let here = now_here queues node p q (batch_taken item (at_node p node)) h.reaches (ap (λ x. x.nodes) is_here) in
-      let more = taken_by_more weight item (at_node p node).batches (batches_some (PutsWithout []) (at_node p node).batches (at_node p node).settled h.puts) in
-      let took : sum_by weight (taken_at q node) ≡ sum_by weight (taken_at p node) + weight item = ap (λ n. sum_by weight (taken_by n.batches)) here ∙ more in
-      let put : sum_by weight (settled_at q node) ≡ sum_by weight (settled_at p node) = ap (λ n. sum_by weight (settled_by n.settled)) here in
-      omega (arith, took, put)
-
-  pub carries_put : (result : Result (Unit {0}) Numbered) (item : Numbered) → IsPersisting queues node (item ∷ []) p → IfSome (slice_get queues.nodes node) (λ rings. ring ≡ node_ring node rings.settled)
-      → MatchResult result (λ _. q ≡ let_go p ring.node (settled_put item (at_node p ring.node))) (λ back. (back ≡ item) × (q ≡ p)) → OnOk result (Carries node (item ∷ []) [] p q)
-  carries_put (Err back) item h is e = tt
-  carries_put (Ok x) item h is e = λ weight.
-      let is_here : q ≡ let_go p node (settled_put item (at_node p node)) = subst (λ n. q ≡ let_go p n (settled_put item (at_node p n))) (ring_node queues node p ring (λ rings. rings.settled) h.reaches is) e in
-      let here = now_here queues node p q (settled_put item (at_node p node)) h.reaches (ap (λ x. x.nodes) is_here) in
-      let more = settled_by_more weight item (at_node p node).settled (settled_some (PutsWithout (item ∷ [])) (at_node p node).batches (at_node p node).settled h.puts) in
-      let put : sum_by weight (settled_at q node) ≡ sum_by weight (settled_at p node) + weight item = ap (λ n. sum_by weight (settled_by n.settled)) here ∙ more in
-      let took : sum_by weight (taken_at q node) ≡ sum_by weight (taken_at p node) = ap (λ n. sum_by weight (taken_by n.batches)) here in
-      omega (arith, took, put)
-
--- one moment after another
-pub carries_on : (node : ℕ) (one two three : List Numbered) (p q r : StageAccount) → Carries node one two p q → Carries node two three q r → Carries node one three p r
-carries_on node one two three p q r first then = λ weight. let a = first weight in let b = then weight in omega arith
-
-pub carries_same : (node : ℕ) (hand : List Numbered) (p q : StageAccount) → q.nodes ≡ p.nodes → Carries node hand hand p q
-carries_same node hand p q same = λ weight.
-    let put : sum_by weight (settled_at q node) ≡ sum_by weight (settled_at p node) = ap (λ nodes. sum_by weight (settled_by (pass_at nodes node).settled)) same in
-    let took : sum_by weight (taken_at q node) ≡ sum_by weight (taken_at p node) = ap (λ nodes. sum_by weight (taken_by (pass_at nodes node).batches)) same in
-    omega (arith, put, took)
-
--- the batch in hand was put, or it was given back where the stage ended
-pub took_one : {E : Type 0} (node : ℕ) (p q r : StageAccount) (item : Numbered) (result : Result (Unit {0}) E) → Carries node [] (item ∷ []) p q
-    → MatchResult result (λ _. Carries node (item ∷ []) [] q r) (λ _. r.nodes ≡ q.nodes) → MatchResult result (λ _. Carries node [] [] p r) (λ _. PutsAllButOne node p r)
-took_one node p q r item (Ok x) taken put = carries_on node [] (item ∷ []) [] p q r taken put
-took_one node p q r item (Err end) taken same = record { given = item ∷ []; one = omega arith; puts = carries_on node [] (item ∷ []) (item ∷ []) p q r taken (carries_same node (item ∷ []) q r same) }
-
-pub took_none : {E : Type 0} (node : ℕ) (p q : StageAccount) (result : Result (Unit {0}) E) → q.nodes ≡ p.nodes → MatchResult result (λ _. Carries node [] [] p q) (λ _. PutsAllButOne node p q)
-took_none node p q (Ok x) same = carries_same node [] p q same
-took_none node p q (Err end) same = record { given = []; one = omega arith; puts = carries_same node [] p q same }
-
-pub ends_behind : (node : ℕ) (p q r : StageAccount) → Carries node [] [] p q → PutsAllButOne node q r → PutsAllButOne node p r
-ends_behind node p q r first end = record { given = end.given; one = end.one; puts = carries_on node [] [] end.given p q r first end.puts }

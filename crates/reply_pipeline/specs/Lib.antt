@@ -2,7 +2,6 @@ pub mod Reach
 pub mod Picks
 pub mod Requesting
 pub mod Serving
-pub mod Telling
 pub mod Persisting
 pub mod Replying
 pub mod Seats

@@ -1,67 +1,11 @@
-ghost use Rattle.std.specs.Prelude.{◌≡◌, ◌≢◌, ◌∷◌, ◌++◌, [], None, Some, IfOk, length};
-ghost use Rattle.stamp_base.specs.declared.stage.Stage.TheVariants.{Request};
-ghost use Rattle.reply_pipeline.specs.Requesting.{entry_of};
-ghost use Rattle.reply_pipeline.specs.Telling.{drawn_by, is_over, IsSaidOf};
-
 use crate::ending::StageEnd;
 use crate::gate::{Gate, GatePlace};
-use batch_pool::{Batch, Entry};
+use batch_pool::Entry;
 use history_book::{Actor, Cause};
-use stage_queues::{Queues, Ticket, Waiter};
-use stamp_base::{NodeNo, SessionNo, Stage, Stamp, Term};
+use stage_queues::{Queues, Waiter};
+use stamp_base::{NodeNo, SessionNo, Stage, Term};
 use std::sync::Wait;
 use thread_steps::{StageStep, Steps};
-
-/// What the board said to a stage of a request. Nobody but the desk has one to show.
-#[derive(Drop)]
-pub struct Said {
-    stage: Stage,
-    session: SessionNo,
-    term: Term,
-    step: StageStep,
-}
-
-/// The entry of a request that was drawn, until it is entered in a batch.
-#[derive(Drop)]
-pub struct Loose {
-    entry: Option<Entry>,
-}
-
-impl Loose {
-    /// Nothing is drawn.
-    pub fn none() -> Loose
-        ensures { result.entry ≡ None }
-    {
-        Loose { entry: None }
-    }
-
-    // What the step drew.
-    fn take(&mut self, ticket: &Ticket, step: &StageStep)
-        requires { self.old.entry ≡ None }
-        ensures { self.new.entry ≡ drawn_by ticket.now step.now }
-    {
-        match step {
-            StageStep::Did { start, commit } => {
-                self.entry = Some(entry_of(ticket, *start, *commit));
-            }
-            _ => {}
-        }
-    }
-
-    /// Enters it.
-    pub fn enter(&mut self, batch: &mut Batch, entry: Entry)
-        requires room { length batch.old.entries ≢ batch.old.room }
-        requires entry { self.old.entry ≡ Some entry }
-        ensures entered { batch.new ≡ record batch.old { entries = batch.old.entries ++ entry ∷ [] } }
-        ensures none { self.new.entry ≡ None }
-    {
-        self.entry = None;
-        match batch.push(entry) {
-            Ok(()) => {}
-            Err(_) => unreachable!(),
-        }
-    }
-}
 
 /// Where a stage of a node works, and what its three stages do alike.
 #[derive(Drop)]
@@ -73,35 +17,17 @@ pub struct Desk<'a, B: Steps, G: Gate> {
 }
 
 impl<B: Steps, G: Gate> Desk<'_, B, G> {
-    /// The request stage's next step for a ticket's request. What is drawn is loose from then on.
-    pub fn draw<R: Wait>(&self, rt: &R, ticket: &Ticket, loose: &mut Loose) -> StageStep
-        requires { loose.old.entry ≡ None }
-        ensures { loose.new.entry ≡ drawn_by ticket.now result }
-    {
-        let said = self.step(rt, Stage::Request, ticket.session, ticket.term);
-        loose.take(ticket, &said.step);
-        said.step
-    }
-
-    // Passes the gate, and makes the stage's next step for a request. A held stage keeps nothing of an instance that is gone: its
-    // request is not there any more.
-    fn step<R: Wait>(&self, rt: &R, stage: Stage, session: SessionNo, term: Term) -> Said
-        ensures { (result.stage ≡ stage) × (result.session ≡ session) × (result.term ≡ term) }
-    {
+    /// Passes the gate, and makes the stage's next step for a request. A held stage keeps nothing of an instance that is gone: its
+    /// request is not there any more.
+    pub fn step<R: Wait>(&self, rt: &R, stage: Stage, session: SessionNo, term: Term) -> StageStep {
         let place = GatePlace {
             node: self.node,
             stage,
         };
         self.gate.pass(rt, place);
-        let step = match self.board.stage_step(rt, self.node, term, stage, session) {
+        match self.board.stage_step(rt, self.node, term, stage, session) {
             StageStep::Held => self.held_step(rt, term),
             step => step,
-        };
-        Said {
-            stage,
-            session,
-            term,
-            step,
         }
     }
 
@@ -123,19 +49,15 @@ impl<B: Steps, G: Gate> Desk<'_, B, G> {
         stage: Stage,
         worker: u64,
         entry: &Entry,
-    ) -> Result<Said, StageEnd>
-        requires { stage ≢ Request }
-        ensures { IfOk result (IsSaidOf stage entry.now) }
-    {
+    ) -> Result<(), StageEnd> {
         for _ in rt.forever() {
-            let said = self.step(rt, stage, entry.session, entry.term);
-            if is_over(&said.step) {
-                return Ok(said);
+            match self.step(rt, stage, entry.session, entry.term) {
+                StageStep::Held | StageStep::Refused(Cause::NotYet { .. }) => {
+                    self.wait(rt, stage, worker)?
+                }
+                StageStep::NoMemory => return Err(StageEnd::NoMemory),
+                _ => return Ok(()),
             }
-            if said.step == StageStep::NoMemory {
-                return Err(StageEnd::NoMemory);
-            }
-            self.wait(rt, stage, worker)?;
         }
         unreachable!()
     }
@@ -188,30 +110,6 @@ impl<B: Steps, G: Gate> Desk<'_, B, G> {
     /// Wakes the session's thread.
     pub fn wake_session(&self, session: SessionNo) {
         self.queues.wake(Waiter::Actor(Actor::Session(session)));
-    }
-}
-
-/// The entry of a ticket whose request is drawn.
-pub fn entry_of(ticket: &Ticket, start: Stamp, commit: Option<Stamp>) -> Entry
-    ensures { result ≡ entry_of ticket.now start commit }
-{
-    Entry {
-        session: ticket.session,
-        term: ticket.term,
-        start,
-        commit,
-    }
-}
-
-// Whether the stage is through with a request after this step. Otherwise it is held, an earlier commit is not settled, or memory was
-// refused.
-fn is_over(step: &StageStep) -> bool
-    ensures { result ≡ is_over step.now }
-{
-    match step {
-        StageStep::Held | StageStep::NoMemory => false,
-        StageStep::Refused(cause) => !matches!(cause, Cause::NotYet { .. }),
-        _ => true,
     }
 }
 

@@ -9,7 +9,6 @@ mod persist;
 mod reply;
 mod request;
 mod tickets;
-mod told;
 
 pub use ending::StageEnd;
 pub use gate::{Gate, GatePlace, OpenGate, WaitsFor};

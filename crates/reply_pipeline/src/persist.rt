@@ -1,13 +1,10 @@
 // The persist workers: each makes the commits of the batches that it takes durable, and sends the batches on.
-ghost use Rattle.std.specs.Prelude.{◌≡◌, ◌+◌, ◌<◌, ◌∷◌, [], Some, IfOk, IfSome, MatchOption, MatchResult, OnOk, length, slice_get};
-ghost use Rattle.stamp_base.specs.declared.stage.Stage.TheVariants.{Persist};
-ghost use Rattle.reply_pipeline.specs.Telling.{counted, IsTold};
-ghost use Rattle.reply_pipeline.specs.Persisting.{IsPersistPass, IsPersisting, Carries, PutsAllButOne};
+ghost use Rattle.std.specs.Prelude.{◌≡◌, ◌∷◌, [], MatchOption, MatchResult};
+ghost use Rattle.reply_pipeline.specs.Persisting.{IsPersistPass, IsPersisting};
 
 use crate::desk::Desk;
 use crate::ending::StageEnd;
 use crate::gate::Gate;
-use crate::told::Told;
 use batch_pool::Entry;
 use persist_batches::Numbered;
 use stage_queues::{Queues, StagePass};
@@ -27,7 +24,6 @@ pub fn persist_worker<R: Wait, B: Steps, G: Gate>(
     requires pass { IsPersistPass queues.now node pass.old }
     requires held { pass.old.held ≡ 0 }
     ensures pass { IsPersistPass queues.now node pass.new }
-    ensures all { PutsAllButOne node pass.old pass.new }
     ensures held { pass.new.held ≡ 0 }
 {
     let desk = Desk {
@@ -46,8 +42,7 @@ fn serve<R: Wait, B: Steps, G: Gate>(
     pass: &mut StagePass,
 ) -> StageEnd
     requires { IsPersisting desk.now.queues.now desk.now.node [] pass.old }
-    ensures pass { IsPersisting desk.now.queues.now desk.now.node [] pass.new }
-    ensures all { PutsAllButOne desk.now.node pass.old pass.new }
+    ensures { IsPersisting desk.now.queues.now desk.now.node [] pass.new }
 {
     let worker = pass.worker();
     for _ in rt.forever() {
@@ -66,8 +61,7 @@ fn turn<R: Wait, B: Steps, G: Gate>(
     pass: &mut StagePass,
 ) -> Result<(), StageEnd>
     requires { IsPersisting desk.now.queues.now desk.now.node [] pass.old }
-    ensures pass { IsPersisting desk.now.queues.now desk.now.node [] pass.new }
-    ensures all { MatchResult result (λ _. Carries desk.now.node [] [] pass.old pass.new) (λ _. PutsAllButOne desk.now.node pass.old pass.new) }
+    ensures { IsPersisting desk.now.queues.now desk.now.node [] pass.new }
 {
     match receive(rt, desk, pass) {
         Some(batch) => {
@@ -86,11 +80,10 @@ fn settle<R: Wait, B: Steps, G: Gate>(
     batch: Numbered,
 ) -> Result<(), StageEnd>
     requires { IsPersisting desk.now.queues.now desk.now.node (batch ∷ []) pass.old }
-    ensures pass { IsPersisting desk.now.queues.now desk.now.node [] pass.new }
-    ensures put { MatchResult result (λ _. Carries desk.now.node (batch ∷ []) [] pass.old pass.new) (λ _. pass.new.nodes ≡ pass.old.nodes) }
+    ensures { IsPersisting desk.now.queues.now desk.now.node [] pass.new }
 {
-    match put_all(rt, desk, worker, &batch) {
-        Ok(told) => send_on(rt, desk, worker, pass, batch, &told),
+    match put_all(rt, desk, worker, batch.batch.entries()) {
+        Ok(()) => send_on(rt, desk, worker, pass, batch),
         Err(end) => {
             give_back(rt, desk, pass, batch);
             Err(end)
@@ -103,36 +96,13 @@ fn put_all<R: Wait, B: Steps, G: Gate>(
     rt: &R,
     desk: &Desk<'_, B, G>,
     worker: u64,
-    batch: &Numbered,
-) -> Result<Told, StageEnd>
-    ensures { IfOk result (IsTold Persist batch.now) }
-{
-    let mut told = Told::none(Stage::Persist, batch);
-    for entry in batch.batch.entries() {
-        put_one(rt, desk, worker, batch, entry, &mut told)?;
+    entries: &[Entry],
+) -> Result<(), StageEnd> {
+    for entry in entries {
+        if entry.commit.is_some() {
+            desk.step_in_turn(rt, Stage::Persist, worker, entry)?;
+        }
     }
-    Ok(told)
-}
-
-fn put_one<R: Wait, B: Steps, G: Gate>(
-    rt: &R,
-    desk: &Desk<'_, B, G>,
-    worker: u64,
-    batch: &Numbered,
-    entry: &Entry,
-    told: &mut Told,
-) -> Result<(), StageEnd>
-    requires told { told.old ≡ counted Persist batch.now.number told.old.count }
-    requires within { told.old.count < length batch.now.batch.entries }
-    requires next { slice_get batch.now.batch.entries told.old.count ≡ Some entry.now }
-    ensures { OnOk result (told.new ≡ counted Persist batch.now.number (told.old.count + 1)) }
-{
-    if entry.commit.is_none() {
-        told.pass_over(batch, entry);
-        return Ok(());
-    }
-    let said = desk.step_in_turn(rt, Stage::Persist, worker, entry)?;
-    told.add(batch, entry, said);
     Ok(())
 }
 
@@ -143,17 +113,14 @@ fn send_on<R: Wait, B: Steps, G: Gate>(
     worker: u64,
     pass: &mut StagePass,
     batch: Numbered,
-    told: &Told,
 ) -> Result<(), StageEnd>
-    requires hand { IsPersisting desk.now.queues.now desk.now.node (batch ∷ []) pass.old }
-    requires told { IsTold Persist batch told.now }
-    ensures pass { IsPersisting desk.now.queues.now desk.now.node [] pass.new }
-    ensures put { MatchResult result (λ _. Carries desk.now.node (batch ∷ []) [] pass.old pass.new) (λ _. pass.new.nodes ≡ pass.old.nodes) }
+    requires { IsPersisting desk.now.queues.now desk.now.node (batch ∷ []) pass.old }
+    ensures { IsPersisting desk.now.queues.now desk.now.node [] pass.new }
 {
     let mut batch = batch;
     let mut asked = false;
     for _ in rt.forever() {
-        match send(rt, desk, pass, batch, told) {
+        match send(rt, desk, pass, batch) {
             Ok(()) => return Ok(()),
             Err(back) => batch = back,
         }
@@ -172,8 +139,7 @@ fn receive<R: Wait, B: Steps, G: Gate>(
     pass: &mut StagePass,
 ) -> Option<Numbered>
     requires { IsPersisting desk.now.queues.now desk.now.node [] pass.old }
-    ensures pass { MatchOption result (pass.new ≡ pass.old) (λ batch. IsPersisting desk.now.queues.now desk.now.node (batch ∷ []) pass.new) }
-    ensures taken { IfSome result (λ batch. Carries desk.now.node [] (batch ∷ []) pass.old pass.new) }
+    ensures { MatchOption result (pass.new ≡ pass.old) (λ batch. IsPersisting desk.now.queues.now desk.now.node (batch ∷ []) pass.new) }
 {
     desk.queues.batches(desk.node).receive(rt, pass)
 }
@@ -183,14 +149,10 @@ fn send<R: Wait, B: Steps, G: Gate>(
     desk: &Desk<'_, B, G>,
     pass: &mut StagePass,
     batch: Numbered,
-    told: &Told,
 ) -> Result<(), Numbered>
-    requires hand { IsPersisting desk.now.queues.now desk.now.node (batch ∷ []) pass.old }
-    requires told { IsTold Persist batch told.now }
-    ensures pass { MatchResult result (λ _. IsPersisting desk.now.queues.now desk.now.node [] pass.new) (λ back. (back ≡ batch) × (pass.new ≡ pass.old)) }
-    ensures put { OnOk result (Carries desk.now.node (batch ∷ []) [] pass.old pass.new) }
+    requires { IsPersisting desk.now.queues.now desk.now.node (batch ∷ []) pass.old }
+    ensures { MatchResult result (λ _. IsPersisting desk.now.queues.now desk.now.node [] pass.new) (λ back. (back ≡ batch) × (pass.new ≡ pass.old)) }
 {
-    let _told = told;
     desk.queues.settled(desk.node).send(rt, pass, batch)
 }
 
@@ -201,8 +163,7 @@ fn give_back<R: Wait, B: Steps, G: Gate>(
     batch: Numbered,
 )
     requires { IsPersisting desk.now.queues.now desk.now.node (batch ∷ []) pass.old }
-    ensures pass { IsPersisting desk.now.queues.now desk.now.node [] pass.new }
-    ensures put { pass.new.nodes ≡ pass.old.nodes }
+    ensures { IsPersisting desk.now.queues.now desk.now.node [] pass.new }
 {
     desk.queues.give_batch(rt, desk.node, pass, batch.batch);
 }

@@ -1,14 +1,11 @@
 // The reply stage: brings settled batches into the order of their numbers, and answers the requests.
-ghost use Rattle.std.specs.Prelude.{◌≡◌, ◌+◌, ◌-◌, ◌<◌, ◌^◌, length, IfOk, IsSomeAnd, MatchOption};
-ghost use Rattle.stamp_base.specs.declared.stage.Stage.TheVariants.{Reply};
-ghost use Rattle.reply_pipeline.specs.Replying.{AnswersNext, IsReplyPass, IsReplying, Offers};
-ghost use Rattle.reply_pipeline.specs.Telling.{counted, IsTold};
+ghost use Rattle.std.specs.Prelude.{◌≡◌, ◌+◌, ◌-◌, ◌<◌, ◌^◌, length, MatchOption};
+ghost use Rattle.reply_pipeline.specs.Replying.{IsReplyPass, IsReplying};
 
 use crate::desk::Desk;
 use crate::ending::StageEnd;
 use crate::gate::Gate;
-use crate::told::Told;
-use batch_pool::Batch;
+use batch_pool::{Batch, Entry};
 use persist_batches::{Numbered, Reorder};
 use stage_queues::{Queues, StagePass};
 use stamp_base::{NodeNo, Stage};
@@ -52,8 +49,7 @@ fn serve<R: Wait, B: Steps, G: Gate>(
     pass: &mut StagePass,
     order: Reorder,
 ) -> StageEnd
-    requires replying { IsReplying desk.now.queues.now desk.now.node 0 order pass.old }
-    requires first { order.next ≡ 0 }
+    requires { IsReplying desk.now.queues.now desk.now.node 0 order pass.old }
     ensures pass { IsReplyPass desk.now.queues.now desk.now.node pass.new }
     ensures held { pass.new.held ≡ 0 }
 {
@@ -88,18 +84,14 @@ fn turn<R: Wait, B: Steps, G: Gate>(
     desk: &Desk<'_, B, G>,
     pass: &mut StagePass,
     order: &mut Reorder,
-) -> Result<Option<Told>, StageEnd>
+) -> Result<(), StageEnd>
     requires { IsReplying desk.now.queues.now desk.now.node 0 order.old pass.old }
-    ensures pass { IsReplying desk.now.queues.now desk.now.node 0 order.new pass.new }
-    ensures answers { IfOk result (AnswersNext order.old order.new) }
+    ensures { IsReplying desk.now.queues.now desk.now.node 0 order.new pass.new }
 {
     take_in(rt, desk, pass, order);
     match order.next() {
-        Some(batch) => answer_next(rt, desk, pass, order, batch),
-        None => {
-            desk.wait(rt, Stage::Reply, 0)?;
-            Ok(None)
-        }
+        Some(batch) => answer_batch(rt, desk, pass, batch.batch),
+        None => desk.wait(rt, Stage::Reply, 0),
     }
 }
 
@@ -110,8 +102,7 @@ fn take_in<R: Wait, B: Steps, G: Gate>(
     order: &mut Reorder,
 )
     requires { IsReplying desk.now.queues.now desk.now.node 0 order.old pass.old }
-    ensures pass { IsReplying desk.now.queues.now desk.now.node 0 order.new pass.new }
-    ensures next { order.new.next ≡ order.old.next }
+    ensures { IsReplying desk.now.queues.now desk.now.node 0 order.new pass.new }
 {
     for _ in rt.forever() {
         match receive(rt, desk, pass) {
@@ -134,49 +125,40 @@ fn place<R: Wait, B: Steps, G: Gate>(
     batch: Numbered,
 )
     requires { IsReplying desk.now.queues.now desk.now.node 1 order.old pass.old }
-    ensures pass { IsReplying desk.now.queues.now desk.now.node 0 order.new pass.new }
-    ensures offered { Offers order.old order.new batch }
+    ensures { IsReplying desk.now.queues.now desk.now.node 0 order.new pass.new }
 {
     if let Err(back) = order.offer(batch) {
         give_back(rt, desk, pass, back.batch);
     }
 }
 
-// Answers the batch whose turn it is, which the order has given, and gives it back.
-fn answer_next<R: Wait, B: Steps, G: Gate>(
+// Answers each entry, and gives the batch back.
+fn answer_batch<R: Wait, B: Steps, G: Gate>(
     rt: &R,
     desk: &Desk<'_, B, G>,
     pass: &mut StagePass,
-    order: &Reorder,
-    batch: Numbered,
-) -> Result<Option<Told>, StageEnd>
-    requires turn { batch.number + 1 ≡ order.now.next }
+    batch: Batch,
+) -> Result<(), StageEnd>
     requires node { desk.now.node < length desk.now.queues.now.nodes }
     requires held { 0 < pass.old.held }
-    ensures pass { pass.new ≡ record pass.old { held = pass.old.held - 1 } }
-    ensures answered { IfOk result (λ told. IsSomeAnd told (IsTold Reply batch)) }
+    ensures { pass.new ≡ record pass.old { held = pass.old.held - 1 } }
 {
-    let _turn = order;
-    let told = answer_all_of(rt, desk, &batch);
-    give_back(rt, desk, pass, batch.batch);
-    Ok(Some(told?))
+    let answered = answer_entries(rt, desk, batch.entries());
+    give_back(rt, desk, pass, batch);
+    answered
 }
 
 // Answers each request when its turn comes, and wakes its session.
-fn answer_all_of<R: Wait, B: Steps, G: Gate>(
+fn answer_entries<R: Wait, B: Steps, G: Gate>(
     rt: &R,
     desk: &Desk<'_, B, G>,
-    batch: &Numbered,
-) -> Result<Told, StageEnd>
-    ensures { IfOk result (IsTold Reply batch.now) }
-{
-    let mut told = Told::none(Stage::Reply, batch);
-    for entry in batch.batch.entries() {
-        let said = desk.step_in_turn(rt, Stage::Reply, 0, entry)?;
-        told.add(batch, entry, said);
+    entries: &[Entry],
+) -> Result<(), StageEnd> {
+    for entry in entries {
+        desk.step_in_turn(rt, Stage::Reply, 0, entry)?;
         desk.wake_session(entry.session);
     }
-    Ok(told)
+    Ok(())
 }
 
 fn receive<R: Wait, B: Steps, G: Gate>(

@@ -1,18 +1,17 @@
 // The request stage: serves tickets until each request is drawn or has ended, and sends what was drawn on in batches. What is drawn
 // does not wait for a stage that is held.
-ghost use Rattle.std.specs.Prelude.{◌≡◌, ◌+◌, ◌<◌, [], length, None, Some, IfOk, IfSome, MatchResult};
-ghost use Rattle.reply_pipeline.specs.Requesting.{IsRequestPass, IsUnused, EntersTickets, IsRequesting, HasRequested, Enters, EntersLeft, MayEnter, MayStill, GoesOnWith, KeepsLeft, IsServed, ticket_of};
-ghost use Rattle.reply_pipeline.specs.Telling.{drawn_in};
+ghost use Rattle.std.specs.Prelude.{◌≡◌, ◌≢◌, ◌+◌, ◌<◌, ◌∷◌, ◌++◌, [], length, IfOk, IfSome, MatchResult};
+ghost use Rattle.reply_pipeline.specs.Requesting.{IsRequestPass, IsUnused, EntersTickets, IsRequesting, HasRequested, Enters, EntersLeft, MayEnter, MayStill, GoesOnWith, KeepsLeft, IsServed, ticket_of, entry_of};
 ghost use Rattle.reply_pipeline.specs.Serving.{goes_on};
 
-use crate::desk::{Desk, Loose, entry_of};
+use crate::desk::Desk;
 use crate::ending::StageEnd;
 use crate::gate::Gate;
 use batch_pool::{Batch, Entry};
 use history_book::Cause;
 use persist_batches::Numbered;
 use stage_queues::{Queues, StagePass, Ticket};
-use stamp_base::{NodeNo, Stage};
+use stamp_base::{NodeNo, Stage, Stamp};
 use std::sync::Wait;
 use thread_steps::{StageStep, Steps};
 
@@ -85,14 +84,13 @@ fn make_batch<R: Wait, B: Steps, G: Gate>(
     requires left { IfSome left (λ ticket. MayStill desk.now.queues.now desk.now.node number 0 [] ticket pass.old) }
     ensures { MatchResult result (λ left. GoesOnWith desk.now.queues.now desk.now.node (number + 1) left pass.new) (λ _. HasRequested desk.now.queues.now desk.now.node pass.new) }
 {
-    let mut loose = Loose::none();
-    let entry = left_or_first(rt, desk, left, pass, &mut loose)?;
+    let entry = left_or_first(rt, desk, left, pass)?;
     let batch = empty_batch(rt, desk, pass)?;
     let mut batch = Numbered { number, batch };
-    loose.enter(&mut batch.batch, entry);
-    match fill(rt, desk, pass, &mut batch, &mut loose) {
+    enter(&mut batch.batch, entry);
+    match fill(rt, desk, pass, &mut batch) {
         Ok(left) => {
-            send(rt, desk, pass, batch, &loose)?;
+            send(rt, desk, pass, batch)?;
             Ok(left)
         }
         Err(end) => {
@@ -108,20 +106,16 @@ fn left_or_first<R: Wait, B: Steps, G: Gate>(
     desk: &Desk<'_, B, G>,
     left: Option<Ticket>,
     pass: &mut StagePass,
-    loose: &mut Loose,
 ) -> Result<Entry, StageEnd>
-    requires pass { IsRequestPass desk.now.queues.now desk.now.node pass.old }
-    requires none { loose.old.entry ≡ None }
-    ensures drawn { IfOk result (λ entry. loose.new.entry ≡ Some entry) }
-    ensures enters { MatchResult result (λ entry. EntersLeft desk.now.queues.now desk.now.node left (Some entry) pass.old pass.new) (λ _. EntersLeft desk.now.queues.now desk.now.node left None pass.old pass.new) }
+    requires { IsRequestPass desk.now.queues.now desk.now.node pass.old }
+    ensures { MatchResult result (λ entry. EntersLeft desk.now.queues.now desk.now.node left (Some entry) pass.old pass.new) (λ _. EntersLeft desk.now.queues.now desk.now.node left None pass.old pass.new) }
 {
     if let Some(ticket) = left {
-        match serve_ticket(rt, desk, &ticket, loose)? {
-            Some(entry) => return Ok(entry),
-            None => {}
+        if let Some(entry) = serve_ticket(rt, desk, &ticket)? {
+            return Ok(entry);
         }
     }
-    first_entry(rt, desk, pass, loose)
+    first_entry(rt, desk, pass)
 }
 
 // Serves tickets until a request is drawn, and waits where there is none.
@@ -129,15 +123,12 @@ fn first_entry<R: Wait, B: Steps, G: Gate>(
     rt: &R,
     desk: &Desk<'_, B, G>,
     pass: &mut StagePass,
-    loose: &mut Loose,
 ) -> Result<Entry, StageEnd>
-    requires pass { IsRequestPass desk.now.queues.now desk.now.node pass.old }
-    requires none { loose.old.entry ≡ None }
-    ensures drawn { IfOk result (λ entry. loose.new.entry ≡ Some entry) }
-    ensures enters { MatchResult result (λ entry. Enters desk.now.queues.now desk.now.node (Some entry) pass.old pass.new) (λ _. Enters desk.now.queues.now desk.now.node None pass.old pass.new) }
+    requires { IsRequestPass desk.now.queues.now desk.now.node pass.old }
+    ensures { MatchResult result (λ entry. Enters desk.now.queues.now desk.now.node (Some entry) pass.old pass.new) (λ _. Enters desk.now.queues.now desk.now.node None pass.old pass.new) }
 {
     for _ in rt.forever() {
-        match next_entry(rt, desk, pass, loose)? {
+        match next_entry(rt, desk, pass)? {
             Some(entry) => return Ok(entry),
             None => desk.wait(rt, Stage::Request, 0)?,
         }
@@ -151,11 +142,8 @@ fn fill<R: Wait, B: Steps, G: Gate>(
     desk: &Desk<'_, B, G>,
     pass: &mut StagePass,
     batch: &mut Numbered,
-    loose: &mut Loose,
 ) -> Result<Option<Ticket>, StageEnd>
-    requires requesting { IsRequesting desk.now.queues.now desk.now.node batch.old.number 1 batch.old.batch.entries pass.old }
-    requires none { loose.old.entry ≡ None }
-    ensures drawn { IfOk result (λ _. loose.new.entry ≡ None) }
+    requires { IsRequesting desk.now.queues.now desk.now.node batch.old.number 1 batch.old.batch.entries pass.old }
     ensures gathered { IsRequesting desk.now.queues.now desk.now.node batch.new.number 1 batch.new.batch.entries pass.new }
     ensures number { batch.new.number ≡ batch.old.number }
     ensures left { IfOk result (λ left. IfSome left (λ ticket. MayStill desk.now.queues.now desk.now.node batch.new.number 1 batch.new.batch.entries ticket pass.new)) }
@@ -168,8 +156,8 @@ fn fill<R: Wait, B: Steps, G: Gate>(
             return Ok(None);
         };
         desk.tell_room(Stage::Request);
-        match try_ticket(rt, desk, &ticket, loose)? {
-            Served::Drawn(entry) => loose.enter(&mut batch.batch, entry),
+        match try_ticket(rt, desk, &ticket)? {
+            Served::Drawn(entry) => enter(&mut batch.batch, entry),
             Served::Ended => {}
             Served::Held => return Ok(Some(ticket)),
         }
@@ -177,16 +165,23 @@ fn fill<R: Wait, B: Steps, G: Gate>(
     unreachable!()
 }
 
+fn enter(batch: &mut Batch, entry: Entry)
+    requires { length batch.old.entries ≢ batch.old.room }
+    ensures { batch.new ≡ record batch.old { entries = batch.old.entries ++ entry ∷ [] } }
+{
+    match batch.push(entry) {
+        Ok(()) => {}
+        Err(_) => unreachable!(),
+    }
+}
+
 // Serves tickets until a request is drawn. None where no ticket is left.
 fn next_entry<R: Wait, B: Steps, G: Gate>(
     rt: &R,
     desk: &Desk<'_, B, G>,
     pass: &mut StagePass,
-    loose: &mut Loose,
 ) -> Result<Option<Entry>, StageEnd>
-    requires pass { IsRequestPass desk.now.queues.now desk.now.node pass.old }
-    requires none { loose.old.entry ≡ None }
-    ensures drawn { IfOk result (λ found. loose.new.entry ≡ found) }
+    requires { IsRequestPass desk.now.queues.now desk.now.node pass.old }
     ensures pass { IsRequestPass desk.now.queues.now desk.now.node pass.new }
     ensures enters { MatchResult result (λ found. Enters desk.now.queues.now desk.now.node found pass.old pass.new) (λ _. Enters desk.now.queues.now desk.now.node None pass.old pass.new) }
 {
@@ -194,9 +189,8 @@ fn next_entry<R: Wait, B: Steps, G: Gate>(
         match receive(rt, desk, pass) {
             Some(ticket) => {
                 desk.tell_room(Stage::Request);
-                match serve_ticket(rt, desk, &ticket, loose)? {
-                    Some(entry) => return Ok(Some(entry)),
-                    None => {}
+                if let Some(entry) = serve_ticket(rt, desk, &ticket)? {
+                    return Ok(Some(entry));
                 }
             }
             None => return Ok(None),
@@ -210,14 +204,11 @@ fn serve_ticket<R: Wait, B: Steps, G: Gate>(
     rt: &R,
     desk: &Desk<'_, B, G>,
     ticket: &Ticket,
-    loose: &mut Loose,
 ) -> Result<Option<Entry>, StageEnd>
-    requires { loose.old.entry ≡ None }
-    ensures drawn { IfOk result (λ found. loose.new.entry ≡ found) }
-    ensures served { IfOk result (λ found. IfSome found (λ entry. ticket_of entry ≡ ticket.now)) }
+    ensures { IfOk result (λ found. IfSome found (λ entry. ticket_of entry ≡ ticket.now)) }
 {
     for _ in rt.forever() {
-        match try_ticket(rt, desk, ticket, loose)? {
+        match try_ticket(rt, desk, ticket)? {
             Served::Drawn(entry) => return Ok(Some(entry)),
             Served::Ended => return Ok(None),
             Served::Held => desk.wait(rt, Stage::Request, 0)?,
@@ -231,14 +222,11 @@ fn try_ticket<R: Wait, B: Steps, G: Gate>(
     rt: &R,
     desk: &Desk<'_, B, G>,
     ticket: &Ticket,
-    loose: &mut Loose,
 ) -> Result<Served, StageEnd>
-    requires { loose.old.entry ≡ None }
-    ensures drawn { IfOk result (λ served. loose.new.entry ≡ drawn_in served) }
-    ensures served { IfOk result (IsServed ticket.now) }
+    ensures { IfOk result (IsServed ticket.now) }
 {
     for _ in rt.forever() {
-        match desk.draw(rt, ticket, loose) {
+        match desk.step(rt, Stage::Request, ticket.session, ticket.term) {
             StageStep::Did { start, commit } => {
                 desk.wake_session(ticket.session);
                 return Ok(Served::Drawn(entry_of(ticket, start, commit)));
@@ -254,6 +242,18 @@ fn try_ticket<R: Wait, B: Steps, G: Gate>(
         }
     }
     unreachable!()
+}
+
+// The entry of a ticket whose request is drawn.
+fn entry_of(ticket: &Ticket, start: Stamp, commit: Option<Stamp>) -> Entry
+    ensures { result ≡ entry_of ticket.now start commit }
+{
+    Entry {
+        session: ticket.session,
+        term: ticket.term,
+        start,
+        commit,
+    }
 }
 
 // Whether the request may be there after this step. A refused or faulted extension leaves it where it was. The causes of a refused
@@ -291,20 +291,17 @@ fn empty_batch<R: Wait, B: Steps, G: Gate>(
     unreachable!()
 }
 
-// Sends a batch, in which all is entered that was drawn, and waits while the queue is full, or gives it back where the queues are closed.
+// Sends a batch, and waits while the queue is full, or gives it back where the queues are closed.
 fn send<R: Wait, B: Steps, G: Gate>(
     rt: &R,
     desk: &Desk<'_, B, G>,
     pass: &mut StagePass,
     batch: Numbered,
-    loose: &Loose,
 ) -> Result<(), StageEnd>
-    requires requesting { IsRequesting desk.now.queues.now desk.now.node batch.number 1 batch.batch.entries pass.old }
-    requires drawn { loose.now.entry ≡ None }
+    requires { IsRequesting desk.now.queues.now desk.now.node batch.number 1 batch.batch.entries pass.old }
     ensures sent { MatchResult result (λ _. IsRequesting desk.now.queues.now desk.now.node (batch.number + 1) 0 [] pass.new) (λ _. HasRequested desk.now.queues.now desk.now.node pass.new) }
     ensures left { IfOk result (λ _. KeepsLeft desk.now.queues.now desk.now.node batch pass.old pass.new) }
 {
-    let _entered = loose;
     let mut batch = batch;
     let mut asked = false;
     for _ in rt.forever() {

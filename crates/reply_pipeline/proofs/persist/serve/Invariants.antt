@@ -1,6 +1,6 @@
 use Rattle.std.specs.Prelude.{[]}
-use Rattle.reply_pipeline.specs.Persisting.{IsPersisting, Carries}
+use Rattle.reply_pipeline.specs.Persisting.{IsPersisting}
 use Rattle.reply_pipeline.proofs.persist.serve.Given as goal
 
 abbrev pub invariant-loop : goal.invariant-loop
-invariant-loop g l = IsPersisting l.desk.queues.now l.desk.node [] l.pass × Carries l.desk.node [] [] l.fn.pass l.pass
+invariant-loop g l = IsPersisting l.desk.queues.now l.desk.node [] l.pass
