@@ -2,8 +2,10 @@
 """Runs the commands of README.md, docs/AUDITING.md, docs/LIBRARY.md, docs/SCRIPT.md and docs/PICTURES.md, and compares what they print,
 and the status that they end with, with what the pages show and with the answers in examples/.
 
-Without arguments it runs them as they stand, so each `rt try` builds its program, and the programs in crates/*/out must stand there
-(behind a green gate they do). With `--built` these serve in place of `rt try` too, and all takes seconds."""
+Without arguments it runs them as they stand: each `rt try` builds its program, in minutes each on a machine that does other work, and
+the programs in crates/*/out must stand there (behind a green gate they do). It tells each command as it begins, sets it no limit of
+time, and shows the end of what a command that failed wrote on standard error. With `--built` these programs serve in place of `rt try`
+too, and all takes seconds."""
 import os
 import re
 import subprocess
@@ -73,9 +75,10 @@ def check(page, command, status, where, built):
     if command not in text and not command.startswith('cat '):
         return 'the page has no such command'
     words = as_built(command) if built else command
-    done = subprocess.run(words, shell=True, cwd=ROOT, stdout=subprocess.PIPE, stderr=subprocess.DEVNULL, text=True)
+    print(f'{page}: {words}', file=sys.stderr, flush=True)
+    done = subprocess.run(words, shell=True, cwd=ROOT, stdout=subprocess.PIPE, stderr=subprocess.PIPE, text=True)
     if done.returncode != status:
-        return f'status {done.returncode} in place of {status}'
+        return f'status {done.returncode} in place of {status}:\n' + done.stderr[-2000:]
     return None if is_shown(text, where, done.stdout) else 'it prints:\n' + done.stdout[:2000]
 
 
