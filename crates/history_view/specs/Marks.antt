@@ -1,5 +1,5 @@
 -- The text of one sign: its bar, its arrow, the sign itself, and a short label.
-use Rattle.std.specs.Prelude.{ℕ, ◌+◌, ◌-◌, ◌*◌, ◌/◌, ◌%◌, ◌==◌, ltb, if◌then◌else◌, min, List, [], ◌++◌, Option, None, Some, codes, decimal}
+use Rattle.std.specs.Prelude.{ℕ, ◌+◌, ◌-◌, ◌*◌, ◌%◌, ◌==◌, ltb, if◌then◌else◌, min, List, [], ◌++◌, Option, None, Some, codes, decimal}
 use Rattle.history_book.specs.declared.item.Item.{Item}
 use Rattle.history_book.specs.declared.item.Item.TheVariants as item
 use Rattle.history_lanes.specs.declared.bar.Bar.{Bar}
@@ -102,11 +102,18 @@ onward_text row bar = rect_text (kind_text bar.kind) 48 (row_y row - 11) (place_
 unfoldable pub earlier_bar_text : EarlierBar → List ℕ
 earlier_bar_text earlier = opener_text earlier.opener ++ onward_text earlier.row earlier.bar ++ codes "</g>\n"
 
--- a curve that bends over the middle
-unfoldable pub curve_text : ℕ → ℕ → ℕ → ℕ → List ℕ
-curve_text x y to_x to_y =
-    codes "<path d='M" ++ decimal x ++ codes " " ++ decimal y ++ codes "Q" ++ decimal ((x + to_x) / 2) ++ codes " " ++ decimal (y - 18)
-    ++ codes " " ++ decimal to_x ++ codes " " ++ decimal to_y
+-- beside the lane to which a curve goes: between it and the lane before
+abbrev pub beside : ℕ → ℕ → ℕ
+beside y to_y = if ltb to_y y then to_y + 14 else to_y - 14
+
+-- a curve that leaves its sign across the lane, goes along at a height, and comes to the other sign across its lane
+unfoldable pub bent_text : ℕ → ℕ → ℕ → ℕ → ℕ → List ℕ
+bent_text x y along to_x to_y =
+    codes "<path d='M" ++ decimal x ++ codes " " ++ decimal y ++ codes "C" ++ decimal x ++ codes " " ++ decimal along
+    ++ codes " " ++ decimal to_x ++ codes " " ++ decimal along ++ codes " " ++ decimal to_x ++ codes " " ++ decimal to_y
+
+abbrev pub curve_text : ℕ → ℕ → ℕ → ℕ → List ℕ
+curve_text x y to_x to_y = bent_text x y (beside y to_y) to_x to_y
 
 -- an arrow over more than a hundred places is faint
 abbrev pub end_text : ℕ → ℕ → List ℕ

@@ -1,6 +1,6 @@
 // The text of one sign.
 ghost use Rattle.std.specs.Prelude.{◌≡◌, ◌≤◌, ◌++◌, Some, OnOk, decimal};
-ghost use Rattle.history_view.specs.Marks.{bar_text, class_text, curve_text, dot_text, earlier_bar_text, end_text, front_text, kind_text, label, label_text, letter, link_text, number_text, onward_text, opener_text, place_x, rect_text, row_y, sign_text, stamp_text, title_text};
+ghost use Rattle.history_view.specs.Marks.{bar_text, bent_text, beside, class_text, curve_text, dot_text, earlier_bar_text, end_text, front_text, kind_text, label, label_text, letter, link_text, number_text, onward_text, opener_text, place_x, rect_text, row_y, sign_text, stamp_text, title_text};
 
 use crate::text::Text;
 use history_book::Item;
@@ -136,16 +136,37 @@ fn print_arrow(text: &mut Text, place: usize, row: usize, link: Link) -> Result<
     text.push(end_of(link.place, place))
 }
 
-/// A curve that bends over the middle.
+/// A curve that leaves its sign across the lane, goes along beside the other lane, and comes to its sign across that.
 fn print_curve(text: &mut Text, x: u64, y: u64, to_x: u64, to_y: u64) -> Result<(), NoMemory>
-    requires across { (x ≤ 32060) × (to_x ≤ 32060) }
-    requires below { 66 ≤ y }
+    requires lane { (66 ≤ to_y) × (to_y ≤ 1054) }
     ensures { OnOk result (text.new ≡ text.old ++ curve_text x y to_x to_y) }
 {
+    print_bent(text, x, y, beside(y, to_y), to_x, to_y)
+}
+
+fn print_bent(
+    text: &mut Text,
+    x: u64,
+    y: u64,
+    along: u64,
+    to_x: u64,
+    to_y: u64,
+) -> Result<(), NoMemory>
+    ensures { OnOk result (text.new ≡ text.old ++ bent_text x y along to_x to_y) }
+{
     text.push_two(b"<path d='M", x, b" ", y)?;
-    text.push_two(b"Q", (x + to_x) / 2, b" ", y - 18)?;
+    text.push_two(b"C", x, b" ", along)?;
+    text.push_two(b" ", to_x, b" ", along)?;
     text.push_two(b" ", to_x, b" ", to_y)?;
     Ok(())
+}
+
+/// Beside the lane to which a curve goes.
+fn beside(y: u64, to_y: u64) -> u64
+    requires { (66 ≤ to_y) × (to_y ≤ 1054) }
+    ensures { result ≡ beside y to_y }
+{
+    if to_y < y { to_y + 14 } else { to_y - 14 }
 }
 
 /// The end of an arrow's words. One over more than a hundred places is faint.
