@@ -198,45 +198,57 @@ def remembering(program, work, runs, lines):
         print(f"{f'cache {size}':28} {calls:12} {median(costs[size]):8.3f} {median(costs[size]) / plain:8.2f}", flush=True)
 
 
-def waited_for(history):
-    """Of a history: the commits that were answered, the calls on the commit table that their answers waited for, the begins that
-    waited for a commit, and the commits that a reader's mark refused."""
-    handed, commits, calls, begins, invalid = set(), 0, 0, 0, 0
+def served(history):
+    """Of a history: the commits that were told, the turns of nodes' stages, the calls on the commit table among them, which answers
+    wait for, and the commits that a mark refused."""
+    handed, commits, turns, calls, invalid = set(), 0, 0, 0, 0
     with open(history) as it:
         for line in it:
             words = line.split()
-            if words[0] == "step" and words[2] == "handed":
+            kind = words[0]
+            if kind == "step" and words[2] == "handed":
                 handed.add(words[3])
-            elif words[0] == "placed":
+                turns += 1
+            elif kind in ("accept", "draw", "begin"):
+                turns += 1
+            elif kind == "placed":
                 calls += words[1].split("=")[1] not in handed
-            elif words[0] == "committed":
+            elif kind == "committed":
                 commits += 1
-            elif words[0] == "refused":
-                begins += words[2] == "not-yet"
+                turns += words[2].split("=")[1] not in handed
+            elif kind == "refused":
                 invalid += words[2] == "invalid"
-    return commits, calls, begins, invalid
+    return commits, turns + calls, calls, invalid
 
 
-def directly(program, work, runs, loads):
+def awaiting_the_take(script, sessions):
+    """The load with its sessions waiting for the node's take, so that none of their lines is refused for coming early."""
+    at = script.index("a take") + 1
+    return [*script[:at], "a post up", *(f"s{session} await up" for session in range(sessions)), *script[at:]]
+
+
+def directly(program, work, runs, lines):
     """What it saves under `run` that sessions place their own commits: each load with the line and without."""
-    print(f"{'load of direct commits':28} {'commits':>8} {'calls before':>12} {'begins late':>11} {'invalid':>8} {'wall':>7} {'of plain':>8} {'a line':>7}")
+    print(f"{'load of direct commits':28} {'commits':>8} {'stage turns':>11} {'calls':>8} {'invalid':>8} {'wall':>7} {'of plain':>8}")
+    body = lines - 18
+    loads = [("4 sessions", awaiting_the_take(transactions(body, 4), 4)), ("16 sessions", awaiting_the_take(transactions(body, 16), 16)),
+             ("16 at random", awaiting_the_take(at_random(body), 16))]
     for name, script in loads:
         forms = {"plain": script, "direct": ["commits direct", *script]}
         files = {form: os.path.join(work, form) for form in forms}
         texts = {form: os.path.join(work, form + ".history") for form in forms}
-        for form, lines in forms.items():
+        for form, whole in forms.items():
             with open(files[form], "w") as it:
-                it.write("\n".join(lines) + "\n")
+                it.write("\n".join(whole) + "\n")
         costs = {form: [] for form in forms}
         for _ in range(runs):
             for form in forms:
                 costs[form].append(ran([program, "run"], files[form], texts[form]))
         plain = median(costs["plain"], "wall")
         for form in forms:
-            commits, calls, begins, invalid = waited_for(texts[form])
-            wall, switches = median(costs[form], "wall"), median(costs[form], "switches")
-            print(f"{f'{name}, {form}':28} {commits:8} {calls:12} {begins:11} {invalid:8} {wall:7.3f} {wall / plain:8.2f} "
-                  f"{switches / len(script):7.2f}", flush=True)
+            commits, turns, calls, invalid = served(texts[form])
+            wall = median(costs[form], "wall")
+            print(f"{f'{name}, {form}':28} {commits:8} {turns:11} {calls:8} {invalid:8} {wall:7.3f} {wall / plain:8.2f}", flush=True)
 
 
 def storms(program, work, runs):
@@ -284,8 +296,7 @@ def main():
         if said.only in "hot reader":
             remembering(said.program, work, said.runs, lines)
         if said.only in "direct commits":
-            directly(said.program, work, max(3, said.runs // 3),
-                     [("4 sessions", transactions(lines, 4)), ("16 sessions", transactions(lines, 16)), ("16 at random", at_random(lines))])
+            directly(said.program, work, max(3, said.runs // 3), lines)
         if not said.only:
             storms(said.program, work, said.runs)
         if picked[1]:
