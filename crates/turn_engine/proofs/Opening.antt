@@ -63,7 +63,7 @@ are_lines_of : (script : ScriptData) → IsSound script → All (λ (line : Line
 are_lines_of script sound there = lines_fit script.setup script.lines sound.lines (λ k d within here. there k d here)
 
 -- each actor passes its first lines with nothing to do
-pub opens : (script : ScriptData) (whole : Whole) (clock : ℕ) (ahead : Store → ℕ → Fate) (clock_times : Clocks) (w : State) (names : List (List ℕ)) (held : List Holds) (seated : List Seated) (lacking : List Bool) → IsSound script → length script.lines ≤ 131072 → AreForThreads script.lines → All (λ (line : Line). SessionIsThere line.actor) script.lines → StandsAt script (opening_played script) whole clock ahead → SitsAt script (at_first script) names held seated → lacking ≡ [] → clock_times ≡ clocks_at whole clock script.leads → w ≡ whole.state → IsMade script [] whole clock ahead names held (map (after_passing clock_times w) seated) lacking
+pub opens : (script : ScriptData) (whole : Whole) (clock : ℕ) (ahead : Store → ℕ → Fate) (clock_times : Clocks) (w : State) (names : List (List ℕ)) (held : List Holds) (seated : List Seated) (lacking : List Bool) → IsSound script → length script.lines ≤ 131072 → AreForThreads script.lines → All (λ (line : Line). SessionIsThere line.actor) script.lines → StandsAt script (opening_played script) whole clock ahead → SitsAt script (at_first script) names held seated → lacking ≡ replicate script.setup.nodes false → clock_times ≡ clocks_at whole clock script.leads → w ≡ whole.state → IsMade script [] whole clock ahead names held (map (after_passing clock_times w) seated) lacking
 opens script whole clock ahead clock_times w names held seated lacking sound few threads there stands sits none times state = record {
   stands = stands;
   sits = passed_all script (at_first script) clock_times w names held seated sits (times ∙ clocks_there script (opening_played script) whole clock ahead stands) (state ∙ stands.state);

@@ -161,7 +161,7 @@ takes_by r node s stage (turn.Accept n other) k none = elim k.of_session [
   | inr other_turn ↦ absurd (true≢false (ap accepting other_turn.0))
 ]
 takes_by r node s stage (turn.Extend n) k none = at_stage r node s n stage k.of_stage (inr k.in_place)
-takes_by r node s stage (turn.Own actor) k none = absurd (none-some (node, stage) k.of_stage)
+takes_by r node s stage (turn.Own actor aim) k none = absurd (none-some (node, stage) k.of_stage)
 takes_by r node s stage (turn.Decide n other) k none = absurd (true≢false none)
 takes_by r node s stage (turn.Put n other) k none = absurd (true≢false none)
 takes_by r node s stage (turn.Answer n other) k none = absurd (true≢false none)

@@ -7,7 +7,7 @@ use Rattle.history_book.specs.declared.item.Item.{Item}
 use Rattle.oracle_parts.specs.declared.instance.Place.{Place}
 use Rattle.oracle_parts.specs.declared.instance.Place.TheVariants as place
 use Rattle.oracle_parts.specs.declared.instance.Progress.{Progress}
-use Rattle.oracle_parts.specs.declared.instance.Progress.TheVariants.{Asked, Accepted, Drawn, Settled}
+use Rattle.oracle_parts.specs.declared.instance.Progress.TheVariants.{Asked, Accepted, Drawn, Settled, Handed}
 use Rattle.oracle_parts.specs.declared.instance.Request.{Request}
 use Rattle.oracle_parts.specs.declared.instance.Request.TheVariants.{Begin, Commit}
 use Rattle.oracle_parts.specs.Instance.{InstanceEntry, place_of_progress}
@@ -48,12 +48,14 @@ decides_by Accepted is = refl
 decides_by Asked is = absurd (cc)
 decides_by (Drawn stamp) is = absurd (cc)
 decides_by (Settled stamp how) is = absurd (cc)
+decides_by (Handed stamp) is = absurd (cc)
 
 puts_by : (request : Request) (p : Progress) → place_of_progress p ≡ place.Drawn → is_commit request ≡ true → is_some (to_place_by request p) ≡ true
 puts_by (Commit s start keys) (Drawn stamp) is commit = refl
 puts_by (Commit s start keys) Asked is commit = absurd (cc)
 puts_by (Commit s start keys) Accepted is commit = absurd (cc)
 puts_by (Commit s start keys) (Settled stamp how) is commit = absurd (cc)
+puts_by (Commit s start keys) (Handed stamp) is commit = absurd (cc)
 puts_by (Begin s) p is commit = absurd (cc)
 
 answers_by : (request : Request) (p : Progress) → place_of_progress p ≡ answered_from (is_commit request) → answers_at request p ≡ true
@@ -61,7 +63,9 @@ answers_by (Begin s) (Drawn start) is = refl
 answers_by (Begin s) Asked is = absurd (cc)
 answers_by (Begin s) Accepted is = absurd (cc)
 answers_by (Begin s) (Settled stamp how) is = absurd (cc)
+answers_by (Begin s) (Handed stamp) is = absurd (cc)
 answers_by (Commit s start keys) (Settled stamp how) is = refl
+answers_by (Commit s start keys) (Handed stamp) is = refl
 answers_by (Commit s start keys) Asked is = absurd (cc)
 answers_by (Commit s start keys) Accepted is = absurd (cc)
 answers_by (Commit s start keys) (Drawn stamp) is = absurd (cc)
@@ -86,7 +90,7 @@ is_served_here : (script : ScriptData) (c : Carried) (t : Turn) (e : Event) → 
 is_served_here script c (turn.Decide node s) e stands in_place is served = subst (λ (x : Event). is_served c.played.state x ≡ true) (same_Some (event.Decide node s) e is) (decide_serves c.played.state c.played.items node s stands in_place)
 is_served_here script c (turn.Put node s) e stands in_place is served = subst (λ (x : Event). is_served c.played.state x ≡ true) (same_Some (event.Put node s) e is) (put_serves c.played.state c.played.items node s stands in_place)
 is_served_here script c (turn.Answer node s) e stands in_place is served = subst (λ (x : Event). is_served c.played.state x ≡ true) (same_Some (event.Answer node s) e is) (answer_serves c.played.state c.played.items node s stands in_place)
-is_served_here script c (turn.Own actor) e stands in_place is served = absurd (true≢false (sym served))
+is_served_here script c (turn.Own actor aim) e stands in_place is served = absurd (true≢false (sym served))
 is_served_here script c (turn.Accept node s) e stands in_place is served = absurd (true≢false (sym served))
 is_served_here script c (turn.Extend node) e stands in_place is served = absurd (true≢false (sym served))
 
@@ -104,7 +108,7 @@ pub is_serving : (script : ScriptData) (c : Carried) (t : Turn) (e : Event) → 
 is_serving script c (turn.Decide node s) e is served = subst IsServing (same_Some (event.Decide node s) e is) (record { reserves = refl; posts_none = refl; told = some_items })
 is_serving script c (turn.Put node s) e is served = subst IsServing (same_Some (event.Put node s) e is) (record { reserves = refl; posts_none = refl; told = some_items })
 is_serving script c (turn.Answer node s) e is served = subst IsServing (same_Some (event.Answer node s) e is) (record { reserves = refl; posts_none = refl; told = some_items })
-is_serving script c (turn.Own actor) e is served = absurd (true≢false (sym served))
+is_serving script c (turn.Own actor aim) e is served = absurd (true≢false (sym served))
 is_serving script c (turn.Accept node s) e is served = absurd (true≢false (sym served))
 is_serving script c (turn.Extend node) e is served = absurd (true≢false (sym served))
 

@@ -11,14 +11,7 @@ use script_data::{Line, Verb};
 use stamp_base::NodeNo;
 
 /// Passes each of the actor's lines with nothing left to do, from the seat's place on.
-pub fn pass(
-    base: u64,
-    leads: &[u64],
-    master: NodeNo,
-    view: &View,
-    lines: &[Line],
-    seat: &mut Seat,
-)
+pub fn pass(base: u64, leads: &[u64], master: NodeNo, view: &View, lines: &[Line], seat: &mut Seat)
     requires room { All (λ line. HaveRoom base leads.now line.verb) lines.now }
     requires place { seat.old.place ≤ length lines.now }
     ensures { seat.new ≡ seats.passed (clocks base leads.now master) view.now (drop seat.old.place lines.now) seat.old }
