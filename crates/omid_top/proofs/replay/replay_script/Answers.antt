@@ -25,3 +25,6 @@ returns-in-Err-Failed-clause-cut g c = λ _.
 pub returns-in-Ok-clause-lines : goal.returns-in-Ok-clause-lines
 returns-in-Ok-clause-lines g c = λ _.
     subst (λ (h : List Item). GainsLines (g.K.Sink.held c.args.sink.now) (g.K.Sink.held c.print_in.new.sink) h) (c.history.ensures.value ∙ c.in-Ok.ensures.history) (c.in-Err-NoMemory.ensures.lines (ap Err c.in-Err-NoMemory.field-0-is))
+
+pub returns-in-Err-Failed-clause-sink_failed : goal.returns-in-Err-Failed-clause-sink_failed
+returns-in-Err-Failed-clause-sink_failed g c = λ _. c.in-Err-Failed.ensures.failed (ap Err c.in-Err-Failed.field-0-is)
