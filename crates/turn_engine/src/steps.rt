@@ -34,10 +34,7 @@ impl ScriptRun {
     {
         own_turns_are_told();
         let before = self.planned.cluster.history().len();
-        let turn = Turn::Own {
-            actor: *actor,
-            aim,
-        };
+        let turn = Turn::Own { actor: *actor, aim };
         match self.make(turn, event) {
             Err(Stopped::NoMemory) => Advance::NoMemory,
             Ok(()) | Err(Stopped::Refused(_)) | Err(Stopped::StoreFault(_)) => {
