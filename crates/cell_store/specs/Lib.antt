@@ -3,3 +3,4 @@ pub mod KeyLists
 pub mod Index
 pub mod Calls
 pub mod AtRest
+pub mod Shadow

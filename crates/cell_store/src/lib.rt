@@ -5,6 +5,7 @@
 ghost use Rattle.std.specs.Prelude.{◌≡◌, ◌↔◌, [], length, None, IfOk, IsOk, IsSome, OnErr, OnOk};
 ghost use Rattle.std.specs.List.Sorted.{IsStrictlyIncreasing};
 ghost use Rattle.cell_store.specs.Calls.{put_row, fetched, front_of, looked, with_shadow, without_bare, keys_of_version, AreFalling, AreOrdered, AreUpto, HasOnly, IsBare, IsOneCall, UnlessNoMemory, OnNoMemory, fated};
+ghost use Rattle.cell_store.specs.Shadow.{shadow_at};
 
 mod at_rest;
 mod key_list;
@@ -136,6 +137,13 @@ impl Cells {
     {
         let found = self.rows.cell(key, version);
         answered_under(weather.next(Store::Cells), found)
+    }
+
+    /// The shadow of the row of the key and the version, without a store call. None exactly where that row is bare or not there.
+    pub fn shadow_of(&self, key: KeyNo, version: Stamp) -> Option<Stamp>
+        ensures { result ≡ shadow_at self.now.rows key version }
+    {
+        self.rows.cell(key, version)?.shadow
     }
 
     /// Sets the shadow of the row that is there. Where no such row is there, nothing changes.

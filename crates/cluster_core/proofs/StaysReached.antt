@@ -1,5 +1,6 @@
 -- A cluster's state is reached with its history: at the opening, and after each call. So the calls on its parts may be made.
-use Rattle.std.proofs.Common.{◌≡◌, ℕ, List, [], ◌++◌, Result, Ok, Err, sym, ap, subst}
+use Rattle.std.proofs.Common.{◌≡◌, ℕ, List, [], ◌++◌, Option, Some, None, Result, Ok, Err, refl, sym, ap, subst}
+use Rattle.std.specs.Prelude.{IfSome}
 use Rattle.stamp_base.specs.SetupNumbers.{SetupNumbers, AreInRange}
 use Rattle.stamp_base.specs.declared.stores.Store.{Store}
 use Rattle.port_io.specs.declared.weather.Fate.{Fate}
@@ -12,13 +13,17 @@ use Rattle.event_parts.specs.Made.{fate_ahead, ended}
 use Rattle.event_parts.specs.declared.stopped.Stopped.{Stopped}
 use Rattle.event_parts.specs.declared.stopped.Stopped.TheVariants.{Refused, StoreFault, NoMemory}
 use Rattle.cause_laws.proofs.AlwaysExplained.{tells_stay, tells_at_first}
+use Rattle.client_parts.specs.Sweep.{Sweeping, sweep_ask}
+use Rattle.machine.specs.Calls.{KeepsShadowNext}
+use Rattle.call_laws.specs.Bounds.{ExtensionMayBeMade}
+use Rattle.call_laws.specs.Stores.{CanStep, SweepMayStep}
 use Rattle.call_laws.proofs.BoundsKept.{bounded_first, bounds_stay}
 use Rattle.call_laws.proofs.RecordCalls.{extensions_fit}
 use Rattle.call_laws.proofs.RequestCalls.{begins_ask, commits_ask, requests_wait}
 use Rattle.call_laws.proofs.StoreCalls.{heals_only, writes_bare, sweeps_ask}
 use Rattle.call_laws.proofs.StepCalls.{steps_ask}
 use Rattle.cluster_core.specs.Whole.{Whole, MakesStep, step_under}
-use Rattle.cluster_core.specs.Required.{CanMake}
+use Rattle.cluster_core.specs.Required.{CanMake, MayExtend}
 use Rattle.cluster_core.specs.Served.{LeavesRoom, NeverLacksIf, is_served}
 use Rattle.cluster_core.proofs.RoomKept.{IsKept, made_kept, lacked_kept}
 use Rattle.cluster_core.proofs.RoomThere.{kept_first}
@@ -56,20 +61,28 @@ reached_after ahead old now e (Err NoMemory) reached steady made room served =
     let kept = lacked_kept old now e (kept_in old reached) made.1 served room in
     same_whole now old.state old.history made.0 made.1 (record { told = reached.told; bounded = reached.bounded; roomy = kept.roomy; places_kept = kept.kept })
 
+-- an extension goes up from where the instance may draw
+covers : (w : State) (node : ℕ) → ExtensionMayBeMade w → MayExtend w node
+covers w node may None at = tt
+covers w node may (Some i) at = λ own. (may node (Some i) at).covered
+
+sweeps : (w : State) (s : Option Sweeping) → w.sweep ≡ s → SweepMayStep w → IfSome s (λ x. KeepsShadowNext (sweep_ask x) w.rows)
+sweeps w s is may = rw (sym is) may.shadow
+
 pub calls_may_be_made : (w : Whole) (e : Event) → IsReached w → IsSteadyAt w.state.setup.skew w.state.seen (reading_of e) → CanMake w.state e
 calls_may_be_made w (event.Take node reading) reached steady = steady.0
 calls_may_be_made w (event.Renew node reading) reached steady = steady.0
-calls_may_be_made w (event.Extend node) reached steady = extensions_fit w.state w.history reached.told
-calls_may_be_made w (event.Crash node) reached steady = requests_wait w.state w.history reached.told
-calls_may_be_made w (event.AskBegin session node) reached steady = begins_ask w.state w.history reached.told
-calls_may_be_made w (event.AskCommit session node) reached steady = commits_ask w.state w.history reached.told
-calls_may_be_made w (event.Accept node session reading) reached steady = requests_wait w.state w.history reached.told
-calls_may_be_made w (event.Decide node session) reached steady = requests_wait w.state w.history reached.told
-calls_may_be_made w (event.Answer node session) reached steady = requests_wait w.state w.history reached.told
-calls_may_be_made w (event.Write session key value) reached steady = writes_bare w.state w.history reached.told
-calls_may_be_made w (event.Step session) reached steady = steps_ask w.state w.history reached.told
-calls_may_be_made w (event.Heal session) reached steady = heals_only w.state w.history reached.told
-calls_may_be_made w event.SweepStep reached steady = sweeps_ask w.state w.history reached.told
+calls_may_be_made w (event.Extend node) reached steady = covers w.state node (extensions_fit w.state w.history reached.told)
+calls_may_be_made w (event.Crash node) reached steady = λ session post c at there. requests_wait w.state w.history reached.told node post at session c there
+calls_may_be_made w (event.AskBegin session node) reached steady = begins_ask w.state w.history reached.told session node
+calls_may_be_made w (event.AskCommit session node) reached steady = commits_ask w.state w.history reached.told session node
+calls_may_be_made w (event.Accept node session reading) reached steady = λ post c at there. requests_wait w.state w.history reached.told node post at session c there
+calls_may_be_made w (event.Decide node session) reached steady = λ post c at there. requests_wait w.state w.history reached.told node post at session c there
+calls_may_be_made w (event.Answer node session) reached steady = λ post c at there. requests_wait w.state w.history reached.told node post at session c there
+calls_may_be_made w (event.Write session key value) reached steady = writes_bare w.state w.history reached.told session key
+calls_may_be_made w (event.Step session) reached steady = λ c there. let can : CanStep w.state.rows c = steps_ask w.state w.history reached.told session c there in (can.work, can.shadow)
+calls_may_be_made w (event.Heal session) reached steady = heals_only w.state w.history reached.told session
+calls_may_be_made w event.SweepStep reached steady = sweeps w.state w.state.sweep refl (sweeps_ask w.state w.history reached.told)
 calls_may_be_made w (event.Tick to) reached steady = tt
 calls_may_be_made w (event.Note actor note) reached steady = tt
 calls_may_be_made w (event.Put node session) reached steady = tt

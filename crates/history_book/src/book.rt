@@ -119,6 +119,13 @@ impl Book {
     {
         self.items.as_slice()
     }
+
+    /// The items, without the room for further ones.
+    pub fn into_items(self) -> Vec<Item>
+        ensures { result.items ≡ self.items }
+    {
+        self.items
+    }
 }
 
 /// Adds a copy of the element in room that the list has.

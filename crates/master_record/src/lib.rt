@@ -1,7 +1,7 @@
 //! The master record: which node has the oracle, until when, and which stamps its term may draw.
 #![tactic(auto)]
 
-ghost use Rattle.std.specs.Prelude.{◌≡◌, ◌≤◌, ◌<◌, ◌+◌, ◌^◌, ◌↔◌, IfOk, IsSome, if◌then◌else◌};
+ghost use Rattle.std.specs.Prelude.{◌≡◌, ◌≤◌, ◌<◌, ◌+◌, ◌^◌, ◌↔◌, IfOk, IsSome, IsTrue, if◌then◌else◌};
 ghost use Rattle.master_record.specs.Calls.{free_record, take_refused, granted, taken, held_by, is_spent, renew_refused, renewed_until, renewed, extend_refused, extended, unless_some, answered, AsksOnce, IsWithin, IsStampRange, fated, works};
 
 use port_io::{Fate, Store, Weather};
@@ -193,6 +193,13 @@ impl Master {
             self.ceiling = ceiling;
         }
         told_under(fate, told, ExtendRefused::StoreFault)
+    }
+
+    /// Whether the record leases by these numbers.
+    pub fn keeps(&self, lease: u64, skew: u64, range: u64) -> bool
+        ensures { IsTrue result ↔ (self.now.rules ≡ record { lease = lease; skew = skew; range = range }) }
+    {
+        self.lease == lease && self.skew == skew && self.range == range
     }
 
     fn hold(&mut self, node: NodeNo, grant: &Grant)

@@ -25,7 +25,7 @@ pub fn extend<W: Weather>(
     master: &mut Master,
     node: NodeNo,
 ) -> Result<(), Stopped>
-    requires { IfSome post.old (λ i. i.ceiling ≤ master.old.state.ceiling) }
+    requires { IfSome post.old (λ i. i.term ≡ master.old.state.term → i.ceiling ≤ master.old.state.ceiling) }
     ensures made { (setup : SetupNumbers) → master.old.rules ≡ rules_of setup →
         Makes (extend_on setup node (W.ahead weather.old Store.Master 0) post.old master.old.state)
         (post.old, master.old.state) (post.new, master.new.state) book.old.items book.new.items result }
@@ -47,7 +47,7 @@ fn extend_held<W: Weather>(
     master: &mut Master,
     node: NodeNo,
 ) -> Result<(), Stopped>
-    requires { instance.old.ceiling ≤ master.old.state.ceiling }
+    requires { instance.old.term ≡ master.old.state.term → instance.old.ceiling ≤ master.old.state.ceiling }
     ensures made { (setup : SetupNumbers) → master.old.rules ≡ rules_of setup →
         Makes (extend_at setup node (W.ahead weather.old Store.Master 0) instance.old master.old.state)
         (Some instance.old, master.old.state) (Some instance.new, master.new.state) book.old.items book.new.items result }

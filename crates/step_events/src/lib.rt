@@ -6,8 +6,10 @@ mod asks;
 mod healing;
 mod placing;
 mod stepping;
+mod stores_asked;
 mod sweeping;
 
 pub use healing::heal;
 pub use stepping::step;
+pub use stores_asked::{next_store, sweep_store};
 pub use sweeping::{sweep_open, sweep_step};

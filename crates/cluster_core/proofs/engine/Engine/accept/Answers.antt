@@ -9,7 +9,7 @@ accept-made-requires c =
     let at = found c.self.inside.posts.items c.args.node c.index-2.result c.index_mut-post.result.now c.index-2.ensures.value (grind arith) c.index_mut-post.ensures.value in
     let there = found c.self.inside.clients.items c.args.session c.index-3.result c.index_mut-client.result.now c.index-3.ensures.value (grind arith) c.index_mut-client.ensures.value in
     let may = rw (← c.self.view_is) at c.requires in
-    may c.args.node _ at c.args.session _ there
+    may _ _ at there
 
 pub returns-then-index-len-clause-made : goal.returns-then-index-len-clause-made
 returns-then-index-len-clause-made c =

@@ -8,7 +8,7 @@ pub crash-requires : goal.crash-requires
 crash-requires c =
     let at = found c.self.inside.posts.items c.args.node c.index-2.result c.index_mut-post.result.now c.index-2.ensures.value (grind arith) c.index_mut-post.ensures.value in
     let may = rw (← c.self.view_is) at c.requires in
-    rw c.deref_mut.ensures.value (may c.args.node _ at)
+    rw c.deref_mut.ensures.value (λ session client there. may session _ client at there)
 
 pub returns-then-index-len-clause-made : goal.returns-then-index-len-clause-made
 returns-then-index-len-clause-made c =

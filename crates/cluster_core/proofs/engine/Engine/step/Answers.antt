@@ -7,13 +7,13 @@ pub step-requires-clause-work : goal.step-requires-clause-work
 step-requires-clause-work g c =
     let at = found c.self.inside.clients.items c.args.session c.index.result c.index_mut-client.result.now c.index.ensures.value (grind arith) c.index_mut-client.ensures.value in
     let may = rw (← c.self.view_is) at c.requires in
-    λ go none. (may c.args.session _ at).work go none
+    λ go none. (may _ at).0 go none
 
 pub step-requires-clause-shadow : goal.step-requires-clause-shadow
 step-requires-clause-shadow g c =
     let at = found c.self.inside.clients.items c.args.session c.index.result c.index_mut-client.result.now c.index.ensures.value (grind arith) c.index_mut-client.ensures.value in
     let may = rw (← c.self.view_is) at c.requires in
-    λ go none. (may c.args.session _ at).shadow go none
+    λ go none. (may _ at).1 go none
 
 pub returns-clause-made : goal.returns-clause-made
 returns-clause-made g c =

@@ -7,7 +7,7 @@ pub write-requires : goal.write-requires
 write-requires g c =
     let at = found c.self.inside.clients.items c.args.session c.index.result c.index_mut-client.result.now c.index.ensures.value (grind arith) c.index_mut-client.ensures.value in
     let may = rw (← c.self.view_is) at c.requires in
-    may c.args.session c.args.key _ at
+    may _ at
 
 pub returns-clause-made : goal.returns-clause-made
 returns-clause-made g c =

@@ -1,0 +1,43 @@
+// The store that a next step asks, told before the step is made.
+ghost use Rattle.std.specs.Prelude.{◌≡◌};
+ghost use Rattle.machine.specs.Events.Step.{step_asks, next_of, store_asked, work_of};
+ghost use Rattle.machine.specs.Events.SweepStep.{sweep_step_asks};
+ghost use Rattle.client_parts.specs.Sweep.{sweep_ask};
+
+use crate::asks;
+use client_parts::Ask;
+use event_parts::Client;
+use invalidator::Sweep;
+use stamp_base::Store;
+
+/// The store that the session's next step asks, or none where the step is refused or has nothing to ask.
+pub fn next_store(client: &Client) -> Option<Store>
+    ensures { result ≡ step_asks client.now }
+{
+    if client.check_step().is_err() {
+        return None;
+    }
+    match client.to_place() {
+        Some(_) => Some(Store::Table),
+        None => asked_store(&client.next()),
+    }
+}
+
+/// The store that the next step of the open sweep asks. None where no sweep is open.
+pub fn sweep_store(sweep: &Option<Sweep>) -> Option<Store>
+    ensures { result ≡ sweep_step_asks sweep.now }
+{
+    match sweep {
+        Some(open) => asked_store(&open.next()),
+        None => None,
+    }
+}
+
+fn asked_store(ask: &Option<Ask>) -> Option<Store>
+    ensures { result ≡ store_asked ask.now }
+{
+    match ask {
+        Some(ask) => Some(asks::store_of(ask)),
+        None => None,
+    }
+}
