@@ -80,7 +80,7 @@ calls_may_be_made w (event.Accept node session reading) reached steady = λ post
 calls_may_be_made w (event.Decide node session) reached steady = λ post c at there. requests_wait w.state w.history reached.told node post at session c there
 calls_may_be_made w (event.Answer node session) reached steady = λ post c at there. requests_wait w.state w.history reached.told node post at session c there
 calls_may_be_made w (event.Write session key value) reached steady = writes_bare w.state w.history reached.told session key
-calls_may_be_made w (event.Step session) reached steady = λ c there. let can : CanStep w.state.rows c = steps_ask w.state w.history reached.told session c there in (can.work, can.shadow)
+calls_may_be_made w (event.Step session) reached steady = λ c there. (steps_ask w.state w.history reached.told session c there).shadow
 calls_may_be_made w (event.Heal session) reached steady = heals_only w.state w.history reached.told session
 calls_may_be_made w event.SweepStep reached steady = sweeps w.state w.state.sweep refl (sweeps_ask w.state w.history reached.told)
 calls_may_be_made w (event.Tick to) reached steady = tt

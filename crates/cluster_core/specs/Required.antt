@@ -9,7 +9,7 @@ use Rattle.machine.specs.declared.event.Event.{Event}
 use Rattle.machine.specs.declared.event.Event.TheVariants as event
 use Rattle.machine.specs.State.{Client, State}
 use Rattle.machine.specs.Clients.{is_reading}
-use Rattle.machine.specs.Calls.{WaitsAt, HoldsNone, MayStep, CanWork, KeepsShadowNext}
+use Rattle.machine.specs.Calls.{WaitsAt, HoldsNone, MayStep, KeepsShadowNext}
 use Rattle.machine.specs.Events.Step.{work_of, next_of}
 use Rattle.machine.specs.Events.Write.{write_refused}
 use Rattle.machine.specs.Events.Heal.{offer_of}
@@ -50,16 +50,9 @@ MayWrite w session key = (c : Client) → ClientAt w.clients session c → write
 abbrev pub MayHeal : State → ℕ → Type 0
 MayHeal w session = (c : Client) → ClientAt w.clients session c → IfSome (offer_of c) (λ offer. HasOnly w.rows offer.0 offer.1 offer.2)
 
--- the session can hear what its step comes to, where no commit is to be placed
-abbrev pub CanHear : Client → Type 0
-CanHear c = MayStep c → handed_commit c.entry ≡ None → CanWork (work_of c) c.entry
-
--- and a shadow that the step sets is the only one that the cell may have
-abbrev pub KeepsShadowOf : Client → State → Type 0
-KeepsShadowOf c w = MayStep c → handed_commit c.entry ≡ None → KeepsShadowNext (next_of (work_of c)) w.rows
-
+-- where no commit is to be placed, a shadow that the step sets is the only one that the cell may have
 abbrev pub MayMakeStep : State → ℕ → Type 0
-MayMakeStep w session = (c : Client) → ClientAt w.clients session c → CanHear c × KeepsShadowOf c w
+MayMakeStep w session = (c : Client) → ClientAt w.clients session c → MayStep c → handed_commit c.entry ≡ None → KeepsShadowNext (next_of (work_of c)) w.rows
 
 -- ---- the janitor and the stores
 abbrev pub MaySweep : State → Type 0

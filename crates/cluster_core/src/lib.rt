@@ -2,10 +2,12 @@
 //! explained, and serial where reads are strict.
 #![tactic(auto)]
 
+mod asking;
 mod calls;
 mod clock_events;
 mod cluster;
 mod engine;
+mod lending;
 mod readers;
 mod record_events;
 mod request_events;

@@ -8,7 +8,7 @@ use Rattle.client_parts.specs.Cache.{Cache, cache_learnt, learnt_by}
 use Rattle.client_parts.specs.Recalled.{Remembering, recalled_told}
 use Rattle.machine.specs.State.{UnderWay, Nothing, Reads, Settles, Completes, Client}
 use Rattle.machine.specs.Clients.{client_freed}
-pub use Rattle.machine.specs.Calls.{MayStep, CanWork}
+pub use Rattle.machine.specs.Calls.{MayStep}
 use Rattle.machine.specs.Events.Fetch.{client_recalled, client_put_fresh, read_items}
 use Rattle.machine.specs.Events.Step.{client_settled, settle_items, after_asks}
 

@@ -51,6 +51,10 @@ impl Model for Client {
     ghost use Rattle.event_parts.specs.Parts.{way_of};
 
     ghost view = { λ c. record { entry = c.session.entry; under_way = way_of c.under_way; heal = c.heal; reads = c.reads; cache = c.session.cache } };
+
+    ghost use Rattle.event_parts.specs.Parts.{FitsState};
+
+    ghost invariant = { λ c. FitsState (way_of c.under_way) c.session.entry.state };
 }
 
 impl Client {
@@ -67,6 +71,18 @@ impl Client {
             heal: None,
             reads: ReadSet::empty(),
         })
+    }
+
+    /// A free session that remembers no decisions, with nothing under way. It takes no memory.
+    pub fn without_cache() -> Client
+        ensures { result ≡ state.client_new 0 }
+    {
+        Client {
+            session: Session::new(),
+            under_way: UnderWay::Nothing,
+            heal: None,
+            reads: ReadSet::empty(),
+        }
     }
 
     /// A fresh decision goes with those that are kept, in front. Where memory is refused, all is as before.
@@ -185,8 +201,8 @@ impl Client {
         requires { step.CanAsk self.old.entry }
         ensures { self.new ≡ left.client_asked self.old }
     {
-        self.session.asked();
         self.rest();
+        self.session.asked();
     }
 
     /// The begin was answered.
@@ -194,9 +210,9 @@ impl Client {
         requires { step.CanBegin self.old.entry }
         ensures { self.new ≡ left.client_begun self.old start epoch }
     {
+        self.rest();
         self.session.begun(start, epoch);
         self.reads = ReadSet::empty();
-        self.rest();
     }
 
     /// The transaction has ended without a commit, and what it wrote is to be undone.
@@ -224,8 +240,8 @@ impl Client {
         requires { step.CanHand self.old.entry }
         ensures { self.new ≡ left.client_handed self.old commit }
     {
-        self.session.handed(commit);
         self.rest();
+        self.session.handed(commit);
     }
 
     /// It is not known whether the commit was placed.
@@ -233,8 +249,8 @@ impl Client {
         requires { step.CanOpen self.old.entry }
         ensures { self.new ≡ left.client_opened self.old }
     {
-        self.session.opened();
         self.rest();
+        self.session.opened();
     }
 
     /// The session is gone for good.
@@ -242,8 +258,8 @@ impl Client {
         requires { step.CanVanish self.old.entry }
         ensures { self.new ≡ left.client_vanished self.old }
     {
-        self.session.vanished();
         self.rest();
+        self.session.vanished();
     }
 
     /// A refusal has ended the request that the session waits for, unless it has vanished.
@@ -349,8 +365,8 @@ impl Client {
         requires { step.CanFree self.old.entry }
         ensures { self.new ≡ left.client_freed self.old }
     {
-        self.session.freed();
         self.rest();
+        self.session.freed();
     }
 
     /// Nothing is under way, and no shadow is offered.

@@ -1,6 +1,7 @@
 // How a client goes on with what it has under way: what it asks next, and what the answer makes of it.
 ghost use Rattle.std.specs.Prelude.{◌≡◌, ◌≤◌, ◌++◌, Bool, None, Some, IfSome, OnOk, OnErr};
 ghost use Rattle.client_parts.specs.SessionSteps.{IsAnswer, step_refusal, handed_by, handed_commit, CanCommit};
+ghost use Rattle.client_parts.specs.declared.session.State.TheVariants.{OpenOutcome};
 ghost use Rattle.client_parts.specs.Asks.{FitsNext};
 ghost use Rattle.client_parts.specs.Sweep.{IsKeys};
 ghost use Rattle.client_parts.specs.Resolve.{Settling, SettleTurn, Decides, settle_by, outcome_of};
@@ -10,7 +11,7 @@ ghost use Rattle.machine.specs.State as state;
 ghost use Rattle.machine.specs.Clients.{is_reading};
 ghost use Rattle.machine.specs.Events.Fetch.{read_items};
 ghost use Rattle.machine.specs.Events.Step.{next_of, own_resolve, work_by, work_of, client_settled, settle_items};
-ghost use Rattle.event_parts.specs.Working.{client_told, told_items, told_over, IsReady, client_ready, client_failed, offered_by, settles, is_nothing, CanWork};
+ghost use Rattle.event_parts.specs.Working.{client_told, told_items, told_over, IsReady, client_ready, client_failed, offered_by, settles, is_nothing};
 
 use crate::Client;
 use crate::client::UnderWay;
@@ -74,7 +75,6 @@ impl Client {
     pub fn told(&mut self, book: &mut Book, session: SessionNo, answer: Told)
         requires room { 1 ≤ book.old.room }
         requires answer { FitsNext (next_of (work_of self.old)) answer }
-        requires work { CanWork (work_of self.old) self.old.entry }
         requires ready { IsReady self.old (work_of self.old) }
         ensures client { self.new ≡ client_told self.old (work_of self.old) answer }
         ensures items { book.new.items ≡ book.old.items ++ told_items session self.old (work_of self.old) answer }
@@ -86,7 +86,6 @@ impl Client {
 
     /// The next step has failed. A read ends without an answer, a resolve starts over, and a completion frees its session.
     pub fn failed(&mut self)
-        requires { CanWork (work_of self.old) self.old.entry }
         ensures { self.new ≡ client_failed self.old (work_of self.old) }
     {
         match &self.under_way {
@@ -108,7 +107,8 @@ impl Client {
 
     /// The resolve of its own commit, where the outcome is open, by the first key that it wrote.
     fn own_settle(&self) -> Option<Settle>
-        ensures { settles result ≡ work_by self.now.entry.state self.now.entry state.Nothing }
+        ensures settling { settles result ≡ work_by self.now.entry.state self.now.entry state.Nothing }
+        ensures open { IfSome result (λ _. self.now.entry.state ≡ OpenOutcome) }
     {
         match (self.session.state(), self.session.start()) {
             (State::OpenOutcome, Some(start)) => own_settle(start, self.session.keys().as_slice()),
@@ -142,7 +142,6 @@ impl Client {
     fn told_at_work(&mut self, book: &mut Book, session: SessionNo, answer: Told)
         requires room { 1 ≤ book.old.room }
         requires answer { FitsNext (next_of self.old.under_way) answer }
-        requires work { CanWork self.old.under_way self.old.entry }
         requires ready { IsReady self.old self.old.under_way }
         ensures client { self.new ≡ client_told self.old self.old.under_way answer }
         ensures items { book.new.items ≡ book.old.items ++ told_items session self.old self.old.under_way answer }

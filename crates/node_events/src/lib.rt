@@ -9,6 +9,7 @@ mod deciding;
 mod extending;
 mod putting;
 mod renewing;
+mod stores_asked;
 mod taking;
 
 pub use accepting::accept;
@@ -19,4 +20,5 @@ pub use deciding::decide;
 pub use extending::extend;
 pub use putting::put;
 pub use renewing::renew;
+pub use stores_asked::{commit_to_place, put_store, record_store, take_store};
 pub use taking::take;

@@ -115,7 +115,7 @@ fn put_drawn<W: Weather>(
 }
 
 /// The start and the commit of a commit that was drawn, and that the oracle is to place.
-fn to_place(held: &Option<Held>) -> Option<(Stamp, Stamp)>
+pub(crate) fn to_place(held: &Option<Held>) -> Option<(Stamp, Stamp)>
     ensures { result ≡ to_place_of held.now }
 {
     match held {

@@ -6,6 +6,7 @@ mod aborting;
 mod begin_asking;
 mod commit_asking;
 mod fetching;
+mod stores_asked;
 mod vanishing;
 mod writing;
 
@@ -13,5 +14,6 @@ pub use aborting::abort;
 pub use begin_asking::ask_begin;
 pub use commit_asking::ask_commit;
 pub use fetching::fetch;
+pub use stores_asked::{fetch_store, write_store};
 pub use vanishing::vanish;
 pub use writing::write;

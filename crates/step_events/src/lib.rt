@@ -11,5 +11,5 @@ mod sweeping;
 
 pub use healing::heal;
 pub use stepping::step;
-pub use stores_asked::{next_store, sweep_store};
+pub use stores_asked::{heal_store, next_store, sweep_store};
 pub use sweeping::{sweep_open, sweep_step};

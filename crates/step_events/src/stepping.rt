@@ -6,7 +6,7 @@ ghost use Rattle.machine.specs.StoreSteps as steps;
 ghost use Rattle.machine.specs.Events.Step.{step_on, step_at, step_asks, store_asked, next_of, work_of};
 ghost use Rattle.event_parts.specs.Made.{Makes, Asks, fate_ahead};
 ghost use Rattle.step_events.specs.Meeting.{KeepsShadow, KeepsShadowNext};
-ghost use Rattle.event_parts.specs.Working.{CanWork, MayStep};
+ghost use Rattle.event_parts.specs.Working.{MayStep};
 
 use crate::asks;
 use crate::placing::place;
@@ -29,8 +29,7 @@ pub fn step<W: Weather>(
     table: &mut Table,
     session: SessionNo,
 ) -> Result<(), Stopped>
-    requires work { MayStep client.old → handed_commit client.old.entry ≡ None → CanWork (work_of client.old) client.old.entry }
-    requires shadow { MayStep client.old → handed_commit client.old.entry ≡ None → KeepsShadowNext (next_of (work_of client.old)) cells.old.rows }
+    requires { MayStep client.old → handed_commit client.old.entry ≡ None → KeepsShadowNext (next_of (work_of client.old)) cells.old.rows }
     ensures made { Makes (step_on session (fate_ahead (step_asks client.old) (W.ahead weather.old)) client.old cells.old.rows table.old.pairs)
         (client.old, cells.old.rows, table.old.pairs) (client.new, cells.new.rows, table.new.pairs) book.old.items book.new.items result }
     ensures spare { book.new.spare ≡ book.old.spare }
@@ -56,8 +55,7 @@ fn step_work<W: Weather>(
     table: &mut Table,
     session: SessionNo,
 ) -> Result<(), Stopped>
-    requires work { CanWork (work_of client.old) client.old.entry }
-    requires shadow { KeepsShadowNext (next_of (work_of client.old)) cells.old.rows }
+    requires { KeepsShadowNext (next_of (work_of client.old)) cells.old.rows }
     ensures made { Makes (step_at session (fate_ahead (store_asked (next_of (work_of client.old))) (W.ahead weather.old)) client.old cells.old.rows table.old.pairs (work_of client.old))
         (client.old, cells.old.rows, table.old.pairs) (client.new, cells.new.rows, table.new.pairs) book.old.items book.new.items result }
     ensures spare { book.new.spare ≡ book.old.spare }
@@ -85,7 +83,6 @@ fn step_asked<W: Weather>(
     requires room { 2 ≤ book.old.room }
     requires next { next_of (work_of client.old) ≡ Some ask.now }
     requires no_listing { IsKeys ask.now → ⊥ }
-    requires work { CanWork (work_of client.old) client.old.entry }
     requires shadow { KeepsShadow ask.now cells.old.rows }
     ensures made { Makes (step_at session (W.ahead weather.old (steps.store_of ask.now) 0) client.old cells.old.rows table.old.pairs (work_of client.old))
         (client.old, cells.old.rows, table.old.pairs) (client.new, cells.new.rows, table.new.pairs) book.old.items book.new.items result }

@@ -1,6 +1,7 @@
 // The store that a next step asks, told before the step is made.
 ghost use Rattle.std.specs.Prelude.{◌≡◌};
 ghost use Rattle.machine.specs.Events.Step.{step_asks, next_of, store_asked, work_of};
+ghost use Rattle.machine.specs.Events.Heal.{heal_asks};
 ghost use Rattle.machine.specs.Events.SweepStep.{sweep_step_asks};
 ghost use Rattle.client_parts.specs.Sweep.{sweep_ask};
 
@@ -29,6 +30,16 @@ pub fn sweep_store(sweep: &Option<Sweep>) -> Option<Store>
 {
     match sweep {
         Some(open) => asked_store(&open.next()),
+        None => None,
+    }
+}
+
+/// The store that the session asks to set the shadow that its last read offers: none where no shadow is offered.
+pub fn heal_store(client: &Client) -> Option<Store>
+    ensures { result ≡ heal_asks client.now }
+{
+    match client.offer() {
+        Some(_) => Some(Store::Cells),
         None => None,
     }
 }

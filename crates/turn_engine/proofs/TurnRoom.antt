@@ -31,7 +31,8 @@ use Rattle.turn_rules.specs.declared.turn.Turn.{Turn}
 use Rattle.turn_rules.specs.declared.turn.Turn.TheVariants as turn
 use Rattle.turn_rules.specs.Carried.{Carried, event_of}
 use Rattle.turn_rules.specs.Lawful.{IsInPlace, answered_from}
-use Rattle.turn_engine.specs.Making.{has_some, is_told, serves, posts}
+use Rattle.posted_names.specs.Names.{posts}
+use Rattle.turn_engine.specs.Making.{has_some, is_told, serves}
 use Rattle.turn_engine.specs.declared.seated.Seated.{Seated}
 use Rattle.turn_engine.specs.Run.{Ran, reached_by}
 use Rattle.turn_engine.proofs.Called.{CanTurn}

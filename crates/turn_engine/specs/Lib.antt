@@ -1,4 +1,3 @@
-pub mod Names
 pub mod Seating
 pub mod Run
 pub mod Making

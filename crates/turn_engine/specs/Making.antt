@@ -3,7 +3,6 @@ use Rattle.std.specs.Prelude.{◌≡◌, ◌⊎◌, ℕ, Bool, true, false, List
 use Rattle.history_book.specs.declared.item.Item.{Item}
 use Rattle.machine.specs.declared.event.Event.{Event}
 use Rattle.machine.specs.declared.event.Event.TheVariants as event
-use Rattle.history_book.specs.declared.item.Note.TheVariants as note
 use Rattle.machine.specs.Effect.{Stop, Refuses, Faults}
 use Rattle.line_steps.specs.declared.point.Halt.{Halt}
 use Rattle.line_steps.specs.declared.point.Halt.TheVariants as halt
@@ -79,8 +78,3 @@ serves (turn.Decide node session) = true
 serves (turn.Put node session) = true
 serves (turn.Answer node session) = true
 serves _ = false
-
--- the event posts a name
-abbrev pub posts : Event → Bool
-posts (event.Note actor (note.Post name)) = true
-posts _ = false

@@ -6,7 +6,6 @@ mod answers;
 mod laws;
 mod making;
 mod marks;
-mod names;
 mod reading;
 mod run;
 mod seated;

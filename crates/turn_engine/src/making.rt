@@ -4,13 +4,13 @@ ghost use Rattle.std.specs.Vec.{vec_capacity};
 ghost use Rattle.turn_rules.specs.Carried.{event_of, is_posted, names_after};
 ghost use Rattle.turn_rules.specs.Lawful.{IsFree, IsInPlace, stage_of};
 ghost use Rattle.cluster_core.specs.Served.{NeverLacksIf, most_reserved};
-ghost use Rattle.turn_engine.specs.Names.{with_name};
+ghost use Rattle.posted_names.specs.Names.{posts, with_name};
 ghost use Rattle.turn_engine.specs.Run.{reached_by};
-ghost use Rattle.turn_engine.specs.Making.{Makes, halted, is_told, finds_no_stamp, lacking_after, cleared, serves, posts};
+ghost use Rattle.turn_engine.specs.Making.{Makes, halted, is_told, finds_no_stamp, lacking_after, cleared, serves};
 
 use crate::ScriptRun;
 use crate::marks::note_stage;
-use crate::names::PostedNames;
+use posted_names::PostedNames;
 use crate::seated::{go_on, pass_all};
 use history_book::Item;
 use line_steps::{Halt, refused};

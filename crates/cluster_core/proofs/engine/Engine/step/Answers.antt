@@ -3,17 +3,11 @@ use Rattle.cluster_core.proofs.PutBack.{found}
 use Rattle.cluster_core.proofs.StoreCallsMade.{step_made}
 use Rattle.cluster_core.proofs.engine.Engine.step.Goals as goal
 
-pub step-requires-clause-work : goal.step-requires-clause-work
-step-requires-clause-work g c =
+pub step-requires : goal.step-requires
+step-requires g c =
     let at = found c.self.inside.clients.items c.args.session c.index.result c.index_mut-client.result.now c.index.ensures.value (grind arith) c.index_mut-client.ensures.value in
     let may = rw (← c.self.view_is) at c.requires in
-    λ go none. (may _ at).0 go none
-
-pub step-requires-clause-shadow : goal.step-requires-clause-shadow
-step-requires-clause-shadow g c =
-    let at = found c.self.inside.clients.items c.args.session c.index.result c.index_mut-client.result.now c.index.ensures.value (grind arith) c.index_mut-client.ensures.value in
-    let may = rw (← c.self.view_is) at c.requires in
-    λ go none. (may _ at).1 go none
+    may _ at
 
 pub returns-clause-made : goal.returns-clause-made
 returns-clause-made g c =

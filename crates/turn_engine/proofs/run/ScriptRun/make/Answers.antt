@@ -11,7 +11,7 @@ use Rattle.turn_rules.specs.declared.turn.Turn.{Turn}
 use Rattle.turn_rules.specs.Carried.{names_after, carried}
 use Rattle.turn_engine.specs.declared.run.ScriptRun.TheInside.{Inside}
 use Rattle.turn_engine.specs.Making.{is_told, lacking_after, cleared, serves}
-use Rattle.turn_engine.specs.Names.{with_name}
+use Rattle.posted_names.specs.Names.{with_name}
 use Rattle.turn_engine.specs.Run.{Ran, SitsAt, IsCarriedOut}
 use Rattle.turn_engine.proofs.Called.{CanTurn, can_turn, is_steady, has_gone, same_made, may_pass, is_made, makes_turn, is_silent, leaves_out}
 use Rattle.turn_engine.proofs.Stopping.{stood}

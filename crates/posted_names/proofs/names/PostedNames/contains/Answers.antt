@@ -1,9 +1,9 @@
 use Rattle.std.proofs.Common.{ap, ◌∙◌}
 use Rattle.std.specs.List.{list_any}
 use Rattle.std.specs.Str.{bytes_eq}
-use Rattle.turn_engine.specs.Names.{Posted}
+use Rattle.posted_names.specs.Names.{Posted}
 use Rattle.session_script.proofs.NameLemmas.{any-bytes}
-use Rattle.turn_engine.proofs.names.PostedNames.contains.Goals as goal
+use Rattle.posted_names.proofs.names.PostedNames.contains.Goals as goal
 
 pub returns : goal.returns
 returns c = c.contains.ensures ∙ any-bytes (λ word. word.items) c.as_slice.result.now c.self.inside.names.keys

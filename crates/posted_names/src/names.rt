@@ -1,8 +1,7 @@
 // The names that are posted.
 ghost use Rattle.std.specs.Prelude.{◌≡◌, ◌<◌, ◌∷◌, ◌++◌, [], false, option_map, IfOk, IfSome, IsOk};
 ghost use Rattle.turn_rules.specs.Carried.{is_posted, names_after};
-ghost use Rattle.turn_engine.specs.Making.{posts};
-ghost use Rattle.turn_engine.specs.Names.{with_name, new_name};
+ghost use Rattle.posted_names.specs.Names.{posts, with_name, new_name};
 
 use history_book::Note;
 use indexmap::IndexSet;
@@ -21,7 +20,7 @@ pub struct PostedNames {
 impl Model for PostedNames {
     ghost use Rattle.std.specs.Prelude.{map};
     ghost use Rattle.indexmap.specs.IndexSet.{spare};
-    ghost use Rattle.turn_engine.specs.Names.{Posted};
+    ghost use Rattle.posted_names.specs.Names.{Posted};
 
     ghost Value = { Posted };
 

@@ -1,5 +1,8 @@
 -- The names that are posted, as contracts see them.
-use Rattle.std.specs.Prelude.{ℕ, List, [], ◌∷◌, ◌++◌, if◌then◌else◌, Option, None, Some}
+use Rattle.std.specs.Prelude.{ℕ, Bool, true, false, List, [], ◌∷◌, ◌++◌, if◌then◌else◌, Option, None, Some}
+use Rattle.history_book.specs.declared.item.Note.TheVariants as note
+use Rattle.machine.specs.declared.event.Event.{Event}
+use Rattle.machine.specs.declared.event.Event.TheVariants as event
 use Rattle.turn_rules.specs.Carried.{is_posted}
 
 -- the names, and for how many more there is room
@@ -14,3 +17,8 @@ with_name names (Some name) = names ++ name ∷ []
 -- the name, unless it is posted
 abbrev pub new_name : List (List ℕ) → List ℕ → Option (List ℕ)
 new_name names name = if is_posted names name then None else Some name
+
+-- the event posts a name
+abbrev pub posts : Event → Bool
+posts (event.Note actor (note.Post name)) = true
+posts _ = false

@@ -2,9 +2,9 @@ use Rattle.std.proofs.Common.{◌≡◌, false, nat_eq, ◌++◌, ◌∷◌, [],
 use Rattle.std.specs.Cmp.Lexicographic.{pointwise}
 use Rattle.std.specs.List.{list_any}
 use Rattle.std.specs.Str.{bytes_eq}
-use Rattle.turn_engine.specs.Names.{Posted}
+use Rattle.posted_names.specs.Names.{Posted}
 use Rattle.session_script.proofs.NameLemmas.{any-bytes, inserted-bytes}
-use Rattle.turn_engine.proofs.names.PostedNames.insert.Goals as goal
+use Rattle.posted_names.proofs.names.PostedNames.insert.Goals as goal
 
 pub returns : goal.returns
 returns c =

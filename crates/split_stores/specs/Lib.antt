@@ -1,0 +1,6 @@
+pub mod Calls
+pub mod Parts
+pub mod Swaps
+pub mod Acts
+pub mod Agrees
+pub mod Making

@@ -1,0 +1,13 @@
+-- How one part and the engine's stand for each other.
+use Rattle.std.specs.Prelude.{ℕ, List, slice_index_or, Option, None, Some}
+use Rattle.machine.specs.State.{Client, State, client_new}
+use Rattle.machine.specs.Machine.{with_client}
+
+-- the client of a session of the system
+abbrev pub client_at : State → ℕ → Client
+client_at w session = slice_index_or w.clients session (client_new 0)
+
+-- the state with the client that is lent for a session, if one is
+abbrev pub client_in : State → ℕ → Option Client → State
+client_in w session None = w
+client_in w session (Some c) = with_client w session c
