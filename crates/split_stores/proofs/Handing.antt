@@ -15,7 +15,7 @@ behind_first d clients i (Some c) = refl
 
 -- one client more is the lent one
 pub one_client : (i : ℕ) (clients : List Client) (sessions : List (Option Client)) → i < length clients → i < length sessions → clients_in (lent_clients i clients sessions) i (slice_index_or (given_sessions i sessions clients) i None) ≡ lent_clients (suc i) clients sessions
-unfolding lent_clients, given_sessions
+unfolding lent_clients given_sessions
 one_client i [] sessions within there = absurd (omega (arith, within))
 one_client i (c ∷ clients) [] within there = absurd (omega (arith, there))
 one_client zero (c ∷ clients) (None ∷ sessions) within there = refl
@@ -26,7 +26,7 @@ one_client (suc i) (c ∷ clients) (s ∷ sessions) within there =
 
 -- one session more is as the client was
 pub one_session : (i : ℕ) (clients : List Client) (sessions : List (Option Client)) → i < length clients → i < length sessions → slice_set (given_sessions i sessions clients) i (given (slice_index_or (given_sessions i sessions clients) i None) (slice_index_or (lent_clients i clients sessions) i (client_new 0))) ≡ given_sessions (suc i) sessions clients
-unfolding lent_clients, given_sessions
+unfolding lent_clients given_sessions
 one_session i [] sessions within there = absurd (omega (arith, within))
 one_session i (c ∷ clients) [] within there = absurd (omega (arith, there))
 one_session zero (c ∷ clients) (s ∷ sessions) within there = refl
@@ -38,7 +38,7 @@ given_own None c = refl
 given_own (Some d) c = refl
 
 pub sessions_back : (n : ℕ) (clients : List Client) (sessions : List (Option Client)) → given_sessions n sessions (lent_clients n clients sessions) ≡ sessions
-unfolding lent_clients, given_sessions
+unfolding lent_clients given_sessions
 sessions_back zero clients sessions = refl
 sessions_back (suc n) clients [] = refl
 sessions_back (suc n) [] (s ∷ sessions) = refl
