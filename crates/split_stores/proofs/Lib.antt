@@ -1,3 +1,5 @@
 mod Handing
 mod Giving
-mod Agreeing
+mod OneMore
+mod Filled
+mod Agreement

@@ -2,6 +2,7 @@
 #![tactic(auto)]
 
 mod acting;
+mod agreeing;
 mod calls;
 mod deciding;
 mod event;
@@ -11,6 +12,7 @@ mod parts;
 mod swapping;
 
 pub use acting::{Acted, act};
+pub use agreeing::agrees;
 pub use event::Event;
 pub use lent::Lent;
 pub use parts::{
