@@ -2,4 +2,5 @@ mod Handing
 mod Giving
 mod OneMore
 mod Filled
+mod FoundParts
 mod Agreement
