@@ -1,3 +1,4 @@
+pub mod LookedUp
 pub mod PartsKept
 mod GoneClients
 mod GoneStays
@@ -9,7 +10,6 @@ mod StoreAsked
 mod RecordEvents
 mod StoreEvents
 mod AskedOnce
-mod LeftAll
 mod StopsOfPosts
 mod StopsOfEvents
 mod StopsKept
