@@ -7,7 +7,6 @@ use Rattle.machine.specs.declared.event.Event.{Event}
 use Rattle.machine.specs.declared.event.Event.TheVariants as event
 use Rattle.machine.specs.State.{Client, State}
 use Rattle.machine.specs.Machine.{Step, with_reading, at_client, at_both, stepped}
-use Rattle.machine.specs.Events.Crash.{crash_on}
 use Rattle.machine.specs.Events.AskBegin.{ask_begin_on}
 use Rattle.machine.specs.Events.AskCommit.{ask_commit_on}
 use Rattle.machine.specs.Events.Accept.{accept_on}

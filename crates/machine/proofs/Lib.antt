@@ -1,7 +1,5 @@
 pub mod LookedUp
-pub mod PartsKept
 mod GoneClients
-mod GoneStays
 mod ToldOnce
 pub mod Refusals
 mod StandingAnswers
@@ -9,7 +7,10 @@ mod PlainEvents
 mod StoreAsked
 mod RecordEvents
 mod StoreEvents
-mod AskedOnce
+mod KindsKept
+mod KindsAsked
+pub mod PartsKept
+mod GoneStays
 mod StopsOfPosts
 mod StopsOfEvents
 mod StopsKept
