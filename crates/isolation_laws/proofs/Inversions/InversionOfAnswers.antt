@@ -59,10 +59,11 @@ put_placed w it by items by_is tells free quiet = (
   OfPlaced (record { it = it; free = free; by = by; by_is = by_is; items = items; tells = tells; quiet = quiet }),
   put_settled w it by (put_over w.pairs it.start (CommittedMark it.commit) None) ∙ ap (λ (m : Option Mark). record (with_post w it.node (Some (moved it.i it.session it.held (progress.Settled it.commit by)))) { pairs = put_over w.pairs it.start (CommittedMark it.commit) m }) (sym free),
   refl,
+  tt,
 )
 
 put_unplaced : (w : State) (it : AtDrawn w) (by : Settled) (items : List Item) → (by ≡ how.Invalid) ⊎ (by ≡ how.Faulted) → (by ≡ how.Invalid → (mark : Mark) × (mark_of w.pairs it.start ≡ Some mark)) → items ≡ found_items by it.node it.start ++ fault_of by it.node → AllQuiet items → ComesTo w (record (with_post w it.node (Some (instance_settle it.i it.session by).left)) { pairs = w.pairs }) items
-put_unplaced w it by items by_is found tells quiet = (OfNotPlaced (record { it = it; by = by; by_is = by_is; found = found; items = items; tells = tells; quiet = quiet }), put_settled w it by w.pairs, refl)
+put_unplaced w it by items by_is found tells quiet = (OfNotPlaced (record { it = it; by = by; by_is = by_is; found = found; items = items; tells = tells; quiet = quiet }), put_settled w it by w.pairs, refl, tt)
 
 pub not_invalid : how.Faulted ≡ how.Invalid → ⊥
 not_invalid same = cc
@@ -126,6 +127,7 @@ answer_waits w node session asker start i held c served asks drawn None settled 
   }),
   refl,
   refl,
+  tt,
 )
 answer_waits w node session asker start i held c served asks drawn (Some commit) settled =
     let x : Item = item.Refused (Session session) (cause.NotYet commit) in
@@ -163,6 +165,7 @@ answer_settled w node session asker start commit keys by i held c served asks se
   }),
   refl,
   refl,
+  tt,
 )
 
 answer_handed : (w : State) (node session asker start commit : ℕ) (keys : List ℕ) (i : InstanceEntry) (held : Held) (c : Client) → Served w node session i held c → held.request ≡ Commit asker start keys → held.progress ≡ progress.Handed commit → ComesTo w (with_client (with_post w node (Some (without_request i session))) session (unless_gone c (client_handed c commit))) (item.Step (Session session) (Handed start commit) ∷ [])
@@ -188,6 +191,7 @@ answer_handed w node session asker start commit keys i held c served asks drawn 
   }),
   refl,
   refl,
+  tt,
 )
 
 answer_held_request : (w : State) (node session : ℕ) (i : InstanceEntry) (held : Held) (c : Client) → Served w node session i held c → (request : Request) → held.request ≡ request → (p : Progress) → held.progress ≡ p → ComesBy w (answer_step w node session i c (answer_if_ready i session held request p) (stamps_by request p))

@@ -74,6 +74,7 @@ crash_at w node (Some i) at = (
   }),
   refl,
   refl,
+  tt,
 )
 
 -- ---- the asks of a session
@@ -105,7 +106,7 @@ begin_mild _ = refl
 
 begin_slots : (w : State) (session node : ℕ) (c : Client) (i : InstanceEntry) → InstanceAt w.nodes node i → ClientAt w.clients session c → c.entry.state ≡ phase.Free → (full : Bool) → ComesBy w (for_ask w session node (asked_by session c (item.AskBegin session node) (asked_if i (Begin session) full) (asked_if i (Begin session) full).answer))
 begin_slots w session node c i at client_at free true = ask_still w session node (Some i) c _ at client_at (session_plain session (cause.Full (in_flight i)) refl)
-begin_slots w session node c i at client_at free false = (OfAskedBegin (record { session = session; node = node; c = c; i = i; client_at = client_at; at = at; free = free }), refl, refl)
+begin_slots w session node c i at client_at free false = (OfAskedBegin (record { session = session; node = node; c = c; i = i; client_at = client_at; at = at; free = free }), refl, refl, tt)
 
 begin_comes : (w : State) (session node : ℕ) (c : Client) (post : Option InstanceEntry) → slice_get w.nodes node ≡ Some post → ClientAt w.clients session c → (why : Option Cause) → begin_refusal c.entry.state ≡ why → ComesBy w (for_ask w session node (ask_begin_by session node c post why))
 begin_comes w session node c post at client_at (Some why) go = ask_still w session node post c _ at client_at (session_plain session why (mild_is (begin_refusal c.entry.state) why go (begin_mild c.entry.state)))
@@ -136,6 +137,7 @@ commit_slots w session node start c i at client_at go begun written false = (
   }),
   refl,
   refl,
+  tt,
 )
 
 commit_keys : (w : State) (session node start : ℕ) (c : Client) (post : Option InstanceEntry) → slice_get w.nodes node ≡ Some post → ClientAt w.clients session c → work_refusal c.entry.state (is_reading c) ≡ None → c.entry.start ≡ Some start → (keys : List ℕ) → c.entry.keys ≡ keys → ComesBy w (for_ask w session node (commit_of session node c start keys post))
@@ -149,6 +151,7 @@ commit_keys w session node start c post at client_at go begun [] none = (
   }),
   ap (λ (nodes : List (Option InstanceEntry)). record w { nodes = nodes; clients = slice_set w.clients session (client_freed c) }) (set_same w.nodes node post at),
   refl,
+  tt,
 )
 commit_keys w session node start c None at client_at go begun (key ∷ keys) some = ask_still w session node None c _ at client_at (session_plain session (cause.NoOracle node) refl)
 commit_keys w session node start c (Some i) at client_at go begun (key ∷ keys) some = commit_slots w session node start c i at client_at go begun (λ none. cc) (in_flight i == i.slots)

@@ -69,6 +69,7 @@ extend_why w node Works i at true false own room = (
   OfExtended (extended w node i false at own room (one_quiet (item.Extend node i.term (w.master.ceiling + w.setup.range)) refl)),
   refl,
   refl,
+  tt,
 )
 extend_why w node Works i at true true own full =
     let k : Stopped w = record {
@@ -85,6 +86,7 @@ extend_why w node FailsApplied i at true false own room = (
   OfExtended (extended w node i true at own room (two_quiet (item.Extend node i.term (w.master.ceiling + w.setup.range)) (item.Fault (Node node) Master) refl refl)),
   put_back w node w.seen (Some i) (record w.master { ceiling = w.master.ceiling + w.setup.range }) at,
   refl,
+  tt,
 )
 extend_why w node FailsApplied i at true true own full = extend_fails w node i at
 extend_why w node FailsApplied i at false spent other _ = extend_fails w node i at

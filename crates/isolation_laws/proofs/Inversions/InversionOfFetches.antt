@@ -56,6 +56,7 @@ fetch_failed w session c at go = (
   }),
   refl,
   refl,
+  tt,
 )
 
 fetch_fated : (w : State) (session start epoch key : ℕ) (fate : Fate) (c : Client) → ClientAt w.clients session c → fetch_refused w.setup c key ≡ None → c.entry.start ≡ Some start → c.entry.epoch ≡ Some epoch → ComesBy w (for_client w session (fetch_by w.setup session start epoch key fate c (fetched w.rows key start)))
@@ -74,6 +75,7 @@ fetch_fated w session start epoch key Works c at go begun known = (
   }),
   refl,
   refl,
+  tt,
 )
 fetch_fated w session start epoch key FailsUnchanged c at go begun known = fetch_failed w session c at (fetch_may w.setup c key go)
 fetch_fated w session start epoch key FailsApplied c at go begun known = fetch_failed w session c at (fetch_may w.setup c key go)

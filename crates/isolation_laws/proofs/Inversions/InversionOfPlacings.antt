@@ -58,10 +58,11 @@ own_placed w it by by_is free quiet = (
   OfOwnPlaced (record { it = it; free = free; by = by; by_is = by_is; items = own_told by it.session it.start it.commit; tells = refl; quiet = quiet }),
   ap (λ (m : Option Mark). record w { clients = own_clients w it by; pairs = put_over w.pairs it.start (CommittedMark it.commit) m }) (sym free),
   refl,
+  tt,
 )
 
 own_unplaced : (w : State) (it : AtPlacing w) (by : Settled) → (by ≡ how.Invalid) ⊎ (by ≡ how.Faulted) → (by ≡ how.Invalid → (mark : Mark) × (mark_of w.pairs it.start ≡ Some mark)) → AllQuiet (own_told by it.session it.start it.commit) → ComesTo w (record w { clients = own_clients w it by }) (own_told by it.session it.start it.commit)
-own_unplaced w it by by_is found quiet = (OfOwnNotPlaced (record { it = it; by = by; by_is = by_is; found = found; items = own_told by it.session it.start it.commit; tells = refl; quiet = quiet }), refl, refl)
+own_unplaced w it by by_is found quiet = (OfOwnNotPlaced (record { it = it; by = by; by_is = by_is; found = found; items = own_told by it.session it.start it.commit; tells = refl; quiet = quiet }), refl, refl, tt)
 
 fault_quiet : (session start : ℕ) → AllQuiet (item.Fault (Session session) Table ∷ item.Refused (Session session) (cause.Open start) ∷ [])
 fault_quiet session start = two_quiet (item.Fault (Session session) Table) (item.Refused (Session session) (cause.Open start)) refl refl

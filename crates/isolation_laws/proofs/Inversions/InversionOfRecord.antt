@@ -85,6 +85,7 @@ take_why w node reading Works vacant None free = (
   OfGranted (taken w node reading false (take_item node reading (granted (rules_of w.setup) w.master reading) ∷ []) vacant free refl (one_quiet (take_item node reading (granted (rules_of w.setup) w.master reading)) refl)),
   refl,
   refl,
+  tt,
 )
 take_why w node reading Works vacant (Some take.StoreFault) free = take_still w node reading _ vacant (one_plain (item.Fault (Node node) Master) refl refl)
 take_why w node reading Works vacant (Some (take.Early at until)) free = take_still w node reading _ vacant (node_plain node (cause.Early at until))
@@ -94,6 +95,7 @@ take_why w node reading FailsApplied vacant None free = (
   OfGranted (taken w node reading true (take_item node reading (granted (rules_of w.setup) w.master reading) ∷ item.Fault (Node node) Master ∷ []) vacant free refl (two_quiet (take_item node reading (granted (rules_of w.setup) w.master reading)) (item.Fault (Node node) Master) refl refl)),
   put_back w node (max w.seen reading) None (held_by node (granted (rules_of w.setup) w.master reading)) vacant,
   refl,
+  tt,
 )
 take_why w node reading FailsApplied vacant (Some why) free = take_still w node reading _ vacant (one_plain (item.Fault (Node node) Master) refl refl)
 
@@ -135,6 +137,7 @@ renew_why w node reading Works i at true own = (
   OfRenewed (renewed w node reading i false at own (one_quiet (item.Renew node reading i.term (renewed_until (rules_of w.setup) w.master reading)) refl)),
   refl,
   refl,
+  tt,
 )
 renew_why w node reading Works i at false other = stops w (max w.seen reading) _ (replaced w node i at other) (max_left w.seen reading) (alike_stopped i (cause.Replaced w.master.term) tt) refl
 renew_why w node reading FailsUnchanged i at own is = renew_still w node reading i _ at (one_plain (item.Fault (Node node) Master) refl refl)
@@ -142,6 +145,7 @@ renew_why w node reading FailsApplied i at true own = (
   OfRenewed (renewed w node reading i true at own (two_quiet (item.Renew node reading i.term (renewed_until (rules_of w.setup) w.master reading)) (item.Fault (Node node) Master) refl refl)),
   put_back w node (max w.seen reading) (Some i) (record w.master { until = renewed_until (rules_of w.setup) w.master reading }) at,
   refl,
+  tt,
 )
 renew_why w node reading FailsApplied i at false other = renew_still w node reading i _ at (one_plain (item.Fault (Node node) Master) refl refl)
 

@@ -30,7 +30,7 @@ use Rattle.isolation_laws.proofs.Outcome.Outcomes.{OfAccepted, OfEnded, OfDrew}
 use Rattle.cause_rules.specs.OpenAsks.{ends_request}
 use Rattle.isolation_laws.proofs.Outcome.PlainItems.{node_plain, once_silent}
 use Rattle.isolation_laws.proofs.Outcome.OutcomesOfRecord.{Told}
-use Rattle.isolation_laws.proofs.Inversions.InversionParts.{ComesTo, ComesBy, refusal_quiet, told_quiet, tells, still_both, client_back}
+use Rattle.isolation_laws.proofs.Inversions.InversionParts.{ComesAt, ComesTo, ComesBy, comes_at, refusal_quiet, told_quiet, tells, still_both, client_back}
 use Rattle.isolation_laws.proofs.Inversions.FreeVerdicts.{writes_free, reads_free}
 use Rattle.isolation_laws.proofs.Orders.{max_left}
 use Rattle.isolation_laws.proofs.Pushed.{one_quiet}
@@ -67,6 +67,7 @@ ended w node session seen i held c why ends served undrawn up = (
   }),
   refl,
   refl,
+  tt,
 )
 
 -- ---- accept
@@ -85,10 +86,13 @@ epoch_cases i (Commit session start keys) = elim (old_if (nat_le start i.epoch) 
   | inr old ↦ inr (start, old)
 ]
 
-accept_timely : (w : State) (node session reading : ℕ) (i : InstanceEntry) (held : Held) (c : Client) → Served w node session i held c → held.progress ≡ progress.Asked → w.seen ≤ reading + w.setup.skew → (in_time : Bool) → nat_lt reading i.until ≡ in_time → ComesBy w (accept_step w node session reading held c (accept_unless i session held (if in_time then epoch_refusal i held.request else Some (cause.Expired reading i.until))))
-accept_timely w node session reading i held c served asked steady false late = ended w node session (max w.seen reading) i held c (cause.Expired reading i.until) refl served (inl asked) (max_left w.seen reading)
-accept_timely w node session reading i held c served asked steady true before = elim (epoch_cases i held.request) [
-  | inl new ↦ subst (λ (f : Option Cause). ComesBy w (accept_step w node session reading held c (accept_unless i session held f))) (sym new) (
+abbrev pub AcceptsBy : (w : State) → ℕ → Step → Type 0
+AcceptsBy w reading step = ComesAt w (Some reading) step.state step.items
+
+accept_timely : (w : State) (node session reading : ℕ) (i : InstanceEntry) (held : Held) (c : Client) → Served w node session i held c → held.progress ≡ progress.Asked → (in_time : Bool) → nat_lt reading i.until ≡ in_time → AcceptsBy w reading (accept_step w node session reading held c (accept_unless i session held (if in_time then epoch_refusal i held.request else Some (cause.Expired reading i.until))))
+accept_timely w node session reading i held c served asked false late = comes_at w (Some reading) _ _ (ended w node session (max w.seen reading) i held c (cause.Expired reading i.until) refl served (inl asked) (max_left w.seen reading))
+accept_timely w node session reading i held c served asked true before = elim (epoch_cases i held.request) [
+  | inl new ↦ subst (λ (f : Option Cause). AcceptsBy w reading (accept_step w node session reading held c (accept_unless i session held f))) (sym new) (
     OfAccepted (record {
       node = node;
       session = session;
@@ -100,35 +104,32 @@ accept_timely w node session reading i held c served asked steady true before = 
       asked = asked;
       in_time = ltb-true reading i.until before;
       in_epoch = new;
-      steady = steady;
       items = item.Accept session node i.term reading ∷ [];
       tells = refl;
       quiet = one_quiet (item.Accept session node i.term reading) refl;
     }),
     client_back w session (max w.seen reading) c (slice_set w.nodes node (Some (moved i session held progress.Accepted))) served.client_at,
     refl,
+    refl,
   )
-  | inr old ↦ subst (λ (f : Option Cause). ComesBy w (accept_step w node session reading held c (accept_unless i session held f))) (sym old.1) (ended w node session (max w.seen reading) i held c (cause.OldEpoch old.0 i.epoch) refl served (inl asked) (max_left w.seen reading))
+  | inr old ↦ subst (λ (f : Option Cause). AcceptsBy w reading (accept_step w node session reading held c (accept_unless i session held f))) (sym old.1) (comes_at w (Some reading) _ _ (ended w node session (max w.seen reading) i held c (cause.OldEpoch old.0 i.epoch) refl served (inl asked) (max_left w.seen reading)))
 ]
 
-accept_still : (w : State) (node session reading : ℕ) (post : Option InstanceEntry) (c : Client) (why : Cause) → slice_get w.nodes node ≡ Some post → ClientAt w.clients session c → ComesTo w (with_client (with_post (with_reading w reading) node post) session c) (item.Refused (Node node) why ∷ [])
-accept_still w node session reading post c why at client_at = still_both w node session (max w.seen reading) post c _ at client_at (max_left w.seen reading) (node_plain node why)
+accept_still : (w : State) (node session reading : ℕ) (post : Option InstanceEntry) (c : Client) (why : Cause) → slice_get w.nodes node ≡ Some post → ClientAt w.clients session c → ComesAt w (Some reading) (with_client (with_post (with_reading w reading) node post) session c) (item.Refused (Node node) why ∷ [])
+accept_still w node session reading post c why at client_at = comes_at w (Some reading) _ _ (still_both w node session (max w.seen reading) post c _ at client_at (max_left w.seen reading) (node_plain node why))
 
-accept_progress : (w : State) (node session reading : ℕ) (i : InstanceEntry) (held : Held) (c : Client) → Served w node session i held c → w.seen ≤ reading + w.setup.skew → (p : Progress) → held.progress ≡ p → ComesBy w (accept_step w node session reading held c (accept_if_asked i session reading held p))
-accept_progress w node session reading i held c served steady progress.Asked is = accept_timely w node session reading i held c served is steady (nat_lt reading i.until) refl
-accept_progress w node session reading i held c served steady progress.Accepted is = accept_still w node session reading (Some i) c (cause.NoRequest session) served.at served.client_at
-accept_progress w node session reading i held c served steady (progress.Drawn stamp) is = accept_still w node session reading (Some i) c (cause.NoRequest session) served.at served.client_at
-accept_progress w node session reading i held c served steady (progress.Handed commit) is = accept_still w node session reading (Some i) c (cause.NoRequest session) served.at served.client_at
-accept_progress w node session reading i held c served steady (progress.Settled commit how) is = accept_still w node session reading (Some i) c (cause.NoRequest session) served.at served.client_at
+accept_progress : (w : State) (node session reading : ℕ) (i : InstanceEntry) (held : Held) (c : Client) → Served w node session i held c → (p : Progress) → held.progress ≡ p → AcceptsBy w reading (accept_step w node session reading held c (accept_if_asked i session reading held p))
+accept_progress w node session reading i held c served progress.Asked is = accept_timely w node session reading i held c served is (nat_lt reading i.until) refl
+accept_progress w node session reading i held c served _ is = accept_still w node session reading (Some i) c (cause.NoRequest session) served.at served.client_at
 
-accept_found : (w : State) (node session reading : ℕ) (i : InstanceEntry) (c : Client) → InstanceAt w.nodes node i → ClientAt w.clients session c → w.seen ≤ reading + w.setup.skew → (found : Option Held) → held_of i session ≡ found → ComesBy w (for_request (with_reading w reading) node session (accept_request node session reading i c found))
-accept_found w node session reading i c at client_at steady None has = accept_still w node session reading (Some i) c (cause.NoRequest session) at client_at
-accept_found w node session reading i c at client_at steady (Some held) has =
-    subst (λ (f : Option Held). ComesBy w (accept_step w node session reading held c (accept_held i session reading f))) (sym has) (accept_progress w node session reading i held c (record { at = at; client_at = client_at; has = has }) steady held.progress refl)
+accept_found : (w : State) (node session reading : ℕ) (i : InstanceEntry) (c : Client) → InstanceAt w.nodes node i → ClientAt w.clients session c → (found : Option Held) → held_of i session ≡ found → AcceptsBy w reading (for_request (with_reading w reading) node session (accept_request node session reading i c found))
+accept_found w node session reading i c at client_at None has = accept_still w node session reading (Some i) c (cause.NoRequest session) at client_at
+accept_found w node session reading i c at client_at (Some held) has =
+    subst (λ (f : Option Held). AcceptsBy w reading (accept_step w node session reading held c (accept_held i session reading f))) (sym has) (accept_progress w node session reading i held c (record { at = at; client_at = client_at; has = has }) held.progress refl)
 
-pub accept_at : (w : State) (node session reading : ℕ) (post : Option InstanceEntry) (c : Client) → slice_get w.nodes node ≡ Some post → ClientAt w.clients session c → w.seen ≤ reading + w.setup.skew → ComesBy w (for_request (with_reading w reading) node session (accept_on node session reading post c))
-accept_at w node session reading None c at client_at steady = accept_still w node session reading None c (cause.NoOracle node) at client_at
-accept_at w node session reading (Some i) c at client_at steady = accept_found w node session reading i c at client_at steady (held_of i session) refl
+pub accept_at : (w : State) (node session reading : ℕ) (post : Option InstanceEntry) (c : Client) → slice_get w.nodes node ≡ Some post → ClientAt w.clients session c → AcceptsBy w reading (for_request (with_reading w reading) node session (accept_on node session reading post c))
+accept_at w node session reading None c at client_at = accept_still w node session reading None c (cause.NoOracle node) at client_at
+accept_at w node session reading (Some i) c at client_at = accept_found w node session reading i c at client_at (held_of i session) refl
 
 -- ---- decide
 abbrev decide_step : State → ℕ → ℕ → Held → Client → InstanceStep Decided → Step
@@ -184,6 +185,7 @@ decide_room w node session i held c served stop accepted free false room = (
   }),
   client_back w session w.seen c (slice_set w.nodes node (Some (decide_drawn i session held (i.last + 1)).left)) served.client_at,
   drawn_same node i.term (i.last + 1) held.request,
+  tt,
 )
 
 decide_verdict : (w : State) (node session : ℕ) (i : InstanceEntry) (held : Held) (c : Client) → Served w node session i held c → StopOf i.stop → held.progress ≡ progress.Accepted → (v : Verdict) → both_verdict i.buckets c.reads held.request ≡ v → ComesBy w (decide_step w node session held c (verdict_by i session held v))

@@ -72,6 +72,7 @@ abort_comes w session c at None go (Some start) = (
   }),
   refl,
   refl,
+  tt,
 )
 
 pub abort_at : (w : State) (session : ℕ) (c : Client) → ClientAt w.clients session c → ComesBy w (for_client w session (abort_on session c))
@@ -96,6 +97,7 @@ vanish_comes w session c at None mild = (
   }),
   refl,
   refl,
+  tt,
 )
 
 pub vanish_at : (w : State) (session : ℕ) (c : Client) → ClientAt w.clients session c → ComesBy w (for_client w session (vanish_on session c))
@@ -134,10 +136,11 @@ write_failed w session start key value c at go begun rows rows_are = (
   }),
   refl,
   refl,
+  tt,
 )
 
 write_fated : (w : State) (session start key : ℕ) (value : List ℕ) (fate : Fate) (c : Client) → ClientAt w.clients session c → work_refusal c.entry.state (is_reading c) ≡ None → c.entry.start ≡ Some start → ComesBy w (for_cells w session (write_by session start key value fate c (fated fate w.rows (put_row w.rows key start value))))
-write_fated w session start key value Works c at go begun = (OfWrote (record { it = open_by_work w session c at go; start = start; key = key; value = value; start_is = begun }), refl, refl)
+write_fated w session start key value Works c at go begun = (OfWrote (record { it = open_by_work w session c at go; start = start; key = key; value = value; start_is = begun }), refl, refl, tt)
 write_fated w session start key value FailsUnchanged c at go begun = write_failed w session start key value c at go begun w.rows (inl refl)
 write_fated w session start key value FailsApplied c at go begun = write_failed w session start key value c at go begun (put_row w.rows key start value) (inr refl)
 
@@ -182,6 +185,7 @@ heal_one w session c offer at has applied items plain =
       }),
       refl,
       refl,
+      tt,
     )
 
 heal_comes : (w : State) (session : ℕ) (fate : Fate) (c : Client) → ClientAt w.clients session c → (offer : Option (ℕ × ℕ × ℕ)) → offer_of c ≡ offer → ComesBy w (for_cells w session (heal_at session fate c w.rows w.pairs offer))

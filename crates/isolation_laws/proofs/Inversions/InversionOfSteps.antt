@@ -64,6 +64,7 @@ read_failed w session c r fate rows pairs at under_way same marked told = (
   }),
   same_rows w session (record (client_put_fresh c) { under_way = Nothing }) rows pairs same,
   refl,
+  tt,
 )
 
 pub read_comes : (w : State) (session : ℕ) (fate : Fate) (c : Client) (r : Reading) → ClientAt w.clients session c → c.under_way ≡ Reads r → ComesBy w (for_stores w session (read_step session c r (met (Session session) (read_ask r) fate w.rows w.pairs)))
@@ -81,6 +82,7 @@ read_comes w session Works c r at under_way = (
   }),
   same_rows w session (client_recalled c (step_recall (client_put_fresh c) r (told_by (read_ask r) w.rows w.pairs))) (rows_after (read_ask r) w.rows) (pairs_after (read_ask r) w.pairs) (resolve_rows r.key r.cell.version r.point w.rows),
   refl,
+  tt,
 )
 read_comes w session FailsUnchanged c r at under_way = read_failed w session c r FailsUnchanged w.rows w.pairs at under_way refl (inl refl) (met_marks (Session session) (read_ask r) FailsUnchanged w.rows w.pairs)
 read_comes w session FailsApplied c r at under_way = read_failed w session c r FailsApplied (rows_after (read_ask r) w.rows) (pairs_after (read_ask r) w.pairs) at under_way (resolve_rows r.key r.cell.version r.point w.rows) (resolve_marks r.key r.cell.version r.point w.pairs) (met_marks (Session session) (read_ask r) FailsApplied w.rows w.pairs)
@@ -109,6 +111,7 @@ settle_failed w session c x fate rows pairs at is_open same marked told = (
   }),
   same_rows w session (record c { under_way = Nothing }) rows pairs same,
   refl,
+  tt,
 )
 
 pub settle_comes : (w : State) (session : ℕ) (fate : Fate) (c : Client) (x : Settling) → ClientAt w.clients session c → c.entry.state ≡ phase.OpenOutcome → IsResolve c x → ComesBy w (for_stores w session (settle_step session c x (met (Session session) (settle_ask x) fate w.rows w.pairs)))
@@ -130,6 +133,7 @@ settle_comes w session Works c x at is_open work =
       }),
       same_rows w session (client_settled c x (settle_turn x answer)) (rows_after (settle_ask x) w.rows) (pairs_after (settle_ask x) w.pairs) (resolve_rows x.key x.txn x.point w.rows),
       refl,
+      tt,
     )
 settle_comes w session FailsUnchanged c x at is_open work = settle_failed w session c x FailsUnchanged w.rows w.pairs at is_open refl (inl refl) (met_marks (Session session) (settle_ask x) FailsUnchanged w.rows w.pairs)
 settle_comes w session FailsApplied c x at is_open work = settle_failed w session c x FailsApplied (rows_after (settle_ask x) w.rows) (pairs_after (settle_ask x) w.pairs) at is_open (resolve_rows x.key x.txn x.point w.rows) (resolve_marks x.key x.txn x.point w.pairs) (met_marks (Session session) (settle_ask x) FailsApplied w.rows w.pairs)
@@ -171,6 +175,7 @@ complete_failed w session c asked asks applied items at is fault told plain = (
   OfCompleted (completed w session c asked asks applied (client_freed c) items at is (inr (refl, fault)) told plain),
   refl,
   refl,
+  tt,
 )
 
 pub complete_comes : (w : State) (session : ℕ) (fate : Fate) (c : Client) (asked : Ask) (asks : List Ask) → ClientAt w.clients session c → IsCompletion c asked asks → ComesBy w (for_stores w session (complete_step c asked asks (met (Session session) asked fate w.rows w.pairs)))
@@ -178,6 +183,7 @@ complete_comes w session Works c asked asks at is = (
   OfCompleted (completed w session c asked asks true (after_asks c asks) (step_item (Session session) asked (told_by asked w.rows w.pairs) ∷ []) at is (inl (refl, refl)) (met_marks (Session session) asked Works w.rows w.pairs) (All-cons Plain (step_item (Session session) asked (told_by asked w.rows w.pairs)) [] (step_plain (Session session) asked (told_by asked w.rows w.pairs) is.no_list) none_plain)),
   refl,
   refl,
+  tt,
 )
 complete_comes w session FailsUnchanged c asked asks at is = complete_failed w session c asked asks false _ at is (fault_told (effect_items (Session session) asked (told_by asked w.rows w.pairs) FailsUnchanged) (Session session) (store_of asked)) (met_marks (Session session) asked FailsUnchanged w.rows w.pairs) (failed_plain (Session session) asked (told_by asked w.rows w.pairs) FailsUnchanged (store_of asked))
 complete_comes w session FailsApplied c asked asks at is = complete_failed w session c asked asks true _ at is (fault_told (effect_items (Session session) asked (told_by asked w.rows w.pairs) FailsApplied) (Session session) (store_of asked)) (met_marks (Session session) asked FailsApplied w.rows w.pairs) (failed_plain (Session session) asked (told_by asked w.rows w.pairs) FailsApplied (store_of asked))

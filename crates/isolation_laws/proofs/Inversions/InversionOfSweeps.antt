@@ -39,7 +39,7 @@ for_sweep w effect = step_by effect (λ (p : Option Sweeping). record w { sweep 
 sweep_open_comes : (w : State) (node txn : ℕ) (post : Option InstanceEntry) (sweep : Option Sweeping) → w.sweep ≡ sweep → ComesBy w (for_sweep w (sweep_open_on node txn post sweep))
 sweep_open_comes w node txn post (Some s) same = still_sweep w (Some s) _ same (one_plain (item.Refused Janitor cause.Busy) refl refl)
 sweep_open_comes w node txn None None same = still_sweep w None _ same (one_plain (item.Refused Janitor (cause.NoOracle node)) refl refl)
-sweep_open_comes w node txn (Some i) None same = (OfSweepOpened (record { txn = txn; epoch = i.epoch }), refl, refl)
+sweep_open_comes w node txn (Some i) None same = (OfSweepOpened (record { txn = txn; epoch = i.epoch }), refl, refl, tt)
 
 pub sweep_open_at_post : (w : State) (node txn : ℕ) (post : Option InstanceEntry) → ComesBy w (for_sweep w (sweep_open_on node txn post w.sweep))
 sweep_open_at_post w node txn post = sweep_open_comes w node txn post w.sweep refl
@@ -75,6 +75,7 @@ swept w s asked is_open asks no_list Works =
       }),
       refl,
       refl,
+      tt,
     )
 swept w s asked is_open asks no_list FailsUnchanged = (
   OfSweepFailed (record {
@@ -90,6 +91,7 @@ swept w s asked is_open asks no_list FailsUnchanged = (
   }),
   refl,
   refl,
+  tt,
 )
 swept w s asked is_open asks no_list FailsApplied = (
   OfSweepFailed (record {
@@ -105,6 +107,7 @@ swept w s asked is_open asks no_list FailsApplied = (
   }),
   refl,
   refl,
+  tt,
 )
 
 listing_failed : (w : State) (s : Sweeping) (txn : ℕ) → w.sweep ≡ Some s → sweep_ask s ≡ Some (ask.Keys txn) → ComesTo w (record w { sweep = None }) (item.Fault Janitor Cells ∷ [])
@@ -122,10 +125,11 @@ listing_failed w s txn is_open asks = (
   }),
   refl,
   refl,
+  tt,
 )
 
 sweep_lists_keys : (w : State) (s : Sweeping) (txn : ℕ) → w.sweep ≡ Some s → sweep_ask s ≡ Some (ask.Keys txn) → (fate : Fate) → ComesBy w (on_swept w (sweep_lists s txn fate w.rows w.pairs))
-sweep_lists_keys w s txn is_open asks Works = (OfSweepListed (record { s = s; txn = txn; count = length (keys_of_version w.rows txn); is_open = is_open; asks = asks }), refl, refl)
+sweep_lists_keys w s txn is_open asks Works = (OfSweepListed (record { s = s; txn = txn; count = length (keys_of_version w.rows txn); is_open = is_open; asks = asks }), refl, refl, tt)
 sweep_lists_keys w s txn is_open asks FailsUnchanged = listing_failed w s txn is_open asks
 sweep_lists_keys w s txn is_open asks FailsApplied = listing_failed w s txn is_open asks
 

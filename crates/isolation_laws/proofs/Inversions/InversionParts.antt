@@ -1,6 +1,6 @@
 -- For call_laws too.
 -- What it is for an event to come to an outcome, and what comes to nothing.
-use Rattle.std.proofs.Common.{◌≡◌, ℕ, ◌≤◌, Bool, true, false, if◌then◌else◌, List, [], ◌∷◌, Option, Some, inl, inr, refl, sym, ◌∙◌, ap, subst, arith}
+use Rattle.std.proofs.Common.{◌≡◌, ℕ, ◌≤◌, Bool, true, false, if◌then◌else◌, List, [], ◌∷◌, Option, None, Some, inl, inr, refl, sym, ◌∙◌, ap, subst, arith}
 use Rattle.std.specs.Prelude.{slice_get, slice_set}
 use Rattle.std.proofs.lemmas.Option.{same_Some}
 use Rattle.std.proofs.lemmas.List.Elements.{All-nil, All-cons}
@@ -22,15 +22,22 @@ use Rattle.isolation_laws.proofs.Lookups.{set_same, instance_changed, held_set}
 use Rattle.isolation_laws.proofs.Outcome.PlainItems.{AllPlain, all_quiet}
 use Rattle.isolation_laws.proofs.Outcome.OutcomesOfRecord.{Alike, AlikeNodes, Stopped, Told, StillBy, Rests, Stops, Tells}
 use Rattle.isolation_laws.proofs.Outcome.OutcomesOfSessions.{AtOpen}
-use Rattle.isolation_laws.proofs.Outcome.Outcomes.{Outcome, OfStill, left_by, told_by_outcome}
+use Rattle.isolation_laws.proofs.Outcome.Outcomes.{Outcome, OfStill, left_by, told_by_outcome, AcceptsAt, whatever_handed}
 use Rattle.isolation_laws.proofs.Pushed.{one_quiet}
 
--- the state and the items are those of an outcome
+-- the state and the items are those of an outcome, which accepts a request at the reading that was handed in alone
+abbrev pub ComesAt : (w : State) → Option ℕ → State → List Item → Type 0
+ComesAt w handed left items = (o : Outcome w) × (left ≡ left_by w o) × (items ≡ told_by_outcome w o) × AcceptsAt handed o
+
+-- no request is accepted
 abbrev pub ComesTo : (w : State) → State → List Item → Type 0
-ComesTo w left items = (o : Outcome w) × (left ≡ left_by w o) × (items ≡ told_by_outcome w o)
+ComesTo w left items = ComesAt w None left items
 
 abbrev pub ComesBy : (w : State) → Step → Type 0
 ComesBy w step = ComesTo w step.state step.items
+
+pub comes_at : (w : State) (handed : Option ℕ) (left : State) (items : List Item) → ComesTo w left items → ComesAt w handed left items
+comes_at w handed left items (o, state, told, none) = (o, state, told, whatever_handed handed o none)
 
 -- ---- quiet items
 pub none_quiet : AllQuiet []
@@ -91,7 +98,7 @@ alike_told i session held told has request progress = record {
 
 -- ---- what changes nothing
 pub still : (w : State) (seen : ℕ) (nodes : List (Option InstanceEntry)) (left : State) (items : List Item) → w.seen ≤ seen → AlikeNodes w.nodes nodes → AllQuiet items → StillBy w nodes items → left ≡ record w { seen = seen; nodes = nodes } → ComesTo w left items
-still w seen nodes left items up alike quiet how same = (OfStill (record { seen = seen; up = up; nodes = nodes; alike = alike; items = items; quiet = quiet; how = how }), same, refl)
+still w seen nodes left items up alike quiet how same = (OfStill (record { seen = seen; up = up; nodes = nodes; alike = alike; items = items; quiet = quiet; how = how }), same, refl, tt)
 
 -- the nodes stay as they were
 pub rests : (w : State) (seen : ℕ) (nodes : List (Option InstanceEntry)) (left : State) (items : List Item) → w.seen ≤ seen → nodes ≡ w.nodes → AllPlain items → left ≡ record w { seen = seen; nodes = nodes } → ComesTo w left items
