@@ -9,7 +9,7 @@ use Rattle.history_book.proofs.MemberLemmas.{in_front, in_back}
 use Rattle.oracle_parts.specs.declared.instance.Held.{Held}
 use Rattle.machine.specs.declared.event.Event.{Event}
 use Rattle.machine.specs.State.{Client, State}
-use Rattle.machine.specs.Machine.{stepped, reading_of, IsSteadyAt}
+use Rattle.machine.specs.Machine.{stepped}
 use Rattle.machine.specs.Events.Crash.{crashed_clients}
 use Rattle.isolation_laws.specs.Words.{ClientAt}
 use Rattle.isolation_laws.specs.Sound.{Stands}
@@ -59,6 +59,6 @@ moved_told w left items (Stay same) = subst (λ (clients : List Client). GoneTol
 moved_told w left items (Hear requests same) = subst (λ (clients : List Client). GoneTold w.clients clients items) (sym same) (crashed_told requests w.clients items)
 moved_told w left items (PutBack session c new at same gone placing) = subst (λ (clients : List Client). GoneTold w.clients clients items) (sym same) (put_told w.clients session c new items at gone)
 
-pub gone_kept : (w : State) (h : List Item) (e : Event) (fate : Fate) → Stands w h → IsSteadyAt w.setup.skew w.seen (reading_of e) → AreGone w.clients h → AreGone (stepped w e fate).state.clients (h ++ (stepped w e fate).items)
-gone_kept w h e fate stands steady are = each_outcome (λ v items. AreGone v.clients (h ++ items)) w h e fate stands steady
+pub gone_kept : (w : State) (h : List Item) (e : Event) (fate : Fate) → Stands w h → AreGone w.clients h → AreGone (stepped w e fate).state.clients (h ++ (stepped w e fate).items)
+gone_kept w h e fate stands are = each_outcome (λ v items. AreGone v.clients (h ++ items)) w h e fate stands
     (λ o. gone_on w.clients (left_by w o).clients h (told_by_outcome w o) (moved_told w (left_by w o).clients (told_by_outcome w o) (moved w h o stands.holds)) are)

@@ -43,7 +43,6 @@ mod OpenAsksKept
 mod MarksShown
 mod AsBefore
 mod ClientsMoved
-mod ClientsStay
 mod GoneShown
 mod PlacingKept
 pub mod AlwaysExplained

@@ -15,7 +15,7 @@ use Rattle.oracle_parts.specs.declared.instance.Request.TheVariants.{Commit}
 use Rattle.oracle_parts.specs.Instance.{session_of}
 use Rattle.machine.specs.declared.event.Event.{Event}
 use Rattle.machine.specs.State.{Client, State}
-use Rattle.machine.specs.Machine.{stepped, reading_of, IsSteadyAt}
+use Rattle.machine.specs.Machine.{stepped}
 use Rattle.isolation_laws.specs.Words.{HeldBy, ClientAt}
 use Rattle.isolation_laws.specs.Sound.{Stands}
 use Rattle.isolation_laws.proofs.Lookups.{client_set, held_by, one_client}
@@ -113,5 +113,5 @@ placing_on w h o stands shows = record {
   ];
 }
 
-pub placing_kept : (w : State) (h : List Item) (e : Event) (fate : Fate) → Stands w h → IsSteadyAt w.setup.skew w.seen (reading_of e) → Shows w h → ArePlacingAsked (stepped w e fate).state.clients (h ++ (stepped w e fate).items)
-placing_kept w h e fate stands steady shows = each_outcome (λ v items. ArePlacingAsked v.clients (h ++ items)) w h e fate stands steady (λ o. placing_on w h o stands shows)
+pub placing_kept : (w : State) (h : List Item) (e : Event) (fate : Fate) → Stands w h → Shows w h → ArePlacingAsked (stepped w e fate).state.clients (h ++ (stepped w e fate).items)
+placing_kept w h e fate stands shows = each_outcome (λ v items. ArePlacingAsked v.clients (h ++ items)) w h e fate stands (λ o. placing_on w h o stands shows)

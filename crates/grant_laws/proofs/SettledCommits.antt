@@ -167,14 +167,14 @@ turn_steady script c (turn.Answer node session) e playable k is = steady_at scri
 turn_steady script c (turn.Extend node) e playable k is = steady_at script c e 0 playable k (stage_turn script c (turn.Extend node) e (λ own. own) is).timed
 
 -- ---- all turns
-fits_on : (script : ScriptData) (c : Carried) (t : Turn) → IsPlayable script 0 script.lines → Facts script c → AllFit c.played.state.nodes → (found : Option Event) → event_of script c t ≡ found → AllFit (turned_by script c t found).played.state.nodes
-fits_on script c t playable k all None is = all
-fits_on script c t playable k all (Some e) is =
-    each_outcome (λ v items. AllFit v.nodes) c.played.state c.played.items e (fate_of script c.played e) k.reached.stands (turn_steady script c t e playable k is) (λ o. fits_by c.played.state o all)
+fits_on : (script : ScriptData) (c : Carried) (t : Turn) → Facts script c → AllFit c.played.state.nodes → (found : Option Event) → AllFit (turned_by script c t found).played.state.nodes
+fits_on script c t k all None = all
+fits_on script c t k all (Some e) =
+    each_outcome (λ v items. AllFit v.nodes) c.played.state c.played.items e (fate_of script c.played e) k.reached.stands (λ o. fits_by c.played.state o all)
 
 all_fit : (script : ScriptData) → IsPlayable script 0 script.lines → (turns : List Turn) (c : Carried) → Facts script c → AllFit c.played.state.nodes → AllFit (fold (turned script) c turns).played.state.nodes
 all_fit script playable [] c facts all = all
-all_fit script playable (t ∷ turns) c facts all = all_fit script playable turns (turned script c t) (facts_turned script c t playable facts) (fits_on script c t playable facts all (event_of script c t) refl)
+all_fit script playable (t ∷ turns) c facts all = all_fit script playable turns (turned script c t) (facts_turned script c t playable facts) (fits_on script c t facts all (event_of script c t))
 
 pub commits_alone_settle : (script : ScriptData) (turns : List Turn) → AreInRange script.setup → IsPlayable script 0 script.lines → AllFit (carried script turns).played.state.nodes
 commits_alone_settle script turns in_range playable = all_fit script playable turns (all_passed script (at_first script)) (facts_at_first script in_range) (λ n s i held at has. absurd (none_at script.setup.nodes n i at))
