@@ -169,9 +169,3 @@ unfolding AllFit crashed_clients
 crash_fits [] cs fit = fit
 crash_fits (held ∷ others) [] fit = tt
 crash_fits (held ∷ others) (c ∷ cs) fit = (crashed_fits held c fit.0, crash_fits others cs fit.1)
-
-pub crash_long : (requests : List (Option Held)) (cs : List Client) → length (crashed_clients requests cs) ≡ length cs
-unfolding crashed_clients
-crash_long [] cs = refl
-crash_long (held ∷ others) [] = refl
-crash_long (held ∷ others) (c ∷ cs) = omega (arith, crash_long others cs)
