@@ -8,7 +8,7 @@ use Rattle.oracle_parts.specs.declared.instance.Held.{Held}
 use Rattle.oracle_parts.specs.declared.instance.Progress.{Progress}
 use Rattle.oracle_parts.specs.declared.instance.Request.{Request}
 use Rattle.oracle_parts.specs.Instance.{InstanceEntry, held_of, stamps_at}
-use Rattle.machine.specs.State.{Client, State}
+use Rattle.machine.specs.State.{State}
 use Rattle.machine.specs.Clients.{is_reading}
 use Rattle.machine.specs.declared.event.Event.{Event}
 use Rattle.machine.specs.declared.event.Event.TheVariants as event

@@ -1,7 +1,7 @@
 -- For line_steps, cause_laws, call_laws, planned_laws, replay_driver and turn_rules too.
 -- What ties state and history holds after every list of moves with steady readings; so each history is snapshot isolated, and
 -- serial with strict reads.
-use Rattle.std.proofs.Common.{◌≡◌, ℕ, List, [], ◌∷◌, ◌++◌, append_assoc, refl, sym, ◌∙◌, ap, subst}
+use Rattle.std.proofs.Common.{◌≡◌, ℕ, List, [], ◌∷◌, ◌++◌, append_assoc, refl, sym, ◌∙◌, subst}
 use Rattle.std.proofs.lemmas.List.{append-nil}
 use Rattle.stamp_base.specs.SetupNumbers.{SetupNumbers, AreInRange}
 use Rattle.port_io.specs.declared.weather.Fate.{Fate}
