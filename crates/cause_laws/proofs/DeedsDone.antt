@@ -1,4 +1,4 @@
--- Also for the proofs of call_laws: each outcome of an event, as a deed to the nodes.
+-- Each outcome of an event, as a deed to the nodes.
 use Rattle.std.proofs.Common.{[], ◌≡◌, ℕ, ◌+◌, Bool, true, false, List, ◌∷◌, ◌++◌, Option, None, Some, inl, inr, refl, sym, ◌∙◌, ap}
 use Rattle.std.specs.Prelude.{slice_set}
 use Rattle.std.proofs.lemmas.List.Elements.{All-cons}

@@ -1,4 +1,4 @@
-pub mod Deeds
+mod Deeds
 mod RecordedDraws
 mod HiddenWaters
 pub mod ShownOfRequests
@@ -26,7 +26,7 @@ pub mod LongerHistories
 mod HeldAsks
 mod FoundMarks
 mod DeedsOfPlacings
-pub mod DeedsDone
+mod DeedsDone
 mod DueItems
 mod DueOfRecord
 mod DueOfRequests

@@ -1,3 +1,4 @@
+-- For grant_laws too.
 -- Every event keeps the numbers of nodes and of clients, and that an open transaction has an epoch.
 use Rattle.std.proofs.Common.{◌≡◌, ℕ, zero, suc, List, [], ◌∷◌, Option, Some, None, Result, Ok, Err, subst}
 use Rattle.std.specs.Prelude.{slice_get, slice_set}

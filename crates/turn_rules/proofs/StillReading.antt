@@ -1,4 +1,5 @@
--- For grant_laws too. A session whose transaction is open, or that is to place its commit, has no request in flight. So an event
+-- For grant_laws too.
+-- A session whose transaction is open, or that is to place its commit, has no request in flight. So an event
 -- that is not its own leaves its client as it was, and a read under way goes on.
 use Rattle.std.proofs.Common.{◌≡◌, ◌⊎◌, ℕ, zero, suc, false, List, [], ◌∷◌, Option, Some, None, inl, inr, refl, sym, ◌∙◌, ap, subst}
 use Rattle.std.specs.Prelude.{slice_get, slice_set, slice_index_or}

@@ -1,4 +1,4 @@
--- For cause_laws and call_laws too.
+-- For cause_laws too.
 -- What it comes to that a session places its commit.
 use Rattle.std.proofs.Common.{◌≡◌, ℕ, [], ◌∷◌, Option, Some, None, ◌⊎◌, inl, inr, refl, sym, ap}
 use Rattle.std.proofs.lemmas.Option.{same_Some}

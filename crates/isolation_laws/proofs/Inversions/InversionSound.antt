@@ -1,4 +1,4 @@
--- For cause_laws too.
+-- For cause_laws and grant_laws too.
 -- Every outcome keeps what the inversion needs: kept refusals are the master record's, and an open sweep asks something.
 use Rattle.std.proofs.Common.{◌≡◌, ℕ, ◌<◌, Bool, true, false, List, Option, Some, None, inl, inr, refl, sym, ◌∙◌, ap, subst}
 use Rattle.std.specs.Prelude.{slice_get, slice_set, replicate}
