@@ -12,7 +12,7 @@ use Rattle.machine.specs.Machine.{Step, stepped, Move, state_after, items_after,
 use Rattle.machine.proofs.PartsKept.{leaves_parts, clients_stay}
 use Rattle.cause_rules.specs.Explained.{Shown, Explained}
 use Rattle.isolation_laws.specs.Sound.{Stands}
-use Rattle.isolation_laws.proofs.AlwaysHolds.{facts_stay, steady_stays, steady_now, stands_at_first, setup_after}
+use Rattle.isolation_laws.proofs.AlwaysHolds.{dues, facts_stay, steady_stays, steady_now, stands_at_first, setup_after}
 use Rattle.cause_laws.specs.Requests.{AreAsked, AreFaulted, ArePutByNodes, AreOpenAsks}
 use Rattle.cause_laws.specs.Nodes.{AreTaken, AreVacant, AreShownStops, AreLasts}
 use Rattle.cause_laws.specs.Shows.{Shows, Tells}
@@ -28,7 +28,6 @@ use Rattle.cause_laws.proofs.RecordShown.{record_kept}
 use Rattle.cause_laws.proofs.MarksShown.{marked_kept}
 use Rattle.cause_laws.proofs.GoneShown.{gone_kept}
 use Rattle.cause_laws.proofs.PlacingKept.{placing_kept}
-use Rattle.cause_laws.proofs.DuesDone.{dues}
 use Rattle.cause_laws.proofs.DueIsShown.{due_is_shown}
 use Rattle.cause_laws.proofs.ShownAtFirst.{shown_at_first}
 use Rattle.cause_laws.proofs.LongerHistories.{each_longer}

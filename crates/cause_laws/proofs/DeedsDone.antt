@@ -42,7 +42,7 @@ use Rattle.isolation_laws.proofs.Inversions.InversionOfAnswers.{not_invalid}
 use Rattle.isolation_laws.proofs.AlwaysHolds.{each_outcome}
 use Rattle.cause_laws.proofs.Deeds.{Serving, EndsFor, OfRested, OfTook, OfRenewed, OfWidened, OfStopped, OfCrashed, OfAsked, OfAccepted, OfDrew, OfSettled, OfTold, OfEnded, OfLearned, DeedOf}
 use Rattle.cause_laws.proofs.DeedsOfPlacings.{answered_ends, own_told_deed, own_placed_deed}
-use Rattle.cause_laws.proofs.FoundMarks.{found_marked}
+use Rattle.isolation_laws.proofs.FoundMarks.{found_marked}
 use Rattle.cause_laws.proofs.HeldAsks.{own_requests, all_losses, holds_none}
 
 -- ---- the nodes stay as they were

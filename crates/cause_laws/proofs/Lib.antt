@@ -24,18 +24,8 @@ mod LastsKept
 mod ShownAtFirst
 pub mod LongerHistories
 mod HeldAsks
-mod FoundMarks
 mod DeedsOfPlacings
 mod DeedsDone
-mod DueItems
-mod DueOfRecord
-mod DueOfRequests
-mod DueOfAnswers
-mod DueOfCrashes
-mod DueOfSessions
-mod DueOfPlacings
-mod DueOfSteps
-mod DuesDone
 mod OpenWords
 mod RecordShown
 mod HeldCounts

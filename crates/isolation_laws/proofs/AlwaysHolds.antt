@@ -11,6 +11,7 @@ use Rattle.cause_rules.specs.Strict.{SerialIfStrict}
 use Rattle.machine.specs.declared.event.Event.{Event}
 use Rattle.machine.specs.State.{State, opening}
 use Rattle.machine.specs.Machine.{Step, stepped, Move, state_after, items_after, history_after, reading_of, seen_after, IsSteadyAt, AreSteady, Steady}
+use Rattle.isolation_laws.specs.Due.{AreDue}
 use Rattle.isolation_laws.specs.Holds.{Holds}
 use Rattle.isolation_laws.specs.Sound.{Sound, Stands}
 use Rattle.isolation_laws.proofs.Outcome.Outcomes.{Outcome, OfStill, left_by, told_by_outcome, IsTimely, steadily}
@@ -63,14 +64,20 @@ comes_by w h e fate both = comes_to w h e fate both.holds both.sound
 -- what each outcome of an event makes so, the event makes so
 pub each_outcome : (P : State → List Item → Type 0) (w : State) (h : List Item) (e : Event) (fate : Fate) → Stands w h → ((o : Outcome w) → P (left_by w o) (told_by_outcome w o)) → P (stepped w e fate).state (stepped w e fate).items
 each_outcome P w h e fate both each =
-    let (o, state, items, at) = comes_by w h e fate both in
+    let (o, state, items, at, due) = comes_by w h e fate both in
     subst (λ (v : State). P v (stepped w e fate).items) (sym state) (subst (λ (items : List Item). P (left_by w o) items) (sym items) (each o))
+
+-- each refusal that an event tells says what is the case
+pub dues : (w : State) (h : List Item) (e : Event) (fate : Fate) → Stands w h → AreDue w (stepped w e fate).items
+dues w h e fate both =
+    let (o, state, items, at, due) = comes_by w h e fate both in
+    due
 
 -- a steady reading keeps the facts
 pub facts_stay : (w : State) (h : List Item) (e : Event) (fate : Fate) → Stands w h → IsSteadyAt w.setup.skew w.seen (reading_of e) → Stands (stepped w e fate).state (h ++ (stepped w e fate).items)
 facts_stay w h e fate both steady =
     let step : Step = stepped w e fate in
-    let (o, state, items, at) = comes_by w h e fate both in
+    let (o, state, items, at, due) = comes_by w h e fate both in
     record {
       holds = subst (λ (v : State). Holds v (h ++ step.items)) (sym state) (subst (λ (xs : List Item). Holds (left_by w o) (h ++ xs)) (sym items) (holds_kept w h o (steadily w (reading_of e) o at steady) both.holds));
       sound = subst (λ (v : State). Sound v) (sym state) (sound_kept w o both.sound);

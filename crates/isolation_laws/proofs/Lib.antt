@@ -6,6 +6,8 @@ pub mod Requests
 pub mod OnceEach
 pub mod Owners
 mod ComingBelow
+pub mod FoundMarks
+mod Dues
 pub mod Numbers
 pub mod Memory
 pub mod Stores

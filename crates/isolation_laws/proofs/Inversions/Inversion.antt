@@ -31,7 +31,7 @@ use Rattle.isolation_laws.specs.Words.{ClientAt}
 use Rattle.isolation_laws.specs.Holds.{Holds}
 use Rattle.isolation_laws.specs.Sound.{Sound}
 use Rattle.isolation_laws.proofs.Outcome.PlainItems.{none_plain, one_plain}
-use Rattle.isolation_laws.proofs.Inversions.InversionParts.{ComesAt, ComesTo, ComesBy, comes_at, rests, still_all}
+use Rattle.isolation_laws.proofs.Inversions.InversionParts.{nothing_told, one_told, ComesAt, ComesTo, ComesBy, comes_at, rests, still_all}
 use Rattle.isolation_laws.proofs.Inversions.InversionOfSessions.{for_client, for_cells, abort_at, vanish_at, write_at, heal_at_client}
 use Rattle.isolation_laws.proofs.Inversions.InversionOfFetches.{fetch_at}
 use Rattle.isolation_laws.proofs.Inversions.InversionOfRecord.{for_record, take_at, renew_at_post}
@@ -46,10 +46,10 @@ use Rattle.isolation_laws.proofs.Orders.{max_left}
 
 -- ---- what names no node or session does nothing
 nothing_done : (w : State) (seen : ℕ) → w.seen ≤ seen → ComesTo w (record w { seen = seen }) []
-nothing_done w seen up = rests w seen w.nodes (record w { seen = seen }) [] up refl none_plain refl
+nothing_done w seen up = rests w seen w.nodes (record w { seen = seen }) [] up refl (nothing_told w) refl
 
 nothing_at_all : (w : State) → ComesTo w w []
-nothing_at_all w = still_all w w [] none_plain refl
+nothing_at_all w = still_all w w [] (nothing_told w) refl
 
 -- ---- the parts that an event looks up
 at_node : (w left : State) (node : ℕ) (f : Option InstanceEntry → Step) → ComesTo w left [] → ((post : Option InstanceEntry) → slice_get w.nodes node ≡ Some post → ComesBy w (f post)) → ComesBy w (at_post left (slice_get w.nodes node) f)
@@ -63,12 +63,12 @@ at_pair w left node session f none each = of_both (ComesBy w) left f (slice_get 
 
 -- ---- one event
 pub comes_to : (w : State) (h : List Item) (e : Event) (fate : Fate) → Holds w h → Sound w → ComesAt w (reading_of e) (stepped w e fate).state (stepped w e fate).items
-comes_to w h (event.Tick to) fate holds sound = still_all w w _ (one_plain (item.Tick to) refl refl) refl
-comes_to w h (event.Note actor note) fate holds sound = still_all w w _ (one_plain (item.Note actor note) refl refl) refl
+comes_to w h (event.Tick to) fate holds sound = still_all w w _ (one_told w (item.Tick to) (refl, refl) (λ told. tt)) refl
+comes_to w h (event.Note actor note) fate holds sound = still_all w w _ (one_told w (item.Note actor note) (refl, refl) (λ told. tt)) refl
 comes_to w h (event.Take node reading) fate holds sound = comes_at w (Some reading) _ _ (at_node w (with_reading w reading) node (λ post. for_record (with_reading w reading) node (take_on w.setup node reading fate post w.master)) (nothing_done w (max w.seen reading) (max_left w.seen reading)) (take_at w node reading fate))
 comes_to w h (event.Renew node reading) fate holds sound = comes_at w (Some reading) _ _ (at_node w (with_reading w reading) node (λ post. for_record (with_reading w reading) node (renew_on w.setup node reading fate post w.master)) (nothing_done w (max w.seen reading) (max_left w.seen reading)) (renew_at_post w node reading fate))
 comes_to w h (event.Extend node) fate holds sound = at_node w w node (λ post. for_record w node (extend_on w.setup node fate post w.master)) (nothing_at_all w) (extend_at_post w node fate)
-comes_to w h (event.Crash node) fate holds sound = at_node w w node (λ post. for_clients w node (crash_on node post w.clients)) (nothing_at_all w) (crash_at w node)
+comes_to w h (event.Crash node) fate holds sound = at_node w w node (λ post. for_clients w node (crash_on node post w.clients)) (nothing_at_all w) (λ post at. crash_at w node post holds.requests.requests at)
 comes_to w h (event.AskBegin session node) fate holds sound = at_pair w w node session (λ post c. for_ask w session node (ask_begin_on session node c post)) (nothing_at_all w) (λ post c at client_at. ask_begin_at w session node c post at client_at)
 comes_to w h (event.AskCommit session node) fate holds sound = at_pair w w node session (λ post c. for_ask w session node (ask_commit_on session node c post)) (nothing_at_all w) (λ post c at client_at. ask_commit_at w session node c post at client_at)
 comes_to w h (event.Accept node session reading) fate holds sound = of_both (AcceptsBy w reading) (with_reading w reading) (λ post c. for_request (with_reading w reading) node session (accept_on node session reading post c)) (slice_get w.nodes node) (slice_get w.clients session) (comes_at w (Some reading) _ _ (nothing_done w (max w.seen reading) (max_left w.seen reading))) (λ post c at client_at. accept_at w node session reading post c at client_at)
@@ -81,5 +81,5 @@ comes_to w h (event.Step session) fate holds sound = at_session w session (λ c.
 comes_to w h (event.Heal session) fate holds sound = at_session w session (λ c. for_cells w session (heal_on session fate c w.rows w.pairs)) (λ c at. heal_at_client w session fate c at)
 comes_to w h (event.Abort session) fate holds sound = at_session w session (λ c. for_client w session (abort_on session c)) (λ c at. abort_at w session c at)
 comes_to w h (event.Vanish session) fate holds sound = at_session w session (λ c. for_client w session (vanish_on session c)) (λ c at. vanish_at w session c at)
-comes_to w h (event.SweepOpen node txn) fate holds sound = at_node w w node (λ post. for_sweep w (sweep_open_on node txn post w.sweep)) (nothing_at_all w) (λ post at. sweep_open_at_post w node txn post)
+comes_to w h (event.SweepOpen node txn) fate holds sound = at_node w w node (λ post. for_sweep w (sweep_open_on node txn post w.sweep)) (nothing_at_all w) (λ post at. sweep_open_at_post w node txn post at)
 comes_to w h event.SweepStep fate holds sound = sweep_step_at w fate sound.sweeps
