@@ -3,8 +3,7 @@ use Rattle.std.proofs.Common.{◌≡◌, ℕ, zero, suc, List, [], ◌∷◌, Op
 use Rattle.std.specs.Prelude.{slice_get, slice_index_or, take, All}
 use Rattle.std.proofs.lemmas.Option.{same_Some}
 use Rattle.std.proofs.lemmas.List.Elements.{All-nil, All-cons, All-take, All-head, All-tail, All-append}
-use Rattle.history_book.specs.declared.cause.Cause.TheVariants as cause
-use Rattle.history_book.specs.declared.item.Actor.TheVariants.{Node, Session}
+use Rattle.history_book.specs.declared.item.Actor.TheVariants.{Session}
 use Rattle.history_book.specs.declared.item.Item.{Item}
 use Rattle.history_book.specs.declared.item.Item.TheVariants as item
 use Rattle.client_parts.specs.declared.session.State.{State as SessionState}
@@ -14,12 +13,11 @@ use Rattle.oracle_parts.specs.declared.instance.Request.{Request}
 use Rattle.oracle_parts.specs.declared.instance.Request.TheVariants.{Begin, Commit}
 use Rattle.oracle_parts.specs.Instance.{InstanceEntry, session_of}
 use Rattle.machine.specs.State.{Client, State}
-use Rattle.machine.specs.Events.Crash.{loss_heard, loss_items, crashed_items, all_crashed_items, crash_on}
+use Rattle.machine.specs.Events.Crash.{loss_heard, loss_items, crashed_items, all_crashed_items}
 use Rattle.isolation_laws.specs.Words.{InstanceAt}
 use Rattle.isolation_laws.specs.Requests.{AreRequests}
 use Rattle.isolation_laws.proofs.Lookups.{held_by}
 use Rattle.isolation_laws.specs.Due.{cause_of_loss, IsRefusal, Due, AreDue}
-use Rattle.isolation_laws.proofs.Dues.DueItems.{refusal_due}
 
 -- the item tells a session of a request among these that was lost
 pub record TellsLoss (node term : ℕ) (requests : List (Option Held)) (x : Item) : Type 0 where

@@ -12,12 +12,10 @@ use Rattle.history_book.specs.declared.item.Item.{Item}
 use Rattle.history_book.specs.declared.item.Item.TheVariants as item
 use Rattle.history_book.proofs.MemberLemmas.{AtEach-push}
 use Rattle.store_parts.specs.Pairs.{Pairs, mark_of}
-use Rattle.client_parts.specs.SessionSteps.{handed_commit}
 use Rattle.machine.specs.State.{Client, State}
-use Rattle.machine.specs.Events.Place.{place_by, place_on}
-use Rattle.isolation_laws.specs.Words.{ClientAt, Marked}
+use Rattle.machine.specs.Events.Place.{place_by}
+use Rattle.isolation_laws.specs.Words.{Marked}
 use Rattle.isolation_laws.specs.Pending.{InFlight, is_placing, PlacingAt, Has}
-use Rattle.isolation_laws.specs.Sound.{Stands}
 use Rattle.isolation_laws.specs.Due.{Places, HowPlaced, Due, AreDue}
 use Rattle.isolation_laws.proofs.Dues.DueItems.{two_free, all_due, plain_due}
 use Rattle.isolation_laws.proofs.FoundMarks.{found_marked}

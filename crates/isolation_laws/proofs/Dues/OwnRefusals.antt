@@ -1,38 +1,23 @@
 -- A session is refused by its own state: it has vanished, or the cause needs nothing shown.
-use Rattle.std.proofs.Common.{◌≡◌, ℕ, ◌==◌, ◌||◌, Bool, true, false, if◌then◌else◌, List, [], ◌∷◌, Option, Some, None, ◌⊎◌, inl, inr, refl, sym, subst}
-use Rattle.std.specs.Prelude.{slice_get, length, nat_lt}
+use Rattle.std.proofs.Common.{◌≡◌, ℕ, ◌||◌, Bool, true, false, if◌then◌else◌, [], ◌∷◌, Option, Some, None, ◌⊎◌, inl, inr, refl, sym, subst}
+use Rattle.std.specs.Prelude.{length, nat_lt}
 use Rattle.std.specs.Option.{option_or}
-use Rattle.std.proofs.lemmas.Bool.{eqb-true}
 use Rattle.std.proofs.lemmas.Option.{same_Some}
-use Rattle.std.proofs.lemmas.List.Elements.{All-cons}
 use Rattle.stamp_base.specs.declared.limits.TheConstants.{KEY_LIMIT}
 use Rattle.stamp_base.specs.SetupNumbers.{SetupNumbers}
-use Rattle.port_io.specs.declared.weather.Fate.{Fate}
-use Rattle.port_io.specs.declared.weather.Fate.TheVariants.{Works, FailsUnchanged, FailsApplied}
 use Rattle.history_book.specs.declared.cause.Cause.{Cause}
 use Rattle.history_book.specs.declared.cause.Cause.TheVariants as cause
 use Rattle.history_book.specs.declared.item.Actor.TheVariants.{Session}
-use Rattle.history_book.specs.declared.item.Item.{Item}
 use Rattle.history_book.specs.declared.item.Item.TheVariants as item
-use Rattle.store_parts.specs.Rows.{Row, fetched}
 use Rattle.client_parts.specs.declared.session.State.{State as SessionState}
 use Rattle.client_parts.specs.declared.session.State.TheVariants as phase
-use Rattle.client_parts.specs.KeyRead.{ReadTurn, Asks, Answers}
 use Rattle.client_parts.specs.SessionSteps.{step_refusal, begin_refusal, work_refusal, vanish_refusal, key_refusal, has_key}
-use Rattle.oracle_parts.specs.declared.instance.Request.{Request}
-use Rattle.oracle_parts.specs.declared.instance.Request.TheVariants.{Begin, Commit}
-use Rattle.oracle_parts.specs.Instance.{InstanceEntry, in_flight}
 use Rattle.machine.specs.State.{Client, State}
 use Rattle.machine.specs.Clients.{is_reading}
-use Rattle.machine.specs.Events.AskBegin.{asked_by, ask_begin_by, ask_begin_on}
-use Rattle.machine.specs.Events.AskCommit.{commit_of, ask_commit_by, ask_commit_on}
-use Rattle.machine.specs.Events.Abort.{abort_by, abort_on}
-use Rattle.machine.specs.Events.Vanish.{vanish_by, vanish_on}
-use Rattle.machine.specs.Events.Write.{write_refused, write_by, write_open, write_on}
-use Rattle.machine.specs.Events.Fetch.{keeps_read, reads_refusal, fetch_refused, read_items, fetch_by, fetch_open, fetch_on}
-use Rattle.isolation_laws.specs.Words.{InstanceAt, ClientAt}
+use Rattle.machine.specs.Events.Fetch.{keeps_read, reads_refusal}
+use Rattle.isolation_laws.specs.Words.{ClientAt}
 use Rattle.isolation_laws.specs.Due.{NeedsNoRow, AreDue}
-use Rattle.isolation_laws.proofs.Dues.DueItems.{DueAnyway, AllDue, none_free, one_free, two_free, all_due, none_due, plain_due, refusal_due, no_row_due}
+use Rattle.isolation_laws.proofs.Dues.DueItems.{refusal_due, no_row_due}
 use Rattle.machine.specs.Events.Heal.{no_offer_cause}
 
 -- it has vanished, or the cause has no row

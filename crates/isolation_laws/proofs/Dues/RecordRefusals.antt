@@ -1,30 +1,13 @@
 -- What the master record refuses: a take by its lease or its ceiling, and what an instance keeps of a refusal.
-use Rattle.isolation_laws.specs.Due.{DueToNode, DueEarly, DueSpent, DueOvertaken, AreDue}
-use Rattle.std.proofs.Common.{inl, inr, refl, sym, subst, ◌≡◌, ◌≢◌, ℕ, ◌+◌, ◌<◌, ◌^◌, ◌==◌, Bool, true, false, if◌then◌else◌, [], ◌∷◌, Option, Some, None, ◌∙◌, arith}
+use Rattle.isolation_laws.specs.Due.{DueToNode, DueEarly, DueSpent}
+use Rattle.std.proofs.Common.{inl, inr, refl, sym, subst, ◌≡◌, ℕ, ◌+◌, ◌<◌, ◌^◌, Bool, true, false, if◌then◌else◌, Some, None, arith}
 use Rattle.history_book.specs.declared.cause.Cause.{Cause}
-use Rattle.std.specs.Prelude.{slice_get, nat_lt, is_some}
-use Rattle.std.proofs.lemmas.Bool.{and_parts, eqb-false, ltb-true}
-use Rattle.port_io.specs.declared.weather.Fate.{Fate}
-use Rattle.port_io.specs.declared.weather.Fate.TheVariants.{Works, FailsUnchanged, FailsApplied}
-use Rattle.history_book.specs.declared.cause.Cause.TheVariants as cause
-use Rattle.history_book.specs.declared.item.Actor.TheVariants.{Node}
-use Rattle.history_book.specs.declared.item.Item.TheVariants as item
-use Rattle.store_parts.specs.declared.record.Grant.{Grant}
-use Rattle.store_parts.specs.declared.record.TakeRefused.{TakeRefused}
+use Rattle.std.specs.Prelude.{nat_lt, is_some}
+use Rattle.std.proofs.lemmas.Bool.{and_parts, ltb-true}
 use Rattle.store_parts.specs.declared.record.TakeRefused.TheVariants as take
-use Rattle.store_parts.specs.declared.record.RenewRefused.{RenewRefused}
-use Rattle.store_parts.specs.declared.record.RenewRefused.TheVariants as renew
-use Rattle.store_parts.specs.declared.record.ExtendRefused.{ExtendRefused}
-use Rattle.store_parts.specs.declared.record.ExtendRefused.TheVariants as extend
-use Rattle.store_parts.specs.Record.{MasterRecord, take_refused, granted, renew_refused, extend_refused, is_early, is_spent, answered}
-use Rattle.oracle_parts.specs.Instance.{InstanceEntry}
+use Rattle.store_parts.specs.Record.{take_refused, is_early, is_spent}
 use Rattle.machine.specs.State.{State}
-use Rattle.machine.specs.Effect.{kept_items}
-use Rattle.machine.specs.Events.Take.{rules_of, take_item, take_by, take_on}
-use Rattle.machine.specs.Events.Renew.{renew_by, renew_on}
-use Rattle.machine.specs.Events.Extend.{extend_by, extend_on}
-use Rattle.isolation_laws.specs.Words.{InstanceAt}
-use Rattle.isolation_laws.proofs.Dues.DueItems.{two_free, all_due, plain_due, refusal_due}
+use Rattle.machine.specs.Events.Take.{rules_of}
 use Rattle.isolation_laws.proofs.Outcome.OutcomesOfRecord.{Stopped}
 
 pub early_spent : (early spent : Bool) (reading until ceiling at found : ℕ) → (if early then Some (take.Early reading until) else if spent then Some (take.Spent ceiling) else None) ≡ Some (take.Early at found) → (early ≡ true) × (reading ≡ at) × (until ≡ found)

@@ -1,39 +1,28 @@
 -- What a request is refused by: the lease or the epoch of its instance, the verdict on it, and the end of the stamps.
-use Rattle.std.proofs.Common.{◌∙◌, ap, ◌≡◌, ℕ, ◌+◌, ◌≤◌, ◌==◌, Bool, true, false, if◌then◌else◌, List, [], ◌∷◌, Option, Some, None, refl, sym, subst}
+use Rattle.std.proofs.Common.{◌∙◌, ap, ◌≡◌, ℕ, ◌≤◌, Bool, true, false, if◌then◌else◌, List, [], ◌∷◌, Some, None, refl, sym, subst}
 use Rattle.isolation_laws.proofs.Outcome.OutcomesOfStamps.{answered_item}
-use Rattle.std.specs.Prelude.{slice_get, nat_lt, nat_le}
-use Rattle.std.proofs.lemmas.Bool.{eqb-true, ltb-false, leb-true}
+use Rattle.std.specs.Prelude.{nat_lt, nat_le}
+use Rattle.std.proofs.lemmas.Bool.{ltb-false, leb-true}
 use Rattle.std.proofs.lemmas.Option.{same_Some}
 use Rattle.history_book.specs.declared.cause.Cause.{Cause}
 use Rattle.history_book.specs.declared.cause.Cause.TheVariants as cause
-use Rattle.history_book.specs.declared.item.Actor.TheVariants.{Node, Session}
-use Rattle.history_book.specs.declared.item.Item.TheVariants as item
+use Rattle.history_book.specs.declared.item.Actor.TheVariants.{Session}
 use Rattle.oracle_parts.specs.declared.buckets.Verdict.{Verdict}
-use Rattle.oracle_parts.specs.declared.buckets.Verdict.TheVariants.{Free, Conflict, Hidden}
-use Rattle.oracle_parts.specs.declared.instance.Decided.{Decided}
+use Rattle.oracle_parts.specs.declared.buckets.Verdict.TheVariants.{Free}
 use Rattle.oracle_parts.specs.declared.instance.Held.{Held}
 use Rattle.oracle_parts.specs.declared.instance.Progress.{Progress}
 use Rattle.oracle_parts.specs.declared.instance.Progress.TheVariants as progress
 use Rattle.oracle_parts.specs.declared.instance.Request.{Request}
 use Rattle.oracle_parts.specs.declared.instance.Request.TheVariants.{Begin, Commit}
-use Rattle.oracle_parts.specs.Instance.{InstanceEntry, held_of, was_told_not_yet, stamps_by, stamps_of_held, least_unsettled}
-use Rattle.oracle_parts.specs.InstanceSteps.{InstanceStep, IsStop, epoch_refusal, accept_unless, accept_if_asked, accept_held, out_of_stamps, decide_drawn, decide_by as verdict_by, answer_begin, answer_if_ready, answer_held}
+use Rattle.oracle_parts.specs.Instance.{InstanceEntry, held_of, least_unsettled}
+use Rattle.oracle_parts.specs.InstanceSteps.{epoch_refusal}
 use Rattle.machine.specs.State.{Client, State}
-use Rattle.machine.specs.Events.Accept.{accept_by, accept_request, accept_on}
-use Rattle.machine.specs.Events.Decide.{both_verdict, both_if_accepted, both_held, draw_item, decide_by, decide_request, decide_on}
+use Rattle.machine.specs.Events.Decide.{both_verdict, draw_item}
 use Rattle.isolation_laws.specs.Words.{InstanceAt, ClientAt}
-use Rattle.isolation_laws.specs.Sound.{StopOf, AreStops}
 use Rattle.isolation_laws.specs.Due.{Serves, DueOldEpoch, DueExpired, DueStop, DueNoStamp, DueVerdict, DueNotYet, DueSettled, AreDue}
-use Rattle.isolation_laws.proofs.Dues.DueItems.{plain_due, refusal_due, no_row_due, once_due, two_free, all_due}
-use Rattle.stamp_base.specs.declared.stores.Mark.{Mark}
-use Rattle.port_io.specs.declared.weather.Fate.{Fate}
-use Rattle.port_io.specs.declared.weather.Fate.TheVariants.{Works, FailsUnchanged, FailsApplied}
-use Rattle.store_parts.specs.Pairs.{Pairs, mark_of}
-use Rattle.oracle_parts.specs.declared.instance.Reply.{Reply}
+use Rattle.isolation_laws.proofs.Dues.DueItems.{plain_due, refusal_due}
 use Rattle.oracle_parts.specs.declared.instance.Settled.{Settled}
 use Rattle.oracle_parts.specs.declared.instance.Settled.TheVariants as how
-use Rattle.machine.specs.Events.Put.{to_place, put_by, put_commit, put_on}
-use Rattle.machine.specs.Events.Answer.{answer_on}
 
 -- the request that is held, as it was asked and as far as it has come
 pub serves : (w : State) (node session : ℕ) (i : InstanceEntry) (held : Held) (request : Request) (p : Progress) → InstanceAt w.nodes node i → held_of i session ≡ Some held → held.request ≡ request → held.progress ≡ p → Serves w session i request p

@@ -1,54 +1,29 @@
 -- What the steps on the stores tell is due: they refuse nothing, but that a sweep ends undecided.
-use Rattle.std.proofs.Common.{◌≡◌, ℕ, Bool, true, false, if◌then◌else◌, List, [], ◌∷◌, ◌++◌, Option, Some, None, inl, inr, refl, ◌==◌, ◌||◌, ◌⊎◌, sym, subst}
-use Rattle.std.specs.Prelude.{slice_get, length, nat_lt}
-use Rattle.std.proofs.lemmas.List.Elements.{All-append, All-cons}
+use Rattle.std.proofs.Common.{ℕ, Bool, true, false, [], ◌∷◌, ◌++◌, Option, Some, None}
+use Rattle.std.proofs.lemmas.List.Elements.{All-append}
 use Rattle.stamp_base.specs.declared.stores.Mark.{Mark}
 use Rattle.stamp_base.specs.declared.stores.Store.{Store}
 use Rattle.port_io.specs.declared.weather.Fate.{Fate}
 use Rattle.port_io.specs.declared.weather.Fate.TheVariants.{Works, FailsUnchanged, FailsApplied}
-use Rattle.history_book.specs.declared.cause.Cause.{Cause}
 use Rattle.history_book.specs.declared.cause.Cause.TheVariants as cause
 use Rattle.history_book.specs.declared.item.Actor.{Actor}
-use Rattle.history_book.specs.declared.item.Actor.TheVariants.{Session, Janitor}
-use Rattle.history_book.specs.declared.item.Item.{Item}
+use Rattle.history_book.specs.declared.item.Actor.TheVariants.{Janitor}
 use Rattle.history_book.specs.declared.item.Item.TheVariants as item
 use Rattle.client_parts.specs.declared.asks.Ask.{Ask}
 use Rattle.client_parts.specs.declared.asks.Ask.TheVariants as ask
 use Rattle.client_parts.specs.declared.asks.Told.{Told}
 use Rattle.client_parts.specs.declared.asks.Told.TheVariants as told
 use Rattle.client_parts.specs.declared.resolve.Outcome.TheVariants as outcome
-use Rattle.client_parts.specs.declared.session.State.{State as SessionState}
-use Rattle.client_parts.specs.declared.session.State.TheVariants as phase
-use Rattle.client_parts.specs.KeyRead.{Reading, read_ask, ReadTurn, Asks, Answers}
-use Rattle.client_parts.specs.Resolve.{Settling, settle_ask, SettleTurn, Goes, Decides, settle_turn}
-use Rattle.client_parts.specs.SessionSteps.{step_refusal, handed_commit, begin_refusal, work_refusal, vanish_refusal, key_refusal, has_key}
-use Rattle.client_parts.specs.Sweep.{Sweeping, sweep_ask, sweep_told, is_undecided}
-use Rattle.oracle_parts.specs.Instance.{InstanceEntry, in_flight}
-use Rattle.machine.specs.State.{UnderWay, Nothing, Reads, Settles, Completes, Client, State}
-use Rattle.machine.specs.Clients.{is_reading}
-use Rattle.machine.specs.StoreSteps.{met, store_of, told_by, entry_of, mark_item, step_item, mark_kept, effect_items}
-use Rattle.machine.specs.Events.Heal.{no_offer_cause, offer_of, heal_at, heal_on}
-use Rattle.machine.specs.Events.Fetch.{client_put_fresh, keeps_read, reads_refusal, fetch_refused, read_items, fetch_by, fetch_open, fetch_on}
-use Rattle.machine.specs.Events.Step.{step_recall, read_step, settle_items, settle_step, complete_step, work_of, step_at, step_due, step_by, step_on}
-use Rattle.machine.specs.Events.SweepOpen.{sweep_open_on}
-use Rattle.machine.specs.Events.SweepStep.{undecided_items, sweep_met, sweep_lists, sweep_at, sweep_step_on}
-use Rattle.isolation_laws.specs.Words.{ClientAt, InstanceAt}
-use Rattle.isolation_laws.specs.Sound.{Stands}
-use Rattle.isolation_laws.specs.Due.{AreDue, NeedsNoRow}
-use Rattle.isolation_laws.proofs.Dues.DueItems.{DueAnyway, AllDue, none_free, one_free, no_row_free, all_due, none_due, refusal_due, no_row_due, two_free, plain_due}
-use Rattle.std.specs.Option.{option_or}
-use Rattle.std.proofs.lemmas.Bool.{eqb-true}
-use Rattle.std.proofs.lemmas.Option.{same_Some}
-use Rattle.stamp_base.specs.declared.limits.TheConstants.{KEY_LIMIT}
-use Rattle.stamp_base.specs.SetupNumbers.{SetupNumbers}
-use Rattle.store_parts.specs.Rows.{Row, fetched}
-use Rattle.oracle_parts.specs.declared.instance.Request.{Request}
-use Rattle.oracle_parts.specs.declared.instance.Request.TheVariants.{Begin, Commit}
-use Rattle.machine.specs.Events.AskBegin.{asked_by, ask_begin_by, ask_begin_on}
-use Rattle.machine.specs.Events.AskCommit.{commit_of, ask_commit_by, ask_commit_on}
-use Rattle.machine.specs.Events.Abort.{abort_by, abort_on}
-use Rattle.machine.specs.Events.Vanish.{vanish_by, vanish_on}
-use Rattle.machine.specs.Events.Write.{write_refused, write_by, write_open, write_on}
+use Rattle.client_parts.specs.KeyRead.{ReadTurn, Asks, Answers}
+use Rattle.client_parts.specs.Resolve.{SettleTurn, Goes, Decides}
+use Rattle.client_parts.specs.Sweep.{Sweeping}
+use Rattle.machine.specs.State.{State}
+use Rattle.machine.specs.StoreSteps.{entry_of, mark_item, step_item, mark_kept, effect_items}
+use Rattle.machine.specs.Events.Fetch.{read_items}
+use Rattle.machine.specs.Events.Step.{settle_items}
+use Rattle.machine.specs.Events.SweepStep.{undecided_items}
+use Rattle.isolation_laws.specs.Due.{AreDue}
+use Rattle.isolation_laws.proofs.Dues.DueItems.{DueAnyway, AllDue, none_free, one_free, no_row_free, all_due}
 
 pub mark_free : (w : State) (actor : Actor) (txn : ℕ) (found : Option Mark) → DueAnyway w (mark_item actor txn found)
 mark_free w actor txn None before = tt

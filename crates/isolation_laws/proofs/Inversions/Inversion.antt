@@ -30,7 +30,6 @@ use Rattle.machine.proofs.LookedUp.{of_post, of_client, of_both}
 use Rattle.isolation_laws.specs.Words.{ClientAt}
 use Rattle.isolation_laws.specs.Holds.{Holds}
 use Rattle.isolation_laws.specs.Sound.{Sound}
-use Rattle.isolation_laws.proofs.Outcome.PlainItems.{none_plain, one_plain}
 use Rattle.isolation_laws.proofs.Inversions.InversionParts.{nothing_told, one_told, ComesAt, ComesTo, ComesBy, comes_at, rests, still_all}
 use Rattle.isolation_laws.proofs.Inversions.InversionOfSessions.{for_client, for_cells, abort_at, vanish_at, write_at, heal_at_client}
 use Rattle.isolation_laws.proofs.Inversions.InversionOfFetches.{fetch_at}

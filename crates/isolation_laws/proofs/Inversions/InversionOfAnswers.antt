@@ -35,7 +35,7 @@ use Rattle.machine.specs.Events.Put.{to_place_by, to_place, put_by, put_commit, 
 use Rattle.machine.specs.Events.Answer.{answer_by, answer_on}
 use Rattle.isolation_laws.specs.Words.{InstanceAt, ClientAt}
 use Rattle.isolation_laws.specs.Quiet.{Quiet, AllQuiet}
-use Rattle.isolation_laws.proofs.Outcome.PlainItems.{node_plain, once_silent}
+use Rattle.isolation_laws.proofs.Outcome.PlainItems.{once_silent}
 use Rattle.isolation_laws.proofs.Outcome.OutcomesOfRecord.{Told}
 use Rattle.isolation_laws.proofs.Outcome.OutcomesOfStamps.{AtDrawn, fault_of, found_items, answered_client, answered_item}
 use Rattle.isolation_laws.proofs.Outcome.Outcomes.{OfPlaced, OfNotPlaced, OfAnsweredBegin, OfAnsweredCommit, OfHanded}

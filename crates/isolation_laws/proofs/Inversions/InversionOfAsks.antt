@@ -34,7 +34,7 @@ use Rattle.isolation_laws.specs.Quiet.{Quiet, AllQuiet}
 use Rattle.isolation_laws.proofs.Lookups.{set_same}
 use Rattle.isolation_laws.proofs.Outcome.Outcomes.{OfCrashed, OfAskedBegin, OfAskedCommit, OfEndedReadOnly}
 use Rattle.isolation_laws.proofs.Inversions.InversionParts.{PlainDue, nothing_told, node_told, own_told, session_told, ComesTo, ComesBy, none_quiet, refusal_quiet, still_post, still_both}
-use Rattle.isolation_laws.proofs.Outcome.PlainItems.{AllPlain, none_plain, node_plain, one_silent, Mild, session_plain, mild_is}
+use Rattle.isolation_laws.proofs.Outcome.PlainItems.{one_silent, Mild, mild_is}
 use Rattle.isolation_laws.proofs.Inversions.InversionOfSessions.{work_open, work_mild, open_by_work}
 use Rattle.isolation_laws.proofs.Pushed.{one_quiet}
 

@@ -24,7 +24,6 @@ use Rattle.machine.specs.Events.Extend.{extend_by, extend_on}
 use Rattle.isolation_laws.specs.Words.{InstanceAt}
 use Rattle.isolation_laws.specs.Quiet.{AllQuiet}
 use Rattle.isolation_laws.proofs.Outcome.Outcomes.{OfExtended}
-use Rattle.isolation_laws.proofs.Outcome.PlainItems.{AllPlain, one_plain, node_plain}
 use Rattle.isolation_laws.proofs.Inversions.InversionParts.{PlainDue, one_told, node_told, ComesTo, ComesBy, two_quiet, stops, still_post}
 use Rattle.isolation_laws.proofs.Inversions.InversionOfRecord.{for_record, alike_stopped, replaced, put_back}
 use Rattle.isolation_laws.proofs.Pushed.{one_quiet}

@@ -21,7 +21,7 @@ use Rattle.machine.specs.Clients.{is_reading}
 use Rattle.machine.specs.Machine.{with_client}
 use Rattle.isolation_laws.specs.Words.{ClientAt}
 use Rattle.isolation_laws.proofs.Outcome.Outcomes.{OfFetched, OfReadDropped}
-use Rattle.isolation_laws.proofs.Outcome.PlainItems.{none_plain, one_silent, Mild, session_plain, mild_is}
+use Rattle.isolation_laws.proofs.Outcome.PlainItems.{one_silent, Mild, mild_is}
 use Rattle.isolation_laws.proofs.Inversions.InversionParts.{nothing_told, own_told, ComesTo, ComesBy, still_client}
 use Rattle.isolation_laws.proofs.Inversions.InversionOfSessions.{for_client, work_open, work_mild, open_by_work, full_mild, either_mild, write_may}
 use Rattle.isolation_laws.proofs.Pushed.{one_quiet}

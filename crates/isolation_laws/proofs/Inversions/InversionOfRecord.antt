@@ -31,7 +31,6 @@ use Rattle.isolation_laws.specs.Words.{InstanceAt}
 use Rattle.isolation_laws.specs.Quiet.{AllQuiet}
 use Rattle.isolation_laws.specs.Sound.{StopOf}
 use Rattle.isolation_laws.proofs.Lookups.{set_same}
-use Rattle.isolation_laws.proofs.Outcome.PlainItems.{AllPlain, one_plain, node_plain}
 use Rattle.isolation_laws.proofs.Outcome.OutcomesOfRecord.{Renewed, Granted, Alike, Stopped, fault_if}
 use Rattle.isolation_laws.proofs.Outcome.Outcomes.{OfGranted, OfRenewed}
 use Rattle.isolation_laws.proofs.Inversions.InversionParts.{PlainDue, one_told, node_told, ComesTo, ComesBy, two_quiet, stops, still_post}

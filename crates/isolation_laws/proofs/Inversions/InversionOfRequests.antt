@@ -31,7 +31,7 @@ use Rattle.isolation_laws.specs.Words.{InstanceAt, ClientAt}
 use Rattle.isolation_laws.specs.Sound.{StopOf, AreStops}
 use Rattle.isolation_laws.proofs.Outcome.Outcomes.{OfAccepted, OfEnded, OfDrew}
 use Rattle.cause_rules.specs.OpenAsks.{ends_request}
-use Rattle.isolation_laws.proofs.Outcome.PlainItems.{node_plain, once_silent}
+use Rattle.isolation_laws.proofs.Outcome.PlainItems.{once_silent}
 use Rattle.isolation_laws.proofs.Outcome.OutcomesOfRecord.{Told}
 use Rattle.isolation_laws.proofs.Inversions.InversionParts.{PlainDue, node_told, no_request_told, ComesAt, ComesTo, ComesBy, comes_at, refusal_quiet, told_quiet, tells, still_both, client_back}
 use Rattle.isolation_laws.proofs.Inversions.FreeVerdicts.{writes_free, reads_free}

@@ -28,7 +28,7 @@ use Rattle.machine.specs.Events.Vanish.{vanish_by, vanish_on}
 use Rattle.machine.specs.Events.Write.{write_refused, write_by, write_open, write_on}
 use Rattle.machine.specs.Events.Heal.{offer_by, offer_of, no_offer_cause, heal_at, heal_on}
 use Rattle.isolation_laws.specs.Words.{ClientAt}
-use Rattle.isolation_laws.proofs.Outcome.PlainItems.{AllPlain, all_quiet, all_silent, none_plain, one_plain, one_silent, two_silent, Mild, session_plain, mild_is}
+use Rattle.isolation_laws.proofs.Outcome.PlainItems.{all_quiet, all_silent, one_silent, two_silent, Mild, mild_is}
 use Rattle.isolation_laws.proofs.Outcome.OutcomesOfSessions.{AtOpen}
 use Rattle.isolation_laws.proofs.Outcome.Outcomes.{OfAborted, OfVanished, OfWrote, OfWriteFailed, OfHealed}
 use Rattle.isolation_laws.proofs.Inversions.InversionParts.{PlainDue, nothing_told, one_told, own_told, ComesTo, ComesBy, two_quiet, still_client, at_open}

@@ -19,7 +19,7 @@ use Rattle.machine.specs.Clients.{is_reading, is_reading_by}
 use Rattle.machine.specs.Events.Step.{own_resolve, work_by, work_of, step_at, step_due, step_on, step_by as step_unless}
 use Rattle.isolation_laws.specs.Words.{ClientAt}
 use Rattle.isolation_laws.specs.Holds.{Holds}
-use Rattle.isolation_laws.proofs.Outcome.PlainItems.{none_plain, Mild, session_plain, mild_is}
+use Rattle.isolation_laws.proofs.Outcome.PlainItems.{Mild, mild_is}
 use Rattle.isolation_laws.proofs.Inversions.InversionParts.{nothing_told, own_told, ComesBy, still_client}
 use Rattle.isolation_laws.proofs.Inversions.InversionOfCalls.{NoList}
 use Rattle.isolation_laws.proofs.Inversions.InversionOfPlacings.{placing_comes}
