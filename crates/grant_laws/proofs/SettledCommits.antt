@@ -129,24 +129,7 @@ fits_by w (OfNotPlaced k) all = settled_fits w k.it k.by all
 fits_by w (OfAnsweredBegin k) all = over_fits w k.node k.session k.i k.at all
 fits_by w (OfAnsweredCommit k) all = over_fits w k.node k.session k.i k.at all
 fits_by w (OfHanded k) all = over_fits w k.node k.session k.i k.at all
-fits_by w (OfOwnPlaced k) all = all
-fits_by w (OfOwnNotPlaced k) all = all
-fits_by w (OfEndedReadOnly k) all = all
-fits_by w (OfWrote k) all = all
-fits_by w (OfWriteFailed k) all = all
-fits_by w (OfAborted k) all = all
-fits_by w (OfVanished k) all = all
-fits_by w (OfHealed k) all = all
-fits_by w (OfFetched k) all = all
-fits_by w (OfReadDropped k) all = all
-fits_by w (OfReadStepped k) all = all
-fits_by w (OfOutcome k) all = all
-fits_by w (OfOutcomeFailed k) all = all
-fits_by w (OfCompleted k) all = all
-fits_by w (OfSweepOpened k) all = all
-fits_by w (OfSwept k) all = all
-fits_by w (OfSweepListed k) all = all
-fits_by w (OfSweepFailed k) all = all
+fits_by w _ all = all
 
 -- ---- the readings of turns are steady
 steady_at : (script : ScriptData) (c : Carried) (e : Event) (tick : ℕ) → IsPlayable script 0 script.lines → Facts script c → Timed (clocks_of script c.played) tick e → IsSteadyAt c.played.state.setup.skew c.played.state.seen (reading_of e)

@@ -80,7 +80,7 @@ facts_stay w h e fate both steady =
     let (o, state, items, at, due) = comes_by w h e fate both in
     record {
       holds = subst (λ (v : State). Holds v (h ++ step.items)) (sym state) (subst (λ (xs : List Item). Holds (left_by w o) (h ++ xs)) (sym items) (holds_kept w h o (steadily w (reading_of e) o at steady) both.holds));
-      sound = subst (λ (v : State). Sound v) (sym state) (sound_kept w o both.sound);
+      sound = sound_kept w e fate o state both.sound;
     }
 
 -- and leaves the rest of the readings steady

@@ -13,7 +13,7 @@ pub mod PartsKept
 mod GoneStays
 mod StopsOfPosts
 mod StopsOfEvents
-mod StopsKept
+pub mod StopsKept
 mod PlainReads
 mod WorkedPaths
 mod WorkedReading

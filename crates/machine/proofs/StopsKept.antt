@@ -1,3 +1,4 @@
+-- For isolation_laws too.
 -- What an instance keeps of the master record's refusals is Replaced or Spent, in each state that moves lead to.
 use Rattle.std.proofs.Common.{◌≡◌, ℕ, false, Option, refl, sym, subst}
 use Rattle.std.specs.Prelude.{slice_get, slice_set}

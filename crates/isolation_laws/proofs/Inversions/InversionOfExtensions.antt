@@ -80,8 +80,8 @@ extend_why w node Works i at true true own full =
       why = cause.Spent w.master.ceiling;
       by = inr (refl, eqb-true w.master.term i.term own, full);
     } in
-    stops w w.seen _ k (omega arith) (alike_stopped i (cause.Spent w.master.ceiling) tt) refl
-extend_why w node Works i at false spent other _ = stops w w.seen _ (replaced w node i at other) (omega arith) (alike_stopped i (cause.Replaced w.master.term) tt) refl
+    stops w w.seen _ k (omega arith) (alike_stopped i (cause.Spent w.master.ceiling)) refl
+extend_why w node Works i at false spent other _ = stops w w.seen _ (replaced w node i at other) (omega arith) (alike_stopped i (cause.Replaced w.master.term)) refl
 extend_why w node FailsUnchanged i at own spent is _ = extend_fails w node i at
 extend_why w node FailsApplied i at true false own room = (
   OfExtended (extended w node i true at own room (two_quiet (item.Extend node i.term (w.master.ceiling + w.setup.range)) (item.Fault (Node node) Master) refl refl)),

@@ -42,12 +42,8 @@ abbrev pub for_record : State → ℕ → Effect (Option InstanceEntry × Master
 for_record w node effect = step_by effect (λ (p : Option InstanceEntry × MasterRecord). record (with_post w node p.0) { master = p.1 })
 
 -- the instance keeps a refusal of the master record
-stop_kept : (old : Option Cause) (why : Cause) → IsStop why → StopOf old → StopOf (option_or old (Some why))
-stop_kept None why is was = is
-stop_kept (Some first) why is was = was
-
-pub alike_stopped : (i : InstanceEntry) (why : Cause) → IsStop why → Alike i (instance_stopped i why)
-alike_stopped i why is = record {
+pub alike_stopped : (i : InstanceEntry) (why : Cause) → Alike i (instance_stopped i why)
+alike_stopped i why = record {
   term = refl;
   epoch = refl;
   last = refl;
@@ -55,7 +51,6 @@ alike_stopped i why is = record {
   until = refl;
   buckets = refl;
   direct = refl;
-  stop = stop_kept i.stop why is;
   requests = λ s new has. (new, has, refl, refl);
 }
 
@@ -143,7 +138,7 @@ renew_why w node reading Works i at true own = (
   tt,
   plain_due w _ (λ told. tt),
 )
-renew_why w node reading Works i at false other = stops w (max w.seen reading) _ (replaced w node i at other) (max_left w.seen reading) (alike_stopped i (cause.Replaced w.master.term) tt) refl
+renew_why w node reading Works i at false other = stops w (max w.seen reading) _ (replaced w node i at other) (max_left w.seen reading) (alike_stopped i (cause.Replaced w.master.term)) refl
 renew_why w node reading FailsUnchanged i at own is = renew_still w node reading i _ at (one_told w (item.Fault (Node node) Master) (refl, refl) (λ told. tt))
 renew_why w node reading FailsApplied i at true own = (
   OfRenewed (renewed w node reading i true at own (two_quiet (item.Renew node reading i.term (renewed_until (rules_of w.setup) w.master reading)) (item.Fault (Node node) Master) refl refl)),

@@ -69,7 +69,6 @@ alike_same i = record {
   until = refl;
   buckets = refl;
   direct = refl;
-  stop = λ s. s;
   requests = λ s new has. (new, has, refl, refl);
 }
 
@@ -94,7 +93,6 @@ alike_told i session held told has request progress = record {
   until = refl;
   buckets = refl;
   direct = refl;
-  stop = λ s. s;
   requests = λ s new there. elim (held_set i session s (Some told) new there) [
     | inl here ↦ let same : new ≡ told = sym (same_Some told new here.1) in
         (held, subst (λ r. held_of i r ≡ Some held) (sym here.0) has, ap (λ (x : Held). x.request) same ∙ request, ap (λ (x : Held). x.progress) same ∙ progress)
