@@ -13,7 +13,7 @@ use Rattle.machine.specs.State.{State, opening}
 use Rattle.machine.specs.Machine.{Step, stepped, Move, state_after, items_after, history_after, reading_of, seen_after, IsSteadyAt, AreSteady, Steady}
 use Rattle.isolation_laws.specs.Due.{AreDue}
 use Rattle.isolation_laws.specs.Holds.{Holds}
-use Rattle.isolation_laws.specs.Sound.{Sound, Stands}
+use Rattle.isolation_laws.specs.Sound.{Stands}
 use Rattle.isolation_laws.proofs.Outcome.Outcomes.{Outcome, OfStill, left_by, told_by_outcome, IsTimely, steadily}
 use Rattle.isolation_laws.proofs.Numbers.NumbersOfAll.{numbers_kept}
 use Rattle.isolation_laws.proofs.Requests.RequestsOfAll.{requests_kept}

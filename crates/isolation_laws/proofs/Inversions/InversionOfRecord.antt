@@ -3,7 +3,6 @@ use Rattle.isolation_laws.proofs.Dues.DueItems.{plain_due, all_due, two_free}
 use Rattle.isolation_laws.proofs.Dues.RecordRefusals.{early_due, spent_due}
 use Rattle.std.proofs.Common.{[], ◌≡◌, ℕ, ◌==◌, max, Bool, true, false, if◌then◌else◌, List, ◌∷◌, Option, Some, None, inl, refl, ap}
 use Rattle.std.specs.Prelude.{slice_get}
-use Rattle.std.specs.Option.{option_or}
 use Rattle.std.proofs.lemmas.Bool.{eqb-true, eqb-false}
 use Rattle.stamp_base.specs.declared.stores.Store.TheVariants.{Master}
 use Rattle.port_io.specs.declared.weather.Fate.{Fate}
@@ -21,7 +20,7 @@ use Rattle.store_parts.specs.declared.record.RenewRefused.{RenewRefused}
 use Rattle.store_parts.specs.declared.record.RenewRefused.TheVariants as renew
 use Rattle.store_parts.specs.Record.{MasterRecord, take_refused, granted, held_by, unless_refused, renewed_until, answered}
 use Rattle.oracle_parts.specs.Instance.{InstanceEntry}
-use Rattle.oracle_parts.specs.InstanceSteps.{IsStop, instance_stopped}
+use Rattle.oracle_parts.specs.InstanceSteps.{instance_stopped}
 use Rattle.machine.specs.State.{State}
 use Rattle.machine.specs.Effect.{Effect, kept_items}
 use Rattle.machine.specs.Machine.{Step, step_by, with_post, with_reading}
@@ -29,7 +28,6 @@ use Rattle.machine.specs.Events.Take.{rules_of, take_item, take_by, take_on}
 use Rattle.machine.specs.Events.Renew.{renew_by, renew_on}
 use Rattle.isolation_laws.specs.Words.{InstanceAt}
 use Rattle.isolation_laws.specs.Quiet.{AllQuiet}
-use Rattle.isolation_laws.specs.Sound.{StopOf}
 use Rattle.isolation_laws.proofs.Lookups.{set_same}
 use Rattle.isolation_laws.proofs.Outcome.OutcomesOfRecord.{Renewed, Granted, Alike, Stopped, fault_if}
 use Rattle.isolation_laws.proofs.Outcome.Outcomes.{OfGranted, OfRenewed}

@@ -1,13 +1,13 @@
 -- For cause_laws and grant_laws too.
 -- Every outcome keeps what the inversion needs: kept refusals are the master record's, and an open sweep asks something.
-use Rattle.std.specs.Prelude.{IfSome, slice_get, slice_set, replicate}
+use Rattle.std.specs.Prelude.{IfSome, slice_get, replicate}
 use Rattle.port_io.specs.declared.weather.Fate.{Fate}
 use Rattle.history_book.specs.declared.cause.Cause.{Cause}
 use Rattle.oracle_parts.specs.InstanceSteps.{IsStop}
 use Rattle.machine.specs.declared.event.Event.{Event}
 use Rattle.machine.specs.Machine.{stepped}
 use Rattle.machine.proofs.StopsKept.{stops_kept}
-use Rattle.std.proofs.Common.{◌≡◌, ℕ, ◌<◌, Bool, true, false, List, Option, Some, None, inl, inr, refl, sym, ◌∙◌, ap, subst}
+use Rattle.std.proofs.Common.{◌≡◌, ℕ, ◌<◌, Option, Some, None, refl, sym, ◌∙◌, ap, subst}
 use Rattle.std.proofs.lemmas.Option.{same_Some, none-some, slice_get_within, get_or_from_slice_get}
 use Rattle.std.proofs.lemmas.List.{get_or-replicate, length-replicate}
 use Rattle.stamp_base.specs.SetupNumbers.{SetupNumbers}
@@ -18,9 +18,7 @@ use Rattle.machine.specs.State.{State, opening}
 use Rattle.machine.specs.Events.SweepStep.{still_open, sweep_left}
 use Rattle.isolation_laws.specs.Words.{InstanceAt}
 use Rattle.isolation_laws.specs.Sound.{StopOf, AreStops, SweepAsks, Sound}
-use Rattle.isolation_laws.proofs.Lookups.{instance_changed, instance_ended}
-use Rattle.isolation_laws.proofs.Outcome.OutcomesOfRecord.{AlikeNodes, Granted, granted_nodes, Renewed, renewed_nodes, Extended, extended_nodes}
-use Rattle.isolation_laws.proofs.Outcome.Outcomes.{Outcome, OfStill, OfGranted, OfRenewed, OfExtended, OfCrashed, OfAskedBegin, OfAskedCommit, OfAccepted, OfEnded, OfDrew, OfPlaced, OfNotPlaced, OfAnsweredBegin, OfAnsweredCommit, OfHanded, OfSweepOpened, OfSwept, OfSweepListed, OfSweepFailed, left_by}
+use Rattle.isolation_laws.proofs.Outcome.Outcomes.{Outcome, OfSweepOpened, OfSwept, OfSweepListed, OfSweepFailed, left_by}
 
 -- ---- kept refusals: those of an instance, as the machine's laws have them
 kept_stop : (stop : Option Cause) → StopOf stop → IfSome stop IsStop
