@@ -33,7 +33,7 @@ use Rattle.isolation_laws.specs.Words.{InstanceAt, ClientAt}
 use Rattle.isolation_laws.specs.Quiet.{Quiet, AllQuiet}
 use Rattle.isolation_laws.proofs.Lookups.{set_same}
 use Rattle.isolation_laws.proofs.Outcome.Outcomes.{OfCrashed, OfAskedBegin, OfAskedCommit, OfEndedReadOnly}
-use Rattle.isolation_laws.proofs.Inversions.InversionParts.{PlainDue, nothing_told, node_told, own_told, session_told, ComesTo, ComesBy, none_quiet, refusal_quiet, still_post, still_both}
+use Rattle.isolation_laws.proofs.Inversions.InversionParts.{PlainDue, nothing_told, node_told, state_told, session_told, ComesTo, ComesBy, none_quiet, refusal_quiet, still_post, still_both}
 use Rattle.isolation_laws.proofs.Outcome.PlainItems.{one_silent, Mild, mild_is}
 use Rattle.isolation_laws.proofs.Inversions.InversionOfSessions.{work_open, work_mild, open_by_work}
 use Rattle.isolation_laws.proofs.Pushed.{one_quiet}
@@ -115,7 +115,7 @@ begin_slots w session node c i at client_at free true full = ask_still w session
 begin_slots w session node c i at client_at free false full = (OfAskedBegin (record { session = session; node = node; c = c; i = i; client_at = client_at; at = at; free = free }), refl, refl, tt, plain_due w _ (λ told. tt))
 
 begin_comes : (w : State) (session node : ℕ) (c : Client) (post : Option InstanceEntry) → slice_get w.nodes node ≡ Some post → ClientAt w.clients session c → (why : Option Cause) → begin_refusal c.entry.state ≡ why → ComesBy w (for_ask w session node (ask_begin_by session node c post why))
-begin_comes w session node c post at client_at (Some why) go = ask_still w session node post c _ at client_at (own_told w session c why client_at (mild_is (begin_refusal c.entry.state) why go (begin_mild c.entry.state)) (begin_own c.entry.state why go))
+begin_comes w session node c post at client_at (Some why) go = ask_still w session node post c _ at client_at (state_told w session c why client_at (mild_is (begin_refusal c.entry.state) why go (begin_mild c.entry.state)) (begin_own c.entry.state why go))
 begin_comes w session node c None at client_at None go = ask_still w session node None c _ at client_at (session_told w session (cause.NoOracle node) refl at)
 begin_comes w session node c (Some i) at client_at None go = begin_slots w session node c i at client_at (begin_free c.entry.state go) (in_flight i == i.slots) refl
 
@@ -165,7 +165,7 @@ commit_keys w session node start c None at client_at go begun (key ∷ keys) som
 commit_keys w session node start c (Some i) at client_at go begun (key ∷ keys) some = commit_slots w session node start c i at client_at go begun (λ none. cc) (in_flight i == i.slots) refl
 
 commit_comes : (w : State) (session node : ℕ) (c : Client) (post : Option InstanceEntry) → slice_get w.nodes node ≡ Some post → ClientAt w.clients session c → (why : Option Cause) → work_refusal c.entry.state (is_reading c) ≡ why → (start : Option ℕ) → c.entry.start ≡ start → ComesBy w (for_ask w session node (ask_commit_by session node c post why start))
-commit_comes w session node c post at client_at (Some why) go start begun = ask_still w session node post c _ at client_at (own_told w session c why client_at (mild_is (work_refusal c.entry.state (is_reading c)) why go (work_mild c.entry.state (is_reading c))) (work_own c.entry.state (is_reading c) why go))
+commit_comes w session node c post at client_at (Some why) go start begun = ask_still w session node post c _ at client_at (state_told w session c why client_at (mild_is (work_refusal c.entry.state (is_reading c)) why go (work_mild c.entry.state (is_reading c))) (work_own c.entry.state (is_reading c) why go))
 commit_comes w session node c post at client_at None go None begun = ask_still w session node post c [] at client_at (nothing_told w)
 commit_comes w session node c post at client_at None go (Some start) begun = commit_keys w session node start c post at client_at go begun c.entry.keys refl
 

@@ -22,7 +22,7 @@ use Rattle.machine.specs.Machine.{with_client}
 use Rattle.isolation_laws.specs.Words.{ClientAt}
 use Rattle.isolation_laws.proofs.Outcome.Outcomes.{OfFetched, OfReadDropped}
 use Rattle.isolation_laws.proofs.Outcome.PlainItems.{one_silent, Mild, mild_is}
-use Rattle.isolation_laws.proofs.Inversions.InversionParts.{nothing_told, own_told, ComesTo, ComesBy, still_client}
+use Rattle.isolation_laws.proofs.Inversions.InversionParts.{nothing_told, state_told, ComesTo, ComesBy, still_client}
 use Rattle.isolation_laws.proofs.Inversions.InversionOfSessions.{for_client, work_open, work_mild, open_by_work, full_mild, either_mild, write_may}
 use Rattle.isolation_laws.proofs.Pushed.{one_quiet}
 use Rattle.isolation_laws.proofs.Stores.MarksTold.{marks_same}
@@ -87,7 +87,7 @@ fetch_fated w session start epoch key FailsUnchanged c at go begun known = fetch
 fetch_fated w session start epoch key FailsApplied c at go begun known = fetch_failed w session c at (fetch_may w.setup c key go)
 
 fetch_comes : (w : State) (session key : ℕ) (fate : Fate) (c : Client) → ClientAt w.clients session c → (why : Option Cause) → fetch_refused w.setup c key ≡ why → (start : Option ℕ) → c.entry.start ≡ start → (epoch : Option ℕ) → c.entry.epoch ≡ epoch → ComesBy w (for_client w session (fetch_open w.setup session key fate c w.rows why start epoch))
-fetch_comes w session key fate c at (Some why) go start begun epoch known = still_client w session c _ at (own_told w session c why at (mild_is (fetch_refused w.setup c key) why go (fetch_mild w.setup c key)) (fetch_own w.setup c key why (work_refusal c.entry.state (is_reading c)) refl go))
+fetch_comes w session key fate c at (Some why) go start begun epoch known = still_client w session c _ at (state_told w session c why at (mild_is (fetch_refused w.setup c key) why go (fetch_mild w.setup c key)) (fetch_own w.setup c key why (work_refusal c.entry.state (is_reading c)) refl go))
 fetch_comes w session key fate c at None go None begun epoch known = still_client w session c [] at (nothing_told w)
 fetch_comes w session key fate c at None go (Some start) begun None known = still_client w session c [] at (nothing_told w)
 fetch_comes w session key fate c at None go (Some start) begun (Some epoch) known = fetch_fated w session start epoch key fate c at go begun known

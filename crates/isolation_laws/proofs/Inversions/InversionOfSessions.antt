@@ -31,7 +31,7 @@ use Rattle.isolation_laws.specs.Words.{ClientAt}
 use Rattle.isolation_laws.proofs.Outcome.PlainItems.{all_quiet, all_silent, one_silent, two_silent, Mild, mild_is}
 use Rattle.isolation_laws.proofs.Outcome.OutcomesOfSessions.{AtOpen}
 use Rattle.isolation_laws.proofs.Outcome.Outcomes.{OfAborted, OfVanished, OfWrote, OfWriteFailed, OfHealed}
-use Rattle.isolation_laws.proofs.Inversions.InversionParts.{PlainDue, nothing_told, one_told, own_told, ComesTo, ComesBy, two_quiet, still_client, at_open}
+use Rattle.isolation_laws.proofs.Inversions.InversionParts.{PlainDue, nothing_told, one_told, state_told, ComesTo, ComesBy, two_quiet, still_client, at_open}
 use Rattle.isolation_laws.proofs.Pushed.{one_quiet}
 
 -- the effect on a client, and on the cells with it
@@ -63,7 +63,7 @@ open_by_work w session c at go = at_open w session c at (work_open c.entry.state
 
 -- ---- abort
 abort_comes : (w : State) (session : ℕ) (c : Client) → ClientAt w.clients session c → (why : Option Cause) → work_refusal c.entry.state (is_reading c) ≡ why → (start : Option ℕ) → ComesBy w (for_client w session (abort_by session c why start))
-abort_comes w session c at (Some why) go start = still_client w session c _ at (own_told w session c why at (mild_is (work_refusal c.entry.state (is_reading c)) why go (work_mild c.entry.state (is_reading c))) (work_own c.entry.state (is_reading c) why go))
+abort_comes w session c at (Some why) go start = still_client w session c _ at (state_told w session c why at (mild_is (work_refusal c.entry.state (is_reading c)) why go (work_mild c.entry.state (is_reading c))) (work_own c.entry.state (is_reading c) why go))
 abort_comes w session c at None go None = still_client w session c [] at (nothing_told w)
 abort_comes w session c at None go (Some start) = (
   OfAborted (record {
@@ -87,7 +87,7 @@ vanish_mild phase.Gone = refl
 vanish_mild _ = tt
 
 vanish_comes : (w : State) (session : ℕ) (c : Client) → ClientAt w.clients session c → (why : Option Cause) → vanish_refusal c.entry.state ≡ why → ComesBy w (for_client w session (vanish_by session c why))
-vanish_comes w session c at (Some why) go = still_client w session c _ at (own_told w session c why at (mild_is (vanish_refusal c.entry.state) why go (vanish_mild c.entry.state)) (vanish_own c.entry.state why go))
+vanish_comes w session c at (Some why) go = still_client w session c _ at (state_told w session c why at (mild_is (vanish_refusal c.entry.state) why go (vanish_mild c.entry.state)) (vanish_own c.entry.state why go))
 vanish_comes w session c at None go = (
   OfVanished (record {
     session = session;
@@ -150,7 +150,7 @@ write_fated w session start key value FailsUnchanged c at go begun = write_faile
 write_fated w session start key value FailsApplied c at go begun = write_failed w session start key value c at go begun (put_row w.rows key start value) (inr refl)
 
 write_comes : (w : State) (session key : ℕ) (value : List ℕ) (fate : Fate) (c : Client) → ClientAt w.clients session c → (why : Option Cause) → write_refused c key ≡ why → (start : Option ℕ) → c.entry.start ≡ start → ComesBy w (for_cells w session (write_open session key value fate c w.rows why start))
-write_comes w session key value fate c at (Some why) go start begun = still_client w session c _ at (own_told w session c why at (mild_is (write_refused c key) why go (write_mild c key)) (write_own c key why (work_refusal c.entry.state (is_reading c)) refl go))
+write_comes w session key value fate c at (Some why) go start begun = still_client w session c _ at (state_told w session c why at (mild_is (write_refused c key) why go (write_mild c key)) (write_own c key why (work_refusal c.entry.state (is_reading c)) refl go))
 write_comes w session key value fate c at None go None begun = still_client w session c [] at (nothing_told w)
 write_comes w session key value fate c at None go (Some start) begun = write_fated w session start key value fate c at (write_may (work_refusal c.entry.state (is_reading c)) (key_refusal c.entry.keys key) go) begun
 
@@ -195,7 +195,7 @@ heal_one w session c offer at has applied items plain =
     )
 
 heal_comes : (w : State) (session : ℕ) (fate : Fate) (c : Client) → ClientAt w.clients session c → (offer : Option (ℕ × ℕ × ℕ)) → offer_of c ≡ offer → ComesBy w (for_cells w session (heal_at session fate c w.rows w.pairs offer))
-heal_comes w session fate c at None has = still_client w session c _ at (own_told w session c (no_offer_cause c.entry.state) at (no_offer_mild c.entry.state) (heal_own c.entry.state))
+heal_comes w session fate c at None has = still_client w session c _ at (state_told w session c (no_offer_cause c.entry.state) at (no_offer_mild c.entry.state) (heal_own c.entry.state))
 heal_comes w session Works c at (Some offer) has = heal_one w session c offer at has true (item.Step (Session session) (step.Shadow offer.0 offer.1 offer.2) ∷ []) (one_told w (item.Step (Session session) (step.Shadow offer.0 offer.1 offer.2)) (refl, refl) (λ told. tt))
 heal_comes w session FailsUnchanged c at (Some offer) has = heal_one w session c offer at has false (item.Fault (Session session) Cells ∷ []) (one_told w (item.Fault (Session session) Cells) (refl, refl) (λ told. tt))
 heal_comes w session FailsApplied c at (Some offer) has = heal_one w session c offer at has true (item.Fault (Session session) Cells ∷ []) (one_told w (item.Fault (Session session) Cells) (refl, refl) (λ told. tt))

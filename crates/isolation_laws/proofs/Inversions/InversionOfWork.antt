@@ -20,7 +20,7 @@ use Rattle.machine.specs.Events.Step.{own_resolve, work_by, work_of, step_at, st
 use Rattle.isolation_laws.specs.Words.{ClientAt}
 use Rattle.isolation_laws.specs.Holds.{Holds}
 use Rattle.isolation_laws.proofs.Outcome.PlainItems.{Mild, mild_is}
-use Rattle.isolation_laws.proofs.Inversions.InversionParts.{nothing_told, own_told, ComesBy, still_client}
+use Rattle.isolation_laws.proofs.Inversions.InversionParts.{nothing_told, state_told, ComesBy, still_client}
 use Rattle.isolation_laws.proofs.Inversions.InversionOfCalls.{NoList}
 use Rattle.isolation_laws.proofs.Inversions.InversionOfPlacings.{placing_comes}
 use Rattle.isolation_laws.proofs.Inversions.InversionOfSteps.{for_stores, read_comes, IsResolve, settle_comes, IsCompletion, complete_comes}
@@ -164,7 +164,7 @@ due_comes w h session fate c holds at go None is = work_comes w session fate c a
 due_comes w h session fate c holds at go (Some stamps) is = placing_comes w h session fate c stamps holds at is
 
 step_comes : (w : State) (h : List Item) (session : ℕ) (fate : Fate) (c : Client) → Holds w h → ClientAt w.clients session c → (why : Option Cause) → step_refusal c.entry.state (is_reading c) ≡ why → ComesBy w (for_stores w session (step_unless session fate c w.rows w.pairs why))
-step_comes w h session fate c holds at (Some why) go = still_client w session c _ at (own_told w session c why at (mild_is (step_refusal c.entry.state (is_reading c)) why go (step_mild c.entry.state (is_reading c))) (step_own c.entry.state (is_reading c) why go))
+step_comes w h session fate c holds at (Some why) go = still_client w session c _ at (state_told w session c why at (mild_is (step_refusal c.entry.state (is_reading c)) why go (step_mild c.entry.state (is_reading c))) (step_own c.entry.state (is_reading c) why go))
 step_comes w h session fate c holds at None go = due_comes w h session fate c holds at go (handed_commit c.entry) refl
 
 pub step_at_client : (w : State) (h : List Item) (session : ℕ) (fate : Fate) (c : Client) → Holds w h → ClientAt w.clients session c → ComesBy w (for_stores w session (step_on session fate c w.rows w.pairs))

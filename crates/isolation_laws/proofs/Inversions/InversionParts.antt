@@ -118,8 +118,8 @@ pub no_request_told : (w : State) (node session : ℕ) → PlainDue w (item.Refu
 no_request_told w node session = (node_plain node (cause.NoRequest session), no_row_due w (Node node) (cause.NoRequest session) (λ setup h. tt))
 
 -- and one that is told to a session, by its own state or by an instance
-pub own_told : (w : State) (session : ℕ) (c : Client) (why : Cause) → ClientAt w.clients session c → Mild (Some why) → IsOwn c.entry.state why → PlainDue w (item.Refused (Session session) why ∷ [])
-own_told w session c why at mild own = (session_plain session why mild, own_due w session c why at own)
+pub state_told : (w : State) (session : ℕ) (c : Client) (why : Cause) → ClientAt w.clients session c → Mild (Some why) → IsOwn c.entry.state why → PlainDue w (item.Refused (Session session) why ∷ [])
+state_told w session c why at mild own = (session_plain session why mild, own_due w session c why at own)
 
 pub session_told : (w : State) (session : ℕ) (why : Cause) → Mild (Some why) → DueToSession w session why → PlainDue w (item.Refused (Session session) why ∷ [])
 session_told w session why mild due = (session_plain session why mild, refusal_due w (Session session) why due)
