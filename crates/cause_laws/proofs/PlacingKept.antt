@@ -1,5 +1,7 @@
 -- Every event keeps that a session which places its commit asked for it last: until then it tells nothing of another request.
-use Rattle.std.proofs.Common.{◌≡◌, ℕ, ◌+◌, List, ◌++◌, Some, ◌⊎◌, inl, inr, refl, sym, ◌∙◌, ap, subst}
+use Rattle.isolation_laws.proofs.Requests.ClientMoves.{at_work_moved}
+use Rattle.isolation_laws.specs.Pending.{is_placing}
+use Rattle.std.proofs.Common.{ap, inl, ◌≡◌, ℕ, ◌+◌, List, ◌++◌, Some, ◌⊎◌, inr, refl, sym, ◌∙◌, subst}
 use Rattle.std.specs.Prelude.{slice_set}
 use Rattle.std.proofs.lemmas.Option.{same_Some}
 use Rattle.port_io.specs.declared.weather.Fate.{Fate}
@@ -29,7 +31,7 @@ use Rattle.cause_laws.proofs.AskWords.{AllMute, silent_mute, other_ask, other_ac
 use Rattle.cause_laws.proofs.DeedsMute.{one_mute, always_mute, took_mute, crashed_mute, settled_mute, ended_mute, learned_mute}
 use Rattle.cause_laws.proofs.RequestsWere.{alone_unheld, serving_own}
 use Rattle.cause_laws.proofs.AsBefore.{IsPlacing}
-use Rattle.cause_laws.proofs.ClientsMoved.{ClientsMoved, Stay, Hear, PutBack, Handed, crashed_was, moved}
+use Rattle.cause_laws.proofs.ClientsMoved.{ClientsMoved, Moves, PutBack, Handed, moved}
 
 -- ---- a session that places its commit makes no request
 idle_not_placing : (state : Phase) → (state ≡ phase.Free) ⊎ (state ≡ phase.Open) → state ≡ phase.Placing → ⊥
@@ -84,10 +86,7 @@ came_put w session c new items at came s d there placing = elim (client_set w.cl
 ]
 
 came : (w : State) (left : List Client) (items : List Item) → ClientsMoved w left items → PlacingCame w left items
-came w left items (Stay same) s c at placing = inl (c, subst (λ (clients : List Client). ClientAt clients s c) same at, refl)
-came w left items (Hear requests same) s c at placing =
-    let was = crashed_was requests w.clients s c (subst (λ (clients : List Client). ClientAt clients s c) same at) in
-    inl (was.0, was.1, was.2.placing placing)
+came w left items (Moves move) s c at placing = inl ((at_work_moved w.clients left move).placing s c at (ap is_placing placing))
 came w left items (PutBack session old new was same gone handed) s c at placing = came_put w session old new items was handed s c (subst (λ (clients : List Client). ClientAt clients s c) same at) placing
 
 -- ---- each outcome

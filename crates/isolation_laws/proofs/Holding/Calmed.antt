@@ -1,6 +1,8 @@
 -- Outcomes that place, open, write and read nothing, whatever they make of numbers and requests. For the tables of cells, of what
 -- is under way, of reads and of stamps, which name only the others.
-use Rattle.std.proofs.Common.{◌≡◌, ℕ, Bool, true, List, ◌++◌, Option, inl}
+use Rattle.std.proofs.Common.{refl, ◌≡◌, ℕ, Bool, true, List, ◌++◌, Option, inl}
+use Rattle.isolation_laws.proofs.Requests.ClientMoves.{reading_after}
+use Rattle.isolation_laws.proofs.Outcome.Outcomes.{OfAskedCommit, Outcome, OfGranted, OfRenewed, OfExtended, OfAccepted, IsTimely, left_by, told_by_outcome}
 use Rattle.history_book.specs.declared.item.Item.{Item}
 use Rattle.store_parts.specs.Record.{MasterRecord}
 use Rattle.oracle_parts.specs.Instance.{InstanceEntry}
@@ -9,12 +11,11 @@ use Rattle.isolation_laws.specs.Quiet.{AllQuiet}
 use Rattle.isolation_laws.specs.Cells.{CellFacts}
 use Rattle.isolation_laws.specs.UnderWay.{UnderWayFacts}
 use Rattle.isolation_laws.specs.Holds.{Holds}
-use Rattle.isolation_laws.proofs.Outcome.Outcomes.{Outcome, OfGranted, OfRenewed, OfExtended, OfAskedCommit, OfAccepted, IsTimely, left_by, told_by_outcome}
 use Rattle.isolation_laws.proofs.Requests.PendingAfter.{FewerServed, FewerPending, fewer_pending}
 use Rattle.isolation_laws.proofs.Requests.ClientsOpen.{same_at_work}
 use Rattle.isolation_laws.proofs.Requests.PendingFewer.{fewer_granted, fewer_renewed, fewer_extended}
 use Rattle.isolation_laws.proofs.Requests.PendingMoved.{comes_asked_commit}
-use Rattle.isolation_laws.proofs.Reading.ClientsReading.{FewerReading, same_reading, reading_asked_commit}
+use Rattle.isolation_laws.proofs.Reading.ClientsReading.{FewerReading, same_reading}
 use Rattle.isolation_laws.proofs.Reading.ReadsLonger.{rely_calm}
 use Rattle.isolation_laws.proofs.Reading.ReadsStay.{NoneComes, quiet_no_reads, ReadsRight, reads_stay, none_comes, none_comes_accepted}
 use Rattle.isolation_laws.proofs.Stores.Calm.{calm_quiet}
@@ -78,7 +79,7 @@ pub calmed : (w : State) (h : List Item) (o : Outcome w) → Holds w h → is_ca
 calmed w h (OfGranted k) holds is = calm_nodes w h _ _ _ k.items k.quiet (fewer_granted w k) holds
 calmed w h (OfRenewed k) holds is = calm_nodes w h _ _ _ k.items k.quiet (fewer_renewed w k) holds
 calmed w h (OfExtended k) holds is = calm_nodes w h _ _ _ k.items k.quiet (fewer_extended w k) holds
-calmed w h (OfAskedCommit k) holds is = calm_stores w h _ _ _ _ k.items k.quiet (live_asked_commit w k) (reading_asked_commit w k) (under_way_asked_commit w h k holds) holds
+calmed w h (OfAskedCommit k) holds is = calm_stores w h _ _ _ _ k.items k.quiet (live_asked_commit w k) (reading_after w (OfAskedCommit k) refl) (under_way_asked_commit w h k holds) holds
 calmed w h (OfAccepted k) holds is = calm_stores w h _ w.clients _ _ k.items k.quiet (live_accepted w k) (same_reading w.clients) (under_way_same w h (h ++ k.items) holds (calm_quiet h k.items k.quiet)) holds
 calmed w h o holds is = calm_frame w h (left_by w o) (told_by_outcome w o) (framed w h o holds is)
 

@@ -1,4 +1,6 @@
 -- Sessions and requests where a commit is asked, a request is accepted, a stamp is drawn, a commit is settled.
+use Rattle.isolation_laws.proofs.Requests.ClientMoves.{at_work_after}
+use Rattle.isolation_laws.proofs.Outcome.Outcomes.{OfAskedCommit}
 use Rattle.std.proofs.Common.{◌≡◌, ℕ, ◌<◌, ◌≤◌, nat_le, if◌then◌else◌, Bool, true, false, List, ◌++◌, Some, None, inl, inr, refl, sym, ◌∙◌, ap, subst, arith}
 use Rattle.std.proofs.lemmas.Bool.{leb-false}
 use Rattle.std.proofs.lemmas.Option.{same_Some, none-some}
@@ -23,7 +25,6 @@ use Rattle.isolation_laws.proofs.Owners.{accepts_now, begun_below_last}
 use Rattle.isolation_laws.proofs.Outcome.OutcomesOfRequests.{AskedCommit, asked_commit_state, Accepted, AcceptedSteadily, accepted_state}
 use Rattle.isolation_laws.proofs.Requests.PendingMoved.{IsAsked, pending_asked_commit, IsTaken, pending_accepted}
 use Rattle.isolation_laws.proofs.Requests.ClientsOpen.{same_at_work}
-use Rattle.isolation_laws.proofs.Requests.OpenAfter.{at_work_asked_commit}
 use Rattle.isolation_laws.proofs.Numbers.NumbersKept.{open_begun}
 use Rattle.isolation_laws.proofs.Requests.ClientsAfter.{begun_kept, has_by, KeysClient, keys_client, keys_set}
 use Rattle.isolation_laws.proofs.Requests.RequestsAfter.{open_waits, new_held, requests_new, requests_fewer}
@@ -70,9 +71,9 @@ requests_asked_commit w h k holds =
       ]) (here_fewer w.nodes (asked_commit_state w k).nodes h g (standing_asked_commit IsDrawnNow w k (λ is. is)) silent.on holds.requests.pending.here);
       settled = settled_silent w.nodes (asked_commit_state w k).nodes h g silent (standing_asked_commit IsSettledNow w k (λ is. is)) holds.requests.settled;
       accepted = accepted_fewer w.nodes (asked_commit_state w k).nodes (standing_asked_commit IsAcceptedNow w k (λ is. is)) holds.requests.accepted;
-      opened = open_silent w.clients (asked_commit_state w k).clients h g silent (at_work_asked_commit w k).opened holds.requests.opened;
+      opened = open_silent w.clients (asked_commit_state w k).clients h g silent (at_work_after w (OfAskedCommit k) refl).opened holds.requests.opened;
       keys = keys_silent (asked_commit_state w k).clients h g silent (keys_set w.clients h k.session (client_asked k.c) (asked_keys w h k holds) holds.requests.keys);
-      form = form_fewer w.setup w.clients (asked_commit_state w k).clients w.nodes (asked_commit_state w k).nodes (standing_asked_commit IsDrawnNow w k (λ is. is)) (at_work_asked_commit w k).placing holds.requests.form;
+      form = form_fewer w.setup w.clients (asked_commit_state w k).clients w.nodes (asked_commit_state w k).nodes (standing_asked_commit IsDrawnNow w k (λ is. is)) (at_work_after w (OfAskedCommit k) refl).placing holds.requests.form;
     }
 
 -- ---- a request is accepted: its transaction began within the instance's range
