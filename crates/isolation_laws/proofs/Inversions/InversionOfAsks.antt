@@ -1,4 +1,3 @@
--- For cause_laws too.
 -- What a crash and the asks of a session come to.
 use Rattle.isolation_laws.specs.Requests.{AreRequests}
 use Rattle.isolation_laws.proofs.Dues.DueItems.{plain_due}

@@ -1,4 +1,3 @@
--- For cause_laws too.
 -- What it comes to that a session places its commit.
 use Rattle.std.proofs.Common.{List, ◌≡◌, ℕ, [], ◌∷◌, Option, Some, None, ◌⊎◌, inl, inr, refl, sym, ap}
 use Rattle.history_book.specs.declared.item.Item.{Item}

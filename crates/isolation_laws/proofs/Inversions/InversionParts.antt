@@ -1,4 +1,3 @@
--- For call_laws too.
 -- What it is for an event to come to an outcome, and what comes to nothing.
 use Rattle.isolation_laws.specs.Due.{AreDue, DueToNode, DueToSession}
 use Rattle.isolation_laws.proofs.Dues.DueItems.{DueAnyway, none_due, plain_due, refusal_due, no_row_due}
