@@ -11,7 +11,7 @@ use Rattle.machine.specs.declared.event.Event.{Event}
 use Rattle.machine.specs.State.{State, opening}
 use Rattle.machine.specs.Machine.{IsSteadyAt, stepped, reading_of, seen_after}
 use Rattle.machine.specs.Events.Take.{rules_of}
-use Rattle.machine.proofs.PartsKept.{seen_up, leaves_parts}
+use Rattle.machine.proofs.PartsKept.{seen_up, leaves_parts, posts_stay}
 use Rattle.isolation_laws.specs.Holds.{Holds}
 use Rattle.isolation_laws.specs.Sound.{Stands}
 use Rattle.isolation_laws.proofs.Outcome.Outcomes.{Outcome, OfGranted, OfRenewed, OfExtended, left_by}
@@ -19,7 +19,6 @@ use Rattle.isolation_laws.proofs.AlwaysHolds.{each_outcome}
 use Rattle.cause_laws.specs.Shows.{Tells}
 use Rattle.call_laws.specs.Bounds.{IsBounded, Bounded}
 use Rattle.call_laws.proofs.RecordBounds.{bounded_taken, bounded_renewed, bounded_extended, has_room}
-use Rattle.call_laws.proofs.PostsStay.{posts_stay}
 
 -- ---- the opening
 pub bounded_first : (setup : SetupNumbers) → Bounded (opening setup)
@@ -59,7 +58,7 @@ outcome_bounded w h o holds bounded up far = raised w.setup w.seen (left_by w o)
 
 record_bounded : (w : State) (h : List Item) (e : Event) (fate : Fate) → Stands w h → IsBounded w.setup w.seen w.master → IsSteadyAt w.setup.skew w.seen (reading_of e) → let left : State = (stepped w e fate).state in IsBounded w.setup left.seen left.master
 record_bounded w h e fate both bounded steady =
-    each_outcome (λ v items. w.seen ≤ v.seen → v.seen ≤ 2 ^ 61 → IsBounded w.setup v.seen v.master) w h e fate both steady (λ o. outcome_bounded w h o both.holds bounded)
+    each_outcome (λ v items. w.seen ≤ v.seen → v.seen ≤ 2 ^ 61 → IsBounded w.setup v.seen v.master) w h e fate both (λ o. outcome_bounded w h o both.holds bounded)
     (subst (λ (seen : ℕ). w.seen ≤ seen) (sym (seen_up w e fate)) (seen_more w.seen (reading_of e)))
     (subst (λ (seen : ℕ). seen ≤ 2 ^ 61) (sym (seen_up w e fate)) (seen_far w.setup.skew w.seen (reading_of e) steady bounded.reading))
 
@@ -69,5 +68,5 @@ bounds_stay w h e fate tells bounded steady =
     let setup : left.setup ≡ w.setup = (leaves_parts w e fate).setup in
     record {
       numbers = subst (λ (s : SetupNumbers). IsBounded s left.seen left.master) (sym setup) (record_bounded w h e fate tells.stands bounded.numbers steady);
-      posts = posts_stay w h e fate tells.stands steady ∙ (bounded.posts ∙ ap (λ (s : SetupNumbers). s.nodes) (sym setup));
+      posts = posts_stay w e fate ∙ (bounded.posts ∙ ap (λ (s : SetupNumbers). s.nodes) (sym setup));
     }

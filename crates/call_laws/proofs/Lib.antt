@@ -1,5 +1,4 @@
 mod RecordBounds
-mod PostsStay
 pub mod BoundsKept
 pub mod RecordCalls
 pub mod RequestCalls

@@ -1,4 +1,4 @@
--- For cluster_core and planned_laws too.
+-- For cluster_core, planned_laws and grant_laws too.
 -- What the history shows of the state is kept by every event; so every refusal is shown in each history.
 use Rattle.std.proofs.Common.{◌≡◌, List, [], ◌∷◌, ◌++◌, append_assoc, Option, sym, ◌∙◌, subst}
 use Rattle.std.proofs.lemmas.List.{append-nil}
@@ -9,16 +9,15 @@ use Rattle.oracle_parts.specs.Instance.{InstanceEntry}
 use Rattle.machine.specs.declared.event.Event.{Event}
 use Rattle.machine.specs.State.{State, opening}
 use Rattle.machine.specs.Machine.{Step, stepped, Move, state_after, items_after, history_after, reading_of, IsSteadyAt, AreSteady, Steady}
-use Rattle.machine.proofs.PartsKept.{leaves_parts}
+use Rattle.machine.proofs.PartsKept.{leaves_parts, clients_stay}
 use Rattle.cause_rules.specs.Explained.{Shown, Explained}
 use Rattle.isolation_laws.specs.Sound.{Stands}
-use Rattle.isolation_laws.proofs.AlwaysHolds.{facts_stay, steady_stays, steady_now, stands_at_first, setup_after}
+use Rattle.isolation_laws.proofs.AlwaysHolds.{dues, facts_stay, steady_stays, steady_now, stands_at_first, setup_after}
 use Rattle.cause_laws.specs.Requests.{AreAsked, AreFaulted, ArePutByNodes, AreOpenAsks}
 use Rattle.cause_laws.specs.Nodes.{AreTaken, AreVacant, AreShownStops, AreLasts}
 use Rattle.cause_laws.specs.Shows.{Shows, Tells}
 use Rattle.cause_laws.proofs.Deeds.{DeedOf, nodes_by, items_by}
 use Rattle.cause_laws.proofs.DeedsDone.{deed_of}
-use Rattle.cause_laws.proofs.ClientsStay.{clients_stay}
 use Rattle.cause_laws.proofs.AsksKept.{asked_kept, faulted_kept, put_kept}
 use Rattle.cause_laws.proofs.OpenAsksKept.{open_asks_kept}
 use Rattle.cause_laws.proofs.TakenKept.{taken_kept}
@@ -29,7 +28,6 @@ use Rattle.cause_laws.proofs.RecordShown.{record_kept}
 use Rattle.cause_laws.proofs.MarksShown.{marked_kept}
 use Rattle.cause_laws.proofs.GoneShown.{gone_kept}
 use Rattle.cause_laws.proofs.PlacingKept.{placing_kept}
-use Rattle.cause_laws.proofs.DuesDone.{dues}
 use Rattle.cause_laws.proofs.DueIsShown.{due_is_shown}
 use Rattle.cause_laws.proofs.ShownAtFirst.{shown_at_first}
 use Rattle.cause_laws.proofs.LongerHistories.{each_longer}
@@ -39,25 +37,25 @@ use Rattle.cause_laws.proofs.LongerHistories.{each_longer}
 after_deed : (w : State) (h : List Item) (P : List (Option InstanceEntry) → List Item → Type 0) (nodes : List (Option InstanceEntry)) (items : List Item) → (by : DeedOf w nodes items) → P (nodes_by w by.deed) (h ++ items_by w by.deed) → P nodes (h ++ items)
 after_deed w h P nodes items by holds = subst (λ xs. P xs (h ++ items)) (sym by.leaves) (subst (λ xs. P (nodes_by w by.deed) (h ++ xs)) (sym by.tells) holds)
 
-shows_stay : (w : State) (h : List Item) (e : Event) (fate : Fate) → Stands w h → IsSteadyAt w.setup.skew w.seen (reading_of e) → Shows w h → Shows (stepped w e fate).state (h ++ (stepped w e fate).items)
-shows_stay w h e fate stands steady shows =
+shows_stay : (w : State) (h : List Item) (e : Event) (fate : Fate) → Stands w h → Shows w h → Shows (stepped w e fate).state (h ++ (stepped w e fate).items)
+shows_stay w h e fate stands shows =
     let step : Step = stepped w e fate in
-    let by : DeedOf w step.state.nodes step.items = deed_of w h e fate stands steady in
+    let by : DeedOf w step.state.nodes step.items = deed_of w h e fate stands in
     let setup : step.state.setup ≡ w.setup = (leaves_parts w e fate).setup in
     record {
-      sixteen = clients_stay w h e fate stands steady ∙ shows.sixteen;
+      sixteen = clients_stay w e fate ∙ shows.sixteen;
       asked = after_deed w h AreAsked step.state.nodes step.items by (asked_kept w h by.deed stands shows);
       faulted = after_deed w h AreFaulted step.state.nodes step.items by (faulted_kept w h by.deed stands shows);
       put = subst (λ s. ArePutByNodes s step.state.nodes) (sym setup) (after_deed w h (λ nodes items. ArePutByNodes w.setup nodes) step.state.nodes step.items by (put_kept w h by.deed stands shows));
-      placing = placing_kept w h e fate stands steady shows;
+      placing = placing_kept w h e fate stands shows;
       open_asks = subst (λ s. AreOpenAsks s step.state.nodes (h ++ step.items)) (sym setup) (after_deed w h (AreOpenAsks w.setup) step.state.nodes step.items by (open_asks_kept w h by.deed stands shows shows.sixteen));
       taken = after_deed w h AreTaken step.state.nodes step.items by (taken_kept w h by.deed stands shows);
       vacant = after_deed w h AreVacant step.state.nodes step.items by (vacant_kept w h by.deed stands shows);
       stops = subst (λ s. AreShownStops s step.state.nodes (h ++ step.items)) (sym setup) (after_deed w h (AreShownStops w.setup) step.state.nodes step.items by (stops_kept w h by.deed stands shows));
       lasts = after_deed w h AreLasts step.state.nodes step.items by (lasts_kept w h by.deed stands shows);
-      master = record_kept w h e fate stands steady shows.master;
-      marked = marked_kept w h e fate stands steady shows.marked;
-      gone = gone_kept w h e fate stands steady shows.gone;
+      master = record_kept w h e fate stands shows.master;
+      marked = marked_kept w h e fate stands shows.marked;
+      gone = gone_kept w h e fate stands shows.gone;
     }
 
 -- each refusal that it appends is shown
@@ -70,7 +68,7 @@ explained_stays w h e fate stands shows explained =
 pub tells_stay : (w : State) (h : List Item) (e : Event) (fate : Fate) → Tells w h → IsSteadyAt w.setup.skew w.seen (reading_of e) → Tells (stepped w e fate).state (h ++ (stepped w e fate).items)
 tells_stay w h e fate tells steady = record {
   stands = facts_stay w h e fate tells.stands steady;
-  shows = shows_stay w h e fate tells.stands steady tells.shows;
+  shows = shows_stay w h e fate tells.stands tells.shows;
   explained = subst (λ s. Explained s (h ++ (stepped w e fate).items)) (sym (leaves_parts w e fate).setup) (explained_stays w h e fate tells.stands tells.shows tells.explained);
 }
 
@@ -81,7 +79,7 @@ tells_after w h [] tells steady = subst (λ xs. Tells w xs) (sym (append-nil h))
 tells_after w h (move ∷ moves) tells steady =
     let step : Step = stepped w move.event move.fate in
     let after : Tells step.state (h ++ step.items) = tells_stay w h move.event move.fate tells (steady_now w move moves steady) in
-    subst (λ xs. Tells (state_after step.state moves) xs) (append_assoc h step.items (items_after step.state moves)) (tells_after step.state (h ++ step.items) moves after (steady_stays w h move moves tells.stands steady))
+    subst (λ xs. Tells (state_after step.state moves) xs) (append_assoc h step.items (items_after step.state moves)) (tells_after step.state (h ++ step.items) moves after (steady_stays w move moves steady))
 
 pub tells_at_first : (setup : SetupNumbers) → AreInRange setup → Tells (opening setup) []
 tells_at_first setup in_range = record {

@@ -1,7 +1,7 @@
--- What an outcome makes of the clients: one is put back, those that waited for a node hear of its crash, or all stay.
-use Rattle.std.proofs.Common.{◌≡◌, ℕ, zero, suc, List, [], ◌∷◌, Option, Some, ◌⊎◌, inl, inr, refl, sym, ◌∙◌, ap, subst}
+-- What an outcome makes of the clients: they move as the frame says, or one is put back.
+use Rattle.isolation_laws.proofs.Requests.ClientMoves.{ClientsMove, clients_move}
+use Rattle.std.proofs.Common.{◌≡◌, ℕ, List, [], ◌∷◌, Some, ◌⊎◌, inl, inr, refl, sym, ◌∙◌, ap, subst}
 use Rattle.std.specs.Prelude.{slice_set}
-use Rattle.std.proofs.lemmas.Option.{same_Some}
 use Rattle.history_book.specs.Members.{◌∈◌}
 use Rattle.history_book.specs.declared.item.Actor.TheVariants.{Session}
 use Rattle.history_book.specs.declared.item.StoreStep.TheVariants.{Handed as HandedStep}
@@ -11,25 +11,21 @@ use Rattle.history_book.proofs.MemberLemmas.{in_last}
 use Rattle.client_parts.specs.declared.session.State.{State as Phase}
 use Rattle.client_parts.specs.declared.session.State.TheVariants as phase
 use Rattle.client_parts.specs.SessionSteps.{SessionEntry}
-use Rattle.client_parts.specs.Resolve.{settle_ask, settle_turn}
-use Rattle.oracle_parts.specs.declared.instance.Held.{Held}
 use Rattle.oracle_parts.specs.declared.instance.Progress.TheVariants as progress
 use Rattle.oracle_parts.specs.declared.instance.Request.TheVariants.{Commit}
 use Rattle.oracle_parts.specs.Instance.{InstanceEntry}
 use Rattle.machine.specs.State.{Client, State}
 use Rattle.machine.specs.Clients.{client_begun, client_handed, unless_gone, unless_gone_by}
-use Rattle.machine.specs.StoreSteps.{told_by}
-use Rattle.machine.specs.Events.Crash.{crashed_clients}
 use Rattle.machine.specs.Events.Write.{client_wrote}
 use Rattle.isolation_laws.specs.Words.{InstanceAt, HeldBy, ClientAt}
 use Rattle.isolation_laws.specs.Requests.{WaitsFor}
 use Rattle.isolation_laws.specs.Holds.{Holds}
 use Rattle.isolation_laws.proofs.Lookups.{one_client}
 use Rattle.isolation_laws.proofs.Requests.ClientsOpen.{gone_cases}
-use Rattle.isolation_laws.proofs.Outcome.OutcomesOfStamps.{HandedOver, answered_client}
-use Rattle.isolation_laws.proofs.Outcome.OutcomesOfWork.{CompletedOne, fetched_turn, fetched_client, read_turn, read_client}
-use Rattle.isolation_laws.proofs.Outcome.Outcomes.{Outcome, OfCrashed, OfAskedBegin, OfAskedCommit, OfEnded, OfAnsweredBegin, OfAnsweredCommit, OfHanded, OfOwnPlaced, OfOwnNotPlaced, OfEndedReadOnly, OfWrote, OfWriteFailed, OfAborted, OfVanished, OfHealed, OfFetched, OfReadDropped, OfReadStepped, OfOutcome, OfOutcomeFailed, OfCompleted, left_by, told_by_outcome}
-use Rattle.cause_laws.proofs.AsBefore.{IsGone, IsPlacing, AsBefore, same_before, freed_before, aborted_before, asked_before, begun_before, heard, refusal_before, crashed_before, ended_before, settled_before, read_before, asks_before}
+use Rattle.isolation_laws.proofs.Outcome.OutcomesOfStamps.{HandedOver}
+use Rattle.isolation_laws.proofs.Outcome.OutcomesOfWork.{fetched_turn, fetched_client, read_turn, read_client}
+use Rattle.isolation_laws.proofs.Outcome.Outcomes.{Outcome, OfAnsweredBegin, OfHanded, OfWrote, OfVanished, OfFetched, OfReadDropped, OfReadStepped, left_by, told_by_outcome}
+use Rattle.cause_laws.proofs.AsBefore.{IsGone, IsPlacing, AsBefore, same_before, begun_before, heard, read_before}
 
 -- a commit that was drawn is handed to the session, which is to place it
 pub record Handed (w : State) (session : ℕ) (entry : SessionEntry) (items : List Item) : Type 0 where
@@ -48,21 +44,12 @@ pub record Handed (w : State) (session : ℕ) (entry : SessionEntry) (items : Li
 -- a client that is put back is gone only where it was before, or its vanishing is told; and it places a commit only where it
 -- did before, or where one is handed to it
 pub data ClientsMoved (w : State) (left : List Client) (items : List Item) : Type 0 where
-  Stay : left ≡ w.clients → ClientsMoved w left items
-  Hear : (requests : List (Option Held)) → left ≡ crashed_clients requests w.clients → ClientsMoved w left items
+  Moves : ClientsMove w.clients left → ClientsMoved w left items
   PutBack : (session : ℕ) (c new : Client) → ClientAt w.clients session c → left ≡ slice_set w.clients session new
       → (IsGone new → IsGone c ⊎ (item.Vanish session ∈ items)) → (IsPlacing new → (c.entry ≡ new.entry) ⊎ Handed w session new.entry items) → ClientsMoved w left items
 
 put_back : (w : State) (items : List Item) (session : ℕ) (c new : Client) → ClientAt w.clients session c → AsBefore c.entry new.entry → ClientsMoved w (slice_set w.clients session new) items
 put_back w items session c new at before = PutBack session c new at refl (λ gone. inl (before.gone gone)) (λ placing. inl (before.placing placing))
-
--- who hears of a crash was there before
-pub crashed_was : (requests : List (Option Held)) (clients : List Client) (s : ℕ) (c : Client) → ClientAt (crashed_clients requests clients) s c → (d : Client) × ClientAt clients s d × AsBefore d.entry c.entry
-unfolding crashed_clients
-crashed_was [] clients s c at = (c, at, same_before c.entry)
-crashed_was (held ∷ others) [] s c at = absurd (cc)
-crashed_was (held ∷ others) (d ∷ clients) zero c at = (d, refl, subst (λ (x : Client). AsBefore d.entry x.entry) (same_Some _ c at) (crashed_before held d))
-crashed_was (held ∷ others) (d ∷ clients) (suc s) c at = crashed_was others clients s c at
 
 -- ---- a hand-over
 waits_start : (w : State) (asker start : ℕ) (keys : List ℕ) (c : Client) → WaitsFor (Commit asker start keys) c → (IsGone c → ⊥) → c.entry.start ≡ Some start
@@ -104,36 +91,16 @@ handed_gone w k gone = elim (gone_cases k.c (client_handed k.c k.commit)) [
 ]
 
 -- ---- every outcome
-left_before : (w : State) (k : CompletedOne w) → AsBefore k.c.entry k.left.entry
-left_before w k = elim k.left_is [
-  | inl goes ↦ subst (λ (new : Client). AsBefore k.c.entry new.entry) (sym goes.0) (asks_before k.c k.asks)
-  | inr freed ↦ subst (λ (new : Client). AsBefore k.c.entry new.entry) (sym freed.0) (freed_before k.c.entry k.c)
-]
-
 -- an open client wrote
 wrote_before : (c : Client) (key : ℕ) → c.entry.state ≡ phase.Open → AsBefore c.entry (client_wrote c key).entry
 wrote_before c key opened = record { gone = λ gone. gone; placing = λ placing. absurd (let clash : phase.Open ≡ phase.Placing = sym opened ∙ placing in cc) }
 
 pub moved : (w : State) (h : List Item) (o : Outcome w) → Holds w h → ClientsMoved w (left_by w o).clients (told_by_outcome w o)
-moved w h (OfCrashed k) holds = Hear k.i.requests refl
-moved w h (OfAskedBegin k) holds = put_back w _ k.session k.c _ k.client_at (asked_before k.c)
-moved w h (OfAskedCommit k) holds = put_back w _ k.session k.c _ k.client_at (asked_before k.c)
-moved w h (OfEnded k) holds = put_back w _ k.session k.c _ k.client_at (refusal_before k.held.request k.c)
 moved w h (OfAnsweredBegin k) holds = put_back w _ k.session k.c _ k.client_at (heard k.c (client_begun k.c k.start k.i.epoch) (begun_before k.c.entry k.c k.start k.i.epoch))
-moved w h (OfAnsweredCommit k) holds = put_back w _ k.session k.c _ k.client_at (heard k.c (answered_client k.by k.c k.commit) (ended_before k.by k.c k.commit))
 moved w h (OfHanded k) holds = PutBack k.session k.c _ k.client_at refl (λ gone. inl (handed_gone w k gone)) (handed_now w h k holds)
-moved w h (OfOwnPlaced k) holds = put_back w _ k.it.session k.it.c _ k.it.client_at (ended_before k.by k.it.c k.it.commit)
-moved w h (OfOwnNotPlaced k) holds = put_back w _ k.it.session k.it.c _ k.it.client_at (ended_before k.by k.it.c k.it.commit)
-moved w h (OfEndedReadOnly k) holds = put_back w _ k.it.session k.it.c _ k.it.client_at (freed_before k.it.c.entry k.it.c)
 moved w h (OfWrote k) holds = put_back w _ k.it.session k.it.c _ k.it.client_at (wrote_before k.it.c k.key k.it.is_open)
-moved w h (OfWriteFailed k) holds = put_back w _ k.it.session k.it.c _ k.it.client_at (aborted_before k.it.c.entry (client_wrote k.it.c k.key))
-moved w h (OfAborted k) holds = put_back w _ k.it.session k.it.c _ k.it.client_at (aborted_before k.it.c.entry k.it.c)
 moved w h (OfVanished k) holds = PutBack k.session k.c _ k.client_at refl (λ gone. inr (subst (λ (items : List Item). item.Vanish k.session ∈ items) (sym k.tells) (in_last (item.Vanish k.session) []))) (λ placing. absurd (cc))
-moved w h (OfHealed k) holds = put_back w _ k.it.session k.it.c _ k.it.client_at (same_before k.it.c.entry)
 moved w h (OfFetched k) holds = put_back w _ k.it.session k.it.c _ k.it.client_at (read_before (fetched_client w k) (fetched_turn w k))
 moved w h (OfReadDropped k) holds = put_back w _ k.session k.c _ k.client_at (same_before k.c.entry)
 moved w h (OfReadStepped k) holds = put_back w _ k.session k.c _ k.client_at (read_before (read_client w k) (read_turn w k))
-moved w h (OfOutcome k) holds = put_back w _ k.it.session k.it.c _ k.it.client_at (settled_before k.it.c k.x (settle_turn k.x (told_by (settle_ask k.x) w.rows w.pairs)))
-moved w h (OfOutcomeFailed k) holds = put_back w _ k.it.session k.it.c _ k.it.client_at (same_before k.it.c.entry)
-moved w h (OfCompleted k) holds = put_back w _ k.session k.c _ k.client_at (left_before w k)
-moved w h _ holds = Stay refl
+moved w h o holds = Moves (clients_move w o refl)

@@ -1,5 +1,5 @@
--- Also for the proofs of call_laws: what an event does to the nodes and their instances, a short view of its outcome. Each deed
--- is a record of what was the case, with the nodes that it leaves and the items that tell it.
+-- What an event does to the nodes and their instances, a short view of its outcome. Each deed is a record of what was the case, with
+-- the nodes that it leaves and the items that tell it.
 use Rattle.std.proofs.Common.{[], ◌≡◌, ◌≢◌, ℕ, ◌+◌, false, List, ◌∷◌, Option, None, Some, ◌⊎◌, ◌++◌}
 use Rattle.std.specs.Prelude.{IsTrue, slice_set, All}
 use Rattle.history_book.specs.declared.item.Actor.TheVariants.{Node, Session}

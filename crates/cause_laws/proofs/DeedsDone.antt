@@ -1,4 +1,4 @@
--- Also for the proofs of call_laws: each outcome of an event, as a deed to the nodes.
+-- Each outcome of an event, as a deed to the nodes.
 use Rattle.std.proofs.Common.{[], ◌≡◌, ℕ, ◌+◌, Bool, true, false, List, ◌∷◌, ◌++◌, Option, None, Some, inl, inr, refl, sym, ◌∙◌, ap}
 use Rattle.std.specs.Prelude.{slice_set}
 use Rattle.std.proofs.lemmas.List.Elements.{All-cons}
@@ -24,7 +24,7 @@ use Rattle.machine.specs.declared.event.Event.{Event}
 use Rattle.port_io.specs.declared.weather.Fate.{Fate}
 use Rattle.machine.specs.State.{State}
 use Rattle.machine.specs.StoreSteps.{told_by}
-use Rattle.machine.specs.Machine.{stepped, reading_of, IsSteadyAt}
+use Rattle.machine.specs.Machine.{stepped}
 use Rattle.machine.specs.Events.Fetch.{found_of, read_items}
 use Rattle.machine.specs.Events.Crash.{all_crashed_items}
 use Rattle.machine.specs.Events.Step.{settle_items}
@@ -42,7 +42,7 @@ use Rattle.isolation_laws.proofs.Inversions.InversionOfAnswers.{not_invalid}
 use Rattle.isolation_laws.proofs.AlwaysHolds.{each_outcome}
 use Rattle.cause_laws.proofs.Deeds.{Serving, EndsFor, OfRested, OfTook, OfRenewed, OfWidened, OfStopped, OfCrashed, OfAsked, OfAccepted, OfDrew, OfSettled, OfTold, OfEnded, OfLearned, DeedOf}
 use Rattle.cause_laws.proofs.DeedsOfPlacings.{answered_ends, own_told_deed, own_placed_deed}
-use Rattle.cause_laws.proofs.FoundMarks.{found_marked}
+use Rattle.isolation_laws.proofs.FoundMarks.{found_marked}
 use Rattle.cause_laws.proofs.HeldAsks.{own_requests, all_losses, holds_none}
 
 -- ---- the nodes stay as they were
@@ -225,5 +225,5 @@ outcome_deed w h (OfSweepListed k) holds = rests w _ (one_silent (item.Step Jani
 outcome_deed w h (OfSweepFailed k) holds = rests w k.items k.silent
 
 -- ---- one event
-pub deed_of : (w : State) (h : List Item) (e : Event) (fate : Fate) → Stands w h → IsSteadyAt w.setup.skew w.seen (reading_of e) → DeedOf w (stepped w e fate).state.nodes (stepped w e fate).items
-deed_of w h e fate both steady = each_outcome (λ v items. DeedOf w v.nodes items) w h e fate both steady (λ o. outcome_deed w h o both.holds)
+pub deed_of : (w : State) (h : List Item) (e : Event) (fate : Fate) → Stands w h → DeedOf w (stepped w e fate).state.nodes (stepped w e fate).items
+deed_of w h e fate both = each_outcome (λ v items. DeedOf w v.nodes items) w h e fate both (λ o. outcome_deed w h o both.holds)

@@ -1,16 +1,14 @@
 -- The history goes on to show the sessions that have vanished.
-use Rattle.std.proofs.Common.{ℕ, List, ◌++◌, Option, ◌⊎◌, inl, inr, sym, subst}
+use Rattle.std.proofs.Common.{ℕ, List, ◌++◌, ◌⊎◌, inl, inr, sym, subst}
 use Rattle.std.specs.Prelude.{slice_set}
 use Rattle.port_io.specs.declared.weather.Fate.{Fate}
 use Rattle.history_book.specs.Members.{◌∈◌}
 use Rattle.history_book.specs.declared.item.Item.{Item}
 use Rattle.history_book.specs.declared.item.Item.TheVariants as item
 use Rattle.history_book.proofs.MemberLemmas.{in_front, in_back}
-use Rattle.oracle_parts.specs.declared.instance.Held.{Held}
 use Rattle.machine.specs.declared.event.Event.{Event}
 use Rattle.machine.specs.State.{Client, State}
-use Rattle.machine.specs.Machine.{stepped, reading_of, IsSteadyAt}
-use Rattle.machine.specs.Events.Crash.{crashed_clients}
+use Rattle.machine.specs.Machine.{stepped}
 use Rattle.isolation_laws.specs.Words.{ClientAt}
 use Rattle.isolation_laws.specs.Sound.{Stands}
 use Rattle.isolation_laws.proofs.Lookups.{client_set}
@@ -18,7 +16,7 @@ use Rattle.isolation_laws.proofs.Outcome.Outcomes.{left_by, told_by_outcome}
 use Rattle.isolation_laws.proofs.AlwaysHolds.{each_outcome}
 use Rattle.cause_laws.specs.Stores.{AreGone}
 use Rattle.cause_laws.proofs.AsBefore.{IsGone}
-use Rattle.cause_laws.proofs.ClientsMoved.{ClientsMoved, Stay, Hear, PutBack, crashed_was, moved}
+use Rattle.cause_laws.proofs.ClientsMoved.{ClientsMoved, Moves, PutBack, moved}
 
 -- the session is gone among these
 abbrev GoneIn : List Client → ℕ → Type 0
@@ -36,9 +34,6 @@ gone_on old new h items told are = record {
   ];
 }
 
-same_told : (clients : List Client) (items : List Item) → GoneTold clients clients items
-same_told clients items s c at gone = inl (c, at, gone)
-
 -- one client was put back
 put_told : (clients : List Client) (session : ℕ) (c new : Client) (items : List Item) → ClientAt clients session c → (IsGone new → IsGone c ⊎ (item.Vanish session ∈ items)) → GoneTold clients (slice_set clients session new) items
 put_told clients session c new items at told s d there gone = elim (client_set clients session s new d there) [
@@ -49,16 +44,11 @@ put_told clients session c new items at told s d there gone = elim (client_set c
   ]
 ]
 
--- ---- a crash
-crashed_told : (requests : List (Option Held)) (clients : List Client) (items : List Item) → GoneTold clients (crashed_clients requests clients) items
-crashed_told requests clients items s c at gone = let was = crashed_was requests clients s c at in inl (was.0, was.1, was.2.gone gone)
-
 -- ---- one event
 moved_told : (w : State) (left : List Client) (items : List Item) → ClientsMoved w left items → GoneTold w.clients left items
-moved_told w left items (Stay same) = subst (λ (clients : List Client). GoneTold w.clients clients items) (sym same) (same_told w.clients items)
-moved_told w left items (Hear requests same) = subst (λ (clients : List Client). GoneTold w.clients clients items) (sym same) (crashed_told requests w.clients items)
+moved_told w left items (Moves move) = λ s c at gone. let was = move s c at in inl (was.0, was.1, was.2.gone gone)
 moved_told w left items (PutBack session c new at same gone placing) = subst (λ (clients : List Client). GoneTold w.clients clients items) (sym same) (put_told w.clients session c new items at gone)
 
-pub gone_kept : (w : State) (h : List Item) (e : Event) (fate : Fate) → Stands w h → IsSteadyAt w.setup.skew w.seen (reading_of e) → AreGone w.clients h → AreGone (stepped w e fate).state.clients (h ++ (stepped w e fate).items)
-gone_kept w h e fate stands steady are = each_outcome (λ v items. AreGone v.clients (h ++ items)) w h e fate stands steady
+pub gone_kept : (w : State) (h : List Item) (e : Event) (fate : Fate) → Stands w h → AreGone w.clients h → AreGone (stepped w e fate).state.clients (h ++ (stepped w e fate).items)
+gone_kept w h e fate stands are = each_outcome (λ v items. AreGone v.clients (h ++ items)) w h e fate stands
     (λ o. gone_on w.clients (left_by w o).clients h (told_by_outcome w o) (moved_told w (left_by w o).clients (told_by_outcome w o) (moved w h o stands.holds)) are)

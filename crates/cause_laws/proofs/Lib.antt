@@ -1,4 +1,4 @@
-pub mod Deeds
+mod Deeds
 mod RecordedDraws
 mod HiddenWaters
 pub mod ShownOfRequests
@@ -24,18 +24,8 @@ mod LastsKept
 mod ShownAtFirst
 pub mod LongerHistories
 mod HeldAsks
-mod FoundMarks
 mod DeedsOfPlacings
-pub mod DeedsDone
-mod DueItems
-mod DueOfRecord
-mod DueOfRequests
-mod DueOfAnswers
-mod DueOfCrashes
-mod DueOfSessions
-mod DueOfPlacings
-mod DueOfSteps
-mod DuesDone
+mod DeedsDone
 mod OpenWords
 mod RecordShown
 mod HeldCounts
@@ -43,7 +33,6 @@ mod OpenAsksKept
 mod MarksShown
 mod AsBefore
 mod ClientsMoved
-mod ClientsStay
 mod GoneShown
 mod PlacingKept
 pub mod AlwaysExplained

@@ -1,5 +1,7 @@
 -- Every event keeps that a session which places its commit asked for it last: until then it tells nothing of another request.
-use Rattle.std.proofs.Common.{◌≡◌, ℕ, ◌+◌, List, ◌++◌, Some, ◌⊎◌, inl, inr, refl, sym, ◌∙◌, ap, subst}
+use Rattle.isolation_laws.proofs.Requests.ClientMoves.{at_work_moved}
+use Rattle.isolation_laws.specs.Pending.{is_placing}
+use Rattle.std.proofs.Common.{ap, inl, ◌≡◌, ℕ, ◌+◌, List, ◌++◌, Some, ◌⊎◌, inr, refl, sym, ◌∙◌, subst}
 use Rattle.std.specs.Prelude.{slice_set}
 use Rattle.std.proofs.lemmas.Option.{same_Some}
 use Rattle.port_io.specs.declared.weather.Fate.{Fate}
@@ -15,7 +17,7 @@ use Rattle.oracle_parts.specs.declared.instance.Request.TheVariants.{Commit}
 use Rattle.oracle_parts.specs.Instance.{session_of}
 use Rattle.machine.specs.declared.event.Event.{Event}
 use Rattle.machine.specs.State.{Client, State}
-use Rattle.machine.specs.Machine.{stepped, reading_of, IsSteadyAt}
+use Rattle.machine.specs.Machine.{stepped}
 use Rattle.isolation_laws.specs.Words.{HeldBy, ClientAt}
 use Rattle.isolation_laws.specs.Sound.{Stands}
 use Rattle.isolation_laws.proofs.Lookups.{client_set, held_by, one_client}
@@ -29,7 +31,7 @@ use Rattle.cause_laws.proofs.AskWords.{AllMute, silent_mute, other_ask, other_ac
 use Rattle.cause_laws.proofs.DeedsMute.{one_mute, always_mute, took_mute, crashed_mute, settled_mute, ended_mute, learned_mute}
 use Rattle.cause_laws.proofs.RequestsWere.{alone_unheld, serving_own}
 use Rattle.cause_laws.proofs.AsBefore.{IsPlacing}
-use Rattle.cause_laws.proofs.ClientsMoved.{ClientsMoved, Stay, Hear, PutBack, Handed, crashed_was, moved}
+use Rattle.cause_laws.proofs.ClientsMoved.{ClientsMoved, Moves, PutBack, Handed, moved}
 
 -- ---- a session that places its commit makes no request
 idle_not_placing : (state : Phase) → (state ≡ phase.Free) ⊎ (state ≡ phase.Open) → state ≡ phase.Placing → ⊥
@@ -84,10 +86,7 @@ came_put w session c new items at came s d there placing = elim (client_set w.cl
 ]
 
 came : (w : State) (left : List Client) (items : List Item) → ClientsMoved w left items → PlacingCame w left items
-came w left items (Stay same) s c at placing = inl (c, subst (λ (clients : List Client). ClientAt clients s c) same at, refl)
-came w left items (Hear requests same) s c at placing =
-    let was = crashed_was requests w.clients s c (subst (λ (clients : List Client). ClientAt clients s c) same at) in
-    inl (was.0, was.1, was.2.placing placing)
+came w left items (Moves move) s c at placing = inl ((at_work_moved w.clients left move).placing s c at (ap is_placing placing))
 came w left items (PutBack session old new was same gone handed) s c at placing = came_put w session old new items was handed s c (subst (λ (clients : List Client). ClientAt clients s c) same at) placing
 
 -- ---- each outcome
@@ -113,5 +112,5 @@ placing_on w h o stands shows = record {
   ];
 }
 
-pub placing_kept : (w : State) (h : List Item) (e : Event) (fate : Fate) → Stands w h → IsSteadyAt w.setup.skew w.seen (reading_of e) → Shows w h → ArePlacingAsked (stepped w e fate).state.clients (h ++ (stepped w e fate).items)
-placing_kept w h e fate stands steady shows = each_outcome (λ v items. ArePlacingAsked v.clients (h ++ items)) w h e fate stands steady (λ o. placing_on w h o stands shows)
+pub placing_kept : (w : State) (h : List Item) (e : Event) (fate : Fate) → Stands w h → Shows w h → ArePlacingAsked (stepped w e fate).state.clients (h ++ (stepped w e fate).items)
+placing_kept w h e fate stands shows = each_outcome (λ v items. ArePlacingAsked v.clients (h ++ items)) w h e fate stands (λ o. placing_on w h o stands shows)

@@ -9,7 +9,7 @@ use Rattle.store_parts.specs.declared.record.Grant.{Grant}
 use Rattle.store_parts.specs.Record.{MasterRecord, granted, held_by, renewed_until}
 use Rattle.machine.specs.declared.event.Event.{Event}
 use Rattle.machine.specs.State.{State}
-use Rattle.machine.specs.Machine.{stepped, reading_of, IsSteadyAt}
+use Rattle.machine.specs.Machine.{stepped}
 use Rattle.machine.specs.Events.Take.{rules_of, take_item}
 use Rattle.isolation_laws.specs.Holds.{Holds}
 use Rattle.isolation_laws.specs.Sound.{Stands}
@@ -79,5 +79,5 @@ outcome_shown w h (OfRenewed k) holds shown = told_so w h _ k.items _ k.tells (r
 outcome_shown w h (OfExtended k) holds shown = told_so w h _ k.items _ k.tells (record_extended w.master k.node k.i.term (w.master.ceiling + w.setup.range) h (fault_if k.failed k.node) (holds.numbers.leases.holder k.node k.i k.at) shown)
 outcome_shown w h o holds shown = record_on w.master h (told_by_outcome w o) shown
 
-pub record_kept : (w : State) (h : List Item) (e : Event) (fate : Fate) → Stands w h → IsSteadyAt w.setup.skew w.seen (reading_of e) → IsRecordShown w.master h → IsRecordShown (stepped w e fate).state.master (h ++ (stepped w e fate).items)
-record_kept w h e fate stands steady shown = each_outcome (λ v items. IsRecordShown v.master (h ++ items)) w h e fate stands steady (λ o. outcome_shown w h o stands.holds shown)
+pub record_kept : (w : State) (h : List Item) (e : Event) (fate : Fate) → Stands w h → IsRecordShown w.master h → IsRecordShown (stepped w e fate).state.master (h ++ (stepped w e fate).items)
+record_kept w h e fate stands shown = each_outcome (λ v items. IsRecordShown v.master (h ++ items)) w h e fate stands (λ o. outcome_shown w h o stands.holds shown)

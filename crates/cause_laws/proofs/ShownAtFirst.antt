@@ -3,6 +3,7 @@ use Rattle.std.proofs.Common.{◌≡◌, ℕ, [], Option, None, inl, refl, sym, 
 use Rattle.std.specs.FinMap as map
 use Rattle.std.specs.Ordering.{nat_cmp}
 use Rattle.std.proofs.lemmas.Option.{none-some}
+use Rattle.std.proofs.lemmas.List.{length-replicate}
 use Rattle.stamp_base.specs.SetupNumbers.{SetupNumbers}
 use Rattle.stamp_base.specs.declared.stores.Mark.TheVariants.{Invalid as InvalidMark}
 use Rattle.history_book.specs.Members.{◌∈◌}
@@ -15,7 +16,6 @@ use Rattle.isolation_laws.specs.Words.{ClientAt, Marked}
 use Rattle.isolation_laws.proofs.Inversions.InversionSound.{found_copy, none_at}
 use Rattle.cause_laws.specs.Requests.{held_count}
 use Rattle.cause_laws.specs.Shows.{Shows}
-use Rattle.cause_laws.proofs.ClientsStay.{clients_at_first}
 
 nobody_asked : (n s : ℕ) (post : Option InstanceEntry) → post ≡ None → open_asks_of [] n s ≡ held_count post s
 nobody_asked n s post none = sym (ap (λ p. held_count p s) none)
@@ -34,7 +34,7 @@ none_marked t marked = none-some InvalidMark (sym (map.get-empty nat_cmp t) ∙ 
 
 pub shown_at_first : (setup : SetupNumbers) → Shows (opening setup) []
 shown_at_first setup = record {
-  sixteen = clients_at_first setup;
+  sixteen = length-replicate 16 (client_new setup.cache);
   asked = record {
     asked = λ n s i request p at. absurd (none_at setup.nodes n i at);
     accepted = λ n s i request p at. absurd (none_at setup.nodes n i at);

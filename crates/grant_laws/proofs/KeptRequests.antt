@@ -8,11 +8,11 @@ use Rattle.oracle_parts.specs.declared.instance.Held.{Held}
 use Rattle.oracle_parts.specs.declared.instance.Progress.{Progress}
 use Rattle.oracle_parts.specs.declared.instance.Request.{Request}
 use Rattle.oracle_parts.specs.Instance.{InstanceEntry, held_of, stamps_at}
-use Rattle.machine.specs.State.{Client, State}
+use Rattle.machine.specs.State.{State}
 use Rattle.machine.specs.Clients.{is_reading}
 use Rattle.machine.specs.declared.event.Event.{Event}
 use Rattle.machine.specs.declared.event.Event.TheVariants as event
-use Rattle.machine.specs.Machine.{Step, with_reading, at_post, at_client, at_both, stepped}
+use Rattle.machine.specs.Machine.{Step, with_reading, stepped}
 use Rattle.machine.specs.Events.Take.{take_on}
 use Rattle.machine.specs.Events.Renew.{renew_on}
 use Rattle.machine.specs.Events.Extend.{extend_on}
@@ -23,6 +23,8 @@ use Rattle.machine.specs.Events.Accept.{accept_on}
 use Rattle.machine.specs.Events.Decide.{decide_on}
 use Rattle.machine.specs.Events.Put.{to_place, put_on}
 use Rattle.machine.specs.Events.Answer.{answer_on}
+use Rattle.machine.proofs.LookedUp.{of_post, of_both}
+use Rattle.machine.proofs.PartsKept.{leaves_parts}
 use Rattle.script_data.specs.Data.{ScriptData}
 use Rattle.line_steps.specs.Runs.{fate_of, step_of}
 use Rattle.turn_rules.specs.declared.turn.Turn.{Turn}
@@ -30,19 +32,9 @@ use Rattle.turn_rules.specs.Carried.{Carried, event_of, turned_by, carried}
 use Rattle.grant_laws.specs.Turns.{IsServed, touches, RequestsStay}
 use Rattle.grant_laws.proofs.CalledRequests.{Has, PostHas, set_has, the_post, Called, called_has, begin_called, commits_called, accepts_called, decides_called, puts_called, answers_called, renew_has, extend_has}
 
--- ---- looking up the parts
-both_has : (u : State) (node s : ℕ) (held : Held) (k : Has u.nodes node s held) (f : Option InstanceEntry → Client → Step) (posts : Option (Option InstanceEntry)) (found : Option Client) → ((post : Option InstanceEntry) (c : Client) → posts ≡ Some post → Has (f post c).state.nodes node s held) → Has (at_both u posts found f).state.nodes node s held
-both_has u node s held k f None found each = k
-both_has u node s held k f (Some post) None each = k
-both_has u node s held k f (Some post) (Some c) each = each post c refl
-
-post_has : (u : State) (node s : ℕ) (held : Held) (k : Has u.nodes node s held) (f : Option InstanceEntry → Step) (posts : Option (Option InstanceEntry)) → ((post : Option InstanceEntry) → posts ≡ Some post → Has (f post).state.nodes node s held) → Has (at_post u posts f).state.nodes node s held
-post_has u node s held k f None each = k
-post_has u node s held k f (Some post) each = each post refl
-
-client_has : (u : State) (node s : ℕ) (held : Held) (k : Has u.nodes node s held) (f : Client → Step) (found : Option Client) → ((c : Client) → Has (f c).state.nodes node s held) → Has (at_client u found f).state.nodes node s held
-client_has u node s held k f None each = k
-client_has u node s held k f (Some c) each = each c
+-- the state after a step has it
+abbrev StepHas : ℕ → ℕ → Held → Step → Type 0
+StepHas node s held step = Has step.state.nodes node s held
 
 -- the event serves another session, or another node
 other_by : (a b : Bool) → a && b ≡ false → a ≡ true → b ≡ false
@@ -62,26 +54,17 @@ own_has nodes node n s held post g k at has = set_has nodes node n s held (g pos
 
 -- ---- each event
 keeps : (w : State) (e : Event) (fate : Fate) (node s : ℕ) (held : Held) → touches node s e ≡ false → Has w.nodes node s held → Has (stepped w e fate).state.nodes node s held
-keeps w (event.Tick to) fate node s held none k = k
-keeps w (event.Note actor said) fate node s held none k = k
-keeps w (event.Take n reading) fate node s held none k = post_has (with_reading w reading) node s held k _ (slice_get w.nodes n) (λ post at. own_has w.nodes node n s held post (λ p. (take_on w.setup n reading fate p w.master).parts.0) k at (record { i = k.i; is = refl; has = k.has }))
-keeps w (event.Renew n reading) fate node s held none k = post_has (with_reading w reading) node s held k _ (slice_get w.nodes n) (λ post at. own_has w.nodes node n s held post (λ p. (renew_on w.setup n reading fate p w.master).parts.0) k at (renew_has n reading s held k.i _ _ _ k.has))
-keeps w (event.Extend n) fate node s held none k = post_has w node s held k _ (slice_get w.nodes n) (λ post at. own_has w.nodes node n s held post (λ p. (extend_on w.setup n fate p w.master).parts.0) k at (extend_has n s held k.i _ _ _ k.has))
-keeps w (event.Crash n) fate node s held none k = post_has w node s held k _ (slice_get w.nodes n) (λ post at. set_has w.nodes node n s held (crash_on n post w.clients).parts.0 k (λ same. absurd (eqb-false n node none same)))
-keeps w (event.AskBegin r n) fate node s held none k = both_has w node s held k _ (slice_get w.nodes n) (slice_get w.clients r) (λ post c at. calls_has w.nodes node n s r held post (λ p. (ask_begin_on r n c p).parts.1) k none at (begin_called r n c k.i (begin_refusal c.entry.state)))
-keeps w (event.AskCommit r n) fate node s held none k = both_has w node s held k _ (slice_get w.nodes n) (slice_get w.clients r) (λ post c at. calls_has w.nodes node n s r held post (λ p. (ask_commit_on r n c p).parts.1) k none at (commits_called r n c k.i (work_refusal c.entry.state (is_reading c)) c.entry.start))
-keeps w (event.Accept n r reading) fate node s held none k = both_has (with_reading w reading) node s held k _ (slice_get w.nodes n) (slice_get w.clients r) (λ post c at. calls_has w.nodes node n s r held post (λ p. (accept_on n r reading p c).parts.0) k none at (accepts_called n r reading k.i c (held_of k.i r)))
-keeps w (event.Decide n r) fate node s held none k = both_has w node s held k _ (slice_get w.nodes n) (slice_get w.clients r) (λ post c at. calls_has w.nodes node n s r held post (λ p. (decide_on n r p c).parts.0) k none at (decides_called n r k.i c (held_of k.i r)))
-keeps w (event.Put n r) fate node s held none k = post_has w node s held k _ (slice_get w.nodes n) (λ post at. calls_has w.nodes node n s r held post (λ p. (put_on n r fate p w.pairs).parts.0) k none at (puts_called n r fate k.i w.pairs (to_place (held_of k.i r))))
-keeps w (event.Answer n r) fate node s held none k = both_has w node s held k _ (slice_get w.nodes n) (slice_get w.clients r) (λ post c at. calls_has w.nodes node n s r held post (λ p. (answer_on n r p c).parts.0) k none at (answers_called n r k.i c (stamps_at k.i r)))
-keeps w (event.Write r key value) fate node s held none k = client_has w node s held k _ (slice_get w.clients r) (λ c. k)
-keeps w (event.Fetch r key) fate node s held none k = client_has w node s held k _ (slice_get w.clients r) (λ c. k)
-keeps w (event.Step r) fate node s held none k = client_has w node s held k _ (slice_get w.clients r) (λ c. k)
-keeps w (event.Heal r) fate node s held none k = client_has w node s held k _ (slice_get w.clients r) (λ c. k)
-keeps w (event.Abort r) fate node s held none k = client_has w node s held k _ (slice_get w.clients r) (λ c. k)
-keeps w (event.Vanish r) fate node s held none k = client_has w node s held k _ (slice_get w.clients r) (λ c. k)
-keeps w (event.SweepOpen n txn) fate node s held none k = post_has w node s held k _ (slice_get w.nodes n) (λ post at. k)
-keeps w event.SweepStep fate node s held none k = k
+keeps w (event.Take n reading) fate node s held none k = of_post (StepHas node s held) (with_reading w reading) _ (slice_get w.nodes n) k (λ post at. own_has w.nodes node n s held post (λ p. (take_on w.setup n reading fate p w.master).parts.0) k at (record { i = k.i; is = refl; has = k.has }))
+keeps w (event.Renew n reading) fate node s held none k = of_post (StepHas node s held) (with_reading w reading) _ (slice_get w.nodes n) k (λ post at. own_has w.nodes node n s held post (λ p. (renew_on w.setup n reading fate p w.master).parts.0) k at (renew_has n reading s held k.i _ _ _ k.has))
+keeps w (event.Extend n) fate node s held none k = of_post (StepHas node s held) w _ (slice_get w.nodes n) k (λ post at. own_has w.nodes node n s held post (λ p. (extend_on w.setup n fate p w.master).parts.0) k at (extend_has n s held k.i _ _ _ k.has))
+keeps w (event.Crash n) fate node s held none k = of_post (StepHas node s held) w _ (slice_get w.nodes n) k (λ post at. set_has w.nodes node n s held (crash_on n post w.clients).parts.0 k (λ same. absurd (eqb-false n node none same)))
+keeps w (event.AskBegin r n) fate node s held none k = of_both (StepHas node s held) w _ (slice_get w.nodes n) (slice_get w.clients r) k (λ post c at there. calls_has w.nodes node n s r held post (λ p. (ask_begin_on r n c p).parts.1) k none at (begin_called r n c k.i (begin_refusal c.entry.state)))
+keeps w (event.AskCommit r n) fate node s held none k = of_both (StepHas node s held) w _ (slice_get w.nodes n) (slice_get w.clients r) k (λ post c at there. calls_has w.nodes node n s r held post (λ p. (ask_commit_on r n c p).parts.1) k none at (commits_called r n c k.i (work_refusal c.entry.state (is_reading c)) c.entry.start))
+keeps w (event.Accept n r reading) fate node s held none k = of_both (StepHas node s held) (with_reading w reading) _ (slice_get w.nodes n) (slice_get w.clients r) k (λ post c at there. calls_has w.nodes node n s r held post (λ p. (accept_on n r reading p c).parts.0) k none at (accepts_called n r reading k.i c (held_of k.i r)))
+keeps w (event.Decide n r) fate node s held none k = of_both (StepHas node s held) w _ (slice_get w.nodes n) (slice_get w.clients r) k (λ post c at there. calls_has w.nodes node n s r held post (λ p. (decide_on n r p c).parts.0) k none at (decides_called n r k.i c (held_of k.i r)))
+keeps w (event.Put n r) fate node s held none k = of_post (StepHas node s held) w _ (slice_get w.nodes n) k (λ post at. calls_has w.nodes node n s r held post (λ p. (put_on n r fate p w.pairs).parts.0) k none at (puts_called n r fate k.i w.pairs (to_place (held_of k.i r))))
+keeps w (event.Answer n r) fate node s held none k = of_both (StepHas node s held) w _ (slice_get w.nodes n) (slice_get w.clients r) k (λ post c at there. calls_has w.nodes node n s r held post (λ p. (answer_on n r p c).parts.0) k none at (answers_called n r k.i c (stamps_at k.i r)))
+keeps w e fate node s held none k = subst (λ (nodes : List (Option InstanceEntry)). Has nodes node s held) (sym ((leaves_parts w e fate).nodes refl)) k
 
 -- ---- turns
 pub stays_by : (script : ScriptData) (c : Carried) (t : Turn) (node s : ℕ) (request : Request) (p : Progress) (found : Option Event) → IfSome found (λ e. touches node s e ≡ false) → IsServed c.played node s request p → IsServed (turned_by script c t found).played node s request p

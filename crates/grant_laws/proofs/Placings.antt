@@ -32,7 +32,7 @@ use Rattle.isolation_laws.specs.Words.{ClientAt, Marked}
 use Rattle.line_steps.specs.declared.point.Point.TheVariants.{Drives}
 use Rattle.line_steps.specs.Laws.{IsPlayable}
 use Rattle.line_steps.specs.Next.{placing_next}
-use Rattle.line_steps.specs.Runs.{Played, fate_by, fate_of, step_of, played}
+use Rattle.line_steps.specs.Runs.{Played, fate_by, fate_of, step_of}
 use Rattle.line_steps.proofs.Stepping.{place_is}
 use Rattle.line_steps.proofs.Working.{PlaceWork, handed_is}
 use Rattle.turn_rules.specs.declared.ahead.Ahead.{Ahead}

@@ -22,7 +22,7 @@ use Rattle.isolation_laws.proofs.Lookups.{instance_changed, instance_ended, held
 use Rattle.isolation_laws.proofs.Inversions.InversionSound.{none_at}
 use Rattle.isolation_laws.proofs.Outcome.OutcomesOfRecord.{AlikeNodes, Granted, granted_nodes, Renewed, renewed_nodes, Extended, extended_nodes}
 use Rattle.isolation_laws.proofs.Outcome.OutcomesOfStamps.{AtDrawn, settled_nodes}
-use Rattle.isolation_laws.proofs.Outcome.Outcomes.{Outcome, OfStill, OfGranted, OfRenewed, OfExtended, OfCrashed, OfAskedBegin, OfAskedCommit, OfAccepted, OfEnded, OfDrew, OfPlaced, OfNotPlaced, OfAnsweredBegin, OfAnsweredCommit, OfHanded, OfOwnPlaced, OfOwnNotPlaced, OfEndedReadOnly, OfWrote, OfWriteFailed, OfAborted, OfVanished, OfHealed, OfFetched, OfReadDropped, OfReadStepped, OfOutcome, OfOutcomeFailed, OfCompleted, OfSweepOpened, OfSwept, OfSweepListed, OfSweepFailed, left_by}
+use Rattle.isolation_laws.proofs.Outcome.Outcomes.{Outcome, OfStill, OfGranted, OfRenewed, OfExtended, OfCrashed, OfAskedBegin, OfAskedCommit, OfAccepted, OfEnded, OfDrew, OfPlaced, OfNotPlaced, OfAnsweredBegin, OfAnsweredCommit, OfHanded, left_by}
 use Rattle.isolation_laws.proofs.AlwaysHolds.{each_outcome}
 use Rattle.line_steps.specs.Laws.{IsPlayable}
 use Rattle.line_steps.specs.Runs.{fate_of, clocks_of}
@@ -129,24 +129,7 @@ fits_by w (OfNotPlaced k) all = settled_fits w k.it k.by all
 fits_by w (OfAnsweredBegin k) all = over_fits w k.node k.session k.i k.at all
 fits_by w (OfAnsweredCommit k) all = over_fits w k.node k.session k.i k.at all
 fits_by w (OfHanded k) all = over_fits w k.node k.session k.i k.at all
-fits_by w (OfOwnPlaced k) all = all
-fits_by w (OfOwnNotPlaced k) all = all
-fits_by w (OfEndedReadOnly k) all = all
-fits_by w (OfWrote k) all = all
-fits_by w (OfWriteFailed k) all = all
-fits_by w (OfAborted k) all = all
-fits_by w (OfVanished k) all = all
-fits_by w (OfHealed k) all = all
-fits_by w (OfFetched k) all = all
-fits_by w (OfReadDropped k) all = all
-fits_by w (OfReadStepped k) all = all
-fits_by w (OfOutcome k) all = all
-fits_by w (OfOutcomeFailed k) all = all
-fits_by w (OfCompleted k) all = all
-fits_by w (OfSweepOpened k) all = all
-fits_by w (OfSwept k) all = all
-fits_by w (OfSweepListed k) all = all
-fits_by w (OfSweepFailed k) all = all
+fits_by w _ all = all
 
 -- ---- the readings of turns are steady
 steady_at : (script : ScriptData) (c : Carried) (e : Event) (tick : ℕ) → IsPlayable script 0 script.lines → Facts script c → Timed (clocks_of script c.played) tick e → IsSteadyAt c.played.state.setup.skew c.played.state.seen (reading_of e)
@@ -167,14 +150,14 @@ turn_steady script c (turn.Answer node session) e playable k is = steady_at scri
 turn_steady script c (turn.Extend node) e playable k is = steady_at script c e 0 playable k (stage_turn script c (turn.Extend node) e (λ own. own) is).timed
 
 -- ---- all turns
-fits_on : (script : ScriptData) (c : Carried) (t : Turn) → IsPlayable script 0 script.lines → Facts script c → AllFit c.played.state.nodes → (found : Option Event) → event_of script c t ≡ found → AllFit (turned_by script c t found).played.state.nodes
-fits_on script c t playable k all None is = all
-fits_on script c t playable k all (Some e) is =
-    each_outcome (λ v items. AllFit v.nodes) c.played.state c.played.items e (fate_of script c.played e) k.reached.stands (turn_steady script c t e playable k is) (λ o. fits_by c.played.state o all)
+fits_on : (script : ScriptData) (c : Carried) (t : Turn) → Facts script c → AllFit c.played.state.nodes → (found : Option Event) → AllFit (turned_by script c t found).played.state.nodes
+fits_on script c t k all None = all
+fits_on script c t k all (Some e) =
+    each_outcome (λ v items. AllFit v.nodes) c.played.state c.played.items e (fate_of script c.played e) k.reached.stands (λ o. fits_by c.played.state o all)
 
 all_fit : (script : ScriptData) → IsPlayable script 0 script.lines → (turns : List Turn) (c : Carried) → Facts script c → AllFit c.played.state.nodes → AllFit (fold (turned script) c turns).played.state.nodes
 all_fit script playable [] c facts all = all
-all_fit script playable (t ∷ turns) c facts all = all_fit script playable turns (turned script c t) (facts_turned script c t playable facts) (fits_on script c t playable facts all (event_of script c t) refl)
+all_fit script playable (t ∷ turns) c facts all = all_fit script playable turns (turned script c t) (facts_turned script c t playable facts) (fits_on script c t facts all (event_of script c t))
 
 pub commits_alone_settle : (script : ScriptData) (turns : List Turn) → AreInRange script.setup → IsPlayable script 0 script.lines → AllFit (carried script turns).played.state.nodes
 commits_alone_settle script turns in_range playable = all_fit script playable turns (all_passed script (at_first script)) (facts_at_first script in_range) (λ n s i held at has. absurd (none_at script.setup.nodes n i at))

@@ -1,5 +1,5 @@
 -- Commits that their sessions place, worked: in file order, and on threads.
-use Rattle.std.proofs.Common.{◌≡◌, ℕ, ◌+◌, [], ◌∷◌, Some, inl, refl, sym, ◌∙◌, subst, arith}
+use Rattle.std.proofs.Common.{◌≡◌, ◌+◌, [], ◌∷◌, inl, refl, sym, ◌∙◌, subst, arith}
 use Rattle.std.proofs.lemmas.Option.{none-some}
 use Rattle.stamp_base.specs.SetupNumbers.{AreInRange}
 use Rattle.stamp_base.specs.declared.stores.Mark.TheVariants.{Invalid as InvalidMark}
@@ -25,7 +25,7 @@ use Rattle.turn_rules.specs.Carried.{Carried, carried_items}
 use Rattle.turn_rules.specs.Seats.{seats_of, passed}
 use Rattle.grant_laws.specs.Granted.{IsBefore, reading_of, Grants}
 use Rattle.grant_laws.specs.Laws.{CommitsAreGranted}
-use Rattle.grant_laws.specs.Lines.{Leave, NoneOwn, at_ask, at_accept, at_draw, at_settle, with_others, CanServeBy, stamp_drawn, CanCommitBy, RunsGrantCommits, IsAhead}
+use Rattle.grant_laws.specs.Lines.{Leave, NoneOwn, at_ask, at_accept, at_draw, at_settle, CanServeBy, stamp_drawn, CanCommitBy, RunsGrantCommits, IsAhead}
 use Rattle.grant_laws.specs.Premises.{IsAtWork, CanServe, CanCommit}
 use Rattle.grant_laws.specs.Worked as worked
 use Rattle.grant_laws.specs.WorkedRuns as runs

@@ -1,7 +1,7 @@
--- For line_steps, cause_laws, call_laws, planned_laws, replay_driver and turn_rules too.
+-- For cause_laws, call_laws, line_steps, planned_laws, replay_driver, turn_rules and grant_laws too.
 -- What ties state and history holds after every list of moves with steady readings; so each history is snapshot isolated, and
 -- serial with strict reads.
-use Rattle.std.proofs.Common.{◌≡◌, ℕ, List, [], ◌∷◌, ◌++◌, append_assoc, refl, sym, ◌∙◌, ap, subst}
+use Rattle.std.proofs.Common.{◌≡◌, ℕ, List, [], ◌∷◌, ◌++◌, append_assoc, refl, sym, ◌∙◌, subst}
 use Rattle.std.proofs.lemmas.List.{append-nil}
 use Rattle.stamp_base.specs.SetupNumbers.{SetupNumbers, AreInRange}
 use Rattle.port_io.specs.declared.weather.Fate.{Fate}
@@ -11,9 +11,10 @@ use Rattle.cause_rules.specs.Strict.{SerialIfStrict}
 use Rattle.machine.specs.declared.event.Event.{Event}
 use Rattle.machine.specs.State.{State, opening}
 use Rattle.machine.specs.Machine.{Step, stepped, Move, state_after, items_after, history_after, reading_of, seen_after, IsSteadyAt, AreSteady, Steady}
+use Rattle.isolation_laws.specs.Due.{AreDue}
 use Rattle.isolation_laws.specs.Holds.{Holds}
-use Rattle.isolation_laws.specs.Sound.{Sound, Stands}
-use Rattle.isolation_laws.proofs.Outcome.Outcomes.{Outcome, OfStill, left_by, told_by_outcome}
+use Rattle.isolation_laws.specs.Sound.{Stands}
+use Rattle.isolation_laws.proofs.Outcome.Outcomes.{Outcome, OfStill, left_by, told_by_outcome, IsTimely, steadily}
 use Rattle.isolation_laws.proofs.Numbers.NumbersOfAll.{numbers_kept}
 use Rattle.isolation_laws.proofs.Requests.RequestsOfAll.{requests_kept}
 use Rattle.isolation_laws.proofs.Memory.MemoryKept.{memory_kept}
@@ -23,7 +24,7 @@ use Rattle.isolation_laws.proofs.Requests.BeginsKept.{begins_kept}
 use Rattle.isolation_laws.proofs.Reading.ReadsKept.{reads_kept, right_reads_kept}
 use Rattle.isolation_laws.proofs.Known.KnownKept.{known_kept}
 use Rattle.isolation_laws.proofs.Bare.BareKept.{owned_kept}
-use Rattle.isolation_laws.proofs.Inversions.InversionParts.{ComesBy}
+use Rattle.isolation_laws.proofs.Inversions.InversionParts.{ComesAt}
 use Rattle.isolation_laws.proofs.Inversions.Inversion.{comes_to}
 use Rattle.isolation_laws.proofs.Inversions.InversionSound.{sound_kept, opening_sound}
 use Rattle.isolation_laws.proofs.Holding.IsolatedStamps.{stamped_kept, fresh_kept, apart_kept}
@@ -32,62 +33,63 @@ use Rattle.isolation_laws.proofs.Holding.Opening.{opening_holds}
 use Rattle.machine.proofs.PartsKept.{leaves_parts, seen_up}
 
 -- ---- one outcome
-pub setup_kept : (w : State) (o : Outcome w) → (left_by w o).setup ≡ w.setup
+setup_kept : (w : State) (o : Outcome w) → (left_by w o).setup ≡ w.setup
 setup_kept w (OfStill k) = refl
 setup_kept w _ = refl
 
-pub holds_kept : (w : State) (h : List Item) (o : Outcome w) → Holds w h → Holds (left_by w o) (h ++ told_by_outcome w o)
-holds_kept w h o holds = record {
+pub holds_kept : (w : State) (h : List Item) (o : Outcome w) → IsTimely w o → Holds w h → Holds (left_by w o) (h ++ told_by_outcome w o)
+holds_kept w h o timely holds = record {
   in_range = subst (λ (setup : SetupNumbers). AreInRange setup) (sym (setup_kept w o)) holds.in_range;
   numbers = numbers_kept w h o holds;
-  requests = requests_kept w h o holds;
+  requests = requests_kept w h o timely holds;
   memory = memory_kept w h o holds;
   cells = cells_kept w h o holds;
   under_way = under_way_kept w h o holds;
-  begins = begins_kept w h o holds;
-  reads = reads_kept w h o holds;
+  begins = begins_kept w h o timely holds;
+  reads = reads_kept w h o timely holds;
   known = known_kept w h o holds;
   owned = owned_kept w h o holds;
   isolated = record {
     apart = apart_kept w h o holds;
     stamped = stamped_kept w h o holds;
     fresh = fresh_kept w h o holds;
-    reads = right_reads_kept w h o holds;
+    reads = right_reads_kept w h o timely holds;
   };
 }
 
--- ---- the greatest reading after an event
--- ---- one move
--- what comes to an outcome keeps them
-come_soundly : (w : State) (h : List Item) (step : Step) → Stands w h → ComesBy w step → Stands step.state (h ++ step.items)
-come_soundly w h step both (o, state, items) = record {
-  holds = subst (λ (v : State). Holds v (h ++ step.items)) (sym state) (subst (λ (xs : List Item). Holds (left_by w o) (h ++ xs)) (sym items) (holds_kept w h o both.holds));
-  sound = subst (λ (v : State). Sound v) (sym state) (sound_kept w o both.sound);
-}
-
-setup_stays : (w : State) (step : Step) → ComesBy w step → step.state.setup ≡ w.setup
-setup_stays w step (o, state, items) = ap (λ (v : State). v.setup) state ∙ setup_kept w o
-
--- a move with a steady reading keeps them
-pub comes_by : (w : State) (h : List Item) (e : Event) (fate : Fate) → Stands w h → IsSteadyAt w.setup.skew w.seen (reading_of e) → ComesBy w (stepped w e fate)
-comes_by w h e fate both steady = comes_to w h e fate both.holds both.sound steady
+-- ---- one event
+pub comes_by : (w : State) (h : List Item) (e : Event) (fate : Fate) → Stands w h → ComesAt w (reading_of e) (stepped w e fate).state (stepped w e fate).items
+comes_by w h e fate both = comes_to w h e fate both.holds both.sound
 
 -- what each outcome of an event makes so, the event makes so
-pub each_outcome : (P : State → List Item → Type 0) (w : State) (h : List Item) (e : Event) (fate : Fate) → Stands w h → IsSteadyAt w.setup.skew w.seen (reading_of e) → ((o : Outcome w) → P (left_by w o) (told_by_outcome w o)) → P (stepped w e fate).state (stepped w e fate).items
-each_outcome P w h e fate both steady each =
-    let come : ComesBy w (stepped w e fate) = comes_by w h e fate both steady in
-    subst (λ (v : State). P v (stepped w e fate).items) (sym come.1) (subst (λ (items : List Item). P (left_by w come.0) items) (sym come.2) (each come.0))
+pub each_outcome : (P : State → List Item → Type 0) (w : State) (h : List Item) (e : Event) (fate : Fate) → Stands w h → ((o : Outcome w) → P (left_by w o) (told_by_outcome w o)) → P (stepped w e fate).state (stepped w e fate).items
+each_outcome P w h e fate both each =
+    let (o, state, items, at, due) = comes_by w h e fate both in
+    subst (λ (v : State). P v (stepped w e fate).items) (sym state) (subst (λ (items : List Item). P (left_by w o) items) (sym items) (each o))
 
+-- each refusal that an event tells says what is the case
+pub dues : (w : State) (h : List Item) (e : Event) (fate : Fate) → Stands w h → AreDue w (stepped w e fate).items
+dues w h e fate both =
+    let (o, state, items, at, due) = comes_by w h e fate both in
+    due
+
+-- a steady reading keeps the facts
 pub facts_stay : (w : State) (h : List Item) (e : Event) (fate : Fate) → Stands w h → IsSteadyAt w.setup.skew w.seen (reading_of e) → Stands (stepped w e fate).state (h ++ (stepped w e fate).items)
-facts_stay w h e fate both steady = come_soundly w h (stepped w e fate) both (comes_by w h e fate both steady)
+facts_stay w h e fate both steady =
+    let step : Step = stepped w e fate in
+    let (o, state, items, at, due) = comes_by w h e fate both in
+    record {
+      holds = subst (λ (v : State). Holds v (h ++ step.items)) (sym state) (subst (λ (xs : List Item). Holds (left_by w o) (h ++ xs)) (sym items) (holds_kept w h o (steadily w (reading_of e) o at steady) both.holds));
+      sound = sound_kept w e fate o state both.sound;
+    }
 
 -- and leaves the rest of the readings steady
-pub steady_stays : (w : State) (h : List Item) (move : Move) (moves : List Move) → Stands w h → AreSteady w.setup.skew w.seen (move ∷ moves) → AreSteady (stepped w move.event move.fate).state.setup.skew (stepped w move.event move.fate).state.seen moves
+pub steady_stays : (w : State) (move : Move) (moves : List Move) → AreSteady w.setup.skew w.seen (move ∷ moves) → AreSteady (stepped w move.event move.fate).state.setup.skew (stepped w move.event move.fate).state.seen moves
 unfolding AreSteady
-steady_stays w h move moves both steady =
+steady_stays w move moves steady =
     let step : Step = stepped w move.event move.fate in
-    let skew : AreSteady step.state.setup.skew (seen_after w.seen (reading_of move.event)) moves = subst (λ (setup : SetupNumbers). AreSteady setup.skew (seen_after w.seen (reading_of move.event)) moves) (sym (setup_stays w step (comes_by w h move.event move.fate both steady.0))) steady.1 in
-    subst (λ (seen : ℕ). AreSteady step.state.setup.skew seen moves) (sym (seen_up w move.event move.fate)) skew
+    subst (λ (seen : ℕ). AreSteady step.state.setup.skew seen moves) (sym (seen_up w move.event move.fate))
+    (subst (λ (setup : SetupNumbers). AreSteady setup.skew (seen_after w.seen (reading_of move.event)) moves) (sym (leaves_parts w move.event move.fate).setup) steady.1)
 
 pub steady_now : (w : State) (move : Move) (moves : List Move) → AreSteady w.setup.skew w.seen (move ∷ moves) → IsSteadyAt w.setup.skew w.seen (reading_of move.event)
 unfolding AreSteady
@@ -100,7 +102,7 @@ stands_after w h [] both steady = subst (λ (xs : List Item). Stands w xs) (sym 
 stands_after w h (move ∷ moves) both steady =
     let step : Step = stepped w move.event move.fate in
     let after : Stands step.state (h ++ step.items) = facts_stay w h move.event move.fate both (steady_now w move moves steady) in
-    subst (λ (xs : List Item). Stands (state_after step.state moves) xs) (append_assoc h step.items (items_after step.state moves)) (stands_after step.state (h ++ step.items) moves after (steady_stays w h move moves both steady))
+    subst (λ (xs : List Item). Stands (state_after step.state moves) xs) (append_assoc h step.items (items_after step.state moves)) (stands_after step.state (h ++ step.items) moves after (steady_stays w move moves steady))
 
 -- ---- from the opening on
 pub stands_at_first : (setup : SetupNumbers) → AreInRange setup → Stands (opening setup) []

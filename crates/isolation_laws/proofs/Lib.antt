@@ -1,18 +1,20 @@
 pub mod Outcome
-pub mod Orders
+mod Orders
 pub mod Lookups
 pub mod Pushed
 pub mod Requests
 pub mod OnceEach
 pub mod Owners
-pub mod ComingBelow
+mod ComingBelow
+pub mod FoundMarks
+mod Dues
 pub mod Numbers
 pub mod Memory
 pub mod Stores
-pub mod UnderWay
-pub mod Known
+mod UnderWay
+mod Known
 pub mod Bare
-pub mod Reading
+mod Reading
 pub mod Holding
 pub mod Inversions
 pub mod InversionOfAsks

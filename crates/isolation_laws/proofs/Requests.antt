@@ -3,7 +3,9 @@ pub mod PendingAfter
 pub mod PendingFewer
 pub mod PendingMoved
 pub mod ClientsOpen
+pub mod ClientsIdle
 pub mod OpenAfter
+pub mod ClientMoves
 pub mod ClientsAfter
 pub mod RequestsAfter
 pub mod CommitsInFlight

@@ -1,24 +1,31 @@
+-- For turn_rules and grant_laws too.
 -- Every event keeps the numbers of nodes and clients, and that an open transaction has an epoch.
 use Rattle.std.proofs.Common.{◌≡◌, ℕ, zero, suc, ◌<◌, List, [], ◌∷◌, Option, Some, None, refl, sym, ◌∙◌, ap, subst, arith, length}
-use Rattle.std.specs.Prelude.{slice_get, slice_set}
+use Rattle.std.specs.Prelude.{slice_get, slice_set, replicate}
+use Rattle.stamp_base.specs.SetupNumbers.{SetupNumbers}
 use Rattle.port_io.specs.declared.weather.Fate.{Fate}
 use Rattle.client_parts.specs.SessionSteps.{work_refusal, step_refusal, vanish_refusal}
 use Rattle.oracle_parts.specs.Instance.{InstanceEntry}
-use Rattle.machine.specs.State.{Client, State}
-use Rattle.machine.specs.Clients.{is_reading}
-use Rattle.machine.specs.Events.Write.{write_refused}
-use Rattle.machine.specs.Events.Heal.{offer_of}
 use Rattle.machine.specs.declared.event.Event.{Event}
 use Rattle.machine.specs.declared.event.Event.TheVariants as event
-use Rattle.machine.specs.Machine.{Step, nothing, at_post, at_client, at_both, with_reading, stepped}
-use Rattle.machine.specs.Events.Fetch.{fetch_refused}
-use Rattle.line_steps.proofs.Fitting.{ClientFits, AllFit, fit_at, fit_set, ask_begin_fits, ask_commit_fits, accept_fits, decide_fits, answer_fits, crash_fits, crash_long}
-use Rattle.machine.specs.Machine.{step_by as machine_step_by}
-use Rattle.machine.specs.State.{client_new, opening}
-use Rattle.machine.specs.Machine.{with_post}
+use Rattle.machine.specs.State.{Client, State, client_new, opening}
+use Rattle.machine.specs.Clients.{is_reading}
+use Rattle.machine.specs.Machine.{Step, at_client, at_both, with_reading, stepped}
 use Rattle.machine.specs.Events.Crash.{crash_on}
-use Rattle.stamp_base.specs.SetupNumbers.{SetupNumbers}
-use Rattle.std.specs.Prelude.{replicate}
+use Rattle.machine.specs.Events.AskBegin.{ask_begin_on}
+use Rattle.machine.specs.Events.AskCommit.{ask_commit_on}
+use Rattle.machine.specs.Events.Accept.{accept_on}
+use Rattle.machine.specs.Events.Decide.{decide_on}
+use Rattle.machine.specs.Events.Answer.{answer_on}
+use Rattle.machine.specs.Events.Write.{write_refused, write_on}
+use Rattle.machine.specs.Events.Fetch.{fetch_refused, fetch_on}
+use Rattle.machine.specs.Events.Step.{step_on}
+use Rattle.machine.specs.Events.Heal.{offer_of, heal_on}
+use Rattle.machine.specs.Events.Abort.{abort_on}
+use Rattle.machine.specs.Events.Vanish.{vanish_on}
+use Rattle.machine.proofs.LookedUp.{of_post, of_client, of_both}
+use Rattle.machine.proofs.PartsKept.{leaves_parts, posts_stay, clients_stay}
+use Rattle.line_steps.proofs.Fitting.{ClientFits, AllFit, fit_at, fit_set, ask_begin_fits, ask_commit_fits, accept_fits, decide_fits, answer_fits, crash_fits}
 use Rattle.line_steps.proofs.FittingSteps.{write_fits, fetch_fits, step_fits, heal_fits, abort_fits, vanish_fits}
 
 -- ---- the whole state
@@ -27,97 +34,41 @@ pub record Fit (w : State) : Type 0 where
   pub clients : length w.clients ≡ 16
   pub epochs : AllFit w.clients
 
--- a step keeps the numbers, and the clients fit
-record FitStep (w : State) (step : Step) : Type 0 where
-  pub setup : step.state.setup ≡ w.setup
-  pub nodes : length step.state.nodes ≡ length w.nodes
-  pub clients : length step.state.clients ≡ length w.clients
-  pub epochs : AllFit step.state.clients
+-- ---- each event that touches clients
+-- the client that an event puts back fits
+one_fits : (w : State) (s : ℕ) (f : Client → Step) (new : Client → Client) → ((c : Client) → (f c).state.clients ≡ slice_set w.clients s (new c)) → ((c : Client) → ClientFits c → ClientFits (new c)) → AllFit w.clients → AllFit (at_client w (slice_get w.clients s) f).state.clients
+one_fits w s f new sets fits fit = of_client (λ step. AllFit step.state.clients) w f (slice_get w.clients s) fit (λ c at. subst AllFit (sym (sets c)) (fit_set w.clients s (new c) fit (fits c (fit_at w.clients s c fit at))))
 
-set_long : {X : Type 0} (xs : List X) (p : ℕ) (x : X) → length (slice_set xs p x) ≡ length xs
-set_long [] p x = refl
-set_long (y ∷ ys) zero x = refl
-set_long (y ∷ ys) (suc p) x = omega (arith, set_long ys p x)
-
-fits_still : (w left : State) → AllFit w.clients → left.setup ≡ w.setup → left.nodes ≡ w.nodes → left.clients ≡ w.clients → FitStep w (nothing left)
-fits_still w left fit setup nodes clients = record { setup = setup; nodes = ap (λ (xs : List (Option InstanceEntry)). length xs) nodes; clients = ap (λ (cs : List Client). length cs) clients; epochs = subst (λ (cs : List Client). AllFit cs) (sym clients) fit }
-
-by_post : (w : State) (P : Step → Type 0) (f : Option InstanceEntry → Step) → P (nothing w) → ((post : Option InstanceEntry) → P (f post)) → (found : Option (Option InstanceEntry)) → P (at_post w found f)
-by_post w P f none each None = none
-by_post w P f none each (Some post) = each post
-
-by_client : (w : State) (P : Step → Type 0) (f : Client → Step) → P (nothing w) → (found : Option Client) → ((c : Client) → found ≡ Some c → P (f c)) → P (at_client w found f)
-by_client w P f none None each = none
-by_client w P f none (Some c) each = each c refl
-
-by_both : (w : State) (P : Step → Type 0) (f : Option InstanceEntry → Client → Step) → P (nothing w) → (post : Option (Option InstanceEntry)) (found : Option Client) → ((post : Option InstanceEntry) (c : Client) → found ≡ Some c → P (f post c)) → P (at_both w post found f)
-by_both w P f none None found each = none
-by_both w P f none (Some post) None each = none
-by_both w P f none (Some post) (Some c) each = each post c refl
-
--- a client alone
-one_fits : (w : State) (s : ℕ) (step : Step) (c : Client) → AllFit w.clients → step.state.setup ≡ w.setup → step.state.nodes ≡ w.nodes → step.state.clients ≡ slice_set w.clients s c → ClientFits c → FitStep w step
-one_fits w s step c fit setup nodes clients fits = record {
-  setup = setup;
-  nodes = ap (λ (xs : List (Option InstanceEntry)). length xs) nodes;
-  clients = ap (λ (cs : List Client). length cs) clients ∙ set_long w.clients s c;
-  epochs = subst (λ (cs : List Client). AllFit cs) (sym clients) (fit_set w.clients s c fit fits);
-}
-
--- a node alone
-node_fits : (w : State) (n : ℕ) (step : Step) (post : Option InstanceEntry) → AllFit w.clients → step.state.setup ≡ w.setup → step.state.nodes ≡ slice_set w.nodes n post → step.state.clients ≡ w.clients → FitStep w step
-node_fits w n step post fit setup nodes clients = record {
-  setup = setup;
-  nodes = ap (λ (xs : List (Option InstanceEntry)). length xs) nodes ∙ set_long w.nodes n post;
-  clients = ap (λ (cs : List Client). length cs) clients;
-  epochs = subst (λ (cs : List Client). AllFit cs) (sym clients) fit;
-}
-
--- both
-both_fit : (w : State) (n s : ℕ) (step : Step) (post : Option InstanceEntry) (c : Client) → AllFit w.clients → step.state.setup ≡ w.setup → step.state.nodes ≡ slice_set w.nodes n post → step.state.clients ≡ slice_set w.clients s c → ClientFits c → FitStep w step
-both_fit w n s step post c fit setup nodes clients fits = record {
-  setup = setup;
-  nodes = ap (λ (xs : List (Option InstanceEntry)). length xs) nodes ∙ set_long w.nodes n post;
-  clients = ap (λ (cs : List Client). length cs) clients ∙ set_long w.clients s c;
-  epochs = subst (λ (cs : List Client). AllFit cs) (sym clients) (fit_set w.clients s c fit fits);
-}
-
--- neither
-stays_fit : (w : State) (step : Step) → AllFit w.clients → step.state.setup ≡ w.setup → step.state.nodes ≡ w.nodes → step.state.clients ≡ w.clients → FitStep w step
-stays_fit w step fit setup nodes clients = record { setup = setup; nodes = ap (λ (xs : List (Option InstanceEntry)). length xs) nodes; clients = ap (λ (cs : List Client). length cs) clients; epochs = subst (λ (cs : List Client). AllFit cs) (sym clients) fit }
+both_fit : (w : State) (node s : ℕ) (f : Option InstanceEntry → Client → Step) (new : Option InstanceEntry → Client → Client) → ((post : Option InstanceEntry) (c : Client) → (f post c).state.clients ≡ slice_set w.clients s (new post c)) → ((post : Option InstanceEntry) (c : Client) → ClientFits c → ClientFits (new post c)) → AllFit w.clients → AllFit (at_both w (slice_get w.nodes node) (slice_get w.clients s) f).state.clients
+both_fit w node s f new sets fits fit = of_both (λ step. AllFit step.state.clients) w f (slice_get w.nodes node) (slice_get w.clients s) fit (λ post c there at. subst AllFit (sym (sets post c)) (fit_set w.clients s (new post c) fit (fits post c (fit_at w.clients s c fit at))))
 
 -- all clients, where a node crashes
-crashes : (w : State) (node : ℕ) (fit : Fit w) (post : Option InstanceEntry) → FitStep w (machine_step_by (crash_on node post w.clients) (λ (p : Option InstanceEntry × List Client). record (with_post w node p.0) { clients = p.1 }))
-crashes w node fit None = node_fits w node _ None fit.epochs refl refl refl
-crashes w node fit (Some i) = record { setup = refl; nodes = set_long w.nodes node None; clients = crash_long i.requests w.clients; epochs = crash_fits i.requests w.clients fit.epochs }
+crashes : (node : ℕ) (post : Option InstanceEntry) (clients : List Client) → AllFit clients → AllFit (crash_on node post clients).parts.1
+crashes node None clients fit = fit
+crashes node (Some i) clients fit = crash_fits i.requests clients fit
+
+epochs_stay : (w : State) (e : Event) (fate : Fate) → AllFit w.clients → AllFit (stepped w e fate).state.clients
+epochs_stay w (event.Crash node) fate fit = of_post (λ step. AllFit step.state.clients) w _ (slice_get w.nodes node) fit (λ post there. crashes node post w.clients fit)
+epochs_stay w (event.AskBegin s node) fate fit = both_fit w node s _ (λ post c. (ask_begin_on s node c post).parts.0) (λ post c. refl) (λ post c. ask_begin_fits s node c post) fit
+epochs_stay w (event.AskCommit s node) fate fit = both_fit w node s _ (λ post c. (ask_commit_on s node c post).parts.0) (λ post c. refl) (λ post c. ask_commit_fits s node c post) fit
+epochs_stay w (event.Accept node s reading) fate fit = both_fit (with_reading w reading) node s _ (λ post c. (accept_on node s reading post c).parts.1) (λ post c. refl) (accept_fits node s reading) fit
+epochs_stay w (event.Decide node s) fate fit = both_fit w node s _ (λ post c. (decide_on node s post c).parts.1) (λ post c. refl) (decide_fits node s) fit
+epochs_stay w (event.Answer node s) fate fit = both_fit w node s _ (λ post c. (answer_on node s post c).parts.1) (λ post c. refl) (answer_fits node s) fit
+epochs_stay w (event.Write s key value) fate fit = one_fits w s _ (λ c. (write_on s key value fate c w.rows).parts.0) (λ c. refl) (λ c. write_fits s key value fate c w.rows (write_refused c key) c.entry.start) fit
+epochs_stay w (event.Fetch s key) fate fit = one_fits w s _ (λ c. (fetch_on w.setup s key fate c w.rows).parts) (λ c. refl) (λ c. fetch_fits w.setup s key fate c w.rows (fetch_refused w.setup c key) c.entry.start c.entry.epoch) fit
+epochs_stay w (event.Step s) fate fit = one_fits w s _ (λ c. (step_on s fate c w.rows w.pairs).parts.0) (λ c. refl) (λ c. step_fits s fate c w.rows w.pairs (step_refusal c.entry.state (is_reading c))) fit
+epochs_stay w (event.Heal s) fate fit = one_fits w s _ (λ c. (heal_on s fate c w.rows w.pairs).parts.0) (λ c. refl) (λ c. heal_fits s fate c w.rows w.pairs (offer_of c)) fit
+epochs_stay w (event.Abort s) fate fit = one_fits w s _ (λ c. (abort_on s c).parts) (λ c. refl) (λ c. abort_fits s c (work_refusal c.entry.state (is_reading c)) c.entry.start) fit
+epochs_stay w (event.Vanish s) fate fit = one_fits w s _ (λ c. (vanish_on s c).parts) (λ c. refl) (λ c. vanish_fits s c (vanish_refusal c.entry.state)) fit
+epochs_stay w e fate fit = subst AllFit (sym ((leaves_parts w e fate).clients refl)) fit
 
 -- ---- any event
-always : (w : State) (e : Event) (fate : Fate) → Fit w → FitStep w (stepped w e fate)
-always w (event.Tick to) fate fit = stays_fit w _ fit.epochs refl refl refl
-always w (event.Note actor said) fate fit = stays_fit w _ fit.epochs refl refl refl
-always w (event.Take node reading) fate fit = by_post (with_reading w reading) (FitStep w) _ (fits_still w (with_reading w reading) fit.epochs refl refl refl) (λ post. node_fits w node _ _ fit.epochs refl refl refl) (slice_get w.nodes node)
-always w (event.Renew node reading) fate fit = by_post (with_reading w reading) (FitStep w) _ (fits_still w (with_reading w reading) fit.epochs refl refl refl) (λ post. node_fits w node _ _ fit.epochs refl refl refl) (slice_get w.nodes node)
-always w (event.Extend node) fate fit = by_post w (FitStep w) _ (fits_still w w fit.epochs refl refl refl) (λ post. node_fits w node _ _ fit.epochs refl refl refl) (slice_get w.nodes node)
-always w (event.Crash node) fate fit = by_post w (FitStep w) _ (fits_still w w fit.epochs refl refl refl) (λ post. crashes w node fit post) (slice_get w.nodes node)
-always w (event.AskBegin s node) fate fit = by_both w (FitStep w) _ (fits_still w w fit.epochs refl refl refl) (slice_get w.nodes node) (slice_get w.clients s) (λ post c at. both_fit w node s _ _ _ fit.epochs refl refl refl (ask_begin_fits s node c post (fit_at w.clients s c fit.epochs at)))
-always w (event.AskCommit s node) fate fit = by_both w (FitStep w) _ (fits_still w w fit.epochs refl refl refl) (slice_get w.nodes node) (slice_get w.clients s) (λ post c at. both_fit w node s _ _ _ fit.epochs refl refl refl (ask_commit_fits s node c post (fit_at w.clients s c fit.epochs at)))
-always w (event.Accept node s reading) fate fit = by_both (with_reading w reading) (FitStep w) _ (fits_still w (with_reading w reading) fit.epochs refl refl refl) (slice_get w.nodes node) (slice_get w.clients s) (λ post c at. both_fit w node s _ _ _ fit.epochs refl refl refl (accept_fits node s reading post c (fit_at w.clients s c fit.epochs at)))
-always w (event.Decide node s) fate fit = by_both w (FitStep w) _ (fits_still w w fit.epochs refl refl refl) (slice_get w.nodes node) (slice_get w.clients s) (λ post c at. both_fit w node s _ _ _ fit.epochs refl refl refl (decide_fits node s post c (fit_at w.clients s c fit.epochs at)))
-always w (event.Put node s) fate fit = by_post w (FitStep w) _ (fits_still w w fit.epochs refl refl refl) (λ post. node_fits w node _ _ fit.epochs refl refl refl) (slice_get w.nodes node)
-always w (event.Answer node s) fate fit = by_both w (FitStep w) _ (fits_still w w fit.epochs refl refl refl) (slice_get w.nodes node) (slice_get w.clients s) (λ post c at. both_fit w node s _ _ _ fit.epochs refl refl refl (answer_fits node s post c (fit_at w.clients s c fit.epochs at)))
-always w (event.Write s key value) fate fit = by_client w (FitStep w) _ (fits_still w w fit.epochs refl refl refl) (slice_get w.clients s) (λ c at. one_fits w s _ _ fit.epochs refl refl refl (write_fits s key value fate c w.rows (write_refused c key) c.entry.start (fit_at w.clients s c fit.epochs at)))
-always w (event.Fetch s key) fate fit = by_client w (FitStep w) _ (fits_still w w fit.epochs refl refl refl) (slice_get w.clients s) (λ c at. one_fits w s _ _ fit.epochs refl refl refl (fetch_fits w.setup s key fate c w.rows (fetch_refused w.setup c key) c.entry.start c.entry.epoch (fit_at w.clients s c fit.epochs at)))
-always w (event.Step s) fate fit = by_client w (FitStep w) _ (fits_still w w fit.epochs refl refl refl) (slice_get w.clients s) (λ c at. one_fits w s _ _ fit.epochs refl refl refl (step_fits s fate c w.rows w.pairs (step_refusal c.entry.state (is_reading c)) (fit_at w.clients s c fit.epochs at)))
-always w (event.Heal s) fate fit = by_client w (FitStep w) _ (fits_still w w fit.epochs refl refl refl) (slice_get w.clients s) (λ c at. one_fits w s _ _ fit.epochs refl refl refl (heal_fits s fate c w.rows w.pairs (offer_of c) (fit_at w.clients s c fit.epochs at)))
-always w (event.Abort s) fate fit = by_client w (FitStep w) _ (fits_still w w fit.epochs refl refl refl) (slice_get w.clients s) (λ c at. one_fits w s _ _ fit.epochs refl refl refl (abort_fits s c (work_refusal c.entry.state (is_reading c)) c.entry.start (fit_at w.clients s c fit.epochs at)))
-always w (event.Vanish s) fate fit = by_client w (FitStep w) _ (fits_still w w fit.epochs refl refl refl) (slice_get w.clients s) (λ c at. one_fits w s _ _ fit.epochs refl refl refl (vanish_fits s c (vanish_refusal c.entry.state) (fit_at w.clients s c fit.epochs at)))
-always w (event.SweepOpen node txn) fate fit = by_post w (FitStep w) _ (fits_still w w fit.epochs refl refl refl) (λ post. stays_fit w _ fit.epochs refl refl refl) (slice_get w.nodes node)
-always w event.SweepStep fate fit = stays_fit w _ fit.epochs refl refl refl
-
 pub fit_stays : (w : State) (e : Event) (fate : Fate) → Fit w → Fit (stepped w e fate).state
-fit_stays w e fate fit =
-    let k : FitStep w (stepped w e fate) = always w e fate fit in
-    record { nodes = k.nodes ∙ fit.nodes ∙ ap (λ (x : SetupNumbers). x.nodes) (sym k.setup); clients = k.clients ∙ fit.clients; epochs = k.epochs }
+fit_stays w e fate fit = record {
+  nodes = posts_stay w e fate ∙ fit.nodes ∙ ap (λ (x : SetupNumbers). x.nodes) (sym (leaves_parts w e fate).setup);
+  clients = clients_stay w e fate ∙ fit.clients;
+  epochs = epochs_stay w e fate fit.epochs;
+}
 
 -- ---- at first
 many_long : {X : Type 0} (n : ℕ) (x : X) → length (replicate n x) ≡ n

@@ -1,3 +1,4 @@
+-- For turn_engine too.
 -- Each event that drives a request lowers what is left, and so does the completion that follows.
 use Rattle.std.proofs.Common.{◌≡◌, ℕ, ◌+◌, ◌<◌, Bool, List, Option, Some, None, refl, sym, ◌∙◌, ap, subst, arith}
 use Rattle.std.specs.Prelude.{slice_get}

@@ -20,14 +20,14 @@ use Rattle.oracle_parts.specs.declared.instance.Place.TheVariants as place
 use Rattle.oracle_parts.specs.Instance.{InstanceEntry, held_of, place_of_progress}
 use Rattle.oracle_parts.specs.InstanceSteps.{instance_widened, instance_stopped}
 use Rattle.machine.specs.declared.event.Event.TheVariants as event
-use Rattle.machine.specs.State.{Client, State}
+use Rattle.machine.specs.State.{State}
 use Rattle.machine.specs.Effect.{Effect}
 use Rattle.machine.specs.Machine.{Step, step_by, with_post, at_post, stepped}
 use Rattle.machine.specs.Events.Extend.{extend_by, extend_on}
 use Rattle.machine.specs.Events.Take.{rules_of}
 use Rattle.script_data.specs.declared.line.Verb.{Verb}
 use Rattle.line_steps.specs.Halts.{halt_of, after_extending}
-use Rattle.line_steps.specs.Left.{of_client, client_settles, client_ends, lacks_stamps, place_left, drive_left, session_left}
+use Rattle.line_steps.specs.Left.{of_client, client_ends, lacks_stamps, place_left, drive_left, session_left}
 use Rattle.line_steps.proofs.Clients.{settles_within}
 use Rattle.line_steps.proofs.Holders.{drives_on}
 use Rattle.line_steps.proofs.Serving.{Serving, serving_changed}

@@ -1,3 +1,4 @@
+-- For turn_rules too.
 -- The fetch of a read line answers it; and then the read has ended, or is under way.
 use Rattle.std.proofs.Common.{◌≡◌, ℕ, Bool, true, false, cond, nat_lt, ◌||◌, List, [], ◌∷◌, Option, Some, None, ◌⊎◌, inl, inr, refl, sym, subst, length}
 use Rattle.std.specs.Option.{option_or}

@@ -1,5 +1,6 @@
+-- For grant_laws too.
 -- Every event keeps the numbers of nodes and of clients, and that an open transaction has an epoch.
-use Rattle.std.proofs.Common.{◌≡◌, ℕ, zero, suc, List, [], ◌∷◌, Option, Some, None, Result, Ok, Err, refl, subst, arith, length}
+use Rattle.std.proofs.Common.{◌≡◌, ℕ, zero, suc, List, [], ◌∷◌, Option, Some, None, Result, Ok, Err, subst}
 use Rattle.std.specs.Prelude.{slice_get, slice_set}
 use Rattle.std.proofs.lemmas.Option.{same_Some, none-some}
 use Rattle.history_book.specs.declared.cause.Cause.{Cause}
@@ -169,9 +170,3 @@ unfolding AllFit crashed_clients
 crash_fits [] cs fit = fit
 crash_fits (held ∷ others) [] fit = tt
 crash_fits (held ∷ others) (c ∷ cs) fit = (crashed_fits held c fit.0, crash_fits others cs fit.1)
-
-pub crash_long : (requests : List (Option Held)) (cs : List Client) → length (crashed_clients requests cs) ≡ length cs
-unfolding crashed_clients
-crash_long [] cs = refl
-crash_long (held ∷ others) [] = refl
-crash_long (held ∷ others) (c ∷ cs) = omega (arith, crash_long others cs)

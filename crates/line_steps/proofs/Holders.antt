@@ -1,3 +1,4 @@
+-- For turn_rules and grant_laws too.
 -- The request of a session: where it is found, and where it stands after the node that holds it has changed.
 use Rattle.std.proofs.Common.{◌≡◌, ℕ, zero, suc, ◌+◌, ◌<◌, List, [], ◌∷◌, Option, Some, None, inl, inr, refl, sym, ◌∙◌, ap, subst, arith}
 use Rattle.std.specs.Prelude.{slice_get, slice_set}

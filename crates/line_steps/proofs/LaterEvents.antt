@@ -1,3 +1,4 @@
+-- For turn_rules too.
 -- Once a line has opened, its events open no line; nor does the first event of a line without an opening item.
 use Rattle.std.proofs.Common.{◌≡◌, ℕ, Bool, true, false, cond, Option, Some, None, subst}
 use Rattle.history_book.specs.declared.item.Actor.{Actor}

@@ -13,10 +13,10 @@ mod Sweeping
 pub mod Driving
 mod Doings
 mod Lowering
-pub mod AllLower
+mod AllLower
 pub mod Timing
 pub mod Ending
-pub mod Plain
+mod Plain
 pub mod PlainEvents
 pub mod Fitting
 mod FittingSteps
@@ -27,7 +27,7 @@ pub mod Takes
 pub mod Walks
 pub mod LaterEvents
 pub mod OpenedLines
-pub mod OwnItems
+mod OwnItems
 pub mod ReadLines
 pub mod ReadSteps
 pub mod FetchLines

@@ -1,3 +1,4 @@
+-- For turn_rules too.
 -- The items of a line that has an opening item: its first answers it, and a read that it has begun ends.
 use Rattle.std.proofs.Common.{◌≡◌, ℕ, ◌<◌, true, List, ◌++◌, Option, Some, None, ◌⊎◌, inl, inr, refl, sym, ◌∙◌, ap, subst}
 use Rattle.std.proofs.lemmas.Option.{same_Some}

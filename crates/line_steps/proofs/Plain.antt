@@ -1,4 +1,5 @@
 -- Events on requests append no opening item of a line.
+use Rattle.machine.proofs.LookedUp.{of_post, of_client, of_both}
 use Rattle.std.proofs.Common.{◌≡◌, ℕ, Bool, true, false, List, [], ◌∷◌, ◌++◌, Option, Some, None, Result, Ok, Err, refl}
 use Rattle.stamp_base.specs.declared.stores.Mark.{Mark}
 use Rattle.port_io.specs.declared.weather.Fate.{Fate}
@@ -63,17 +64,13 @@ kept_plain FailsApplied (Some why) items plain = no_plain
 
 -- ---- looking up the parts
 pub post_plain : (w : State) (f : Option InstanceEntry → Step) → ((post : Option InstanceEntry) → AllPlain (f post).items) → (found : Option (Option InstanceEntry)) → AllPlain (at_post w found f).items
-post_plain w f each None = no_plain
-post_plain w f each (Some post) = each post
+post_plain w f each found = of_post (λ step. AllPlain step.items) w f found no_plain (λ post at. each post)
 
 pub client_plain : (w : State) (f : Client → Step) → ((c : Client) → AllPlain (f c).items) → (found : Option Client) → AllPlain (at_client w found f).items
-client_plain w f each None = no_plain
-client_plain w f each (Some c) = each c
+client_plain w f each found = of_client (λ step. AllPlain step.items) w f found no_plain (λ c at. each c)
 
 pub both_plain : (w : State) (f : Option InstanceEntry → Client → Step) → ((post : Option InstanceEntry) (c : Client) → AllPlain (f post c).items) → (post : Option (Option InstanceEntry)) (found : Option Client) → AllPlain (at_both w post found f).items
-both_plain w f each None found = no_plain
-both_plain w f each (Some post) None = no_plain
-both_plain w f each (Some post) (Some c) = each post c
+both_plain w f each post found = of_both (λ step. AllPlain step.items) w f post found no_plain (λ post c at there. each post c)
 
 -- ---- requests
 accept_plain : (node s reading : ℕ) (request : Request) (left : InstanceEntry) (c : Client) (answer : Result (Unit {0}) Cause) → AllPlain (accept_by node s reading request left c answer).items

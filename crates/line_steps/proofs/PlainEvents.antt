@@ -1,3 +1,4 @@
+-- For turn_rules too.
 -- Events that open no line of an actor append no opening item: those on requests, steps, heals, aborts and sweeps.
 use Rattle.std.proofs.Common.{◌≡◌, ℕ, Bool, true, false, List, [], ◌∷◌, Option, Some, None, refl}
 use Rattle.std.specs.Prelude.{slice_get}
@@ -183,13 +184,4 @@ events_plain w (event.Heal s) fate opens = client_plain w _ (λ c. heal_plain s 
 events_plain w (event.Abort s) fate opens = client_plain w _ (λ c. abort_plain s c (work_refusal c.entry.state (is_reading c)) c.entry.start) (slice_get w.clients s)
 events_plain w (event.SweepOpen node txn) fate opens = post_plain w _ (λ post. sweep_open_plain node txn post w.sweep) (slice_get w.nodes node)
 events_plain w event.SweepStep fate opens = janitor_plain fate w.sweep w.rows w.pairs
-events_plain w (event.Tick to) fate opens = absurd opens
-events_plain w (event.Note actor said) fate opens = absurd opens
-events_plain w (event.Take node reading) fate opens = absurd opens
-events_plain w (event.Renew node reading) fate opens = absurd opens
-events_plain w (event.Crash node) fate opens = absurd opens
-events_plain w (event.AskBegin s node) fate opens = absurd opens
-events_plain w (event.AskCommit s node) fate opens = absurd opens
-events_plain w (event.Write s key value) fate opens = absurd opens
-events_plain w (event.Fetch s key) fate opens = absurd opens
-events_plain w (event.Vanish s) fate opens = absurd opens
+events_plain w _ fate opens = absurd opens

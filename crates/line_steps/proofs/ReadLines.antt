@@ -1,4 +1,5 @@
--- For grant_laws too. A read that a line has begun ends with its value or with a fault: its fetch, and each of its steps.
+-- For turn_rules and grant_laws too.
+-- A read that a line has begun ends with its value or with a fault: its fetch, and each of its steps.
 use Rattle.std.proofs.Common.{◌≡◌, ℕ, Bool, true, false, cond, nat_lt, ◌==◌, ◌||◌, is_some, List, [], ◌∷◌, ◌++◌, Option, None, ◌⊎◌, inl, refl, subst}
 use Rattle.history_book.specs.declared.item.Actor.TheVariants.{Session}
 use Rattle.history_book.specs.declared.item.Item.{Item}

@@ -1,3 +1,4 @@
+-- For turn_rules too.
 -- A step of a read that a line has begun ends it with its value or with a fault, or leaves a read of the same key; and such a
 -- read has a next step.
 use Rattle.std.proofs.Common.{◌≡◌, ℕ, Bool, true, [], ◌∷◌, ◌++◌, Option, Some, None, inl, inr, refl, sym, ◌∙◌, ap, subst}

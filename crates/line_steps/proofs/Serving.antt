@@ -1,3 +1,4 @@
+-- For turn_engine and grant_laws too.
 -- An event that serves a request lowers what is left: what all of them have in common.
 use Rattle.std.proofs.Common.{◌≡◌, ℕ, ◌+◌, ◌<◌, ◌≤◌, List, Option, Some, None, inl, inr, refl, sym, ◌∙◌, ap, subst, arith}
 use Rattle.std.specs.Prelude.{slice_get, slice_set}

@@ -1,3 +1,4 @@
+-- For turn_rules and grant_laws too.
 -- A step of a session lowers what is left of its read, of the resolve of its own commit, of its completion. A failed one ends
 -- the run, or leaves nothing.
 use Rattle.std.proofs.Common.{◌≡◌, ℕ, ◌+◌, ◌*◌, ◌<◌, ◌≤◌, false, List, [], ◌∷◌, Option, Some, None, inl, inr, refl, sym, ◌∙◌, ap, subst, arith, length}

@@ -11,13 +11,13 @@ use Rattle.port_io.specs.declared.weather.Fate.{Fate}
 use Rattle.history_book.specs.declared.item.Actor.{Actor}
 use Rattle.history_book.specs.declared.item.Item.{Item}
 use Rattle.history_book.specs.declared.item.Item.TheVariants as item
-use Rattle.oracle_parts.specs.Instance.{InstanceEntry}
 use Rattle.cause_rules.specs.Since.{told_then, last_told}
+use Rattle.machine.proofs.LookedUp.{of_post, of_client, of_both}
 use Rattle.machine.proofs.PartsKept.{leaves_parts}
 use Rattle.machine.specs.declared.event.Event.{Event}
 use Rattle.machine.specs.declared.event.Event.TheVariants as event
-use Rattle.machine.specs.State.{Client, State}
-use Rattle.machine.specs.Machine.{Step, at_post, at_client, at_both, with_reading, stepped}
+use Rattle.machine.specs.State.{State}
+use Rattle.machine.specs.Machine.{Step, with_reading, stepped}
 use Rattle.isolation_laws.specs.Sound.{Stands}
 use Rattle.line_steps.specs.Answers.{opener, IsTake, IsRenew, IsCrash, IsVanish, IsAskBegin, IsAskCommit, IsWrite, IsFetch, IsRefusal, IsReadOnly}
 use Rattle.line_steps.specs.Master.{taken_by, is_node, takes, has_take, HasTake, last_master}
@@ -171,41 +171,26 @@ within (y ∷ ys) (suc p) x is = omega (arith, within ys p x is)
 none_of : (P : ℕ → Type 0) → TakesOf P []
 none_of P n some = let clash : false ≡ true = some in absurd (cc)
 
-in_post : (P : ℕ → Type 0) (u : State) (f : Option InstanceEntry → Step) (found : Option (Option InstanceEntry)) → ((post : Option InstanceEntry) → found ≡ Some post → TakesOf P (f post).items) → TakesOf P (at_post u found f).items
-in_post P u f None each = none_of P
-in_post P u f (Some post) each = each post refl
-
-in_client : (P : ℕ → Type 0) (u : State) (f : Client → Step) (found : Option Client) → ((c : Client) → found ≡ Some c → TakesOf P (f c).items) → TakesOf P (at_client u found f).items
-in_client P u f None each = none_of P
-in_client P u f (Some c) each = each c refl
-
-in_both : (P : ℕ → Type 0) (u : State) (f : Option InstanceEntry → Client → Step) (post : Option (Option InstanceEntry)) (found : Option Client) → ((post : Option InstanceEntry) (c : Client) → found ≡ Some c → TakesOf P (f post c).items) → TakesOf P (at_both u post found f).items
-in_both P u f None found each = none_of P
-in_both P u f (Some post) None each = none_of P
-in_both P u f (Some post) (Some c) each = each post c refl
+abbrev StepTakes : (ℕ → Type 0) → Step → Type 0
+StepTakes P step = TakesOf P step.items
 
 -- ---- any event
-events_take : (w : State) (h : List Item) (e : Event) (fate : Fate) → Stands w h → Fit w → TakesOf (λ n. n < w.setup.nodes) (stepped w e fate).items
-events_take w h (event.Tick to) fate stands fit = none_of (λ n. n < w.setup.nodes)
-events_take w h (event.Note actor said) fate stands fit = none_of (λ n. n < w.setup.nodes)
-events_take w h (event.Take node reading) fate stands fit = in_post (λ n. n < w.setup.nodes) (with_reading w reading) _ (slice_get w.nodes node) (λ post at. begins_in (λ n. n < w.setup.nodes) (TakeAnswer node) _ (takes_own (λ n. n < w.setup.nodes) node (subst (λ (k : ℕ). node < k) fit.nodes (within w.nodes node post at))) (take_begins w node reading fate post))
-events_take w h (event.Renew node reading) fate stands fit = in_post (λ n. n < w.setup.nodes) (with_reading w reading) _ (slice_get w.nodes node) (λ post at. no_take (λ n. n < w.setup.nodes) (RenewAnswer node) _ (either_none _ _ (renew_none node) (refusal_none _)) (renew_begins w node reading fate post))
-events_take w h (event.Crash node) fate stands fit = in_post (λ n. n < w.setup.nodes) w _ (slice_get w.nodes node) (λ post at. no_take (λ n. n < w.setup.nodes) _ _ (either_none _ _ (crash_none node) (refusal_none _)) (crash_begins w node post))
-events_take w h (event.AskBegin s node) fate stands fit = in_both (λ n. n < w.setup.nodes) w _ (slice_get w.nodes node) (slice_get w.clients s) (λ post c at. no_take (λ n. n < w.setup.nodes) (BeginAnswer s node) _ (either_none _ _ (begin_none s node) (refusal_none _)) (ask_begin_begins s node c post))
-events_take w h (event.AskCommit s node) fate stands fit = in_both (λ n. n < w.setup.nodes) w _ (slice_get w.nodes node) (slice_get w.clients s) (λ post c at. no_take (λ n. n < w.setup.nodes) (CommitAnswer s node) _ (either_none _ _ (commit_none s node) (either_none _ _ (refusal_none _) (end_none s))) (ask_commit_begins s node c post (starts w h s c stands at)))
-events_take w h (event.Write s key value) fate stands fit = in_client (λ n. n < w.setup.nodes) w _ (slice_get w.clients s) (λ c at. no_take (λ n. n < w.setup.nodes) (WriteAnswer s key value) _ (either_none _ _ (write_none s key value) (refusal_none _)) (write_begins s key value fate c w.rows (starts w h s c stands at)))
-events_take w h (event.Fetch s key) fate stands fit = in_client (λ n. n < w.setup.nodes) w _ (slice_get w.clients s) (λ c at. no_take (λ n. n < w.setup.nodes) (FetchAnswer s key) _ (either_none _ _ (fetch_none s key) (refusal_none _)) (fetch_begins w.setup s key fate c w.rows (starts w h s c stands at) (fit_at w.clients s c fit.epochs at)))
-events_take w h (event.Vanish s) fate stands fit = in_client (λ n. n < w.setup.nodes) w _ (slice_get w.clients s) (λ c at. no_take (λ n. n < w.setup.nodes) _ _ (either_none _ _ (vanish_none s) (refusal_none _)) (vanish_begins s c))
-events_take w h (event.Extend node) fate stands fit = plain_takes (λ n. n < w.setup.nodes) _ (events_plain w (event.Extend node) fate tt)
-events_take w h (event.Accept node s reading) fate stands fit = plain_takes (λ n. n < w.setup.nodes) _ (events_plain w (event.Accept node s reading) fate tt)
-events_take w h (event.Decide node s) fate stands fit = plain_takes (λ n. n < w.setup.nodes) _ (events_plain w (event.Decide node s) fate tt)
-events_take w h (event.Put node s) fate stands fit = plain_takes (λ n. n < w.setup.nodes) _ (events_plain w (event.Put node s) fate tt)
-events_take w h (event.Answer node s) fate stands fit = plain_takes (λ n. n < w.setup.nodes) _ (events_plain w (event.Answer node s) fate tt)
-events_take w h (event.Step s) fate stands fit = plain_takes (λ n. n < w.setup.nodes) _ (events_plain w (event.Step s) fate tt)
-events_take w h (event.Heal s) fate stands fit = plain_takes (λ n. n < w.setup.nodes) _ (events_plain w (event.Heal s) fate tt)
-events_take w h (event.Abort s) fate stands fit = plain_takes (λ n. n < w.setup.nodes) _ (events_plain w (event.Abort s) fate tt)
-events_take w h (event.SweepOpen node txn) fate stands fit = plain_takes (λ n. n < w.setup.nodes) _ (events_plain w (event.SweepOpen node txn) fate tt)
-events_take w h event.SweepStep fate stands fit = plain_takes (λ n. n < w.setup.nodes) _ (events_plain w event.SweepStep fate tt)
+-- a node of the system
+abbrev InSystem : State → ℕ → Type 0
+InSystem w n = n < w.setup.nodes
+
+events_take : (w : State) (h : List Item) (e : Event) (fate : Fate) → Stands w h → Fit w → TakesOf (InSystem w) (stepped w e fate).items
+events_take w h (event.Tick to) fate stands fit = none_of (InSystem w)
+events_take w h (event.Note actor said) fate stands fit = none_of (InSystem w)
+events_take w h (event.Take node reading) fate stands fit = of_post (StepTakes (InSystem w)) (with_reading w reading) _ (slice_get w.nodes node) (none_of (InSystem w)) (λ post at. begins_in (InSystem w) (TakeAnswer node) _ (takes_own (InSystem w) node (subst (λ (k : ℕ). node < k) fit.nodes (within w.nodes node post at))) (take_begins w node reading fate post))
+events_take w h (event.Renew node reading) fate stands fit = of_post (StepTakes (InSystem w)) (with_reading w reading) _ (slice_get w.nodes node) (none_of (InSystem w)) (λ post at. no_take (InSystem w) (RenewAnswer node) _ (either_none _ _ (renew_none node) (refusal_none _)) (renew_begins w node reading fate post))
+events_take w h (event.Crash node) fate stands fit = of_post (StepTakes (InSystem w)) w _ (slice_get w.nodes node) (none_of (InSystem w)) (λ post at. no_take (InSystem w) _ _ (either_none _ _ (crash_none node) (refusal_none _)) (crash_begins w node post))
+events_take w h (event.AskBegin s node) fate stands fit = of_both (StepTakes (InSystem w)) w _ (slice_get w.nodes node) (slice_get w.clients s) (none_of (InSystem w)) (λ post c there at. no_take (InSystem w) (BeginAnswer s node) _ (either_none _ _ (begin_none s node) (refusal_none _)) (ask_begin_begins s node c post))
+events_take w h (event.AskCommit s node) fate stands fit = of_both (StepTakes (InSystem w)) w _ (slice_get w.nodes node) (slice_get w.clients s) (none_of (InSystem w)) (λ post c there at. no_take (InSystem w) (CommitAnswer s node) _ (either_none _ _ (commit_none s node) (either_none _ _ (refusal_none _) (end_none s))) (ask_commit_begins s node c post (starts w h s c stands at)))
+events_take w h (event.Write s key value) fate stands fit = of_client (StepTakes (InSystem w)) w _ (slice_get w.clients s) (none_of (InSystem w)) (λ c at. no_take (InSystem w) (WriteAnswer s key value) _ (either_none _ _ (write_none s key value) (refusal_none _)) (write_begins s key value fate c w.rows (starts w h s c stands at)))
+events_take w h (event.Fetch s key) fate stands fit = of_client (StepTakes (InSystem w)) w _ (slice_get w.clients s) (none_of (InSystem w)) (λ c at. no_take (InSystem w) (FetchAnswer s key) _ (either_none _ _ (fetch_none s key) (refusal_none _)) (fetch_begins w.setup s key fate c w.rows (starts w h s c stands at) (fit_at w.clients s c fit.epochs at)))
+events_take w h (event.Vanish s) fate stands fit = of_client (StepTakes (InSystem w)) w _ (slice_get w.clients s) (none_of (InSystem w)) (λ c at. no_take (InSystem w) _ _ (either_none _ _ (vanish_none s) (refusal_none _)) (vanish_begins s c))
+events_take w h e fate stands fit = plain_takes (InSystem w) _ (events_plain w e fate tt)
 
 or_cases : (a b : Bool) → (a || b) ≡ true → (a ≡ true) ⊎ (b ≡ true)
 or_cases true b is = inl refl

@@ -1,3 +1,4 @@
+-- For turn_rules too.
 -- The first item of a commit that is asked, of a write and of a fetch answers its line. A transaction that is open has a start
 -- and an epoch.
 use Rattle.std.proofs.Common.{◌≡◌, ℕ, Bool, true, false, cond, nat_lt, ◌||◌, List, [], ◌∷◌, Option, Some, None, ◌⊎◌, inl, inr, refl, sym, subst, IsTrue, length}

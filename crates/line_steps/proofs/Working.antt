@@ -1,3 +1,4 @@
+-- For turn_rules and grant_laws too.
 -- What a session that may make a step has under way: a read, the resolve of its own commit, a completion, or a commit to place.
 use Rattle.std.proofs.Common.{◌≡◌, ℕ, Bool, true, false, IsTrue, List, [], ◌∷◌, Option, Some, None, ◌⊎◌, inl, inr, refl, sym, ◌∙◌, ap, subst}
 use Rattle.history_book.specs.declared.item.Item.{Item}

@@ -1,13 +1,12 @@
 -- A session that has vanished stays so, over each event.
-use Rattle.std.proofs.Common.{◌≡◌, ℕ, false, List, Option, Some, None, refl, sym, subst}
+use Rattle.std.proofs.Common.{◌≡◌, ℕ, false, List, Option, Some, refl, sym, subst}
 use Rattle.std.specs.Prelude.{slice_get, slice_set}
 use Rattle.port_io.specs.declared.weather.Fate.{Fate}
 use Rattle.oracle_parts.specs.Instance.{InstanceEntry}
 use Rattle.machine.specs.declared.event.Event.{Event}
 use Rattle.machine.specs.declared.event.Event.TheVariants as event
 use Rattle.machine.specs.State.{Client, State}
-use Rattle.machine.specs.Machine.{Step, step_by, with_reading, with_post, at_post, at_client, at_both, stepped}
-use Rattle.machine.specs.Events.Crash.{crash_on}
+use Rattle.machine.specs.Machine.{Step, with_reading, at_client, at_both, stepped}
 use Rattle.machine.specs.Events.AskBegin.{ask_begin_on}
 use Rattle.machine.specs.Events.AskCommit.{ask_commit_on}
 use Rattle.machine.specs.Events.Accept.{accept_on}
@@ -20,38 +19,27 @@ use Rattle.machine.specs.Events.Heal.{heal_on}
 use Rattle.machine.specs.Events.Abort.{abort_on}
 use Rattle.machine.specs.Events.Vanish.{vanish_on}
 use Rattle.machine.specs.Laws.{touches_clients, IsGoneAt, GoneStaysGone}
+use Rattle.machine.proofs.LookedUp.{of_post, of_client, of_both}
 use Rattle.machine.proofs.PartsKept.{leaves_parts}
 use Rattle.machine.proofs.GoneClients.{IsGone, StaysGone, GoneIn, gone_here, gone_set, crash_gone, begin_gone, commit_gone, write_gone, fetch_gone, step_gone, heal_gone, abort_gone, vanish_gone, accept_gone, decide_gone, answer_gone}
 
 -- ---- the parts put back
-at_client_gone : (w : State) (at session : ℕ) (c : Client) (f : Client → Step) (new : Client → Client) (found : Option Client) → ((d : Client) → (f d).state.clients ≡ slice_set w.clients at (new d)) → ((d : Client) → StaysGone d (new d)) → slice_get w.clients at ≡ found → slice_get w.clients session ≡ Some c → IsGone c → IsGoneAt (at_client w found f).state session
-at_client_gone w at session c f new None sets stays was is gone = gone_here w.clients session c is gone
-at_client_gone w at session c f new (Some d) sets stays was is gone =
-    subst (λ (cs : List Client). GoneIn cs session) (sym (sets d)) (gone_set w.clients at session d (new d) c was (stays d) is gone)
+on_one : (w : State) (at session : ℕ) (c : Client) (f : Client → Step) (new : Client → Client) → ((d : Client) → (f d).state.clients ≡ slice_set w.clients at (new d)) → ((d : Client) → StaysGone d (new d)) → slice_get w.clients session ≡ Some c → IsGone c → IsGoneAt (at_client w (slice_get w.clients at) f).state session
+on_one w at session c f new sets stays is gone =
+    of_client (λ step. IsGoneAt step.state session) w f (slice_get w.clients at) (gone_here w.clients session c is gone) (λ d was. subst (λ (cs : List Client). GoneIn cs session) (sym (sets d)) (gone_set w.clients at session d (new d) c was (stays d) is gone))
 
-at_both_gone : (w : State) (at session : ℕ) (c : Client) (f : Option InstanceEntry → Client → Step) (new : Option InstanceEntry → Client → Client) (post : Option (Option InstanceEntry)) (found : Option Client) → ((p : Option InstanceEntry) (d : Client) → (f p d).state.clients ≡ slice_set w.clients at (new p d)) → ((p : Option InstanceEntry) (d : Client) → StaysGone d (new p d)) → slice_get w.clients at ≡ found → slice_get w.clients session ≡ Some c → IsGone c → IsGoneAt (at_both w post found f).state session
-at_both_gone w at session c f new (Some p) (Some d) sets stays was is gone =
-    subst (λ (cs : List Client). GoneIn cs session) (sym (sets p d)) (gone_set w.clients at session d (new p d) c was (stays p d) is gone)
-at_both_gone w at session c f new _ _ sets stays was is gone = gone_here w.clients session c is gone
-
-crash_at_gone : (w : State) (node session : ℕ) (c : Client) (post : Option (Option InstanceEntry)) → slice_get w.clients session ≡ Some c → IsGone c → IsGoneAt (at_post w post (λ p. step_by (crash_on node p w.clients) (λ x. record (with_post w node x.0) { clients = x.1 }))).state session
-crash_at_gone w node session c None is gone = gone_here w.clients session c is gone
-crash_at_gone w node session c (Some post) is gone = crash_gone node post w.clients session c is gone
+on_both : (w : State) (node at session : ℕ) (c : Client) (f : Option InstanceEntry → Client → Step) (new : Option InstanceEntry → Client → Client) → ((p : Option InstanceEntry) (d : Client) → (f p d).state.clients ≡ slice_set w.clients at (new p d)) → ((p : Option InstanceEntry) (d : Client) → StaysGone d (new p d)) → slice_get w.clients session ≡ Some c → IsGone c → IsGoneAt (at_both w (slice_get w.nodes node) (slice_get w.clients at) f).state session
+on_both w node at session c f new sets stays is gone =
+    of_both (λ step. IsGoneAt step.state session) w f (slice_get w.nodes node) (slice_get w.clients at) (gone_here w.clients session c is gone) (λ p d there was. subst (λ (cs : List Client). GoneIn cs session) (sym (sets p d)) (gone_set w.clients at session d (new p d) c was (stays p d) is gone))
 
 -- an event that touches no client
 untouched : (w : State) (e : Event) (fate : Fate) (session : ℕ) (c : Client) → touches_clients e ≡ false → slice_get w.clients session ≡ Some c → IsGone c → IsGoneAt (stepped w e fate).state session
 untouched w e fate session c not is gone =
     subst (λ (cs : List Client). GoneIn cs session) (sym ((leaves_parts w e fate).clients not)) (gone_here w.clients session c is gone)
 
-on_both : (w : State) (node at session : ℕ) (c : Client) (f : Option InstanceEntry → Client → Step) (new : Option InstanceEntry → Client → Client) → ((p : Option InstanceEntry) (d : Client) → (f p d).state.clients ≡ slice_set w.clients at (new p d)) → ((p : Option InstanceEntry) (d : Client) → StaysGone d (new p d)) → slice_get w.clients session ≡ Some c → IsGone c → IsGoneAt (at_both w (slice_get w.nodes node) (slice_get w.clients at) f).state session
-on_both w node at session c f new sets stays is gone = at_both_gone w at session c f new (slice_get w.nodes node) (slice_get w.clients at) sets stays refl is gone
-
-on_one : (w : State) (at session : ℕ) (c : Client) (f : Client → Step) (new : Client → Client) → ((d : Client) → (f d).state.clients ≡ slice_set w.clients at (new d)) → ((d : Client) → StaysGone d (new d)) → slice_get w.clients session ≡ Some c → IsGone c → IsGoneAt (at_client w (slice_get w.clients at) f).state session
-on_one w at session c f new sets stays is gone = at_client_gone w at session c f new (slice_get w.clients at) sets stays refl is gone
-
 -- ---- the law
 pub gone_stays : GoneStaysGone
-gone_stays w (event.Crash node) fate session c is gone = crash_at_gone w node session c (slice_get w.nodes node) is gone
+gone_stays w (event.Crash node) fate session c is gone = of_post (λ step. IsGoneAt step.state session) w _ (slice_get w.nodes node) (gone_here w.clients session c is gone) (λ post was. crash_gone node post w.clients session c is gone)
 gone_stays w (event.AskBegin s node) fate session c is gone =
     on_both w node s session c _ (λ p d. (ask_begin_on s node d p).parts.0) (λ p d. refl) (begin_gone s node) is gone
 gone_stays w (event.AskCommit s node) fate session c is gone =
@@ -72,11 +60,4 @@ gone_stays w (event.Heal s) fate session c is gone =
     on_one w s session c _ (λ d. (heal_on s fate d w.rows w.pairs).parts.0) (λ d. refl) (heal_gone s fate w.rows w.pairs) is gone
 gone_stays w (event.Abort s) fate session c is gone = on_one w s session c _ (λ d. (abort_on s d).parts) (λ d. refl) (abort_gone s) is gone
 gone_stays w (event.Vanish s) fate session c is gone = on_one w s session c _ (λ d. (vanish_on s d).parts) (λ d. refl) (vanish_gone s) is gone
-gone_stays w (event.Tick to) fate session c is gone = untouched w (event.Tick to) fate session c refl is gone
-gone_stays w (event.Note actor note) fate session c is gone = untouched w (event.Note actor note) fate session c refl is gone
-gone_stays w (event.Take node reading) fate session c is gone = untouched w (event.Take node reading) fate session c refl is gone
-gone_stays w (event.Renew node reading) fate session c is gone = untouched w (event.Renew node reading) fate session c refl is gone
-gone_stays w (event.Extend node) fate session c is gone = untouched w (event.Extend node) fate session c refl is gone
-gone_stays w (event.Put node s) fate session c is gone = untouched w (event.Put node s) fate session c refl is gone
-gone_stays w (event.SweepOpen node txn) fate session c is gone = untouched w (event.SweepOpen node txn) fate session c refl is gone
-gone_stays w event.SweepStep fate session c is gone = untouched w event.SweepStep fate session c refl is gone
+gone_stays w e fate session c is gone = untouched w e fate session c refl is gone

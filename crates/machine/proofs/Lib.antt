@@ -1,6 +1,5 @@
-pub mod PartsKept
+pub mod LookedUp
 mod GoneClients
-mod GoneStays
 mod ToldOnce
 pub mod Refusals
 mod StandingAnswers
@@ -8,11 +7,13 @@ mod PlainEvents
 mod StoreAsked
 mod RecordEvents
 mod StoreEvents
-mod AskedOnce
-mod LeftAll
+mod KindsKept
+mod KindsAsked
+pub mod PartsKept
+mod GoneStays
 mod StopsOfPosts
 mod StopsOfEvents
-mod StopsKept
+pub mod StopsKept
 mod PlainReads
 mod WorkedPaths
 mod WorkedReading

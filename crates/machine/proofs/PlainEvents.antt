@@ -1,6 +1,7 @@
 -- The events that ask no store: which refusals leave all, and that no store fails.
 use Rattle.std.proofs.Common.{[], ◌≡◌, ℕ, ◌==◌, Bool, true, false, IsTrue, if◌then◌else◌, List, ◌∷◌, Option, Some, None, Result, Ok, Err, refl, sym, subst}
 use Rattle.std.specs.Prelude.{IfSome}
+use Rattle.stamp_base.specs.declared.stores.Store.{Store}
 use Rattle.history_book.specs.declared.cause.Cause.{Cause}
 use Rattle.history_book.specs.declared.cause.Cause.TheVariants as cause
 use Rattle.history_book.specs.declared.item.Actor.TheVariants.{Node, Session, Janitor}
@@ -19,6 +20,7 @@ use Rattle.oracle_parts.specs.declared.instance.Request.TheVariants.{Begin, Comm
 use Rattle.oracle_parts.specs.Instance.{InstanceEntry, held_of, in_flight, with_request, session_of, stamps_at}
 use Rattle.oracle_parts.specs.InstanceSteps.{InstanceStep, stays, just_asked, instance_ask, instance_accept, instance_answer}
 use Rattle.machine.specs.State.{Client}
+use Rattle.machine.specs.Effect.{Faults}
 use Rattle.machine.specs.Clients.{is_reading, client_aborted, client_asked, client_freed, client_vanished, unless_gone, client_begun, client_handed, client_committed}
 use Rattle.machine.specs.Events.Crash.{crashed_clients, all_crashed_items, crash_on}
 use Rattle.machine.specs.Events.AskBegin.{asked_by, begin_asked, ask_begin_by, ask_begin_on}
@@ -136,6 +138,21 @@ plain_decide_request node session i c (Some held) keeps =
 pub plain_decide : (node session : ℕ) (post : Option InstanceEntry) (c : Client) → IfSome post KeepsStop → Plain (post, c) (decide_on node session post c)
 plain_decide node session None c keeps = plain_refused (None, c) (Node node) (cause.NoOracle node)
 plain_decide node session (Some i) c keeps = plain_decide_request node session i c (held_of i session) keeps
+
+-- ---- a decision asks no store, whatever the instance keeps
+decide_works_by : (node session : ℕ) (held : Held) (left : InstanceEntry) (c : Client) (answer : Result Decided Cause) (store : Store) → (decide_by node session held left c answer).stop ≡ Some (Faults store) → ⊥
+decide_works_by node session held left c (Ok drawn) store stop = cc
+decide_works_by node session held left c (Err (cause.NoRequest s)) store stop = cc
+decide_works_by node session held left c (Err (cause.NoStamp last)) store stop = cc
+decide_works_by node session held left c (Err why) store stop = cc
+
+decide_works_at : (node session : ℕ) (i : InstanceEntry) (c : Client) (held : Option Held) (store : Store) → (decide_request node session i c held).stop ≡ Some (Faults store) → ⊥
+decide_works_at node session i c None store stop = cc
+decide_works_at node session i c (Some held) store stop = decide_works_by node session held (decide_both i session c.reads).left c (decide_both i session c.reads).answer store stop
+
+pub decide_works : (node session : ℕ) (post : Option InstanceEntry) (c : Client) (store : Store) → (decide_on node session post c).stop ≡ Some (Faults store) → ⊥
+decide_works node session None c store stop = cc
+decide_works node session (Some i) c store stop = decide_works_at node session i c (held_of i session) store stop
 
 plain_answer_by : (node session start : ℕ) (c : Client) (i left : InstanceEntry) (answer : Result Reply Cause) → Stands i left answer → Plain (Some i, c) (answer_by node session start c i left answer)
 plain_answer_by node session start c i left (Ok (reply.Begun begun epoch)) stands =

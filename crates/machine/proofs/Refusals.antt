@@ -1,3 +1,4 @@
+-- For isolation_laws and turn_rules too.
 -- A refusal that leaves all: what an effect has to leave of its parts, and what it is of the whole once they are put back.
 use Rattle.std.proofs.Common.{◌≡◌, ℕ, zero, suc, IsTrue, List, [], ◌∷◌, Option, Some, None, refl, sym, ◌∙◌, ap, subst}
 use Rattle.std.specs.Prelude.{slice_get, slice_set}
@@ -10,7 +11,7 @@ use Rattle.history_book.specs.declared.item.Item.TheVariants.{Refused}
 use Rattle.oracle_parts.specs.Instance.{InstanceEntry}
 use Rattle.machine.specs.State.{Client, State}
 use Rattle.machine.specs.Effect.{Refuses, Faults, Effect, done, refused}
-use Rattle.machine.specs.Machine.{Step, step_by, nothing, with_post, with_client, at_post, at_client, at_both}
+use Rattle.machine.specs.Machine.{Step, step_by, nothing, with_post, with_client}
 use Rattle.machine.specs.Laws.{leaves_all, TellsAlone}
 
 -- ---- of parts
@@ -68,25 +69,3 @@ same_client w session c there = ap (λ (clients : List Client). record w { clien
 
 pub same_both : (w : State) (node session : ℕ) (post : Option InstanceEntry) (c : Client) → slice_get w.nodes node ≡ Some post → slice_get w.clients session ≡ Some c → with_client (with_post w node post) session c ≡ w
 same_both w node session post c posted there = ap (λ (v : State). with_client v session c) (same_post w node post posted) ∙ same_client w session c there
-
--- ---- the parts looked up
-post_left_by : (w : State) (node : ℕ) (f : Option InstanceEntry → Step) (found : Option (Option InstanceEntry)) → slice_get w.nodes node ≡ found → ((post : Option InstanceEntry) → slice_get w.nodes node ≡ Some post → AllLeft w (f post)) → AllLeft w (at_post w found f)
-post_left_by w node f None is each = nothing_left w
-post_left_by w node f (Some post) is each = each post is
-
-pub post_left : (w : State) (node : ℕ) (f : Option InstanceEntry → Step) → ((post : Option InstanceEntry) → slice_get w.nodes node ≡ Some post → AllLeft w (f post)) → AllLeft w (at_post w (slice_get w.nodes node) f)
-post_left w node f each = post_left_by w node f (slice_get w.nodes node) refl each
-
-client_left_by : (w : State) (session : ℕ) (f : Client → Step) (found : Option Client) → slice_get w.clients session ≡ found → ((c : Client) → slice_get w.clients session ≡ Some c → AllLeft w (f c)) → AllLeft w (at_client w found f)
-client_left_by w session f None is each = nothing_left w
-client_left_by w session f (Some c) is each = each c is
-
-pub client_left : (w : State) (session : ℕ) (f : Client → Step) → ((c : Client) → slice_get w.clients session ≡ Some c → AllLeft w (f c)) → AllLeft w (at_client w (slice_get w.clients session) f)
-client_left w session f each = client_left_by w session f (slice_get w.clients session) refl each
-
-both_left_by : (w : State) (node session : ℕ) (f : Option InstanceEntry → Client → Step) (post : Option (Option InstanceEntry)) (c : Option Client) → slice_get w.nodes node ≡ post → slice_get w.clients session ≡ c → ((p : Option InstanceEntry) (d : Client) → slice_get w.nodes node ≡ Some p → slice_get w.clients session ≡ Some d → AllLeft w (f p d)) → AllLeft w (at_both w post c f)
-both_left_by w node session f (Some p) (Some d) posted there each = each p d posted there
-both_left_by w node session f _ _ posted there each = nothing_left w
-
-pub both_left : (w : State) (node session : ℕ) (f : Option InstanceEntry → Client → Step) → ((p : Option InstanceEntry) (d : Client) → slice_get w.nodes node ≡ Some p → slice_get w.clients session ≡ Some d → AllLeft w (f p d)) → AllLeft w (at_both w (slice_get w.nodes node) (slice_get w.clients session) f)
-both_left w node session f each = both_left_by w node session f (slice_get w.nodes node) (slice_get w.clients session) refl refl each

@@ -1,5 +1,6 @@
+-- For isolation_laws too.
 -- What an instance keeps of the master record's refusals is Replaced or Spent, in each state that moves lead to.
-use Rattle.std.proofs.Common.{◌≡◌, ℕ, false, Option, Some, None, refl, sym, subst}
+use Rattle.std.proofs.Common.{◌≡◌, ℕ, false, Option, refl, sym, subst}
 use Rattle.std.specs.Prelude.{slice_get, slice_set}
 use Rattle.port_io.specs.declared.weather.Fate.{Fate}
 use Rattle.oracle_parts.specs.Instance.{InstanceEntry}
@@ -20,19 +21,19 @@ use Rattle.machine.specs.Events.Decide.{decide_on}
 use Rattle.machine.specs.Events.Put.{put_on}
 use Rattle.machine.specs.Events.Answer.{answer_on}
 use Rattle.machine.specs.Laws.{KeepStops, StopsAreKept, touches_nodes}
+use Rattle.machine.proofs.LookedUp.{of_post, of_both}
 use Rattle.machine.proofs.PartsKept.{leaves_parts}
 use Rattle.machine.proofs.StopsOfPosts.{AllKeep, Keeps, none_kept, set_keeps}
 use Rattle.machine.proofs.StopsOfEvents.{take_keeps, renew_keeps, extend_keeps, crash_keeps, begin_keeps, commit_keeps, accept_keeps, decide_keeps, put_keeps, answer_keeps}
 
 -- ---- the parts put back
-post_kept : (w : State) (node : ℕ) (f : Option InstanceEntry → Step) (new : Option InstanceEntry → Option InstanceEntry) (found : Option (Option InstanceEntry)) → slice_get w.nodes node ≡ found → ((post : Option InstanceEntry) → (f post).state.nodes ≡ slice_set w.nodes node (new post)) → ((post : Option InstanceEntry) → Keeps post (new post)) → KeepStops w → KeepStops (at_post w found f).state
-post_kept w node f new None was sets keeps keep = keep
-post_kept w node f new (Some post) was sets keeps keep = subst AllKeep (sym (sets post)) (set_keeps w.nodes node post (new post) was (keeps post) keep)
+post_kept : (w : State) (node : ℕ) (f : Option InstanceEntry → Step) (new : Option InstanceEntry → Option InstanceEntry) → ((post : Option InstanceEntry) → (f post).state.nodes ≡ slice_set w.nodes node (new post)) → ((post : Option InstanceEntry) → Keeps post (new post)) → KeepStops w → KeepStops (at_post w (slice_get w.nodes node) f).state
+post_kept w node f new sets keeps keep =
+    of_post (λ step. KeepStops step.state) w f (slice_get w.nodes node) keep (λ post was. subst AllKeep (sym (sets post)) (set_keeps w.nodes node post (new post) was (keeps post) keep))
 
-both_kept : (w : State) (node : ℕ) (f : Option InstanceEntry → Client → Step) (new : Option InstanceEntry → Client → Option InstanceEntry) (found : Option (Option InstanceEntry)) (c : Option Client) → slice_get w.nodes node ≡ found → ((post : Option InstanceEntry) (d : Client) → (f post d).state.nodes ≡ slice_set w.nodes node (new post d)) → ((post : Option InstanceEntry) (d : Client) → Keeps post (new post d)) → KeepStops w → KeepStops (at_both w found c f).state
-both_kept w node f new (Some post) (Some d) was sets keeps keep =
-    subst AllKeep (sym (sets post d)) (set_keeps w.nodes node post (new post d) was (keeps post d) keep)
-both_kept w node f new _ _ was sets keeps keep = keep
+both_kept : (w : State) (node session : ℕ) (f : Option InstanceEntry → Client → Step) (new : Option InstanceEntry → Client → Option InstanceEntry) → ((post : Option InstanceEntry) (d : Client) → (f post d).state.nodes ≡ slice_set w.nodes node (new post d)) → ((post : Option InstanceEntry) (d : Client) → Keeps post (new post d)) → KeepStops w → KeepStops (at_both w (slice_get w.nodes node) (slice_get w.clients session) f).state
+both_kept w node session f new sets keeps keep =
+    of_both (λ step. KeepStops step.state) w f (slice_get w.nodes node) (slice_get w.clients session) keep (λ post d was there. subst AllKeep (sym (sets post d)) (set_keeps w.nodes node post (new post d) was (keeps post d) keep))
 
 untouched : (w : State) (e : Event) (fate : Fate) → touches_nodes e ≡ false → KeepStops w → KeepStops (stepped w e fate).state
 untouched w e fate not keep = subst AllKeep (sym ((leaves_parts w e fate).nodes not)) keep
@@ -40,35 +41,26 @@ untouched w e fate not keep = subst AllKeep (sym ((leaves_parts w e fate).nodes 
 -- ---- the law
 after : (w : State) (e : Event) (fate : Fate) → KeepStops w → KeepStops (stepped w e fate).state
 after w (event.Take node reading) fate keep =
-    post_kept (with_reading w reading) node _ (λ post. (take_on w.setup node reading fate post w.master).parts.0) (slice_get w.nodes node) refl (λ post. refl) (λ post. take_keeps w.setup node reading fate post w.master) keep
+    post_kept (with_reading w reading) node _ (λ post. (take_on w.setup node reading fate post w.master).parts.0) (λ post. refl) (λ post. take_keeps w.setup node reading fate post w.master) keep
 after w (event.Renew node reading) fate keep =
-    post_kept (with_reading w reading) node _ (λ post. (renew_on w.setup node reading fate post w.master).parts.0) (slice_get w.nodes node) refl (λ post. refl) (λ post. renew_keeps w.setup node reading fate post w.master) keep
+    post_kept (with_reading w reading) node _ (λ post. (renew_on w.setup node reading fate post w.master).parts.0) (λ post. refl) (λ post. renew_keeps w.setup node reading fate post w.master) keep
 after w (event.Extend node) fate keep =
-    post_kept w node _ (λ post. (extend_on w.setup node fate post w.master).parts.0) (slice_get w.nodes node) refl (λ post. refl) (λ post. extend_keeps w.setup node fate post w.master) keep
+    post_kept w node _ (λ post. (extend_on w.setup node fate post w.master).parts.0) (λ post. refl) (λ post. extend_keeps w.setup node fate post w.master) keep
 after w (event.Crash node) fate keep =
-    post_kept w node _ (λ post. (crash_on node post w.clients).parts.0) (slice_get w.nodes node) refl (λ post. refl) (λ post. crash_keeps node post w.clients) keep
+    post_kept w node _ (λ post. (crash_on node post w.clients).parts.0) (λ post. refl) (λ post. crash_keeps node post w.clients) keep
 after w (event.Put node s) fate keep =
-    post_kept w node _ (λ post. (put_on node s fate post w.pairs).parts.0) (slice_get w.nodes node) refl (λ post. refl) (λ post. put_keeps node s fate post w.pairs) keep
+    post_kept w node _ (λ post. (put_on node s fate post w.pairs).parts.0) (λ post. refl) (λ post. put_keeps node s fate post w.pairs) keep
 after w (event.AskBegin s node) fate keep =
-    both_kept w node _ (λ post c. (ask_begin_on s node c post).parts.1) (slice_get w.nodes node) (slice_get w.clients s) refl (λ post c. refl) (λ post c. begin_keeps s node c post (begin_refusal c.entry.state)) keep
+    both_kept w node s _ (λ post c. (ask_begin_on s node c post).parts.1) (λ post c. refl) (λ post c. begin_keeps s node c post (begin_refusal c.entry.state)) keep
 after w (event.AskCommit s node) fate keep =
-    both_kept w node _ (λ post c. (ask_commit_on s node c post).parts.1) (slice_get w.nodes node) (slice_get w.clients s) refl (λ post c. refl) (λ post c. commit_keeps s node c post (work_refusal c.entry.state (is_reading c)) c.entry.start) keep
+    both_kept w node s _ (λ post c. (ask_commit_on s node c post).parts.1) (λ post c. refl) (λ post c. commit_keeps s node c post (work_refusal c.entry.state (is_reading c)) c.entry.start) keep
 after w (event.Accept node s reading) fate keep =
-    both_kept (with_reading w reading) node _ (λ post c. (accept_on node s reading post c).parts.0) (slice_get w.nodes node) (slice_get w.clients s) refl (λ post c. refl) (accept_keeps node s reading) keep
+    both_kept (with_reading w reading) node s _ (λ post c. (accept_on node s reading post c).parts.0) (λ post c. refl) (accept_keeps node s reading) keep
 after w (event.Decide node s) fate keep =
-    both_kept w node _ (λ post c. (decide_on node s post c).parts.0) (slice_get w.nodes node) (slice_get w.clients s) refl (λ post c. refl) (decide_keeps node s) keep
+    both_kept w node s _ (λ post c. (decide_on node s post c).parts.0) (λ post c. refl) (decide_keeps node s) keep
 after w (event.Answer node s) fate keep =
-    both_kept w node _ (λ post c. (answer_on node s post c).parts.0) (slice_get w.nodes node) (slice_get w.clients s) refl (λ post c. refl) (answer_keeps node s) keep
-after w (event.Tick to) fate keep = untouched w (event.Tick to) fate refl keep
-after w (event.Note actor note) fate keep = untouched w (event.Note actor note) fate refl keep
-after w (event.Write s key value) fate keep = untouched w (event.Write s key value) fate refl keep
-after w (event.Fetch s key) fate keep = untouched w (event.Fetch s key) fate refl keep
-after w (event.Step s) fate keep = untouched w (event.Step s) fate refl keep
-after w (event.Heal s) fate keep = untouched w (event.Heal s) fate refl keep
-after w (event.Abort s) fate keep = untouched w (event.Abort s) fate refl keep
-after w (event.Vanish s) fate keep = untouched w (event.Vanish s) fate refl keep
-after w (event.SweepOpen node txn) fate keep = untouched w (event.SweepOpen node txn) fate refl keep
-after w event.SweepStep fate keep = untouched w event.SweepStep fate refl keep
+    both_kept w node s _ (λ post c. (answer_on node s post c).parts.0) (λ post c. refl) (answer_keeps node s) keep
+after w e fate keep = untouched w e fate refl keep
 
 pub stops_kept : StopsAreKept
 stops_kept = record { opening = λ setup. none_kept setup.nodes; after = after }

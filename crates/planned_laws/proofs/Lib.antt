@@ -1,12 +1,12 @@
-pub mod ReadItems
+mod ReadItems
 mod MadeOfRecord
 mod MadeOfRequests
 mod MadeOfSessions
 mod MadeOfSteps
-pub mod AllMade
-pub mod ToldTimes
+mod AllMade
+mod ToldTimes
 pub mod FaultCounts
-pub mod OneEvent
-pub mod LineClocks
-pub mod PlannedLines
-pub mod AnyOrder
+mod OneEvent
+mod LineClocks
+mod PlannedLines
+mod AnyOrder

@@ -1,5 +1,6 @@
 -- The items of an event that reads the clocks: each reading is that of its node's clock, there is no tick, and a fault only
 -- where a store call failed.
+use Rattle.machine.proofs.LookedUp.{of_post, of_client, of_both}
 use Rattle.std.proofs.Common.{◌≡◌, ◌≢◌, ℕ, Bool, true, false, List, [], ◌∷◌, ◌++◌, Option, Some, None, Result, Ok, Err, ◌⊎◌, inl, inr, All, refl}
 use Rattle.std.specs.Prelude.{slice_get}
 use Rattle.std.proofs.lemmas.List.Elements.{All-nil, All-cons}
@@ -127,15 +128,14 @@ client_made clocks fate w f asks each None = made_none clocks None fate
 client_made clocks fate w f asks each (Some c) = each c
 
 -- of an event that asks no store
-pub node_made : (clocks : Clocks) (fate : Fate) (w : State) (f : Option InstanceEntry → Step) → ((post : Option InstanceEntry) → Made clocks None fate (f post).items) → (found : Option (Option InstanceEntry)) → Made clocks None fate (at_post w found f).items
-node_made clocks fate w f each None = made_none clocks None fate
-node_made clocks fate w f each (Some post) = each post
+abbrev pub MadeUnasked : Clocks → Fate → Step → Type 0
+MadeUnasked clocks fate step = Made clocks None fate step.items
 
-pub session_made : (clocks : Clocks) (fate : Fate) (w : State) (f : Client → Step) → ((c : Client) → Made clocks None fate (f c).items) → (found : Option Client) → Made clocks None fate (at_client w found f).items
-session_made clocks fate w f each None = made_none clocks None fate
-session_made clocks fate w f each (Some c) = each c
+pub node_made : (clocks : Clocks) (fate : Fate) (w : State) (node : ℕ) (f : Option InstanceEntry → Step) → ((post : Option InstanceEntry) → slice_get w.nodes node ≡ Some post → Made clocks None fate (f post).items) → Made clocks None fate (at_post w (slice_get w.nodes node) f).items
+node_made clocks fate w node f each = of_post (MadeUnasked clocks fate) w f (slice_get w.nodes node) (made_none clocks None fate) each
 
-pub both_made : (clocks : Clocks) (fate : Fate) (w : State) (node : ℕ) (f : Option InstanceEntry → Client → Step) → ((post : Option InstanceEntry) (c : Client) → slice_get w.nodes node ≡ Some post → Made clocks None fate (f post c).items) → (found : Option (Option InstanceEntry)) (client : Option Client) → slice_get w.nodes node ≡ found → Made clocks None fate (at_both w found client f).items
-both_made clocks fate w node f each None client at = made_none clocks None fate
-both_made clocks fate w node f each (Some post) None at = made_none clocks None fate
-both_made clocks fate w node f each (Some post) (Some c) at = each post c at
+pub session_made : (clocks : Clocks) (fate : Fate) (w : State) (session : ℕ) (f : Client → Step) → ((c : Client) → Made clocks None fate (f c).items) → Made clocks None fate (at_client w (slice_get w.clients session) f).items
+session_made clocks fate w session f each = of_client (MadeUnasked clocks fate) w f (slice_get w.clients session) (made_none clocks None fate) (λ c at. each c)
+
+pub both_made : (clocks : Clocks) (fate : Fate) (w : State) (node session : ℕ) (f : Option InstanceEntry → Client → Step) → ((post : Option InstanceEntry) (c : Client) → slice_get w.nodes node ≡ Some post → Made clocks None fate (f post c).items) → Made clocks None fate (at_both w (slice_get w.nodes node) (slice_get w.clients session) f).items
+both_made clocks fate w node session f each = of_both (MadeUnasked clocks fate) w f (slice_get w.nodes node) (slice_get w.clients session) (made_none clocks None fate) (λ post c at there. each post c at)

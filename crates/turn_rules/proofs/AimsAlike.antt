@@ -1,4 +1,5 @@
--- For turn_engine and grant_laws. At which node a share is aimed decides no more than whom a line asks: whether the line makes an
+-- For turn_engine and grant_laws too.
+-- At which node a share is aimed decides no more than whom a line asks: whether the line makes an
 -- event, waits or is passed is the same by any clocks.
 use Rattle.std.proofs.Common.{◌≡◌, ℕ, Bool, true, false, cond, List, Option, Some, None, refl, sym, ◌∙◌, ap}
 use Rattle.history_book.specs.declared.item.Actor.{Actor}

@@ -1,3 +1,4 @@
+-- For turn_engine too.
 -- Each actor of the system has a seat, whichever turns are made; so an actor without one has no line.
 use Rattle.std.proofs.Common.{◌≡◌, ℕ, zero, suc, ◌<◌, Bool, true, false, cond, ◌&&◌, List, [], ◌∷◌, ◌++◌, Option, Some, None, inl, inr, refl, sym, ◌∙◌, ap, subst, arith}
 use Rattle.std.specs.Prelude.{filter, fold}

@@ -1,3 +1,4 @@
+-- For turn_engine and grant_laws too.
 -- Whichever turns are made, all facts hold, and the clock has not ticked further than its lines say.
 use Rattle.std.proofs.Common.{◌≡◌, ℕ, suc, ◌+◌, ◌≤◌, Bool, true, false, cond, List, [], ◌∷◌, Option, Some, None, refl, sym, ◌∙◌, ap, subst, arith}
 use Rattle.std.specs.Prelude.{filter, fold, drop}

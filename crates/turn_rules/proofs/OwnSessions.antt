@@ -1,4 +1,5 @@
--- For grant_laws too. The events of an actor's own turns are of no other session.
+-- For grant_laws too.
+-- The events of an actor's own turns are of no other session.
 use Rattle.std.proofs.Common.{◌≡◌, ℕ, Bool, true, false, cond, Option, Some, None, inl, inr, sym, ap, subst}
 use Rattle.history_book.specs.declared.item.Actor.{Actor}
 use Rattle.history_book.specs.declared.item.Actor.TheVariants.{Clock, Node, Session, Janitor}

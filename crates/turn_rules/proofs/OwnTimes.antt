@@ -1,3 +1,4 @@
+-- For turn_engine and grant_laws too.
 -- The events of own turns come at their time, and so do those of stages; only the clock's own line ticks.
 use Rattle.std.proofs.Common.{◌≡◌, ℕ, List, Some, inl, inr, refl, sym, ◌∙◌, ap, subst}
 use Rattle.std.proofs.lemmas.Option.{none-some}

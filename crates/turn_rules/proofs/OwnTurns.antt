@@ -1,3 +1,4 @@
+-- For turn_engine and grant_laws too.
 -- What makes an event: a line of the actor's seat, or a stage.
 use Rattle.std.proofs.Common.{◌≡◌, ℕ, zero, suc, List, [], ◌∷◌, Option, Some, None, refl, sym, ◌∙◌, subst}
 use Rattle.std.specs.Prelude.{slice_get}

@@ -1,3 +1,4 @@
+-- For turn_engine and grant_laws too.
 -- What a seat keeps while it passes lines, and what a turn makes of the seats.
 use Rattle.std.proofs.Common.{◌≡◌, ℕ, Bool, true, false, cond, List, [], ◌∷◌, Option, Some, None, refl, sym, ◌∙◌, ap, subst}
 use Rattle.std.specs.Prelude.{map}

@@ -1,4 +1,5 @@
--- For grant_laws too. A session whose transaction is open, or that is to place its commit, has no request in flight. So an event
+-- For grant_laws too.
+-- A session whose transaction is open, or that is to place its commit, has no request in flight. So an event
 -- that is not its own leaves its client as it was, and a read under way goes on.
 use Rattle.std.proofs.Common.{◌≡◌, ◌⊎◌, ℕ, zero, suc, false, List, [], ◌∷◌, Option, Some, None, inl, inr, refl, sym, ◌∙◌, ap, subst}
 use Rattle.std.specs.Prelude.{slice_get, slice_set, slice_index_or}
@@ -14,12 +15,14 @@ use Rattle.oracle_parts.specs.Instance.{InstanceEntry, held_of, stamps_of_held}
 use Rattle.machine.specs.declared.event.Event.{Event}
 use Rattle.machine.specs.declared.event.Event.TheVariants as event
 use Rattle.machine.specs.State.{Client, State}
-use Rattle.machine.specs.Machine.{Step, step_by, with_reading, with_post, at_post, at_client, at_both, stepped}
+use Rattle.machine.specs.Machine.{Step, with_reading, at_client, at_both, stepped}
 use Rattle.machine.specs.Readers.{held_at}
 use Rattle.machine.specs.Events.Accept.{accept_request, accept_on}
 use Rattle.machine.specs.Events.Answer.{answer_request, answer_on}
 use Rattle.machine.specs.Events.Crash.{crashed_client, crashed_clients, crash_on}
 use Rattle.machine.specs.Events.Decide.{decide_request, decide_on}
+use Rattle.machine.specs.Laws.{touches_clients}
+use Rattle.machine.proofs.LookedUp.{of_post, of_client, of_both}
 use Rattle.machine.proofs.PartsKept.{leaves_parts}
 use Rattle.isolation_laws.specs.Requests.{WaitsFor}
 use Rattle.isolation_laws.specs.Sound.{Stands}
@@ -55,14 +58,11 @@ none_held w h s c stands at is node i there = none_by w h s c stands at is node 
 abbrev pub Same : State → ℕ → Step → Type 0
 Same w s step = slice_get step.state.clients s ≡ slice_get w.clients s
 
-by_client : (w : State) (s : ℕ) (f : Client → Step) → ((c : Client) → Same w s (f c)) → (found : Option Client) → Same w s (at_client w found f)
-by_client w s f each None = refl
-by_client w s f each (Some c) = each c
+by_client : (w : State) (s t : ℕ) (f : Client → Step) (made : Client → Client) → ((c : Client) → (f c).state.clients ≡ slice_set w.clients t (made c)) → (s ≡ t → ⊥) → Same w s (at_client w (slice_get w.clients t) f)
+by_client w s t f made sets not = of_client (Same w s) w f (slice_get w.clients t) refl (λ c at. ap (λ (cs : List Client). slice_get cs s) (sets c) ∙ set_other w.clients t s (made c) not)
 
-by_both : (w : State) (s : ℕ) (f : Option InstanceEntry → Client → Step) → ((post : Option InstanceEntry) (c : Client) → Same w s (f post c)) → (post : Option (Option InstanceEntry)) (found : Option Client) → Same w s (at_both w post found f)
-by_both w s f each None found = refl
-by_both w s f each (Some post) None = refl
-by_both w s f each (Some post) (Some c) = each post c
+by_both : (w : State) (node s t : ℕ) (f : Option InstanceEntry → Client → Step) (made : Option InstanceEntry → Client → Client) → ((post : Option InstanceEntry) (c : Client) → (f post c).state.clients ≡ slice_set w.clients t (made post c)) → (s ≡ t → ⊥) → Same w s (at_both w (slice_get w.nodes node) (slice_get w.clients t) f)
+by_both w node s t f made sets not = of_both (Same w s) w f (slice_get w.nodes node) (slice_get w.clients t) refl (λ post c there at. ap (λ (cs : List Client). slice_get cs s) (sets post c) ∙ set_other w.clients t s (made post c) not)
 
 -- ---- a node that serves a request
 abbrev NoneAt : ℕ → Option InstanceEntry → Type 0
@@ -89,7 +89,7 @@ serve_by : (w : State) (s t : ℕ) (c : Client) (f : Option InstanceEntry → Cl
 serve_by w s t c f made at node sets same = elim (eqb_tells s t) [
   | inl here ↦
       subst (λ (q : ℕ). Same w s (at_both w (slice_get w.nodes node) (slice_get w.clients q) f)) here.1 (subst (λ (found : Option Client). Same w s (at_both w (slice_get w.nodes node) found f)) (sym at) (own (slice_get w.nodes node) refl (sym here.1)))
-  | inr other ↦ by_both w s f (λ post d. ap (λ (cs : List Client). slice_get cs s) (sets post d) ∙ set_other w.clients t s (made post d) other.1) (slice_get w.nodes node) (slice_get w.clients t)
+  | inr other ↦ by_both w node s t f made sets other.1
 ]
   where
     own : (found : Option (Option InstanceEntry)) → slice_get w.nodes node ≡ found → t ≡ s → Same w s (at_both w found (Some c) f)
@@ -109,10 +109,9 @@ crashed_same (held ∷ others) [] s none = refl
 crashed_same (held ∷ others) (c ∷ cs) zero none = ap (λ (x : Option Held). Some (crashed_client x c)) none
 crashed_same (held ∷ others) (c ∷ cs) (suc s) none = crashed_same others cs s none
 
-crash_same : (w : State) (s : ℕ) (node : ℕ) (found : Option (Option InstanceEntry)) → ((post : Option InstanceEntry) → found ≡ Some post → NoneAt s post) → Same w s (at_post w found (λ post. step_by (crash_on node post w.clients) (λ p. record (with_post w node p.0) { clients = p.1 })))
+crash_same : (w : State) (s : ℕ) (node : ℕ) (post : Option InstanceEntry) → NoneAt s post → slice_get (crash_on node post w.clients).parts.1 s ≡ slice_get w.clients s
 crash_same w s node None none = refl
-crash_same w s node (Some None) none = refl
-crash_same w s node (Some (Some i)) none = crashed_same i.requests w.clients s (none (Some i) refl)
+crash_same w s node (Some i) none = crashed_same i.requests w.clients s none
 
 -- ---- each event that is not the session's own
 abbrev pub IsNotOf : ℕ → Event → Type 0
@@ -126,30 +125,23 @@ IsNotOf s (event.Abort session) = s ≡ session → ⊥
 IsNotOf s (event.Vanish session) = s ≡ session → ⊥
 IsNotOf s e = Unit {0}
 
-untouched : (w : State) (s : ℕ) (e : Event) (fate : Fate) → Rattle.machine.specs.Laws.touches_clients e ≡ false → Same w s (stepped w e fate)
+untouched : (w : State) (s : ℕ) (e : Event) (fate : Fate) → touches_clients e ≡ false → Same w s (stepped w e fate)
 untouched w s e fate not = ap (λ (cs : List Client). slice_get cs s) ((leaves_parts w e fate).clients not)
 
 pub client_stays : (w : State) (h : List Item) (s : ℕ) (c : Client) → Stands w h → ClientAt w.clients s c → IsUnasked c.entry.state → (e : Event) (fate : Fate) → IsNotOf s e → Same w s (stepped w e fate)
-client_stays w h s c stands at is (event.Tick to) fate not = refl
-client_stays w h s c stands at is (event.Note actor said) fate not = refl
-client_stays w h s c stands at is (event.Take node reading) fate not = untouched w s (event.Take node reading) fate refl
-client_stays w h s c stands at is (event.Renew node reading) fate not = untouched w s (event.Renew node reading) fate refl
-client_stays w h s c stands at is (event.Extend node) fate not = untouched w s (event.Extend node) fate refl
-client_stays w h s c stands at is (event.Put node session) fate not = untouched w s (event.Put node session) fate refl
-client_stays w h s c stands at is (event.SweepOpen node txn) fate not = untouched w s (event.SweepOpen node txn) fate refl
-client_stays w h s c stands at is event.SweepStep fate not = untouched w s event.SweepStep fate refl
-client_stays w h s c stands at is (event.Crash node) fate not = crash_same w s node (slice_get w.nodes node) (none_at w h s c stands at is node)
+client_stays w h s c stands at is (event.Crash node) fate not = of_post (Same w s) w _ (slice_get w.nodes node) refl (λ post there. crash_same w s node post (none_at w h s c stands at is node post there))
 client_stays w h s c stands at is (event.Accept node t reading) fate not = serve_by (with_reading w reading) s t c _ (λ post d. (accept_on node t reading post d).parts.1) at node (λ post d. refl) (λ post there mine. accept_same node t reading post c (subst (λ (q : ℕ). NoneAt q post) (sym mine) (none_at w h s c stands at is node post there)))
 client_stays w h s c stands at is (event.Decide node t) fate not = serve_by w s t c _ (λ post d. (decide_on node t post d).parts.1) at node (λ post d. refl) (λ post there mine. decide_same node t post c (subst (λ (q : ℕ). NoneAt q post) (sym mine) (none_at w h s c stands at is node post there)))
 client_stays w h s c stands at is (event.Answer node t) fate not = serve_by w s t c _ (λ post d. (answer_on node t post d).parts.1) at node (λ post d. refl) (λ post there mine. answer_same node t post c (subst (λ (q : ℕ). NoneAt q post) (sym mine) (none_at w h s c stands at is node post there)))
-client_stays w h s c stands at is (event.AskBegin t node) fate not = by_both w s _ (λ post d. set_other w.clients t s _ not) (slice_get w.nodes node) (slice_get w.clients t)
-client_stays w h s c stands at is (event.AskCommit t node) fate not = by_both w s _ (λ post d. set_other w.clients t s _ not) (slice_get w.nodes node) (slice_get w.clients t)
-client_stays w h s c stands at is (event.Write t key value) fate not = by_client w s _ (λ d. set_other w.clients t s _ not) (slice_get w.clients t)
-client_stays w h s c stands at is (event.Fetch t key) fate not = by_client w s _ (λ d. set_other w.clients t s _ not) (slice_get w.clients t)
-client_stays w h s c stands at is (event.Step t) fate not = by_client w s _ (λ d. set_other w.clients t s _ not) (slice_get w.clients t)
-client_stays w h s c stands at is (event.Heal t) fate not = by_client w s _ (λ d. set_other w.clients t s _ not) (slice_get w.clients t)
-client_stays w h s c stands at is (event.Abort t) fate not = by_client w s _ (λ d. set_other w.clients t s _ not) (slice_get w.clients t)
-client_stays w h s c stands at is (event.Vanish t) fate not = by_client w s _ (λ d. set_other w.clients t s _ not) (slice_get w.clients t)
+client_stays w h s c stands at is (event.AskBegin t node) fate not = by_both w node s t _ _ (λ post d. refl) not
+client_stays w h s c stands at is (event.AskCommit t node) fate not = by_both w node s t _ _ (λ post d. refl) not
+client_stays w h s c stands at is (event.Write t key value) fate not = by_client w s t _ _ (λ d. refl) not
+client_stays w h s c stands at is (event.Fetch t key) fate not = by_client w s t _ _ (λ d. refl) not
+client_stays w h s c stands at is (event.Step t) fate not = by_client w s t _ _ (λ d. refl) not
+client_stays w h s c stands at is (event.Heal t) fate not = by_client w s t _ _ (λ d. refl) not
+client_stays w h s c stands at is (event.Abort t) fate not = by_client w s t _ _ (λ d. refl) not
+client_stays w h s c stands at is (event.Vanish t) fate not = by_client w s t _ _ (λ d. refl) not
+client_stays w h s c stands at is e fate not = untouched w s e fate refl
 
 -- a read under way goes on
 pub still_reads : (w : State) (h : List Item) (s key : ℕ) → Stands w h → ReadsKey w s key → (e : Event) (fate : Fate) → IsNotOf s e → ReadsKey (stepped w e fate).state s key

@@ -1,4 +1,4 @@
-use Rattle.cause_laws.proofs.DuesDone.{dues}
+use Rattle.isolation_laws.proofs.AlwaysHolds.{dues}
 use Rattle.cause_laws.proofs.refusals_are_due.Goals as goal
 
 pub returns : goal.returns

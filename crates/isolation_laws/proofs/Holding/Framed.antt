@@ -1,14 +1,15 @@
 -- Which outcomes have a frame, and what it is of each.
+use Rattle.isolation_laws.proofs.Requests.ClientMoves.{reading_after}
+use Rattle.isolation_laws.proofs.Outcome.Outcomes.{OfAborted, OfAnsweredCommit, OfCompleted, OfCrashed, OfEnded, OfEndedReadOnly, OfHealed, OfOutcome, OfOutcomeFailed, OfOwnNotPlaced, OfWriteFailed, Outcome, OfStill, OfGranted, OfRenewed, OfExtended, OfAskedBegin, OfAskedCommit, OfAccepted, OfDrew, OfPlaced, OfNotPlaced, OfAnsweredBegin, OfHanded, OfOwnPlaced, OfWrote, OfVanished, OfFetched, OfReadDropped, OfReadStepped, OfSweepOpened, OfSwept, OfSweepListed, OfSweepFailed, left_by, told_by_outcome}
 use Rattle.std.proofs.Common.{◌≡◌, ◌≤◌, ℕ, Bool, true, false, if◌then◌else◌, List, ◌++◌, [], refl, subst, arith}
 use Rattle.std.proofs.lemmas.List.Elements.{All-nil}
 use Rattle.history_book.specs.declared.item.Item.{Item}
-use Rattle.store_parts.specs.Rows.{with_shadow}
+use Rattle.store_parts.specs.Rows.{with_shadow, Row}
 use Rattle.store_parts.specs.Pairs.{Pairs}
 use Rattle.client_parts.specs.declared.asks.Ask.{Ask}
 use Rattle.client_parts.specs.declared.resolve.SettlePoint.{SettlePoint}
 use Rattle.client_parts.specs.declared.resolve.SettlePoint.TheVariants as point
 use Rattle.client_parts.specs.Resolve.{Settling, ask_at, settle_ask}
-use Rattle.store_parts.specs.Rows.{Row}
 use Rattle.machine.specs.State.{Client, State}
 use Rattle.machine.specs.StoreSteps.{rows_after, pairs_after}
 use Rattle.isolation_laws.specs.Quiet.{Quiet, AllQuiet}
@@ -17,9 +18,8 @@ use Rattle.isolation_laws.specs.UnderWay.{UnderWayFacts}
 use Rattle.isolation_laws.specs.Holds.{Holds}
 use Rattle.isolation_laws.proofs.Outcome.OutcomesOfSessions.{Healed}
 use Rattle.isolation_laws.proofs.Outcome.OutcomesOfWork.{MayHaveMarked}
-use Rattle.isolation_laws.proofs.Outcome.Outcomes.{Outcome, OfStill, OfGranted, OfRenewed, OfExtended, OfCrashed, OfAskedBegin, OfAskedCommit, OfAccepted, OfEnded, OfDrew, OfPlaced, OfNotPlaced, OfAnsweredBegin, OfAnsweredCommit, OfHanded, OfOwnPlaced, OfOwnNotPlaced, OfEndedReadOnly, OfWrote, OfWriteFailed, OfAborted, OfVanished, OfHealed, OfFetched, OfReadDropped, OfReadStepped, OfOutcome, OfOutcomeFailed, OfCompleted, OfSweepOpened, OfSwept, OfSweepListed, OfSweepFailed, left_by, told_by_outcome}
 use Rattle.isolation_laws.proofs.Requests.PendingFewer.{fewer_settled}
-use Rattle.isolation_laws.proofs.Reading.ClientsReading.{FewerReading, same_reading, reading_crashed, reading_ended, reading_answered_commit, reading_handed, reading_own_not_placed, reading_read_only, reading_write_failed, reading_aborted, reading_vanished, reading_healed, reading_dropped, reading_outcome, reading_outcome_failed, reading_completed}
+use Rattle.isolation_laws.proofs.Reading.ClientsReading.{FewerReading, same_reading, reading_handed, reading_vanished, reading_dropped}
 use Rattle.isolation_laws.proofs.Stores.Calm.{calm_quiet}
 use Rattle.isolation_laws.proofs.Stores.CellsStay.{cells_shadow}
 use Rattle.isolation_laws.proofs.Stores.StoreMoves.{AskFits, never_live, cells_stepped}
@@ -128,32 +128,32 @@ by_sweep w left h items quiet stores under_way holds =
 -- ---- the frame of each
 pub framed : (w : State) (h : List Item) (o : Outcome w) → Holds w h → is_framed o ≡ true → Frame w h (left_by w o) (told_by_outcome w o)
 framed w h (OfStill k) holds is = untold w h (left_by w (OfStill k)) k.items k.quiet k.up (nodes_alike w.nodes k.nodes k.alike) (same_reading w.clients) (stores_stay w h holds) (leaves_still w h k holds) (under_way_same w h _ holds (calm_quiet h k.items k.quiet)) holds
-framed w h (OfCrashed k) holds is = untold w h (left_by w (OfCrashed k)) k.items k.quiet (omega arith) (nodes_ended w.nodes k.node) (reading_crashed w k) (stores_stay w h holds) (leaves_crashed w h k holds) (under_way_crashed w h k holds) holds
-framed w h (OfEnded k) holds is = untold w h (left_by w (OfEnded k)) k.items k.quiet k.up (nodes_over w.nodes k.node k.session k.i k.at) (reading_ended w k) (stores_stay w h holds) (leaves_ended w h k holds) (under_way_ended w h k holds) holds
+framed w h (OfCrashed k) holds is = untold w h (left_by w (OfCrashed k)) k.items k.quiet (omega arith) (nodes_ended w.nodes k.node) (reading_after w (OfCrashed k) refl) (stores_stay w h holds) (leaves_crashed w h k holds) (under_way_crashed w h k holds) holds
+framed w h (OfEnded k) holds is = untold w h (left_by w (OfEnded k)) k.items k.quiet k.up (nodes_over w.nodes k.node k.session k.i k.at) (reading_after w (OfEnded k) refl) (stores_stay w h holds) (leaves_ended w h k holds) (under_way_ended w h k holds) holds
 framed w h (OfNotPlaced k) holds is = frame w h (left_by w (OfNotPlaced k)) k.items k.quiet (omega arith) (nodes_settled w k.it k.by) (fewer_settled w k.it k.by) (clients_stay w.clients) (stores_stay w h holds) (requests_not_placed w h k holds) (under_way_same w h _ holds (calm_quiet h k.items k.quiet))
-framed w h (OfAnsweredCommit k) holds is = untold w h (left_by w (OfAnsweredCommit k)) k.items k.quiet (omega arith) (nodes_over w.nodes k.node k.session k.i k.at) (reading_answered_commit w k) (stores_stay w h holds) (leaves_answered_commit w h k holds) (under_way_answered_commit w h k holds) holds
+framed w h (OfAnsweredCommit k) holds is = untold w h (left_by w (OfAnsweredCommit k)) k.items k.quiet (omega arith) (nodes_over w.nodes k.node k.session k.i k.at) (reading_after w (OfAnsweredCommit k) refl) (stores_stay w h holds) (leaves_answered_commit w h k holds) (under_way_answered_commit w h k holds) holds
 framed w h (OfHanded k) holds is = untold w h (left_by w (OfHanded k)) k.items k.quiet (omega arith) (nodes_over w.nodes k.node k.session k.i k.at) (reading_handed w k) (stores_stay w h holds) (leaves_handed w h k holds) (under_way_handed w h k holds) holds
-framed w h (OfOwnNotPlaced k) holds is = by_client w h k.items _ w.rows w.pairs k.quiet (reading_own_not_placed w k) (stores_stay w h holds) (leaves_own_not_placed w h k holds) (under_way_own_not_placed w h k holds) holds
-framed w h (OfEndedReadOnly k) holds is = by_client w h k.items _ w.rows w.pairs k.quiet (reading_read_only w k) (stores_stay w h holds) (leaves_read_only w h k holds) (under_way_read_only w h k holds) holds
+framed w h (OfOwnNotPlaced k) holds is = by_client w h k.items _ w.rows w.pairs k.quiet (reading_after w (OfOwnNotPlaced k) refl) (stores_stay w h holds) (leaves_own_not_placed w h k holds) (under_way_own_not_placed w h k holds) holds
+framed w h (OfEndedReadOnly k) holds is = by_client w h k.items _ w.rows w.pairs k.quiet (reading_after w (OfEndedReadOnly k) refl) (stores_stay w h holds) (leaves_read_only w h k holds) (under_way_read_only w h k holds) holds
 framed w h (OfWriteFailed k) holds is = record {
   quiet = k.quiet;
   up = omega arith;
   nodes = nodes_stay w.nodes;
   pending = (leaves_write_failed w h k holds).pending;
-  clients = record { opened = (leaves_write_failed w h k holds).opened; reading = reading_write_failed w k };
+  clients = record { opened = (leaves_write_failed w h k holds).opened; reading = reading_after w (OfWriteFailed k) refl };
   shadows = shadows_failed w h k holds;
   marks = marks_same w.pairs;
   cells = cells_write_failed w h k holds;
   requests = requests_silent w h (h ++ k.items) _ _ (silent_quiet h k.items k.quiet) (leaves_write_failed w h k holds) holds;
   under_way = under_way_write_failed w h k holds;
 }
-framed w h (OfAborted k) holds is = by_client w h k.items _ w.rows w.pairs k.quiet (reading_aborted w k) (stores_stay w h holds) (leaves_aborted w h k holds) (under_way_aborted w h k holds) holds
+framed w h (OfAborted k) holds is = by_client w h k.items _ w.rows w.pairs k.quiet (reading_after w (OfAborted k) refl) (stores_stay w h holds) (leaves_aborted w h k holds) (under_way_aborted w h k holds) holds
 framed w h (OfVanished k) holds is = by_client w h k.items _ w.rows w.pairs k.quiet (reading_vanished w k) (stores_stay w h holds) (leaves_vanished w h k holds) (under_way_vanished w h k holds) holds
-framed w h (OfHealed k) holds is = by_client w h k.items _ _ w.pairs k.quiet (reading_healed w k) (stores_healed w h k holds) (leaves_healed w h k holds) (under_way_healed w h k holds) holds
+framed w h (OfHealed k) holds is = by_client w h k.items _ _ w.pairs k.quiet (reading_after w (OfHealed k) refl) (stores_healed w h k holds) (leaves_healed w h k holds) (under_way_healed w h k holds) holds
 framed w h (OfReadDropped k) holds is = by_client w h k.items _ w.rows k.pairs k.quiet (reading_dropped w k) (stores_marked w h k.pairs k.pairs_are holds) (leaves_dropped w h k holds) (under_way_dropped w h k holds) holds
-framed w h (OfOutcome k) holds is = by_client w h k.items _ w.rows _ k.quiet (reading_outcome w k) (stores_settled w h k.x holds) (leaves_outcome w h k holds) (under_way_outcome w h k holds) holds
-framed w h (OfOutcomeFailed k) holds is = by_client w h k.items _ w.rows k.pairs k.quiet (reading_outcome_failed w k) (stores_marked w h k.pairs k.pairs_are holds) (leaves_outcome_failed w h k holds) (under_way_outcome_failed w h k holds) holds
-framed w h (OfCompleted k) holds is = by_client w h k.items _ _ _ k.quiet (reading_completed w k) (stores_if w h k.asked k.applied holds (completed_fits w h k holds) (completed_fills w h k holds)) (leaves_completed w h k holds) (under_way_completed w h k holds) holds
+framed w h (OfOutcome k) holds is = by_client w h k.items _ w.rows _ k.quiet (reading_after w (OfOutcome k) refl) (stores_settled w h k.x holds) (leaves_outcome w h k holds) (under_way_outcome w h k holds) holds
+framed w h (OfOutcomeFailed k) holds is = by_client w h k.items _ w.rows k.pairs k.quiet (reading_after w (OfOutcomeFailed k) refl) (stores_marked w h k.pairs k.pairs_are holds) (leaves_outcome_failed w h k holds) (under_way_outcome_failed w h k holds) holds
+framed w h (OfCompleted k) holds is = by_client w h k.items _ _ _ k.quiet (reading_after w (OfCompleted k) refl) (stores_if w h k.asked k.applied holds (completed_fits w h k holds) (completed_fills w h k holds)) (leaves_completed w h k holds) (under_way_completed w h k holds) holds
 framed w h (OfSweepOpened k) holds is = by_sweep w (left_by w (OfSweepOpened k)) h [] (All-nil Quiet) (stores_stay w h holds) (under_way_sweep_opened w h k holds) holds
 framed w h (OfSwept k) holds is = by_sweep w (left_by w (OfSwept k)) h k.items k.quiet (stores_if w h k.asked true holds (sweep_fits w h k.s k.asked holds k.is_open k.asks) (swept_fills w h k.s k.asked holds k.is_open k.asks)) (under_way_swept w h k holds) holds
 framed w h (OfSweepFailed k) holds is = by_sweep w (left_by w (OfSweepFailed k)) h k.items k.quiet (stores_if w h k.asked k.applied holds (sweep_fits w h k.s k.asked holds k.is_open k.asks) (swept_fills w h k.s k.asked holds k.is_open k.asks)) (under_way_sweep_failed w h k holds) holds

@@ -1,4 +1,6 @@
 -- A commit in flight is lost where its instance crashes, and where its put fails without effect.
+use Rattle.isolation_laws.proofs.Requests.ClientMoves.{at_work_after}
+use Rattle.isolation_laws.proofs.Outcome.Outcomes.{OfCrashed}
 use Rattle.std.proofs.Common.{◌≡◌, ℕ, false, List, [], ◌∷◌, ◌++◌, Option, Some, inl, inr, refl, sym, ◌∙◌, ap, subst}
 use Rattle.std.proofs.lemmas.List.Elements.{All-cons}
 use Rattle.port_io.specs.declared.weather.Fate.{Fate}
@@ -35,7 +37,7 @@ use Rattle.isolation_laws.proofs.Requests.PendingFewer.{StaysPut, pending_settle
 use Rattle.isolation_laws.proofs.Requests.PendingAfter.{pending_in, pending_at}
 use Rattle.isolation_laws.proofs.Requests.OtherCommits.{other_commit}
 use Rattle.isolation_laws.proofs.Requests.ClientsOpen.{placing_was}
-use Rattle.isolation_laws.proofs.Requests.OpenAfter.{at_work_crashed, fewer_is_open}
+use Rattle.isolation_laws.proofs.Requests.OpenAfter.{fewer_is_open}
 use Rattle.isolation_laws.proofs.Inversions.InversionOfAsks.{for_clients, all_crashed_quiet}
 use Rattle.isolation_laws.proofs.Inversions.InversionOfAnswers.{for_table, put_settled, not_invalid}
 
@@ -56,10 +58,10 @@ not_elsewhere w h q r n holds p node stays same =
 -- what is pending after a crash was not held there
 crashed_elsewhere : (w : State) (k : Crashed w) (s : ℕ) (q : InFlight) → Pending (crashed_state w k).clients (crashed_state w k).nodes q → StaysPut w.clients w.nodes k.node s q
 crashed_elsewhere w k s q (inl p) = let old = instance_ended w.nodes k.node p.node p.instance_of p.at in inl (pending_at w.nodes q p.node p.instance_of old.1 (pending_in (crashed_state w k).nodes q p), λ same. old.0 same.0)
-crashed_elsewhere w k s q (inr p) = inr (placing_was w.clients (crashed_state w k).clients q (at_work_crashed w k).placing p)
+crashed_elsewhere w k s q (inr p) = inr (placing_was w.clients (crashed_state w k).clients q (at_work_after w (OfCrashed k) refl).placing p)
 
 crashed_dead : (w : State) (h : List Item) (k : Crashed w) (q : InFlight) → Holds w h → (p : HeldPending w.nodes q) → p.node ≡ k.node → Live (crashed_state w k).clients (crashed_state w k).nodes q.start → ⊥
-crashed_dead w h k q holds p node (inl o) = not_open w h q holds p (fewer_is_open w.clients (crashed_state w k).clients q.start (at_work_crashed w k).opened o)
+crashed_dead w h k q holds p node (inl o) = not_open w h q holds p (fewer_is_open w.clients (crashed_state w k).clients q.start (at_work_after w (OfCrashed k) refl).opened o)
 crashed_dead w h k q holds p node (inr o) = not_elsewhere w h q o.coming k.node holds p node (crashed_elsewhere w k q.session o.coming o.pending) o.start_is
 
 crashed_lost : (w : State) (h : List Item) (k : Crashed w) (q : InFlight) → Holds w h → (p : HeldPending w.nodes q) → p.node ≡ k.node → IsLost (crashed_state w k) (h ++ k.items) q.start

@@ -1,4 +1,6 @@
 -- An outcome places nothing that is marked before it is placed, and nothing that is neither open nor in flight.
+use Rattle.isolation_laws.proofs.Requests.ClientMoves.{at_work_after}
+use Rattle.isolation_laws.proofs.Outcome.Outcomes.{OfAskedBegin, OfOwnPlaced, Outcome, OfDrew, OfPlaced, OfAnsweredBegin, OfWrote, OfFetched, OfReadDropped, OfReadStepped, OfOutcome, OfOutcomeFailed, OfCompleted, OfSwept, OfSweepListed, OfSweepFailed, left_by, told_by_outcome}
 use Rattle.std.proofs.Common.{◌≡◌, ℕ, List, [], ◌∷◌, ◌++◌, append_assoc, ◌⊎◌, inl, inr, refl, sym, ◌∙◌, ap, subst}
 use Rattle.std.proofs.lemmas.Option.{none-some}
 use Rattle.stamp_base.specs.declared.stores.Mark.TheVariants.{Invalid as InvalidMark}
@@ -16,11 +18,10 @@ use Rattle.isolation_laws.specs.Pending.{Live}
 use Rattle.isolation_laws.specs.Holds.{Holds}
 use Rattle.isolation_laws.specs.Laws.{IsMarkedFirst, IsLost}
 use Rattle.isolation_laws.proofs.Pushed.{old_placed}
-use Rattle.isolation_laws.proofs.Outcome.Outcomes.{Outcome, OfAskedBegin, OfDrew, OfPlaced, OfOwnPlaced, OfAnsweredBegin, OfWrote, OfFetched, OfReadDropped, OfReadStepped, OfOutcome, OfOutcomeFailed, OfCompleted, OfSwept, OfSweepListed, OfSweepFailed, left_by, told_by_outcome}
 use Rattle.isolation_laws.proofs.Holding.IsolatedItems.{Stamping, StampsNone, StampsPlaced, StampsBegin, stamping, placed_old}
 use Rattle.isolation_laws.proofs.Stores.StoresStay.{MarksStay, marks_put, marks_after, marks_may, marks_if}
 use Rattle.isolation_laws.proofs.Requests.PendingFewer.{pending_asked_begin, fewer_settled}
-use Rattle.isolation_laws.proofs.Requests.OpenAfter.{at_work_own_placed, at_work_asked_begin, at_work_wrote, at_work_fetched, at_work_read}
+use Rattle.isolation_laws.proofs.Requests.OpenAfter.{at_work_wrote, at_work_fetched, at_work_read}
 use Rattle.isolation_laws.proofs.Stores.LiveAfter.{fewer_live, live_by_clients, live_by_nodes, live_drew, live_answered_begin}
 use Rattle.isolation_laws.proofs.Numbers.Placings.{PlacedPending, placed_item, placed_live}
 use Rattle.isolation_laws.specs.Quiet.{AllQuiet}
@@ -69,10 +70,10 @@ marks_kept w _ = λ u marked. marked
 
 -- ---- nothing becomes live again
 live_kept : (w : State) (h : List Item) (o : Outcome w) (s t : ℕ) → Holds w h → Begun h s t → Live (left_by w o).clients (left_by w o).nodes t → Live w.clients w.nodes t
-live_kept w h (OfAskedBegin k) s t holds begun live = fewer_live w.clients _ w.nodes _ (at_work_asked_begin w k).opened (pending_asked_begin w k) t live
+live_kept w h (OfAskedBegin k) s t holds begun live = fewer_live w.clients _ w.nodes _ (at_work_after w (OfAskedBegin k) refl).opened (pending_asked_begin w k) t live
 live_kept w h (OfDrew k) s t holds begun live = live_drew w k t live
 live_kept w h (OfPlaced k) s t holds begun live = live_by_nodes w.clients w.nodes _ (fewer_settled w k.it k.by) t live
-live_kept w h (OfOwnPlaced k) s t holds begun live = live_by_clients w.clients _ w.nodes (at_work_own_placed w k) t live
+live_kept w h (OfOwnPlaced k) s t holds begun live = live_by_clients w.clients _ w.nodes (at_work_after w (OfOwnPlaced k) refl) t live
 live_kept w h (OfAnsweredBegin k) s t holds begun live = elim (live_answered_begin w k t live) [
   | inl old ↦ old
   | inr now ↦ absurd (start_unbegun w h k s holds (subst (Begun h s) now begun))

@@ -1,3 +1,4 @@
+-- For cluster_core too.
 -- With strict reads every history is serial: what is placed was drawn, and what those that were drawn have read stood.
 use Rattle.std.proofs.Common.{◌≡◌, ℕ, ◌<◌, List, Some, take, ◌⊎◌, inl, inr, sym, arith}
 use Rattle.std.specs.Prelude.{slice_get}

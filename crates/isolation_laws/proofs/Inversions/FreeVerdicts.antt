@@ -1,3 +1,4 @@
+-- For grant_laws too.
 -- A verdict on what a request writes and its client has read is free only where both are.
 use Rattle.std.proofs.Common.{◌≡◌, ℕ, List, refl, sym, ◌∙◌, ap}
 use Rattle.oracle_parts.specs.declared.buckets.Verdict.{Verdict}

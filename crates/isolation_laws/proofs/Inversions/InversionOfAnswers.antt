@@ -1,6 +1,9 @@
 -- For cause_laws too.
 -- What a node's put of a commit and its answer to a request come to.
-use Rattle.std.proofs.Common.{◌≡◌, ℕ, true, List, [], ◌∷◌, ◌++◌, if◌then◌else◌, Option, Some, None, ◌⊎◌, inl, inr, refl, sym, ◌∙◌, ap, arith}
+use Rattle.std.proofs.Common.{subst, ◌≡◌, ℕ, true, List, [], ◌∷◌, ◌++◌, if◌then◌else◌, Option, Some, None, ◌⊎◌, inl, inr, refl, sym, ◌∙◌, ap, arith}
+use Rattle.isolation_laws.specs.Due.{AreDue}
+use Rattle.isolation_laws.proofs.Dues.DueItems.{DueAnyway, none_due, plain_due, all_due, two_free, once_due}
+use Rattle.isolation_laws.proofs.Dues.RequestRefusals.{waits_due, settled_due}
 use Rattle.std.specs.Prelude.{slice_get, slice_set}
 use Rattle.stamp_base.specs.declared.stores.Mark.{Mark}
 use Rattle.stamp_base.specs.declared.stores.Mark.TheVariants.{Committed as CommittedMark}
@@ -32,11 +35,11 @@ use Rattle.machine.specs.Events.Put.{to_place_by, to_place, put_by, put_commit, 
 use Rattle.machine.specs.Events.Answer.{answer_by, answer_on}
 use Rattle.isolation_laws.specs.Words.{InstanceAt, ClientAt}
 use Rattle.isolation_laws.specs.Quiet.{Quiet, AllQuiet}
-use Rattle.isolation_laws.proofs.Outcome.PlainItems.{node_plain, once_silent}
+use Rattle.isolation_laws.proofs.Outcome.PlainItems.{once_silent}
 use Rattle.isolation_laws.proofs.Outcome.OutcomesOfRecord.{Told}
 use Rattle.isolation_laws.proofs.Outcome.OutcomesOfStamps.{AtDrawn, fault_of, found_items, answered_client, answered_item}
 use Rattle.isolation_laws.proofs.Outcome.Outcomes.{OfPlaced, OfNotPlaced, OfAnsweredBegin, OfAnsweredCommit, OfHanded}
-use Rattle.isolation_laws.proofs.Inversions.InversionParts.{ComesTo, ComesBy, none_quiet, told_quiet, tells, still_post, client_back}
+use Rattle.isolation_laws.proofs.Inversions.InversionParts.{node_told, no_request_told, ComesTo, ComesBy, none_quiet, told_quiet, tells, still_post, client_back}
 use Rattle.isolation_laws.proofs.Inversions.InversionOfRequests.{for_request, Served, decide_still}
 use Rattle.isolation_laws.proofs.Pushed.{one_quiet}
 
@@ -54,15 +57,34 @@ settled_left w it by =
 pub put_settled : (w : State) (it : AtDrawn w) (by : Settled) (pairs : Pairs) → record (with_post w it.node (Some (instance_settle it.i it.session by).left)) { pairs = pairs } ≡ record (with_post w it.node (Some (moved it.i it.session it.held (progress.Settled it.commit by)))) { pairs = pairs }
 put_settled w it by pairs = ap (λ (i : InstanceEntry). record (with_post w it.node (Some i)) { pairs = pairs }) (settled_left w it by)
 
+-- a put refuses nothing
+fault_behind : (w : State) (x : Item) → DueAnyway w x → (by : Settled) (node : ℕ) (items : List Item) → items ≡ fault_of by node → AreDue w (x ∷ items)
+fault_behind w x free by node items same = subst (λ (rest : List Item). AreDue w (x ∷ rest)) (sym same) (behind by)
+  where
+    behind : (by : Settled) → AreDue w (x ∷ fault_of by node)
+    behind how.Placed = plain_due w x free
+    behind how.Invalid = plain_due w x free
+    behind how.Faulted = all_due w _ (two_free w x (item.Fault (Node node) Table) free (λ told. tt))
+
+found_due : (w : State) (by : Settled) (node start : ℕ) → AreDue w (found_items by node start ++ fault_of by node)
+found_due w how.Placed node start = none_due w
+found_due w how.Invalid node start = plain_due w _ (λ told. tt)
+found_due w how.Faulted node start = plain_due w _ (λ told. tt)
+
+put_due : (w : State) (by : Settled) (node start : ℕ) (items : List Item) → items ≡ found_items by node start ++ fault_of by node → AreDue w items
+put_due w by node start items same = subst (AreDue w) (sym same) (found_due w by node start)
+
 put_placed : (w : State) (it : AtDrawn w) (by : Settled) (items : List Item) → (by ≡ how.Placed) ⊎ (by ≡ how.Faulted) → items ≡ fault_of by it.node → mark_of w.pairs it.start ≡ None → AllQuiet items → ComesTo w (record (with_post w it.node (Some (instance_settle it.i it.session by).left)) { pairs = put_over w.pairs it.start (CommittedMark it.commit) None }) (item.Placed it.start it.commit ∷ items)
 put_placed w it by items by_is tells free quiet = (
   OfPlaced (record { it = it; free = free; by = by; by_is = by_is; items = items; tells = tells; quiet = quiet }),
   put_settled w it by (put_over w.pairs it.start (CommittedMark it.commit) None) ∙ ap (λ (m : Option Mark). record (with_post w it.node (Some (moved it.i it.session it.held (progress.Settled it.commit by)))) { pairs = put_over w.pairs it.start (CommittedMark it.commit) m }) (sym free),
   refl,
+  tt,
+  fault_behind w (item.Placed it.start it.commit) (λ told. tt) by it.node items tells,
 )
 
 put_unplaced : (w : State) (it : AtDrawn w) (by : Settled) (items : List Item) → (by ≡ how.Invalid) ⊎ (by ≡ how.Faulted) → (by ≡ how.Invalid → (mark : Mark) × (mark_of w.pairs it.start ≡ Some mark)) → items ≡ found_items by it.node it.start ++ fault_of by it.node → AllQuiet items → ComesTo w (record (with_post w it.node (Some (instance_settle it.i it.session by).left)) { pairs = w.pairs }) items
-put_unplaced w it by items by_is found tells quiet = (OfNotPlaced (record { it = it; by = by; by_is = by_is; found = found; items = items; tells = tells; quiet = quiet }), put_settled w it by w.pairs, refl)
+put_unplaced w it by items by_is found tells quiet = (OfNotPlaced (record { it = it; by = by; by_is = by_is; found = found; items = items; tells = tells; quiet = quiet }), put_settled w it by w.pairs, refl, tt, put_due w by it.node it.start items tells)
 
 pub not_invalid : how.Faulted ≡ how.Invalid → ⊥
 not_invalid same = cc
@@ -75,7 +97,7 @@ put_fated w it FailsApplied None is = put_placed w it how.Faulted _ (inr refl) r
 put_fated w it FailsApplied (Some found) is = put_unplaced w it how.Faulted _ (inr refl) (λ by. absurd (not_invalid by)) refl (one_quiet (item.Fault (Node it.node) Table) refl)
 
 put_none : (w : State) (node session : ℕ) (i : InstanceEntry) → InstanceAt w.nodes node i → ComesTo w (record (with_post w node (Some i)) { pairs = w.pairs }) (item.Refused (Node node) (cause.NoRequest session) ∷ [])
-put_none w node session i at = still_post w node w.seen (Some i) _ at (omega arith) (node_plain node (cause.NoRequest session))
+put_none w node session i at = still_post w node w.seen (Some i) _ at (omega arith) (no_request_told w node session)
 
 put_request : (w : State) (node session : ℕ) (fate : Fate) (i : InstanceEntry) (held : Held) → InstanceAt w.nodes node i → held_of i session ≡ Some held → (request : Request) → held.request ≡ request → (p : Progress) → held.progress ≡ p → ComesBy w (for_table w node (put_commit node session fate i w.pairs (to_place_by request p)))
 put_request w node session fate i held at has (Commit asker start keys) asks (progress.Drawn commit) stands =
@@ -92,7 +114,7 @@ put_found w node session fate i at None has = put_none w node session i at
 put_found w node session fate i at (Some held) has = put_request w node session fate i held at has held.request refl held.progress refl
 
 pub put_at : (w : State) (node session : ℕ) (fate : Fate) (post : Option InstanceEntry) → slice_get w.nodes node ≡ Some post → ComesBy w (for_table w node (put_on node session fate post w.pairs))
-put_at w node session fate None at = still_post w node w.seen None _ at (omega arith) (node_plain node (cause.NoOracle node))
+put_at w node session fate None at = still_post w node w.seen None _ at (omega arith) (node_told w node (cause.NoOracle node) (refl, at))
 put_at w node session fate (Some i) at = put_found w node session fate i at (held_of i session) refl
 
 -- ---- answer
@@ -105,7 +127,7 @@ abbrev answer_step : State → ℕ → ℕ → InstanceEntry → Client → Inst
 answer_step w node session i c taken stamps = for_request w node session (answered_on node session i c taken stamps)
 
 answer_none : (w : State) (node session : ℕ) (i : InstanceEntry) (c : Client) → InstanceAt w.nodes node i → ClientAt w.clients session c → ComesTo w (with_client (with_post w node (Some i)) session c) (item.Refused (Node node) (cause.NoRequest session) ∷ [])
-answer_none w node session i c at client_at = decide_still w node session (Some i) c (cause.NoRequest session) at client_at
+answer_none w node session i c at client_at = decide_still w node session (Some i) c (cause.NoRequest session) (no_request_told w node session) at client_at
 
 answer_waits : (w : State) (node session asker start : ℕ) (i : InstanceEntry) (held : Held) (c : Client) → Served w node session i held c → held.request ≡ Begin asker → held.progress ≡ progress.Drawn start → (least : Option ℕ) → least_unsettled i.requests start ≡ least → ComesBy w (answer_step w node session i c (answer_begin i session held start least) (Some (start, None)))
 answer_waits w node session asker start i held c served asks drawn None settled = (
@@ -126,6 +148,8 @@ answer_waits w node session asker start i held c served asks drawn None settled 
   }),
   refl,
   refl,
+  tt,
+  plain_due w _ (λ told. tt),
 )
 answer_waits w node session asker start i held c served asks drawn (Some commit) settled =
     let x : Item = item.Refused (Session session) (cause.NotYet commit) in
@@ -137,7 +161,7 @@ answer_waits w node session asker start i held c served asks drawn (Some commit)
       items = if was_told_not_yet i session then [] else x ∷ [];
       silent = once_silent (was_told_not_yet i session) x refl;
     } in
-    tells w _ k (told_quiet (was_told_not_yet i session) x refl) (client_back w session w.seen c (slice_set w.nodes node (Some (not_yet_told i session held))) served.client_at)
+    tells w _ k (told_quiet (was_told_not_yet i session) x refl) (once_due w (was_told_not_yet i session) (Session session) (cause.NotYet commit) (waits_due w node session asker start commit i held served.at served.has asks drawn settled)) (client_back w session w.seen c (slice_set w.nodes node (Some (not_yet_told i session held))) served.client_at)
 
 answer_settled : (w : State) (node session asker start commit : ℕ) (keys : List ℕ) (by : Settled) (i : InstanceEntry) (held : Held) (c : Client) → Served w node session i held c → held.request ≡ Commit asker start keys → held.progress ≡ progress.Settled commit by → (x : Item) → x ≡ answered_item by session start commit → Quiet x → ComesTo w (with_client (with_post w node (Some (without_request i session))) session (unless_gone c (answered_client by c commit))) (x ∷ [])
 answer_settled w node session asker start commit keys by i held c served asks settled x is quiet = (
@@ -163,6 +187,8 @@ answer_settled w node session asker start commit keys by i held c served asks se
   }),
   refl,
   refl,
+  tt,
+  subst (λ (y : Item). AreDue w (y ∷ [])) (sym is) (settled_due w node session asker start commit keys by i held served.at served.has asks settled),
 )
 
 answer_handed : (w : State) (node session asker start commit : ℕ) (keys : List ℕ) (i : InstanceEntry) (held : Held) (c : Client) → Served w node session i held c → held.request ≡ Commit asker start keys → held.progress ≡ progress.Handed commit → ComesTo w (with_client (with_post w node (Some (without_request i session))) session (unless_gone c (client_handed c commit))) (item.Step (Session session) (Handed start commit) ∷ [])
@@ -188,6 +214,8 @@ answer_handed w node session asker start commit keys i held c served asks drawn 
   }),
   refl,
   refl,
+  tt,
+  plain_due w _ (λ told. tt),
 )
 
 answer_held_request : (w : State) (node session : ℕ) (i : InstanceEntry) (held : Held) (c : Client) → Served w node session i held c → (request : Request) → held.request ≡ request → (p : Progress) → held.progress ≡ p → ComesBy w (answer_step w node session i c (answer_if_ready i session held request p) (stamps_by request p))
@@ -209,5 +237,5 @@ answer_found w node session i c at client_at None has = answer_none w node sessi
 answer_found w node session i c at client_at (Some held) has = answer_held_request w node session i held c (record { at = at; client_at = client_at; has = has }) held.request refl held.progress refl
 
 pub answer_at : (w : State) (node session : ℕ) (post : Option InstanceEntry) (c : Client) → slice_get w.nodes node ≡ Some post → ClientAt w.clients session c → ComesBy w (for_request w node session (answer_on node session post c))
-answer_at w node session None c at client_at = decide_still w node session None c (cause.NoOracle node) at client_at
+answer_at w node session None c at client_at = decide_still w node session None c (cause.NoOracle node) (node_told w node (cause.NoOracle node) (refl, at)) at client_at
 answer_at w node session (Some i) c at client_at = answer_found w node session i c at client_at (held_of i session) refl

@@ -1,5 +1,9 @@
--- For cause_laws too.
 -- What a crash and the asks of a session come to.
+use Rattle.isolation_laws.specs.Requests.{AreRequests}
+use Rattle.isolation_laws.proofs.Dues.DueItems.{plain_due}
+use Rattle.isolation_laws.proofs.Dues.OwnRefusals.{begin_own, work_own}
+use Rattle.isolation_laws.proofs.Dues.LostRequests.{crash_due}
+use Rattle.std.proofs.lemmas.Bool.{eqb-true}
 use Rattle.std.proofs.Common.{◌≡◌, ◌≢◌, ℕ, ◌==◌, Bool, true, false, if◌then◌else◌, List, [], ◌∷◌, Option, Some, None, refl, ap, arith}
 use Rattle.std.specs.Prelude.{slice_get, slice_set, Ok}
 use Rattle.std.proofs.lemmas.List.Elements.{All-cons, All-append}
@@ -28,8 +32,8 @@ use Rattle.isolation_laws.specs.Words.{InstanceAt, ClientAt}
 use Rattle.isolation_laws.specs.Quiet.{Quiet, AllQuiet}
 use Rattle.isolation_laws.proofs.Lookups.{set_same}
 use Rattle.isolation_laws.proofs.Outcome.Outcomes.{OfCrashed, OfAskedBegin, OfAskedCommit, OfEndedReadOnly}
-use Rattle.isolation_laws.proofs.Inversions.InversionParts.{ComesTo, ComesBy, none_quiet, refusal_quiet, still_post, still_both}
-use Rattle.isolation_laws.proofs.Outcome.PlainItems.{AllPlain, none_plain, node_plain, one_silent, Mild, session_plain, mild_is}
+use Rattle.isolation_laws.proofs.Inversions.InversionParts.{PlainDue, nothing_told, node_told, state_told, session_told, ComesTo, ComesBy, none_quiet, refusal_quiet, still_post, still_both}
+use Rattle.isolation_laws.proofs.Outcome.PlainItems.{one_silent, Mild, mild_is}
 use Rattle.isolation_laws.proofs.Inversions.InversionOfSessions.{work_open, work_mild, open_by_work}
 use Rattle.isolation_laws.proofs.Pushed.{one_quiet}
 
@@ -61,9 +65,9 @@ all_crashed_quiet node term [] clients = none_quiet
 all_crashed_quiet node term (held ∷ others) [] = none_quiet
 all_crashed_quiet node term (held ∷ others) (c ∷ clients) = All-append Quiet (crashed_items node term held c) (all_crashed_items node term others clients) (crashed_quiet node term held c) (all_crashed_quiet node term others clients)
 
-pub crash_at : (w : State) (node : ℕ) (post : Option InstanceEntry) → slice_get w.nodes node ≡ Some post → ComesBy w (for_clients w node (crash_on node post w.clients))
-crash_at w node None at = still_post w node w.seen None _ at (omega arith) (node_plain node (cause.NoOracle node))
-crash_at w node (Some i) at = (
+pub crash_at : (w : State) (node : ℕ) (post : Option InstanceEntry) → AreRequests w.nodes w.clients → slice_get w.nodes node ≡ Some post → ComesBy w (for_clients w node (crash_on node post w.clients))
+crash_at w node None requests at = still_post w node w.seen None _ at (omega arith) (node_told w node (cause.NoOracle node) (refl, at))
+crash_at w node (Some i) requests at = (
   OfCrashed (record {
     node = node;
     i = i;
@@ -74,6 +78,8 @@ crash_at w node (Some i) at = (
   }),
   refl,
   refl,
+  tt,
+  crash_due w node i requests at,
 )
 
 -- ---- the asks of a session
@@ -85,7 +91,7 @@ abbrev pub asked_if : InstanceEntry → Request → Bool → InstanceStep (Unit 
 asked_if i request full = if full then stays i (cause.Full (in_flight i)) else record { left = with_request i (session_of request) (Some (just_asked request)); answer = Ok tt }
 
 -- both were put back
-ask_still : (w : State) (session node : ℕ) (post : Option InstanceEntry) (c : Client) (items : List Item) → slice_get w.nodes node ≡ Some post → ClientAt w.clients session c → AllPlain items → ComesTo w (with_client (with_post w node post) session c) items
+ask_still : (w : State) (session node : ℕ) (post : Option InstanceEntry) (c : Client) (items : List Item) → slice_get w.nodes node ≡ Some post → ClientAt w.clients session c → PlainDue w items → ComesTo w (with_client (with_post w node post) session c) items
 ask_still w session node post c items at client_at plain = still_both w node session w.seen post c items at client_at (omega arith) plain
 
 begin_free : (state : SessionState) → begin_refusal state ≡ None → state ≡ phase.Free
@@ -103,21 +109,21 @@ begin_mild phase.Free = tt
 begin_mild phase.Gone = refl
 begin_mild _ = refl
 
-begin_slots : (w : State) (session node : ℕ) (c : Client) (i : InstanceEntry) → InstanceAt w.nodes node i → ClientAt w.clients session c → c.entry.state ≡ phase.Free → (full : Bool) → ComesBy w (for_ask w session node (asked_by session c (item.AskBegin session node) (asked_if i (Begin session) full) (asked_if i (Begin session) full).answer))
-begin_slots w session node c i at client_at free true = ask_still w session node (Some i) c _ at client_at (session_plain session (cause.Full (in_flight i)) refl)
-begin_slots w session node c i at client_at free false = (OfAskedBegin (record { session = session; node = node; c = c; i = i; client_at = client_at; at = at; free = free }), refl, refl)
+begin_slots : (w : State) (session node : ℕ) (c : Client) (i : InstanceEntry) → InstanceAt w.nodes node i → ClientAt w.clients session c → c.entry.state ≡ phase.Free → (full : Bool) → (in_flight i == i.slots) ≡ full → ComesBy w (for_ask w session node (asked_by session c (item.AskBegin session node) (asked_if i (Begin session) full) (asked_if i (Begin session) full).answer))
+begin_slots w session node c i at client_at free true full = ask_still w session node (Some i) c _ at client_at (session_told w session (cause.Full (in_flight i)) refl (record { node = node; i = i; at = at; held = refl; all = eqb-true (in_flight i) i.slots full }))
+begin_slots w session node c i at client_at free false full = (OfAskedBegin (record { session = session; node = node; c = c; i = i; client_at = client_at; at = at; free = free }), refl, refl, tt, plain_due w _ (λ told. tt))
 
 begin_comes : (w : State) (session node : ℕ) (c : Client) (post : Option InstanceEntry) → slice_get w.nodes node ≡ Some post → ClientAt w.clients session c → (why : Option Cause) → begin_refusal c.entry.state ≡ why → ComesBy w (for_ask w session node (ask_begin_by session node c post why))
-begin_comes w session node c post at client_at (Some why) go = ask_still w session node post c _ at client_at (session_plain session why (mild_is (begin_refusal c.entry.state) why go (begin_mild c.entry.state)))
-begin_comes w session node c None at client_at None go = ask_still w session node None c _ at client_at (session_plain session (cause.NoOracle node) refl)
-begin_comes w session node c (Some i) at client_at None go = begin_slots w session node c i at client_at (begin_free c.entry.state go) (in_flight i == i.slots)
+begin_comes w session node c post at client_at (Some why) go = ask_still w session node post c _ at client_at (state_told w session c why client_at (mild_is (begin_refusal c.entry.state) why go (begin_mild c.entry.state)) (begin_own c.entry.state why go))
+begin_comes w session node c None at client_at None go = ask_still w session node None c _ at client_at (session_told w session (cause.NoOracle node) refl at)
+begin_comes w session node c (Some i) at client_at None go = begin_slots w session node c i at client_at (begin_free c.entry.state go) (in_flight i == i.slots) refl
 
 pub ask_begin_at : (w : State) (session node : ℕ) (c : Client) (post : Option InstanceEntry) → slice_get w.nodes node ≡ Some post → ClientAt w.clients session c → ComesBy w (for_ask w session node (ask_begin_on session node c post))
 ask_begin_at w session node c post at client_at = begin_comes w session node c post at client_at (begin_refusal c.entry.state) refl
 
-commit_slots : (w : State) (session node start : ℕ) (c : Client) (i : InstanceEntry) → InstanceAt w.nodes node i → ClientAt w.clients session c → work_refusal c.entry.state (is_reading c) ≡ None → c.entry.start ≡ Some start → c.entry.keys ≢ [] → (full : Bool) → ComesBy w (for_ask w session node (asked_by session c (item.AskCommit session node start) (asked_if i (Commit session start c.entry.keys) full) (asked_if i (Commit session start c.entry.keys) full).answer))
-commit_slots w session node start c i at client_at go begun written true = ask_still w session node (Some i) c _ at client_at (session_plain session (cause.Full (in_flight i)) refl)
-commit_slots w session node start c i at client_at go begun written false = (
+commit_slots : (w : State) (session node start : ℕ) (c : Client) (i : InstanceEntry) → InstanceAt w.nodes node i → ClientAt w.clients session c → work_refusal c.entry.state (is_reading c) ≡ None → c.entry.start ≡ Some start → c.entry.keys ≢ [] → (full : Bool) → (in_flight i == i.slots) ≡ full → ComesBy w (for_ask w session node (asked_by session c (item.AskCommit session node start) (asked_if i (Commit session start c.entry.keys) full) (asked_if i (Commit session start c.entry.keys) full).answer))
+commit_slots w session node start c i at client_at go begun written true full = ask_still w session node (Some i) c _ at client_at (session_told w session (cause.Full (in_flight i)) refl (record { node = node; i = i; at = at; held = refl; all = eqb-true (in_flight i) i.slots full }))
+commit_slots w session node start c i at client_at go begun written false full = (
   OfAskedCommit (record {
     session = session;
     node = node;
@@ -136,6 +142,8 @@ commit_slots w session node start c i at client_at go begun written false = (
   }),
   refl,
   refl,
+  tt,
+  plain_due w _ (λ told. tt),
 )
 
 commit_keys : (w : State) (session node start : ℕ) (c : Client) (post : Option InstanceEntry) → slice_get w.nodes node ≡ Some post → ClientAt w.clients session c → work_refusal c.entry.state (is_reading c) ≡ None → c.entry.start ≡ Some start → (keys : List ℕ) → c.entry.keys ≡ keys → ComesBy w (for_ask w session node (commit_of session node c start keys post))
@@ -149,13 +157,15 @@ commit_keys w session node start c post at client_at go begun [] none = (
   }),
   ap (λ (nodes : List (Option InstanceEntry)). record w { nodes = nodes; clients = slice_set w.clients session (client_freed c) }) (set_same w.nodes node post at),
   refl,
+  tt,
+  plain_due w _ (λ told. tt),
 )
-commit_keys w session node start c None at client_at go begun (key ∷ keys) some = ask_still w session node None c _ at client_at (session_plain session (cause.NoOracle node) refl)
-commit_keys w session node start c (Some i) at client_at go begun (key ∷ keys) some = commit_slots w session node start c i at client_at go begun (λ none. cc) (in_flight i == i.slots)
+commit_keys w session node start c None at client_at go begun (key ∷ keys) some = ask_still w session node None c _ at client_at (session_told w session (cause.NoOracle node) refl at)
+commit_keys w session node start c (Some i) at client_at go begun (key ∷ keys) some = commit_slots w session node start c i at client_at go begun (λ none. cc) (in_flight i == i.slots) refl
 
 commit_comes : (w : State) (session node : ℕ) (c : Client) (post : Option InstanceEntry) → slice_get w.nodes node ≡ Some post → ClientAt w.clients session c → (why : Option Cause) → work_refusal c.entry.state (is_reading c) ≡ why → (start : Option ℕ) → c.entry.start ≡ start → ComesBy w (for_ask w session node (ask_commit_by session node c post why start))
-commit_comes w session node c post at client_at (Some why) go start begun = ask_still w session node post c _ at client_at (session_plain session why (mild_is (work_refusal c.entry.state (is_reading c)) why go (work_mild c.entry.state (is_reading c))))
-commit_comes w session node c post at client_at None go None begun = ask_still w session node post c [] at client_at none_plain
+commit_comes w session node c post at client_at (Some why) go start begun = ask_still w session node post c _ at client_at (state_told w session c why client_at (mild_is (work_refusal c.entry.state (is_reading c)) why go (work_mild c.entry.state (is_reading c))) (work_own c.entry.state (is_reading c) why go))
+commit_comes w session node c post at client_at None go None begun = ask_still w session node post c [] at client_at (nothing_told w)
 commit_comes w session node c post at client_at None go (Some start) begun = commit_keys w session node start c post at client_at go begun c.entry.keys refl
 
 pub ask_commit_at : (w : State) (session node : ℕ) (c : Client) (post : Option InstanceEntry) → slice_get w.nodes node ≡ Some post → ClientAt w.clients session c → ComesBy w (for_ask w session node (ask_commit_on session node c post))

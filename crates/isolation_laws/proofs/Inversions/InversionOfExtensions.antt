@@ -1,5 +1,6 @@
 -- For call_laws too.
 -- What an extension comes to.
+use Rattle.isolation_laws.proofs.Dues.DueItems.{plain_due, all_due, two_free}
 use Rattle.std.proofs.Common.{[], ◌≡◌, ℕ, ◌+◌, ◌==◌, Bool, true, false, if◌then◌else◌, List, ◌∷◌, Option, Some, None, inr, refl, arith}
 use Rattle.std.specs.Prelude.{slice_get}
 use Rattle.std.proofs.lemmas.Bool.{eqb-true}
@@ -23,8 +24,7 @@ use Rattle.machine.specs.Events.Extend.{extend_by, extend_on}
 use Rattle.isolation_laws.specs.Words.{InstanceAt}
 use Rattle.isolation_laws.specs.Quiet.{AllQuiet}
 use Rattle.isolation_laws.proofs.Outcome.Outcomes.{OfExtended}
-use Rattle.isolation_laws.proofs.Outcome.PlainItems.{AllPlain, one_plain, node_plain}
-use Rattle.isolation_laws.proofs.Inversions.InversionParts.{ComesTo, ComesBy, two_quiet, stops, still_post}
+use Rattle.isolation_laws.proofs.Inversions.InversionParts.{PlainDue, one_told, node_told, ComesTo, ComesBy, two_quiet, stops, still_post}
 use Rattle.isolation_laws.proofs.Inversions.InversionOfRecord.{for_record, alike_stopped, replaced, put_back}
 use Rattle.isolation_laws.proofs.Pushed.{one_quiet}
 use Rattle.isolation_laws.proofs.Outcome.OutcomesOfRecord.{Extended, Stopped, fault_if}
@@ -44,11 +44,11 @@ extend_room w term go =
 abbrev refusal_of_extend : State → Bool → Bool → Option ExtendRefused
 refusal_of_extend w own spent = if own then (if spent then Some (extend.Spent w.master.ceiling) else None) else Some (extend.Replaced w.master.term)
 
-extend_still : (w : State) (node : ℕ) (i : InstanceEntry) (items : List Item) → InstanceAt w.nodes node i → AllPlain items → ComesTo w (record (with_post w node (Some i)) { master = w.master }) items
+extend_still : (w : State) (node : ℕ) (i : InstanceEntry) (items : List Item) → InstanceAt w.nodes node i → PlainDue w items → ComesTo w (record (with_post w node (Some i)) { master = w.master }) items
 extend_still w node i items at plain = still_post w node w.seen (Some i) items at (omega arith) plain
 
 extend_fails : (w : State) (node : ℕ) (i : InstanceEntry) → InstanceAt w.nodes node i → ComesTo w (record (with_post w node (Some i)) { master = w.master }) (item.Fault (Node node) Master ∷ [])
-extend_fails w node i at = extend_still w node i _ at (one_plain (item.Fault (Node node) Master) refl refl)
+extend_fails w node i at = extend_still w node i _ at (one_told w (item.Fault (Node node) Master) (refl, refl) (λ told. tt))
 
 -- the outcome of an extension for which there is room
 abbrev extended : (w : State) (node : ℕ) (i : InstanceEntry) (failed : Bool) → InstanceAt w.nodes node i → (w.master.term == i.term) ≡ true → is_spent (rules_of w.setup) w.master ≡ false → AllQuiet (item.Extend node i.term (w.master.ceiling + w.setup.range) ∷ fault_if failed node) → Extended w
@@ -69,6 +69,8 @@ extend_why w node Works i at true false own room = (
   OfExtended (extended w node i false at own room (one_quiet (item.Extend node i.term (w.master.ceiling + w.setup.range)) refl)),
   refl,
   refl,
+  tt,
+  plain_due w _ (λ told. tt),
 )
 extend_why w node Works i at true true own full =
     let k : Stopped w = record {
@@ -78,17 +80,19 @@ extend_why w node Works i at true true own full =
       why = cause.Spent w.master.ceiling;
       by = inr (refl, eqb-true w.master.term i.term own, full);
     } in
-    stops w w.seen _ k (omega arith) (alike_stopped i (cause.Spent w.master.ceiling) tt) refl
-extend_why w node Works i at false spent other _ = stops w w.seen _ (replaced w node i at other) (omega arith) (alike_stopped i (cause.Replaced w.master.term) tt) refl
+    stops w w.seen _ k (omega arith) (alike_stopped i (cause.Spent w.master.ceiling)) refl
+extend_why w node Works i at false spent other _ = stops w w.seen _ (replaced w node i at other) (omega arith) (alike_stopped i (cause.Replaced w.master.term)) refl
 extend_why w node FailsUnchanged i at own spent is _ = extend_fails w node i at
 extend_why w node FailsApplied i at true false own room = (
   OfExtended (extended w node i true at own room (two_quiet (item.Extend node i.term (w.master.ceiling + w.setup.range)) (item.Fault (Node node) Master) refl refl)),
   put_back w node w.seen (Some i) (record w.master { ceiling = w.master.ceiling + w.setup.range }) at,
   refl,
+  tt,
+  all_due w _ (two_free w _ _ (λ told. tt) (λ told. tt)),
 )
 extend_why w node FailsApplied i at true true own full = extend_fails w node i at
 extend_why w node FailsApplied i at false spent other _ = extend_fails w node i at
 
 pub extend_at_post : (w : State) (node : ℕ) (fate : Fate) (post : Option InstanceEntry) → slice_get w.nodes node ≡ Some post → ComesBy w (for_record w node (extend_on w.setup node fate post w.master))
-extend_at_post w node fate None at = still_post w node w.seen None _ at (omega arith) (node_plain node (cause.NoOracle node))
+extend_at_post w node fate None at = still_post w node w.seen None _ at (omega arith) (node_told w node (cause.NoOracle node) (refl, at))
 extend_at_post w node fate (Some i) at = extend_why w node fate i at (w.master.term == i.term) (is_spent (rules_of w.setup) w.master) refl refl

@@ -1,4 +1,9 @@
 -- What a fetch comes to.
+use Rattle.isolation_laws.proofs.Dues.DueItems.{DueAnyway, plain_due, all_due}
+use Rattle.isolation_laws.proofs.Dues.OwnRefusals.{fetch_own}
+use Rattle.isolation_laws.proofs.Dues.StepsDue.{read_free}
+use Rattle.std.proofs.lemmas.List.Elements.{All-cons}
+use Rattle.machine.specs.Events.Fetch.{read_items, client_put_fresh, keeps_read, reads_refusal, fetch_refused, fetch_by, fetch_open, fetch_on}
 use Rattle.std.proofs.Common.{[], ◌≡◌, ℕ, Bool, true, false, if◌then◌else◌, ◌∷◌, Option, Some, None, inl, inr, refl}
 use Rattle.std.specs.Prelude.{length}
 use Rattle.stamp_base.specs.declared.stores.Store.TheVariants.{Cells}
@@ -14,11 +19,10 @@ use Rattle.client_parts.specs.SessionSteps.{work_refusal, key_refusal}
 use Rattle.machine.specs.State.{Client, State}
 use Rattle.machine.specs.Clients.{is_reading}
 use Rattle.machine.specs.Machine.{with_client}
-use Rattle.machine.specs.Events.Fetch.{client_put_fresh, keeps_read, reads_refusal, fetch_refused, fetch_by, fetch_open, fetch_on}
 use Rattle.isolation_laws.specs.Words.{ClientAt}
 use Rattle.isolation_laws.proofs.Outcome.Outcomes.{OfFetched, OfReadDropped}
-use Rattle.isolation_laws.proofs.Outcome.PlainItems.{none_plain, one_silent, Mild, session_plain, mild_is}
-use Rattle.isolation_laws.proofs.Inversions.InversionParts.{ComesTo, ComesBy, still_client}
+use Rattle.isolation_laws.proofs.Outcome.PlainItems.{one_silent, Mild, mild_is}
+use Rattle.isolation_laws.proofs.Inversions.InversionParts.{nothing_told, state_told, ComesTo, ComesBy, still_client}
 use Rattle.isolation_laws.proofs.Inversions.InversionOfSessions.{for_client, work_open, work_mild, open_by_work, full_mild, either_mild, write_may}
 use Rattle.isolation_laws.proofs.Pushed.{one_quiet}
 use Rattle.isolation_laws.proofs.Stores.MarksTold.{marks_same}
@@ -56,6 +60,8 @@ fetch_failed w session c at go = (
   }),
   refl,
   refl,
+  tt,
+  plain_due w _ (λ told. tt),
 )
 
 fetch_fated : (w : State) (session start epoch key : ℕ) (fate : Fate) (c : Client) → ClientAt w.clients session c → fetch_refused w.setup c key ≡ None → c.entry.start ≡ Some start → c.entry.epoch ≡ Some epoch → ComesBy w (for_client w session (fetch_by w.setup session start epoch key fate c (fetched w.rows key start)))
@@ -74,14 +80,16 @@ fetch_fated w session start epoch key Works c at go begun known = (
   }),
   refl,
   refl,
+  tt,
+  all_due w _ (All-cons (DueAnyway w) _ (read_items session start key _) (λ told. tt) (read_free w session start key _)),
 )
 fetch_fated w session start epoch key FailsUnchanged c at go begun known = fetch_failed w session c at (fetch_may w.setup c key go)
 fetch_fated w session start epoch key FailsApplied c at go begun known = fetch_failed w session c at (fetch_may w.setup c key go)
 
 fetch_comes : (w : State) (session key : ℕ) (fate : Fate) (c : Client) → ClientAt w.clients session c → (why : Option Cause) → fetch_refused w.setup c key ≡ why → (start : Option ℕ) → c.entry.start ≡ start → (epoch : Option ℕ) → c.entry.epoch ≡ epoch → ComesBy w (for_client w session (fetch_open w.setup session key fate c w.rows why start epoch))
-fetch_comes w session key fate c at (Some why) go start begun epoch known = still_client w session c _ at (session_plain session why (mild_is (fetch_refused w.setup c key) why go (fetch_mild w.setup c key)))
-fetch_comes w session key fate c at None go None begun epoch known = still_client w session c [] at none_plain
-fetch_comes w session key fate c at None go (Some start) begun None known = still_client w session c [] at none_plain
+fetch_comes w session key fate c at (Some why) go start begun epoch known = still_client w session c _ at (state_told w session c why at (mild_is (fetch_refused w.setup c key) why go (fetch_mild w.setup c key)) (fetch_own w.setup c key why (work_refusal c.entry.state (is_reading c)) refl go))
+fetch_comes w session key fate c at None go None begun epoch known = still_client w session c [] at (nothing_told w)
+fetch_comes w session key fate c at None go (Some start) begun None known = still_client w session c [] at (nothing_told w)
 fetch_comes w session key fate c at None go (Some start) begun (Some epoch) known = fetch_fated w session start epoch key fate c at go begun known
 
 pub fetch_at : (w : State) (session key : ℕ) (fate : Fate) (c : Client) → ClientAt w.clients session c → ComesBy w (for_client w session (fetch_on w.setup session key fate c w.rows))

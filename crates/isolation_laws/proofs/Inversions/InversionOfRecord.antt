@@ -1,7 +1,8 @@
 -- What a take and a renewal come to.
+use Rattle.isolation_laws.proofs.Dues.DueItems.{plain_due, all_due, two_free}
+use Rattle.isolation_laws.proofs.Dues.RecordRefusals.{early_due, spent_due}
 use Rattle.std.proofs.Common.{[], ◌≡◌, ℕ, ◌==◌, max, Bool, true, false, if◌then◌else◌, List, ◌∷◌, Option, Some, None, inl, refl, ap}
 use Rattle.std.specs.Prelude.{slice_get}
-use Rattle.std.specs.Option.{option_or}
 use Rattle.std.proofs.lemmas.Bool.{eqb-true, eqb-false}
 use Rattle.stamp_base.specs.declared.stores.Store.TheVariants.{Master}
 use Rattle.port_io.specs.declared.weather.Fate.{Fate}
@@ -19,7 +20,7 @@ use Rattle.store_parts.specs.declared.record.RenewRefused.{RenewRefused}
 use Rattle.store_parts.specs.declared.record.RenewRefused.TheVariants as renew
 use Rattle.store_parts.specs.Record.{MasterRecord, take_refused, granted, held_by, unless_refused, renewed_until, answered}
 use Rattle.oracle_parts.specs.Instance.{InstanceEntry}
-use Rattle.oracle_parts.specs.InstanceSteps.{IsStop, instance_stopped}
+use Rattle.oracle_parts.specs.InstanceSteps.{instance_stopped}
 use Rattle.machine.specs.State.{State}
 use Rattle.machine.specs.Effect.{Effect, kept_items}
 use Rattle.machine.specs.Machine.{Step, step_by, with_post, with_reading}
@@ -27,12 +28,10 @@ use Rattle.machine.specs.Events.Take.{rules_of, take_item, take_by, take_on}
 use Rattle.machine.specs.Events.Renew.{renew_by, renew_on}
 use Rattle.isolation_laws.specs.Words.{InstanceAt}
 use Rattle.isolation_laws.specs.Quiet.{AllQuiet}
-use Rattle.isolation_laws.specs.Sound.{StopOf}
 use Rattle.isolation_laws.proofs.Lookups.{set_same}
-use Rattle.isolation_laws.proofs.Outcome.PlainItems.{AllPlain, one_plain, node_plain}
 use Rattle.isolation_laws.proofs.Outcome.OutcomesOfRecord.{Renewed, Granted, Alike, Stopped, fault_if}
 use Rattle.isolation_laws.proofs.Outcome.Outcomes.{OfGranted, OfRenewed}
-use Rattle.isolation_laws.proofs.Inversions.InversionParts.{ComesTo, ComesBy, two_quiet, stops, still_post}
+use Rattle.isolation_laws.proofs.Inversions.InversionParts.{PlainDue, one_told, node_told, ComesTo, ComesBy, two_quiet, stops, still_post}
 use Rattle.isolation_laws.proofs.Orders.{max_left}
 use Rattle.isolation_laws.proofs.Pushed.{one_quiet}
 
@@ -41,12 +40,8 @@ abbrev pub for_record : State → ℕ → Effect (Option InstanceEntry × Master
 for_record w node effect = step_by effect (λ (p : Option InstanceEntry × MasterRecord). record (with_post w node p.0) { master = p.1 })
 
 -- the instance keeps a refusal of the master record
-stop_kept : (old : Option Cause) (why : Cause) → IsStop why → StopOf old → StopOf (option_or old (Some why))
-stop_kept None why is was = is
-stop_kept (Some first) why is was = was
-
-pub alike_stopped : (i : InstanceEntry) (why : Cause) → IsStop why → Alike i (instance_stopped i why)
-alike_stopped i why is = record {
+pub alike_stopped : (i : InstanceEntry) (why : Cause) → Alike i (instance_stopped i why)
+alike_stopped i why = record {
   term = refl;
   epoch = refl;
   last = refl;
@@ -54,7 +49,6 @@ alike_stopped i why is = record {
   until = refl;
   buckets = refl;
   direct = refl;
-  stop = stop_kept i.stop why is;
   requests = λ s new has. (new, has, refl, refl);
 }
 
@@ -64,7 +58,7 @@ put_back w node seen post master at = ap (λ (nodes : List (Option InstanceEntry
 
 -- ---- take
 -- nothing was granted
-take_still : (w : State) (node reading : ℕ) (items : List Item) → slice_get w.nodes node ≡ Some None → AllPlain items → ComesTo w (record (with_post (with_reading w reading) node None) { master = w.master }) items
+take_still : (w : State) (node reading : ℕ) (items : List Item) → slice_get w.nodes node ≡ Some None → PlainDue w items → ComesTo w (record (with_post (with_reading w reading) node None) { master = w.master }) items
 take_still w node reading items vacant plain = still_post w node (max w.seen reading) None items vacant (max_left w.seen reading) plain
 
 -- the outcome of a take that is free
@@ -85,21 +79,25 @@ take_why w node reading Works vacant None free = (
   OfGranted (taken w node reading false (take_item node reading (granted (rules_of w.setup) w.master reading) ∷ []) vacant free refl (one_quiet (take_item node reading (granted (rules_of w.setup) w.master reading)) refl)),
   refl,
   refl,
+  tt,
+  plain_due w _ (λ told. tt),
 )
-take_why w node reading Works vacant (Some take.StoreFault) free = take_still w node reading _ vacant (one_plain (item.Fault (Node node) Master) refl refl)
-take_why w node reading Works vacant (Some (take.Early at until)) free = take_still w node reading _ vacant (node_plain node (cause.Early at until))
-take_why w node reading Works vacant (Some (take.Spent ceiling)) free = take_still w node reading _ vacant (node_plain node (cause.Spent ceiling))
-take_why w node reading FailsUnchanged vacant why free = take_still w node reading _ vacant (one_plain (item.Fault (Node node) Master) refl refl)
+take_why w node reading Works vacant (Some take.StoreFault) free = take_still w node reading _ vacant (one_told w (item.Fault (Node node) Master) (refl, refl) (λ told. tt))
+take_why w node reading Works vacant (Some (take.Early at until)) free = take_still w node reading _ vacant (node_told w node (cause.Early at until) (early_due w reading at until free))
+take_why w node reading Works vacant (Some (take.Spent ceiling)) free = take_still w node reading _ vacant (node_told w node (cause.Spent ceiling) (spent_due w reading ceiling free))
+take_why w node reading FailsUnchanged vacant why free = take_still w node reading _ vacant (one_told w (item.Fault (Node node) Master) (refl, refl) (λ told. tt))
 take_why w node reading FailsApplied vacant None free = (
   OfGranted (taken w node reading true (take_item node reading (granted (rules_of w.setup) w.master reading) ∷ item.Fault (Node node) Master ∷ []) vacant free refl (two_quiet (take_item node reading (granted (rules_of w.setup) w.master reading)) (item.Fault (Node node) Master) refl refl)),
   put_back w node (max w.seen reading) None (held_by node (granted (rules_of w.setup) w.master reading)) vacant,
   refl,
+  tt,
+  all_due w _ (two_free w _ _ (λ told. tt) (λ told. tt)),
 )
-take_why w node reading FailsApplied vacant (Some why) free = take_still w node reading _ vacant (one_plain (item.Fault (Node node) Master) refl refl)
+take_why w node reading FailsApplied vacant (Some why) free = take_still w node reading _ vacant (one_told w (item.Fault (Node node) Master) (refl, refl) (λ told. tt))
 
 pub take_at : (w : State) (node reading : ℕ) (fate : Fate) (post : Option InstanceEntry) → slice_get w.nodes node ≡ Some post → ComesBy w (for_record (with_reading w reading) node (take_on w.setup node reading fate post w.master))
 take_at w node reading fate None at = take_why w node reading fate at (take_refused (rules_of w.setup) w.master reading) refl
-take_at w node reading fate (Some i) at = still_post w node (max w.seen reading) (Some i) _ at (max_left w.seen reading) (node_plain node (cause.Holding i.term))
+take_at w node reading fate (Some i) at = still_post w node (max w.seen reading) (Some i) _ at (max_left w.seen reading) (node_told w node (cause.Holding i.term) (record { i = i; at = at; term_is = refl }))
 
 -- ---- renew: by whether the record has the instance's term
 -- the record has another term than the instance
@@ -113,7 +111,7 @@ replaced w node i at is = record {
 }
 
 -- nothing was renewed
-renew_still : (w : State) (node reading : ℕ) (i : InstanceEntry) (items : List Item) → InstanceAt w.nodes node i → AllPlain items → ComesTo w (record (with_post (with_reading w reading) node (Some i)) { master = w.master }) items
+renew_still : (w : State) (node reading : ℕ) (i : InstanceEntry) (items : List Item) → InstanceAt w.nodes node i → PlainDue w items → ComesTo w (record (with_post (with_reading w reading) node (Some i)) { master = w.master }) items
 renew_still w node reading i items at plain = still_post w node (max w.seen reading) (Some i) items at (max_left w.seen reading) plain
 
 -- the outcome of a renewal of the record's own instance
@@ -135,16 +133,20 @@ renew_why w node reading Works i at true own = (
   OfRenewed (renewed w node reading i false at own (one_quiet (item.Renew node reading i.term (renewed_until (rules_of w.setup) w.master reading)) refl)),
   refl,
   refl,
+  tt,
+  plain_due w _ (λ told. tt),
 )
-renew_why w node reading Works i at false other = stops w (max w.seen reading) _ (replaced w node i at other) (max_left w.seen reading) (alike_stopped i (cause.Replaced w.master.term) tt) refl
-renew_why w node reading FailsUnchanged i at own is = renew_still w node reading i _ at (one_plain (item.Fault (Node node) Master) refl refl)
+renew_why w node reading Works i at false other = stops w (max w.seen reading) _ (replaced w node i at other) (max_left w.seen reading) (alike_stopped i (cause.Replaced w.master.term)) refl
+renew_why w node reading FailsUnchanged i at own is = renew_still w node reading i _ at (one_told w (item.Fault (Node node) Master) (refl, refl) (λ told. tt))
 renew_why w node reading FailsApplied i at true own = (
   OfRenewed (renewed w node reading i true at own (two_quiet (item.Renew node reading i.term (renewed_until (rules_of w.setup) w.master reading)) (item.Fault (Node node) Master) refl refl)),
   put_back w node (max w.seen reading) (Some i) (record w.master { until = renewed_until (rules_of w.setup) w.master reading }) at,
   refl,
+  tt,
+  all_due w _ (two_free w _ _ (λ told. tt) (λ told. tt)),
 )
-renew_why w node reading FailsApplied i at false other = renew_still w node reading i _ at (one_plain (item.Fault (Node node) Master) refl refl)
+renew_why w node reading FailsApplied i at false other = renew_still w node reading i _ at (one_told w (item.Fault (Node node) Master) (refl, refl) (λ told. tt))
 
 pub renew_at_post : (w : State) (node reading : ℕ) (fate : Fate) (post : Option InstanceEntry) → slice_get w.nodes node ≡ Some post → ComesBy w (for_record (with_reading w reading) node (renew_on w.setup node reading fate post w.master))
-renew_at_post w node reading fate None at = still_post w node (max w.seen reading) None _ at (max_left w.seen reading) (node_plain node (cause.NoOracle node))
+renew_at_post w node reading fate None at = still_post w node (max w.seen reading) None _ at (max_left w.seen reading) (node_told w node (cause.NoOracle node) (refl, at))
 renew_at_post w node reading fate (Some i) at = renew_why w node reading fate i at (w.master.term == i.term) refl

@@ -1,7 +1,10 @@
 -- What a node's acceptance and decision of a request come to.
-use Rattle.std.proofs.Common.{◌≡◌, ℕ, ◌+◌, ◌≤◌, ◌==◌, max, Bool, true, false, if◌then◌else◌, [], ◌∷◌, Option, Some, None, ◌⊎◌, inl, inr, refl, sym, subst, arith}
+use Rattle.isolation_laws.specs.Due.{AreDue, DueToSession}
+use Rattle.isolation_laws.proofs.Dues.DueItems.{plain_due, refusal_due, once_due}
+use Rattle.isolation_laws.proofs.Dues.RequestRefusals.{old_due, late_due, kept_due, used_up_due, draw_due, verdict_due}
+use Rattle.std.proofs.Common.{◌∙◌, ap, ◌≡◌, ℕ, ◌+◌, ◌≤◌, ◌==◌, max, Bool, true, false, if◌then◌else◌, [], ◌∷◌, Option, Some, None, ◌⊎◌, inl, inr, refl, sym, subst, arith}
+use Rattle.std.proofs.lemmas.Bool.{eqb-true, ltb-true, eqb-false}
 use Rattle.std.specs.Prelude.{IsTrue, slice_get, slice_set, nat_lt, nat_le}
-use Rattle.std.proofs.lemmas.Bool.{ltb-true, eqb-false}
 use Rattle.history_book.specs.declared.cause.Cause.{Cause}
 use Rattle.history_book.specs.declared.cause.Cause.TheVariants as cause
 use Rattle.history_book.specs.declared.item.Actor.TheVariants.{Node, Session}
@@ -28,9 +31,9 @@ use Rattle.isolation_laws.specs.Words.{InstanceAt, ClientAt}
 use Rattle.isolation_laws.specs.Sound.{StopOf, AreStops}
 use Rattle.isolation_laws.proofs.Outcome.Outcomes.{OfAccepted, OfEnded, OfDrew}
 use Rattle.cause_rules.specs.OpenAsks.{ends_request}
-use Rattle.isolation_laws.proofs.Outcome.PlainItems.{node_plain, once_silent}
+use Rattle.isolation_laws.proofs.Outcome.PlainItems.{once_silent}
 use Rattle.isolation_laws.proofs.Outcome.OutcomesOfRecord.{Told}
-use Rattle.isolation_laws.proofs.Inversions.InversionParts.{ComesTo, ComesBy, refusal_quiet, told_quiet, tells, still_both, client_back}
+use Rattle.isolation_laws.proofs.Inversions.InversionParts.{PlainDue, node_told, no_request_told, ComesAt, ComesTo, ComesBy, comes_at, refusal_quiet, told_quiet, tells, still_both, client_back}
 use Rattle.isolation_laws.proofs.Inversions.FreeVerdicts.{writes_free, reads_free}
 use Rattle.isolation_laws.proofs.Orders.{max_left}
 use Rattle.isolation_laws.proofs.Pushed.{one_quiet}
@@ -45,8 +48,8 @@ pub record Served (w : State) (node session : ℕ) (i : InstanceEntry) (held : H
   pub has : held_of i session ≡ Some held
 
 -- the request is over by a refusal
-ended : (w : State) (node session seen : ℕ) (i : InstanceEntry) (held : Held) (c : Client) (why : Cause) → IsTrue (ends_request why) → Served w node session i held c → (held.progress ≡ progress.Asked) ⊎ (held.progress ≡ progress.Accepted) → w.seen ≤ seen → ComesTo w (record (with_client (with_post w node (Some (without_request i session))) session (after_refusal held.request c)) { seen = seen }) (item.Refused (Session session) why ∷ [])
-ended w node session seen i held c why ends served undrawn up = (
+ended : (w : State) (node session seen : ℕ) (i : InstanceEntry) (held : Held) (c : Client) (why : Cause) → IsTrue (ends_request why) → DueToSession w session why → Served w node session i held c → (held.progress ≡ progress.Asked) ⊎ (held.progress ≡ progress.Accepted) → w.seen ≤ seen → ComesTo w (record (with_client (with_post w node (Some (without_request i session))) session (after_refusal held.request c)) { seen = seen }) (item.Refused (Session session) why ∷ [])
+ended w node session seen i held c why ends due served undrawn up = (
   OfEnded (record {
     node = node;
     session = session;
@@ -67,6 +70,8 @@ ended w node session seen i held c why ends served undrawn up = (
   }),
   refl,
   refl,
+  tt,
+  refusal_due w (Session session) why due,
 )
 
 -- ---- accept
@@ -85,10 +90,13 @@ epoch_cases i (Commit session start keys) = elim (old_if (nat_le start i.epoch) 
   | inr old ↦ inr (start, old)
 ]
 
-accept_timely : (w : State) (node session reading : ℕ) (i : InstanceEntry) (held : Held) (c : Client) → Served w node session i held c → held.progress ≡ progress.Asked → w.seen ≤ reading + w.setup.skew → (in_time : Bool) → nat_lt reading i.until ≡ in_time → ComesBy w (accept_step w node session reading held c (accept_unless i session held (if in_time then epoch_refusal i held.request else Some (cause.Expired reading i.until))))
-accept_timely w node session reading i held c served asked steady false late = ended w node session (max w.seen reading) i held c (cause.Expired reading i.until) refl served (inl asked) (max_left w.seen reading)
-accept_timely w node session reading i held c served asked steady true before = elim (epoch_cases i held.request) [
-  | inl new ↦ subst (λ (f : Option Cause). ComesBy w (accept_step w node session reading held c (accept_unless i session held f))) (sym new) (
+abbrev pub AcceptsBy : (w : State) → ℕ → Step → Type 0
+AcceptsBy w reading step = ComesAt w (Some reading) step.state step.items
+
+accept_timely : (w : State) (node session reading : ℕ) (i : InstanceEntry) (held : Held) (c : Client) → Served w node session i held c → held.progress ≡ progress.Asked → (in_time : Bool) → nat_lt reading i.until ≡ in_time → AcceptsBy w reading (accept_step w node session reading held c (accept_unless i session held (if in_time then epoch_refusal i held.request else Some (cause.Expired reading i.until))))
+accept_timely w node session reading i held c served asked false late = comes_at w (Some reading) _ _ (ended w node session (max w.seen reading) i held c (cause.Expired reading i.until) refl (late_due w node session reading i held served.at served.has asked late) served (inl asked) (max_left w.seen reading))
+accept_timely w node session reading i held c served asked true before = elim (epoch_cases i held.request) [
+  | inl new ↦ subst (λ (f : Option Cause). AcceptsBy w reading (accept_step w node session reading held c (accept_unless i session held f))) (sym new) (
     OfAccepted (record {
       node = node;
       session = session;
@@ -100,35 +108,33 @@ accept_timely w node session reading i held c served asked steady true before = 
       asked = asked;
       in_time = ltb-true reading i.until before;
       in_epoch = new;
-      steady = steady;
       items = item.Accept session node i.term reading ∷ [];
       tells = refl;
       quiet = one_quiet (item.Accept session node i.term reading) refl;
     }),
     client_back w session (max w.seen reading) c (slice_set w.nodes node (Some (moved i session held progress.Accepted))) served.client_at,
     refl,
+    refl,
+    plain_due w _ (λ told. tt),
   )
-  | inr old ↦ subst (λ (f : Option Cause). ComesBy w (accept_step w node session reading held c (accept_unless i session held f))) (sym old.1) (ended w node session (max w.seen reading) i held c (cause.OldEpoch old.0 i.epoch) refl served (inl asked) (max_left w.seen reading))
+  | inr old ↦ subst (λ (f : Option Cause). AcceptsBy w reading (accept_step w node session reading held c (accept_unless i session held f))) (sym old.1) (comes_at w (Some reading) _ _ (ended w node session (max w.seen reading) i held c (cause.OldEpoch old.0 i.epoch) refl (old_due w node session old.0 i held served.at served.has asked held.request refl old.1) served (inl asked) (max_left w.seen reading)))
 ]
 
-accept_still : (w : State) (node session reading : ℕ) (post : Option InstanceEntry) (c : Client) (why : Cause) → slice_get w.nodes node ≡ Some post → ClientAt w.clients session c → ComesTo w (with_client (with_post (with_reading w reading) node post) session c) (item.Refused (Node node) why ∷ [])
-accept_still w node session reading post c why at client_at = still_both w node session (max w.seen reading) post c _ at client_at (max_left w.seen reading) (node_plain node why)
+accept_still : (w : State) (node session reading : ℕ) (post : Option InstanceEntry) (c : Client) (why : Cause) → PlainDue w (item.Refused (Node node) why ∷ []) → slice_get w.nodes node ≡ Some post → ClientAt w.clients session c → ComesAt w (Some reading) (with_client (with_post (with_reading w reading) node post) session c) (item.Refused (Node node) why ∷ [])
+accept_still w node session reading post c why plain at client_at = comes_at w (Some reading) _ _ (still_both w node session (max w.seen reading) post c _ at client_at (max_left w.seen reading) plain)
 
-accept_progress : (w : State) (node session reading : ℕ) (i : InstanceEntry) (held : Held) (c : Client) → Served w node session i held c → w.seen ≤ reading + w.setup.skew → (p : Progress) → held.progress ≡ p → ComesBy w (accept_step w node session reading held c (accept_if_asked i session reading held p))
-accept_progress w node session reading i held c served steady progress.Asked is = accept_timely w node session reading i held c served is steady (nat_lt reading i.until) refl
-accept_progress w node session reading i held c served steady progress.Accepted is = accept_still w node session reading (Some i) c (cause.NoRequest session) served.at served.client_at
-accept_progress w node session reading i held c served steady (progress.Drawn stamp) is = accept_still w node session reading (Some i) c (cause.NoRequest session) served.at served.client_at
-accept_progress w node session reading i held c served steady (progress.Handed commit) is = accept_still w node session reading (Some i) c (cause.NoRequest session) served.at served.client_at
-accept_progress w node session reading i held c served steady (progress.Settled commit how) is = accept_still w node session reading (Some i) c (cause.NoRequest session) served.at served.client_at
+accept_progress : (w : State) (node session reading : ℕ) (i : InstanceEntry) (held : Held) (c : Client) → Served w node session i held c → (p : Progress) → held.progress ≡ p → AcceptsBy w reading (accept_step w node session reading held c (accept_if_asked i session reading held p))
+accept_progress w node session reading i held c served progress.Asked is = accept_timely w node session reading i held c served is (nat_lt reading i.until) refl
+accept_progress w node session reading i held c served _ is = accept_still w node session reading (Some i) c (cause.NoRequest session) (no_request_told w node session) served.at served.client_at
 
-accept_found : (w : State) (node session reading : ℕ) (i : InstanceEntry) (c : Client) → InstanceAt w.nodes node i → ClientAt w.clients session c → w.seen ≤ reading + w.setup.skew → (found : Option Held) → held_of i session ≡ found → ComesBy w (for_request (with_reading w reading) node session (accept_request node session reading i c found))
-accept_found w node session reading i c at client_at steady None has = accept_still w node session reading (Some i) c (cause.NoRequest session) at client_at
-accept_found w node session reading i c at client_at steady (Some held) has =
-    subst (λ (f : Option Held). ComesBy w (accept_step w node session reading held c (accept_held i session reading f))) (sym has) (accept_progress w node session reading i held c (record { at = at; client_at = client_at; has = has }) steady held.progress refl)
+accept_found : (w : State) (node session reading : ℕ) (i : InstanceEntry) (c : Client) → InstanceAt w.nodes node i → ClientAt w.clients session c → (found : Option Held) → held_of i session ≡ found → AcceptsBy w reading (for_request (with_reading w reading) node session (accept_request node session reading i c found))
+accept_found w node session reading i c at client_at None has = accept_still w node session reading (Some i) c (cause.NoRequest session) (no_request_told w node session) at client_at
+accept_found w node session reading i c at client_at (Some held) has =
+    subst (λ (f : Option Held). AcceptsBy w reading (accept_step w node session reading held c (accept_held i session reading f))) (sym has) (accept_progress w node session reading i held c (record { at = at; client_at = client_at; has = has }) held.progress refl)
 
-pub accept_at : (w : State) (node session reading : ℕ) (post : Option InstanceEntry) (c : Client) → slice_get w.nodes node ≡ Some post → ClientAt w.clients session c → w.seen ≤ reading + w.setup.skew → ComesBy w (for_request (with_reading w reading) node session (accept_on node session reading post c))
-accept_at w node session reading None c at client_at steady = accept_still w node session reading None c (cause.NoOracle node) at client_at
-accept_at w node session reading (Some i) c at client_at steady = accept_found w node session reading i c at client_at steady (held_of i session) refl
+pub accept_at : (w : State) (node session reading : ℕ) (post : Option InstanceEntry) (c : Client) → slice_get w.nodes node ≡ Some post → ClientAt w.clients session c → AcceptsBy w reading (for_request (with_reading w reading) node session (accept_on node session reading post c))
+accept_at w node session reading None c at client_at = accept_still w node session reading None c (cause.NoOracle node) (node_told w node (cause.NoOracle node) (refl, at)) at client_at
+accept_at w node session reading (Some i) c at client_at = accept_found w node session reading i c at client_at (held_of i session) refl
 
 -- ---- decide
 abbrev decide_step : State → ℕ → ℕ → Held → Client → InstanceStep Decided → Step
@@ -140,12 +146,12 @@ stop_cases (cause.Replaced found) is = inl (found, refl)
 stop_cases (cause.Spent ceiling) is = inr (ceiling, refl)
 stop_cases _ is = absurd is
 
-decide_ended : (w : State) (node session : ℕ) (i : InstanceEntry) (held : Held) (c : Client) (why : Cause) → IsTrue (ends_request why) → Served w node session i held c → held.progress ≡ progress.Accepted → ComesTo w (with_client (with_post w node (Some (without_request i session))) session (after_refusal held.request c)) (item.Refused (Session session) why ∷ [])
-decide_ended w node session i held c why ends served accepted = ended w node session w.seen i held c why ends served (inr accepted) (omega arith)
+decide_ended : (w : State) (node session : ℕ) (i : InstanceEntry) (held : Held) (c : Client) (why : Cause) → IsTrue (ends_request why) → DueToSession w session why → Served w node session i held c → held.progress ≡ progress.Accepted → ComesTo w (with_client (with_post w node (Some (without_request i session))) session (after_refusal held.request c)) (item.Refused (Session session) why ∷ [])
+decide_ended w node session i held c why ends due served accepted = ended w node session w.seen i held c why ends due served (inr accepted) (omega arith)
 
 -- no stamp is left
-decide_out : (w : State) (node session : ℕ) (i : InstanceEntry) (held : Held) (c : Client) → Served w node session i held c → held.progress ≡ progress.Accepted → (stop : Option Cause) → StopOf stop → ComesBy w (decide_step w node session held c (out_of_stamps i session held stop))
-decide_out w node session i held c served accepted None is =
+decide_out : (w : State) (node session : ℕ) (i : InstanceEntry) (held : Held) (c : Client) → Served w node session i held c → held.progress ≡ progress.Accepted → i.last ≡ i.ceiling → (stop : Option Cause) → StopOf stop → i.stop ≡ stop → ComesBy w (decide_step w node session held c (out_of_stamps i session held stop))
+decide_out w node session i held c served accepted full None is kept =
     let x : Item = item.Refused (Session session) (cause.NoStamp i.last) in
     let k : Told w = record {
       it = record { node = node; session = session; i = i; held = held; at = served.at; has = served.has };
@@ -155,10 +161,10 @@ decide_out w node session i held c served accepted None is =
       items = if held.told_no_stamp then [] else x ∷ [];
       silent = once_silent held.told_no_stamp x refl;
     } in
-    tells w _ k (told_quiet held.told_no_stamp x refl) (client_back w session w.seen c (slice_set w.nodes node (Some (no_stamp_told i session held))) served.client_at)
-decide_out w node session i held c served accepted (Some why) is = elim (stop_cases why is) [
-  | inl replaced ↦ subst (λ (f : Cause). ComesBy w (decide_step w node session held c (out_of_stamps i session held (Some f)))) (sym replaced.1) (decide_ended w node session i held c (cause.Replaced replaced.0) refl served accepted)
-  | inr spent ↦ subst (λ (f : Cause). ComesBy w (decide_step w node session held c (out_of_stamps i session held (Some f)))) (sym spent.1) (decide_ended w node session i held c (cause.Spent spent.0) refl served accepted)
+    tells w _ k (told_quiet held.told_no_stamp x refl) (once_due w held.told_no_stamp (Session session) (cause.NoStamp i.last) (used_up_due w node session i held served.at served.has accepted full)) (client_back w session w.seen c (slice_set w.nodes node (Some (no_stamp_told i session held))) served.client_at)
+decide_out w node session i held c served accepted full (Some why) is kept = elim (stop_cases why is) [
+  | inl replaced ↦ subst (λ (f : Cause). ComesBy w (decide_step w node session held c (out_of_stamps i session held (Some f)))) (sym replaced.1) (decide_ended w node session i held c (cause.Replaced replaced.0) refl (kept_due w node session i held (cause.Replaced replaced.0) served.at served.has accepted (kept ∙ ap (λ (f : Cause). Some f) replaced.1)) served accepted)
+  | inr spent ↦ subst (λ (f : Cause). ComesBy w (decide_step w node session held c (out_of_stamps i session held (Some f)))) (sym spent.1) (decide_ended w node session i held c (cause.Spent spent.0) refl (kept_due w node session i held (cause.Spent spent.0) served.at served.has accepted (kept ∙ ap (λ (f : Cause). Some f) spent.1)) served accepted)
 ]
 
 drawn_same : (node term stamp : ℕ) (request : Request) → draw_item node term request (stamp_of (decided_by request stamp)) ∷ [] ≡ draw_item node term request stamp ∷ []
@@ -166,7 +172,7 @@ drawn_same node term stamp (Begin session) = refl
 drawn_same node term stamp (Commit session start keys) = refl
 
 decide_room : (w : State) (node session : ℕ) (i : InstanceEntry) (held : Held) (c : Client) → Served w node session i held c → StopOf i.stop → held.progress ≡ progress.Accepted → both_verdict i.buckets c.reads held.request ≡ Free → (spent : Bool) → (i.last == i.ceiling) ≡ spent → ComesBy w (decide_step w node session held c (if spent then out_of_stamps i session held i.stop else decide_drawn i session held (i.last + 1)))
-decide_room w node session i held c served stop accepted free true full = decide_out w node session i held c served accepted i.stop stop
+decide_room w node session i held c served stop accepted free true full = decide_out w node session i held c served accepted (eqb-true i.last i.ceiling full) i.stop stop refl
 decide_room w node session i held c served stop accepted free false room = (
   OfDrew (record {
     node = node;
@@ -184,28 +190,27 @@ decide_room w node session i held c served stop accepted free false room = (
   }),
   client_back w session w.seen c (slice_set w.nodes node (Some (decide_drawn i session held (i.last + 1)).left)) served.client_at,
   drawn_same node i.term (i.last + 1) held.request,
+  tt,
+  subst (AreDue w) (sym (drawn_same node i.term (i.last + 1) held.request)) (draw_due w node i.term (i.last + 1) held.request),
 )
 
 decide_verdict : (w : State) (node session : ℕ) (i : InstanceEntry) (held : Held) (c : Client) → Served w node session i held c → StopOf i.stop → held.progress ≡ progress.Accepted → (v : Verdict) → both_verdict i.buckets c.reads held.request ≡ v → ComesBy w (decide_step w node session held c (verdict_by i session held v))
 decide_verdict w node session i held c served stop accepted Free is = decide_room w node session i held c served stop accepted is (i.last == i.ceiling) refl
-decide_verdict w node session i held c served stop accepted (Conflict key by) is = decide_ended w node session i held c (cause.Conflict key by) refl served accepted
-decide_verdict w node session i held c served stop accepted (Hidden key water) is = decide_ended w node session i held c (cause.Hidden key water) refl served accepted
+decide_verdict w node session i held c served stop accepted (Conflict key by) is = decide_ended w node session i held c (cause.Conflict key by) refl (verdict_due w node session i held c (Conflict key by) (λ free. cc) served.at served.has served.client_at accepted held.request refl is) served accepted
+decide_verdict w node session i held c served stop accepted (Hidden key water) is = decide_ended w node session i held c (cause.Hidden key water) refl (verdict_due w node session i held c (Hidden key water) (λ free. cc) served.at served.has served.client_at accepted held.request refl is) served accepted
 
-pub decide_still : (w : State) (node session : ℕ) (post : Option InstanceEntry) (c : Client) (why : Cause) → slice_get w.nodes node ≡ Some post → ClientAt w.clients session c → ComesTo w (with_client (with_post w node post) session c) (item.Refused (Node node) why ∷ [])
-decide_still w node session post c why at client_at = still_both w node session w.seen post c _ at client_at (omega arith) (node_plain node why)
+pub decide_still : (w : State) (node session : ℕ) (post : Option InstanceEntry) (c : Client) (why : Cause) → PlainDue w (item.Refused (Node node) why ∷ []) → slice_get w.nodes node ≡ Some post → ClientAt w.clients session c → ComesTo w (with_client (with_post w node post) session c) (item.Refused (Node node) why ∷ [])
+decide_still w node session post c why plain at client_at = still_both w node session w.seen post c _ at client_at (omega arith) plain
 
 decide_progress : (w : State) (node session : ℕ) (i : InstanceEntry) (held : Held) (c : Client) → Served w node session i held c → StopOf i.stop → (p : Progress) → held.progress ≡ p → ComesBy w (decide_step w node session held c (both_if_accepted i session c.reads held p))
 decide_progress w node session i held c served stop progress.Accepted is = decide_verdict w node session i held c served stop is (both_verdict i.buckets c.reads held.request) refl
-decide_progress w node session i held c served stop progress.Asked is = decide_still w node session (Some i) c (cause.NoRequest session) served.at served.client_at
-decide_progress w node session i held c served stop (progress.Drawn stamp) is = decide_still w node session (Some i) c (cause.NoRequest session) served.at served.client_at
-decide_progress w node session i held c served stop (progress.Handed commit) is = decide_still w node session (Some i) c (cause.NoRequest session) served.at served.client_at
-decide_progress w node session i held c served stop (progress.Settled commit how) is = decide_still w node session (Some i) c (cause.NoRequest session) served.at served.client_at
+decide_progress w node session i held c served stop _ is = decide_still w node session (Some i) c (cause.NoRequest session) (no_request_told w node session) served.at served.client_at
 
 decide_found : (w : State) (node session : ℕ) (i : InstanceEntry) (c : Client) → InstanceAt w.nodes node i → ClientAt w.clients session c → StopOf i.stop → (found : Option Held) → held_of i session ≡ found → ComesBy w (for_request w node session (decide_request node session i c found))
-decide_found w node session i c at client_at stop None has = decide_still w node session (Some i) c (cause.NoRequest session) at client_at
+decide_found w node session i c at client_at stop None has = decide_still w node session (Some i) c (cause.NoRequest session) (no_request_told w node session) at client_at
 decide_found w node session i c at client_at stop (Some held) has =
     subst (λ (f : Option Held). ComesBy w (decide_step w node session held c (both_held i session c.reads f))) (sym has) (decide_progress w node session i held c (record { at = at; client_at = client_at; has = has }) stop held.progress refl)
 
 pub decide_at : (w : State) (node session : ℕ) (post : Option InstanceEntry) (c : Client) → AreStops w.nodes → slice_get w.nodes node ≡ Some post → ClientAt w.clients session c → ComesBy w (for_request w node session (decide_on node session post c))
-decide_at w node session None c stops at client_at = decide_still w node session None c (cause.NoOracle node) at client_at
+decide_at w node session None c stops at client_at = decide_still w node session None c (cause.NoOracle node) (node_told w node (cause.NoOracle node) (refl, at)) at client_at
 decide_at w node session (Some i) c stops at client_at = decide_found w node session i c at client_at (stops.stop node i at) (held_of i session) refl

@@ -1,5 +1,7 @@
 -- For call_laws too.
 -- What the events of a session alone come to, but for a fetch: an abort, a vanish, a write, a heal.
+use Rattle.isolation_laws.proofs.Dues.DueItems.{plain_due, all_due, two_free}
+use Rattle.isolation_laws.proofs.Dues.OwnRefusals.{work_own, vanish_own, write_own, heal_own}
 use Rattle.std.proofs.Common.{[], ◌≡◌, ℕ, Bool, true, false, if◌then◌else◌, List, ◌∷◌, Option, Some, None, ◌⊎◌, inl, inr, refl}
 use Rattle.std.specs.Option.{option_or}
 use Rattle.stamp_base.specs.declared.stores.Store.TheVariants.{Cells}
@@ -26,10 +28,10 @@ use Rattle.machine.specs.Events.Vanish.{vanish_by, vanish_on}
 use Rattle.machine.specs.Events.Write.{write_refused, write_by, write_open, write_on}
 use Rattle.machine.specs.Events.Heal.{offer_by, offer_of, no_offer_cause, heal_at, heal_on}
 use Rattle.isolation_laws.specs.Words.{ClientAt}
-use Rattle.isolation_laws.proofs.Outcome.PlainItems.{AllPlain, all_quiet, all_silent, none_plain, one_plain, one_silent, two_silent, Mild, session_plain, mild_is}
+use Rattle.isolation_laws.proofs.Outcome.PlainItems.{all_quiet, all_silent, one_silent, two_silent, Mild, mild_is}
 use Rattle.isolation_laws.proofs.Outcome.OutcomesOfSessions.{AtOpen}
 use Rattle.isolation_laws.proofs.Outcome.Outcomes.{OfAborted, OfVanished, OfWrote, OfWriteFailed, OfHealed}
-use Rattle.isolation_laws.proofs.Inversions.InversionParts.{ComesTo, ComesBy, two_quiet, still_client, at_open}
+use Rattle.isolation_laws.proofs.Inversions.InversionParts.{PlainDue, nothing_told, one_told, state_told, ComesTo, ComesBy, two_quiet, still_client, at_open}
 use Rattle.isolation_laws.proofs.Pushed.{one_quiet}
 
 -- the effect on a client, and on the cells with it
@@ -61,8 +63,8 @@ open_by_work w session c at go = at_open w session c at (work_open c.entry.state
 
 -- ---- abort
 abort_comes : (w : State) (session : ℕ) (c : Client) → ClientAt w.clients session c → (why : Option Cause) → work_refusal c.entry.state (is_reading c) ≡ why → (start : Option ℕ) → ComesBy w (for_client w session (abort_by session c why start))
-abort_comes w session c at (Some why) go start = still_client w session c _ at (session_plain session why (mild_is (work_refusal c.entry.state (is_reading c)) why go (work_mild c.entry.state (is_reading c))))
-abort_comes w session c at None go None = still_client w session c [] at none_plain
+abort_comes w session c at (Some why) go start = still_client w session c _ at (state_told w session c why at (mild_is (work_refusal c.entry.state (is_reading c)) why go (work_mild c.entry.state (is_reading c))) (work_own c.entry.state (is_reading c) why go))
+abort_comes w session c at None go None = still_client w session c [] at (nothing_told w)
 abort_comes w session c at None go (Some start) = (
   OfAborted (record {
     it = open_by_work w session c at go;
@@ -72,6 +74,8 @@ abort_comes w session c at None go (Some start) = (
   }),
   refl,
   refl,
+  tt,
+  plain_due w _ (λ told. tt),
 )
 
 pub abort_at : (w : State) (session : ℕ) (c : Client) → ClientAt w.clients session c → ComesBy w (for_client w session (abort_on session c))
@@ -82,9 +86,9 @@ vanish_mild : (state : SessionState) → Mild (vanish_refusal state)
 vanish_mild phase.Gone = refl
 vanish_mild _ = tt
 
-vanish_comes : (w : State) (session : ℕ) (c : Client) → ClientAt w.clients session c → (why : Option Cause) → Mild why → ComesBy w (for_client w session (vanish_by session c why))
-vanish_comes w session c at (Some why) mild = still_client w session c _ at (session_plain session why mild)
-vanish_comes w session c at None mild = (
+vanish_comes : (w : State) (session : ℕ) (c : Client) → ClientAt w.clients session c → (why : Option Cause) → vanish_refusal c.entry.state ≡ why → ComesBy w (for_client w session (vanish_by session c why))
+vanish_comes w session c at (Some why) go = still_client w session c _ at (state_told w session c why at (mild_is (vanish_refusal c.entry.state) why go (vanish_mild c.entry.state)) (vanish_own c.entry.state why go))
+vanish_comes w session c at None go = (
   OfVanished (record {
     session = session;
     c = c;
@@ -96,10 +100,12 @@ vanish_comes w session c at None mild = (
   }),
   refl,
   refl,
+  tt,
+  plain_due w _ (λ told. tt),
 )
 
 pub vanish_at : (w : State) (session : ℕ) (c : Client) → ClientAt w.clients session c → ComesBy w (for_client w session (vanish_on session c))
-vanish_at w session c at = vanish_comes w session c at (vanish_refusal c.entry.state) (vanish_mild c.entry.state)
+vanish_at w session c at = vanish_comes w session c at (vanish_refusal c.entry.state) refl
 
 -- ---- write
 -- a list of keys that is full refuses no request
@@ -134,16 +140,18 @@ write_failed w session start key value c at go begun rows rows_are = (
   }),
   refl,
   refl,
+  tt,
+  all_due w _ (two_free w _ _ (λ told. tt) (λ told. tt)),
 )
 
 write_fated : (w : State) (session start key : ℕ) (value : List ℕ) (fate : Fate) (c : Client) → ClientAt w.clients session c → work_refusal c.entry.state (is_reading c) ≡ None → c.entry.start ≡ Some start → ComesBy w (for_cells w session (write_by session start key value fate c (fated fate w.rows (put_row w.rows key start value))))
-write_fated w session start key value Works c at go begun = (OfWrote (record { it = open_by_work w session c at go; start = start; key = key; value = value; start_is = begun }), refl, refl)
+write_fated w session start key value Works c at go begun = (OfWrote (record { it = open_by_work w session c at go; start = start; key = key; value = value; start_is = begun }), refl, refl, tt, plain_due w _ (λ told. tt))
 write_fated w session start key value FailsUnchanged c at go begun = write_failed w session start key value c at go begun w.rows (inl refl)
 write_fated w session start key value FailsApplied c at go begun = write_failed w session start key value c at go begun (put_row w.rows key start value) (inr refl)
 
 write_comes : (w : State) (session key : ℕ) (value : List ℕ) (fate : Fate) (c : Client) → ClientAt w.clients session c → (why : Option Cause) → write_refused c key ≡ why → (start : Option ℕ) → c.entry.start ≡ start → ComesBy w (for_cells w session (write_open session key value fate c w.rows why start))
-write_comes w session key value fate c at (Some why) go start begun = still_client w session c _ at (session_plain session why (mild_is (write_refused c key) why go (write_mild c key)))
-write_comes w session key value fate c at None go None begun = still_client w session c [] at none_plain
+write_comes w session key value fate c at (Some why) go start begun = still_client w session c _ at (state_told w session c why at (mild_is (write_refused c key) why go (write_mild c key)) (write_own c key why (work_refusal c.entry.state (is_reading c)) refl go))
+write_comes w session key value fate c at None go None begun = still_client w session c [] at (nothing_told w)
 write_comes w session key value fate c at None go (Some start) begun = write_fated w session start key value fate c at (write_may (work_refusal c.entry.state (is_reading c)) (key_refusal c.entry.keys key) go) begun
 
 pub write_at : (w : State) (session key : ℕ) (value : List ℕ) (fate : Fate) (c : Client) → ClientAt w.clients session c → ComesBy w (for_cells w session (write_on session key value fate c w.rows))
@@ -166,7 +174,7 @@ no_offer_mild : (state : SessionState) → Mild (Some (no_offer_cause state))
 no_offer_mild phase.Gone = refl
 no_offer_mild _ = refl
 
-heal_one : (w : State) (session : ℕ) (c : Client) (offer : ℕ × ℕ × ℕ) → ClientAt w.clients session c → offer_of c ≡ Some offer → (applied : Bool) (items : List Item) → AllPlain items → ComesTo w (record (with_client w session (record c { heal = None })) { rows = if applied then with_shadow w.rows offer.0 offer.1 offer.2 else w.rows }) items
+heal_one : (w : State) (session : ℕ) (c : Client) (offer : ℕ × ℕ × ℕ) → ClientAt w.clients session c → offer_of c ≡ Some offer → (applied : Bool) (items : List Item) → PlainDue w items → ComesTo w (record (with_client w session (record c { heal = None })) { rows = if applied then with_shadow w.rows offer.0 offer.1 offer.2 else w.rows }) items
 heal_one w session c offer at has applied items plain =
     let found = offer_open c.entry.state (is_reading c) c.heal offer has in (
       OfHealed (record {
@@ -177,18 +185,20 @@ heal_one w session c offer at has applied items plain =
         offer = found.2;
         applied = applied;
         items = items;
-        quiet = all_quiet items plain;
-        silent = all_silent items plain;
+        quiet = all_quiet items plain.0;
+        silent = all_silent items plain.0;
       }),
       refl,
       refl,
+      tt,
+      plain.1,
     )
 
 heal_comes : (w : State) (session : ℕ) (fate : Fate) (c : Client) → ClientAt w.clients session c → (offer : Option (ℕ × ℕ × ℕ)) → offer_of c ≡ offer → ComesBy w (for_cells w session (heal_at session fate c w.rows w.pairs offer))
-heal_comes w session fate c at None has = still_client w session c _ at (session_plain session (no_offer_cause c.entry.state) (no_offer_mild c.entry.state))
-heal_comes w session Works c at (Some offer) has = heal_one w session c offer at has true (item.Step (Session session) (step.Shadow offer.0 offer.1 offer.2) ∷ []) (one_plain (item.Step (Session session) (step.Shadow offer.0 offer.1 offer.2)) refl refl)
-heal_comes w session FailsUnchanged c at (Some offer) has = heal_one w session c offer at has false (item.Fault (Session session) Cells ∷ []) (one_plain (item.Fault (Session session) Cells) refl refl)
-heal_comes w session FailsApplied c at (Some offer) has = heal_one w session c offer at has true (item.Fault (Session session) Cells ∷ []) (one_plain (item.Fault (Session session) Cells) refl refl)
+heal_comes w session fate c at None has = still_client w session c _ at (state_told w session c (no_offer_cause c.entry.state) at (no_offer_mild c.entry.state) (heal_own c.entry.state))
+heal_comes w session Works c at (Some offer) has = heal_one w session c offer at has true (item.Step (Session session) (step.Shadow offer.0 offer.1 offer.2) ∷ []) (one_told w (item.Step (Session session) (step.Shadow offer.0 offer.1 offer.2)) (refl, refl) (λ told. tt))
+heal_comes w session FailsUnchanged c at (Some offer) has = heal_one w session c offer at has false (item.Fault (Session session) Cells ∷ []) (one_told w (item.Fault (Session session) Cells) (refl, refl) (λ told. tt))
+heal_comes w session FailsApplied c at (Some offer) has = heal_one w session c offer at has true (item.Fault (Session session) Cells ∷ []) (one_told w (item.Fault (Session session) Cells) (refl, refl) (λ told. tt))
 
 pub heal_at_client : (w : State) (session : ℕ) (fate : Fate) (c : Client) → ClientAt w.clients session c → ComesBy w (for_cells w session (heal_on session fate c w.rows w.pairs))
 heal_at_client w session fate c at = heal_comes w session fate c at (offer_of c) refl

@@ -1,6 +1,11 @@
 -- What the next step of a session comes to: of a read, of the resolve of its own commit, of a completion.
+use Rattle.isolation_laws.specs.Due.{AreDue}
+use Rattle.isolation_laws.proofs.Dues.DueItems.{DueAnyway, all_due}
+use Rattle.isolation_laws.proofs.Dues.StepsDue.{worked_free, failed_due, settle_free, read_free}
+use Rattle.std.proofs.lemmas.List.Elements.{All-append, All-cons}
+use Rattle.machine.specs.Events.Step.{step_recall, StepParts, read_step, settle_items, client_settled, settle_step, complete_step, own_resolve, after_asks}
+use Rattle.machine.specs.Events.Fetch.{client_put_fresh, client_recalled}
 use Rattle.std.proofs.Common.{◌≡◌, ℕ, ◌≤◌, Bool, true, false, cond, if◌then◌else◌, List, [], ◌∷◌, ◌++◌, Option, Some, None, ◌⊎◌, inl, inr, refl, ap, arith}
-use Rattle.std.proofs.lemmas.List.Elements.{All-cons}
 use Rattle.std.proofs.lemmas.List.Sums.{sum_by-append}
 use Rattle.stamp_base.specs.declared.stores.Store.{Store}
 use Rattle.port_io.specs.declared.weather.Fate.{Fate}
@@ -23,8 +28,6 @@ use Rattle.machine.specs.Effect.{Effect}
 use Rattle.machine.specs.Clients.{client_freed}
 use Rattle.machine.specs.StoreSteps.{met, store_of, told_by, step_item, rows_after, pairs_after, effect_items}
 use Rattle.machine.specs.Machine.{Step, step_by, with_client}
-use Rattle.machine.specs.Events.Fetch.{client_recalled, client_put_fresh}
-use Rattle.machine.specs.Events.Step.{step_recall, StepParts, read_step, settle_items, client_settled, settle_step, complete_step, own_resolve, after_asks}
 use Rattle.isolation_laws.specs.Words.{ClientAt}
 use Rattle.isolation_laws.specs.Quiet.{Quiet, AllQuiet}
 use Rattle.isolation_laws.specs.Bare.{is_fault, faults_in}
@@ -64,6 +67,8 @@ read_failed w session c r fate rows pairs at under_way same marked told = (
   }),
   same_rows w session (record (client_put_fresh c) { under_way = Nothing }) rows pairs same,
   refl,
+  tt,
+  failed_due w (Session session) (read_ask r) (told_by (read_ask r) w.rows w.pairs) fate (store_of (read_ask r)),
 )
 
 pub read_comes : (w : State) (session : ℕ) (fate : Fate) (c : Client) (r : Reading) → ClientAt w.clients session c → c.under_way ≡ Reads r → ComesBy w (for_stores w session (read_step session c r (met (Session session) (read_ask r) fate w.rows w.pairs)))
@@ -81,6 +86,8 @@ read_comes w session Works c r at under_way = (
   }),
   same_rows w session (client_recalled c (step_recall (client_put_fresh c) r (told_by (read_ask r) w.rows w.pairs))) (rows_after (read_ask r) w.rows) (pairs_after (read_ask r) w.pairs) (resolve_rows r.key r.cell.version r.point w.rows),
   refl,
+  tt,
+  all_due w _ (All-append (DueAnyway w) (step_item (Session session) (read_ask r) (told_by (read_ask r) w.rows w.pairs) ∷ []) _ (worked_free w (Session session) (read_ask r) (told_by (read_ask r) w.rows w.pairs)) (read_free w session r.start r.key (step_recall (client_put_fresh c) r (told_by (read_ask r) w.rows w.pairs)).0)),
 )
 read_comes w session FailsUnchanged c r at under_way = read_failed w session c r FailsUnchanged w.rows w.pairs at under_way refl (inl refl) (met_marks (Session session) (read_ask r) FailsUnchanged w.rows w.pairs)
 read_comes w session FailsApplied c r at under_way = read_failed w session c r FailsApplied (rows_after (read_ask r) w.rows) (pairs_after (read_ask r) w.pairs) at under_way (resolve_rows r.key r.cell.version r.point w.rows) (resolve_marks r.key r.cell.version r.point w.pairs) (met_marks (Session session) (read_ask r) FailsApplied w.rows w.pairs)
@@ -109,6 +116,8 @@ settle_failed w session c x fate rows pairs at is_open same marked told = (
   }),
   same_rows w session (record c { under_way = Nothing }) rows pairs same,
   refl,
+  tt,
+  failed_due w (Session session) (settle_ask x) (told_by (settle_ask x) w.rows w.pairs) fate (store_of (settle_ask x)),
 )
 
 pub settle_comes : (w : State) (session : ℕ) (fate : Fate) (c : Client) (x : Settling) → ClientAt w.clients session c → c.entry.state ≡ phase.OpenOutcome → IsResolve c x → ComesBy w (for_stores w session (settle_step session c x (met (Session session) (settle_ask x) fate w.rows w.pairs)))
@@ -130,6 +139,8 @@ settle_comes w session Works c x at is_open work =
       }),
       same_rows w session (client_settled c x (settle_turn x answer)) (rows_after (settle_ask x) w.rows) (pairs_after (settle_ask x) w.pairs) (resolve_rows x.key x.txn x.point w.rows),
       refl,
+      tt,
+      all_due w _ (All-append (DueAnyway w) (first ∷ []) rest (worked_free w (Session session) (settle_ask x) answer) (settle_free w session c.entry.start (settle_turn x answer))),
     )
 settle_comes w session FailsUnchanged c x at is_open work = settle_failed w session c x FailsUnchanged w.rows w.pairs at is_open refl (inl refl) (met_marks (Session session) (settle_ask x) FailsUnchanged w.rows w.pairs)
 settle_comes w session FailsApplied c x at is_open work = settle_failed w session c x FailsApplied (rows_after (settle_ask x) w.rows) (pairs_after (settle_ask x) w.pairs) at is_open (resolve_rows x.key x.txn x.point w.rows) (resolve_marks x.key x.txn x.point w.pairs) (met_marks (Session session) (settle_ask x) FailsApplied w.rows w.pairs)
@@ -166,11 +177,13 @@ completed w session c asked asks applied left items at is left_is told plain = r
   silent = all_silent items plain;
 }
 
-complete_failed : (w : State) (session : ℕ) (c : Client) (asked : Ask) (asks : List Ask) (applied : Bool) (items : List Item) → ClientAt w.clients session c → IsCompletion c asked asks → 1 ≤ faults_in items → MarksTold w.pairs (if applied then pairs_after asked w.pairs else w.pairs) items → AllPlain items → ComesTo w (record (with_client w session (client_freed c)) { rows = if applied then rows_after asked w.rows else w.rows; pairs = if applied then pairs_after asked w.pairs else w.pairs }) items
-complete_failed w session c asked asks applied items at is fault told plain = (
+complete_failed : (w : State) (session : ℕ) (c : Client) (asked : Ask) (asks : List Ask) (applied : Bool) (items : List Item) → ClientAt w.clients session c → IsCompletion c asked asks → 1 ≤ faults_in items → MarksTold w.pairs (if applied then pairs_after asked w.pairs else w.pairs) items → AllPlain items → AreDue w items → ComesTo w (record (with_client w session (client_freed c)) { rows = if applied then rows_after asked w.rows else w.rows; pairs = if applied then pairs_after asked w.pairs else w.pairs }) items
+complete_failed w session c asked asks applied items at is fault told plain due = (
   OfCompleted (completed w session c asked asks applied (client_freed c) items at is (inr (refl, fault)) told plain),
   refl,
   refl,
+  tt,
+  due,
 )
 
 pub complete_comes : (w : State) (session : ℕ) (fate : Fate) (c : Client) (asked : Ask) (asks : List Ask) → ClientAt w.clients session c → IsCompletion c asked asks → ComesBy w (for_stores w session (complete_step c asked asks (met (Session session) asked fate w.rows w.pairs)))
@@ -178,6 +191,8 @@ complete_comes w session Works c asked asks at is = (
   OfCompleted (completed w session c asked asks true (after_asks c asks) (step_item (Session session) asked (told_by asked w.rows w.pairs) ∷ []) at is (inl (refl, refl)) (met_marks (Session session) asked Works w.rows w.pairs) (All-cons Plain (step_item (Session session) asked (told_by asked w.rows w.pairs)) [] (step_plain (Session session) asked (told_by asked w.rows w.pairs) is.no_list) none_plain)),
   refl,
   refl,
+  tt,
+  all_due w _ (worked_free w (Session session) asked (told_by asked w.rows w.pairs)),
 )
-complete_comes w session FailsUnchanged c asked asks at is = complete_failed w session c asked asks false _ at is (fault_told (effect_items (Session session) asked (told_by asked w.rows w.pairs) FailsUnchanged) (Session session) (store_of asked)) (met_marks (Session session) asked FailsUnchanged w.rows w.pairs) (failed_plain (Session session) asked (told_by asked w.rows w.pairs) FailsUnchanged (store_of asked))
-complete_comes w session FailsApplied c asked asks at is = complete_failed w session c asked asks true _ at is (fault_told (effect_items (Session session) asked (told_by asked w.rows w.pairs) FailsApplied) (Session session) (store_of asked)) (met_marks (Session session) asked FailsApplied w.rows w.pairs) (failed_plain (Session session) asked (told_by asked w.rows w.pairs) FailsApplied (store_of asked))
+complete_comes w session FailsUnchanged c asked asks at is = complete_failed w session c asked asks false _ at is (fault_told (effect_items (Session session) asked (told_by asked w.rows w.pairs) FailsUnchanged) (Session session) (store_of asked)) (met_marks (Session session) asked FailsUnchanged w.rows w.pairs) (failed_plain (Session session) asked (told_by asked w.rows w.pairs) FailsUnchanged (store_of asked)) (failed_due w (Session session) asked (told_by asked w.rows w.pairs) FailsUnchanged (store_of asked))
+complete_comes w session FailsApplied c asked asks at is = complete_failed w session c asked asks true _ at is (fault_told (effect_items (Session session) asked (told_by asked w.rows w.pairs) FailsApplied) (Session session) (store_of asked)) (met_marks (Session session) asked FailsApplied w.rows w.pairs) (failed_plain (Session session) asked (told_by asked w.rows w.pairs) FailsApplied (store_of asked)) (failed_due w (Session session) asked (told_by asked w.rows w.pairs) FailsApplied (store_of asked))

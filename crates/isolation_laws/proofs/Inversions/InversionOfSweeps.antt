@@ -1,4 +1,7 @@
 -- What the events of the janitor come to. An open sweep always asks something.
+use Rattle.isolation_laws.proofs.Dues.DueItems.{DueAnyway, all_due, none_due, plain_due, refusal_due, no_row_due}
+use Rattle.isolation_laws.proofs.Dues.StepsDue.{worked_free, failed_due, undecided_free}
+use Rattle.std.specs.Prelude.{slice_get}
 use Rattle.std.proofs.Common.{◌≡◌, ℕ, Bool, true, false, List, [], ◌∷◌, ◌++◌, Option, Some, None, refl, sym, ap, length}
 use Rattle.std.proofs.lemmas.List.Elements.{All-append, All-cons}
 use Rattle.stamp_base.specs.declared.stores.Store.TheVariants.{Cells}
@@ -23,26 +26,26 @@ use Rattle.machine.specs.Events.SweepStep.{undecided_items, sweep_met, sweep_at,
 use Rattle.isolation_laws.proofs.Outcome.PlainItems.{Plain, AllPlain, all_quiet, all_silent, none_plain, one_plain, one_silent}
 use Rattle.isolation_laws.specs.Sound.{SweepAsks}
 use Rattle.isolation_laws.proofs.Outcome.Outcomes.{OfSweepOpened, OfSwept, OfSweepListed, OfSweepFailed}
-use Rattle.isolation_laws.proofs.Inversions.InversionParts.{ComesTo, ComesBy, still_all}
+use Rattle.isolation_laws.proofs.Inversions.InversionParts.{PlainDue, ComesTo, ComesBy, still_all}
 use Rattle.isolation_laws.proofs.Inversions.InversionOfCalls.{NoList, step_plain, failed_plain}
 use Rattle.isolation_laws.proofs.Pushed.{one_quiet}
 use Rattle.isolation_laws.proofs.Stores.MarksTold.{marks_same, marks_behind, met_marks}
 
 -- the sweep was put back
-still_sweep : (w : State) (sweep : Option Sweeping) (items : List Item) → w.sweep ≡ sweep → AllPlain items → ComesTo w (record w { sweep = sweep }) items
+still_sweep : (w : State) (sweep : Option Sweeping) (items : List Item) → w.sweep ≡ sweep → PlainDue w items → ComesTo w (record w { sweep = sweep }) items
 still_sweep w sweep items same plain = still_all w (record w { sweep = sweep }) items plain (ap (λ (s : Option Sweeping). record w { sweep = s }) (sym same))
 
 -- ---- the opening
 abbrev pub for_sweep : State → Effect (Option Sweeping) → Step
 for_sweep w effect = step_by effect (λ (p : Option Sweeping). record w { sweep = p })
 
-sweep_open_comes : (w : State) (node txn : ℕ) (post : Option InstanceEntry) (sweep : Option Sweeping) → w.sweep ≡ sweep → ComesBy w (for_sweep w (sweep_open_on node txn post sweep))
-sweep_open_comes w node txn post (Some s) same = still_sweep w (Some s) _ same (one_plain (item.Refused Janitor cause.Busy) refl refl)
-sweep_open_comes w node txn None None same = still_sweep w None _ same (one_plain (item.Refused Janitor (cause.NoOracle node)) refl refl)
-sweep_open_comes w node txn (Some i) None same = (OfSweepOpened (record { txn = txn; epoch = i.epoch }), refl, refl)
+sweep_open_comes : (w : State) (node txn : ℕ) (post : Option InstanceEntry) (sweep : Option Sweeping) → slice_get w.nodes node ≡ Some post → w.sweep ≡ sweep → ComesBy w (for_sweep w (sweep_open_on node txn post sweep))
+sweep_open_comes w node txn post (Some s) at same = still_sweep w (Some s) _ same (one_plain (item.Refused Janitor cause.Busy) refl refl, no_row_due w Janitor cause.Busy (λ setup h. tt))
+sweep_open_comes w node txn None None at same = still_sweep w None _ same (one_plain (item.Refused Janitor (cause.NoOracle node)) refl refl, refusal_due w Janitor (cause.NoOracle node) at)
+sweep_open_comes w node txn (Some i) None at same = (OfSweepOpened (record { txn = txn; epoch = i.epoch }), refl, refl, tt, none_due w)
 
-pub sweep_open_at_post : (w : State) (node txn : ℕ) (post : Option InstanceEntry) → ComesBy w (for_sweep w (sweep_open_on node txn post w.sweep))
-sweep_open_at_post w node txn post = sweep_open_comes w node txn post w.sweep refl
+pub sweep_open_at_post : (w : State) (node txn : ℕ) (post : Option InstanceEntry) → slice_get w.nodes node ≡ Some post → ComesBy w (for_sweep w (sweep_open_on node txn post w.sweep))
+sweep_open_at_post w node txn post at = sweep_open_comes w node txn post w.sweep at refl
 
 -- ---- the steps
 undecided_plain : (s : Sweeping) (undecided : Bool) → AllPlain (undecided_items s undecided)
@@ -75,6 +78,8 @@ swept w s asked is_open asks no_list Works =
       }),
       refl,
       refl,
+      tt,
+      all_due w _ (All-append (DueAnyway w) (step_item Janitor asked (told_by asked w.rows w.pairs) ∷ []) _ (worked_free w Janitor asked (told_by asked w.rows w.pairs)) (undecided_free w s (is_undecided (sweep_told s (told_by asked w.rows w.pairs))))),
     )
 swept w s asked is_open asks no_list FailsUnchanged = (
   OfSweepFailed (record {
@@ -90,6 +95,8 @@ swept w s asked is_open asks no_list FailsUnchanged = (
   }),
   refl,
   refl,
+  tt,
+  plain_due w _ (λ told. tt),
 )
 swept w s asked is_open asks no_list FailsApplied = (
   OfSweepFailed (record {
@@ -105,6 +112,8 @@ swept w s asked is_open asks no_list FailsApplied = (
   }),
   refl,
   refl,
+  tt,
+  failed_due w Janitor asked (told_by asked w.rows w.pairs) FailsApplied (store_of asked),
 )
 
 listing_failed : (w : State) (s : Sweeping) (txn : ℕ) → w.sweep ≡ Some s → sweep_ask s ≡ Some (ask.Keys txn) → ComesTo w (record w { sweep = None }) (item.Fault Janitor Cells ∷ [])
@@ -122,10 +131,12 @@ listing_failed w s txn is_open asks = (
   }),
   refl,
   refl,
+  tt,
+  plain_due w _ (λ told. tt),
 )
 
 sweep_lists_keys : (w : State) (s : Sweeping) (txn : ℕ) → w.sweep ≡ Some s → sweep_ask s ≡ Some (ask.Keys txn) → (fate : Fate) → ComesBy w (on_swept w (sweep_lists s txn fate w.rows w.pairs))
-sweep_lists_keys w s txn is_open asks Works = (OfSweepListed (record { s = s; txn = txn; count = length (keys_of_version w.rows txn); is_open = is_open; asks = asks }), refl, refl)
+sweep_lists_keys w s txn is_open asks Works = (OfSweepListed (record { s = s; txn = txn; count = length (keys_of_version w.rows txn); is_open = is_open; asks = asks }), refl, refl, tt, plain_due w _ (λ told. tt))
 sweep_lists_keys w s txn is_open asks FailsUnchanged = listing_failed w s txn is_open asks
 sweep_lists_keys w s txn is_open asks FailsApplied = listing_failed w s txn is_open asks
 
@@ -140,7 +151,7 @@ sweep_asked w s fate sound is_open (Some (ask.Remove txn)) asks = swept w s (ask
 sweep_asked w s fate sound is_open (Some (ask.Erase key txn)) asks = swept w s (ask.Erase key txn) is_open asks (λ t is. cc) fate
 
 sweep_comes : (w : State) (fate : Fate) → SweepAsks w.sweep → (sweep : Option Sweeping) → w.sweep ≡ sweep → ComesBy w (on_swept w (sweep_step_on fate sweep w.rows w.pairs))
-sweep_comes w fate sound None same = still_sweep w None _ same (one_plain (item.Refused Janitor cause.Idle) refl refl)
+sweep_comes w fate sound None same = still_sweep w None _ same (one_plain (item.Refused Janitor cause.Idle) refl refl, no_row_due w Janitor cause.Idle (λ setup h. tt))
 sweep_comes w fate sound (Some s) same = sweep_asked w s fate sound same (sweep_ask s) refl
 
 pub sweep_step_at : (w : State) (fate : Fate) → SweepAsks w.sweep → ComesBy w (on_swept w (sweep_step_on fate w.sweep w.rows w.pairs))

@@ -1,5 +1,6 @@
 -- For call_laws too.
 -- What a session has under way fits its state, so that its next step comes to an outcome.
+use Rattle.isolation_laws.proofs.Dues.OwnRefusals.{step_own}
 use Rattle.std.proofs.Common.{◌≡◌, ℕ, Bool, true, false, IsTrue, if◌then◌else◌, List, [], ◌∷◌, Option, Some, None, ◌⊎◌, inl, inr, refl, sym, ◌∙◌, ap, subst}
 use Rattle.std.proofs.lemmas.Option.{same_Some, none-some}
 use Rattle.port_io.specs.declared.weather.Fate.{Fate}
@@ -18,8 +19,8 @@ use Rattle.machine.specs.Clients.{is_reading, is_reading_by}
 use Rattle.machine.specs.Events.Step.{own_resolve, work_by, work_of, step_at, step_due, step_on, step_by as step_unless}
 use Rattle.isolation_laws.specs.Words.{ClientAt}
 use Rattle.isolation_laws.specs.Holds.{Holds}
-use Rattle.isolation_laws.proofs.Outcome.PlainItems.{none_plain, Mild, session_plain, mild_is}
-use Rattle.isolation_laws.proofs.Inversions.InversionParts.{ComesBy, still_client}
+use Rattle.isolation_laws.proofs.Outcome.PlainItems.{Mild, mild_is}
+use Rattle.isolation_laws.proofs.Inversions.InversionParts.{nothing_told, state_told, ComesBy, still_client}
 use Rattle.isolation_laws.proofs.Inversions.InversionOfCalls.{NoList}
 use Rattle.isolation_laws.proofs.Inversions.InversionOfPlacings.{placing_comes}
 use Rattle.isolation_laws.proofs.Inversions.InversionOfSteps.{for_stores, read_comes, IsResolve, settle_comes, IsCompletion, complete_comes}
@@ -34,10 +35,10 @@ IsWork c (Completes (asked ∷ asks)) = IsCompletion c asked asks
 
 -- ---- the next step of what is under way
 work_comes : (w : State) (session : ℕ) (fate : Fate) (c : Client) → ClientAt w.clients session c → (work : UnderWay) → IsWork c work → ComesBy w (for_stores w session (step_at session fate c w.rows w.pairs work))
-work_comes w session fate c at Nothing is = still_client w session c [] at none_plain
+work_comes w session fate c at Nothing is = still_client w session c [] at (nothing_told w)
 work_comes w session fate c at (Reads r) is = read_comes w session fate c r at is
 work_comes w session fate c at (Settles x) is = settle_comes w session fate c x at is.0 is.1
-work_comes w session fate c at (Completes []) is = still_client w session c [] at none_plain
+work_comes w session fate c at (Completes []) is = still_client w session c [] at (nothing_told w)
 work_comes w session fate c at (Completes (asked ∷ asks)) is = complete_comes w session fate c asked asks at is
 
 -- ---- no completion lists keys
@@ -160,10 +161,10 @@ step_mild _ reading = idle_mild reading
 
 due_comes : (w : State) (h : List Item) (session : ℕ) (fate : Fate) (c : Client) → Holds w h → ClientAt w.clients session c → step_refusal c.entry.state (is_reading c) ≡ None → (due : Option (ℕ × ℕ)) → handed_commit c.entry ≡ due → ComesBy w (for_stores w session (step_due session fate c w.rows w.pairs due))
 due_comes w h session fate c holds at go None is = work_comes w session fate c at (work_of c) (work_fits w h session c holds at is go)
-due_comes w h session fate c holds at go (Some stamps) is = placing_comes w session fate c stamps at is
+due_comes w h session fate c holds at go (Some stamps) is = placing_comes w h session fate c stamps holds at is
 
 step_comes : (w : State) (h : List Item) (session : ℕ) (fate : Fate) (c : Client) → Holds w h → ClientAt w.clients session c → (why : Option Cause) → step_refusal c.entry.state (is_reading c) ≡ why → ComesBy w (for_stores w session (step_unless session fate c w.rows w.pairs why))
-step_comes w h session fate c holds at (Some why) go = still_client w session c _ at (session_plain session why (mild_is (step_refusal c.entry.state (is_reading c)) why go (step_mild c.entry.state (is_reading c))))
+step_comes w h session fate c holds at (Some why) go = still_client w session c _ at (state_told w session c why at (mild_is (step_refusal c.entry.state (is_reading c)) why go (step_mild c.entry.state (is_reading c))) (step_own c.entry.state (is_reading c) why go))
 step_comes w h session fate c holds at None go = due_comes w h session fate c holds at go (handed_commit c.entry) refl
 
 pub step_at_client : (w : State) (h : List Item) (session : ℕ) (fate : Fate) (c : Client) → Holds w h → ClientAt w.clients session c → ComesBy w (for_stores w session (step_on session fate c w.rows w.pairs))

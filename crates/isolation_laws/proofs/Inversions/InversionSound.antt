@@ -1,7 +1,13 @@
--- For cause_laws too.
+-- For cause_laws and grant_laws too.
 -- Every outcome keeps what the inversion needs: kept refusals are the master record's, and an open sweep asks something.
-use Rattle.std.proofs.Common.{◌≡◌, ℕ, ◌<◌, Bool, true, false, List, Option, Some, None, inl, inr, refl, sym, ◌∙◌, ap, subst}
-use Rattle.std.specs.Prelude.{slice_get, slice_set, replicate}
+use Rattle.std.specs.Prelude.{IfSome, slice_get, replicate}
+use Rattle.port_io.specs.declared.weather.Fate.{Fate}
+use Rattle.history_book.specs.declared.cause.Cause.{Cause}
+use Rattle.oracle_parts.specs.InstanceSteps.{IsStop}
+use Rattle.machine.specs.declared.event.Event.{Event}
+use Rattle.machine.specs.Machine.{stepped}
+use Rattle.machine.proofs.StopsKept.{stops_kept}
+use Rattle.std.proofs.Common.{◌≡◌, ℕ, ◌<◌, Option, Some, None, refl, sym, ◌∙◌, ap, subst}
 use Rattle.std.proofs.lemmas.Option.{same_Some, none-some, slice_get_within, get_or_from_slice_get}
 use Rattle.std.proofs.lemmas.List.{get_or-replicate, length-replicate}
 use Rattle.stamp_base.specs.SetupNumbers.{SetupNumbers}
@@ -12,56 +18,21 @@ use Rattle.machine.specs.State.{State, opening}
 use Rattle.machine.specs.Events.SweepStep.{still_open, sweep_left}
 use Rattle.isolation_laws.specs.Words.{InstanceAt}
 use Rattle.isolation_laws.specs.Sound.{StopOf, AreStops, SweepAsks, Sound}
-use Rattle.isolation_laws.proofs.Lookups.{instance_changed, instance_ended}
-use Rattle.isolation_laws.proofs.Outcome.OutcomesOfRecord.{AlikeNodes, Granted, granted_nodes, Renewed, renewed_nodes, Extended, extended_nodes}
-use Rattle.isolation_laws.proofs.Outcome.Outcomes.{Outcome, OfStill, OfGranted, OfRenewed, OfExtended, OfCrashed, OfAskedBegin, OfAskedCommit, OfAccepted, OfEnded, OfDrew, OfPlaced, OfNotPlaced, OfAnsweredBegin, OfAnsweredCommit, OfHanded, OfSweepOpened, OfSwept, OfSweepListed, OfSweepFailed, left_by}
+use Rattle.isolation_laws.proofs.Outcome.Outcomes.{Outcome, OfSweepOpened, OfSwept, OfSweepListed, OfSweepFailed, left_by}
 
--- ---- kept refusals
-stops_put : (nodes : List (Option InstanceEntry)) (n : ℕ) (j : InstanceEntry) → AreStops nodes → StopOf j.stop → AreStops (slice_set nodes n (Some j))
-stops_put nodes n j stops stop = record {
-  stop = λ m k at. elim (instance_changed nodes n m j k at) [
-    | inl here ↦ subst (λ (x : InstanceEntry). StopOf x.stop) (sym here.1) stop
-    | inr other ↦ stops.stop m k other.1
-  ];
+-- ---- kept refusals: those of an instance, as the machine's laws have them
+kept_stop : (stop : Option Cause) → StopOf stop → IfSome stop IsStop
+kept_stop None is = tt
+kept_stop (Some why) is = is
+
+stop_of : (stop : Option Cause) → IfSome stop IsStop → StopOf stop
+stop_of None is = tt
+stop_of (Some why) is = is
+
+stops_stay : (w : State) (e : Event) (fate : Fate) → AreStops w.nodes → AreStops (stepped w e fate).state.nodes
+stops_stay w e fate stops = record {
+  stop = λ n i at. stop_of i.stop (stops_kept.after w e fate (λ m j there. kept_stop j.stop (stops.stop m j there)) n i at);
 }
-
-stops_ended : (nodes : List (Option InstanceEntry)) (n : ℕ) → AreStops nodes → AreStops (slice_set nodes n None)
-stops_ended nodes n stops = record { stop = λ m k at. stops.stop m k (instance_ended nodes n m k at).1 }
-
-stops_alike : (old new : List (Option InstanceEntry)) → AlikeNodes old new → AreStops old → AreStops new
-stops_alike old new alike stops = record {
-  stop = λ n j at. let was = alike.each n j at in was.2.stop (stops.stop n was.0 was.1);
-}
-
-stops_granted : (w : State) (k : Granted w) → AreStops w.nodes → (failed : Bool) → AreStops (granted_nodes w k failed)
-stops_granted w k stops true = stops
-stops_granted w k stops false = stops_put w.nodes k.node _ stops tt
-
-stops_renewed : (w : State) (k : Renewed w) → AreStops w.nodes → (failed : Bool) → AreStops (renewed_nodes w k failed)
-stops_renewed w k stops true = stops
-stops_renewed w k stops false = stops_put w.nodes k.node _ stops (stops.stop k.node k.i k.at)
-
-stops_extended : (w : State) (k : Extended w) → AreStops w.nodes → (failed : Bool) → AreStops (extended_nodes w k failed)
-stops_extended w k stops true = stops
-stops_extended w k stops false = stops_put w.nodes k.node _ stops (stops.stop k.node k.i k.at)
-
-stops_kept : (w : State) (o : Outcome w) → AreStops w.nodes → AreStops (left_by w o).nodes
-stops_kept w (OfStill k) stops = stops_alike w.nodes k.nodes k.alike stops
-stops_kept w (OfGranted k) stops = stops_granted w k stops k.failed
-stops_kept w (OfRenewed k) stops = stops_renewed w k stops k.failed
-stops_kept w (OfExtended k) stops = stops_extended w k stops k.failed
-stops_kept w (OfCrashed k) stops = stops_ended w.nodes k.node stops
-stops_kept w (OfAskedBegin k) stops = stops_put w.nodes k.node _ stops (stops.stop k.node k.i k.at)
-stops_kept w (OfAskedCommit k) stops = stops_put w.nodes k.node _ stops (stops.stop k.node k.i k.at)
-stops_kept w (OfAccepted k) stops = stops_put w.nodes k.node _ stops (stops.stop k.node k.i k.at)
-stops_kept w (OfEnded k) stops = stops_put w.nodes k.node _ stops (stops.stop k.node k.i k.at)
-stops_kept w (OfDrew k) stops = stops_put w.nodes k.node _ stops (stops.stop k.node k.i k.at)
-stops_kept w (OfPlaced k) stops = stops_put w.nodes k.it.node _ stops (stops.stop k.it.node k.it.i k.it.at)
-stops_kept w (OfNotPlaced k) stops = stops_put w.nodes k.it.node _ stops (stops.stop k.it.node k.it.i k.it.at)
-stops_kept w (OfAnsweredBegin k) stops = stops_put w.nodes k.node _ stops (stops.stop k.node k.i k.at)
-stops_kept w (OfHanded k) stops = stops_put w.nodes k.node _ stops (stops.stop k.node k.i k.at)
-stops_kept w (OfAnsweredCommit k) stops = stops_put w.nodes k.node _ stops (stops.stop k.node k.i k.at)
-stops_kept w _ stops = stops
 
 -- ---- sweeps
 left_asks : (s : Sweeping) (asked : Option Ask) → sweep_ask s ≡ asked → (left : Sweeping) → still_open s asked ≡ Some left → sweep_ask left ≡ None → ⊥
@@ -88,8 +59,11 @@ sweeps_kept w (OfSweepListed k) sweeps = sweeps_left _
 sweeps_kept w (OfSweepFailed k) sweeps = sweeps_none
 sweeps_kept w _ sweeps = sweeps
 
-pub sound_kept : (w : State) (o : Outcome w) → Sound w → Sound (left_by w o)
-sound_kept w o sound = record { stops = stops_kept w o sound.stops; sweeps = sweeps_kept w o sound.sweeps }
+pub sound_kept : (w : State) (e : Event) (fate : Fate) (o : Outcome w) → (stepped w e fate).state ≡ left_by w o → Sound w → Sound (stepped w e fate).state
+sound_kept w e fate o comes sound = record {
+  stops = stops_stay w e fate sound.stops;
+  sweeps = subst (λ (v : State). SweepAsks v.sweep) (sym comes) (sweeps_kept w o sound.sweeps);
+}
 
 -- ---- the opening
 -- what is found in copies of one is that one

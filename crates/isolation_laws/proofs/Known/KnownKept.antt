@@ -1,4 +1,6 @@
 -- Every outcome keeps it so that what clients remember is true, and that the cells of their reads were written.
+use Rattle.isolation_laws.proofs.Requests.ClientMoves.{reading_after}
+use Rattle.isolation_laws.proofs.Outcome.Outcomes.{OfAskedBegin, OfOwnPlaced, Outcome, OfDrew, OfPlaced, OfAnsweredBegin, OfWrote, OfVanished, OfFetched, OfReadDropped, OfReadStepped, OfSweepListed, left_by, told_by_outcome}
 use Rattle.std.proofs.Common.{◌≡◌, ℕ, All, List, ◌∷◌, ◌++◌, inl, inr, refl, sym, ◌∙◌, ap, subst}
 use Rattle.std.specs.Prelude.{slice_set}
 use Rattle.std.proofs.lemmas.List.Elements.{All-weaker}
@@ -21,8 +23,7 @@ use Rattle.isolation_laws.specs.Known.{IsTrueOf, IsTrueCache, AreKnown, IsWritte
 use Rattle.isolation_laws.specs.Holds.{Holds}
 use Rattle.isolation_laws.proofs.Lookups.{client_set}
 use Rattle.isolation_laws.proofs.Outcome.OutcomesOfWork.{fetched_recall, fetched_turn, fetched_client, fetched_items, read_recall, read_turn, read_client, read_stepped_items}
-use Rattle.isolation_laws.proofs.Outcome.Outcomes.{Outcome, OfAskedBegin, OfDrew, OfPlaced, OfOwnPlaced, OfAnsweredBegin, OfWrote, OfVanished, OfFetched, OfReadDropped, OfReadStepped, OfSweepListed, left_by, told_by_outcome}
-use Rattle.isolation_laws.proofs.Reading.ClientsReading.{FewerReading, nothing_reads, same_reading, reading_asked_begin, reading_answered_begin, reading_own_placed, reading_wrote}
+use Rattle.isolation_laws.proofs.Reading.ClientsReading.{FewerReading, nothing_reads, same_reading, reading_answered_begin, reading_wrote}
 use Rattle.isolation_laws.proofs.Reading.FirstReads.{wrote_on}
 use Rattle.isolation_laws.proofs.Reading.KeptReads.{SameCaches, read_remembers, caches_keep}
 use Rattle.isolation_laws.proofs.Reading.ReadsLonger.{reads_same}
@@ -105,10 +106,10 @@ written_turn w h o s b j c turn holds is of among = record {
 }
 
 written_after : (w : State) (h : List Item) (o : Outcome w) → Holds w h → AreWrittenCells (left_by w o).clients (left_by w o).nodes (h ++ told_by_outcome w o)
-written_after w h (OfAskedBegin k) holds = written_fewer w h (OfAskedBegin k) (reading_asked_begin w k) holds
+written_after w h (OfAskedBegin k) holds = written_fewer w h (OfAskedBegin k) (reading_after w (OfAskedBegin k) refl) holds
 written_after w h (OfDrew k) holds = written_fewer w h (OfDrew k) (same_reading w.clients) holds
 written_after w h (OfPlaced k) holds = written_fewer w h (OfPlaced k) (same_reading w.clients) holds
-written_after w h (OfOwnPlaced k) holds = written_fewer w h (OfOwnPlaced k) (reading_own_placed w k) holds
+written_after w h (OfOwnPlaced k) holds = written_fewer w h (OfOwnPlaced k) (reading_after w (OfOwnPlaced k) refl) holds
 written_after w h (OfAnsweredBegin k) holds = written_fewer w h (OfAnsweredBegin k) (reading_answered_begin w k) holds
 written_after w h (OfWrote k) holds = written_fewer w h (OfWrote k) (reading_wrote w k) holds
 written_after w h (OfSweepListed k) holds = written_fewer w h (OfSweepListed k) (same_reading w.clients) holds

@@ -1,10 +1,11 @@
--- For cause_laws and call_laws too.
+-- For cause_laws, call_laws and grant_laws too.
 -- All that an event of the machine comes to, with the state that it leaves and the items that it appends.
-use Rattle.std.proofs.Common.{[], List}
+use Rattle.std.proofs.Common.{◌≡◌, ℕ, [], List, Option, None, Some, subst}
 use Rattle.history_book.specs.declared.item.Item.{Item}
 use Rattle.machine.specs.State.{State}
+use Rattle.machine.specs.Machine.{IsSteadyAt}
 use Rattle.isolation_laws.proofs.Outcome.OutcomesOfRecord.{Still, still_state, Granted, granted_state, Renewed, renewed_state, Extended, extended_state}
-use Rattle.isolation_laws.proofs.Outcome.OutcomesOfRequests.{Crashed, crashed_state, AskedBegin, asked_begin_state, asked_begin_items, AskedCommit, asked_commit_state, Accepted, accepted_state, Ended, ended_state}
+use Rattle.isolation_laws.proofs.Outcome.OutcomesOfRequests.{Crashed, crashed_state, AskedBegin, asked_begin_state, asked_begin_items, AskedCommit, asked_commit_state, Accepted, AcceptedSteadily, accepted_state, Ended, ended_state}
 use Rattle.isolation_laws.proofs.Outcome.OutcomesOfStamps.{Drew, drew_state, drew_items, PlacedOne, placed_state, placed_items, NotPlaced, not_placed_state, AnsweredBegin, answered_begin_state, answered_begin_items, AnsweredCommit, answered_commit_state, HandedOver, handed_over_state}
 use Rattle.isolation_laws.proofs.Outcome.OutcomesOfPlacings.{OwnPlaced, own_placed_state, own_placed_items, OwnNotPlaced, own_not_placed_state}
 use Rattle.isolation_laws.proofs.Outcome.OutcomesOfSessions.{EndedReadOnly, read_only_state, WroteOne, wrote_state, wrote_items, WriteFailed, write_failed_state, Aborted, aborted_state, Vanished, vanished_state, Healed, healed_state}
@@ -117,3 +118,22 @@ told_by_outcome w (OfSweepOpened k) = []
 told_by_outcome w (OfSwept k) = k.items
 told_by_outcome w (OfSweepListed k) = sweep_listed_items w k
 told_by_outcome w (OfSweepFailed k) = k.items
+
+-- ---- what the facts ask of an outcome: a request is accepted at a steady reading
+abbrev pub IsTimely : (w : State) → Outcome w → Type 0
+IsTimely w (OfAccepted k) = AcceptedSteadily w k
+IsTimely w _ = Unit {0}
+
+-- the reading at which a request was accepted is the one that the event handed in
+abbrev pub AcceptsAt : {w : State} → Option ℕ → Outcome w → Type 0
+AcceptsAt handed (OfAccepted k) = handed ≡ Some k.reading
+AcceptsAt handed _ = Unit {0}
+
+pub steadily : (w : State) (handed : Option ℕ) (o : Outcome w) → AcceptsAt handed o → IsSteadyAt w.setup.skew w.seen handed → IsTimely w o
+steadily w handed (OfAccepted k) at steady = (subst (λ (r : Option ℕ). IsSteadyAt w.setup.skew w.seen r) at steady).1
+steadily w handed _ at steady = tt
+
+-- what accepts nothing may have been handed any reading
+pub whatever_handed : {w : State} (handed : Option ℕ) (o : Outcome w) → AcceptsAt None o → AcceptsAt handed o
+whatever_handed handed (OfAccepted k) none = absurd (cc)
+whatever_handed handed _ none = tt

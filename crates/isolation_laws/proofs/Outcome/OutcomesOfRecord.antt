@@ -1,4 +1,4 @@
--- For cause_laws too.
+-- For cause_laws and grant_laws too.
 -- What an event of the machine comes to at the master record, or where nothing changes that a fact reads. Each outcome is a
 -- record of what was the case, with the state that it leaves and the items that it appends, so that no proof about the facts
 -- has to look into the machine's definitions. The deeds of cause_laws are a view of the same outcomes.
@@ -17,7 +17,6 @@ use Rattle.oracle_parts.specs.InstanceSteps.{instance_widened, instance_renewed,
 use Rattle.machine.specs.State.{State}
 use Rattle.machine.specs.Events.Take.{rules_of, instance_of, take_item}
 use Rattle.isolation_laws.specs.Words.{InstanceAt}
-use Rattle.isolation_laws.specs.Sound.{StopOf}
 use Rattle.isolation_laws.specs.Quiet.{AllQuiet}
 use Rattle.isolation_laws.proofs.Outcome.PlainItems.{AllSilent, AllPlain}
 
@@ -31,7 +30,6 @@ pub record Alike (i j : InstanceEntry) : Type 0 where
   pub until : j.until ≡ i.until
   pub buckets : j.buckets ≡ i.buckets
   pub direct : j.direct ≡ i.direct
-  pub stop : StopOf i.stop → StopOf j.stop
   pub requests : (s : ℕ) (new : Held) → held_of j s ≡ Some new → (old : Held) × (held_of i s ≡ Some old) × (new.request ≡ old.request) × (new.progress ≡ old.progress)
 
 -- each instance was there, alike

@@ -64,7 +64,7 @@ pub record AskedCommit (w : State) : Type 0 where
 abbrev pub asked_commit_state : (w : State) → AskedCommit w → State
 asked_commit_state w k = record w { nodes = slice_set w.nodes k.node (Some (with_request k.i k.session (Some (just_asked (Commit k.session k.start k.c.entry.keys))))); clients = slice_set w.clients k.session (client_asked k.c) }
 
--- a request was accepted, at a reading that is steady
+-- a request was accepted
 pub record Accepted (w : State) : Type 0 where
   pub node : ℕ
   pub session : ℕ
@@ -76,10 +76,13 @@ pub record Accepted (w : State) : Type 0 where
   pub asked : held.progress ≡ progress.Asked
   pub in_time : reading < i.until
   pub in_epoch : epoch_refusal i held.request ≡ None
-  pub steady : w.seen ≤ reading + w.setup.skew
   pub items : List Item
   pub tells : items ≡ item.Accept session node i.term reading ∷ []
   pub quiet : AllQuiet items
+
+-- its reading was steady
+abbrev pub AcceptedSteadily : (w : State) → Accepted w → Type 0
+AcceptedSteadily w k = w.seen ≤ k.reading + w.setup.skew
 
 abbrev pub accepted_state : (w : State) → Accepted w → State
 accepted_state w k = record w { seen = max w.seen k.reading; nodes = slice_set w.nodes k.node (Some (moved k.i k.session k.held progress.Accepted)) }

@@ -1,30 +1,17 @@
 -- Who keeps what was read and what is remembered: each client after each outcome that does not change it.
-use Rattle.std.proofs.Common.{◌≡◌, ℕ, Bool, true, false, List, [], ◌∷◌, Option, Some, None, ◌⊎◌, inl, inr, refl, sym, ◌∙◌, ap, subst}
-use Rattle.std.specs.Prelude.{slice_set, slice_index_or}
-use Rattle.client_parts.specs.declared.asks.Ask.{Ask}
-use Rattle.client_parts.specs.declared.resolve.Outcome.TheVariants as outcome
-use Rattle.client_parts.specs.Resolve.{Settling, SettleTurn, Goes, Decides, settle_ask, settle_turn}
+use Rattle.isolation_laws.proofs.Requests.ClientMoves.{clients_move}
+use Rattle.std.proofs.Common.{◌≡◌, ℕ, Bool, true, false, List, inl, inr, refl, sym, ◌∙◌, ap, subst}
+use Rattle.std.specs.Prelude.{slice_set}
 use Rattle.client_parts.specs.KeyRead.{ReadTurn, Asks, Answers}
 use Rattle.client_parts.specs.Cache.{Cache}
-use Rattle.oracle_parts.specs.declared.instance.Held.{Held}
-use Rattle.oracle_parts.specs.declared.instance.Request.{Request}
-use Rattle.oracle_parts.specs.declared.instance.Request.TheVariants.{Begin, Commit}
-use Rattle.oracle_parts.specs.declared.instance.Settled.{Settled}
-use Rattle.oracle_parts.specs.declared.instance.Settled.TheVariants as how
 use Rattle.machine.specs.State.{Client, State}
-use Rattle.machine.specs.Clients.{client_begun, client_freed, client_aborted, client_opened, client_handed, unless_gone, after_refusal}
-use Rattle.machine.specs.StoreSteps.{told_by}
-use Rattle.machine.specs.Events.Crash.{after_loss}
+use Rattle.machine.specs.Clients.{client_begun, client_handed, unless_gone}
 use Rattle.machine.specs.Events.Fetch.{client_read}
-use Rattle.machine.specs.Events.Step.{client_settled, after_asks}
 use Rattle.isolation_laws.specs.Words.{ClientAt}
 use Rattle.isolation_laws.proofs.Lookups.{client_set}
-use Rattle.isolation_laws.proofs.Outcome.OutcomesOfRequests.{Crashed, crashed_state}
-use Rattle.isolation_laws.proofs.Outcome.OutcomesOfStamps.{answered_client}
-use Rattle.isolation_laws.proofs.Outcome.OutcomesOfWork.{read_turn, read_client, CompletedOne}
-use Rattle.isolation_laws.proofs.Outcome.Outcomes.{Outcome, OfCrashed, OfAskedBegin, OfAskedCommit, OfEnded, OfAnsweredBegin, OfAnsweredCommit, OfHanded, OfOwnPlaced, OfOwnNotPlaced, OfEndedReadOnly, OfWrote, OfWriteFailed, OfAborted, OfVanished, OfHealed, OfFetched, OfReadDropped, OfReadStepped, OfOutcome, OfOutcomeFailed, OfCompleted, left_by}
+use Rattle.isolation_laws.proofs.Outcome.OutcomesOfWork.{read_turn, read_client}
+use Rattle.isolation_laws.proofs.Outcome.Outcomes.{Outcome, OfAnsweredBegin, OfHanded, OfWrote, OfVanished, OfFetched, OfReadDropped, OfReadStepped, left_by}
 use Rattle.isolation_laws.proofs.Requests.ClientsOpen.{gone_cases}
-use Rattle.isolation_laws.proofs.Requests.OpenAfter.{crashed_at}
 
 -- begins, reads and vanishes change some of what a client keeps
 abbrev touches_parts : {w : State} → Outcome w → Bool
@@ -61,75 +48,22 @@ module _ {X : Type 0} (part : List ℕ → Cache → X) where
     | inr moves ↦ ap (λ (x : Client). part x.reads x.cache) moves ∙ same
   ]
 
-  refusal_keeps : (request : Request) (c : Client) → SamePart (after_refusal request c) c
-  refusal_keeps (Begin s) c = gone_keeps c (client_freed c) refl
-  refusal_keeps (Commit s t keys) c = gone_keeps c (client_aborted c) refl
-
-  loss_keeps : (request : Request) (c : Client) → SamePart (after_loss request c) c
-  loss_keeps (Begin s) c = gone_keeps c (client_freed c) refl
-  loss_keeps (Commit s t keys) c = gone_keeps c (client_opened c) refl
-
-  answered_keeps : (by : Settled) (c : Client) (commit : ℕ) → SamePart (answered_client by c commit) c
-  answered_keeps how.Placed c commit = refl
-  answered_keeps how.Invalid c commit = refl
-  answered_keeps how.Faulted c commit = refl
-
-  answer_keeps : (by : Settled) (c : Client) (commit : ℕ) → SamePart (unless_gone c (answered_client by c commit)) c
-  answer_keeps by c commit = gone_keeps c (answered_client by c commit) (answered_keeps by c commit)
-
-  settled_keeps : (c : Client) (x : Settling) (turn : SettleTurn) → SamePart (client_settled c x turn) c
-  settled_keeps c x (Goes point) = refl
-  settled_keeps c x (Decides (outcome.Committed commit by_table)) = refl
-  settled_keeps c x (Decides outcome.Dead) = refl
-
-  asks_keep : (c : Client) (asks : List Ask) → SamePart (after_asks c asks) c
-  asks_keep c [] = refl
-  asks_keep c (asked ∷ asks) = refl
-
   turn_keeps : (c : Client) (turn : ReadTurn) → SamePart (client_read c turn) c
   turn_keeps c (Asks r) = refl
   turn_keeps c (Answers a) = refl
 
-  completed_keeps : (w : State) (k : CompletedOne w) → SamePart k.left k.c
-  completed_keeps w k = elim k.left_is [
-    | inl goes ↦ ap (λ (x : Client). part x.reads x.cache) goes.0 ∙ asks_keep k.c k.asks
-    | inr freed ↦ ap (λ (x : Client). part x.reads x.cache) freed.0
-  ]
-
-  -- a crash
-  lost_keeps : (old c : Client) (requests : List (Option Held)) (s : ℕ) → (c ≡ old) ⊎ ((held : Held) × (slice_index_or requests s None ≡ Some held) × (c ≡ after_loss held.request old)) → SamePart c old
-  lost_keeps old c requests s (inl same) = ap (λ (x : Client). part x.reads x.cache) same
-  lost_keeps old c requests s (inr (held, there, is)) = ap (λ (x : Client). part x.reads x.cache) is ∙ loss_keeps held.request old
-
-  crashed_keeps : (w : State) (k : Crashed w) → SameParts w.clients (crashed_state w k).clients
-  crashed_keeps w k s c at =
-      let old = crashed_at k.i.requests w.clients s c at in
-      (old.0, old.1, lost_keeps old.0 c k.i.requests s old.2)
-
   -- ---- every outcome but the begins, the reads and a vanish
   parts_keep : (w : State) (o : Outcome w) → touches_parts o ≡ false → SameParts w.clients (left_by w o).clients
-  parts_keep w (OfCrashed k) is = crashed_keeps w k
-  parts_keep w (OfAskedBegin k) is = same_set w.clients k.session k.c _ k.client_at refl
-  parts_keep w (OfAskedCommit k) is = same_set w.clients k.session k.c _ k.client_at refl
-  parts_keep w (OfEnded k) is = same_set w.clients k.session k.c _ k.client_at (refusal_keeps k.held.request k.c)
   parts_keep w (OfAnsweredBegin k) is = absurd (cc)
-  parts_keep w (OfAnsweredCommit k) is = same_set w.clients k.session k.c _ k.client_at (answer_keeps k.by k.c k.commit)
   parts_keep w (OfHanded k) is = same_set w.clients k.session k.c _ k.client_at (gone_keeps k.c (client_handed k.c k.commit) refl)
-  parts_keep w (OfOwnPlaced k) is = same_set w.clients k.it.session k.it.c _ k.it.client_at (answered_keeps k.by k.it.c k.it.commit)
-  parts_keep w (OfOwnNotPlaced k) is = same_set w.clients k.it.session k.it.c _ k.it.client_at (answered_keeps k.by k.it.c k.it.commit)
-  parts_keep w (OfEndedReadOnly k) is = same_set w.clients k.it.session k.it.c _ k.it.client_at refl
   parts_keep w (OfWrote k) is = same_set w.clients k.it.session k.it.c _ k.it.client_at refl
-  parts_keep w (OfWriteFailed k) is = same_set w.clients k.it.session k.it.c _ k.it.client_at refl
-  parts_keep w (OfAborted k) is = same_set w.clients k.it.session k.it.c _ k.it.client_at refl
   parts_keep w (OfVanished k) is = absurd (cc)
-  parts_keep w (OfHealed k) is = same_set w.clients k.it.session k.it.c _ k.it.client_at refl
   parts_keep w (OfFetched k) is = absurd (cc)
   parts_keep w (OfReadDropped k) is = absurd (cc)
   parts_keep w (OfReadStepped k) is = absurd (cc)
-  parts_keep w (OfOutcome k) is = same_set w.clients k.it.session k.it.c _ k.it.client_at (settled_keeps k.it.c k.x (settle_turn k.x (told_by (settle_ask k.x) w.rows w.pairs)))
-  parts_keep w (OfOutcomeFailed k) is = same_set w.clients k.it.session k.it.c _ k.it.client_at refl
-  parts_keep w (OfCompleted k) is = same_set w.clients k.session k.c k.left k.client_at (completed_keeps w k)
-  parts_keep w _ is = same_parts w.clients
+  parts_keep w o is = λ s c at.
+      let was = clients_move w o refl s c at in
+      (was.0, was.1, ap (λ (reads : List ℕ). part reads c.cache) was.2.read ∙ ap (λ (cache : Cache). part was.0.reads cache) was.2.cache)
 
 -- ---- what was read: every outcome but two keeps it
 abbrev the_reads : List ℕ → Cache → List ℕ

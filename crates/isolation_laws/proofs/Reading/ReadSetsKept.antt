@@ -1,4 +1,6 @@
 -- Every outcome keeps the read sets.
+use Rattle.isolation_laws.proofs.Requests.ClientMoves.{at_work_after, reading_after}
+use Rattle.isolation_laws.proofs.Outcome.Outcomes.{OfOwnPlaced, Outcome, OfGranted, OfRenewed, OfExtended, OfAskedBegin, OfAskedCommit, OfAccepted, OfDrew, OfPlaced, OfAnsweredBegin, OfWrote, OfFetched, OfReadStepped, OfSweepListed, left_by, told_by_outcome}
 use Rattle.std.proofs.Common.{◌≡◌, ℕ, ◌+◌, Bool, true, false, if◌then◌else◌, List, ◌++◌, Option, ◌⊎◌, inl, inr, refl, subst, Contains}
 use Rattle.std.proofs.lemmas.Bool.{cases_Bool}
 use Rattle.history_book.specs.Members.{◌∈◌}
@@ -18,14 +20,13 @@ use Rattle.machine.specs.Events.Fetch.{marks_every, keeps_read, reads_after}
 use Rattle.isolation_laws.specs.ReadSets.{AreReadSets}
 use Rattle.isolation_laws.specs.Holds.{Holds}
 use Rattle.isolation_laws.proofs.Outcome.OutcomesOfWork.{Fetched, fetched_turn, fetched_client, fetched_state, fetched_items, ReadStepped, read_turn, read_client, read_stepped_state, read_stepped_items}
-use Rattle.isolation_laws.proofs.Outcome.Outcomes.{Outcome, OfGranted, OfRenewed, OfExtended, OfAskedBegin, OfAskedCommit, OfAccepted, OfDrew, OfPlaced, OfOwnPlaced, OfAnsweredBegin, OfWrote, OfFetched, OfReadStepped, OfSweepListed, left_by, told_by_outcome}
 use Rattle.isolation_laws.proofs.Requests.ClientsOpen.{same_at_work}
-use Rattle.isolation_laws.proofs.Requests.OpenAfter.{at_work_own_placed, at_work_wrote}
+use Rattle.isolation_laws.proofs.Requests.OpenAfter.{at_work_wrote}
 use Rattle.isolation_laws.proofs.Requests.RequestsAfter.{FewerHeld}
 use Rattle.isolation_laws.proofs.Requests.Standing.{held_same, held_granted, held_renewed, held_extended, held_accepted, held_drew, held_settled}
 use Rattle.isolation_laws.proofs.Requests.WrittenKeys.{has_key_in, key_was_written}
 use Rattle.isolation_laws.proofs.Memory.RecordedCommits.{added_there, added_keeps}
-use Rattle.isolation_laws.proofs.Reading.ClientsReading.{same_reading, reading_own_placed, reading_wrote}
+use Rattle.isolation_laws.proofs.Reading.ClientsReading.{same_reading, reading_wrote}
 use Rattle.isolation_laws.proofs.Reading.ReadsStay.{NoReads, quiet_no_reads, then_no_reads, one_no_reads, draw_no_reads}
 use Rattle.isolation_laws.proofs.Reading.ReadsOfReads.{fetched_open, stepped_open}
 use Rattle.isolation_laws.proofs.Reading.KeptReads.{SameReads, same_reads, reads_keep}
@@ -97,7 +98,7 @@ read_sets_kept w h (OfAskedCommit k) holds = sets_asked_commit w h k holds
 read_sets_kept w h (OfAccepted k) holds = by_nodes w h k.items _ (quiet_no_reads k.items k.quiet) (held_accepted w k) holds
 read_sets_kept w h (OfDrew k) holds = by_nodes w h _ _ (draw_no_reads k.node k.i.term k.held.request (k.i.last + 1)) (held_drew w k) holds
 read_sets_kept w h (OfPlaced k) holds = by_nodes w h _ _ (then_no_reads (Placed k.it.start k.it.commit) k.items (λ s b key answer is. cc) (quiet_no_reads k.items k.quiet)) (held_settled w k.it k.by) holds
-read_sets_kept w h (OfOwnPlaced k) holds = read_sets_stay w h _ _ w.nodes (reads_keep w (OfOwnPlaced k) refl) (at_work_own_placed w k).opened (reading_own_placed w k) (fewer_commits w.nodes w.nodes (held_same w.nodes))
+read_sets_kept w h (OfOwnPlaced k) holds = read_sets_stay w h _ _ w.nodes (reads_keep w (OfOwnPlaced k) refl) (at_work_after w (OfOwnPlaced k) refl).opened (reading_after w (OfOwnPlaced k) refl) (fewer_commits w.nodes w.nodes (held_same w.nodes))
     (none_more h _ (then_no_reads (Placed k.it.start k.it.commit) k.items (λ s b key answer is. cc) (quiet_no_reads k.items k.quiet))) holds
 read_sets_kept w h (OfAnsweredBegin k) holds = sets_answered_begin w h k holds
 read_sets_kept w h (OfWrote k) holds = read_sets_stay w h _ _ w.nodes (reads_keep w (OfWrote k) refl) (at_work_wrote w k).opened (reading_wrote w k) (fewer_commits w.nodes w.nodes (held_same w.nodes))

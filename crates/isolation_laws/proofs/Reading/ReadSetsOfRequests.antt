@@ -1,4 +1,6 @@
 -- Read sets where a session asks for a start or a commit, and where a begin is answered.
+use Rattle.isolation_laws.proofs.Requests.ClientMoves.{at_work_after, reading_after}
+use Rattle.isolation_laws.proofs.Outcome.Outcomes.{OfAskedBegin, OfAskedCommit}
 use Rattle.std.proofs.Common.{◌≡◌, ℕ, false, List, [], ◌∷◌, ◌++◌, inl, inr, refl, sym, ◌∙◌, ap, subst}
 use Rattle.history_book.specs.declared.item.Item.{Item}
 use Rattle.history_book.specs.declared.item.Item.TheVariants.{AskBegin, Begin}
@@ -15,12 +17,11 @@ use Rattle.isolation_laws.specs.Holds.{Holds}
 use Rattle.isolation_laws.proofs.Lookups.{client_set, held_by, one_client, one_instance, one_held}
 use Rattle.isolation_laws.proofs.Outcome.OutcomesOfRequests.{AskedBegin, asked_begin_state, AskedCommit, asked_commit_state}
 use Rattle.isolation_laws.proofs.Outcome.OutcomesOfStamps.{AnsweredBegin, answered_begin_state, answered_begin_items}
-use Rattle.isolation_laws.proofs.Outcome.Outcomes.{OfAskedBegin, OfAskedCommit}
 use Rattle.isolation_laws.proofs.Requests.ClientsOpen.{gone_cases}
-use Rattle.isolation_laws.proofs.Requests.OpenAfter.{at_work_asked_begin, at_work_asked_commit, open_answered_begin}
+use Rattle.isolation_laws.proofs.Requests.OpenAfter.{open_answered_begin}
 use Rattle.isolation_laws.proofs.Requests.RequestsAfter.{held_changed, held_over, new_held, none_held, open_waits}
 use Rattle.isolation_laws.proofs.Requests.RequestsOfBegins.{start_unbegun}
-use Rattle.isolation_laws.proofs.Reading.ClientsReading.{reading_asked_begin, reading_asked_commit, reading_answered_begin}
+use Rattle.isolation_laws.proofs.Reading.ClientsReading.{reading_answered_begin}
 use Rattle.isolation_laws.proofs.Reading.ReadsStay.{NoReads, quiet_no_reads, one_no_reads}
 use Rattle.isolation_laws.proofs.Reading.FirstReads.{first_no_reads, read_of}
 use Rattle.isolation_laws.proofs.Reading.KeptReads.{SameReads, reads_keep}
@@ -40,7 +41,7 @@ commits_asked_begin w k n s t keys p j at held = elim ((new_held w.nodes k.sessi
 ]
 
 pub sets_asked_begin : (w : State) (h : List Item) (k : AskedBegin w) → Holds w h → AreReadSets w.setup (asked_begin_state w k).clients (asked_begin_state w k).nodes (h ++ AskBegin k.session k.node ∷ [])
-sets_asked_begin w h k holds = read_sets_stay w h (AskBegin k.session k.node ∷ []) _ _ (reads_keep w (OfAskedBegin k) refl) (at_work_asked_begin w k).opened (reading_asked_begin w k) (commits_asked_begin w k)
+sets_asked_begin w h k holds = read_sets_stay w h (AskBegin k.session k.node ∷ []) _ _ (reads_keep w (OfAskedBegin k) refl) (at_work_after w (OfAskedBegin k) refl).opened (reading_after w (OfAskedBegin k) refl) (commits_asked_begin w k)
     (none_more h _ (one_no_reads (AskBegin k.session k.node) (λ s b key answer is. cc))) holds
 
 commit_parts : (s t r u : ℕ) (keys others : List ℕ) → Commit s t keys ≡ Commit r u others → t ≡ u
@@ -57,7 +58,7 @@ sets_asked_commit w h k holds =
     let o : OpenAt w.clients k.session k.start (epoch_or_none k.c.entry.epoch) = record { client = k.c; at = k.client_at; state_is = k.is_open; start_is = k.start_is; epoch_is = refl } in
     record {
       plain = plain_stays w h _ same holds;
-      opened = opened_stays w h (h ++ k.items) _ same (at_work_asked_commit w k).opened none holds;
+      opened = opened_stays w h (h ++ k.items) _ same (at_work_after w (OfAskedCommit k) refl).opened none holds;
       asked = λ strict n s t keys p i c at held client. elim ((new_held w.nodes k.session k.node k.i (just_asked (Commit k.session k.start k.c.entry.keys)) k.at).each n s i (Commit s t keys) p at held) [
         | inl now ↦
             let start : t ≡ k.start = commit_parts s t k.session k.start keys k.c.entry.keys now.2 in
@@ -66,7 +67,7 @@ sets_asked_commit w h k holds =
             subst (λ u. KeepsReads (h ++ k.items) u c) (sym start) (keeps_as h (h ++ k.items) k.start c k.c none (was.2 ∙ ap (λ (x : Client). x.reads) is) (holds.reads.read_sets.opened strict k.session k.start (epoch_or_none k.c.entry.epoch) o))
         | inr was ↦ asked_stays w h (h ++ k.items) _ n s t keys p was.0 c same none holds strict was.1 was.2 client
       ];
-      under_way = under_way_stays w h k.items _ (reading_asked_commit w k) holds;
+      under_way = under_way_stays w h k.items _ (reading_after w (OfAskedCommit k) refl) holds;
     }
 
 -- ---- a begin that is answered: the new transaction has read nothing, and its client keeps nothing

@@ -27,7 +27,7 @@ use Rattle.isolation_laws.specs.Quiet.{AllQuiet}
 use Rattle.isolation_laws.specs.Reads.{AreReading, AreLastingReads}
 use Rattle.isolation_laws.specs.Holds.{Holds}
 use Rattle.isolation_laws.proofs.Lookups.{one_client}
-use Rattle.isolation_laws.proofs.Outcome.OutcomesOfRequests.{Accepted, accepted_state}
+use Rattle.isolation_laws.proofs.Outcome.OutcomesOfRequests.{Accepted, AcceptedSteadily, accepted_state}
 use Rattle.isolation_laws.proofs.Outcome.OutcomesOfSessions.{AtOpen, WroteOne, wrote_state, wrote_items, WriteFailed}
 use Rattle.isolation_laws.proofs.OnceEach.{begun_once}
 use Rattle.isolation_laws.proofs.Owners.{open_unplaced, accepts_now, begun_below_last}
@@ -111,11 +111,11 @@ pub same_comes : (w : State) (h : List Item) → NoneComes w h w.clients w.nodes
 same_comes w h r b u begun c = c
 
 -- what is accepted comes below no start that was begun
-pub none_comes_accepted : (w : State) (h : List Item) (k : Accepted w) → Holds w h → NoneComes w h w.clients (accepted_state w k).nodes
-none_comes_accepted w h k holds r b u begun c = elim (comes_accepted w k b u c) [
+pub none_comes_accepted : (w : State) (h : List Item) (k : Accepted w) → AcceptedSteadily w k → Holds w h → NoneComes w h w.clients (accepted_state w k).nodes
+none_comes_accepted w h k steady holds r b u begun c = elim (comes_accepted w k b u c) [
   | inl old ↦ old
   | inr (q, taken, start, below) ↦
-      let now : k.i.term ≡ w.master.term = accepts_now w.setup w.seen k.reading k.node w.nodes w.master k.i holds.numbers.ranges holds.numbers.leases k.at k.steady k.in_time in
+      let now : k.i.term ≡ w.master.term = accepts_now w.setup w.seen k.reading k.node w.nodes w.master k.i holds.numbers.ranges holds.numbers.leases k.at steady k.in_time in
       absurd (omega (arith, below, begun_below_last w.nodes w.master h k.node k.i r b holds.numbers.ranges holds.numbers.drawn holds.numbers.begun k.at now begun))
 ]
 

@@ -1,22 +1,16 @@
+-- For cause_laws too.
 -- What clients become when they have no transaction open and none to place, or as before.
 use Rattle.std.proofs.Common.{[], ◌≡◌, ℕ, Bool, true, false, List, ◌∷◌, ◌⊎◌, inl, inr, refl, sym, ◌∙◌, ap, subst}
 use Rattle.std.specs.Prelude.{slice_set}
-use Rattle.client_parts.specs.declared.asks.Ask.{Ask}
-use Rattle.client_parts.specs.declared.resolve.Outcome.TheVariants as outcome
 use Rattle.client_parts.specs.declared.session.State.{State as SessionState}
 use Rattle.client_parts.specs.declared.session.State.TheVariants as phase
 use Rattle.client_parts.specs.SessionSteps.{SessionEntry, aborted_by}
-use Rattle.client_parts.specs.Resolve.{Settling, SettleTurn, Goes, Decides}
 use Rattle.client_parts.specs.KeyRead.{ReadTurn, Asks, Answers}
-use Rattle.oracle_parts.specs.declared.instance.Request.{Request}
-use Rattle.oracle_parts.specs.declared.instance.Request.TheVariants.{Begin, Commit}
 use Rattle.oracle_parts.specs.declared.instance.Settled.{Settled}
 use Rattle.oracle_parts.specs.declared.instance.Settled.TheVariants as how
 use Rattle.machine.specs.State.{Client}
-use Rattle.machine.specs.Clients.{client_freed, client_aborted, client_opened, unless_gone, unless_gone_by, after_refusal}
-use Rattle.machine.specs.Events.Crash.{after_loss}
+use Rattle.machine.specs.Clients.{client_aborted, unless_gone, unless_gone_by}
 use Rattle.machine.specs.Events.Fetch.{client_read}
-use Rattle.machine.specs.Events.Step.{client_settled, after_asks}
 use Rattle.isolation_laws.specs.Words.{ClientAt, epoch_or_none, OpenAt}
 use Rattle.isolation_laws.specs.Pending.{InFlight, is_placing, PlacingAt}
 use Rattle.isolation_laws.proofs.Lookups.{client_set}
@@ -151,36 +145,10 @@ unless_gone_cases old new (phase.Completing undo) = inr refl
 pub gone_cases : (old new : Client) → ((unless_gone old new ≡ old) × (old.entry.state ≡ phase.Gone)) ⊎ (unless_gone old new ≡ new)
 gone_cases old new = unless_gone_cases old new old.entry.state
 
-unless_gone_rests : (old new : Client) → IsAtRest new.entry.state → WorksNoMore old (unless_gone old new)
-unless_gone_rests old new rests = elim (gone_cases old new) [
-  | inl stays ↦ inr (ap (λ c. c.entry) (sym stays.0))
-  | inr moves ↦ inl (subst (λ (c : Client). IsAtRest c.entry.state) (sym moves) rests)
-]
-
-pub refusal_rests : (request : Request) (c : Client) → WorksNoMore c (after_refusal request c)
-refusal_rests (Begin s) c = unless_gone_rests c (client_freed c) free_rests
-refusal_rests (Commit s t keys) c = unless_gone_rests c (client_aborted c) (aborted_rests c)
-
-pub loss_rests : (request : Request) (c : Client) → WorksNoMore c (after_loss request c)
-loss_rests (Begin s) c = unless_gone_rests c (client_freed c) free_rests
-loss_rests (Commit s t keys) c = unless_gone_rests c (client_opened c) outcome_rests
-
 pub answered_rests : (by : Settled) (c : Client) (commit : ℕ) → IsAtRest (answered_client by c commit).entry.state
 answered_rests how.Placed c commit = completing_rests false
 answered_rests how.Invalid c commit = aborted_rests c
 answered_rests how.Faulted c commit = outcome_rests
-
-pub answer_rests : (by : Settled) (c : Client) (commit : ℕ) → WorksNoMore c (unless_gone c (answered_client by c commit))
-answer_rests by c commit = unless_gone_rests c (answered_client by c commit) (answered_rests by c commit)
-
-pub settled_rests : (c : Client) (x : Settling) (turn : SettleTurn) → WorksNoMore c (client_settled c x turn)
-settled_rests c x (Goes point) = inr refl
-settled_rests c x (Decides (outcome.Committed commit by_table)) = inl (completing_rests false)
-settled_rests c x (Decides outcome.Dead) = inl (aborted_rests c)
-
-pub asks_rest : (c : Client) (asks : List Ask) → WorksNoMore c (after_asks c asks)
-asks_rest c [] = inl free_rests
-asks_rest c (asked ∷ asks) = inr refl
 
 pub read_keeps_entry : (c : Client) (turn : ReadTurn) → (client_read c turn).entry ≡ c.entry
 read_keeps_entry c (Asks r) = refl

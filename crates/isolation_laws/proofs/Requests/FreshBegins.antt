@@ -15,7 +15,7 @@ use Rattle.isolation_laws.specs.Words.{InstanceAt, HeldBy}
 use Rattle.isolation_laws.specs.Begins.{AreFreshBegins}
 use Rattle.isolation_laws.specs.Holds.{Holds}
 use Rattle.isolation_laws.proofs.Lookups.{instance_changed, heldby_changed}
-use Rattle.isolation_laws.proofs.Outcome.OutcomesOfRequests.{AskedBegin, asked_begin_state, asked_begin_items, AskedCommit, asked_commit_state, Accepted, accepted_state}
+use Rattle.isolation_laws.proofs.Outcome.OutcomesOfRequests.{AskedBegin, asked_begin_state, asked_begin_items, AskedCommit, asked_commit_state, Accepted, AcceptedSteadily, accepted_state}
 use Rattle.isolation_laws.proofs.Outcome.OutcomesOfStamps.{Drew, drew_instance, drew_state, drew_items}
 use Rattle.isolation_laws.proofs.Owners.{accepts_now, placed_below_last}
 use Rattle.isolation_laws.proofs.Requests.CommitsInFlight.{FewerStanding, IsAcceptedNow, IsDrawnNow}
@@ -94,13 +94,13 @@ pub fresh_asked_commit : (w : State) (h : List Item) (k : AskedCommit w) → Hol
 fresh_asked_commit w h k holds = fresh_fewer w.nodes (asked_commit_state w k).nodes h k.items (begins_asked_commit w k) (standing_asked_commit IsAcceptedNow w k (λ is. is)) (standing_asked_commit IsDrawnNow w k (λ is. is)) (λ s. quiet_no_ask s k.items k.quiet) holds.begins.fresh
 
 -- ---- a begin is accepted: all that is placed so far is at most the last stamp
-fresh_now : (w : State) (h : List Item) (k : Accepted w) (s t c : ℕ) → Holds w h → Committed (before_ask s h) t c → c ≤ k.i.last
-fresh_now w h k s t c holds placed =
-    let now : k.i.term ≡ w.master.term = accepts_now w.setup w.seen k.reading k.node w.nodes w.master k.i holds.numbers.ranges holds.numbers.leases k.at k.steady k.in_time in
+fresh_now : (w : State) (h : List Item) (k : Accepted w) (s t c : ℕ) → AcceptedSteadily w k → Holds w h → Committed (before_ask s h) t c → c ≤ k.i.last
+fresh_now w h k s t c steady holds placed =
+    let now : k.i.term ≡ w.master.term = accepts_now w.setup w.seen k.reading k.node w.nodes w.master k.i holds.numbers.ranges holds.numbers.leases k.at steady k.in_time in
     placed_below_last w.nodes w.master h k.node k.i t c holds.numbers.ranges holds.numbers.drawn holds.numbers.placed k.at now (before_ask-in s h (Placed t c) placed)
 
-pub fresh_accepted : (w : State) (h : List Item) (k : Accepted w) → Holds w h → AreFreshBegins (accepted_state w k).nodes (h ++ k.items)
-fresh_accepted w h k holds =
+pub fresh_accepted : (w : State) (h : List Item) (k : Accepted w) → AcceptedSteadily w k → Holds w h → AreFreshBegins (accepted_state w k).nodes (h ++ k.items)
+fresh_accepted w h k steady holds =
     let fresh : AreFreshBegins w.nodes h = holds.begins.fresh in
     let held_ : FewerBegins w.nodes (accepted_state w k).nodes = begins_of w.nodes (accepted_state w k).nodes (held_accepted w k) in
     record {
@@ -109,7 +109,7 @@ fresh_accepted w h k holds =
           let was = held_ n s j progress.Accepted at held in
           let before : Committed (before_ask s h) t c = subst (λ before. Committed before t c) (before_stays s h k.items (fresh.asked n s was.0 was.1 was.2 was.3) (quiet_no_ask s k.items k.quiet)) placed in
           elim (instance_changed w.nodes k.node n (moved k.i k.session k.held progress.Accepted) j at) [
-            | inl here ↦ omega (arith, fresh_now w h k s t c holds before, ap (λ x. x.last) here.1)
+            | inl here ↦ omega (arith, fresh_now w h k s t c steady holds before, ap (λ x. x.last) here.1)
             | inr there ↦ fresh.accepted n s t c j there.1 held before
           ];
       drawn = drawn_on w.nodes (accepted_state w k).nodes h k.items (standing_accepted IsDrawnNow w k (λ is. is)) (λ s. quiet_no_ask s k.items k.quiet) fresh;

@@ -1,4 +1,6 @@
 -- Outcomes that leave fewer commits in flight, or as many.
+use Rattle.isolation_laws.proofs.Requests.ClientMoves.{at_work_after}
+use Rattle.isolation_laws.proofs.Outcome.Outcomes.{OfAskedBegin}
 use Rattle.std.proofs.Common.{◌≡◌, ◌≢◌, ℕ, ◌+◌, Bool, true, false, List, Option, Some, ◌⊎◌, inl, inr, refl, subst}
 use Rattle.oracle_parts.specs.declared.instance.Settled.{Settled}
 use Rattle.std.specs.Prelude.{slice_set}
@@ -6,17 +8,16 @@ use Rattle.oracle_parts.specs.declared.instance.Progress.TheVariants as progress
 use Rattle.oracle_parts.specs.declared.instance.Request.TheVariants.{Begin, Commit}
 use Rattle.oracle_parts.specs.Instance.{InstanceEntry, with_request}
 use Rattle.oracle_parts.specs.InstanceSteps.{without_request, moved, just_asked, instance_widened, instance_renewed}
-use Rattle.machine.specs.State.{State}
+use Rattle.machine.specs.State.{State, Client}
 use Rattle.store_parts.specs.Record.{granted, renewed_until}
 use Rattle.machine.specs.Events.Take.{rules_of, instance_of}
 use Rattle.isolation_laws.specs.Words.{InstanceAt, HeldBy}
-use Rattle.machine.specs.State.{Client}
 use Rattle.isolation_laws.specs.Pending.{InFlight, HeldPending, PlacingAt, Pending, ComesBelow, IsPending}
 use Rattle.isolation_laws.proofs.Lookups.{instance_changed}
 use Rattle.isolation_laws.proofs.Outcome.OutcomesOfRecord.{Still, Granted, granted_nodes, granted_state, Renewed, renewed_nodes, renewed_state, Extended, extended_nodes, extended_state}
 use Rattle.isolation_laws.proofs.Outcome.OutcomesOfRequests.{Crashed, crashed_state, AskedBegin, asked_begin_state, Ended, ended_state}
 use Rattle.isolation_laws.proofs.Outcome.OutcomesOfStamps.{AnsweredBegin, answered_begin_state, AnsweredCommit, answered_commit_state, AtDrawn, settled_nodes}
-use Rattle.isolation_laws.proofs.Requests.OpenAfter.{at_work_asked_begin, placing_answered_begin}
+use Rattle.isolation_laws.proofs.Requests.OpenAfter.{placing_answered_begin}
 use Rattle.isolation_laws.proofs.Requests.PendingAfter.{PendingIn, pending_in, pending_at, FewerServed, FewerPending, fewer_pending, fewer_changed, fewer_ended, none_more_alike, none_more_ended, none_more_begun, settled_cases, new_holds_none, none_more_same}
 
 -- ---- outcomes with fewer commits in flight
@@ -58,7 +59,7 @@ pub fewer_crashed : (w : State) (k : Crashed w) → FewerServed w.nodes (crashed
 fewer_crashed w k = fewer_ended w.nodes k.node
 
 pub pending_asked_begin : (w : State) (k : AskedBegin w) → FewerPending w.clients w.nodes (asked_begin_state w k).clients (asked_begin_state w k).nodes
-pending_asked_begin w k = fewer_pending w.clients (asked_begin_state w k).clients w.nodes (asked_begin_state w k).nodes (at_work_asked_begin w k).placing
+pending_asked_begin w k = fewer_pending w.clients (asked_begin_state w k).clients w.nodes (asked_begin_state w k).nodes (at_work_after w (OfAskedBegin k) refl).placing
     (fewer_changed w.nodes k.node k.i (with_request k.i k.session (Some (just_asked (Begin k.session)))) k.at (none_more_begun k.i k.session))
 
 pub fewer_ended_one : (w : State) (k : Ended w) → FewerServed w.nodes (ended_state w k).nodes

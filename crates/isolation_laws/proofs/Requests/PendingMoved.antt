@@ -1,5 +1,7 @@
 -- Outcomes that move a commit in flight: one more that waits, one that is taken, one that has its commit while the others of
 -- its instance see a later last stamp.
+use Rattle.isolation_laws.proofs.Requests.ClientMoves.{at_work_after}
+use Rattle.isolation_laws.proofs.Outcome.Outcomes.{OfAskedCommit}
 use Rattle.std.proofs.Common.{◌≡◌, ◌≢◌, ℕ, ◌+◌, ◌<◌, Bool, true, false, List, Some, ◌⊎◌, inl, inr, refl, sym, ◌∙◌, ap, subst, arith}
 use Rattle.std.proofs.lemmas.Option.{same_Some}
 use Rattle.oracle_parts.specs.declared.instance.Progress.{Progress}
@@ -17,7 +19,6 @@ use Rattle.isolation_laws.proofs.Outcome.OutcomesOfStamps.{Drew, drew_instance, 
 use Rattle.isolation_laws.proofs.Requests.PendingAfter.{PendingIn, pending_in, pending_at}
 use Rattle.isolation_laws.proofs.Requests.PendingFewer.{StaysElsewhere, StaysPut, stays_pending}
 use Rattle.isolation_laws.proofs.Requests.ClientsOpen.{placing_was}
-use Rattle.isolation_laws.proofs.Requests.OpenAfter.{at_work_asked_commit}
 
 -- ---- outcomes that move a commit in flight
 -- the request of the place is the one that was put there
@@ -54,7 +55,7 @@ served_asked_commit w k q p = elim (instance_changed w.nodes k.node p.node (with
 
 pub pending_asked_commit : (w : State) (k : AskedCommit w) (q : InFlight) → Pending (asked_commit_state w k).clients (asked_commit_state w k).nodes q → Pending w.clients w.nodes q ⊎ IsAsked w k q
 pending_asked_commit w k q (inl p) = elim (served_asked_commit w k q p) [ inl old ↦ inl (inl old) | inr new ↦ inr new ]
-pending_asked_commit w k q (inr p) = inl (inr (placing_was w.clients (asked_commit_state w k).clients q (at_work_asked_commit w k).placing p))
+pending_asked_commit w k q (inr p) = inl (inr (placing_was w.clients (asked_commit_state w k).clients q (at_work_after w (OfAskedCommit k) refl).placing p))
 
 -- a commit that was accepted is taken by an instance with this last stamp
 pub record IsTaken (w : State) (k : Accepted w) (q : InFlight) : Type 0 where

@@ -1,4 +1,6 @@
 -- What outcomes leave of requests and sessions, where one client alone changes.
+use Rattle.isolation_laws.proofs.Requests.ClientMoves.{at_work_after}
+use Rattle.isolation_laws.proofs.Outcome.Outcomes.{OfAborted, OfCompleted, OfEndedReadOnly, OfHealed, OfOutcome, OfOutcomeFailed, OfWriteFailed}
 use Rattle.std.proofs.Common.{◌≡◌, ℕ, IsTrue, List, ◌⊎◌, inl, inr, refl, sym, ◌∙◌, ap, subst}
 use Rattle.std.specs.Prelude.{slice_set}
 use Rattle.std.proofs.lemmas.Option.{same_Some}
@@ -23,7 +25,7 @@ use Rattle.isolation_laws.specs.Holds.{Holds}
 use Rattle.isolation_laws.proofs.Outcome.OutcomesOfSessions.{EndedReadOnly, read_only_state, WriteFailed, write_failed_state, Aborted, aborted_state, Vanished, vanished_state, Healed, healed_state}
 use Rattle.isolation_laws.proofs.Outcome.OutcomesOfWork.{Fetched, fetched_turn, fetched_client, fetched_state, ReadDropped, read_dropped_state, read_turn, read_client, ReadStepped, read_stepped_state, OutcomeStepped, outcome_state, OutcomeFailed, outcome_failed_state, CompletedOne, completed_state}
 use Rattle.isolation_laws.proofs.Requests.ClientsOpen.{FewerAtWork, read_keeps_entry}
-use Rattle.isolation_laws.proofs.Requests.OpenAfter.{at_work_read_only, at_work_write_failed, at_work_aborted, at_work_vanished, at_work_healed, at_work_fetched, at_work_dropped, at_work_read, at_work_outcome, at_work_outcome_failed, at_work_completed}
+use Rattle.isolation_laws.proofs.Requests.OpenAfter.{at_work_vanished, at_work_fetched, at_work_dropped, at_work_read}
 use Rattle.isolation_laws.proofs.Requests.ClientsAfter.{begun_kept, KeepsStart, has_none, has_by, aborted_keeps, freed_keeps, settled_keeps, asks_keep, KeysClient, keys_client, keys_set, keys_closed, gone_closed, keys_aborted, keys_freed, keys_settled, keys_asks}
 use Rattle.isolation_laws.proofs.Requests.RequestsAfter.{WaitsForNone, open_waits, outcome_waits, completing_waits, requests_client, requests_idle}
 use Rattle.isolation_laws.proofs.Requests.Standing.{standing_same}
@@ -73,19 +75,19 @@ keys_of w h s c holds at = keys_client w.clients h s c holds.requests.keys at
 
 -- ---- an open transaction
 pub leaves_read_only : (w : State) (h : List Item) (k : EndedReadOnly w) → Holds w h → Leaves w h w.nodes (read_only_state w k).clients
-leaves_read_only w h k holds = leaves_idle w h k.it.session k.it.c (client_freed k.it.c) phase.Open k.it.client_at k.it.is_open open_waits (record { begun = freed_keeps k.it.c; keys = keys_freed h k.it.c }) (at_work_read_only w k) holds
+leaves_read_only w h k holds = leaves_idle w h k.it.session k.it.c (client_freed k.it.c) phase.Open k.it.client_at k.it.is_open open_waits (record { begun = freed_keeps k.it.c; keys = keys_freed h k.it.c }) (at_work_after w (OfEndedReadOnly k) refl) holds
 
 write_keeps : (c : Client) (key : ℕ) → IsTrue (has_transaction c.entry.state) → KeepsStart c (client_aborted (client_wrote c key))
 write_keeps c key had has = aborted_keeps (client_wrote c key) had has
 
 pub leaves_write_failed : (w : State) (h : List Item) (k : WriteFailed w) → Holds w h → Leaves w h w.nodes (write_failed_state w k).clients
-leaves_write_failed w h k holds = leaves_idle w h k.it.session k.it.c (client_aborted (client_wrote k.it.c k.key)) phase.Open k.it.client_at k.it.is_open open_waits (record { begun = write_keeps k.it.c k.key (open_has k.it.c k.it.is_open); keys = keys_aborted h (client_wrote k.it.c k.key) }) (at_work_write_failed w k) holds
+leaves_write_failed w h k holds = leaves_idle w h k.it.session k.it.c (client_aborted (client_wrote k.it.c k.key)) phase.Open k.it.client_at k.it.is_open open_waits (record { begun = write_keeps k.it.c k.key (open_has k.it.c k.it.is_open); keys = keys_aborted h (client_wrote k.it.c k.key) }) (at_work_after w (OfWriteFailed k) refl) holds
 
 pub leaves_aborted : (w : State) (h : List Item) (k : Aborted w) → Holds w h → Leaves w h w.nodes (aborted_state w k).clients
-leaves_aborted w h k holds = leaves_idle w h k.it.session k.it.c (client_aborted k.it.c) phase.Open k.it.client_at k.it.is_open open_waits (record { begun = aborted_keeps k.it.c (open_has k.it.c k.it.is_open); keys = keys_aborted h k.it.c }) (at_work_aborted w k) holds
+leaves_aborted w h k holds = leaves_idle w h k.it.session k.it.c (client_aborted k.it.c) phase.Open k.it.client_at k.it.is_open open_waits (record { begun = aborted_keeps k.it.c (open_has k.it.c k.it.is_open); keys = keys_aborted h k.it.c }) (at_work_after w (OfAborted k) refl) holds
 
 pub leaves_healed : (w : State) (h : List Item) (k : Healed w) → Holds w h → Leaves w h w.nodes (healed_state w k).clients
-leaves_healed w h k holds = leaves_idle w h k.it.session k.it.c _ phase.Open k.it.client_at k.it.is_open open_waits (same_entry h k.it.session k.it.c _ refl (keys_of w h k.it.session k.it.c holds k.it.client_at)) (at_work_healed w k) holds
+leaves_healed w h k holds = leaves_idle w h k.it.session k.it.c _ phase.Open k.it.client_at k.it.is_open open_waits (same_entry h k.it.session k.it.c _ refl (keys_of w h k.it.session k.it.c holds k.it.client_at)) (at_work_after w (OfHealed k) refl) holds
 
 pub leaves_fetched : (w : State) (h : List Item) (k : Fetched w) → Holds w h → Leaves w h w.nodes (fetched_state w k).clients
 leaves_fetched w h k holds = leaves_idle w h k.it.session k.it.c (client_read (fetched_client w k) (fetched_turn w k)) phase.Open k.it.client_at k.it.is_open open_waits (same_entry h k.it.session k.it.c _ (read_keeps_entry (fetched_client w k) (fetched_turn w k)) (keys_of w h k.it.session k.it.c holds k.it.client_at)) (at_work_fetched w k) holds
@@ -128,10 +130,10 @@ pub leaves_outcome : (w : State) (h : List Item) (k : OutcomeStepped w) → Hold
 leaves_outcome w h k holds =
     let turn : SettleTurn = settle_turn k.x (told_by (settle_ask k.x) w.rows w.pairs) in
     leaves_idle w h k.it.session k.it.c (client_settled k.it.c k.x turn) phase.OpenOutcome k.it.client_at k.it.is_open outcome_waits
-    (record { begun = settled_keeps k.it.c k.x turn (outcome_has k.it.c k.it.is_open); keys = keys_settled h k.it.c k.x turn (keys_of w h k.it.session k.it.c holds k.it.client_at) }) (at_work_outcome w k) holds
+    (record { begun = settled_keeps k.it.c k.x turn (outcome_has k.it.c k.it.is_open); keys = keys_settled h k.it.c k.x turn (keys_of w h k.it.session k.it.c holds k.it.client_at) }) (at_work_after w (OfOutcome k) refl) holds
 
 pub leaves_outcome_failed : (w : State) (h : List Item) (k : OutcomeFailed w) → Holds w h → Leaves w h w.nodes (outcome_failed_state w k).clients
-leaves_outcome_failed w h k holds = leaves_same w h k.it.session k.it.c _ k.it.client_at refl (at_work_outcome_failed w k) holds
+leaves_outcome_failed w h k holds = leaves_same w h k.it.session k.it.c _ k.it.client_at refl (at_work_after w (OfOutcomeFailed k) refl) holds
 
 completed_becomes : (w : State) (h : List Item) (k : CompletedOne w) → Holds w h → Becomes h k.session k.c k.left
 completed_becomes w h k holds = elim k.left_is [
@@ -140,4 +142,4 @@ completed_becomes w h k holds = elim k.left_is [
 ]
 
 pub leaves_completed : (w : State) (h : List Item) (k : CompletedOne w) → Holds w h → Leaves w h w.nodes (completed_state w k).clients
-leaves_completed w h k holds = leaves_idle w h k.session k.c k.left (phase.Completing k.undo) k.client_at k.completing (completing_waits k.undo) (completed_becomes w h k holds) (at_work_completed w k) holds
+leaves_completed w h k holds = leaves_idle w h k.session k.c k.left (phase.Completing k.undo) k.client_at k.completing (completing_waits k.undo) (completed_becomes w h k holds) (at_work_after w (OfCompleted k) refl) holds

@@ -1,4 +1,6 @@
 -- Sessions and requests where a commit is asked, a request is accepted, a stamp is drawn, a commit is settled.
+use Rattle.isolation_laws.proofs.Requests.ClientMoves.{at_work_after}
+use Rattle.isolation_laws.proofs.Outcome.Outcomes.{OfAskedCommit}
 use Rattle.std.proofs.Common.{◌≡◌, ℕ, ◌<◌, ◌≤◌, nat_le, if◌then◌else◌, Bool, true, false, List, ◌++◌, Some, None, inl, inr, refl, sym, ◌∙◌, ap, subst, arith}
 use Rattle.std.proofs.lemmas.Bool.{leb-false}
 use Rattle.std.proofs.lemmas.Option.{same_Some, none-some}
@@ -20,10 +22,9 @@ use Rattle.isolation_laws.specs.Requests.{IsDrawnSoFar, AreAccepted, RequestFact
 use Rattle.isolation_laws.specs.Holds.{Holds}
 use Rattle.isolation_laws.proofs.Lookups.{held_by, held_set, instance_changed}
 use Rattle.isolation_laws.proofs.Owners.{accepts_now, begun_below_last}
-use Rattle.isolation_laws.proofs.Outcome.OutcomesOfRequests.{AskedCommit, asked_commit_state, Accepted, accepted_state}
+use Rattle.isolation_laws.proofs.Outcome.OutcomesOfRequests.{AskedCommit, asked_commit_state, Accepted, AcceptedSteadily, accepted_state}
 use Rattle.isolation_laws.proofs.Requests.PendingMoved.{IsAsked, pending_asked_commit, IsTaken, pending_accepted}
 use Rattle.isolation_laws.proofs.Requests.ClientsOpen.{same_at_work}
-use Rattle.isolation_laws.proofs.Requests.OpenAfter.{at_work_asked_commit}
 use Rattle.isolation_laws.proofs.Numbers.NumbersKept.{open_begun}
 use Rattle.isolation_laws.proofs.Requests.ClientsAfter.{begun_kept, has_by, KeysClient, keys_client, keys_set}
 use Rattle.isolation_laws.proofs.Requests.RequestsAfter.{open_waits, new_held, requests_new, requests_fewer}
@@ -70,9 +71,9 @@ requests_asked_commit w h k holds =
       ]) (here_fewer w.nodes (asked_commit_state w k).nodes h g (standing_asked_commit IsDrawnNow w k (λ is. is)) silent.on holds.requests.pending.here);
       settled = settled_silent w.nodes (asked_commit_state w k).nodes h g silent (standing_asked_commit IsSettledNow w k (λ is. is)) holds.requests.settled;
       accepted = accepted_fewer w.nodes (asked_commit_state w k).nodes (standing_asked_commit IsAcceptedNow w k (λ is. is)) holds.requests.accepted;
-      opened = open_silent w.clients (asked_commit_state w k).clients h g silent (at_work_asked_commit w k).opened holds.requests.opened;
+      opened = open_silent w.clients (asked_commit_state w k).clients h g silent (at_work_after w (OfAskedCommit k) refl).opened holds.requests.opened;
       keys = keys_silent (asked_commit_state w k).clients h g silent (keys_set w.clients h k.session (client_asked k.c) (asked_keys w h k holds) holds.requests.keys);
-      form = form_fewer w.setup w.clients (asked_commit_state w k).clients w.nodes (asked_commit_state w k).nodes (standing_asked_commit IsDrawnNow w k (λ is. is)) (at_work_asked_commit w k).placing holds.requests.form;
+      form = form_fewer w.setup w.clients (asked_commit_state w k).clients w.nodes (asked_commit_state w k).nodes (standing_asked_commit IsDrawnNow w k (λ is. is)) (at_work_after w (OfAskedCommit k) refl).placing holds.requests.form;
     }
 
 -- ---- a request is accepted: its transaction began within the instance's range
@@ -95,23 +96,23 @@ not_old start epoch false is free = leb-false start epoch is
 above_epoch : (i : InstanceEntry) (request : Request) (s t : ℕ) (keys : List ℕ) → request ≡ Commit s t keys → epoch_refusal i request ≡ None → i.epoch < t
 above_epoch i request s t keys is free = not_old t i.epoch (nat_le t i.epoch) refl (subst (λ (r : Request). epoch_refusal i r ≡ None) is free)
 
-accepted_within : (w : State) (h : List Item) (k : Accepted w) (s t : ℕ) (keys : List ℕ) → Holds w h → k.held.request ≡ Commit s t keys → (k.i.epoch < t) × (t ≤ k.i.last)
-accepted_within w h k s t keys holds is =
-    let now : k.i.term ≡ w.master.term = accepts_now w.setup w.seen k.reading k.node w.nodes w.master k.i holds.numbers.ranges holds.numbers.leases k.at k.steady k.in_time in
+accepted_within : (w : State) (h : List Item) (k : Accepted w) (s t : ℕ) (keys : List ℕ) → AcceptedSteadily w k → Holds w h → k.held.request ≡ Commit s t keys → (k.i.epoch < t) × (t ≤ k.i.last)
+accepted_within w h k s t keys steady holds is =
+    let now : k.i.term ≡ w.master.term = accepts_now w.setup w.seen k.reading k.node w.nodes w.master k.i holds.numbers.ranges holds.numbers.leases k.at steady k.in_time in
     let mine : session_of k.held.request ≡ k.session = holds.requests.requests.own k.node k.session k.i k.held.request k.held.progress k.at (held_by k.i k.session k.held k.has) in
     let request : k.held.request ≡ Commit k.session t keys = is ∙ ap (λ q. Commit q t keys) (ap session_of (sym is) ∙ mine) in
     let q : InFlight = record { session = k.session; start = t; keys = keys; stage = Waits } in
     let waits : HeldPending w.nodes q = record { node = k.node; instance_of = k.i; progress_of = progress.Asked; at = k.at; held = record { held = k.held; has = k.has; asks = request; stands = k.asked }; stage_is = refl } in
     (above_epoch k.i k.held.request s t keys is k.in_epoch, begun_below_last w.nodes w.master h k.node k.i k.session t holds.numbers.ranges holds.numbers.drawn holds.numbers.begun k.at now (holds.requests.pending.begun q (inl waits)))
 
-accepted_accepted : (w : State) (h : List Item) (k : Accepted w) → Holds w h → AreAccepted (accepted_state w k).nodes
-accepted_accepted w h k holds = record {
+accepted_accepted : (w : State) (h : List Item) (k : Accepted w) → AcceptedSteadily w k → Holds w h → AreAccepted (accepted_state w k).nodes
+accepted_accepted w h k steady holds = record {
   within = λ n s t keys j at held. elim (instance_changed w.nodes k.node n (moved k.i k.session k.held progress.Accepted) j at) [
     | inl here ↦
         let mine : HeldBy (moved k.i k.session k.held progress.Accepted) s (Commit s t keys) progress.Accepted = subst (λ (x : InstanceEntry). HeldBy x s (Commit s t keys) progress.Accepted) here.1 held in
         elim (held_set k.i k.session s (Some (record k.held { progress = progress.Accepted })) mine.held mine.has) [
           | inl now ↦
-              let within = accepted_within w h k s t keys holds (ap (λ x. x.request) (same_Some (record k.held { progress = progress.Accepted }) mine.held now.1) ∙ mine.asks) in
+              let within = accepted_within w h k s t keys steady holds (ap (λ x. x.request) (same_Some (record k.held { progress = progress.Accepted }) mine.held now.1) ∙ mine.asks) in
               (omega (arith, within.0, ap (λ x. x.epoch) here.1), omega (arith, within.1, ap (λ x. x.last) here.1))
           | inr old ↦
               let within = holds.requests.accepted.within k.node s t keys k.i k.at (record { held = mine.held; has = old.1; asks = mine.asks; stands = mine.stands }) in
@@ -121,8 +122,8 @@ accepted_accepted w h k holds = record {
   ];
 }
 
-pub requests_accepted : (w : State) (h : List Item) (k : Accepted w) → Holds w h → RequestFacts w.setup (accepted_state w k).nodes w.clients (h ++ k.items)
-requests_accepted w h k holds =
+pub requests_accepted : (w : State) (h : List Item) (k : Accepted w) → AcceptedSteadily w k → Holds w h → RequestFacts w.setup (accepted_state w k).nodes w.clients (h ++ k.items)
+requests_accepted w h k steady holds =
     let g : List Item = h ++ k.items in
     let silent : Silent h g = silent_quiet h k.items k.quiet in
     record {
@@ -134,7 +135,7 @@ requests_accepted w h k holds =
         | inr new ↦ taken_one w h g k q silent holds new
       ]) (here_fewer w.nodes (accepted_state w k).nodes h g (standing_accepted IsDrawnNow w k (λ is. is)) silent.on holds.requests.pending.here);
       settled = settled_silent w.nodes (accepted_state w k).nodes h g silent (standing_accepted IsSettledNow w k (λ is. is)) holds.requests.settled;
-      accepted = accepted_accepted w h k holds;
+      accepted = accepted_accepted w h k steady holds;
       opened = open_silent w.clients w.clients h g silent (λ s t e o. o) holds.requests.opened;
       keys = keys_silent w.clients h g silent holds.requests.keys;
       form = form_fewer w.setup w.clients w.clients w.nodes (accepted_state w k).nodes (standing_accepted IsDrawnNow w k (λ is. is)) (same_at_work w.clients).placing holds.requests.form;

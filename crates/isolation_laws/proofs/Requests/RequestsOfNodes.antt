@@ -1,4 +1,6 @@
 -- What outcomes leave of requests and sessions, where nodes change: the record's, a crash, an ask, the end of a request.
+use Rattle.isolation_laws.proofs.Requests.ClientMoves.{at_work_after}
+use Rattle.isolation_laws.proofs.Outcome.Outcomes.{OfAnsweredCommit, OfAskedBegin, OfCrashed, OfEnded}
 use Rattle.std.proofs.Common.{Option, ◌≡◌, ℕ, List, Some, ◌⊎◌, inl, inr, refl, sym, ◌∙◌, ap, subst}
 use Rattle.oracle_parts.specs.declared.instance.Progress.{Progress}
 use Rattle.std.specs.Prelude.{slice_set}
@@ -22,7 +24,7 @@ use Rattle.isolation_laws.proofs.Outcome.OutcomesOfStamps.{AnsweredCommit, answe
 use Rattle.isolation_laws.proofs.Requests.PendingAfter.{FewerServed, fewer_pending}
 use Rattle.isolation_laws.proofs.Requests.PendingFewer.{fewer_still, fewer_granted, fewer_renewed, fewer_extended, fewer_crashed, pending_asked_begin, fewer_ended_one, fewer_answered_commit, same_served}
 use Rattle.isolation_laws.proofs.Requests.ClientsOpen.{FewerAtWork, same_at_work}
-use Rattle.isolation_laws.proofs.Requests.OpenAfter.{crashed_at, at_work_crashed, at_work_asked_begin, at_work_ended, at_work_answered_commit}
+use Rattle.isolation_laws.proofs.Requests.OpenAfter.{crashed_at}
 use Rattle.isolation_laws.proofs.Requests.ClientsAfter.{BegunClient, begun_set, begun_kept, has_none, KeysClient, keys_client, keys_set, keys_closed, asking_closed}
 use Rattle.isolation_laws.proofs.Requests.RequestsAfter.{requests_fewer, free_waits, requests_over, requests_crashed, new_held, requests_new, FewerHeld}
 use Rattle.isolation_laws.proofs.Requests.Standing.{standing_alike, held_alike, standing_ended, standing_granted, held_granted, standing_renewed, held_renewed, standing_extended, held_extended, standing_asked_begin, standing_over, held_same, standing_same}
@@ -96,12 +98,12 @@ leaves_crashed w h k holds = record {
   have_begun = crash_begun w h k holds;
   requests = requests_crashed w.nodes w.clients k.node k.i k.at holds.requests.requests;
   starting = standing_ended IsDrawnNow w.nodes k.node;
-  pending = fewer_pending w.clients (crashed_state w k).clients w.nodes (crashed_state w k).nodes (at_work_crashed w k).placing (fewer_crashed w k);
+  pending = fewer_pending w.clients (crashed_state w k).clients w.nodes (crashed_state w k).nodes (at_work_after w (OfCrashed k) refl).placing (fewer_crashed w k);
   settled = standing_ended IsSettledNow w.nodes k.node;
   accepted = standing_ended IsAcceptedNow w.nodes k.node;
-  opened = (at_work_crashed w k).opened;
+  opened = (at_work_after w (OfCrashed k) refl).opened;
   keys = crash_keys w h k holds;
-  form = form_fewer w.setup w.clients (crashed_state w k).clients w.nodes (crashed_state w k).nodes (standing_ended IsDrawnNow w.nodes k.node) (at_work_crashed w k).placing holds.requests.form;
+  form = form_fewer w.setup w.clients (crashed_state w k).clients w.nodes (crashed_state w k).nodes (standing_ended IsDrawnNow w.nodes k.node) (at_work_after w (OfCrashed k) refl).placing holds.requests.form;
 }
 
 -- ---- the ask of a begin
@@ -122,9 +124,9 @@ leaves_asked_begin w h k holds = record {
   pending = pending_asked_begin w k;
   settled = standing_asked_begin IsSettledNow w k (λ is. is);
   accepted = standing_asked_begin IsAcceptedNow w k (λ is. is);
-  opened = (at_work_asked_begin w k).opened;
+  opened = (at_work_after w (OfAskedBegin k) refl).opened;
   keys = keys_set w.clients h k.session (client_asked k.c) (keys_asking h (client_asked k.c) (asks_begin w k)) holds.requests.keys;
-  form = form_fewer w.setup w.clients (asked_begin_state w k).clients w.nodes (asked_begin_state w k).nodes (standing_asked_begin IsDrawnNow w k (λ is. is)) (at_work_asked_begin w k).placing holds.requests.form;
+  form = form_fewer w.setup w.clients (asked_begin_state w k).clients w.nodes (asked_begin_state w k).nodes (standing_asked_begin IsDrawnNow w k (λ is. is)) (at_work_after w (OfAskedBegin k) refl).placing holds.requests.form;
 }
 
 -- ---- the end of a request
@@ -151,10 +153,10 @@ pub leaves_ended : (w : State) (h : List Item) (k : Ended w) → Holds w h → L
 leaves_ended w h k holds =
     let waits : WaitsFor k.held.request k.c = waits_for w h k.node k.session k.i k.held k.c holds k.at k.has k.client_at in
     leaves_over w h k.node k.session k.i k.held k.c (after_refusal k.held.request k.c) k.at k.has k.client_at
-    (refusal_becomes h k.session k.held.request k.c (keys_client w.clients h k.session k.c holds.requests.keys k.client_at) waits) (fewer_ended_one w k) (at_work_ended w k) holds
+    (refusal_becomes h k.session k.held.request k.c (keys_client w.clients h k.session k.c holds.requests.keys k.client_at) waits) (fewer_ended_one w k) (at_work_after w (OfEnded k) refl) holds
 
 pub leaves_answered_commit : (w : State) (h : List Item) (k : AnsweredCommit w) → Holds w h → Leaves w h (answered_commit_state w k).nodes (answered_commit_state w k).clients
 leaves_answered_commit w h k holds =
     let waits : WaitsFor (Commit k.asker k.start k.keys) k.c = subst (λ (x : Request). WaitsFor x k.c) k.request_is (waits_for w h k.node k.session k.i k.held k.c holds k.at k.has k.client_at) in
     leaves_over w h k.node k.session k.i k.held k.c (unless_gone k.c (answered_client k.by k.c k.commit)) k.at k.has k.client_at
-    (answer_becomes h k.session k.asker k.start k.commit k.keys k.by k.c (keys_client w.clients h k.session k.c holds.requests.keys k.client_at) waits) (fewer_answered_commit w k) (at_work_answered_commit w k) holds
+    (answer_becomes h k.session k.asker k.start k.commit k.keys k.by k.c (keys_client w.clients h k.session k.c holds.requests.keys k.client_at) waits) (fewer_answered_commit w k) (at_work_after w (OfAnsweredCommit k) refl) holds

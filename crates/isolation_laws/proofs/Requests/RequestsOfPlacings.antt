@@ -1,4 +1,6 @@
 -- Sessions and requests where a session places its own commit, or finds that it never will be placed.
+use Rattle.isolation_laws.proofs.Requests.ClientMoves.{at_work_after}
+use Rattle.isolation_laws.proofs.Outcome.Outcomes.{OfOwnNotPlaced, OfOwnPlaced}
 use Rattle.std.proofs.Common.{ℕ, List, ◌++◌, inl, inr, refl, sym, ◌∙◌, subst}
 use Rattle.history_book.specs.declared.item.Item.{Item}
 use Rattle.oracle_parts.specs.declared.instance.Progress.TheVariants as progress
@@ -15,7 +17,6 @@ use Rattle.isolation_laws.proofs.Outcome.OutcomesOfStamps.{answered_client}
 use Rattle.isolation_laws.proofs.Outcome.OutcomesOfPlacings.{AtPlacing, OwnPlaced, own_placed_state, own_placed_items, OwnNotPlaced, own_not_placed_state}
 use Rattle.isolation_laws.proofs.Numbers.Placings.{is_placing_now, own_in_flight, own_placing}
 use Rattle.isolation_laws.proofs.Requests.ClientsOpen.{answered_rests}
-use Rattle.isolation_laws.proofs.Requests.OpenAfter.{at_work_own_placed, at_work_own_not_placed}
 use Rattle.isolation_laws.proofs.Requests.OtherCommits.{placing_holds_none, none_of_placed}
 use Rattle.isolation_laws.proofs.Requests.ClientsAfter.{begun_kept, have_on, keys_client, keys_set}
 use Rattle.isolation_laws.proofs.Requests.ClientsBecome.{Becomes, placing_becomes}
@@ -51,17 +52,17 @@ requests_own_placed w h k holds =
       requests = requests_idle w.nodes w.clients k.it.session k.it.c new k.it.c.entry.state k.it.client_at refl (placing_waits k.it.c.entry.state (is_placing_now w k.it)) holds.requests.requests;
       starting = starting_fewer w.nodes w.nodes h g (standing_same IsDrawnNow w.nodes) all.on (λ n s t r i at held begun. all.begun r t begun) holds.requests.starting;
       pending = pending_places w.clients clients w.nodes w.nodes h g k.it.start k.it.commit
-          (none_of_placed w.clients w.nodes h (own_in_flight w k.it) new holds.isolated.stamped holds.requests.requests holds.requests.pending (own_placing w k.it) (answered_rests k.by k.it.c k.it.commit) (at_work_own_placed w k).placing)
+          (none_of_placed w.clients w.nodes h (own_in_flight w k.it) new holds.isolated.stamped holds.requests.requests holds.requests.pending (own_placing w k.it) (answered_rests k.by k.it.c k.it.commit) (at_work_after w (OfOwnPlaced k) refl).placing)
           (standing_same IsDrawnNow w.nodes) all holds.requests.pending;
       settled = settled_fewer w.nodes w.nodes h g (standing_same IsSettledNow w.nodes) all.on (λ n s t c d i at placed. elim (all.placed t d placed) [
         | inl old ↦ old
         | inr now ↦ absurd (own_not_settled w h k.it n s c how.Invalid i holds (subst (λ u. SettledAt w.nodes n s u c how.Invalid i) now.0 at))
       ]) holds.requests.settled;
       accepted = holds.requests.accepted;
-      opened = open_fewer w.clients clients h g (at_work_own_placed w k).opened (λ s t e o drew. places_drawn h g k.it.start k.it.commit t all drew) holds.requests.opened;
+      opened = open_fewer w.clients clients h g (at_work_after w (OfOwnPlaced k) refl).opened (λ s t e o drew. places_drawn h g k.it.start k.it.commit t all drew) holds.requests.opened;
       keys = own_keys w h g k all holds;
-      form = form_fewer w.setup w.clients clients w.nodes w.nodes (standing_same IsDrawnNow w.nodes) (at_work_own_placed w k).placing holds.requests.form;
+      form = form_fewer w.setup w.clients clients w.nodes w.nodes (standing_same IsDrawnNow w.nodes) (at_work_after w (OfOwnPlaced k) refl).placing holds.requests.form;
     }
 
 pub leaves_own_not_placed : (w : State) (h : List Item) (k : OwnNotPlaced w) → Holds w h → Leaves w h w.nodes (own_not_placed_state w k).clients
-leaves_own_not_placed w h k holds = leaves_idle w h k.it.session k.it.c (answered_client k.by k.it.c k.it.commit) k.it.c.entry.state k.it.client_at refl (placing_waits k.it.c.entry.state (is_placing_now w k.it)) (own_becomes w h k.it k.by holds) (at_work_own_not_placed w k) holds
+leaves_own_not_placed w h k holds = leaves_idle w h k.it.session k.it.c (answered_client k.by k.it.c k.it.commit) k.it.c.entry.state k.it.client_at refl (placing_waits k.it.c.entry.state (is_placing_now w k.it)) (own_becomes w h k.it k.by holds) (at_work_after w (OfOwnNotPlaced k) refl) holds

@@ -1,4 +1,6 @@
 -- Every outcome keeps the facts on the cells and the commit table.
+use Rattle.isolation_laws.proofs.Requests.ClientMoves.{at_work_after}
+use Rattle.isolation_laws.proofs.Outcome.Outcomes.{OfAskedBegin, OfOwnPlaced, Outcome, OfDrew, OfPlaced, OfAnsweredBegin, OfWrote, OfFetched, OfReadStepped, OfSweepListed, left_by, told_by_outcome}
 use Rattle.std.proofs.Common.{◌∷◌, ◌≡◌, ℕ, ◌+◌, List, ◌++◌, Option, Some, None, inl, inr, refl, ◌∙◌, ap}
 use Rattle.history_book.specs.Isolation.{last_write}
 use Rattle.history_book.specs.declared.item.Item.{Item}
@@ -15,9 +17,8 @@ use Rattle.isolation_laws.proofs.Holding.Framed.{settle_cells}
 use Rattle.isolation_laws.proofs.Numbers.Placings.{PlacedPending, placed_item, placed_pairs, placed_live, by_its_node, by_its_session}
 use Rattle.isolation_laws.proofs.Outcome.OutcomesOfStamps.{Drew, drew_items, AnsweredBegin, answered_begin_state, answered_begin_items}
 use Rattle.isolation_laws.proofs.Outcome.OutcomesOfWork.{read_turn, fetched_turn}
-use Rattle.isolation_laws.proofs.Outcome.Outcomes.{Outcome, OfAskedBegin, OfDrew, OfPlaced, OfOwnPlaced, OfAnsweredBegin, OfWrote, OfFetched, OfReadStepped, OfSweepListed, left_by, told_by_outcome}
 use Rattle.isolation_laws.proofs.Requests.PendingFewer.{pending_asked_begin, fewer_settled}
-use Rattle.isolation_laws.proofs.Requests.OpenAfter.{at_work_own_placed, at_work_asked_begin, at_work_fetched, at_work_read}
+use Rattle.isolation_laws.proofs.Requests.OpenAfter.{at_work_fetched, at_work_read}
 use Rattle.isolation_laws.proofs.Requests.RequestsOfBegins.{start_unbegun}
 use Rattle.isolation_laws.proofs.Stores.LiveAfter.{FewerLive, fewer_live, same_live, live_by_clients, live_by_nodes, live_drew, live_answered_begin}
 use Rattle.isolation_laws.proofs.Stores.Calm.{Calm, calm_turn, calm_draw}
@@ -62,10 +63,10 @@ cells_placed_one w h p clients nodes items quiet fewer holds =
 
 -- ---- every outcome
 pub cells_kept : (w : State) (h : List Item) (o : Outcome w) → Holds w h → CellFacts (left_by w o).clients (left_by w o).nodes (left_by w o).rows (left_by w o).pairs (h ++ told_by_outcome w o)
-cells_kept w h (OfAskedBegin k) holds = goes w h _ _ _ w.rows w.pairs (fewer_live w.clients _ w.nodes _ (at_work_asked_begin w k).opened (pending_asked_begin w k)) (calm_ask h k.session k.node) holds.cells
+cells_kept w h (OfAskedBegin k) holds = goes w h _ _ _ w.rows w.pairs (fewer_live w.clients _ w.nodes _ (at_work_after w (OfAskedBegin k) refl).opened (pending_asked_begin w k)) (calm_ask h k.session k.node) holds.cells
 cells_kept w h (OfDrew k) holds = goes w h _ _ _ w.rows w.pairs (live_drew w k) (calm_drew w h k) holds.cells
 cells_kept w h (OfPlaced k) holds = cells_placed_one w h (by_its_node w h k holds) w.clients _ k.items k.quiet (live_by_nodes w.clients w.nodes _ (fewer_settled w k.it k.by)) holds
-cells_kept w h (OfOwnPlaced k) holds = cells_placed_one w h (by_its_session w k) _ w.nodes k.items k.quiet (live_by_clients w.clients _ w.nodes (at_work_own_placed w k)) holds
+cells_kept w h (OfOwnPlaced k) holds = cells_placed_one w h (by_its_session w k) _ w.nodes k.items k.quiet (live_by_clients w.clients _ w.nodes (at_work_after w (OfOwnPlaced k) refl)) holds
 cells_kept w h (OfAnsweredBegin k) holds = cells_answered_begin w h k holds
 cells_kept w h (OfWrote k) holds = cells_wrote w h k holds
 cells_kept w h (OfFetched k) holds = goes w h _ _ _ w.rows w.pairs (live_by_clients w.clients _ w.nodes (at_work_fetched w k)) (calm_turn h k.first k.it.session k.start k.key (fetched_turn w k) k.quiet) holds.cells

@@ -1,5 +1,7 @@
 -- What may still be placed after each outcome: nothing that could not before, but the transaction of an answered begin.
-use Rattle.std.proofs.Common.{◌≡◌, ℕ, List, Option, Some, ◌⊎◌, inl, inr, sym, ◌∙◌, ap}
+use Rattle.std.proofs.Common.{refl, ◌≡◌, ℕ, List, Option, Some, ◌⊎◌, inl, inr, sym, ◌∙◌, ap}
+use Rattle.isolation_laws.proofs.Requests.ClientMoves.{at_work_after}
+use Rattle.isolation_laws.proofs.Outcome.Outcomes.{OfAskedCommit}
 use Rattle.oracle_parts.specs.Instance.{InstanceEntry}
 use Rattle.machine.specs.State.{Client, State}
 use Rattle.isolation_laws.specs.Words.{epoch_or_none}
@@ -10,7 +12,7 @@ use Rattle.isolation_laws.proofs.Requests.PendingAfter.{FewerPending, fewer_pend
 use Rattle.isolation_laws.proofs.Requests.PendingFewer.{pending_answered_begin, fewer_is_pending, stays_pending}
 use Rattle.isolation_laws.proofs.Requests.PendingMoved.{pending_asked_commit, pending_accepted, pending_drew}
 use Rattle.isolation_laws.proofs.Requests.ClientsOpen.{FewerOpen, FewerAtWork}
-use Rattle.isolation_laws.proofs.Requests.OpenAfter.{fewer_is_open, at_work_asked_commit, open_answered_begin}
+use Rattle.isolation_laws.proofs.Requests.OpenAfter.{fewer_is_open, open_answered_begin}
 use Rattle.isolation_laws.proofs.Requests.RequestsOfMoves.{opens}
 
 abbrev pub FewerLive : List Client → List (Option InstanceEntry) → List Client → List (Option InstanceEntry) → Type 0
@@ -33,7 +35,7 @@ live_by_nodes clients nodes new_nodes fewer = fewer_live clients clients nodes n
 
 -- a commit that was asked is that of a transaction that was open
 pub live_asked_commit : (w : State) (k : AskedCommit w) → FewerLive w.clients w.nodes (asked_commit_state w k).clients (asked_commit_state w k).nodes
-live_asked_commit w k t (inl o) = inl (fewer_is_open w.clients (asked_commit_state w k).clients t (at_work_asked_commit w k).opened o)
+live_asked_commit w k t (inl o) = inl (fewer_is_open w.clients (asked_commit_state w k).clients t (at_work_after w (OfAskedCommit k) refl).opened o)
 live_asked_commit w k t (inr p) = elim (pending_asked_commit w k p.coming p.pending) [
   | inl old ↦ inr (record { coming = p.coming; pending = old; start_is = p.start_is })
   | inr now ↦ inl (record {

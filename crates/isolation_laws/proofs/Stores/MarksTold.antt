@@ -1,4 +1,5 @@
--- Also for the proofs of cause_laws and call_laws: what a call on the stores leaves of the marks of the commit table, with what it
+-- For cause_laws and call_laws too.
+-- What a call on the stores leaves of the marks of the commit table, with what it
 -- tells. A mark is placed with its item, also where the call failed.
 use Rattle.std.proofs.Common.{◌≡◌, ℕ, List, [], ◌∷◌, ◌++◌, Option, Some, None, ◌⊎◌, inl, inr, refl, sym, ◌∙◌, subst}
 use Rattle.std.proofs.lemmas.Bool.{cases_eq}

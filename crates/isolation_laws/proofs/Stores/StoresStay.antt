@@ -1,4 +1,4 @@
--- For cause_laws and call_laws too.
+-- For call_laws too.
 -- Marks stay in the commit table, and rows that have a shadow of a placed commit keep it.
 use Rattle.std.proofs.Common.{◌≡◌, ◌≢◌, ℕ, Bool, true, false, cond, if◌then◌else◌, IsTrue, List, [], ◌∷◌, Option, Some, None, ◌⊎◌, inl, inr, refl, sym, ◌∙◌, ap, subst, arith}
 use Rattle.std.specs.Ordering.{nat_cmp, eq_by_cmp}

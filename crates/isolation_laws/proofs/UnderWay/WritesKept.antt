@@ -1,4 +1,6 @@
 -- The cells, the commit table and what is under way where a session writes, and where its write fails.
+use Rattle.isolation_laws.proofs.Requests.ClientMoves.{at_work_after}
+use Rattle.isolation_laws.proofs.Outcome.Outcomes.{OfWriteFailed}
 use Rattle.std.proofs.Common.{◌≡◌, ℕ, List, ◌++◌, Option, Some, None, ◌⊎◌, inl, inr, refl, sym, ◌∙◌, ap, subst}
 use Rattle.std.proofs.lemmas.Option.{same_Some, none-some}
 use Rattle.history_book.specs.Isolation.{Committed, last_write}
@@ -19,7 +21,7 @@ use Rattle.isolation_laws.proofs.Owners.{open_not_pending}
 use Rattle.isolation_laws.proofs.Requests.PendingAfter.{fewer_pending}
 use Rattle.isolation_laws.proofs.Requests.PendingFewer.{same_served, fewer_is_pending}
 use Rattle.isolation_laws.proofs.Requests.ClientsOpen.{aborted_rests}
-use Rattle.isolation_laws.proofs.Requests.OpenAfter.{at_work_wrote, at_work_write_failed}
+use Rattle.isolation_laws.proofs.Requests.OpenAfter.{at_work_wrote}
 use Rattle.isolation_laws.proofs.Outcome.OutcomesOfSessions.{AtOpen, WroteOne, wrote_state, wrote_items, WriteFailed, write_failed_state}
 use Rattle.isolation_laws.proofs.Requests.RequestsOfMoves.{opens}
 use Rattle.isolation_laws.proofs.Requests.CommitsInFlight.{goes_on}
@@ -89,21 +91,21 @@ unwritten h k t = record { on = λ x m. m; placed = λ u c placed. placed; other
 
 failed_not_live : (w : State) (h : List Item) (k : WriteFailed w) → Holds w h → Live (write_failed_state w k).clients w.nodes k.start → ⊥
 failed_not_live w h k holds (inl o) =
-    let was = (at_work_write_failed w k).opened o.session k.start o.epoch o.open_at in
+    let was = (at_work_after w (OfWriteFailed k) refl).opened o.session k.start o.epoch o.open_at in
     let session : o.session ≡ k.it.session = begun_once h o.session k.it.session k.start holds.isolated.stamped (begun_by w h o.session k.start was.client holds was.at was.state_is was.start_is) (begun_by w h k.it.session k.start k.it.c holds k.it.client_at k.it.is_open k.start_is) in
     elim (client_set w.clients k.it.session o.session (client_aborted (client_wrote k.it.c k.key)) o.open_at.client o.open_at.at) [
       | inl here ↦ (aborted_rests (client_wrote k.it.c k.key)).not_open (ap (λ (x : Client). x.entry.state) (sym here.1) ∙ o.open_at.state_is)
       | inr there ↦ there.0 session
     ]
 failed_not_live w h k holds (inr p) = open_not_pending w.nodes w.clients h k.it.session k.start _ holds.isolated.stamped holds.requests.requests holds.requests.pending (begun_by w h k.it.session k.start k.it.c holds k.it.client_at k.it.is_open k.start_is) (opens w k.it.session k.start k.it.c k.it.client_at k.it.is_open k.start_is)
-    (fewer_is_pending w.clients (write_failed_state w k).clients w.nodes w.nodes k.start (fewer_pending w.clients (write_failed_state w k).clients w.nodes w.nodes (at_work_write_failed w k).placing (same_served w.nodes)) p)
+    (fewer_is_pending w.clients (write_failed_state w k).clients w.nodes w.nodes k.start (fewer_pending w.clients (write_failed_state w k).clients w.nodes w.nodes (at_work_after w (OfWriteFailed k) refl).placing (same_served w.nodes)) p)
 
 failed_cells : (w : State) (h : List Item) (k : WriteFailed w) (rows : List Row) → (rows ≡ w.rows) ⊎ (rows ≡ put_row w.rows k.key k.start k.value) → Holds w h → CellFacts (write_failed_state w k).clients w.nodes rows w.pairs h
 failed_cells w h k rows (inl same) holds = subst (λ (rs : List Row). CellFacts (write_failed_state w k).clients w.nodes rs w.pairs h) (sym same)
-    (cells_calm w.clients (write_failed_state w k).clients w.nodes w.nodes w.rows w.pairs h h (λ t live. inl (live_by_clients w.clients (write_failed_state w k).clients w.nodes (at_work_write_failed w k) t live)) (calm_same h) holds.cells)
+    (cells_calm w.clients (write_failed_state w k).clients w.nodes w.nodes w.rows w.pairs h h (λ t live. inl (live_by_clients w.clients (write_failed_state w k).clients w.nodes (at_work_after w (OfWriteFailed k) refl) t live)) (calm_same h) holds.cells)
 failed_cells w h k rows (inr put) holds = subst (λ (rs : List Row). CellFacts (write_failed_state w k).clients w.nodes rs w.pairs h) (sym put)
     (cells_put w.clients (write_failed_state w k).clients w.nodes w.nodes w.rows w.pairs h h k.it.session k.key k.start k.value
-    (live_by_clients w.clients (write_failed_state w k).clients w.nodes (at_work_write_failed w k))
+    (live_by_clients w.clients (write_failed_state w k).clients w.nodes (at_work_after w (OfWriteFailed k) refl))
     (unwritten h k.key k.start)
     (begun_by w h k.it.session k.start k.it.c holds k.it.client_at k.it.is_open k.start_is)
     (unplaced_of w h k.it.session k.start k.it.c holds k.it.client_at k.it.is_open k.start_is)

@@ -1,7 +1,7 @@
 -- A session begins a read by a fetch of the key's cells up to its start. The read goes over these cells, down to the first
 -- that decides by itself; where no step on the stores is needed, it has its answer at once. A failed fetch ends the read
 -- without an answer.
-use Rattle.std.specs.Prelude.{ℕ, Bool, false, not, ◌&&◌, if◌then◌else◌, List, [], ◌∷◌, Option, None, Some, length}
+use Rattle.std.specs.Prelude.{ℕ, Bool, not, ◌&&◌, if◌then◌else◌, List, [], ◌∷◌, Option, None, Some, length}
 use Rattle.std.specs.Option.{option_or}
 use Rattle.stamp_base.specs.declared.stores.Store.{Store}
 use Rattle.stamp_base.specs.declared.stores.Store.TheVariants.{Cells}

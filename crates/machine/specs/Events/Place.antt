@@ -1,6 +1,6 @@
 -- A session places the record of a commit that was handed to it, unless the commit table has a mark in its place. So it
 -- learns how its transaction ends; where the store failed it does not, and the outcome is open.
-use Rattle.std.specs.Prelude.{ℕ, List, [], ◌∷◌, ◌++◌, Option, None, Some}
+use Rattle.std.specs.Prelude.{ℕ, [], ◌∷◌, ◌++◌, Option, None, Some}
 use Rattle.stamp_base.specs.declared.stores.Store.TheVariants.{Table}
 use Rattle.stamp_base.specs.declared.stores.Mark.{Mark}
 use Rattle.stamp_base.specs.declared.stores.Mark.TheVariants as mark

@@ -1,4 +1,4 @@
-use Rattle.machine.proofs.LeftAll.{refusals_left}
+use Rattle.machine.proofs.PartsKept.{refusals_left}
 use Rattle.machine.proofs.laws.refusals_leave_all.Goals as goal
 
 pub returns : goal.returns

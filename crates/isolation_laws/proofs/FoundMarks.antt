@@ -1,3 +1,4 @@
+-- For cause_laws too.
 -- What stands in the commit table in the place of a commit in flight is a mark.
 use Rattle.std.proofs.Common.{◌≡◌, ℕ, List, Some}
 use Rattle.stamp_base.specs.declared.stores.Mark.{Mark}

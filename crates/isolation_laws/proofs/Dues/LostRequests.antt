@@ -3,8 +3,7 @@ use Rattle.std.proofs.Common.{◌≡◌, ℕ, zero, suc, List, [], ◌∷◌, Op
 use Rattle.std.specs.Prelude.{slice_get, slice_index_or, take, All}
 use Rattle.std.proofs.lemmas.Option.{same_Some}
 use Rattle.std.proofs.lemmas.List.Elements.{All-nil, All-cons, All-take, All-head, All-tail, All-append}
-use Rattle.history_book.specs.declared.cause.Cause.TheVariants as cause
-use Rattle.history_book.specs.declared.item.Actor.TheVariants.{Node, Session}
+use Rattle.history_book.specs.declared.item.Actor.TheVariants.{Session}
 use Rattle.history_book.specs.declared.item.Item.{Item}
 use Rattle.history_book.specs.declared.item.Item.TheVariants as item
 use Rattle.client_parts.specs.declared.session.State.{State as SessionState}
@@ -14,12 +13,11 @@ use Rattle.oracle_parts.specs.declared.instance.Request.{Request}
 use Rattle.oracle_parts.specs.declared.instance.Request.TheVariants.{Begin, Commit}
 use Rattle.oracle_parts.specs.Instance.{InstanceEntry, session_of}
 use Rattle.machine.specs.State.{Client, State}
-use Rattle.machine.specs.Events.Crash.{loss_heard, loss_items, crashed_items, all_crashed_items, crash_on}
+use Rattle.machine.specs.Events.Crash.{loss_heard, loss_items, crashed_items, all_crashed_items}
 use Rattle.isolation_laws.specs.Words.{InstanceAt}
 use Rattle.isolation_laws.specs.Requests.{AreRequests}
 use Rattle.isolation_laws.proofs.Lookups.{held_by}
-use Rattle.cause_laws.specs.Due.{cause_of_loss, IsRefusal, Due, AreDue}
-use Rattle.cause_laws.proofs.DueItems.{refusal_due}
+use Rattle.isolation_laws.specs.Due.{cause_of_loss, IsRefusal, Due, AreDue}
 
 -- the item tells a session of a request among these that was lost
 pub record TellsLoss (node term : ℕ) (requests : List (Option Held)) (x : Item) : Type 0 where
@@ -91,6 +89,5 @@ crash_place : (w : State) (node : ℕ) (i : InstanceEntry) (items : List Item) �
 crash_place w node i items requests at told zero x found = subst (λ (y : Item). Due w [] y) (same_Some (item.Crash node i.term) x found) tt
 crash_place w node i items requests at told (suc place) x found = loss_due w node i (take place items) x requests at (found_told node i.term i.requests items place x told found) (All-take IsRefusal place items (all_refusals node i.term i.requests items told))
 
-pub crash_on_due : (w : State) (node : ℕ) (post : Option InstanceEntry) → AreRequests w.nodes w.clients → slice_get w.nodes node ≡ Some post → AreDue w (crash_on node post w.clients).items
-crash_on_due w node None requests at = refusal_due w (Node node) (cause.NoOracle node) (refl, at)
-crash_on_due w node (Some i) requests at = record { at = crash_place w node i (all_crashed_items node i.term i.requests w.clients) requests at (all_told node i.term i.requests w.clients) }
+pub crash_due : (w : State) (node : ℕ) (i : InstanceEntry) → AreRequests w.nodes w.clients → InstanceAt w.nodes node i → AreDue w (item.Crash node i.term ∷ all_crashed_items node i.term i.requests w.clients)
+crash_due w node i requests at = record { at = crash_place w node i (all_crashed_items node i.term i.requests w.clients) requests at (all_told node i.term i.requests w.clients) }

@@ -9,7 +9,7 @@ use Rattle.history_book.specs.declared.item.Actor.{Actor}
 use Rattle.history_book.specs.declared.item.Item.{Item}
 use Rattle.history_book.specs.declared.item.Item.TheVariants as item
 use Rattle.machine.specs.State.{State}
-use Rattle.cause_laws.specs.Due.{DueNow, NeedsNoRow, Due, AreDue}
+use Rattle.isolation_laws.specs.Due.{DueNow, NeedsNoRow, Due, AreDue}
 
 -- ---- due whatever stands before
 abbrev pub DueAnyway : State → Item → Type 0

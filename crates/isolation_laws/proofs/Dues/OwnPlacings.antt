@@ -12,16 +12,14 @@ use Rattle.history_book.specs.declared.item.Item.{Item}
 use Rattle.history_book.specs.declared.item.Item.TheVariants as item
 use Rattle.history_book.proofs.MemberLemmas.{AtEach-push}
 use Rattle.store_parts.specs.Pairs.{Pairs, mark_of}
-use Rattle.client_parts.specs.SessionSteps.{handed_commit}
 use Rattle.machine.specs.State.{Client, State}
-use Rattle.machine.specs.Events.Place.{place_by, place_on}
-use Rattle.isolation_laws.specs.Words.{ClientAt, Marked}
+use Rattle.machine.specs.Events.Place.{place_by}
+use Rattle.isolation_laws.specs.Words.{Marked}
 use Rattle.isolation_laws.specs.Pending.{InFlight, is_placing, PlacingAt, Has}
-use Rattle.isolation_laws.specs.Sound.{Stands}
-use Rattle.isolation_laws.proofs.Inversions.InversionOfPlacings.{IsHanded, is_handed}
-use Rattle.cause_laws.specs.Due.{Places, HowPlaced, Due, AreDue}
-use Rattle.cause_laws.proofs.DueItems.{two_free, all_due, plain_due}
-use Rattle.cause_laws.proofs.FoundMarks.{found_marked}
+use Rattle.isolation_laws.specs.Due.{Places, HowPlaced, Due, AreDue}
+use Rattle.isolation_laws.proofs.Dues.DueItems.{two_free, all_due, plain_due}
+use Rattle.isolation_laws.proofs.FoundMarks.{found_marked}
+use Rattle.isolation_laws.specs.Holds.{Holds}
 
 -- what the session tells last of a placing, behind items that are due
 last_due : (w : State) (s start commit : ℕ) (told : List Item) (why : Cause) → Places w s start commit → AreDue w told → HowPlaced w s start commit told why → AreDue w (told ++ item.Refused (Session s) why ∷ [])
@@ -29,8 +27,8 @@ last_due w s start commit told why places due how =
     AtEach-push (Due w) told (item.Refused (Session s) why) due (inr (inr (inr (record { session = s; actor_is = refl; start = start; commit = commit; places = places; how = how }))))
 
 -- what it meets is a mark
-met_marked : (w : State) (h : List Item) (s start commit : ℕ) (mark : Mark) → Stands w h → Places w s start commit → mark_of w.pairs start ≡ Some mark → Marked w.pairs start
-met_marked w h s start commit mark stands places is =
+met_marked : (w : State) (h : List Item) (s start commit : ℕ) (mark : Mark) → Holds w h → Places w s start commit → mark_of w.pairs start ≡ Some mark → Marked w.pairs start
+met_marked w h s start commit mark holds places is =
     let q : InFlight = record { session = s; start = start; keys = places.client.entry.keys; stage = Has commit } in
     let placing : PlacingAt w.clients q = record {
       client = places.client;
@@ -42,25 +40,20 @@ met_marked w h s start commit mark stands places is =
       commit_is = places.commit_is;
       stage_is = refl;
     } in
-    found_marked w h q commit mark stands.holds (inr placing) refl is
+    found_marked w h q commit mark holds (inr placing) refl is
 
-placing_fated : (w : State) (h : List Item) (s start commit : ℕ) (fate : Fate) (c : Client) (pairs : Pairs) (found : Option Mark) → Stands w h → Places w s start commit → mark_of w.pairs start ≡ found → AreDue w (place_by s start commit fate found c pairs).items
-placing_fated w h s start commit Works c pairs None stands places is = all_due w _ (two_free w _ _ (λ told. tt) (λ told. tt))
-placing_fated w h s start commit Works c pairs (Some mark) stands places is =
+pub placing_due : (w : State) (h : List Item) (s start commit : ℕ) (fate : Fate) (c : Client) (pairs : Pairs) (found : Option Mark) → Holds w h → Places w s start commit → mark_of w.pairs start ≡ found → AreDue w (place_by s start commit fate found c pairs).items
+placing_due w h s start commit Works c pairs None holds places is = all_due w _ (two_free w _ _ (λ told. tt) (λ told. tt))
+placing_due w h s start commit Works c pairs (Some mark) holds places is =
     let step : Item = item.Step (Session s) (PutFound start) in
-    last_due w s start commit (step ∷ []) (cause.Invalid start) places (plain_due w step (λ told. tt)) (refl, record { marked = met_marked w h s start commit mark stands places is; told_is = refl })
-placing_fated w h s start commit FailsUnchanged c pairs found stands places is =
+    last_due w s start commit (step ∷ []) (cause.Invalid start) places (plain_due w step (λ told. tt)) (refl, record { marked = met_marked w h s start commit mark holds places is; told_is = refl })
+placing_due w h s start commit FailsUnchanged c pairs found holds places is =
     let fault : Item = item.Fault (Session s) Table in
     last_due w s start commit (fault ∷ []) (cause.Open start) places (plain_due w fault (λ told. tt)) (refl, record { kept = []; kept_is = inl refl; told_is = refl })
-placing_fated w h s start commit FailsApplied c pairs None stands places is =
+placing_due w h s start commit FailsApplied c pairs None holds places is =
     let placed : Item = item.Placed start commit in
     let fault : Item = item.Fault (Session s) Table in
     last_due w s start commit (placed ∷ fault ∷ []) (cause.Open start) places (all_due w _ (two_free w placed fault (λ told. tt) (λ told. tt))) (refl, record { kept = placed ∷ []; kept_is = inr refl; told_is = refl })
-placing_fated w h s start commit FailsApplied c pairs (Some mark) stands places is =
+placing_due w h s start commit FailsApplied c pairs (Some mark) holds places is =
     let fault : Item = item.Fault (Session s) Table in
     last_due w s start commit (fault ∷ []) (cause.Open start) places (plain_due w fault (λ told. tt)) (refl, record { kept = []; kept_is = inl refl; told_is = refl })
-
-pub placing_due : (w : State) (h : List Item) (s : ℕ) (fate : Fate) (c : Client) (stamps : ℕ × ℕ) → Stands w h → ClientAt w.clients s c → handed_commit c.entry ≡ Some stamps → AreDue w (place_on s stamps.0 stamps.1 fate c w.pairs).items
-placing_due w h s fate c stamps stands at is =
-    let handed : IsHanded c.entry.state c.entry.start c.entry.commit stamps = is_handed c.entry.state c.entry.start c.entry.commit stamps is in
-    placing_fated w h s stamps.0 stamps.1 fate c _ (mark_of w.pairs stamps.0) stands (record { client = c; at = at; placing = handed.placing; start_is = handed.start_is; commit_is = handed.commit_is }) refl
