@@ -1,1 +1,5 @@
 mod PairLemmas
+mod Places
+mod RunLemmas
+mod ShareLemmas
+mod SoundLemmas

@@ -1,2 +1,4 @@
 pub mod Oldest
+pub mod Runs
+pub mod Sound
 pub use Rattle.oracle_parts.specs.Buckets

@@ -3,6 +3,11 @@ use Rattle.std.specs.Prelude.{◌≡◌, ℕ, List, [], ◌∷◌}
 use Rattle.oracle_parts.specs.declared.buckets.Recorded.{Recorded}
 use Rattle.oracle_parts.specs.Buckets.{oldest, without}
 
+-- the pair is the oldest one
+abbrev pub IsOldest : List Recorded → Recorded → Type 0
+IsOldest [] out = ⊥
+IsOldest (first ∷ others) out = out ≡ oldest first others
+
 -- the oldest pair went out, which had this commit
 abbrev pub ForgetsOldest : List Recorded → List Recorded → ℕ → Type 0
 ForgetsOldest [] after commit = ⊥

@@ -1,49 +1,29 @@
-ghost use Rattle.std.specs.Prelude.{◌≡◌, ◌≤◌, IfOk};
+// A bucket lies in a run of the memory that all buckets share: its pairs stand at the front of the run.
+ghost use Rattle.std.specs.Prelude.{◌≡◌, ◌<◌, ◌≤◌, ℕ, None, length, take};
 ghost use Rattle.oracle_parts.specs.Buckets as memory;
+ghost use Rattle.conflict_buckets.specs.Runs.{bucket_in};
 
 use crate::pairs;
 use oracle_parts::{Recorded, Verdict};
-use stamp_base::{KeyNo, NoMemory, Stamp};
-use std::alloc::Global;
-use std::marker::Model;
+use stamp_base::{KeyNo, Stamp};
 
-/// A bucket, with room for the pairs of `width` keys.
-#[derive(Drop)]
-pub struct Bucket {
-    width: usize,
-    kept: Vec<Recorded>,
-    water: u64,
+/// What a bucket has beside its run.
+#[derive(Clone, Copy)]
+pub struct Head {
+    /// How many pairs are kept.
+    pub len: usize,
+    pub water: u64,
 }
 
-impl Model for Bucket {
-    ghost use Rattle.std.specs.Prelude.{◌≤◌, vec_len, vec_capacity};
-    ghost use Rattle.oracle_parts.specs.Buckets.{Bucket as Held};
+impl Head {
+    /// Of an empty bucket.
+    pub const EMPTY: Head = Head { len: 0, water: 0 };
 
-    ghost Value = { Held };
-
-    ghost view = { λ b. record { width = b.width; kept = b.kept.items; water = b.water } };
-
-    ghost invariant = { λ b. (1 ≤ b.width) × (vec_len b.kept ≤ b.width) × (b.width ≤ vec_capacity b.kept) };
-}
-
-impl Bucket {
-    /// An empty bucket. All its memory is taken here.
-    pub fn open(alloc: Global, width: usize) -> Result<Bucket, NoMemory>
-        requires { 1 ≤ width }
-        ensures { IfOk result (λ bucket. bucket ≡ memory.empty_bucket width) }
+    /// What a start is told of a key of this bucket, which keeps these pairs.
+    pub fn key_verdict(&self, kept: &[Recorded], start: Stamp, key: KeyNo) -> Verdict
+        ensures { result ≡ memory.judged start key self.now.water (memory.kept_commit kept.now key) }
     {
-        Ok(Bucket {
-            width,
-            kept: Vec::with_capacity(alloc, width)?,
-            water: 0,
-        })
-    }
-
-    /// What a start is told of a key of this bucket.
-    pub fn key_verdict(&self, start: Stamp, key: KeyNo) -> Verdict
-        ensures { result ≡ memory.key_verdict self.now start key }
-    {
-        match pairs::kept_commit(&self.kept, key) {
+        match pairs::kept_commit(kept, key) {
             Some(by) => if start < by {
                 Verdict::Conflict { key, by }
             } else {
@@ -60,17 +40,29 @@ impl Bucket {
         }
     }
 
-    /// Keeps a pair of a key of this bucket.
-    pub fn keep(&mut self, pair: Recorded)
-        ensures { self.new ≡ memory.recorded self.old pair }
+    /// Keeps a pair of a key of this bucket, which may keep `width` pairs. The run has room for a new key.
+    pub fn keep(&self, run: &mut [Recorded], width: usize, pair: Recorded) -> Head
+        requires wide { 1 ≤ width }
+        requires len { self.now.len ≤ length run.old }
+        requires room { memory.kept_commit (take self.now.len run.old) pair.key ≡ None → self.now.len < width → self.now.len < length run.old }
+        ensures recorded { bucket_in width result run.new ≡ memory.recorded (bucket_in width self.now run.old) pair }
+        ensures run { length run.new ≡ length run.old }
+        ensures len { result.len ≤ length run.new }
     {
-        if pairs::kept_commit(&self.kept, pair.key).is_some() {
-            pairs::replace(&mut self.kept, pair);
-        } else if self.kept.len() < self.width {
-            pairs::add(&mut self.kept, pair);
+        let len = self.len;
+        if pairs::kept_commit(&run[..len], pair.key).is_some() {
+            pairs::replace(&mut run[..len], pair);
+            *self
+        } else if len < width {
+            pairs::add(run, len, pair);
+            Head {
+                len: len + 1,
+                water: self.water,
+            }
         } else {
-            self.water = pairs::forget_oldest(&mut self.kept).value();
-            pairs::add(&mut self.kept, pair);
+            let water = pairs::forget_oldest(&mut run[..len]).value();
+            pairs::add(run, len - 1, pair);
+            Head { len, water }
         }
     }
 }

@@ -1,8 +1,9 @@
-ghost use Rattle.std.specs.Prelude.{◌≡◌, ◌<◌, ◌≤◌, [], length, IfOk};
+ghost use Rattle.std.specs.Prelude.{◌≡◌, [], IfOk};
 ghost use Rattle.stamp_base.specs.Ranges.{IsWithin};
 ghost use Rattle.oracle_parts.specs.Buckets as memory;
 
-use crate::bucket::Bucket;
+use crate::bucket::Head;
+use crate::runs;
 use oracle_parts::{Recorded, Verdict};
 use stamp_base::{KeyList, KeyNo, NoMemory, Stamp};
 use std::alloc::Global;
@@ -12,33 +13,49 @@ use std::marker::Model;
 /// buckets, and each look-up walks over that one bucket alone.
 #[derive(Drop)]
 pub struct Buckets {
-    buckets: Vec<Bucket>,
+    width: usize,
+    /// How many pairs a bucket may come to: as many as its width, or as there are keys for it.
+    room: usize,
+    heads: Vec<Head>,
+    /// The runs of all buckets, each of `room` pairs.
+    runs: Vec<Recorded>,
 }
 
 impl Model for Buckets {
-    ghost use Rattle.std.specs.Prelude.{◌≤◌, List, vec_len};
+    ghost use Rattle.std.specs.Prelude.{List};
     ghost use Rattle.oracle_parts.specs.Buckets.{Bucket as Held};
+    ghost use Rattle.conflict_buckets.specs.Runs.{buckets_in};
+    ghost use Rattle.conflict_buckets.specs.Sound.{AreSound};
 
     ghost Value = { List Held };
 
-    ghost view = { λ b. b.buckets.items };
+    ghost view = { λ b. buckets_in b.width b.room b.heads.items b.runs.items };
 
-    ghost invariant = { λ b. 1 ≤ vec_len b.buckets };
+    ghost invariant = { λ b. AreSound b.width b.room b.heads.items b.runs.items };
 }
 
 impl Buckets {
-    /// Empty buckets. All their memory is taken here.
-    #[tactic(auto, unfolding(oracle_parts::specs::Buckets::record_pairs))]
+    /// Empty buckets. All their memory is taken here, in two pieces.
     pub fn open(alloc: Global, buckets: u64, width: u64) -> Result<Buckets, NoMemory>
         requires count { IsWithin 1 4096 buckets }
         requires width { IsWithin 1 64 width }
         ensures { IfOk result (λ opened. opened ≡ memory.contents buckets width []) }
     {
-        let mut opened = Vec::with_capacity(alloc, buckets as usize)?;
-        for i in 0..buckets {
-            opened.push(Bucket::open(alloc, width as usize)?)?;
-        }
-        Ok(Buckets { buckets: opened })
+        let count = buckets as usize;
+        let width = width as usize;
+        let room = runs::room_of(count, width);
+        let heads = vec![in alloc; Head::EMPTY; count]?;
+        let unused = Recorded {
+            key: KeyNo::FIRST,
+            commit: Stamp::FIRST,
+        };
+        let runs = vec![in alloc; unused; count * room]?;
+        Ok(Buckets {
+            width,
+            room,
+            heads,
+            runs,
+        })
     }
 
     /// The first key, in order, that has a kept commit above the start or is hidden from it.
@@ -69,24 +86,13 @@ impl Buckets {
     fn key_verdict(&self, start: Stamp, key: KeyNo) -> Verdict
         ensures { result ≡ memory.key_verdict (memory.bucket_of self.now key) start key }
     {
-        let bucket = &self.buckets[self.place_of(key)];
-        bucket.key_verdict(start, key)
+        runs::key_verdict(&self.heads, &self.runs, self.room, start, key)
     }
 
     fn keep_pair(&mut self, pair: Recorded)
         ensures { self.new ≡ memory.record_pair self.old pair }
     {
-        let place = self.place_of(pair.key);
-        let bucket = &mut self.buckets[place];
-        bucket.keep(pair);
-    }
-
-    /// The place of a key's bucket.
-    fn place_of(&self, key: KeyNo) -> usize
-        ensures value { result ≡ memory.place_of (length self.now) key }
-        ensures within { result < length self.now }
-    {
-        key.value() as usize % self.buckets.len()
+        runs::keep(&mut self.heads, &mut self.runs, self.width, self.room, pair);
     }
 }
 

@@ -5,6 +5,7 @@
 mod bucket;
 mod buckets;
 mod pairs;
+mod runs;
 
 pub use buckets::Buckets;
 pub use oracle_parts::{Recorded, Verdict};

@@ -1,8 +1,8 @@
 // The work on a bucket's pairs. Each walk goes over one bucket at most.
-ghost use Rattle.std.specs.Prelude.{◌≡◌, ◌+◌, ◌<◌, ◌≤◌, length, vec_len, vec_capacity, insert};
+ghost use Rattle.std.specs.Prelude.{◌≡◌, ◌+◌, ◌-◌, ◌<◌, ◌≤◌, length, take, insert};
 ghost use Rattle.oracle_parts.specs.declared.buckets.Recorded.{Recorded};
 ghost use Rattle.oracle_parts.specs.Buckets as memory;
-ghost use Rattle.conflict_buckets.specs.Oldest.{ForgetsOldest};
+ghost use Rattle.conflict_buckets.specs.Oldest.{ForgetsOldest, IsOldest};
 
 use oracle_parts::Recorded;
 use stamp_base::{KeyNo, Stamp};
@@ -33,19 +33,15 @@ pub fn replace(kept: &mut [Recorded], pair: Recorded)
     }
 }
 
-/// Adds a pair before those of greater keys. There is room for it.
-#[tactic(auto, unfolding(oracle_parts::specs::Buckets::added))]
-pub fn add(kept: &mut Vec<Recorded>, pair: Recorded)
-    requires { vec_len kept.old < vec_capacity kept.old }
-    ensures added { kept.new.items ≡ memory.added kept.old.items pair }
-    ensures len { vec_len kept.new ≡ vec_len kept.old + 1 }
-    ensures capacity { vec_capacity kept.old ≤ vec_capacity kept.new }
+/// Adds a pair to the first `len`, before those of greater keys. The run has room for it.
+pub fn add(run: &mut [Recorded], len: usize, pair: Recorded)
+    requires { len < length run.old }
+    ensures added { take (len + 1) run.new ≡ memory.added (take len run.old) pair }
+    ensures run { length run.new ≡ length run.old }
 {
-    let place = place_among(kept, pair.key);
-    match kept.insert(place, pair) {
-        Ok(()) => {}
-        Err(_) => unreachable!(),
-    }
+    let place = place_among(&run[..len], pair.key);
+    run.copy_within(place..len, place + 1);
+    run[place] = pair;
 }
 
 /// The number of pairs before the first of a greater key.
@@ -74,6 +70,13 @@ fn oldest(first: Recorded, others: &[Recorded]) -> Recorded
     out
 }
 
+fn oldest_of(kept: &[Recorded]) -> Recorded
+    requires { 0 < length kept.now }
+    ensures { IsOldest kept.now result }
+{
+    oldest(kept[0], &kept[1..])
+}
+
 fn older(a: Recorded, b: Recorded) -> Recorded
     ensures { result ≡ memory.older a b }
 {
@@ -84,28 +87,27 @@ fn older(a: Recorded, b: Recorded) -> Recorded
     }
 }
 
-/// Removes the pair of a key.
+/// Moves the pairs behind the one of a key over it.
 #[tactic(auto, unfolding(oracle_parts::specs::Buckets::without))]
-fn remove(kept: &mut Vec<Recorded>, key: KeyNo)
-    ensures removed { kept.new.items ≡ memory.without kept.old.items key }
-    ensures capacity { vec_capacity kept.new ≡ vec_capacity kept.old }
+fn remove(kept: &mut [Recorded], key: KeyNo)
+    ensures removed { take (length (memory.without kept.old key)) kept.new ≡ memory.without kept.old key }
+    ensures len { length kept.new ≡ length kept.old }
 {
     for i in 0..kept.len() {
         if kept[i].key == key {
-            kept.remove(i);
+            kept.copy_within(i + 1.., i);
             return;
         }
     }
 }
 
-/// Takes the oldest pair out of some, and tells its commit.
-pub fn forget_oldest(kept: &mut Vec<Recorded>) -> Stamp
-    requires { 0 < vec_len kept.old }
-    ensures oldest { ForgetsOldest kept.old.items kept.new.items result }
-    ensures len { vec_len kept.new + 1 ≡ vec_len kept.old }
-    ensures capacity { vec_capacity kept.new ≡ vec_capacity kept.old }
+/// Takes the oldest pair out of some, and tells its commit. The others stand at the front then.
+pub fn forget_oldest(kept: &mut [Recorded]) -> Stamp
+    requires { 0 < length kept.old }
+    ensures oldest { ForgetsOldest kept.old (take (length kept.old - 1) kept.new) result }
+    ensures len { length kept.new ≡ length kept.old }
 {
-    let out = oldest(kept[0], &kept[1..]);
+    let out = oldest_of(kept);
     remove(kept, out.key);
     out.commit
 }

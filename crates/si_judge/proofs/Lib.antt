@@ -9,3 +9,5 @@ mod AskIndexLemmas
 mod CommitLemmas
 mod OverlapIndexLemmas
 mod TurnLemmas
+mod SharerLemmas
+mod SecondLemmas

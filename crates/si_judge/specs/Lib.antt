@@ -6,6 +6,7 @@ pub mod OverlapIndex
 pub mod Follows
 pub mod Turns
 pub mod StampSets
+pub mod Sharers
 pub mod StampIndex
 pub mod AskStarts
 pub mod AskIndex

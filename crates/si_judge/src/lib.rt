@@ -13,6 +13,8 @@ mod overlap_index;
 mod reach;
 mod reads;
 mod search;
+mod second_commit;
+mod sharers;
 mod stamp_index;
 #[cfg(test)]
 mod tests;

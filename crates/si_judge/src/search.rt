@@ -6,6 +6,7 @@ ghost use Rattle.si_judge.specs.Suspects.{AreSuspects};
 use crate::ask_index::start_suspects;
 use crate::overlap_index::overlap_suspects;
 use crate::reads::first_wrong_read;
+use crate::second_commit::second_commit;
 use crate::stamp_index::stamp_suspects;
 use history_book::Item;
 use isolation_rules::{Pair, Rule, plain_pair, second_of};
@@ -38,47 +39,78 @@ fn indexed_pair(alloc: Global, rule: Rule, items: &[Item]) -> Result<Option<Pair
     match rule {
         Rule::Stamped => {
             let suspects = stamp_suspects(alloc, items)?;
-            Ok(first_of(Rule::Stamped, items, &suspects))
+            first_of(alloc, Rule::Stamped, items, &suspects)
         }
         Rule::Apart => {
             let suspects = overlap_suspects(alloc, items)?;
-            Ok(first_of(Rule::Apart, items, &suspects))
+            first_of(alloc, Rule::Apart, items, &suspects)
         }
         Rule::Read => first_wrong_read(alloc, items),
         Rule::Fresh => {
             let suspects = start_suspects(alloc, items)?;
-            Ok(first_of(Rule::Fresh, items, &suspects))
+            first_of(alloc, Rule::Fresh, items, &suspects)
         }
     }
 }
 
 /// The first pair that begins at a suspect.
-fn first_of(rule: Rule, items: &[Item], suspects: &[bool]) -> Option<Pair>
+fn first_of(
+    alloc: Global,
+    rule: Rule,
+    items: &[Item],
+    suspects: &[bool],
+) -> Result<Option<Pair>, NoMemory>
     requires premise { Premise rule items.now }
     requires suspects { AreSuspects rule items.now suspects.now }
-    ensures pair { MatchOption result ((i : ℕ) → i < length items.now → Passes rule items.now i)
-        (λ pair. IsLeastPair rule items.now pair.first pair.second) }
-    ensures within { IfSome result (λ pair. pair.first < length items.now × pair.second < length items.now) }
+    ensures pair { IfOk result (λ found. MatchOption found
+        ((i : ℕ) → i < length items.now → Passes rule items.now i)
+        (λ pair. IsLeastPair rule items.now pair.first pair.second)) }
+    ensures within { IfOk result (λ found. IfSome found
+        (λ pair. pair.first < length items.now × pair.second < length items.now)) }
 {
     for first in 0..items.len() {
-        if let Some(second) = second_at(rule, items, suspects, first) {
-            return Some(Pair { first, second });
+        if let Some(second) = second_at(alloc, rule, items, suspects, first)? {
+            return Ok(Some(Pair { first, second }));
         }
     }
-    None
+    Ok(None)
 }
 
 /// The first place that breaks the rule together with the place `first`, which is tried only where it is a suspect.
-fn second_at(rule: Rule, items: &[Item], suspects: &[bool], first: usize) -> Option<usize>
+fn second_at(
+    alloc: Global,
+    rule: Rule,
+    items: &[Item],
+    suspects: &[bool],
+    first: usize,
+) -> Result<Option<usize>, NoMemory>
     requires premise { Premise rule items.now }
     requires suspects { AreSuspects rule items.now suspects.now }
     requires within { first < length items.now }
-    ensures second { IsSecond rule items.now first result }
-    ensures within { IfSome result (λ place. place < length items.now) }
+    ensures second { IfOk result (λ found. IsSecond rule items.now first found) }
+    ensures within { IfOk result (λ found. IfSome found (λ place. place < length items.now)) }
 {
     if suspects[first] {
-        second_of(rule, items, first)
+        second_behind(alloc, rule, items, first)
     } else {
-        None
+        Ok(None)
+    }
+}
+
+/// The same of a suspect. That two commits wrote one key is looked up in a set, and not asked of all items for each pair.
+fn second_behind(
+    alloc: Global,
+    rule: Rule,
+    items: &[Item],
+    first: usize,
+) -> Result<Option<usize>, NoMemory>
+    requires premise { Premise rule items.now }
+    requires within { first < length items.now }
+    ensures second { IfOk result (λ found. IsSecond rule items.now first found) }
+    ensures within { IfOk result (λ found. IfSome found (λ place. place < length items.now)) }
+{
+    match rule {
+        Rule::Apart => second_commit(alloc, items, first),
+        _ => Ok(second_of(rule, items, first)),
     }
 }

@@ -93,7 +93,7 @@ fn may_follow(last: &Option<Writer>, writer: &Writer) -> bool
     }
 }
 
-fn place_of(key: KeyNo) -> usize
+pub fn place_of(key: KeyNo) -> usize
     ensures place { result ≡ key }
     ensures range { result < 4096 }
 {
