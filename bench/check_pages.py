@@ -172,7 +172,7 @@ def main():
         fault = fault_of(*row, call)
         if fault:
             wrong += 1
-            print(f'{row[0]}: {row[1]}\n  {fault}')
+            print(f'{row[0] or row[3]}: {row[1]}\n  {fault}')
     print(f'{len(COMMANDS) - wrong} commands give what the pages show, {wrong} do not')
     return 1 if wrong else 0
 
