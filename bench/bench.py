@@ -8,7 +8,7 @@ The program is crates/omid/out/omid, which stands there behind a green gate. Eve
 take turns with the runs they are compared with, so that a loaded machine slows both. User and system time are the kernel's
 own count of the child; `switches` are its voluntary context switches. Compare ratios of one run of this script, never times of two.
 """
-import argparse, os, random, statistics, subprocess, sys, tempfile, time
+import argparse, os, random, re, statistics, subprocess, sys, tempfile, time
 from dataclasses import dataclass
 
 ROOT = os.path.dirname(os.path.dirname(os.path.abspath(__file__)))
@@ -91,14 +91,21 @@ def at_random_by_master(lines, sessions=16, keys=50, nodes=3, takeovers=9, seed=
     return script
 
 
+def behind_the_take(script):
+    """The script for threads, on which nothing but names has the sessions wait until the first node has its term."""
+    begun = script.index("a take") + 1
+    sessions = sorted({line.split()[0] for line in script if re.match(r"s\d+ ", line)})
+    return [*script[:begun], "a post taken", *(f"{session} await taken" for session in sessions), *script[begun:]]
+
+
 def transactions(lines, sessions, nodes=1, takeovers=0, by_master=False):
     """Sessions side by side, each over and over: begin, read, write of a key of its own, commit; with takeovers by clock. Begins and
     commits name their node, or the master."""
-    script = [f"nodes {max(nodes, 1)}", *WIDE]
-    script += ["a take"]
+    script = [f"nodes {max(nodes, 1)}", *HEAD]
     homes = "abcdefgh"
-    each = (lines - 8) // sessions // 4
     chunks = takeovers + 1
+    # (beside the transactions stand the setup, three lines a session for its waits and posts, and eight for each takeover)
+    each = (lines - 8 - (3 * sessions + 8) * chunks) // sessions // 4
     for chunk in range(chunks):
         node = homes[chunk % max(nodes, 1)]
         if chunk:
@@ -116,7 +123,7 @@ def transactions(lines, sessions, nodes=1, takeovers=0, by_master=False):
                            f"s{session} commit {asked}"]
             if chunk + 1 < chunks:
                 script.append(f"s{session} post d{chunk + 1}-{session}")
-    return script
+    return behind_the_take(script)
 
 
 def hot_reader(lines):
@@ -302,7 +309,8 @@ def main():
             remembering(said.program, work, said.runs, lines)
         if said.only in "direct commits":
             directly(said.program, work, max(3, said.runs // 3),
-                     [("4 sessions", transactions(lines, 4)), ("16 sessions", transactions(lines, 16)), ("16 at random", at_random(lines))])
+                     [("4 sessions", transactions(lines, 4)), ("16 sessions", transactions(lines, 16)),
+                      ("16 at random", behind_the_take(at_random(lines - 18)))])
         if not said.only:
             storms(said.program, work, said.runs)
         if picked[1]:
