@@ -3,6 +3,7 @@
 
 mod driver;
 mod rest;
+mod round;
 
 pub use cluster_core::Cluster;
 pub use driver::run;

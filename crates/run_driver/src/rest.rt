@@ -1,17 +1,18 @@
 // What the threads have left undone, made by this thread. Nothing is left but where a thread could not be made.
-ghost use Rattle.std.specs.Prelude.{IfOk};
+ghost use Rattle.std.specs.Prelude.{◌≡◌, ◌+◌, length, IfOk, OnOk};
 ghost use Rattle.session_script.specs.Script.{data_of};
+ghost use Rattle.run_driver.specs.Rounds.{steps_before, IsWhole};
 ghost use Rattle.run_driver.specs.Runs.{RunsTo};
 
+use crate::round::{Round, ask, carry_on};
 use cluster_core::Cluster;
-use history_book::{Actor, Cause};
 use line_shares::ActorShare;
-use run_board::{Advance, Board};
+use run_board::Board;
 use stamp_base::{NoMemory, NodeNo, SessionNo, Setup, Stage};
 use std::sync::Wait;
 use std::sync::ledger::Ledger;
 use std::thread::Parker;
-use thread_steps::{StageStep, Steps};
+use thread_steps::{ActorSteps, Steps};
 use turn_rules::Turn;
 
 /// What the board gives once nothing is left.
@@ -33,7 +34,7 @@ pub fn finish<L: Ledger, R: Wait>(
                 shares = rest;
             }
         }
-        if !make_rest(rt, setup, &board, shares.as_mut_slice())? {
+        if !make_rest(rt, setup, &board, shares.as_mut_slice())?.made() {
             wait_for_ever(rt);
         }
     }
@@ -48,102 +49,63 @@ fn wait_for_ever<R: Wait>(rt: &R) {
     }
 }
 
-// Every turn that may be made now. False where there is none.
-fn make_rest<L: Ledger, R: Wait>(
+// Every turn that may be made now: each actor goes as far as it can, and then each stage of each node is asked for a step for each
+// session.
+fn make_rest<L: Ledger, R: Wait, B: Steps + ActorSteps<L>>(
     rt: &R,
     setup: &Setup,
-    board: &Board<L>,
+    board: &B,
     shares: &mut [ActorShare<L>],
-) -> Result<bool, NoMemory> {
-    let mut made = false;
+) -> Result<Round, NoMemory>
+    ensures { IfOk result (IsWhole setup.now.nodes (length shares.old)) }
+{
+    let mut round = Round::none();
     for share in shares.iter_mut() {
-        made |= make_own(rt, setup, board, share)?;
+        let stands = carry_on(rt, board, setup.nodes, share)?;
+        round.add_actor(share, stands);
     }
     for number in 0..setup.nodes {
-        if let Some(node) = NodeNo::new(number) {
-            made |= serve_node(rt, board, node)?;
+        match NodeNo::new(number) {
+            Some(node) => serve_node(rt, board, node, &mut round)?,
+            None => unreachable!(),
         }
     }
-    Ok(made)
-}
-
-fn make_own<L: Ledger, R: Wait>(
-    rt: &R,
-    setup: &Setup,
-    board: &Board<L>,
-    share: &mut ActorShare<L>,
-) -> Result<bool, NoMemory> {
-    let mut made = false;
-    for _ in rt.forever() {
-        if let Actor::Session(_) = share.actor() {
-            aim_at_master(rt, setup, board, share);
-        }
-        match board.advance(rt, share) {
-            Advance::Did { .. } => made = true,
-            Advance::Waits(_) | Advance::Ended => return Ok(made),
-            Advance::NoMemory => return Err(NoMemory),
-        }
-    }
-    unreachable!()
-}
-
-// The node whose oracle has the greatest term. Where there is none the share stays aimed as it was.
-fn aim_at_master<L: Ledger, R: Wait>(
-    rt: &R,
-    setup: &Setup,
-    board: &Board<L>,
-    share: &mut ActorShare<L>,
-) {
-    let mut greatest = 0;
-    for number in 0..setup.nodes {
-        if let Some(node) = NodeNo::new(number) {
-            let term = board.term_of(rt, node).map_or(0, |term| term.value());
-            if term > greatest {
-                greatest = term;
-                share.aim(node);
-            }
-        }
-    }
+    Ok(round)
 }
 
 // A step of each stage of the node for each session.
-fn serve_node<L: Ledger, R: Wait>(
+fn serve_node<R: Wait, B: Steps>(
     rt: &R,
-    board: &Board<L>,
+    board: &B,
     node: NodeNo,
-) -> Result<bool, NoMemory> {
-    let mut made = false;
+    round: &mut Round,
+) -> Result<(), NoMemory>
+    requires { round.old.steps ≡ steps_before node 0 }
+    ensures steps { OnOk result (round.new.steps ≡ steps_before (node + 1) 0) }
+    ensures actors { round.new.actors ≡ round.old.actors }
+{
     for number in 0..SessionNo::COUNT as u64 {
-        if let Some(session) = SessionNo::new(number) {
-            for stage in [Stage::Request, Stage::Persist, Stage::Reply] {
-                made |= serve_session(rt, board, node, stage, session)?;
-            }
+        match SessionNo::new(number) {
+            Some(session) => serve_session(rt, board, node, session, round)?,
+            None => unreachable!(),
         }
     }
-    Ok(made)
+    Ok(())
 }
 
-// Under the term of the node's oracle.
-fn serve_session<L: Ledger, R: Wait>(
+fn serve_session<R: Wait, B: Steps>(
     rt: &R,
-    board: &Board<L>,
+    board: &B,
     node: NodeNo,
-    stage: Stage,
     session: SessionNo,
-) -> Result<bool, NoMemory> {
-    let Some(term) = board.term_of(rt, node) else {
-        return Ok(false);
-    };
-    match board.stage_step(rt, node, term, stage, session) {
-        StageStep::NoMemory => Err(NoMemory),
-        step => Ok(is_made(&step)),
-    }
-}
-
-// A request that waits for an earlier commit makes nothing by itself.
-fn is_made(step: &StageStep) -> bool {
-    !matches!(
-        step,
-        StageStep::Held | StageStep::Stale { .. } | StageStep::Refused(Cause::NotYet { .. })
-    )
+    round: &mut Round,
+) -> Result<(), NoMemory>
+    requires { round.old.steps ≡ steps_before node session }
+    ensures steps { OnOk result (round.new.steps ≡ steps_before node (session + 1)) }
+    ensures actors { round.new.actors ≡ round.old.actors }
+{
+    round.add_step(ask(rt, board, node, session, Stage::Request)?);
+    round.add_step(ask(rt, board, node, session, Stage::Persist)?);
+    round.add_step(ask(rt, board, node, session, Stage::Reply)?);
+    Ok(())
 }
