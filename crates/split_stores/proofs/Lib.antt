@@ -1,3 +1,4 @@
 mod Handing
 mod Giving
 mod Agreeing
+mod LogLemmas

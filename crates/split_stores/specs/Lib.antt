@@ -4,3 +4,4 @@ pub mod Swaps
 pub mod Acts
 pub mod Agrees
 pub mod Making
+pub mod Logs

@@ -8,6 +8,7 @@ mod event;
 mod lent;
 mod making;
 mod parts;
+mod seat;
 mod swapping;
 
 pub use acting::{Acted, act};
@@ -16,3 +17,4 @@ pub use lent::Lent;
 pub use parts::{
     CellsPart, ClockPart, JanitorPart, MasterPart, NamesPart, NodePart, SessionPart, TablePart,
 };
+pub use seat::{ActorSeat, Entry};
