@@ -5,3 +5,4 @@ pub mod Acts
 pub mod Agrees
 pub mod Making
 pub mod Logs
+pub mod Merging

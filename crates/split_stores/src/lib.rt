@@ -7,6 +7,7 @@ mod deciding;
 mod event;
 mod lent;
 mod making;
+mod merging;
 mod parts;
 mod seat;
 mod swapping;
