@@ -3,3 +3,6 @@ mod Giving
 mod Agreeing
 mod LogLemmas
 mod OrderLemmas
+mod OneMore
+mod Filled
+mod Agreement

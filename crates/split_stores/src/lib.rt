@@ -2,6 +2,7 @@
 #![tactic(auto)]
 
 mod acting;
+mod agreeing;
 mod calls;
 mod deciding;
 mod event;
@@ -13,6 +14,7 @@ mod seat;
 mod swapping;
 
 pub use acting::{Acted, act};
+pub use agreeing::agrees;
 pub use event::Event;
 pub use lent::Lent;
 pub use parts::{
