@@ -1,8 +1,10 @@
 mod Handing
 mod Giving
-mod Agreeing
-mod LogLemmas
-mod OrderLemmas
+mod Agreement
 mod OneMore
 mod Filled
-mod Agreement
+mod LogLemmas
+mod OrderLemmas
+mod DecidingItems
+mod ReplayLemmas
+mod MergedOrders

@@ -1,12 +1,12 @@
 -- Numbers in order, of which each from the first on stands once.
-use Rattle.std.proofs.Common.{◌≡◌, ◌≢◌, ℕ, zero, suc, ◌+◌, ◌<◌, ◌≤◌, ◌==◌, true, false, List, [], ◌∷◌, length, refl, sym, ap, ◌∙◌, subst, arith, ne_eqb, eq-eqb, inl, inr}
+use Rattle.std.proofs.Common.{◌≡◌, ◌≢◌, ℕ, zero, suc, ◌+◌, ◌<◌, ◌≤◌, ◌==◌, List, [], ◌∷◌, length, refl, sym, ap, ◌∙◌, subst, arith, ne_eqb, eq-eqb, inl, inr}
 use Rattle.std.specs.Prelude.{sum_by, if◌then◌else◌}
 use Rattle.std.proofs.lemmas.Bool.{cases_Bool, eqb-true, eqb-false}
 use Rattle.std.proofs.lemmas.List.Sums.{sum_by-cons, sum_by-append}
 use Rattle.stamp_base.specs.declared.memory.NoMemory.{NoMemory}
-use Rattle.std.specs.Prelude.{Result, Ok, Err, IfOk, All, flat_map, get_or, map, ◌++◌}
+use Rattle.std.specs.Prelude.{Result, Ok, Err, IfOk, get_or, ◌++◌}
 use Rattle.std.specs.List.Sorted.{IsPermutation, IsNonDecreasingBy}
-use Rattle.std.proofs.lemmas.List.Sorted.{IsPermutation-refl, IsPermutation-map, sum_by-IsPermutation, IsPermutation-trans, IsPermutation-append_right, IsPermutation-append_comm}
+use Rattle.std.proofs.lemmas.List.Sorted.{IsPermutation-map, sum_by-IsPermutation, IsPermutation-trans, IsPermutation-append_right, IsPermutation-append_comm}
 use Rattle.std.proofs.lemmas.List.Concat.{flat_map-append, flat_map-cons}
 use Rattle.std.proofs.Common.{append_assoc, append-nil}
 use Rattle.std.proofs.lemmas.List.{map-append}
@@ -114,7 +114,7 @@ tick_order entries merged last all order drawn =
 pub gathered_more : (whole : List Entry) (old new : List Logged) (log : Logged) (merged more : List Entry) → old ≡ new ++ log ∷ [] → more ≡ merged ++ log.entries → IsPermutation whole (logs_of old ++ merged) → IsPermutation whole (logs_of new ++ more)
 gathered_more whole old new log merged more split is h =
     let gone : logs_of old ≡ logs_of new ++ log.entries =
-        ap logs_of split ∙ flat_map-append (λ (l : Logged). l.entries) new (log ∷ []) ∙ ap (λ l. logs_of new ++ l) (flat_map-cons (λ (l : Logged). l.entries) log [] ∙ append-nil log.entries) in
+    ap logs_of split ∙ flat_map-append (λ (l : Logged). l.entries) new (log ∷ []) ∙ ap (λ l. logs_of new ++ l) (flat_map-cons (λ (l : Logged). l.entries) log [] ∙ append-nil log.entries) in
     let before = subst (λ l. IsPermutation whole (l ++ merged)) gone h in
     let assoc = subst (IsPermutation whole) (append_assoc (logs_of new) log.entries merged) before in
     let turned = IsPermutation-append_right (logs_of new) (log.entries ++ merged) (merged ++ log.entries) (IsPermutation-append_comm log.entries merged) in

@@ -1,4 +1,4 @@
-use Rattle.std.specs.Prelude.{◌≡◌, ◌+◌, ◌*◌, ◌^◌, ◌≤◌, ◌++◌, All, vec_len}
+use Rattle.std.specs.Prelude.{◌≡◌, ◌+◌, ◌*◌, ◌≤◌, ◌++◌, All, vec_len}
 use Rattle.std.specs.List.Sorted.{IsPermutation}
 use Rattle.split_stores.specs.Logs.{ticks_of, risen_by}
 use Rattle.split_stores.specs.Merging.{logs_of, drawn_by, parts_by, IsOf}

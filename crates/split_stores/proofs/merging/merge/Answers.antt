@@ -1,4 +1,4 @@
-use Rattle.std.proofs.Common.{◌≡◌, sym, subst}
+use Rattle.std.proofs.Common.{subst}
 use Rattle.tick_word.specs.Seats.{AreTicks}
 use Rattle.split_stores.proofs.OrderLemmas.{ordered_by, risen_by_most}
 use Rattle.split_stores.proofs.merging.merge.Goals as goal
