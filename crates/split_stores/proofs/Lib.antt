@@ -1,6 +1,12 @@
 mod Handing
 mod Giving
+mod Agreement
 mod OneMore
 mod Filled
 mod FoundParts
 mod Agreement
+mod LogLemmas
+mod OrderLemmas
+mod DecidingItems
+mod ReplayLemmas
+mod MergedOrders

@@ -5,3 +5,8 @@ pub mod Lookups
 pub mod Acts
 pub mod Agrees
 pub mod Making
+pub mod Logs
+pub mod Plans
+pub mod Merging
+pub mod Merged
+pub mod Orders

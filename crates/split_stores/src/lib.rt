@@ -6,15 +6,24 @@ mod agreeing;
 mod calls;
 mod deciding;
 mod event;
+mod laws;
 mod lent;
 mod making;
+mod merging;
 mod parts;
+mod plan;
+mod seat;
+mod settling;
 mod swapping;
+mod timing;
 
 pub use acting::{Acted, act};
 pub use agreeing::agrees;
 pub use event::Event;
+pub use laws::{settled_by_plans, settled_is_planned};
 pub use lent::Lent;
 pub use parts::{
     CellsPart, ClockPart, JanitorPart, MasterPart, NamesPart, NodePart, SessionPart, TablePart,
 };
+pub use seat::{ActorSeat, Entry};
+pub use settling::SettleStop;

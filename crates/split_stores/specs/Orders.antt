@@ -1,0 +1,40 @@
+-- Merged logs as events in the order in which they were made, each at the reading of its clock.
+use Rattle.std.specs.Prelude.{◌≡◌, ℕ, List, [], ◌∷◌, Option, None, Some}
+use Rattle.stamp_base.specs.SetupNumbers.{AreInRange}
+use Rattle.script_data.specs.Data.{ScriptData}
+use Rattle.line_steps.specs.Runs.{Played}
+use Rattle.line_steps.specs.Laws.{IsPlayable}
+use Rattle.line_steps.specs.Planned.{with_tick, ticks_in, Planned}
+use Rattle.planned_laws.specs.Orders.{TimedEvent}
+use Rattle.cluster_core.specs.Whole.{Whole}
+use Rattle.split_stores.specs.declared.event.Event.{Event}
+use Rattle.split_stores.specs.declared.event.Event.TheVariants as event
+use Rattle.split_stores.specs.declared.seat.Entry.{Entry}
+use Rattle.split_stores.specs.Merged.{timed_in, played_with, IsSettledAt, Settled}
+
+-- by how much the event raises the base clock, if it does
+abbrev pub rise_by : Event → Option ℕ
+rise_by (event.Tick by) = Some by
+rise_by _ = None
+
+unfoldable pub timed_entries : ScriptData → List Entry → Played → List TimedEvent
+timed_entries script [] p = []
+timed_entries script (e ∷ es) p = record { event = timed_in script p e.event; tick = rise_by e.event } ∷ timed_entries script es (played_with script p e.event)
+
+-- by how much they raise the base clock, in order
+unfoldable pub rises_in : List Entry → List ℕ
+rises_in [] = []
+rises_in (e ∷ es) = with_tick (rise_by e.event) (rises_in es)
+
+abbrev pub without_lines : ScriptData → ScriptData
+without_lines script = record script { lines = [] }
+
+-- what is settled by a script's plan is settled by the script
+abbrev pub SettledByPlans : Type 0
+SettledByPlans = (script : ScriptData) (logs : List Entry) (whole : Whole) (settled : Settled (without_lines script) logs whole) → IsSettledAt script settled.merged whole
+
+-- and its history is as planned, where the clock ticks as the script's lines say
+abbrev pub SettledIsPlanned : Type 0
+SettledIsPlanned =
+    (script : ScriptData) (logs : List Entry) (whole : Whole) (settled : Settled (without_lines script) logs whole) → AreInRange script.setup → IsPlayable script 0 script.lines → rises_in settled.merged ≡ ticks_in script.lines →
+    Planned script whole.history
