@@ -10,12 +10,12 @@ ghost use Rattle.turn_engine.specs.Making.{Makes, halted, is_told, finds_no_stam
 
 use crate::ScriptRun;
 use crate::marks::note_stage;
-use posted_names::PostedNames;
 use crate::seated::{go_on, pass_all};
 use history_book::Item;
 use line_steps::{Halt, refused};
 use machine::Event;
 use planned_cluster::Stopped;
+use posted_names::PostedNames;
 use stamp_base::{NoMemory, NodeNo};
 use turn_rules::{
     Turn, own_turns_are_told, quiet_turns_change_nothing, stage_turns_are_told, was_asked,

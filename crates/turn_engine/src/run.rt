@@ -9,11 +9,11 @@ ghost use Rattle.turn_rules.specs.Lawful.{AreLawful};
 ghost use Rattle.turn_rules.specs.Told.{AreForThreads};
 ghost use Rattle.turn_engine.specs.Run.{reached_by};
 
-use posted_names::PostedNames;
 use crate::seated::{Seated, all_seated, pass_all, see_sessions};
 use history_book::Item;
 use planned_cluster::{Cluster, PlannedCluster};
 use port_io::{PlannedWeather, Weather};
+use posted_names::PostedNames;
 use session_script::Script;
 use stamp_base::NoMemory;
 use std::alloc::Global;
