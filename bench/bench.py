@@ -93,11 +93,12 @@ def at_random_by_master(lines, sessions=16, keys=50, nodes=3, takeovers=9, seed=
 
 def transactions(lines, sessions, nodes=1, takeovers=0, by_master=False):
     """Sessions side by side, each over and over: begin, read, write of a key of its own, commit; with takeovers by clock. Begins and
-    commits name their node, or the master."""
+    commits name their node, or the master. No session starts before the first take, so that every transaction commits."""
     script = [f"nodes {max(nodes, 1)}", *WIDE]
-    script += ["a take"]
+    script += ["a take", "a post t0"]
     homes = "abcdefgh"
-    each = (lines - 8) // sessions // 4
+    # some lines are for the awaits and the takeovers
+    each = (lines - 640) // sessions // 4
     chunks = takeovers + 1
     for chunk in range(chunks):
         node = homes[chunk % max(nodes, 1)]
@@ -109,8 +110,7 @@ def transactions(lines, sessions, nodes=1, takeovers=0, by_master=False):
             before = homes[(chunk - 1) % max(nodes, 1)]
             script += [f"{before} await c{chunk}", f"{before} crash"]
         for session in range(sessions):
-            if chunk:
-                script.append(f"s{session} await t{chunk}")
+            script.append(f"s{session} await t{chunk}")
             for turn in range(each // chunks):
                 script += [f"s{session} begin {asked}", f"s{session} read k{session}", f"s{session} write k{session} v{turn}",
                            f"s{session} commit {asked}"]

@@ -78,7 +78,9 @@ pub fn wait_quietly<R: Wait, B: Steps + Sync, G: Gate>(
         shared.queues.wait(rt, Waiter::Actor(left.actor));
         return;
     }
-    shared.queues.wait_a_while(rt, left.actor, Duration::from_millis(SLICE));
+    shared
+        .queues
+        .wait_a_while(rt, left.actor, Duration::from_millis(SLICE));
     if quiet.goes_on(shared.board.turns_made(rt)) {
         tell(rt, shared, left, quiet.asked);
     }
