@@ -185,6 +185,43 @@ impl<B: Steps, G: Gate> Desk<'_, B, G> {
         end
     }
 
+    /// Waits until the tickets that are there are to be taken, or the queues are closed.
+    pub fn gather<R: Wait>(&self, rt: &R) {
+        for _ in rt.forever() {
+            if self.queues.is_due(self.node) || self.queues.closed() {
+                return;
+            }
+            self.queues
+                .wait(rt, Waiter::Stage(self.node, Stage::Request, 0));
+        }
+        unreachable!()
+    }
+
+    /// For a request stage that found the pool out: asks for a batch, and where it has asked since it last waited, waits until it is
+    /// woken. Ends the stage where the queues are closed.
+    pub fn wait_for_empty<R: Wait>(&self, rt: &R, asked: bool) -> Result<(), StageEnd> {
+        if asked {
+            return self.wait(rt, Stage::Request, 0);
+        }
+        self.go_on()?;
+        self.queues.ask_for_batch(self.node);
+        Ok(())
+    }
+
+    /// For a persist worker that found no batch: tells that it is going to wait, and where it has told so already, waits until it is
+    /// woken. Ends the stage where the queues are closed.
+    pub fn wait_for_batch<R: Wait>(&self, rt: &R, worker: u64) -> Result<(), StageEnd> {
+        if self.queues.rest_for_batch(self.node, worker) {
+            return self.wait(rt, Stage::Persist, worker);
+        }
+        self.go_on()
+    }
+
+    /// Wakes the session's thread where its line waits for the stamp that was drawn.
+    pub fn tell_stamp(&self, session: SessionNo) {
+        self.queues.tell_stamp(session);
+    }
+
     /// Wakes the session's thread.
     pub fn wake_session(&self, session: SessionNo) {
         self.queues.wake(Waiter::Actor(Actor::Session(session)));

@@ -75,7 +75,7 @@ fn turn<R: Wait, B: Steps, G: Gate>(
             desk.tell_room(Stage::Persist);
             settle(rt, desk, worker, pass, batch)
         }
-        None => desk.wait(rt, Stage::Persist, worker),
+        None => desk.wait_for_batch(rt, worker),
     }
 }
 

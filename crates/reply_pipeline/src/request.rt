@@ -124,7 +124,7 @@ fn left_or_first<R: Wait, B: Steps, G: Gate>(
     first_entry(rt, desk, pass, loose)
 }
 
-// Serves tickets until a request is drawn, and waits where there is none.
+// Waits until tickets are to be taken, and serves them until a request is drawn.
 fn first_entry<R: Wait, B: Steps, G: Gate>(
     rt: &R,
     desk: &Desk<'_, B, G>,
@@ -137,6 +137,7 @@ fn first_entry<R: Wait, B: Steps, G: Gate>(
     ensures enters { MatchResult result (λ entry. Enters desk.now.queues.now desk.now.node (Some entry) pass.old pass.new) (λ _. Enters desk.now.queues.now desk.now.node None pass.old pass.new) }
 {
     for _ in rt.forever() {
+        desk.gather(rt);
         match next_entry(rt, desk, pass, loose)? {
             Some(entry) => return Ok(entry),
             None => desk.wait(rt, Stage::Request, 0)?,
@@ -240,7 +241,7 @@ fn try_ticket<R: Wait, B: Steps, G: Gate>(
     for _ in rt.forever() {
         match desk.draw(rt, ticket, loose) {
             StageStep::Did { start, commit } => {
-                desk.wake_session(ticket.session);
+                desk.tell_stamp(ticket.session);
                 return Ok(Served::Drawn(entry_of(ticket, start, commit)));
             }
             StageStep::Held => return Ok(Served::Held),
@@ -282,11 +283,13 @@ fn empty_batch<R: Wait, B: Steps, G: Gate>(
     ensures held { MatchResult result (λ _. pass.new ≡ record pass.old { held = pass.old.held + 1 }) (λ _. pass.new ≡ pass.old) }
     ensures empty { IfOk result (λ batch. (batch.entries ≡ []) × (0 < batch.room)) }
 {
+    let mut asked = false;
     for _ in rt.forever() {
         if let Some(batch) = desk.queues.take_batch(rt, desk.node, pass) {
             return Ok(batch);
         }
-        desk.wait(rt, Stage::Request, 0)?;
+        desk.wait_for_empty(rt, asked)?;
+        asked = !asked;
     }
     unreachable!()
 }

@@ -20,5 +20,7 @@ pub fn offer_ticket<R: Wait>(
     ensures pass { IsSenderPass queues.now pass.new }
     ensures held { pass.new.held ≡ pass.old.held }
 {
-    queues.requests(node).send(rt, pass, ticket)
+    let sent = queues.requests(node).send(rt, pass, ticket);
+    queues.tell_ticket(node);
+    sent
 }

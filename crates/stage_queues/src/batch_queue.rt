@@ -4,19 +4,18 @@ ghost use Rattle.stage_queues.specs.Passes.{at_node, let_go, got, SendsBatches, 
 ghost use Rattle.stage_queues.specs.Plan.{node_ring};
 
 use crate::pass::StagePass;
-use crate::waiting::Crowd;
+use crate::waiting::{Crowd, Place};
 use batch_rule::BatchRing;
 use persist_batches::Numbered;
 use std::marker::Model;
 use std::sync::Wait;
-use std::thread::Parker;
 
 /// A node's queue of batches: from its request stage to its persist workers, which wait here.
 #[derive(Drop)]
 pub struct BatchQueue {
     pub(crate) node: usize,
     pub(crate) ring: BatchRing,
-    pub(crate) readers: Vec<Parker>,
+    pub(crate) readers: Vec<Place>,
     pub(crate) crowd: Crowd,
 }
 
@@ -29,7 +28,7 @@ impl Model for BatchQueue {
 }
 
 impl BatchQueue {
-    pub(crate) fn new(node: usize, ring: BatchRing, readers: Vec<Parker>) -> BatchQueue
+    pub(crate) fn new(node: usize, ring: BatchRing, readers: Vec<Place>) -> BatchQueue
         ensures { result ≡ node_ring node ring }
     {
         BatchQueue {
@@ -40,7 +39,7 @@ impl BatchQueue {
         }
     }
 
-    /// Sends a batch, whose number is above all before it, and wakes the workers. Err only where the queue was full at that step.
+    /// Sends a batch, whose number is above all before it, and wakes a worker that waits for one. Err only where the queue was full at that step.
     pub fn send<R: Wait>(
         &self,
         rt: &R,
@@ -54,7 +53,7 @@ impl BatchQueue {
     {
         pass.nodes[self.node].send_batch(rt, &self.ring, batch)?;
         pass.held -= 1;
-        self.wake_readers();
+        self.wake_reader();
         Ok(())
     }
 
@@ -67,12 +66,38 @@ impl BatchQueue {
     {
         let batch = pass.nodes[self.node].take_batch(rt, &self.ring)?;
         pass.held += 1;
+        self.rise(pass.worker);
         Some(batch)
     }
 
     pub(crate) fn wake_readers(&self) {
         for reader in &self.readers {
-            reader.unpark();
+            reader.parker.unpark();
+        }
+    }
+
+    /// The worker is going to wait for a batch. Whether it had told so already; otherwise it looks at the queue once more.
+    pub(crate) fn rest(&self, worker: u64) -> bool {
+        match self.readers.get(worker as usize) {
+            Some(reader) => reader.rest(),
+            None => true,
+        }
+    }
+
+    // The worker has a batch, and is not to be woken for the next.
+    fn rise(&self, worker: u64) {
+        if let Some(reader) = self.readers.get(worker as usize) {
+            let _waited = reader.rise();
+        }
+    }
+
+    // One batch is for one worker. Those that are at work look at the queue before they wait.
+    fn wake_reader(&self) {
+        for reader in &self.readers {
+            if reader.rise() {
+                reader.parker.unpark();
+                return;
+            }
         }
     }
 }

@@ -4,6 +4,7 @@
 
 mod batch_queue;
 mod buffers;
+mod gathering;
 mod laws;
 mod node;
 mod node_pass;

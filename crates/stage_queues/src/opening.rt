@@ -11,6 +11,7 @@ ghost use Rattle.stage_queues.specs.Plan.{NodeRings, AreNumbered};
 
 use crate::batch_queue::BatchQueue;
 use crate::buffers::Buffers;
+use crate::gathering::AtWork;
 use crate::node::NodeQueues;
 use crate::node_pass::NodePass;
 use crate::pass::StagePass;
@@ -18,7 +19,7 @@ use crate::queues::Queues;
 use crate::request_queue::RequestQueue;
 use crate::settled_queue::SettledQueue;
 use crate::sizes::{REQUEST_ROOM, Sizes};
-use crate::waiting::{ACTORS, parkers};
+use crate::waiting::{ACTORS, places};
 use batch_rule::{BatchPass, BatchRing};
 use request_rule::{RequestPass, RequestRing};
 use settled_rule::{SettledPass, SettledRing};
@@ -113,7 +114,8 @@ impl Opening {
             nodes: self.queues,
             buffers: sizes.workers + 2,
             direct: sizes.direct,
-            actors: parkers(alloc, ACTORS)?,
+            actors: places(alloc, ACTORS)?,
+            at_work: AtWork::all(sizes.senders),
             closed: AtomicBool::new(false),
         };
         Ok((queues, passes))
@@ -132,8 +134,8 @@ fn open_node(alloc: Global, node: usize, sizes: &Sizes) -> Result<(NodeQueues, R
     let (settled, first_settled) = SettledRing::open(alloc, buffers)?;
     let pool = Buffers::open(alloc, sizes)?;
     let queues = NodeQueues {
-        requests: RequestQueue::new(node, requests),
-        batches: BatchQueue::new(node, batches, parkers(alloc, sizes.workers)?),
+        requests: RequestQueue::new(node, requests, sizes.enough()),
+        batches: BatchQueue::new(node, batches, places(alloc, sizes.workers)?),
         settled: SettledQueue::new(node, settled),
         buffers: Mutex::new(pool),
     };

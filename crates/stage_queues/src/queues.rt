@@ -4,12 +4,13 @@ ghost use Rattle.stage_queues.specs.Passes.{AreNodePassesOf, pass_at};
 ghost use Rattle.stage_queues.specs.Plan.{node_ring};
 
 use crate::batch_queue::BatchQueue;
+use crate::gathering::AtWork;
 use crate::node::NodeQueues;
 use crate::node_pass::NodePass;
 use crate::pass::StagePass;
 use crate::request_queue::RequestQueue;
 use crate::settled_queue::SettledQueue;
-use crate::waiting::{Crowd, Waiter, actor_place};
+use crate::waiting::{Crowd, Place, Waiter, actor_place};
 use batch_pool::Batch;
 use history_book::Actor;
 use stamp_base::{NodeNo, SessionNo, Stage};
@@ -25,7 +26,8 @@ pub struct Queues {
     pub(crate) nodes: Vec<NodeQueues>,
     pub(crate) buffers: usize,
     pub(crate) direct: bool,
-    pub(crate) actors: Vec<Parker>,
+    pub(crate) actors: Vec<Place>,
+    pub(crate) at_work: AtWork,
     pub(crate) closed: AtomicBool,
 }
 
@@ -90,7 +92,7 @@ impl Queues {
         Some(batch)
     }
 
-    /// Gives a batch back to the node's pool, and wakes the node's request stage.
+    /// Gives a batch back to the node's pool, and wakes the node's request stage if it has asked for one.
     pub fn give_batch<R: Wait>(&self, rt: &R, node: NodeNo, pass: &mut StagePass, batch: Batch)
         requires node { node < length self.now.nodes }
         requires held { 0 < pass.old.held }
@@ -99,31 +101,147 @@ impl Queues {
         let queues = self.node(node);
         queues.buffers.lock(rt).pool.give(batch);
         pass.held -= 1;
-        queues.requests.reader.unpark();
+        if queues.requests.lacks_batch.leave() {
+            queues.requests.reader.unpark();
+        }
+    }
+
+    /// For a request stage that found the pool out: it is woken once a batch comes back. Who asks is to try once more before it waits.
+    pub fn ask_for_batch(&self, node: NodeNo) {
+        if let Some(queues) = self.nodes.get(node.index()) {
+            queues.requests.lacks_batch.ask();
+        }
     }
 
     /// Parks the waiter until it is woken. It may be woken for no reason, and once the queues are closed it does not wait.
     pub fn wait<R: Wait>(&self, rt: &R, waiter: Waiter) {
-        if let Some(parker) = self.parker(waiter) {
-            if !self.closed() {
-                parker.park(rt);
+        match waiter {
+            Waiter::Actor(actor) => {
+                if let Some(place) = self.actors.get(actor_place(actor)) {
+                    self.rest(place);
+                    self.park(rt, &place.parker);
+                    self.rise(place);
+                }
+            }
+            Waiter::Stage(node, stage, number) => {
+                if let Some(parker) = self.stage_parker(node, stage, number) {
+                    self.park(rt, parker);
+                }
             }
         }
     }
 
-    /// Parks the waiter until it is woken, as `wait` does, but no longer than this.
-    pub fn wait_a_while<R: Wait>(&self, rt: &R, waiter: Waiter, most: Duration) {
-        if let Some(parker) = self.parker(waiter) {
+    fn park<R: Wait>(&self, rt: &R, parker: &Parker) {
+        if !self.closed() {
+            parker.park(rt);
+        }
+    }
+
+    /// Parks the actor until it is woken, as `wait` does, but no longer than this.
+    pub fn wait_a_while<R: Wait>(&self, rt: &R, actor: Actor, most: Duration) {
+        if let Some(place) = self.actors.get(actor_place(actor)) {
+            self.rest(place);
             if !self.closed() {
-                parker.park_timeout(rt, most);
+                place.parker.park_timeout(rt, most);
             }
+            self.rise(place);
         }
     }
 
     /// Wakes the waiter. Where it does not wait, its next wait ends at once.
     pub fn wake(&self, waiter: Waiter) {
-        if let Some(parker) = self.parker(waiter) {
-            parker.unpark();
+        match waiter {
+            Waiter::Actor(actor) => self.wake_actor(actor),
+            Waiter::Stage(node, stage, number) => {
+                if let Some(parker) = self.stage_parker(node, stage, number) {
+                    parker.unpark();
+                }
+            }
+        }
+    }
+
+    fn wake_actor(&self, actor: Actor) {
+        if let Some(place) = self.actors.get(actor_place(actor)) {
+            self.rise(place);
+            place.parker.unpark();
+        }
+    }
+
+    // An actor that does not work sends no ticket. Where nobody is left who could, the request stages take what there is.
+    fn rest(&self, place: &Place) {
+        place.rest();
+        self.leave();
+    }
+
+    // Counted by the actor's thread or by who wakes it, whichever comes first.
+    fn rise(&self, place: &Place) {
+        if place.rise() {
+            self.at_work.enter();
+        }
+    }
+
+    /// An actor's thread waits, or has ended.
+    pub fn leave(&self) {
+        if self.at_work.leave() {
+            self.press();
+        }
+    }
+
+    /// The request stages take the tickets that are there, however few they are. Whoever works on for long without waiting calls it
+    /// now and then, so that no ticket waits for that.
+    pub fn press(&self) {
+        for node in &self.nodes {
+            if node.requests.gathered.is_some() {
+                node.requests.press();
+            }
+        }
+    }
+
+    /// A ticket was sent to the node's request stage, which takes it at once where enough are there or nobody else is at work.
+    pub fn tell_ticket(&self, node: NodeNo) {
+        if let Some(queues) = self.nodes.get(node.index()) {
+            if queues.requests.gathered.is_enough() || self.at_work.is_alone() {
+                queues.requests.press();
+            }
+        }
+    }
+
+    /// Whether the node's request stage is to take the tickets that are there.
+    pub fn is_due(&self, node: NodeNo) -> bool {
+        match self.nodes.get(node.index()) {
+            Some(queues) => self.is_due_at(&queues.requests),
+            None => false,
+        }
+    }
+
+    fn is_due_at(&self, requests: &RequestQueue) -> bool {
+        let gathered = &requests.gathered;
+        gathered.is_some()
+            && (gathered.is_pressed() || gathered.is_enough() || self.at_work.is_none())
+    }
+
+    /// Whether the session's line waits for the stamp of what it asks next, and not for the answer.
+    pub fn heed_stamp(&self, session: SessionNo, awaits: bool) {
+        if let Some(place) = self.actors.get(actor_place(Actor::Session(session))) {
+            place.heed_stamp(awaits);
+        }
+    }
+
+    /// The session's request has its stamp: wakes the session if its line waits for that.
+    pub fn tell_stamp(&self, session: SessionNo) {
+        if let Some(place) = self.actors.get(actor_place(Actor::Session(session))) {
+            if place.awaits_stamp() {
+                self.wake_actor(Actor::Session(session));
+            }
+        }
+    }
+
+    /// For a persist worker that found no batch: it is going to wait for one. Whether it had told so already; otherwise it is to look
+    /// once more before it waits.
+    pub fn rest_for_batch(&self, node: NodeNo, worker: u64) -> bool {
+        match self.nodes.get(node.index()) {
+            Some(queues) => queues.batches.rest(worker),
+            None => true,
         }
     }
 
@@ -131,7 +249,7 @@ impl Queues {
     pub fn wake_sessions(&self) {
         for number in 0..SessionNo::COUNT as u64 {
             if let Some(session) = SessionNo::new(number) {
-                self.wake(Waiter::Actor(Actor::Session(session)));
+                self.wake_actor(Actor::Session(session));
             }
         }
     }
@@ -185,7 +303,7 @@ impl Queues {
     pub fn close(&self) {
         self.closed.store(true, Ordering::SeqCst);
         for actor in &self.actors {
-            actor.unpark();
+            actor.parker.unpark();
         }
         for node in &self.nodes {
             node.requests.reader.unpark();
@@ -206,17 +324,12 @@ impl Queues {
         &self.nodes[node.index()]
     }
 
-    fn parker(&self, waiter: Waiter) -> Option<&Parker> {
-        match waiter {
-            Waiter::Actor(actor) => self.actors.get(actor_place(actor)),
-            Waiter::Stage(node, stage, number) => {
-                let queues = self.nodes.get(node.index())?;
-                match stage {
-                    Stage::Request => Some(&queues.requests.reader),
-                    Stage::Persist => queues.batches.readers.get(number as usize),
-                    Stage::Reply => Some(&queues.settled.reader),
-                }
-            }
+    fn stage_parker(&self, node: NodeNo, stage: Stage, number: u64) -> Option<&Parker> {
+        let queues = self.nodes.get(node.index())?;
+        match stage {
+            Stage::Request => Some(&queues.requests.reader),
+            Stage::Persist => Some(&queues.batches.readers.get(number as usize)?.parker),
+            Stage::Reply => Some(&queues.settled.reader),
         }
     }
 

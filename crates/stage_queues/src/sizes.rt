@@ -1,4 +1,4 @@
-ghost use Rattle.std.specs.Prelude.{◌≡◌, ◌≤◌, ◌<◌};
+ghost use Rattle.std.specs.Prelude.{◌≡◌, ◌≤◌, ◌<◌, ◌/◌, max, min};
 
 use stamp_base::Setup;
 
@@ -34,5 +34,14 @@ impl Sizes {
             senders,
             direct: setup.direct,
         }
+    }
+
+    /// From how many tickets on a request stage takes them: half of the senders may go on meanwhile, and more than a batch has room
+    /// for are of no use.
+    pub fn enough(&self) -> usize
+        ensures { result ≡ min (max 1 (self.now.senders / 2)) self.now.batch }
+    {
+        let half = self.senders / 2;
+        half.max(1).min(self.batch)
     }
 }

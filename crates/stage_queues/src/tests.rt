@@ -5,6 +5,7 @@ use stamp_base::{NodeNo, Setup};
 use std::test::Fail;
 
 mod closing;
+mod waking;
 
 fn one_worker() -> Setup
     ensures nodes { result.nodes ≡ 2 }

@@ -31,7 +31,7 @@ pub fn actor_place(actor: Actor) -> usize
     }
 }
 
-/// Whether a sender has asked for room in a queue.
+/// Whether one has asked for room in a queue, or for a batch of a pool.
 #[derive(Drop)]
 pub struct Crowd {
     asks: AtomicBool,
@@ -45,22 +45,62 @@ impl Crowd {
         }
     }
 
-    /// A sender found the queue full.
+    /// One found no room, or no batch.
     pub fn ask(&self) {
         self.asks.store(true, Ordering::SeqCst);
     }
 
-    /// There is room in the queue. Whether one has asked for it since the last time, so that the senders are to be woken.
+    /// There is room, or a batch. Whether one has asked for it since the last time, and so is to be woken.
     pub fn leave(&self) -> bool {
         self.asks.load(Ordering::SeqCst) && self.asks.swap(false, Ordering::SeqCst)
     }
 }
 
-/// So many places to wait at.
-pub fn parkers(alloc: Global, count: usize) -> Result<Vec<Parker>, NoMemory> {
-    let mut parkers = Vec::with_capacity(alloc, count)?;
-    for _waiter in 0..count {
-        parkers.push(Parker::new())?;
+/// Where a thread waits, and whether it has told that it does.
+#[derive(Drop)]
+pub struct Place {
+    pub parker: Parker,
+    waits: AtomicBool,
+    // Of a session: whether its line waits for its stamp.
+    awaits_stamp: AtomicBool,
+}
+
+impl Place {
+    /// Nobody waits there.
+    pub fn new() -> Place {
+        Place {
+            parker: Parker::new(),
+            waits: AtomicBool::new(false),
+            awaits_stamp: AtomicBool::new(false),
+        }
     }
-    Ok(parkers)
+
+    /// The thread is going to wait. Whether it had told so already.
+    pub fn rest(&self) -> bool {
+        self.waits.swap(true, Ordering::SeqCst)
+    }
+
+    /// The thread does not wait any more, or is woken. Whether it had told that it waits.
+    pub fn rise(&self) -> bool {
+        self.waits.load(Ordering::SeqCst) && self.waits.swap(false, Ordering::SeqCst)
+    }
+
+    /// Whether the session's line waits for its stamp, from now on.
+    pub fn heed_stamp(&self, awaits: bool) {
+        self.awaits_stamp.store(awaits, Ordering::SeqCst);
+    }
+
+    /// Whether it does.
+    pub fn awaits_stamp(&self) -> bool {
+        self.awaits_stamp.load(Ordering::SeqCst)
+    }
+}
+
+/// So many places to wait at.
+pub fn places(alloc: Global, count: usize) -> Result<Vec<Place>, NoMemory> {
+    let mut places = Vec::with_capacity(alloc, count)?;
+    for _waiter in 0..count {
+        places.push(Place::new())?;
+    }
+    Ok(places)
 }

@@ -5,6 +5,7 @@ ghost use Rattle.thread_crew.specs.Asking.{Follows, Offers};
 ghost use Rattle.thread_crew.specs.Lines.{own_left, AreLeft};
 ghost use Rattle.thread_crew.specs.Sending.{ComesBack};
 ghost use Rattle.thread_crew.specs.Sights.{IsSightOf};
+ghost use Rattle.thread_crew.specs.Waking.{awaits_stamp};
 
 use crate::asking::{Unsent, asked_ticket, node_asked, offer, offer_again};
 use crate::lines::LinesLeft;
@@ -16,6 +17,7 @@ use history_book::Actor;
 use line_shares::ActorShare;
 use master_beacon::BeaconPass;
 use reply_pipeline::Gate;
+use script_data::{Line, Verb};
 use stage_queues::StagePass;
 use std::sync::Wait;
 use std::sync::ledger::Ledger;
@@ -54,6 +56,7 @@ pub fn act<L: Ledger, R: Wait, B: Steps + ActorSteps<L> + Sync, G: Gate>(
             break;
         }
     }
+    shared.queues.leave();
     mine
 }
 
@@ -137,7 +140,7 @@ fn follow<R: Wait, B: Steps + Sync, G: Gate>(
     match step {
         ActorStep::Did { asked } => {
             *unsent = asked_ticket(left.actor, asked);
-            quiet.heed(node_asked(unsent));
+            heed(shared, left, unsent, quiet);
             offer(rt, shared, pass, unsent);
             true
         }
@@ -147,6 +150,34 @@ fn follow<R: Wait, B: Steps + Sync, G: Gate>(
             shared.give_up();
             false
         }
+    }
+}
+
+// What the stages are to know of an event before its ticket is sent: whether the line that asked waits for its stamp, and that an
+// actor which works on for long is not to be waited for.
+fn heed<B: Steps + Sync, G: Gate>(
+    shared: &Shared<'_, B, G>,
+    left: &LinesLeft<'_>,
+    unsent: &Option<Unsent>,
+    quiet: &mut Quiet,
+) {
+    if let Some(Unsent { ticket, .. }) = unsent {
+        shared
+            .queues
+            .heed_stamp(ticket.session, awaits_stamp(left.present()));
+    }
+    if quiet.heed(node_asked(unsent)) {
+        shared.queues.press();
+    }
+}
+
+// Every other line that asks waits for the answer.
+fn awaits_stamp(line: Option<Line>) -> bool
+    ensures { result ≡ awaits_stamp line }
+{
+    match line {
+        Some(line) => matches!(line.verb, Verb::Submit { .. }),
+        None => false,
     }
 }
 

@@ -15,6 +15,9 @@ const SLICE: u64 = 250;
 /// After so many of these without an event, two seconds, the gate is told. A wake that was kept ends one of them at once.
 const SLICES: u64 = 8;
 
+/// With every so many events of an actor, request stages take the tickets that are there, as if it worked no longer.
+const PATIENCE: u64 = 16;
+
 /// How long an actor has waited while nobody made an event.
 #[derive(Drop)]
 pub struct Quiet {
@@ -22,6 +25,8 @@ pub struct Quiet {
     slices: u64,
     // The node that the actor asked last.
     asked: Option<NodeNo>,
+    // Its events since stages were told to wait for it no longer.
+    events: u64,
 }
 
 impl Quiet {
@@ -31,14 +36,21 @@ impl Quiet {
             turns: 0,
             slices: 0,
             asked: None,
+            events: 0,
         }
     }
 
-    /// The actor has made an event, which asked this node, if it asked.
-    pub fn heed(&mut self, asked: Option<NodeNo>) {
+    /// The actor has made an event, which asked this node, if it asked. Whether request stages are to wait for it no longer.
+    pub fn heed(&mut self, asked: Option<NodeNo>) -> bool {
         if let Some(node) = asked {
             self.asked = Some(node);
         }
+        if self.events < PATIENCE {
+            self.events += 1;
+            return false;
+        }
+        self.events = 0;
+        true
     }
 
     /// It has waited again, and so many turns were made by now. Whether that is to be told, which it is once.
@@ -66,7 +78,9 @@ pub fn wait_quietly<R: Wait, B: Steps + Sync, G: Gate>(
         shared.queues.wait(rt, Waiter::Actor(left.actor));
         return;
     }
-    shared.queues.wait_a_while(rt, Waiter::Actor(left.actor), Duration::from_millis(SLICE));
+    shared
+        .queues
+        .wait_a_while(rt, left.actor, Duration::from_millis(SLICE));
     if quiet.goes_on(shared.board.turns_made(rt)) {
         tell(rt, shared, left, quiet.asked);
     }

@@ -69,6 +69,22 @@ fn a_stale_ticket_is_passed_over(rt: HostRuntime) -> Result<(), Fail> {
     Ok(())
 }
 
+#[test]
+fn a_ticket_is_due_once_nobody_else_sends(rt: HostRuntime) -> Result<(), Fail> {
+    let Crew {
+        queues,
+        mut session,
+        ..
+    } = opened(rt.alloc())?;
+    assert!(rt; !queues.is_due(NodeNo::FIRST));
+    let ticket = ticket_of(SessionNo::LAST);
+    let sent = offer_ticket(&rt, NodeNo::FIRST, &queues, &mut session, ticket);
+    assert!(rt; sent.is_ok());
+    assert!(rt; queues.is_due(NodeNo::FIRST));
+    assert!(rt; !queues.is_due(NodeNo::LAST));
+    Ok(())
+}
+
 // Where sessions place their commits the persist stage asks for no step, and a batch gets through to its answer.
 #[test]
 fn batches_pass_on_where_sessions_place(rt: HostRuntime) -> Result<(), Fail> {
