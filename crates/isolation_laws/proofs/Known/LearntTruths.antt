@@ -36,11 +36,8 @@ met_unplaced w h k c cell holds marked (inl (value, wrote)) dead placed = elim (
 ]
 
 dead_true : (w : State) (h : List Item) (k b : ℕ) (every : Bool) (e : ℕ) (cell : Cell) (point : SettlePoint) → Holds w h → IsResolvedTo w.pairs w.rows h k b every e cell.version point → IsWrittenCell w.clients w.nodes h k cell → settle_turn_at (may_mark every cell.version e) point (told_by (ask_at k cell.version point) w.rows w.pairs) ≡ Decides Dead → IfSome (dead_for_good cell.version point) (IsTruePair (pairs_after (ask_at k cell.version point) w.pairs) h)
-dead_true w h k b every e cell FirstLook holds resolved written dead = tt
-dead_true w h k b every e cell Table holds resolved written dead = tt
-dead_true w h k b every e cell Marking holds resolved written dead = tt
-dead_true w h k b every e cell (LastLook false) holds resolved written dead = tt
 dead_true w h k b every e cell (LastLook true) holds resolved written dead = record { marked = resolved.0 refl; unplaced = λ c placed. met_unplaced w h k c cell holds (resolved.0 refl) written dead placed }
+dead_true w h k b every e cell _ holds resolved written dead = tt
 
 -- ---- each decision
 decision_true : (w : State) (h : List Item) (pairs : Pairs) (k b : ℕ) (every : Bool) (e v : ℕ) (point : SettlePoint) (turn : SettleTurn) → Tells w pairs h k b every e v turn → (turn ≡ Decides Dead → IfSome (dead_for_good v point) (IsTruePair pairs h)) → IfSome (learnt_of v point turn) (IsTruePair pairs h)
