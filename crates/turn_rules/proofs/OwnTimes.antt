@@ -44,12 +44,7 @@ none_ahead Janitor = refl
 
 quiet_at : (clocks : Clocks) (actor : Actor) (line : Verb) (at : Point) (view : View) (e : Event) → next clocks actor line at view ≡ Some e → own_tick actor (tick_ahead at line) ≡ tick_ahead at line
 quiet_at clocks actor line Opens view e is = other_opens clocks actor line view e is
-quiet_at clocks actor line Drives view e is = none_ahead actor
-quiet_at clocks actor line Extends view e is = none_ahead actor
-quiet_at clocks actor line Finishes view e is = none_ahead actor
-quiet_at clocks actor line Reads view e is = none_ahead actor
-quiet_at clocks actor line Steps view e is = none_ahead actor
-quiet_at clocks actor line Over view e is = none_ahead actor
+quiet_at clocks actor line _ view e is = none_ahead actor
 
 -- ---- each own event is timed
 next_timed : (clocks : Clocks) (actor : Actor) (line : Verb) (at : Point) (view : View) (e : Event) → next clocks actor line at view ≡ Some e → Timed clocks (own_tick actor (tick_ahead at line)) e
