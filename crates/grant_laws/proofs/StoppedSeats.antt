@@ -12,7 +12,7 @@ use Rattle.script_data.specs.declared.line.Verb.{Verb}
 use Rattle.script_data.specs.declared.line.Verb.TheVariants as verb
 use Rattle.script_data.specs.Data.{ScriptData}
 use Rattle.line_steps.specs.declared.point.Point.{Point}
-use Rattle.line_steps.specs.declared.point.Point.TheVariants.{Opens, Drives, Extends, Finishes, Reads, Steps, Over}
+use Rattle.line_steps.specs.declared.point.Point.TheVariants.{Opens, Drives, Extends}
 use Rattle.line_steps.specs.declared.point.View.{View}
 use Rattle.line_steps.specs.Next.{Clocks, is_served, places, placing_next, idle_next, next}
 use Rattle.line_steps.specs.Runs.{clocks_of}

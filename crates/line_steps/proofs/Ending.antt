@@ -15,7 +15,7 @@ use Rattle.script_data.specs.Data.{ScriptData}
 use Rattle.isolation_laws.proofs.AlwaysHolds.{facts_stay, stands_at_first}
 use Rattle.line_steps.specs.declared.point.Halt.{Halt}
 use Rattle.line_steps.specs.declared.point.Point.{Point}
-use Rattle.line_steps.specs.declared.point.Point.TheVariants.{Opens, Drives, Extends, Finishes, Reads, Steps, Over}
+use Rattle.line_steps.specs.declared.point.Point.TheVariants.{Opens}
 use Rattle.line_steps.specs.Halts.{halt_of, follows}
 use Rattle.line_steps.specs.Views.{view_of}
 use Rattle.line_steps.specs.Next.{Clocks}

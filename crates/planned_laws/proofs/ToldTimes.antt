@@ -11,7 +11,7 @@ use Rattle.history_book.specs.Members.{AtEach}
 use Rattle.history_book.specs.declared.cause.Cause.{Cause}
 use Rattle.history_book.specs.declared.cause.Cause.TheVariants as cause
 use Rattle.history_book.specs.declared.item.Actor.{Actor}
-use Rattle.history_book.specs.declared.item.Actor.TheVariants.{Clock, Node, Session, Janitor}
+use Rattle.history_book.specs.declared.item.Actor.TheVariants.{Node, Session}
 use Rattle.history_book.specs.declared.item.Item.{Item}
 use Rattle.history_book.specs.declared.item.Item.TheVariants as item
 use Rattle.cause_rules.specs.Since.{last_told}

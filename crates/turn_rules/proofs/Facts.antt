@@ -11,7 +11,7 @@ use Rattle.machine.specs.Machine.{Step}
 use Rattle.script_data.specs.declared.line.Line.{Line}
 use Rattle.script_data.specs.Data.{ScriptData}
 use Rattle.line_steps.specs.declared.point.Point.{Point}
-use Rattle.line_steps.specs.declared.point.Point.TheVariants.{Opens, Drives, Extends, Finishes, Reads, Steps, Over}
+use Rattle.line_steps.specs.declared.point.Point.TheVariants.{Opens}
 use Rattle.line_steps.specs.Answers.{same_actor}
 use Rattle.script_data.specs.Ticks.{ticks_of}
 use Rattle.line_steps.specs.Laws.{IsPlayable, IsReached}

@@ -9,7 +9,7 @@ use Rattle.machine.specs.declared.event.Event.TheVariants as event
 use Rattle.script_data.specs.declared.line.Verb.{Verb}
 use Rattle.script_data.specs.declared.line.Verb.TheVariants as verb
 use Rattle.line_steps.specs.declared.point.Point.{Point}
-use Rattle.line_steps.specs.declared.point.Point.TheVariants.{Opens, Drives, Extends, Finishes, Reads, Steps, Over}
+use Rattle.line_steps.specs.declared.point.Point.TheVariants.{Opens, Drives}
 use Rattle.line_steps.specs.declared.point.View.{View}
 use Rattle.script_data.specs.Ticks.{tick_of}
 use Rattle.line_steps.specs.Clocks.{clocks}

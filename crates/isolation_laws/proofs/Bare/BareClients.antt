@@ -1,5 +1,5 @@
 -- What a client may have left of cells stays, whatever becomes of it: only a completion takes some away.
-use Rattle.std.proofs.Common.{[], ◌≡◌, ℕ, zero, suc, true, false, List, ◌∷◌, Option, Some, None, ◌⊎◌, inl, inr, refl, sym, ◌∙◌, ap, subst}
+use Rattle.std.proofs.Common.{[], ◌≡◌, ℕ, zero, suc, true, List, ◌∷◌, Option, Some, None, ◌⊎◌, inl, inr, refl, sym, ◌∙◌, ap, subst}
 use Rattle.std.specs.Prelude.{slice_index_or, slice_set}
 use Rattle.std.proofs.lemmas.Bool.{cases_eq}
 use Rattle.std.proofs.lemmas.Option.{same_Some}

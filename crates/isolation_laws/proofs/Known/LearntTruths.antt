@@ -7,7 +7,7 @@ use Rattle.store_parts.specs.Rows.{Row, looked}
 use Rattle.store_parts.specs.Pairs.{Pairs}
 use Rattle.client_parts.specs.declared.resolve.Outcome.TheVariants.{Committed as CommittedAt, Dead}
 use Rattle.client_parts.specs.declared.resolve.SettlePoint.{SettlePoint}
-use Rattle.client_parts.specs.declared.resolve.SettlePoint.TheVariants.{FirstLook, Table, Marking, LastLook}
+use Rattle.client_parts.specs.declared.resolve.SettlePoint.TheVariants.{LastLook}
 use Rattle.client_parts.specs.Resolve.{SettleTurn, Goes, Decides, settle_turn_at, ask_at, after_last_look}
 use Rattle.client_parts.specs.KeyRead.{Reading, may_mark, read_ask}
 use Rattle.client_parts.specs.Cache.{dead_for_good, learnt_of, learnt_by}
