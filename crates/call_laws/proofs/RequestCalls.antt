@@ -50,13 +50,7 @@ record IsIdle (state : SessionState) : Type 0 where
 
 free_idle : (state : SessionState) → begin_refusal state ≡ None → IsIdle state
 free_idle phase.Free go = record { here = λ is. cc; asks_none = λ is. cc; commits_none = λ is. cc }
-free_idle phase.Asking go = absurd (cc)
-free_idle phase.Open go = absurd (cc)
-free_idle phase.Committing go = absurd (cc)
-free_idle phase.Placing go = absurd (cc)
-free_idle phase.OpenOutcome go = absurd (cc)
-free_idle (phase.Completing undo) go = absurd (cc)
-free_idle phase.Gone go = absurd (cc)
+free_idle _ go = absurd (cc)
 
 open_idle : IsIdle phase.Open
 open_idle = record { here = λ is. cc; asks_none = λ is. cc; commits_none = λ is. cc }

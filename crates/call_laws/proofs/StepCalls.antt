@@ -100,11 +100,8 @@ state_asks : (w : State) (h : List Item) (session : ℕ) (c : Client) → Holds 
 state_asks w h session c holds at phase.Placing is go unhanded none = placing_asks w h session c holds at is unhanded
 state_asks w h session c holds at phase.OpenOutcome is go unhanded none = open_asks w h session c holds at is c.under_way refl none
 state_asks w h session c holds at (phase.Completing undo) is go unhanded none = completing_asks w h session c undo holds at is none
-state_asks w h session c holds at phase.Free is go unhanded none = reading_asks c.under_way go none
-state_asks w h session c holds at phase.Asking is go unhanded none = reading_asks c.under_way go none
-state_asks w h session c holds at phase.Open is go unhanded none = reading_asks c.under_way go none
-state_asks w h session c holds at phase.Committing is go unhanded none = reading_asks c.under_way go none
 state_asks w h session c holds at phase.Gone is go unhanded none = cc
+state_asks w h session c holds at _ is go unhanded none = reading_asks c.under_way go none
 
 stores_none : (next : Option Ask) → store_asked next ≡ None → next ≡ None
 stores_none None none = refl

@@ -76,13 +76,7 @@ writes_bare w h tells session key c at go =
 offered : (state : SessionState) (reading : Bool) (heal : Option (ℕ × ℕ × ℕ)) (offer : ℕ × ℕ × ℕ) → offer_by state reading heal ≡ Some offer → heal ≡ Some offer
 offered phase.Open false heal offer is = is
 offered phase.Open true heal offer is = absurd (none-some offer is)
-offered phase.Free reading heal offer is = absurd (none-some offer is)
-offered phase.Asking reading heal offer is = absurd (none-some offer is)
-offered phase.Committing reading heal offer is = absurd (none-some offer is)
-offered phase.Placing reading heal offer is = absurd (none-some offer is)
-offered phase.OpenOutcome reading heal offer is = absurd (none-some offer is)
-offered (phase.Completing undo) reading heal offer is = absurd (none-some offer is)
-offered phase.Gone reading heal offer is = absurd (none-some offer is)
+offered _ reading heal offer is = absurd (none-some offer is)
 
 offer_only : (w : State) (h : List Item) (session : ℕ) (c : Client) → Holds w h → ClientAt w.clients session c → (offer : Option (ℕ × ℕ × ℕ)) → offer_of c ≡ offer → IfSome offer (λ o. HasOnly w.rows o.0 o.1 o.2)
 offer_only w h session c holds at None is = tt
@@ -117,14 +111,8 @@ reads_fetched w h tells session c r at reads =
 -- ---- the sweep
 -- each shadow that may be asked next is the only one
 pub keeps_next : (rows : List Row) (next : Option Ask) → ((k t commit : ℕ) → next ≡ Some (ask.Shadow k t commit) → HasOnly rows k t commit) → KeepsShadowNext next rows
-keeps_next rows None only = tt
 keeps_next rows (Some (ask.Shadow k t commit)) only = only k t commit refl
-keeps_next rows (Some (ask.Get t)) only = tt
-keeps_next rows (Some (ask.Mark t)) only = tt
-keeps_next rows (Some (ask.Look k t)) only = tt
-keeps_next rows (Some (ask.Remove t)) only = tt
-keeps_next rows (Some (ask.Erase k t)) only = tt
-keeps_next rows (Some (ask.Keys t)) only = tt
+keeps_next rows _ only = tt
 
 sweep_asks : (w : State) → Sound w → (sweep : Option Sweeping) → w.sweep ≡ sweep → IfSome sweep (λ s. sweep_ask s ≡ None → ⊥)
 sweep_asks w sound None is_open = tt

@@ -65,17 +65,14 @@ is_calm_deed _ = true
 pub calm_by : (w : State) (d : Deed w) → is_calm_deed d ≡ true → AllCalm (items_by w d)
 calm_by w (OfRested k) calm = silent_calm k.items k.silent
 calm_by w (OfTook k) calm = absurd (cc)
-calm_by w (OfRenewed k) calm = calm_one _ refl
-calm_by w (OfWidened k) calm = calm_one _ refl
-calm_by w (OfStopped k) calm = calm_one _ refl
 calm_by w (OfCrashed k) calm = absurd (cc)
 calm_by w (OfAsked k) calm = calm_one _ (ask_calm k.node k.request)
-calm_by w (OfAccepted k) calm = calm_one _ refl
 calm_by w (OfDrew k) calm = calm_one _ (draw_calm k.it.node k.it.i.term k.it.held.request (k.it.i.last + 1))
 calm_by w (OfSettled k) calm = settled_calm w k
 calm_by w (OfTold k) calm = silent_calm k.items k.silent
 calm_by w (OfEnded k) calm = calm_one k.last (last_calm k.it.session k.last k.ends)
 calm_by w (OfLearned k) calm = learned_calm w k
+calm_by w _ calm = calm_one _ refl
 
 -- ---- the items of a take, at other nodes
 faults_calm : (failed : Bool) (node : ℕ) → AllCalm (fault_if failed node)

@@ -22,11 +22,8 @@ use Rattle.grant_laws.proofs.KnownTurns.{KnownTurns, known_carried}
 -- a commit that no node puts is in nobody's way
 none_by : (request : Request) (p : Progress) → WhereNodesPut true request p → unsettled_by request p ≡ None
 none_by (Begin session) p put = refl
-none_by (Commit session start keys) progress.Asked put = refl
-none_by (Commit session start keys) progress.Accepted put = refl
 none_by (Commit session start keys) (progress.Drawn commit) put = let clash : true ≡ false = put in absurd (cc)
-none_by (Commit session start keys) (progress.Settled commit how) put = refl
-none_by (Commit session start keys) (progress.Handed commit) put = refl
+none_by (Commit session start keys) _ put = refl
 
 none_among : (requests : List (Option Held)) (start : ℕ) → ((s : ℕ) (held : Held) → slice_index_or requests s None ≡ Some held → unsettled_by held.request held.progress ≡ None) → least_unsettled requests start ≡ None
 unfolding least_unsettled

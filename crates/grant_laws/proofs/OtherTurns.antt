@@ -71,8 +71,4 @@ other_seat script step aim who s seat mine other = other_stays script step who a
 
 pub seat_left : (script : ScriptData) (t : Turn) (step : Step) (s : ℕ) (seat : Seat) → seat.actor ≡ Session s → is_own s t ≡ false → moved script t step seat ≡ seat
 seat_left script (turn.Own who aim) step s seat mine other = other_seat script step aim who s seat mine other
-seat_left script (turn.Accept node session) step s seat mine other = refl
-seat_left script (turn.Decide node session) step s seat mine other = refl
-seat_left script (turn.Put node session) step s seat mine other = refl
-seat_left script (turn.Answer node session) step s seat mine other = refl
-seat_left script (turn.Extend node) step s seat mine other = refl
+seat_left script _ step s seat mine other = refl

@@ -61,16 +61,12 @@ before_held c s node request p k held = record {
 
 -- ---- a begin that waits for a commit, or for its own answer
 is_put : (request : Request) (p : Progress) (commit : ℕ) → unsettled_by request p ≡ Some commit → (is_commit request ≡ true) × (place_of_progress p ≡ place.Drawn)
-is_put (Begin s) progress.Asked commit is = absurd (none-some commit is)
-is_put (Begin s) progress.Accepted commit is = absurd (none-some commit is)
-is_put (Begin s) (progress.Drawn stamp) commit is = absurd (none-some commit is)
-is_put (Begin s) (progress.Settled other by) commit is = absurd (none-some commit is)
-is_put (Begin s) (progress.Handed stamp) commit is = absurd (none-some commit is)
 is_put (Commit s start keys) progress.Asked commit is = absurd (none-some commit is)
 is_put (Commit s start keys) progress.Accepted commit is = absurd (none-some commit is)
 is_put (Commit s start keys) (progress.Drawn stamp) commit is = (refl, refl)
 is_put (Commit s start keys) (progress.Settled other by) commit is = absurd (none-some commit is)
 is_put (Commit s start keys) (progress.Handed stamp) commit is = absurd (none-some commit is)
+is_put (Begin s) _ commit is = absurd (none-some commit is)
 
 none_elsewhere : (w : State) (h : List Item) (node r m : ℕ) (i j : InstanceEntry) (held : Held) (found : Option Held) → Stands w h → InstanceAt w.nodes node i → held_of i r ≡ Some held → m ≢ node → InstanceAt w.nodes m j → held_of j r ≡ found → found ≡ None
 none_elsewhere w h node r m i j held None stands at has other there is = refl

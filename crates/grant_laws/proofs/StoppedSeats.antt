@@ -12,7 +12,7 @@ use Rattle.script_data.specs.declared.line.Verb.{Verb}
 use Rattle.script_data.specs.declared.line.Verb.TheVariants as verb
 use Rattle.script_data.specs.Data.{ScriptData}
 use Rattle.line_steps.specs.declared.point.Point.{Point}
-use Rattle.line_steps.specs.declared.point.Point.TheVariants.{Opens, Drives, Extends, Finishes, Reads, Steps, Over}
+use Rattle.line_steps.specs.declared.point.Point.TheVariants.{Opens, Drives, Extends}
 use Rattle.line_steps.specs.declared.point.View.{View}
 use Rattle.line_steps.specs.Next.{Clocks, is_served, places, placing_next, idle_next, next}
 use Rattle.line_steps.specs.Runs.{clocks_of}
@@ -91,12 +91,7 @@ opens_pass clocks Janitor _ view unawaited is = is
 
 next_passes : (clocks : Clocks) (actor : Actor) (v : Verb) (point : Point) (view : View) (unawaited : Bool) → own_next clocks false actor v point view unawaited ≡ Passes → own_next clocks true actor v point view unawaited ≡ Passes
 next_passes clocks actor v Opens view unawaited is = opens_pass clocks actor v view unawaited is
-next_passes clocks actor v Drives view unawaited is = is
-next_passes clocks actor v Extends view unawaited is = is
-next_passes clocks actor v Finishes view unawaited is = is
-next_passes clocks actor v Reads view unawaited is = is
-next_passes clocks actor v Steps view unawaited is = is
-next_passes clocks actor v Over view unawaited is = is
+next_passes clocks actor v _ view unawaited is = is
 
 pub passes_anyway : (clocks : Clocks) (posted : Bool) (actor : Actor) (v : Verb) (point : Point) (view : View) (unawaited : Bool) → own_next clocks posted actor v point view unawaited ≡ Passes → own_next clocks true actor v point view unawaited ≡ Passes
 passes_anyway clocks true actor v point view unawaited is = is

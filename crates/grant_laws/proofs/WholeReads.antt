@@ -75,11 +75,7 @@ other_under script c t s start key most (Some e) known is other k =
 -- an own turn is the session's
 owned : (s : ℕ) (t : Turn) → is_own s t ≡ true → (aim : ℕ) × (t ≡ turn.Own (Session s) aim)
 owned s (turn.Own actor aim) is = (aim, ap (λ (a : Actor). turn.Own a aim) (actor_same actor (Session s) is))
-owned s (turn.Accept node session) is = absurd (cc)
-owned s (turn.Decide node session) is = absurd (cc)
-owned s (turn.Put node session) is = absurd (cc)
-owned s (turn.Answer node session) is = absurd (cc)
-owned s (turn.Extend node) is = absurd (cc)
+owned s _ is = absurd (cc)
 
 -- so many own turns are ahead
 abbrev pub own_ahead_of : ℕ → List Turn → ℕ

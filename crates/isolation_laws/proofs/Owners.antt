@@ -104,11 +104,8 @@ placed_below_last nodes master h n i t c ranges drawn placed at now is =
 -- ---- what can come below a start
 -- a commit in flight with its instance, by its stage
 taken_progress : (last : ℕ) (p : Progress) (x : ℕ) → stage_of last p ≡ Some (Taken x) → (p ≡ progress.Accepted) × (last ≡ x)
-taken_progress last progress.Asked x is = absurd (cc)
 taken_progress last progress.Accepted x is = (refl, cc)
-taken_progress last (progress.Drawn c) x is = absurd (cc)
-taken_progress last (progress.Handed c) x is = absurd (cc)
-taken_progress last (progress.Settled c by) x is = absurd (cc)
+taken_progress last _ x is = absurd (cc)
 
 pub has_progress : (last : ℕ) (p : Progress) (x : ℕ) → stage_of last p ≡ Some (Has x) → (p ≡ progress.Drawn x) ⊎ (p ≡ progress.Handed x)
 has_progress last progress.Asked x is = absurd (cc)

@@ -83,12 +83,7 @@ followed_once line Over halt = refl
 -- ---- lines of one event
 alone_lowers : (line : Verb) (at : Point) (halt : Option Halt) (first : Option Event) (e : Event) → opens_alone first at ≡ Some e → one_left (follows line at halt) < one_left at
 alone_lowers line Opens halt first e is = omega (arith, opened_once line halt)
-alone_lowers line Drives halt first e is = absurd (none-some e is)
-alone_lowers line Extends halt first e is = absurd (none-some e is)
-alone_lowers line Finishes halt first e is = absurd (none-some e is)
-alone_lowers line Reads halt first e is = absurd (none-some e is)
-alone_lowers line Steps halt first e is = absurd (none-some e is)
-alone_lowers line Over halt first e is = absurd (none-some e is)
+alone_lowers line _ halt first e is = absurd (none-some e is)
 
 -- ---- the janitor's lines
 abbrev JanitorLowers : State → Verb → Point → Event → Fate → Type 0
@@ -118,11 +113,7 @@ swept_on w h line fate e stands (Some s) is go = subst (λ (x : Event). JanitorL
 janitor_lowers : (w : State) (h : List Item) (line : Verb) (at : Point) (fate : Fate) (e : Event) → Stands w h → janitor_next line (view_of w Janitor) at ≡ Some e → JanitorLowers w line at e fate
 janitor_lowers w h line Opens fate e stands is = janitor_opened w h line fate e stands is
 janitor_lowers w h line Steps fate e stands is = swept_on w h line fate e stands w.sweep refl is
-janitor_lowers w h line Drives fate e stands is = absurd (none-some e is)
-janitor_lowers w h line Extends fate e stands is = absurd (none-some e is)
-janitor_lowers w h line Finishes fate e stands is = absurd (none-some e is)
-janitor_lowers w h line Reads fate e stands is = absurd (none-some e is)
-janitor_lowers w h line Over fate e stands is = absurd (none-some e is)
+janitor_lowers w h line _ fate e stands is = absurd (none-some e is)
 
 -- ---- any line
 pub all_lower : RecalledReadsEnd → SettlesEnd → EventsLowerWhatIsLeft

@@ -77,26 +77,14 @@ aborted_unhanded e (k ∷ ks) = refl
 -- a session that has vanished hears nothing
 gone_left : (state : SessionState) (c now : Client) → client_completes now ≤ keys_of c + 1 → client_completes (unless_gone_by state c now) ≤ client_ends c
 gone_left phase.Gone c now less = omega arith
-gone_left phase.Free c now less = omega (arith, less)
-gone_left phase.Asking c now less = omega (arith, less)
-gone_left phase.Open c now less = omega (arith, less)
-gone_left phase.Committing c now less = omega (arith, less)
-gone_left phase.Placing c now less = omega (arith, less)
-gone_left phase.OpenOutcome c now less = omega (arith, less)
-gone_left (phase.Completing undo) c now less = omega (arith, less)
+gone_left _ c now less = omega (arith, less)
 
 pub heard_left : (c now : Client) → client_completes now ≤ keys_of c + 1 → client_completes (unless_gone c now) ≤ client_ends c
 heard_left c now less = gone_left c.entry.state c now less
 
 gone_settles : (state : SessionState) (c now : Client) → client_settles now ≤ keys_of c + 2 → client_settles (unless_gone_by state c now) ≤ client_ends c
 gone_settles phase.Gone c now less = settles_most c
-gone_settles phase.Free c now less = omega (arith, less)
-gone_settles phase.Asking c now less = omega (arith, less)
-gone_settles phase.Open c now less = omega (arith, less)
-gone_settles phase.Committing c now less = omega (arith, less)
-gone_settles phase.Placing c now less = omega (arith, less)
-gone_settles phase.OpenOutcome c now less = omega (arith, less)
-gone_settles (phase.Completing undo) c now less = omega (arith, less)
+gone_settles _ c now less = omega (arith, less)
 
 pub heard_settles : (c now : Client) → client_settles now ≤ keys_of c + 2 → client_settles (unless_gone c now) ≤ client_ends c
 heard_settles c now less = gone_settles c.entry.state c now less

@@ -35,14 +35,9 @@ pub record Finishing (s : ℕ) (state : SessionState) (e : Event) : Type 0 where
 
 pub finishing_by : (s : ℕ) (state : SessionState) (reading : Bool) (e : Event) → finish_next s (doing_by state reading) ≡ Some e → Finishing s state e
 finishing_by s (phase.Completing undo) reading e is = record { event_is = same_Some (event.Step s) e is; undo = undo; state_is = refl }
-finishing_by s phase.Free reading e is = absurd (none-some e is)
-finishing_by s phase.Asking reading e is = absurd (none-some e is)
 finishing_by s phase.Open true e is = absurd (none-some e is)
 finishing_by s phase.Open false e is = absurd (none-some e is)
-finishing_by s phase.Committing reading e is = absurd (none-some e is)
-finishing_by s phase.Placing reading e is = absurd (none-some e is)
-finishing_by s phase.OpenOutcome reading e is = absurd (none-some e is)
-finishing_by s phase.Gone reading e is = absurd (none-some e is)
+finishing_by s _ reading e is = absurd (none-some e is)
 
 -- it has a commit to place
 pub record Placing (s : ℕ) (state : SessionState) (e : Event) : Type 0 where
@@ -54,13 +49,9 @@ pub placing_by : (s : ℕ) (state : SessionState) (reading placed : Bool) (e : E
 placing_by s phase.Placing reading true e is = inl (record { event_is = same_Some (event.Step s) e is; state_is = refl })
 placing_by s phase.Placing reading false e is = absurd (none-some e is)
 placing_by s (phase.Completing undo) reading placed e is = inr (finishing_by s (phase.Completing undo) reading e is)
-placing_by s phase.Free reading placed e is = absurd (none-some e is)
-placing_by s phase.Asking reading placed e is = absurd (none-some e is)
 placing_by s phase.Open true placed e is = absurd (none-some e is)
 placing_by s phase.Open false placed e is = absurd (none-some e is)
-placing_by s phase.Committing reading placed e is = absurd (none-some e is)
-placing_by s phase.OpenOutcome reading placed e is = absurd (none-some e is)
-placing_by s phase.Gone reading placed e is = absurd (none-some e is)
+placing_by s _ reading placed e is = absurd (none-some e is)
 
 -- it has something under way
 pub record Stepping (s : ℕ) (state : SessionState) (reading : Bool) (e : Event) : Type 0 where
@@ -72,11 +63,8 @@ stepping_by s phase.Open true e is = record { event_is = same_Some (event.Step s
 stepping_by s phase.Placing reading e is = record { event_is = same_Some (event.Step s) e is; goes = refl }
 stepping_by s phase.OpenOutcome reading e is = record { event_is = same_Some (event.Step s) e is; goes = refl }
 stepping_by s (phase.Completing undo) reading e is = record { event_is = same_Some (event.Step s) e is; goes = refl }
-stepping_by s phase.Free reading e is = absurd (none-some e is)
-stepping_by s phase.Asking reading e is = absurd (none-some e is)
 stepping_by s phase.Open false e is = absurd (none-some e is)
-stepping_by s phase.Committing reading e is = absurd (none-some e is)
-stepping_by s phase.Gone reading e is = absurd (none-some e is)
+stepping_by s _ reading e is = absurd (none-some e is)
 
 -- it reads
 pub record ReadingOn (s : ℕ) (state : SessionState) (reading : Bool) (e : Event) : Type 0 where
@@ -86,25 +74,15 @@ pub record ReadingOn (s : ℕ) (state : SessionState) (reading : Bool) (e : Even
 
 pub reading_by : (s : ℕ) (state : SessionState) (reading : Bool) (e : Event) → read_next s (doing_by state reading) ≡ Some e → ReadingOn s state reading e
 reading_by s phase.Open true e is = record { event_is = same_Some (event.Step s) e is; goes = refl; state_is = refl }
-reading_by s phase.Free reading e is = absurd (none-some e is)
-reading_by s phase.Asking reading e is = absurd (none-some e is)
 reading_by s phase.Open false e is = absurd (none-some e is)
-reading_by s phase.Committing reading e is = absurd (none-some e is)
-reading_by s phase.Placing reading e is = absurd (none-some e is)
-reading_by s phase.OpenOutcome reading e is = absurd (none-some e is)
-reading_by s (phase.Completing undo) reading e is = absurd (none-some e is)
-reading_by s phase.Gone reading e is = absurd (none-some e is)
+reading_by s _ reading e is = absurd (none-some e is)
 
 -- ---- it is idle
 pub idling_by : (s : ℕ) (now : Doing) (e : Event) → idle_next s now ≡ Some e → event.Step s ≡ e
 idling_by s doing.Free e is = same_Some (event.Step s) e is
 idling_by s doing.Gone e is = same_Some (event.Step s) e is
 idling_by s doing.Open e is = same_Some (event.Step s) e is
-idling_by s doing.Waiting e is = absurd (none-some e is)
-idling_by s doing.Reading e is = absurd (none-some e is)
-idling_by s doing.Placing e is = absurd (none-some e is)
-idling_by s doing.OpenOutcome e is = absurd (none-some e is)
-idling_by s doing.Completing e is = absurd (none-some e is)
+idling_by s _ e is = absurd (none-some e is)
 
 -- which it is not where it has something under way
 pub not_idle : (s : ℕ) (c : Client) (e : Event) → HasWork c → idle_next s (client_doing c) ≡ Some e → ⊥
@@ -137,18 +115,9 @@ plainly_refused phase.Gone reading why is = ap refused_by (sym (same_Some cause.
 plainly_refused phase.Placing reading why is = absurd (none-some why is)
 plainly_refused phase.OpenOutcome reading why is = absurd (none-some why is)
 plainly_refused (phase.Completing undo) reading why is = absurd (none-some why is)
-plainly_refused phase.Free reading why is = by_reading reading why is
-plainly_refused phase.Asking reading why is = by_reading reading why is
-plainly_refused phase.Open reading why is = by_reading reading why is
-plainly_refused phase.Committing reading why is = by_reading reading why is
+plainly_refused _ reading why is = by_reading reading why is
 
 -- and it was of no placing
 pub refused_unhanded : (state : SessionState) (reading : Bool) (start commit : Option ℕ) (why : Cause) → step_refusal state reading ≡ Some why → handed_by state start commit ≡ None
 refused_unhanded phase.Placing reading start commit why is = absurd (none-some why is)
-refused_unhanded phase.Gone reading start commit why is = refl
-refused_unhanded phase.OpenOutcome reading start commit why is = refl
-refused_unhanded (phase.Completing undo) reading start commit why is = refl
-refused_unhanded phase.Free reading start commit why is = refl
-refused_unhanded phase.Asking reading start commit why is = refl
-refused_unhanded phase.Open reading start commit why is = refl
-refused_unhanded phase.Committing reading start commit why is = refl
+refused_unhanded _ reading start commit why is = refl

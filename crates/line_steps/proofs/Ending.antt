@@ -15,7 +15,7 @@ use Rattle.script_data.specs.Data.{ScriptData}
 use Rattle.isolation_laws.proofs.AlwaysHolds.{facts_stay, stands_at_first}
 use Rattle.line_steps.specs.declared.point.Halt.{Halt}
 use Rattle.line_steps.specs.declared.point.Point.{Point}
-use Rattle.line_steps.specs.declared.point.Point.TheVariants.{Opens, Drives, Extends, Finishes, Reads, Steps, Over}
+use Rattle.line_steps.specs.declared.point.Point.TheVariants.{Opens}
 use Rattle.line_steps.specs.Halts.{halt_of, follows}
 use Rattle.line_steps.specs.Views.{view_of}
 use Rattle.line_steps.specs.Next.{Clocks}
@@ -43,12 +43,7 @@ pub record Going (P : State → List Item → Type 0) (script : ScriptData) (lin
 -- no tick is ahead of a run that has opened
 tick_after : (line : Verb) (at : Point) → one_left at ≡ 0 → tick_ahead at line ≡ 0
 tick_after line Opens none = absurd (cc)
-tick_after line Drives none = refl
-tick_after line Extends none = refl
-tick_after line Finishes none = refl
-tick_after line Reads none = refl
-tick_after line Steps none = refl
-tick_after line Over none = refl
+tick_after line _ none = refl
 
 tick_gone : (line : Verb) (at : Point) (halt : Option Halt) → tick_ahead (follows line at halt) line ≡ 0
 tick_gone line at halt = tick_after line (follows line at halt) (followed_once line at halt)

@@ -99,13 +99,7 @@ room_done w s key fate c start epoch false room at is_open has sees = open_done 
 done_by : (w : State) (s key : ℕ) (fate : Fate) (c : Client) (state : SessionState) (reading : Bool) (start epoch : Option ℕ) → ClientAt w.clients s c → c.entry.state ≡ state → HasNumber state start → HasNumber state epoch → FetchDone s key (step_by (fetch_open w.setup s key fate c w.rows (option_or (work_refusal state reading) (reads_refusal w.setup c key)) start epoch) (λ (p : Client). with_client w s p))
 done_by w s key fate c phase.Open true start epoch at is has sees = inl (refusal_line s key _ tt)
 done_by w s key fate c phase.Open false start epoch at is has sees = room_done w s key fate c start epoch (keeps_read w.setup c key) (has_key c.reads key || nat_lt (length c.reads) KEY_LIMIT) at is has sees
-done_by w s key fate c phase.Free reading start epoch at is has sees = inl (refusal_line s key _ tt)
-done_by w s key fate c phase.Asking reading start epoch at is has sees = inl (refusal_line s key _ tt)
-done_by w s key fate c phase.Committing reading start epoch at is has sees = inl (refusal_line s key _ tt)
-done_by w s key fate c phase.Placing reading start epoch at is has sees = inl (refusal_line s key _ tt)
-done_by w s key fate c phase.OpenOutcome reading start epoch at is has sees = inl (refusal_line s key _ tt)
-done_by w s key fate c (phase.Completing undo) reading start epoch at is has sees = inl (refusal_line s key _ tt)
-done_by w s key fate c phase.Gone reading start epoch at is has sees = inl (refusal_line s key _ tt)
+done_by w s key fate c _ reading start epoch at is has sees = inl (refusal_line s key _ tt)
 
 pub fetch_done : (w : State) (h : List Item) (s key : ℕ) (fate : Fate) (c : Client) → Stands w h → Fit w → ClientAt w.clients s c → FetchDone s key (stepped w (event.Fetch s key) fate)
 fetch_done w h s key fate c stands fit at =

@@ -70,13 +70,7 @@ aborted_fits c = aborted_by_fits c.entry c.entry.keys
 
 heard_by : (state : SessionState) (old now : Client) → ClientFits old → ClientFits now → ClientFits (unless_gone_by state old now)
 heard_by phase.Gone old now fit fits = fit
-heard_by phase.Free old now fit fits = fits
-heard_by phase.Asking old now fit fits = fits
-heard_by phase.Open old now fit fits = fits
-heard_by phase.Committing old now fit fits = fits
-heard_by phase.Placing old now fit fits = fits
-heard_by phase.OpenOutcome old now fit fits = fits
-heard_by (phase.Completing undo) old now fit fits = fits
+heard_by _ old now fit fits = fits
 
 heard_fits : (old now : Client) → ClientFits old → ClientFits now → ClientFits (unless_gone old now)
 heard_fits old now fit fits = heard_by old.entry.state old now fit fits

@@ -118,13 +118,7 @@ work_within phase.OpenOutcome e keys Nothing = omega arith
 work_within phase.OpenOutcome e keys (UnderRead r) = omega arith
 work_within phase.OpenOutcome e keys (Settles x) = omega arith
 work_within phase.OpenOutcome e keys (Completes asks) = omega arith
-work_within phase.Free e keys work = asks_within keys work
-work_within phase.Asking e keys work = asks_within keys work
-work_within phase.Open e keys work = asks_within keys work
-work_within phase.Committing e keys work = asks_within keys work
-work_within phase.Placing e keys work = asks_within keys work
-work_within (phase.Completing undo) e keys work = asks_within keys work
-work_within phase.Gone e keys work = asks_within keys work
+work_within _ e keys work = asks_within keys work
 
 completes_within : (c : Client) → handed_commit c.entry ≡ None → client_completes c ≤ client_steps c
 completes_within c none =

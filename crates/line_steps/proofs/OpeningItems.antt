@@ -79,13 +79,7 @@ renew_begins w node reading fate (Some i) = renew_begins_by node reading _ i _ f
 -- ---- a crash
 heard_plain : (state : SessionState) (items : List Item) → AllPlain items → AllPlain (loss_heard state items)
 heard_plain phase.Gone items plain = no_plain
-heard_plain phase.Free items plain = plain
-heard_plain phase.Asking items plain = plain
-heard_plain phase.Open items plain = plain
-heard_plain phase.Committing items plain = plain
-heard_plain phase.Placing items plain = plain
-heard_plain phase.OpenOutcome items plain = plain
-heard_plain (phase.Completing undo) items plain = plain
+heard_plain _ items plain = plain
 
 loss_plain : (node term : ℕ) (request : Request) (c : Client) → AllPlain (loss_items node term request c)
 loss_plain node term (Begin s) c = heard_plain c.entry.state _ (one_plain (item.Refused (Session s) (cause.Crashed node term)) refl)
@@ -120,13 +114,7 @@ begin_begins_free s node c (Some i) = ask_begins_if s c (item.AskBegin s node) (
 
 begin_begins_at : (s node : ℕ) (c : Client) (post : Option InstanceEntry) (state : SessionState) → Begins (BeginAnswer s node) (ask_begin_by s node c post (begin_refusal state)).items
 begin_begins_at s node c post phase.Free = begin_begins_free s node c post
-begin_begins_at s node c post phase.Gone = alone _ _ (inr (refl, tt))
-begin_begins_at s node c post phase.Asking = alone _ _ (inr (refl, tt))
-begin_begins_at s node c post phase.Open = alone _ _ (inr (refl, tt))
-begin_begins_at s node c post phase.Committing = alone _ _ (inr (refl, tt))
-begin_begins_at s node c post phase.Placing = alone _ _ (inr (refl, tt))
-begin_begins_at s node c post phase.OpenOutcome = alone _ _ (inr (refl, tt))
-begin_begins_at s node c post (phase.Completing undo) = alone _ _ (inr (refl, tt))
+begin_begins_at s node c post _ = alone _ _ (inr (refl, tt))
 
 pub ask_begin_begins : (s node : ℕ) (c : Client) (post : Option InstanceEntry) → Begins (BeginAnswer s node) (ask_begin_on s node c post).items
 ask_begin_begins s node c post = begin_begins_at s node c post c.entry.state
@@ -134,13 +122,7 @@ ask_begin_begins s node c post = begin_begins_at s node c post c.entry.state
 -- ---- a vanish
 vanish_begins_at : (s : ℕ) (c : Client) (state : SessionState) → Begins (λ (x : Item). IsVanish s x ⊎ IsRefusal (Session s) x) (vanish_by s c (vanish_refusal state)).items
 vanish_begins_at s c phase.Gone = alone _ _ (inr (refl, tt))
-vanish_begins_at s c phase.Free = alone _ _ (inl refl)
-vanish_begins_at s c phase.Asking = alone _ _ (inl refl)
-vanish_begins_at s c phase.Open = alone _ _ (inl refl)
-vanish_begins_at s c phase.Committing = alone _ _ (inl refl)
-vanish_begins_at s c phase.Placing = alone _ _ (inl refl)
-vanish_begins_at s c phase.OpenOutcome = alone _ _ (inl refl)
-vanish_begins_at s c (phase.Completing undo) = alone _ _ (inl refl)
+vanish_begins_at s c _ = alone _ _ (inl refl)
 
 pub vanish_begins : (s : ℕ) (c : Client) → Begins (λ (x : Item). IsVanish s x ⊎ IsRefusal (Session s) x) (vanish_on s c).items
 vanish_begins s c = vanish_begins_at s c c.entry.state

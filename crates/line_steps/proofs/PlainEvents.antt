@@ -48,23 +48,13 @@ mark_plain actor txn None = refl
 mark_plain actor txn (Some mark) = refl
 
 step_plain : (actor : Actor) (asked : Ask) (answer : Told) → opener (step_item actor asked answer) ≡ None
-step_plain actor (ask.Get txn) answer = refl
 step_plain actor (ask.Mark txn) answer = mark_plain actor txn (entry_of answer)
-step_plain actor (ask.Look key txn) answer = refl
-step_plain actor (ask.Shadow key txn commit) answer = refl
-step_plain actor (ask.Remove txn) answer = refl
-step_plain actor (ask.Erase key txn) answer = refl
-step_plain actor (ask.Keys txn) answer = refl
+step_plain actor _ answer = refl
 
 pub effect_plain : (actor : Actor) (asked : Ask) (answer : Told) → AllPlain (mark_kept actor asked answer)
 effect_plain actor (ask.Mark txn) told.Marked = one_plain _ refl
 effect_plain actor (ask.Mark txn) _ = no_plain
-effect_plain actor (ask.Get txn) answer = no_plain
-effect_plain actor (ask.Look key txn) answer = no_plain
-effect_plain actor (ask.Shadow key txn commit) answer = no_plain
-effect_plain actor (ask.Remove txn) answer = no_plain
-effect_plain actor (ask.Erase key txn) answer = no_plain
-effect_plain actor (ask.Keys txn) answer = no_plain
+effect_plain actor _ answer = no_plain
 
 pub met_plain : (actor : Actor) (asked : Ask) (answer : Told) (fate : Fate) → AllPlain (items_met actor asked answer fate)
 met_plain actor asked answer Works = one_plain (step_item actor asked answer) (step_plain actor asked answer)

@@ -36,13 +36,7 @@ HasNumber state number = EpochFits state number
 
 starts_by : (state : SessionState) (start : Option ℕ) → (IsTrue (has_transaction state) → (t : ℕ) × (start ≡ Some t)) → HasNumber state start
 starts_by phase.Open start begun = let t = begun refl in subst (λ (x : Option ℕ). HasNumber phase.Open x) (sym t.1) tt
-starts_by phase.Free start begun = tt
-starts_by phase.Asking start begun = tt
-starts_by phase.Committing start begun = tt
-starts_by phase.Placing start begun = tt
-starts_by phase.OpenOutcome start begun = tt
-starts_by (phase.Completing undo) start begun = tt
-starts_by phase.Gone start begun = tt
+starts_by _ start begun = tt
 
 pub starts : (w : State) (h : List Item) (s : ℕ) (c : Client) → Stands w h → ClientAt w.clients s c → HasNumber c.entry.state c.entry.start
 starts w h s c stands at = starts_by c.entry.state c.entry.start (λ has. let begun = stands.holds.requests.have_begun.begun s c at has in (begun.0, begun.1))
@@ -60,13 +54,7 @@ commit_begins_by : (s node : ℕ) (c : Client) (post : Option InstanceEntry) (st
 commit_begins_by s node c post phase.Open true start has = alone _ _ (inr (inl (refl, tt)))
 commit_begins_by s node c post phase.Open false None has = absurd has
 commit_begins_by s node c post phase.Open false (Some start) has = commit_begins_of s node c start c.entry.keys post
-commit_begins_by s node c post phase.Free reading start has = alone _ _ (inr (inl (refl, tt)))
-commit_begins_by s node c post phase.Asking reading start has = alone _ _ (inr (inl (refl, tt)))
-commit_begins_by s node c post phase.Committing reading start has = alone _ _ (inr (inl (refl, tt)))
-commit_begins_by s node c post phase.Placing reading start has = alone _ _ (inr (inl (refl, tt)))
-commit_begins_by s node c post phase.OpenOutcome reading start has = alone _ _ (inr (inl (refl, tt)))
-commit_begins_by s node c post (phase.Completing undo) reading start has = alone _ _ (inr (inl (refl, tt)))
-commit_begins_by s node c post phase.Gone reading start has = alone _ _ (inr (inl (refl, tt)))
+commit_begins_by s node c post _ reading start has = alone _ _ (inr (inl (refl, tt)))
 
 pub ask_commit_begins : (s node : ℕ) (c : Client) (post : Option InstanceEntry) → HasNumber c.entry.state c.entry.start → Begins (CommitAnswer s node) (ask_commit_on s node c post).items
 ask_commit_begins s node c post has = commit_begins_by s node c post c.entry.state (is_reading c) c.entry.start has
@@ -85,13 +73,7 @@ write_begins_if s key value FailsApplied c rows (Some start) true has = behind _
 write_begins_by : (s key : ℕ) (value : List ℕ) (fate : Fate) (c : Client) (rows : List Row) (state : SessionState) (reading : Bool) (start : Option ℕ) → HasNumber state start → Begins (WriteAnswer s key value) (write_open s key value fate c rows (option_or (work_refusal state reading) (key_refusal c.entry.keys key)) start).items
 write_begins_by s key value fate c rows phase.Open true start has = alone _ _ (inr (refl, tt))
 write_begins_by s key value fate c rows phase.Open false start has = write_begins_if s key value fate c rows start (has_key c.entry.keys key || nat_lt (length c.entry.keys) KEY_LIMIT) has
-write_begins_by s key value fate c rows phase.Free reading start has = alone _ _ (inr (refl, tt))
-write_begins_by s key value fate c rows phase.Asking reading start has = alone _ _ (inr (refl, tt))
-write_begins_by s key value fate c rows phase.Committing reading start has = alone _ _ (inr (refl, tt))
-write_begins_by s key value fate c rows phase.Placing reading start has = alone _ _ (inr (refl, tt))
-write_begins_by s key value fate c rows phase.OpenOutcome reading start has = alone _ _ (inr (refl, tt))
-write_begins_by s key value fate c rows (phase.Completing undo) reading start has = alone _ _ (inr (refl, tt))
-write_begins_by s key value fate c rows phase.Gone reading start has = alone _ _ (inr (refl, tt))
+write_begins_by s key value fate c rows _ reading start has = alone _ _ (inr (refl, tt))
 
 pub write_begins : (s key : ℕ) (value : List ℕ) (fate : Fate) (c : Client) (rows : List Row) → HasNumber c.entry.state c.entry.start → Begins (WriteAnswer s key value) (write_on s key value fate c rows).items
 write_begins s key value fate c rows has = write_begins_by s key value fate c rows c.entry.state (is_reading c) c.entry.start has
@@ -121,13 +103,7 @@ fetch_begins_if setup s key fate c rows start epoch false room has sees = fetch_
 fetch_begins_by : (setup : SetupNumbers) (s key : ℕ) (fate : Fate) (c : Client) (rows : List Row) (state : SessionState) (reading : Bool) (start epoch : Option ℕ) → HasNumber state start → HasNumber state epoch → Begins (FetchAnswer s key) (fetch_open setup s key fate c rows (option_or (work_refusal state reading) (reads_refusal setup c key)) start epoch).items
 fetch_begins_by setup s key fate c rows phase.Open true start epoch has sees = alone _ _ (inr (refl, tt))
 fetch_begins_by setup s key fate c rows phase.Open false start epoch has sees = fetch_begins_if setup s key fate c rows start epoch (keeps_read setup c key) (has_key c.reads key || nat_lt (length c.reads) KEY_LIMIT) has sees
-fetch_begins_by setup s key fate c rows phase.Free reading start epoch has sees = alone _ _ (inr (refl, tt))
-fetch_begins_by setup s key fate c rows phase.Asking reading start epoch has sees = alone _ _ (inr (refl, tt))
-fetch_begins_by setup s key fate c rows phase.Committing reading start epoch has sees = alone _ _ (inr (refl, tt))
-fetch_begins_by setup s key fate c rows phase.Placing reading start epoch has sees = alone _ _ (inr (refl, tt))
-fetch_begins_by setup s key fate c rows phase.OpenOutcome reading start epoch has sees = alone _ _ (inr (refl, tt))
-fetch_begins_by setup s key fate c rows (phase.Completing undo) reading start epoch has sees = alone _ _ (inr (refl, tt))
-fetch_begins_by setup s key fate c rows phase.Gone reading start epoch has sees = alone _ _ (inr (refl, tt))
+fetch_begins_by setup s key fate c rows _ reading start epoch has sees = alone _ _ (inr (refl, tt))
 
 pub fetch_begins : (setup : SetupNumbers) (s key : ℕ) (fate : Fate) (c : Client) (rows : List Row) → HasNumber c.entry.state c.entry.start → HasNumber c.entry.state c.entry.epoch → Begins (FetchAnswer s key) (fetch_on setup s key fate c rows).items
 fetch_begins setup s key fate c rows has sees = fetch_begins_by setup s key fate c rows c.entry.state (is_reading c) c.entry.start c.entry.epoch has sees

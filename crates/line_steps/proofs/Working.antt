@@ -114,11 +114,7 @@ by_state : (w : State) (h : List Item) (s : ℕ) (c : Client) → Stands w h →
 by_state w h s c stands at phase.OpenOutcome is go = inr (inl (settles w h s c stands at is))
 by_state w h s c stands at (phase.Completing undo) is go = inr (inr (inl (completes w h s c stands at undo is)))
 by_state w h s c stands at phase.Placing is go = inr (inr (inr (places_commit w h s c stands at is)))
-by_state w h s c stands at phase.Free is go = absurd (cc)
-by_state w h s c stands at phase.Asking is go = absurd (cc)
-by_state w h s c stands at phase.Open is go = absurd (cc)
-by_state w h s c stands at phase.Committing is go = absurd (cc)
-by_state w h s c stands at phase.Gone is go = absurd (cc)
+by_state w h s c stands at _ is go = absurd (cc)
 
 idle : (w : State) (h : List Item) (s : ℕ) (c : Client) → Stands w h → ClientAt w.clients s c → step_refusal c.entry.state (is_reading c) ≡ None → is_reading c ≡ false → HasWork c
 idle w h s c stands at go none = by_state w h s c stands at c.entry.state refl (ap (λ (reading : Bool). step_refusal c.entry.state reading) (sym none) ∙ go)

@@ -40,13 +40,7 @@ use Rattle.planned_laws.proofs.ReadItems.{IsRead, Made, none_read, one_read, mad
 -- ---- a crash
 heard_read : (clocks : Clocks) (state : SessionState) (items : List Item) → All (IsRead clocks) items → All (IsRead clocks) (loss_heard state items)
 heard_read clocks phase.Gone items read = none_read clocks
-heard_read clocks phase.Free items read = read
-heard_read clocks phase.Asking items read = read
-heard_read clocks phase.Open items read = read
-heard_read clocks phase.Committing items read = read
-heard_read clocks phase.Placing items read = read
-heard_read clocks phase.OpenOutcome items read = read
-heard_read clocks (phase.Completing undo) items read = read
+heard_read clocks _ items read = read
 
 loss_read : (clocks : Clocks) (node term : ℕ) (request : Request) (c : Client) → All (IsRead clocks) (loss_items node term request c)
 loss_read clocks node term (Begin s) c = heard_read clocks c.entry.state _ (one_read clocks (item.Refused (Session s) (cause.Crashed node term)) tt)
@@ -78,15 +72,9 @@ begin_untimed phase.OpenOutcome = tt
 begin_untimed (phase.Completing undo) = tt
 
 work_untimed : (state : SessionState) (reading : Bool) → IfUntimed (work_refusal state reading)
-work_untimed phase.Gone reading = tt
-work_untimed phase.Free reading = tt
-work_untimed phase.Asking reading = tt
 work_untimed phase.Open true = tt
 work_untimed phase.Open false = tt
-work_untimed phase.Committing reading = tt
-work_untimed phase.Placing reading = tt
-work_untimed phase.OpenOutcome reading = tt
-work_untimed (phase.Completing undo) reading = tt
+work_untimed _ reading = tt
 
 vanish_untimed : (state : SessionState) → IfUntimed (vanish_refusal state)
 vanish_untimed phase.Gone = tt

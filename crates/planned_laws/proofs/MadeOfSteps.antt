@@ -45,13 +45,8 @@ mark_read clocks actor txn None = tt
 mark_read clocks actor txn (Some mark) = tt
 
 step_read : (clocks : Clocks) (actor : Actor) (asked : Ask) (answer : Told) → IsRead clocks (step_item actor asked answer)
-step_read clocks actor (ask.Get txn) answer = tt
 step_read clocks actor (ask.Mark txn) answer = mark_read clocks actor txn (entry_of answer)
-step_read clocks actor (ask.Look key txn) answer = tt
-step_read clocks actor (ask.Shadow key txn commit) answer = tt
-step_read clocks actor (ask.Remove txn) answer = tt
-step_read clocks actor (ask.Erase key txn) answer = tt
-step_read clocks actor (ask.Keys txn) answer = tt
+step_read clocks actor _ answer = tt
 
 worked_read : (clocks : Clocks) (actor : Actor) (asked : Ask) (answer : Told) → All (IsRead clocks) (step_item actor asked answer ∷ [])
 worked_read clocks actor asked answer = one_read clocks (step_item actor asked answer) (step_read clocks actor asked answer)
@@ -154,14 +149,11 @@ idle_untimed true = tt
 idle_untimed false = tt
 
 step_untimed : (state : SessionState) (reading : Bool) → IfUntimed (step_refusal state reading)
-step_untimed phase.Gone reading = tt
-step_untimed phase.Placing reading = tt
-step_untimed phase.OpenOutcome reading = tt
-step_untimed (phase.Completing undo) reading = tt
 step_untimed phase.Free reading = idle_untimed reading
 step_untimed phase.Asking reading = idle_untimed reading
 step_untimed phase.Open reading = idle_untimed reading
 step_untimed phase.Committing reading = idle_untimed reading
+step_untimed _ reading = tt
 
 step_made : (clocks : Clocks) (session : ℕ) (fate : Fate) (c : Client) (rows : List Row) (pairs : Pairs) (why : Option Cause) → IfUntimed why → Made clocks (step_asks_by c why) fate (step_by session fate c rows pairs why).items
 step_made clocks session fate c rows pairs (Some why) untimed = made_refused clocks None fate (Session session) why untimed

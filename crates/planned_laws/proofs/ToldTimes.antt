@@ -11,7 +11,7 @@ use Rattle.history_book.specs.Members.{AtEach}
 use Rattle.history_book.specs.declared.cause.Cause.{Cause}
 use Rattle.history_book.specs.declared.cause.Cause.TheVariants as cause
 use Rattle.history_book.specs.declared.item.Actor.{Actor}
-use Rattle.history_book.specs.declared.item.Actor.TheVariants.{Clock, Node, Session, Janitor}
+use Rattle.history_book.specs.declared.item.Actor.TheVariants.{Node, Session}
 use Rattle.history_book.specs.declared.item.Item.{Item}
 use Rattle.history_book.specs.declared.item.Item.TheVariants as item
 use Rattle.cause_rules.specs.Since.{last_told}
@@ -100,10 +100,7 @@ shows_reading clocks h node reading now reads = omega (arith, now, reads)
 cause_timed : (clocks : Clocks) (h : List Item) (actor : Actor) (why : Cause) → AreShown clocks h → IsCauseRead clocks actor why → IsCauseTimed clocks.leads h actor why
 cause_timed clocks h (Node n) (cause.Early reading until) now read = shows_reading clocks h n reading now read
 cause_timed clocks h (Session s) (cause.Expired reading until) now read = absurd read
-cause_timed clocks h Clock why now read = tt
-cause_timed clocks h Janitor why now read = tt
-cause_timed clocks h (Node n) why now read = tt
-cause_timed clocks h (Session s) why now read = tt
+cause_timed clocks h _ why now read = tt
 
 item_timed : (clocks : Clocks) (h : List Item) (x : Item) → AreShown clocks h → IsTimely clocks x → IsTimed clocks.leads h x
 item_timed clocks h (item.Take node reading term epoch until ceiling) now timely = shows_reading clocks h node reading now timely

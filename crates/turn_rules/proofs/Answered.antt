@@ -46,13 +46,7 @@ none_unanswered Over = refl
 
 is_reading : (s : ℕ) (now : Doing) → read_next s now ≡ Some (event.Step s) → now ≡ doing.Reading
 is_reading s doing.Reading is = refl
-is_reading s doing.Free is = absurd (none-some (event.Step s) is)
-is_reading s doing.Waiting is = absurd (none-some (event.Step s) is)
-is_reading s doing.Open is = absurd (none-some (event.Step s) is)
-is_reading s doing.Placing is = absurd (none-some (event.Step s) is)
-is_reading s doing.OpenOutcome is = absurd (none-some (event.Step s) is)
-is_reading s doing.Completing is = absurd (none-some (event.Step s) is)
-is_reading s doing.Gone is = absurd (none-some (event.Step s) is)
+is_reading s _ is = absurd (none-some (event.Step s) is)
 
 owes : (script : ScriptData) (c : Carried) (seat : Seat) (line : Line) (lines : List Line) → lines_left script seat ≡ line ∷ lines → ReadUnderWay seat.actor script.lines c.played.state c.played.items seat.point line lines → OwesRead script c seat
 owes script c seat line lines left k = record {

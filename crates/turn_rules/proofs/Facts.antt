@@ -11,7 +11,7 @@ use Rattle.machine.specs.Machine.{Step}
 use Rattle.script_data.specs.declared.line.Line.{Line}
 use Rattle.script_data.specs.Data.{ScriptData}
 use Rattle.line_steps.specs.declared.point.Point.{Point}
-use Rattle.line_steps.specs.declared.point.Point.TheVariants.{Opens, Drives, Extends, Finishes, Reads, Steps, Over}
+use Rattle.line_steps.specs.declared.point.Point.TheVariants.{Opens}
 use Rattle.line_steps.specs.Answers.{same_actor}
 use Rattle.script_data.specs.Ticks.{ticks_of}
 use Rattle.line_steps.specs.Laws.{IsPlayable, IsReached}
@@ -48,21 +48,11 @@ ticks_left script (Some seat) = seat_ticks script seat
 first_tick : (line : Line) (lines : List Line) (at : Point) → ticks_of (unanswered at (line ∷ lines)) ≡ tick_ahead at line.verb + ticks_of lines
 unfolding ticks_of
 first_tick line lines Opens = refl
-first_tick line lines Drives = omega arith
-first_tick line lines Extends = omega arith
-first_tick line lines Finishes = omega arith
-first_tick line lines Reads = omega arith
-first_tick line lines Steps = omega arith
-first_tick line lines Over = omega arith
+first_tick line lines _ = omega arith
 
 pub later_ticks : (at : Point) (line : Line) (lines : List Line) → IsLater at → unanswered at (line ∷ lines) ≡ lines
 later_ticks Opens line lines later = absurd later
-later_ticks Drives line lines later = refl
-later_ticks Extends line lines later = refl
-later_ticks Finishes line lines later = refl
-later_ticks Reads line lines later = refl
-later_ticks Steps line lines later = refl
-later_ticks Over line lines later = refl
+later_ticks _ line lines later = refl
 
 -- passing lines adds none
 passing_ticks : (script : ScriptData) (c : Carried) (seat : Seat) → seat_ticks script (seat_passed script c seat) ≤ seat_ticks script seat

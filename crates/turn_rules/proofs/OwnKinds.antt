@@ -158,18 +158,13 @@ later_kind clocks posted Janitor line Extends view unawaited later = tt
 later_kind clocks posted Janitor line Finishes view unawaited later = tt
 later_kind clocks posted Janitor line Reads view unawaited later = tt
 later_kind clocks posted Janitor line Over view unawaited later = tt
-later_kind clocks posted Clock line Drives view unawaited later = tt
-later_kind clocks posted Clock line Extends view unawaited later = tt
-later_kind clocks posted Clock line Finishes view unawaited later = tt
-later_kind clocks posted Clock line Reads view unawaited later = tt
-later_kind clocks posted Clock line Steps view unawaited later = tt
-later_kind clocks posted Clock line Over view unawaited later = tt
 later_kind clocks posted (Node n) line Drives view unawaited later = tt
 later_kind clocks posted (Node n) line Extends view unawaited later = tt
 later_kind clocks posted (Node n) line Finishes view unawaited later = tt
 later_kind clocks posted (Node n) line Reads view unawaited later = tt
 later_kind clocks posted (Node n) line Steps view unawaited later = tt
 later_kind clocks posted (Node n) line Over view unawaited later = tt
+later_kind clocks posted Clock line _ view unawaited later = tt
 
 pub opens_kind : (clocks : Clocks) (posted : Bool) (actor : Actor) (line : Verb) (view : View) (unawaited : Bool) → IsForThreads line → has_opening actor line ≡ false → AheadKind actor (own_next clocks posted actor line Opens view unawaited)
 opens_kind clocks posted actor line view unawaited on none = first_kind clocks posted actor line view unawaited on none

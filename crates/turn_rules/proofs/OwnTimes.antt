@@ -9,7 +9,7 @@ use Rattle.machine.specs.declared.event.Event.TheVariants as event
 use Rattle.script_data.specs.declared.line.Verb.{Verb}
 use Rattle.script_data.specs.declared.line.Verb.TheVariants as verb
 use Rattle.line_steps.specs.declared.point.Point.{Point}
-use Rattle.line_steps.specs.declared.point.Point.TheVariants.{Opens, Drives, Extends, Finishes, Reads, Steps, Over}
+use Rattle.line_steps.specs.declared.point.Point.TheVariants.{Opens, Drives}
 use Rattle.line_steps.specs.declared.point.View.{View}
 use Rattle.script_data.specs.Ticks.{tick_of}
 use Rattle.line_steps.specs.Clocks.{clocks}
@@ -44,12 +44,7 @@ none_ahead Janitor = refl
 
 quiet_at : (clocks : Clocks) (actor : Actor) (line : Verb) (at : Point) (view : View) (e : Event) → next clocks actor line at view ≡ Some e → own_tick actor (tick_ahead at line) ≡ tick_ahead at line
 quiet_at clocks actor line Opens view e is = other_opens clocks actor line view e is
-quiet_at clocks actor line Drives view e is = none_ahead actor
-quiet_at clocks actor line Extends view e is = none_ahead actor
-quiet_at clocks actor line Finishes view e is = none_ahead actor
-quiet_at clocks actor line Reads view e is = none_ahead actor
-quiet_at clocks actor line Steps view e is = none_ahead actor
-quiet_at clocks actor line Over view e is = none_ahead actor
+quiet_at clocks actor line _ view e is = none_ahead actor
 
 -- ---- each own event is timed
 next_timed : (clocks : Clocks) (actor : Actor) (line : Verb) (at : Point) (view : View) (e : Event) → next clocks actor line at view ≡ Some e → Timed clocks (own_tick actor (tick_ahead at line)) e

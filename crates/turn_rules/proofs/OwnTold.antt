@@ -13,7 +13,7 @@ use Rattle.script_data.specs.Data.{ScriptData}
 use Rattle.isolation_laws.specs.Sound.{Stands}
 use Rattle.isolation_laws.specs.Words.{ClientAt}
 use Rattle.line_steps.specs.declared.point.Point.{Point}
-use Rattle.line_steps.specs.declared.point.Point.TheVariants.{Opens, Drives, Extends, Finishes, Reads, Steps, Over}
+use Rattle.line_steps.specs.declared.point.Point.TheVariants.{Opens}
 use Rattle.line_steps.specs.Answers.{same_actor, has_opening, IsAnswer, asks_some}
 use Rattle.line_steps.specs.Laws.{ActorFits}
 use Rattle.line_steps.specs.Runs.{Played, fate_of, step_of}
@@ -97,12 +97,7 @@ later_told script c actor aim e k own later = kind_told script c.played k.line.a
 
 told_at : (script : ScriptData) (c : Carried) (actor : Actor) (aim : ℕ) (e : Event) → AreForThreads script.lines → (k : OwnTurn script c actor aim e) → OwnLine actor (aimed_clocks script c aim) c.played.state c.played.items k.line → (at : Point) → k.seat.point ≡ at → IsTold script c.played e
 told_at script c actor aim e on k own Opens at = first_told script c actor aim e on k own at (has_opening k.line.actor k.line.verb) refl
-told_at script c actor aim e on k own Drives at = later_told script c actor aim e k own (subst (λ (p : Point). IsLater p) (sym at) tt)
-told_at script c actor aim e on k own Extends at = later_told script c actor aim e k own (subst (λ (p : Point). IsLater p) (sym at) tt)
-told_at script c actor aim e on k own Finishes at = later_told script c actor aim e k own (subst (λ (p : Point). IsLater p) (sym at) tt)
-told_at script c actor aim e on k own Reads at = later_told script c actor aim e k own (subst (λ (p : Point). IsLater p) (sym at) tt)
-told_at script c actor aim e on k own Steps at = later_told script c actor aim e k own (subst (λ (p : Point). IsLater p) (sym at) tt)
-told_at script c actor aim e on k own Over at = later_told script c actor aim e k own (subst (λ (p : Point). IsLater p) (sym at) tt)
+told_at script c actor aim e on k own _ at = later_told script c actor aim e k own (subst (λ (p : Point). IsLater p) (sym at) tt)
 
 pub own_turns_are_told : OwnTurnsAreTold
 own_turns_are_told script turns actor aim e in_range playable of_script on is =

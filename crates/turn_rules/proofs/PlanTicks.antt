@@ -73,23 +73,13 @@ other_tick Clock line at other = absurd (cc)
 other_tick (Node n) line Opens other = refl
 other_tick (Session s) line Opens other = refl
 other_tick Janitor line Opens other = refl
-other_tick actor line Drives other = refl
-other_tick actor line Extends other = refl
-other_tick actor line Finishes other = refl
-other_tick actor line Reads other = refl
-other_tick actor line Steps other = refl
-other_tick actor line Over other = refl
+other_tick actor line _ other = refl
 
 -- the clock's tick is as long as the line says
 pub clock_tick : (line : Verb) (at : Point) → unwrap_or (tick_at at Clock line) 0 ≤ tick_ahead at line
 clock_tick (verb.Tick by) Opens = omega arith
 clock_tick _ Opens = omega arith
-clock_tick line Drives = omega arith
-clock_tick line Extends = omega arith
-clock_tick line Finishes = omega arith
-clock_tick line Reads = omega arith
-clock_tick line Steps = omega arith
-clock_tick line Over = omega arith
+clock_tick line _ = omega arith
 
 -- the first of the lines ticks once, when it opens
 pub first_ticks : (line : Line) (lines : List Line) (at : Point) → ticks_in (unanswered at (line ∷ lines)) ≡ with_tick (tick_at at line.actor line.verb) (ticks_in lines)

@@ -53,11 +53,7 @@ moved_by step seat (Some line) true = refl
 
 pub moved_actor : (script : ScriptData) (t : Turn) (step : Step) (seat : Seat) → (moved script t step seat).actor ≡ seat.actor
 moved_actor script (turn.Own actor aim) step seat = moved_by step seat (present_line script seat) (same_actor seat.actor actor)
-moved_actor script (turn.Accept node session) step seat = refl
-moved_actor script (turn.Decide node session) step seat = refl
-moved_actor script (turn.Put node session) step seat = refl
-moved_actor script (turn.Answer node session) step seat = refl
-moved_actor script (turn.Extend node) step seat = refl
+moved_actor script _ step seat = refl
 
 -- the seat of the actor whose turn it is goes on
 pub own_moved : (script : ScriptData) (actor : Actor) (aim : ℕ) (step : Step) (seat : Seat) (line : Line) → seat.actor ≡ actor → present_line script seat ≡ Some line → moved script (turn.Own actor aim) step seat ≡ with_event_of line step seat

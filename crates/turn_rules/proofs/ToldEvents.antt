@@ -122,13 +122,7 @@ abort_appends : (s : ℕ) (c : Client) (state : SessionState) (reading : Bool) (
 abort_appends s c phase.Open true start has = tt
 abort_appends s c phase.Open false None has = absurd has
 abort_appends s c phase.Open false (Some start) has = tt
-abort_appends s c phase.Free reading start has = tt
-abort_appends s c phase.Asking reading start has = tt
-abort_appends s c phase.Committing reading start has = tt
-abort_appends s c phase.Placing reading start has = tt
-abort_appends s c phase.OpenOutcome reading start has = tt
-abort_appends s c (phase.Completing undo) reading start has = tt
-abort_appends s c phase.Gone reading start has = tt
+abort_appends s c _ reading start has = tt
 
 pub abort_told : (w : State) (h : List Item) (s : ℕ) (fate : Fate) (c : Client) → Stands w h → ClientAt w.clients s c → Appends (stepped w (event.Abort s) fate).items
 abort_told w h s fate c stands at = subst (λ (found : Option Client). Appends (at_client w found (λ d. machine_step_by (abort_on s d) (λ p. with_client w s p))).items) (sym at) (abort_appends s c c.entry.state (is_reading c) c.entry.start (starts w h s c stands at))

@@ -1,5 +1,5 @@
 -- What a client may have left of cells stays, whatever becomes of it: only a completion takes some away.
-use Rattle.std.proofs.Common.{[], ◌≡◌, ℕ, zero, suc, true, false, List, ◌∷◌, Option, Some, None, ◌⊎◌, inl, inr, refl, sym, ◌∙◌, ap, subst}
+use Rattle.std.proofs.Common.{[], ◌≡◌, ℕ, zero, suc, true, List, ◌∷◌, Option, Some, None, ◌⊎◌, inl, inr, refl, sym, ◌∙◌, ap, subst}
 use Rattle.std.specs.Prelude.{slice_index_or, slice_set}
 use Rattle.std.proofs.lemmas.Bool.{cases_eq}
 use Rattle.std.proofs.lemmas.Option.{same_Some}
@@ -51,15 +51,8 @@ asking_none c k t is of = has_in c k t phase.Asking is of
 
 -- what is under way counts only where it is undone
 may_have : (state : SessionState) (keys : List ℕ) (u v : UnderWay) (t k : ℕ) → (state ≡ phase.Completing true → ⊥) → MayHave state keys u t k → MayHave state keys v t k
-may_have phase.Free keys u v t k other has = has
-may_have phase.Asking keys u v t k other has = has
-may_have phase.Open keys u v t k other has = has
-may_have phase.Committing keys u v t k other has = has
-may_have phase.Placing keys u v t k other has = has
-may_have phase.OpenOutcome keys u v t k other has = has
 may_have (phase.Completing true) keys u v t k other has = absurd (other refl)
-may_have (phase.Completing false) keys u v t k other has = has
-may_have phase.Gone keys u v t k other has = has
+may_have _ keys u v t k other has = has
 
 pub of_work : (e : SessionEntry) (u v : UnderWay) (k t : ℕ) → (e.state ≡ phase.Completing true → ⊥) → IsOf e u k t → IsOf e v k t
 of_work e u v k t other of = (of.0, may_have e.state e.keys u v t k other of.1)
@@ -132,13 +125,7 @@ answer_has by c commit s u keys waits k t of = of_unless c (answered_client by c
 -- a session that is placing its commit has those that it wrote
 placing_in : (state : SessionState) (keys : List ℕ) (work : UnderWay) (t k : ℕ) → is_placing state ≡ true → MayHave state keys work t k → k ∈ keys
 placing_in phase.Placing keys work t k is has = has
-placing_in phase.Free keys work t k is has = absurd (cc)
-placing_in phase.Asking keys work t k is has = absurd (cc)
-placing_in phase.Open keys work t k is has = absurd (cc)
-placing_in phase.Committing keys work t k is has = absurd (cc)
-placing_in phase.OpenOutcome keys work t k is has = absurd (cc)
-placing_in (phase.Completing undo) keys work t k is has = absurd (cc)
-placing_in phase.Gone keys work t k is has = absurd (cc)
+placing_in _ keys work t k is has = absurd (cc)
 
 pub placing_answered : (by : Settled) (c : Client) (commit : ℕ) → is_placing c.entry.state ≡ true → HasOn c (answered_client by c commit)
 placing_answered by c commit is k t of = answer_of by c commit k t of.0 (placing_in c.entry.state c.entry.keys c.under_way t k is of.1)

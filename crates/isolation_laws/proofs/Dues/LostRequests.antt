@@ -29,13 +29,7 @@ pub record TellsLoss (node term : ℕ) (requests : List (Option Held)) (x : Item
 -- ---- all that is told is of requests that were held
 heard_told : (P : Item → Type 0) (state : SessionState) (items : List Item) → All P items → All P (loss_heard state items)
 heard_told P phase.Gone items told = All-nil P
-heard_told P phase.Free items told = told
-heard_told P phase.Asking items told = told
-heard_told P phase.Open items told = told
-heard_told P phase.Committing items told = told
-heard_told P phase.Placing items told = told
-heard_told P phase.OpenOutcome items told = told
-heard_told P (phase.Completing undo) items told = told
+heard_told P _ items told = told
 
 loss_told : (P : Item → Type 0) (node term : ℕ) (request : Request) (c : Client) → P (item.Refused (Session (session_of request)) (cause_of_loss node term request)) → All P (loss_items node term request c)
 loss_told P node term (Begin session) c told = heard_told P c.entry.state _ (All-cons P _ [] told (All-nil P))

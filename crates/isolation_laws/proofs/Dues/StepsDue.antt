@@ -30,13 +30,8 @@ mark_free w actor txn None before = tt
 mark_free w actor txn (Some mark) before = tt
 
 pub step_free : (w : State) (actor : Actor) (asked : Ask) (answer : Told) → DueAnyway w (step_item actor asked answer)
-step_free w actor (ask.Get txn) answer before = tt
 step_free w actor (ask.Mark txn) answer before = mark_free w actor txn (entry_of answer) before
-step_free w actor (ask.Look key txn) answer before = tt
-step_free w actor (ask.Shadow key txn commit) answer before = tt
-step_free w actor (ask.Remove txn) answer before = tt
-step_free w actor (ask.Erase key txn) answer before = tt
-step_free w actor (ask.Keys txn) answer before = tt
+step_free w actor _ answer before = tt
 
 pub worked_free : (w : State) (actor : Actor) (asked : Ask) (answer : Told) → AllDue w (step_item actor asked answer ∷ [])
 worked_free w actor asked answer = one_free w (step_item actor asked answer) (step_free w actor asked answer)

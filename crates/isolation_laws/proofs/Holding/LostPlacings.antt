@@ -54,13 +54,7 @@ rests_lost w h items q new quiet holds p rests =
 
 placing_state : (state : SessionState) → is_placing state ≡ true → state ≡ phase.Placing
 placing_state phase.Placing is = refl
-placing_state phase.Free is = absurd (cc)
-placing_state phase.Asking is = absurd (cc)
-placing_state phase.Open is = absurd (cc)
-placing_state phase.Committing is = absurd (cc)
-placing_state phase.OpenOutcome is = absurd (cc)
-placing_state (phase.Completing undo) is = absurd (cc)
-placing_state phase.Gone is = absurd (cc)
+placing_state _ is = absurd (cc)
 
 -- ---- the placing fails without effect
 abbrev IsLostBy : List Item → ℕ → Step → Type 0

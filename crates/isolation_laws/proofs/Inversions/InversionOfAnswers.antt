@@ -220,10 +220,6 @@ answer_handed w node session asker start commit keys i held c served asks drawn 
 
 answer_held_request : (w : State) (node session : ℕ) (i : InstanceEntry) (held : Held) (c : Client) → Served w node session i held c → (request : Request) → held.request ≡ request → (p : Progress) → held.progress ≡ p → ComesBy w (answer_step w node session i c (answer_if_ready i session held request p) (stamps_by request p))
 answer_held_request w node session i held c served (Begin asker) asks (progress.Drawn start) stands = answer_waits w node session asker start i held c served asks stands (least_unsettled i.requests start) refl
-answer_held_request w node session i held c served (Begin asker) asks progress.Asked stands = answer_none w node session i c served.at served.client_at
-answer_held_request w node session i held c served (Begin asker) asks progress.Accepted stands = answer_none w node session i c served.at served.client_at
-answer_held_request w node session i held c served (Begin asker) asks (progress.Handed commit) stands = answer_none w node session i c served.at served.client_at
-answer_held_request w node session i held c served (Begin asker) asks (progress.Settled commit by) stands = answer_none w node session i c served.at served.client_at
 answer_held_request w node session i held c served (Commit asker start keys) asks progress.Asked stands = answer_none w node session i c served.at served.client_at
 answer_held_request w node session i held c served (Commit asker start keys) asks progress.Accepted stands = answer_none w node session i c served.at served.client_at
 answer_held_request w node session i held c served (Commit asker start keys) asks (progress.Drawn commit) stands = answer_none w node session i c served.at served.client_at
@@ -231,6 +227,7 @@ answer_held_request w node session i held c served (Commit asker start keys) ask
 answer_held_request w node session i held c served (Commit asker start keys) asks (progress.Settled commit how.Placed) stands = answer_settled w node session asker start commit keys how.Placed i held c served asks stands (item.Committed session start commit) refl refl
 answer_held_request w node session i held c served (Commit asker start keys) asks (progress.Settled commit how.Invalid) stands = answer_settled w node session asker start commit keys how.Invalid i held c served asks stands (item.Refused (Session session) (cause.Invalid start)) refl refl
 answer_held_request w node session i held c served (Commit asker start keys) asks (progress.Settled commit how.Faulted) stands = answer_settled w node session asker start commit keys how.Faulted i held c served asks stands (item.Refused (Session session) (cause.Open start)) refl refl
+answer_held_request w node session i held c served (Begin asker) asks _ stands = answer_none w node session i c served.at served.client_at
 
 answer_found : (w : State) (node session : ℕ) (i : InstanceEntry) (c : Client) → InstanceAt w.nodes node i → ClientAt w.clients session c → (found : Option Held) → held_of i session ≡ found → ComesBy w (answer_step w node session i c (answer_held i session found) (stamps_of_held found))
 answer_found w node session i c at client_at None has = answer_none w node session i c at client_at

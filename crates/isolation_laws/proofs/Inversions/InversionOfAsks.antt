@@ -43,13 +43,7 @@ for_clients w node effect = step_by effect (λ (p : Option InstanceEntry × List
 
 heard_quiet : (state : SessionState) (items : List Item) → AllQuiet items → AllQuiet (loss_heard state items)
 heard_quiet phase.Gone items quiet = none_quiet
-heard_quiet phase.Free items quiet = quiet
-heard_quiet phase.Asking items quiet = quiet
-heard_quiet phase.Open items quiet = quiet
-heard_quiet phase.Committing items quiet = quiet
-heard_quiet phase.Placing items quiet = quiet
-heard_quiet phase.OpenOutcome items quiet = quiet
-heard_quiet (phase.Completing undo) items quiet = quiet
+heard_quiet _ items quiet = quiet
 
 loss_quiet : (node term : ℕ) (request : Request) (c : Client) → AllQuiet (loss_items node term request c)
 loss_quiet node term (Begin session) c = heard_quiet c.entry.state _ (refusal_quiet (Session session) (cause.Crashed node term))
@@ -96,13 +90,7 @@ ask_still w session node post c items at client_at plain = still_both w node ses
 
 begin_free : (state : SessionState) → begin_refusal state ≡ None → state ≡ phase.Free
 begin_free phase.Free go = refl
-begin_free phase.Asking go = absurd (cc)
-begin_free phase.Open go = absurd (cc)
-begin_free phase.Committing go = absurd (cc)
-begin_free phase.Placing go = absurd (cc)
-begin_free phase.OpenOutcome go = absurd (cc)
-begin_free (phase.Completing undo) go = absurd (cc)
-begin_free phase.Gone go = absurd (cc)
+begin_free _ go = absurd (cc)
 
 begin_mild : (state : SessionState) → Mild (begin_refusal state)
 begin_mild phase.Free = tt

@@ -29,13 +29,9 @@ mark_plain actor txn None = (refl, refl)
 mark_plain actor txn (Some mark) = (refl, refl)
 
 pub step_plain : (actor : Actor) (asked : Ask) (answer : Told) → NoList asked → Plain (step_item actor asked answer)
-step_plain actor (ask.Get txn) answer no_list = (refl, refl)
 step_plain actor (ask.Mark txn) answer no_list = mark_plain actor txn (entry_of answer)
-step_plain actor (ask.Look key txn) answer no_list = (refl, refl)
-step_plain actor (ask.Shadow key txn commit) answer no_list = (refl, refl)
-step_plain actor (ask.Remove txn) answer no_list = (refl, refl)
-step_plain actor (ask.Erase key txn) answer no_list = (refl, refl)
 step_plain actor (ask.Keys txn) answer no_list = absurd (no_list txn refl)
+step_plain actor _ answer no_list = (refl, refl)
 
 mark_kept_plain : (actor : Actor) (asked : Ask) (answer : Told) → AllPlain (mark_kept actor asked answer)
 mark_kept_plain actor (ask.Mark txn) told.Marked = one_plain (item.Mark actor txn) refl refl

@@ -45,13 +45,7 @@ for_cells w session effect = step_by effect (λ (p : Client × List Row). record
 pub work_open : (state : SessionState) (reading : Bool) → work_refusal state reading ≡ None → (state ≡ phase.Open) × (reading ≡ false)
 work_open phase.Open false go = (refl, refl)
 work_open phase.Open true go = absurd (cc)
-work_open phase.Free reading go = absurd (cc)
-work_open phase.Asking reading go = absurd (cc)
-work_open phase.Committing reading go = absurd (cc)
-work_open phase.Placing reading go = absurd (cc)
-work_open phase.OpenOutcome reading go = absurd (cc)
-work_open (phase.Completing undo) reading go = absurd (cc)
-work_open phase.Gone reading go = absurd (cc)
+work_open _ reading go = absurd (cc)
 
 pub work_mild : (state : SessionState) (reading : Bool) → Mild (work_refusal state reading)
 work_mild phase.Open false = tt
@@ -162,13 +156,7 @@ write_at w session key value fate c at = write_comes w session key value fate c 
 offer_open : (state : SessionState) (reading : Bool) (heal : Option (ℕ × ℕ × ℕ)) (offer : ℕ × ℕ × ℕ) → offer_by state reading heal ≡ Some offer → (state ≡ phase.Open) × (reading ≡ false) × (heal ≡ Some offer)
 offer_open phase.Open false heal offer has = (refl, refl, has)
 offer_open phase.Open true heal offer has = absurd (cc)
-offer_open phase.Free reading heal offer has = absurd (cc)
-offer_open phase.Asking reading heal offer has = absurd (cc)
-offer_open phase.Committing reading heal offer has = absurd (cc)
-offer_open phase.Placing reading heal offer has = absurd (cc)
-offer_open phase.OpenOutcome reading heal offer has = absurd (cc)
-offer_open (phase.Completing undo) reading heal offer has = absurd (cc)
-offer_open phase.Gone reading heal offer has = absurd (cc)
+offer_open _ reading heal offer has = absurd (cc)
 
 no_offer_mild : (state : SessionState) → Mild (Some (no_offer_cause state))
 no_offer_mild phase.Gone = refl

@@ -130,17 +130,11 @@ under_way_fits w h session c holds at none go (Completes []) is = tt
 under_way_fits w h session c holds at none go (Completes (asked ∷ asks)) is = completes_only w h session c asked asks holds at none is c.entry.state refl go
 
 work_cases : (state : SessionState) (e : SessionEntry) (work : UnderWay) → ((state ≡ phase.OpenOutcome) × (work ≡ Nothing)) ⊎ (work_by state e work ≡ work)
-work_cases phase.Placing e work = inr refl
 work_cases phase.OpenOutcome e Nothing = inl (refl, refl)
 work_cases phase.OpenOutcome e (Reads r) = inr refl
 work_cases phase.OpenOutcome e (Settles x) = inr refl
 work_cases phase.OpenOutcome e (Completes asks) = inr refl
-work_cases phase.Free e work = inr refl
-work_cases phase.Asking e work = inr refl
-work_cases phase.Open e work = inr refl
-work_cases phase.Committing e work = inr refl
-work_cases (phase.Completing undo) e work = inr refl
-work_cases phase.Gone e work = inr refl
+work_cases _ e work = inr refl
 
 pub work_fits : (w : State) (h : List Item) (session : ℕ) (c : Client) → Holds w h → ClientAt w.clients session c → handed_commit c.entry ≡ None → step_refusal c.entry.state (is_reading c) ≡ None → IsWork c (work_of c)
 work_fits w h session c holds at none go = elim (work_cases c.entry.state c.entry c.under_way) [

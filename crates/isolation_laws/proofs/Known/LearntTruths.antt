@@ -7,7 +7,7 @@ use Rattle.store_parts.specs.Rows.{Row, looked}
 use Rattle.store_parts.specs.Pairs.{Pairs}
 use Rattle.client_parts.specs.declared.resolve.Outcome.TheVariants.{Committed as CommittedAt, Dead}
 use Rattle.client_parts.specs.declared.resolve.SettlePoint.{SettlePoint}
-use Rattle.client_parts.specs.declared.resolve.SettlePoint.TheVariants.{FirstLook, Table, Marking, LastLook}
+use Rattle.client_parts.specs.declared.resolve.SettlePoint.TheVariants.{LastLook}
 use Rattle.client_parts.specs.Resolve.{SettleTurn, Goes, Decides, settle_turn_at, ask_at, after_last_look}
 use Rattle.client_parts.specs.KeyRead.{Reading, may_mark, read_ask}
 use Rattle.client_parts.specs.Cache.{dead_for_good, learnt_of, learnt_by}
@@ -36,11 +36,8 @@ met_unplaced w h k c cell holds marked (inl (value, wrote)) dead placed = elim (
 ]
 
 dead_true : (w : State) (h : List Item) (k b : ℕ) (every : Bool) (e : ℕ) (cell : Cell) (point : SettlePoint) → Holds w h → IsResolvedTo w.pairs w.rows h k b every e cell.version point → IsWrittenCell w.clients w.nodes h k cell → settle_turn_at (may_mark every cell.version e) point (told_by (ask_at k cell.version point) w.rows w.pairs) ≡ Decides Dead → IfSome (dead_for_good cell.version point) (IsTruePair (pairs_after (ask_at k cell.version point) w.pairs) h)
-dead_true w h k b every e cell FirstLook holds resolved written dead = tt
-dead_true w h k b every e cell Table holds resolved written dead = tt
-dead_true w h k b every e cell Marking holds resolved written dead = tt
-dead_true w h k b every e cell (LastLook false) holds resolved written dead = tt
 dead_true w h k b every e cell (LastLook true) holds resolved written dead = record { marked = resolved.0 refl; unplaced = λ c placed. met_unplaced w h k c cell holds (resolved.0 refl) written dead placed }
+dead_true w h k b every e cell _ holds resolved written dead = tt
 
 -- ---- each decision
 decision_true : (w : State) (h : List Item) (pairs : Pairs) (k b : ℕ) (every : Bool) (e v : ℕ) (point : SettlePoint) (turn : SettleTurn) → Tells w pairs h k b every e v turn → (turn ≡ Decides Dead → IfSome (dead_for_good v point) (IsTruePair pairs h)) → IfSome (learnt_of v point turn) (IsTruePair pairs h)

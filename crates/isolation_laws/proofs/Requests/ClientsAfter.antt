@@ -59,13 +59,7 @@ has_by old state is has = subst (λ s. IsTrue (has_transaction s)) (sym is) has
 -- a session that places its commit has one
 pub placing_has : (state : SessionState) → is_placing state ≡ true → IsTrue (has_transaction state)
 placing_has phase.Placing is = refl
-placing_has phase.Free is = absurd (cc)
-placing_has phase.Asking is = absurd (cc)
-placing_has phase.Open is = absurd (cc)
-placing_has phase.Committing is = absurd (cc)
-placing_has phase.OpenOutcome is = absurd (cc)
-placing_has (phase.Completing undo) is = absurd (cc)
-placing_has phase.Gone is = absurd (cc)
+placing_has _ is = absurd (cc)
 
 aborted_keeps_by : (e : SessionEntry) (keys : List ℕ) → IsTrue (has_transaction e.state) → IsTrue (has_transaction (aborted_by e keys).state) → IsTrue (has_transaction e.state) × ((aborted_by e keys).start ≡ e.start)
 aborted_keeps_by e [] had has = absurd (has_none phase.Free (inl refl) has)

@@ -34,13 +34,7 @@ becomes_same h s old new same keys = record {
 
 is_gone : (state : SessionState) → (state ≡ phase.Gone) ⊎ (state ≡ phase.Gone → ⊥)
 is_gone phase.Gone = inl refl
-is_gone phase.Free = inr (λ is. cc)
-is_gone phase.Asking = inr (λ is. cc)
-is_gone phase.Open = inr (λ is. cc)
-is_gone phase.Committing = inr (λ is. cc)
-is_gone phase.Placing = inr (λ is. cc)
-is_gone phase.OpenOutcome = inr (λ is. cc)
-is_gone (phase.Completing undo) = inr (λ is. cc)
+is_gone _ = inr (λ is. cc)
 
 pub stays_gone : (old new : Client) → old.entry.state ≡ phase.Gone → unless_gone old new ≡ old
 stays_gone old new gone = ap (λ state. unless_gone_by state old new) gone

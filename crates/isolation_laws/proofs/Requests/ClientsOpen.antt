@@ -134,13 +134,7 @@ aborted_rests c = aborted_rests_by c.entry c.entry.keys
 -- a client that has vanished stays as it is, and any other is what it becomes
 pub unless_gone_cases : (old new : Client) (state : SessionState) → ((unless_gone_by state old new ≡ old) × (state ≡ phase.Gone)) ⊎ (unless_gone_by state old new ≡ new)
 unless_gone_cases old new phase.Gone = inl (refl, refl)
-unless_gone_cases old new phase.Free = inr refl
-unless_gone_cases old new phase.Asking = inr refl
-unless_gone_cases old new phase.Open = inr refl
-unless_gone_cases old new phase.Committing = inr refl
-unless_gone_cases old new phase.Placing = inr refl
-unless_gone_cases old new phase.OpenOutcome = inr refl
-unless_gone_cases old new (phase.Completing undo) = inr refl
+unless_gone_cases old new _ = inr refl
 
 pub gone_cases : (old new : Client) → ((unless_gone old new ≡ old) × (old.entry.state ≡ phase.Gone)) ⊎ (unless_gone old new ≡ new)
 gone_cases old new = unless_gone_cases old new old.entry.state

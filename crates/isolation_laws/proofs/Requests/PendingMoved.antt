@@ -104,11 +104,8 @@ pub record IsOlder (w : State) (k : Drew w) (q : InFlight) : Type 0 where
 
 -- of a commit that another instance's last stamp stands beside: the stage but for that stamp
 older_stage : (last : ℕ) (p : Progress) (stage : Stage) → stage_of (last + 1) p ≡ Some stage → (stage_of last p ≡ Some stage) ⊎ ((stage ≡ Taken (last + 1)) × (stage_of last p ≡ Some (Taken last)))
-older_stage last progress.Asked stage is = inl is
 older_stage last progress.Accepted stage is = inr (stage_now (Taken (last + 1)) stage is, refl)
-older_stage last (progress.Drawn commit) stage is = inl is
-older_stage last (progress.Handed commit) stage is = inl is
-older_stage last (progress.Settled commit by) stage is = inl is
+older_stage last _ stage is = inl is
 
 drawn_other : (w : State) (k : Drew w) (q : InFlight) → q.session ≢ k.session → (p : PendingIn (drew_instance w k) q) → HeldBy k.i q.session (Commit q.session q.start q.keys) p.progress_of → StaysElsewhere w.nodes k.node k.session q ⊎ (IsOlder w k q ⊎ IsDrawnNow w k q)
 drawn_other w k q other p held = elim (older_stage k.i.last p.progress_of q.stage p.stage_is) [

@@ -76,20 +76,12 @@ keeps_erase w h k t holds = record {
 }
 
 pub keeps_stepped : (w : State) (h : List Item) (asked : Ask) → Holds w h → AskFits w h asked → KeepsPlaced w.rows (rows_after asked w.rows) h h
-keeps_stepped w h (ask.Get t) holds fits = keeps_same w.rows h h (calm_same h)
-keeps_stepped w h (ask.Mark t) holds fits = keeps_same w.rows h h (calm_same h)
-keeps_stepped w h (ask.Look k t) holds fits = keeps_same w.rows h h (calm_same h)
 keeps_stepped w h (ask.Shadow k t c) holds fits = keeps_shadow w h k t c holds fits
-keeps_stepped w h (ask.Remove t) holds fits = keeps_same w.rows h h (calm_same h)
 keeps_stepped w h (ask.Erase k t) holds fits = keeps_erase w h k t holds
-keeps_stepped w h (ask.Keys t) holds fits = keeps_same w.rows h h (calm_same h)
+keeps_stepped w h _ holds fits = keeps_same w.rows h h (calm_same h)
 
 -- a mark stays
 pub marks_stepped : (asked : Ask) (pairs : Pairs) (t : ℕ) → Marked pairs t → Marked (pairs_after asked pairs) t
-marks_stepped (ask.Get u) pairs t marked = marked
 marks_stepped (ask.Mark u) pairs t marked = entry_stays-put_pair pairs u t InvalidMark InvalidMark marked
-marks_stepped (ask.Look k u) pairs t marked = marked
-marks_stepped (ask.Shadow k u c) pairs t marked = marked
 marks_stepped (ask.Remove u) pairs t marked = invalid_stays-without_committed pairs u t marked
-marks_stepped (ask.Erase k u) pairs t marked = marked
-marks_stepped (ask.Keys u) pairs t marked = marked
+marks_stepped _ pairs t marked = marked

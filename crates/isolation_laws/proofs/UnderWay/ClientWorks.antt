@@ -117,13 +117,7 @@ works_committed rows h c t commit start keys placed = subst (λ (o : Option ℕ)
 -- ---- nobody hears an answer to a session that has vanished
 unless_works : (rows : List Row) (h : List Item) (old new : Client) (state : SessionState) → Works rows h old → ((state ≡ phase.Gone → ⊥) → Works rows h new) → Works rows h (unless_gone_by state old new)
 unless_works rows h old new phase.Gone was works = was
-unless_works rows h old new phase.Free was works = works (λ is. cc)
-unless_works rows h old new phase.Asking was works = works (λ is. cc)
-unless_works rows h old new phase.Open was works = works (λ is. cc)
-unless_works rows h old new phase.Committing was works = works (λ is. cc)
-unless_works rows h old new phase.Placing was works = works (λ is. cc)
-unless_works rows h old new phase.OpenOutcome was works = works (λ is. cc)
-unless_works rows h old new (phase.Completing undo) was works = works (λ is. cc)
+unless_works rows h old new _ was works = works (λ is. cc)
 
 pub works_unless : (rows : List Row) (h : List Item) (old new : Client) → Works rows h old → ((old.entry.state ≡ phase.Gone → ⊥) → Works rows h new) → Works rows h (unless_gone old new)
 works_unless rows h old new was works = unless_works rows h old new old.entry.state was works
