@@ -169,22 +169,7 @@ made_kept old now (event.Accept n s reading) fate result holds k told is room = 
 made_kept old now (event.Decide n s) fate result holds k told is room = decide_kept old now n s fate k told room
 made_kept old now (event.Put n s) fate result holds k told is room = put_all_kept old now n s fate holds k told room
 made_kept old now (event.Answer n s) fate result holds k told is room = answer_kept old now n s fate k told room
-made_kept old now (event.Tick to) fate result holds k told is room = plain_kept old now (event.Tick to) fate refl k room
-made_kept old now (event.Note actor note) fate result holds k told is room = plain_kept old now (event.Note actor note) fate refl k room
-made_kept old now (event.Take n reading) fate result holds k told is room = plain_kept old now (event.Take n reading) fate refl k room
-made_kept old now (event.Renew n reading) fate result holds k told is room = plain_kept old now (event.Renew n reading) fate refl k room
-made_kept old now (event.Extend n) fate result holds k told is room = plain_kept old now (event.Extend n) fate refl k room
-made_kept old now (event.Crash n) fate result holds k told is room = plain_kept old now (event.Crash n) fate refl k room
-made_kept old now (event.AskBegin s n) fate result holds k told is room = plain_kept old now (event.AskBegin s n) fate refl k room
-made_kept old now (event.AskCommit s n) fate result holds k told is room = plain_kept old now (event.AskCommit s n) fate refl k room
-made_kept old now (event.Write s key value) fate result holds k told is room = plain_kept old now (event.Write s key value) fate refl k room
-made_kept old now (event.Fetch s key) fate result holds k told is room = plain_kept old now (event.Fetch s key) fate refl k room
-made_kept old now (event.Step s) fate result holds k told is room = plain_kept old now (event.Step s) fate refl k room
-made_kept old now (event.Heal s) fate result holds k told is room = plain_kept old now (event.Heal s) fate refl k room
-made_kept old now (event.Abort s) fate result holds k told is room = plain_kept old now (event.Abort s) fate refl k room
-made_kept old now (event.Vanish s) fate result holds k told is room = plain_kept old now (event.Vanish s) fate refl k room
-made_kept old now (event.SweepOpen n txn) fate result holds k told is room = plain_kept old now (event.SweepOpen n txn) fate refl k room
-made_kept old now event.SweepStep fate result holds k told is room = plain_kept old now event.SweepStep fate refl k room
+made_kept old now e fate result holds k told is room = plain_kept old now e fate refl k room
 
 -- ---- where memory was refused, what was reserved before stays so
 more_room : (nodes : List (Option InstanceEntry)) (h : List Item) (before now : ℕ) (places given : Places) → IsKept nodes h before places → before ≤ now → KeepPlaces places given → IsKept nodes h now given
@@ -210,19 +195,4 @@ lacked_kept old now (event.Accept n s reading) k same never room = more_room old
 lacked_kept old now (event.Decide n s) k same never room = same_room old now k (record { spare = spent_none (is_to_decide (held_in old.state n s)) old now same room.spare; places = room.places })
 lacked_kept old now (event.Put n s) k same never room = same_room old now k (record { spare = spent_none (is_to_put (held_in old.state n s)) old now same room.spare; places = unserved_places (to_place (held_in old.state n s)) old.places now.places never room.places })
 lacked_kept old now (event.Answer n s) k same never room = same_room old now k (record { spare = spent_none (is_to_answer (held_in old.state n s)) old now same room.spare; places = room.places })
-lacked_kept old now (event.Tick to) k same never room = same_room old now k room
-lacked_kept old now (event.Note actor note) k same never room = same_room old now k room
-lacked_kept old now (event.Take n reading) k same never room = same_room old now k room
-lacked_kept old now (event.Renew n reading) k same never room = same_room old now k room
-lacked_kept old now (event.Extend n) k same never room = same_room old now k room
-lacked_kept old now (event.Crash n) k same never room = same_room old now k room
-lacked_kept old now (event.AskBegin s n) k same never room = same_room old now k room
-lacked_kept old now (event.AskCommit s n) k same never room = same_room old now k room
-lacked_kept old now (event.Write s key value) k same never room = same_room old now k room
-lacked_kept old now (event.Fetch s key) k same never room = same_room old now k room
-lacked_kept old now (event.Step s) k same never room = same_room old now k room
-lacked_kept old now (event.Heal s) k same never room = same_room old now k room
-lacked_kept old now (event.Abort s) k same never room = same_room old now k room
-lacked_kept old now (event.Vanish s) k same never room = same_room old now k room
-lacked_kept old now (event.SweepOpen n txn) k same never room = same_room old now k room
-lacked_kept old now event.SweepStep k same never room = same_room old now k room
+lacked_kept old now e k same never room = same_room old now k room

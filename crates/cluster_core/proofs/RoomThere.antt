@@ -95,23 +95,7 @@ pub room_is_there : (w : Whole) (e : Event) → IsKept w.state.nodes w.history w
 room_is_there w (event.Decide n s) k = room_in w.state.nodes w.history w.spare n s 1 (is_to_decide (held_in w.state n s)) k.roomy (decide_need w.history (held_in w.state n s))
 room_is_there w (event.Put n s) k = (room_in w.state.nodes w.history w.spare n s 2 (is_to_put (held_in w.state n s)) k.roomy (put_need w.history (held_in w.state n s)), place_in w.state.nodes w.places n s (to_place (held_in w.state n s)) k.kept refl)
 room_is_there w (event.Answer n s) k = room_in w.state.nodes w.history w.spare n s 1 (is_to_answer (held_in w.state n s)) k.roomy (answer_need w.history (held_in w.state n s))
-room_is_there w (event.Accept n s reading) k = tt
-room_is_there w (event.Tick to) k = tt
-room_is_there w (event.Note actor note) k = tt
-room_is_there w (event.Take n reading) k = tt
-room_is_there w (event.Renew n reading) k = tt
-room_is_there w (event.Extend n) k = tt
-room_is_there w (event.Crash n) k = tt
-room_is_there w (event.AskBegin s n) k = tt
-room_is_there w (event.AskCommit s n) k = tt
-room_is_there w (event.Write s key value) k = tt
-room_is_there w (event.Fetch s key) k = tt
-room_is_there w (event.Step s) k = tt
-room_is_there w (event.Heal s) k = tt
-room_is_there w (event.Abort s) k = tt
-room_is_there w (event.Vanish s) k = tt
-room_is_there w (event.SweepOpen n txn) k = tt
-room_is_there w event.SweepStep k = tt
+room_is_there w e k = tt
 
 -- ---- at the opening no node holds a request
 none_needed : (h : List Item) (n : ℕ) → sum_by (needs_of h) (replicate n None) ≡ 0
