@@ -121,7 +121,7 @@ acts_then l m n after end final w e old now acted stopped swapped counts at told
       items = items ∙ told ∙ (λ k. none k ++ (step k).items);
       stopped = stop ∙ stops ∙ ap (λ x. stopped_of x.stop) step;
       parts = noting ∙ ap (noted e) (back ∙ ap (λ (p : Parts). given_from p now.state) counted ∙ given_called (asks old.state e) n now.state
-        ∙ (λ k. called (asks (full k) e) (given_again l m n w now.state old.state swapped setup counts k)) ∙ ap (λ (v : State). called (asked_of l e) (given_from l v)) (at ∙ ap (λ x. x.state) step));
+          ∙ (λ k. called (asks (full k) e) (given_again l m n w now.state old.state swapped setup counts k)) ∙ ap (λ (v : State). called (asked_of l e) (given_from l v)) (at ∙ ap (λ x. x.state) step));
     }
 
 pub acts_by : {E : Type 0} → (l m n after end final : Parts) (w : State) (e : Event) (old now : Whole) (result : Result Unit Stopped) (acted : Acted) (stopped : Option Stopped) (r : Result (Option Stopped) E) → Swapped l m n w old.state → AreCounted w now.state → MakesStep (stepped old.state e (fate_of n (asks old.state e))) old now result → after ≡ called_after (asks old.state e) result n → old.history ≡ [] → end ≡ given_from after now.state → Ends result r → r ≡ Ok stopped → final ≡ noted e end → acted.items.items ≡ now.history → acted.stopped ≡ stopped → Acts l final e acted

@@ -8,3 +8,5 @@ mod OrderLemmas
 mod DecidingItems
 mod ReplayLemmas
 mod MergedOrders
+mod FoundParts
+mod Agreement

@@ -6,7 +6,6 @@ use Rattle.split_stores.specs.Parts.{given, given_sessions, lent_clients}
 use Rattle.split_stores.specs.Swaps.{client_at, client_in}
 use Rattle.split_stores.proofs.Handing.{clients_in, one_client, one_session}
 
-
 in_clients : (w : State) (n : ℕ) (clients : List Client) (s : Option Client) → client_in (record w { clients = clients }) n s ≡ record w { clients = clients_in clients n s }
 in_clients w n clients None = refl
 in_clients w n clients (Some c) = refl

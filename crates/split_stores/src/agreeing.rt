@@ -10,9 +10,8 @@ ghost use Rattle.split_stores.specs.Lookups.{post_by};
 ghost use Rattle.split_stores.specs.Parts.{behind, calls_of, filled, seen, session_of, sessions_seen};
 
 use crate::calls::PlannedCalls;
-use crate::deciding;
 use crate::parts::SessionPart;
-use crate::{Event, Lent};
+use crate::{Event, Lent, deciding};
 use client_parts::State;
 use event_parts::Client;
 use stamp_base::{KeyNo, NodeNo, SessionNo, Store};
@@ -111,9 +110,9 @@ impl Lent<'_> {
             Event::Crash { node } => self.crash_fits(*node),
             Event::AskBegin { session, node } => self.begin_fits(*session, *node),
             Event::AskCommit { session, node } => self.commit_fits(*session, *node),
-            Event::Accept { node, session }
-            | Event::Decide { node, session }
-            | Event::Answer { node, session } => self.request_fits(*node, *session),
+            Event::Accept { node, session } => self.request_fits(*node, *session),
+            Event::Decide { node, session } => self.request_fits(*node, *session),
+            Event::Answer { node, session } => self.request_fits(*node, *session),
             Event::Put { node, session } => self.put_fits(*node, *session),
             Event::Write { session, key, .. } => self.write_fits(*session, *key),
             Event::Step { session } => self.step_fits(*session),
@@ -161,12 +160,15 @@ impl Lent<'_> {
     }
 
     fn extend_fits(&self, node: NodeNo) -> bool
-        requires { HasNode (seen self.now) node }
+        requires { HasNode (seen self.now) node × IsSome (seen self.now).master }
         ensures { IsTrue result ↔ MayExtend (filled (seen self.now)) node }
     {
-        match (self.post(), &self.master) {
-            (Some(post), Some(part)) => deciding::is_covered(post, &part.master),
-            _ => true,
+        let Some(post) = self.post() else {
+            return true;
+        };
+        match &self.master {
+            Some(part) => deciding::is_covered(post, &part.master),
+            None => true,
         }
     }
 
@@ -174,34 +176,39 @@ impl Lent<'_> {
         requires { HasSession (seen self.now) session × HasNode (seen self.now) node }
         ensures { IsTrue result ↔ HoldsNoneIn Free (filled (seen self.now)) session node }
     {
-        match (self.client(session), self.post()) {
-            (Some(client), Some(post)) => {
-                client.state() != State::Free || deciding::holds_none(post, session)
-            }
-            _ => true,
-        }
+        let Some(client) = self.client(session) else {
+            return true;
+        };
+        let Some(post) = self.post() else {
+            return true;
+        };
+        deciding::holds_none_in(client, State::Free, post, session)
     }
 
     fn commit_fits(&self, session: SessionNo, node: NodeNo) -> bool
         requires { HasSession (seen self.now) session × HasNode (seen self.now) node }
         ensures { IsTrue result ↔ HoldsNoneIn Open (filled (seen self.now)) session node }
     {
-        match (self.client(session), self.post()) {
-            (Some(client), Some(post)) => {
-                client.state() != State::Open || deciding::holds_none(post, session)
-            }
-            _ => true,
-        }
+        let Some(client) = self.client(session) else {
+            return true;
+        };
+        let Some(post) = self.post() else {
+            return true;
+        };
+        deciding::holds_none_in(client, State::Open, post, session)
     }
 
     fn request_fits(&self, node: NodeNo, session: SessionNo) -> bool
         requires { HasSession (seen self.now) session × HasNode (seen self.now) node }
         ensures { IsTrue result ↔ IsAsked (filled (seen self.now)) node session }
     {
-        match (self.client(session), self.post()) {
-            (Some(client), Some(post)) => deciding::has_asked(client, post, session),
-            _ => true,
-        }
+        let Some(client) = self.client(session) else {
+            return true;
+        };
+        let Some(post) = self.post() else {
+            return true;
+        };
+        deciding::has_asked(client, post, session)
     }
 
     /// The same of each session.
@@ -224,9 +231,12 @@ impl Lent<'_> {
         requires { HasNode (seen self.now) node × IsSome (seen self.now).table }
         ensures { IsTrue result ↔ NotPlaced (filled (seen self.now)).pairs (to_place (held_in (filled (seen self.now)) node session)) }
     {
-        match (self.post(), &self.table) {
-            (Some(post), Some(part)) => deciding::is_not_placed(post, session, &part.table),
-            _ => true,
+        let Some(post) = self.post() else {
+            return true;
+        };
+        match &self.table {
+            Some(part) => deciding::is_not_placed(post, session, &part.table),
+            None => true,
         }
     }
 
@@ -234,9 +244,12 @@ impl Lent<'_> {
         requires { HasSession (seen self.now) session × IsSome (seen self.now).cells }
         ensures { IsTrue result ↔ WritesBare (filled (seen self.now)) session key }
     {
-        match (self.client(session), &self.cells) {
-            (Some(client), Some(part)) => deciding::writes_bare(client, &part.cells, key),
-            _ => true,
+        let Some(client) = self.client(session) else {
+            return true;
+        };
+        match &self.cells {
+            Some(part) => deciding::writes_bare(client, &part.cells, key),
+            None => true,
         }
     }
 
@@ -244,9 +257,12 @@ impl Lent<'_> {
         requires { HasSession (seen self.now) session × IsSome (seen self.now).cells }
         ensures { IsTrue result ↔ MayHeal (filled (seen self.now)) session }
     {
-        match (self.client(session), &self.cells) {
-            (Some(client), Some(part)) => deciding::heals_only(client, &part.cells),
-            _ => true,
+        let Some(client) = self.client(session) else {
+            return true;
+        };
+        match &self.cells {
+            Some(part) => deciding::heals_only(client, &part.cells),
+            None => true,
         }
     }
 
@@ -255,18 +271,24 @@ impl Lent<'_> {
         requires { HasSession (seen self.now) session }
         ensures { IsTrue result ↔ MayMakeStep (filled (seen self.now)) session }
     {
-        match (self.client(session), &self.cells) {
-            (Some(client), Some(part)) => deciding::steps_keep(client, &part.cells),
-            _ => true,
+        let Some(client) = self.client(session) else {
+            return true;
+        };
+        match &self.cells {
+            Some(part) => deciding::steps_keep(client, &part.cells),
+            None => true,
         }
     }
 
     fn sweep_fits(&self) -> bool
         ensures { IsTrue result ↔ MaySweep (filled (seen self.now)) }
     {
-        match (&self.janitor, &self.cells) {
-            (Some(janitor), Some(part)) => deciding::sweeps_keep(&janitor.sweep, &part.cells),
-            _ => true,
+        let Some(janitor) = &self.janitor else {
+            return true;
+        };
+        match &self.cells {
+            Some(part) => deciding::sweeps_keep(&janitor.sweep, &part.cells),
+            None => true,
         }
     }
 }
