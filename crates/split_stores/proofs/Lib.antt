@@ -2,3 +2,4 @@ mod Handing
 mod Giving
 mod Agreeing
 mod LogLemmas
+mod PlanLemmas

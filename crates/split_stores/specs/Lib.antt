@@ -5,3 +5,6 @@ pub mod Acts
 pub mod Agrees
 pub mod Making
 pub mod Logs
+pub mod Locks
+pub mod Plans
+pub mod Makes
