@@ -148,3 +148,8 @@ given_fit (Some store.Master) l w fit = record_fit w.master l.master fit
 pub given_leases : (rules : Leasing) (master : MasterRecord) (part : Option Record) → IfSome part (λ p. p.rules ≡ rules) → IfSome (given_master master part) (λ p. p.rules ≡ rules)
 given_leases rules master None same = tt
 given_leases rules master (Some p) same = same
+
+-- parts are the same where each of them is
+pub same_parts : (a b : Parts) → a.sessions ≡ b.sessions → a.janitor ≡ b.janitor → a.clock ≡ b.clock → a.node ≡ b.node → a.cells ≡ b.cells → a.table ≡ b.table → a.master ≡ b.master → a.names ≡ b.names → a ≡ b
+same_parts a b sessions janitor clock node cells table master names =
+    λ k. record { sessions = sessions k; janitor = janitor k; clock = clock k; node = node k; cells = cells k; table = table k; master = master k; names = names k }

@@ -3,3 +3,7 @@ mod Giving
 mod Agreeing
 mod LogLemmas
 mod PlanLemmas
+mod OneMore
+mod Filled
+mod FoundParts
+mod Agreement

@@ -1,6 +1,7 @@
 pub mod Calls
 pub mod Parts
 pub mod Swaps
+pub mod Lookups
 pub mod Acts
 pub mod Agrees
 pub mod Making

@@ -1,5 +1,5 @@
 -- What an event does to the parts besides the filled state.
-use Rattle.std.specs.Prelude.{◌≡◌, ◌<◌, ◌×◌, false, ℕ, List, Option, None, Some, Result, Ok, Err, IfSome, option_map}
+use Rattle.std.specs.Prelude.{◌≡◌, ◌<◌, false, ℕ, List, Option, None, Some, Result, Ok, Err, IfSome, IsErr}
 use Rattle.stamp_base.specs.declared.stores.Store.{Store}
 use Rattle.machine.specs.declared.event.Event.{Event}
 use Rattle.turn_rules.specs.Carried.{is_posted, names_after}
@@ -12,6 +12,12 @@ use Rattle.split_stores.specs.Parts.{Parts, called}
 abbrev pub called_after : Option Store → Result Unit Stopped → Parts → Parts
 called_after asked (Err NoMemory) l = l
 called_after asked _ l = called asked l
+
+-- how a call stopped, if it did, unless memory was refused
+abbrev pub Ends : {E : Type 0} → Result Unit Stopped → Result (Option Stopped) E → Type 0
+Ends (Ok _) result = result ≡ Ok None
+Ends (Err NoMemory) result = IsErr result
+Ends (Err stopped) result = result ≡ Ok (Some stopped)
 
 -- the name is new, and there is room for it
 abbrev pub HasRoomFor : Posted → Option (List ℕ) → Type 0

@@ -6,6 +6,7 @@ ghost use Rattle.machine.specs.Machine.{asks};
 ghost use Rattle.cluster_core.specs.Required.{CanMake};
 ghost use Rattle.split_stores.specs.Acts.{Acts, timed_by};
 ghost use Rattle.split_stores.specs.Agrees.{Agrees, CallsFit};
+ghost use Rattle.split_stores.specs.Making.{Ends};
 ghost use Rattle.split_stores.specs.Parts.{LeasesBySetup, filled, seen, setup_of};
 
 use crate::{Event, Lent};
@@ -62,14 +63,21 @@ fn act_timed(
     lent.swap(&mut engine);
     let made = lent.make(&mut engine, event);
     lent.swap(&mut engine);
+    let stopped = ended(made)?;
+    lent.note(event, name);
+    Ok(Acted {
+        items: engine.into_items(),
+        stopped,
+    })
+}
+
+/// How the event stopped, if it did.
+fn ended(made: Result<(), Stopped>) -> Result<Option<Stopped>, NoMemory>
+    ensures { Ends made result }
+{
     match made {
+        Ok(()) => Ok(None),
         Err(Stopped::NoMemory) => Err(NoMemory),
-        _ => {
-            lent.note(event, name);
-            Ok(Acted {
-                items: engine.into_items(),
-                stopped: made.err(),
-            })
-        }
+        Err(stopped) => Ok(Some(stopped)),
     }
 }

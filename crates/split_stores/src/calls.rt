@@ -1,5 +1,5 @@
 // The planned fates of the calls on one store.
-ghost use Rattle.std.specs.Prelude.{◌≡◌, ◌≢◌, ◌+◌, ◌<◌, ◌^◌, AllPairs};
+ghost use Rattle.std.specs.Prelude.{◌≡◌, ◌+◌, ◌<◌, ◌^◌, ◌↔◌, IsTrue};
 ghost use Rattle.split_stores.specs.Calls.{fate_at};
 
 use port_io::Fate;
@@ -25,6 +25,13 @@ impl PlannedCalls {
         ensures { result ≡ fate_at self.now.faults.items (self.now.made + 1) }
     {
         planned(&self.faults, self.made + 1)
+    }
+
+    /// Whether their number is far from its end.
+    pub(crate) fn are_few(&self) -> bool
+        ensures { IsTrue result ↔ (self.now.made < 2 ^ 60) }
+    {
+        self.made < 1 << 60
     }
 
     /// A call was made.

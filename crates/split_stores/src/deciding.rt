@@ -1,5 +1,5 @@
 // Whether a session, a node and the stores agree, each with the others that an event brings together.
-ghost use Rattle.std.specs.Prelude.{◌≡◌, ◌↔◌, IfSome, IsTrue, None};
+ghost use Rattle.std.specs.Prelude.{◌≡◌, ◌↔◌, IfSome, IsTrue, None, Some};
 ghost use Rattle.store_parts.specs.Rows.{HasOnly, IsBare};
 ghost use Rattle.client_parts.specs.declared.session.State.TheVariants.{Open};
 ghost use Rattle.client_parts.specs.SessionSteps.{handed_commit};
@@ -20,7 +20,7 @@ use invalidator::Sweep;
 use master_record::Master;
 use oracle_core::Instance;
 use oracle_parts::{Held, Request};
-use stamp_base::{KeyNo, Mark, SessionNo, Stamp, TxnId};
+use stamp_base::{KeyList, KeyNo, Mark, SessionNo, Stamp, TxnId};
 use takeover_core::Post;
 
 /// The node holds no request of the session.
@@ -30,6 +30,17 @@ pub(crate) fn holds_none(post: &Post, session: SessionNo) -> bool
     match &post.instance {
         Some(instance) => instance.held(session).is_none(),
         None => true,
+    }
+}
+
+/// The same where the session is in the state.
+pub(crate) fn holds_none_in(client: &Client, state: State, post: &Post, session: SessionNo) -> bool
+    ensures { IsTrue result ↔ (client.now.entry.state ≡ state → HoldsNone post.now session) }
+{
+    if client.state() == state {
+        holds_none(post, session)
+    } else {
+        true
     }
 }
 
@@ -55,14 +66,41 @@ fn has_asked_held(client: &Client, held: &Option<Held>) -> bool
 fn has_asked_for(client: &Client, request: &Request) -> bool
     ensures { IsTrue result ↔ HasAsked request.now client.now.entry }
 {
-    match (client.state(), request) {
-        (State::Gone, _) => true,
-        (State::Asking, Request::Begin { .. }) => true,
-        (State::Committing, Request::Commit { start, keys, .. }) => {
-            client.start() == Some(*start) && client.keys() == keys
+    match request {
+        Request::Begin { .. } => matches!(client.state(), State::Gone | State::Asking),
+        Request::Commit { start, keys, .. } => match client.state() {
+            State::Gone => true,
+            State::Committing => commits(client, *start, keys),
+            _ => false,
+        },
+    }
+}
+
+/// The client's transaction has this start and these keys.
+fn commits(client: &Client, start: Stamp, keys: &KeyList) -> bool
+    ensures { IsTrue result ↔ ((client.now.entry.start ≡ Some start) × (client.now.entry.keys ≡ keys.now)) }
+{
+    match client.start() {
+        Some(own) if own.value() == start.value() => {
+            are_same(client.keys().as_slice(), keys.as_slice())
         }
         _ => false,
     }
+}
+
+/// The lists have the same keys at the same places.
+fn are_same(keys: &[KeyNo], others: &[KeyNo]) -> bool
+    ensures { IsTrue result ↔ (keys.now ≡ others.now) }
+{
+    if keys.len() != others.len() {
+        return false;
+    }
+    for i in 0..keys.len() {
+        if keys[i].value() != others[i].value() {
+            return false;
+        }
+    }
+    true
 }
 
 /// The record of the instance's own term reaches as far as the instance may draw.

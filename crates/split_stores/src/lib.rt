@@ -2,6 +2,7 @@
 #![tactic(auto)]
 
 mod acting;
+mod agreeing;
 mod calls;
 mod deciding;
 mod event;
@@ -19,6 +20,7 @@ mod split;
 mod swapping;
 
 pub use acting::{Acted, act};
+pub use agreeing::agrees;
 pub use event::Event;
 pub use gate::{OpenPartGate, PartGate};
 pub use lent::Lent;

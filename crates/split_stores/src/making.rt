@@ -19,7 +19,8 @@ use stamp_base::{NoMemory, Setup, Store};
 impl Lent<'_> {
     /// The setup of the lent node, or what holds where a script sets nothing.
     pub(crate) fn setup(&self) -> Setup
-        ensures { numbers_of result ≡ setup_of (seen self.now) }
+        ensures numbers { numbers_of result ≡ setup_of (seen self.now) }
+        ensures lead { lead_by (seen self.now).node ≤ 1000000 }
     {
         match &self.node {
             Some(node) => node.setup,
@@ -88,7 +89,7 @@ impl Lent<'_> {
     }
 
     /// The base clock.
-    fn base(&self) -> u64
+    pub(crate) fn base(&self) -> u64
         ensures { result ≡ base_by (seen self.now).clock }
     {
         match &self.clock {
@@ -172,7 +173,7 @@ impl Lent<'_> {
         requires calls { CallsFit (seen self.old) (asks engine.old.state event.now) }
         requires can { CanMake engine.old.state event.now }
         ensures made { MakesStep (stepped engine.old.state event.now (fate_of (seen self.old) (asks engine.old.state event.now))) engine.old engine.new result }
-        ensures parts { seen self.new ≡ called_after (asks engine.old.state event.now) result.now (seen self.old) }
+        ensures parts { seen self.new ≡ called_after (asks engine.old.state event.now) result (seen self.old) }
         ensures names { behind posted_of self.new.names ≡ behind posted_of self.old.names }
     {
         let store = engine.store_of(event);

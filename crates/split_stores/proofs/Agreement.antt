@@ -1,5 +1,5 @@
 -- Parts that agree may make their event, and the call that it asks of a store is one that was counted.
-use Rattle.std.proofs.Common.{◌≡◌, ℕ, ◌≤◌, ◌^◌, Bool, true, false, slice_get, Option, Some, None, refl}
+use Rattle.std.proofs.Common.{◌≡◌, ℕ, ◌≤◌, Bool, true, false, slice_get, Option, Some, None, refl, arith}
 use Rattle.std.specs.Prelude.{IfSome}
 use Rattle.std.specs.Option.{option_or}
 use Rattle.stamp_base.specs.declared.stores.Store.{Store}
@@ -16,6 +16,7 @@ use Rattle.machine.specs.Clients.{is_reading}
 use Rattle.machine.specs.Calls.{Waits, WaitsFor, WaitsAt}
 use Rattle.machine.specs.Events.Take.{take_asks}
 use Rattle.machine.specs.Events.Renew.{renew_asks}
+use Rattle.machine.specs.Events.Extend.{extend_asks}
 use Rattle.machine.specs.Events.Put.{put_asks, commit_asks, to_place}
 use Rattle.machine.specs.Events.Write.{open_asks, write_asks, write_refused}
 use Rattle.machine.specs.Events.Fetch.{epoch_asks, fetch_asks, fetch_refused}
@@ -26,7 +27,7 @@ use Rattle.split_stores.specs.declared.event.Event.{Event}
 use Rattle.split_stores.specs.declared.event.Event.TheVariants as event
 use Rattle.split_stores.specs.Acts.{timed_by, asked_of}
 use Rattle.split_stores.specs.Agrees.{Agrees, CallsFit, HasAsked, HasAskedIf, HasAskedAt, store_by}
-use Rattle.split_stores.specs.Parts.{Parts, filled, reading_by}
+use Rattle.split_stores.specs.Parts.{Parts, filled, lead_by}
 
 -- ---- states
 begins_free : (s : state.State) → begin_refusal s ≡ None → s ≡ state.TheVariants.Free
@@ -67,27 +68,27 @@ waits_at None session e asked = tt
 waits_at (Some i) session e asked = waits_if (held_of i session) e asked
 
 -- ---- the event may be made
-pub can_make : (l : Parts) (e : Event) → Agrees l e → reading_by l ≤ 2 ^ 61 → CanMake (filled l) (timed_by l e)
-can_make l (event.Take node) agrees far = far
-can_make l (event.Renew node) agrees far = far
-can_make l (event.Extend node) agrees far = agrees.parts
-can_make l (event.Crash node) agrees far = λ session post c at there. waits_at post session c.entry (agrees.parts session post c at there)
-can_make l (event.AskBegin session node) agrees far = λ c post there at may. agrees.parts c post there at (begins_free c.entry.state may)
-can_make l (event.AskCommit session node) agrees far = λ c post there at may. agrees.parts c post there at (works_open c.entry.state (is_reading c) may)
-can_make l (event.Accept node session) agrees far = λ post c at there. waits_at post session c.entry (agrees.parts post c at there)
-can_make l (event.Decide node session) agrees far = λ post c at there. waits_at post session c.entry (agrees.parts post c at there)
-can_make l (event.Answer node session) agrees far = λ post c at there. waits_at post session c.entry (agrees.parts post c at there)
-can_make l (event.Write session key value) agrees far = λ c there may. agrees.parts c there (works_open c.entry.state (is_reading c) (first_none _ _ may))
-can_make l (event.Step session) agrees far = agrees.parts
-can_make l (event.Heal session) agrees far = agrees.parts
-can_make l event.SweepStep agrees far = agrees.parts
-can_make l (event.Tick by) agrees far = tt
-can_make l (event.Note actor note) agrees far = tt
-can_make l (event.Put node session) agrees far = tt
-can_make l (event.Fetch session key) agrees far = tt
-can_make l (event.Abort session) agrees far = tt
-can_make l (event.Vanish session) agrees far = tt
-can_make l (event.SweepOpen node txn) agrees far = tt
+pub can_make : (l : Parts) (e : Event) → Agrees l e → lead_by l.node ≤ 1000000 → CanMake (filled l) (timed_by l e)
+can_make l (event.Take node) agrees few = omega (arith, agrees.clock, few)
+can_make l (event.Renew node) agrees few = omega (arith, agrees.clock, few)
+can_make l (event.Extend node) agrees few = agrees.parts
+can_make l (event.Crash node) agrees few = λ session post c at there. waits_at post session c.entry (agrees.parts session post c at there)
+can_make l (event.AskBegin session node) agrees few = λ c post there at may. agrees.parts c post there at (begins_free c.entry.state may)
+can_make l (event.AskCommit session node) agrees few = λ c post there at may. agrees.parts c post there at (works_open c.entry.state (is_reading c) may)
+can_make l (event.Accept node session) agrees few = λ post c at there. waits_at post session c.entry (agrees.parts post c at there)
+can_make l (event.Decide node session) agrees few = λ post c at there. waits_at post session c.entry (agrees.parts post c at there)
+can_make l (event.Answer node session) agrees few = λ post c at there. waits_at post session c.entry (agrees.parts post c at there)
+can_make l (event.Write session key value) agrees few = λ c there may. agrees.parts c there (works_open c.entry.state (is_reading c) (first_none _ _ may))
+can_make l (event.Step session) agrees few = agrees.parts
+can_make l (event.Heal session) agrees few = agrees.parts
+can_make l event.SweepStep agrees few = agrees.parts
+can_make l (event.Tick by) agrees few = tt
+can_make l (event.Note actor note) agrees few = tt
+can_make l (event.Put node session) agrees few = tt
+can_make l (event.Fetch session key) agrees few = tt
+can_make l (event.Abort session) agrees few = tt
+can_make l (event.Vanish session) agrees few = tt
+can_make l (event.SweepOpen node txn) agrees few = tt
 
 -- ---- the store that is asked, where one is
 -- none, or this one
@@ -115,6 +116,10 @@ renew_most : (post : Option InstanceEntry) → IsAtMost store.Master (renew_asks
 renew_most None = tt
 renew_most (Some i) = refl
 
+extend_most : (post : Option InstanceEntry) → IsAtMost store.Master (extend_asks post)
+extend_most None = tt
+extend_most (Some i) = refl
+
 commit_most : (stamps : Option (ℕ × ℕ)) → IsAtMost store.Table (commit_asks stamps)
 commit_most None = tt
 commit_most (Some stamps) = refl
@@ -139,7 +144,7 @@ offer_most (Some offer) = refl
 pub calls_fit : (l : Parts) (e : Event) → CallsFit l (store_by l e) → CallsFit l (asked_of l (timed_by l e))
 calls_fit l (event.Take node) fit = fits_most l store.Master _ (post_most store.Master (slice_get (filled l).nodes node) take_asks take_most) fit
 calls_fit l (event.Renew node) fit = fits_most l store.Master _ (post_most store.Master (slice_get (filled l).nodes node) renew_asks renew_most) fit
-calls_fit l (event.Extend node) fit = fits_most l store.Master _ (post_most store.Master (slice_get (filled l).nodes node) renew_asks renew_most) fit
+calls_fit l (event.Extend node) fit = fits_most l store.Master _ (post_most store.Master (slice_get (filled l).nodes node) extend_asks extend_most) fit
 calls_fit l (event.Put node session) fit = fits_most l store.Table _ (post_most store.Table (slice_get (filled l).nodes node) (put_asks session) (put_most session)) fit
 calls_fit l (event.Write session key value) fit = fits_most l store.Cells _ (client_most store.Cells (slice_get (filled l).clients session) (write_asks key) (λ c. open_most (write_refused c key) c.entry.start)) fit
 calls_fit l (event.Fetch session key) fit = fits_most l store.Cells _ (client_most store.Cells (slice_get (filled l).clients session) (fetch_asks (filled l).setup key) (λ c. epoch_most c.entry.epoch _ (open_most (fetch_refused (filled l).setup c key) c.entry.start))) fit
