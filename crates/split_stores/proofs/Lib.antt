@@ -1,6 +1,5 @@
 mod Handing
 mod Giving
-mod Agreeing
 mod LogLemmas
 mod PlanLemmas
 mod OneMore

@@ -58,8 +58,8 @@ numbered s (fault ∷ faults) one =
     let rest : AreNumbered (faults_on s faults) = numbered s faults (λ i j d less there. one (suc i) (suc j) d (omega arith) (omega arith)) in
     elim (cases_Bool (same_store fault.0 s)) [
       | inl here ↦
-        let others : All (λ (b : PlannedFault). fault.0 ≡ b.0 → fault.1 ≢ b.1) faults = λ i d there. one 0 (suc i) d (omega arith) (omega arith) in
-        let apart = on_all s (λ (b : PlannedFault). fault.0 ≡ b.0 → fault.1 ≢ b.1) (λ (b : NumberedFault). fault.1 ≢ b.0) faults (λ b there away. away (same_is fault.0 s here ∙ sym (same_is b.0 s there))) others in
-        rw here (AllPairs-cons (λ (a : NumberedFault) (b : NumberedFault). a.0 ≢ b.0) (fault.1, fault.2) (faults_on s faults) apart rest)
+          let others : All (λ (b : PlannedFault). fault.0 ≡ b.0 → fault.1 ≢ b.1) faults = λ i d there. one 0 (suc i) d (omega arith) (omega arith) in
+          let apart = on_all s (λ (b : PlannedFault). fault.0 ≡ b.0 → fault.1 ≢ b.1) (λ (b : NumberedFault). fault.1 ≢ b.0) faults (λ b there away. away (same_is fault.0 s here ∙ sym (same_is b.0 s there))) others in
+          rw here (AllPairs-cons (λ (a : NumberedFault) (b : NumberedFault). a.0 ≢ b.0) (fault.1, fault.2) (faults_on s faults) apart rest)
       | inr away ↦ rw away rest
     ]

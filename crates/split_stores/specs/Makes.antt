@@ -6,6 +6,8 @@ use Rattle.tick_word.specs.Rule.{seat_limit}
 use Rattle.history_book.specs.declared.item.Item.{Item}
 use Rattle.event_parts.specs.declared.stopped.Stopped.{Stopped}
 use Rattle.script_data.specs.Data.{ScriptData}
+use Rattle.session_script.specs.declared.script.Script.{Script}
+use Rattle.session_script.specs.Script.{data_of}
 use Rattle.split_stores.specs.declared.acting.Acted.{Acted}
 use Rattle.split_stores.specs.declared.event.Event.{Event}
 use Rattle.split_stores.specs.declared.made.Made.{Made}
@@ -72,3 +74,7 @@ pub record Shared : Type 0 where
   pub id : TableId
   pub seats : ℕ
   pub plan : ScriptData
+
+-- the script without its lines
+abbrev pub planned_by : Script → ScriptData
+planned_by script = record (data_of script) { lines = [] }

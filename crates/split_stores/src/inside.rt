@@ -22,12 +22,7 @@ pub(crate) struct Turn<'a, R, G> {
 impl<R: Wait, G: PartGate> Turn<'_, R, G> {
     /// The event passes the gate, is made of its parts, which are locked and lent, and is logged under one tick, in the room that
     /// was made. Where memory is refused no tick is drawn.
-    pub(crate) fn inside(
-        &self,
-        word: &TickWord,
-        seat: &mut ActorSeat,
-        lent: &mut Lent<'_>,
-    ) -> Made
+    pub(crate) fn inside(&self, word: &TickWord, seat: &mut ActorSeat, lent: &mut Lent<'_>) -> Made
         requires ready { IsReady word.now.id self.now.event seat.old }
         requires parts { IsAtNode (seen lent.old) self.now.event → HasParts (seen lent.old) self.now.event }
         ensures { Inside self.now.event (seen lent.old) (seen lent.new) seat.old seat.new result }

@@ -3,7 +3,8 @@ ghost use Rattle.std.specs.Prelude.{◌≡◌, ◌≤◌, ◌++◌, ℕ, ◌∷�
 ghost use Rattle.port_io.specs.Planned.{OneEach, planned_fate, same_store};
 ghost use Rattle.split_stores.specs.Calls.{AreNumbered, fate_at, faults_on};
 ghost use Rattle.split_stores.specs.Logs.{IsNew};
-ghost use Rattle.split_stores.specs.Plans.{plan_data, planned_by};
+ghost use Rattle.split_stores.specs.Plans.{plan_data};
+ghost use Rattle.split_stores.specs.Makes.{planned_by};
 
 use crate::parts::{NodePart, SessionPart};
 use crate::plan::Plan;
@@ -63,10 +64,7 @@ pub(crate) fn free_sessions(alloc: Global) -> Result<Vec<Mutex<SessionPart>>, No
 }
 
 /// All nodes, without an instance. A node that is none of the setup's has a clock that is not ahead.
-pub(crate) fn vacant_nodes(
-    alloc: Global,
-    script: &Script,
-) -> Result<Vec<Mutex<NodePart>>, NoMemory>
+pub(crate) fn vacant_nodes(alloc: Global, script: &Script) -> Result<Vec<Mutex<NodePart>>, NoMemory>
     requires cache { script.now.setup.cache ≡ 0 }
     requires direct { script.now.setup.direct ≡ false }
     requires strict { script.now.setup.strict ≡ false }
@@ -131,8 +129,6 @@ fn is_on(fault: &(Store, u64, Fate), store: Store) -> bool
 {
     matches!(
         (fault.0, store),
-        (Store::Cells, Store::Cells)
-            | (Store::Table, Store::Table)
-            | (Store::Master, Store::Master)
+        (Store::Cells, Store::Cells) | (Store::Table, Store::Table) | (Store::Master, Store::Master)
     )
 }

@@ -1,7 +1,7 @@
 // The parts of the system, each behind a lock of its own.
 ghost use Rattle.std.specs.Prelude.{◌≡◌, ◌≤◌, All, IfOk, false, length};
 ghost use Rattle.split_stores.specs.Logs.{IsNew};
-ghost use Rattle.split_stores.specs.Plans.{planned_by};
+ghost use Rattle.split_stores.specs.Makes.{planned_by};
 
 use crate::opening::{cut, faults_on, free_sessions, plan_of, vacant_nodes};
 use crate::parts::{
