@@ -1,6 +1,8 @@
 mod Handing
 mod Giving
 mod Agreement
+mod LogLemmas
+mod PlanLemmas
 mod OneMore
 mod Filled
 mod FoundParts
