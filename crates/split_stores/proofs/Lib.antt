@@ -6,8 +6,6 @@ mod PlanLemmas
 mod OneMore
 mod Filled
 mod FoundParts
-mod Agreement
-mod LogLemmas
 mod OrderLemmas
 mod DecidingItems
 mod ReplayLemmas

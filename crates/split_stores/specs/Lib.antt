@@ -11,5 +11,4 @@ pub mod Merging
 pub mod Merged
 pub mod Orders
 pub mod Locks
-pub mod Plans
 pub mod Makes
