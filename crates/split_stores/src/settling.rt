@@ -13,7 +13,6 @@ ghost use Rattle.split_stores.specs.Merged.{timed_at, played_with, IsReplayed, A
 use crate::merging::merge;
 use crate::plan::Plan;
 use crate::seat::{ActorSeat, Entry};
-use crate::split::Split;
 use crate::timing::timed;
 use cluster_core::{Cluster, Stopped};
 use history_book::Item;
@@ -51,26 +50,6 @@ impl From<NoMemory> for SettleStop {
 
     fn from(_: NoMemory) -> SettleStop {
         SettleStop::NoMemory
-    }
-}
-
-impl Split {
-    /// The cluster that the events of all logs lead to in the order of their ticks, where each entry kept what its event appends
-    /// there. Its history is what they kept, in that order. The split and its seats are given up, also where it is refused: as
-    /// Missing exactly where not all seats are there, then as Torn at the first tick at which an entry kept something else.
-    pub fn settle(self, alloc: Global, seats: Vec<ActorSeat>) -> Result<Cluster, SettleStop>
-        requires { All (λ s. s.word ≡ self.id) seats.items }
-        ensures settled { IfOk result (λ cluster. Settled self.plan (logs_of seats.items) cluster) }
-        ensures all { OnOk result (length seats.items ≡ self.seats) }
-        ensures stopped { IfErr result (SettleStops self.plan self.seats seats.items) }
-    {
-        let Split {
-            word,
-            actors,
-            plan,
-            ..
-        } = self;
-        settle_logs(alloc, &plan, word, actors, seats)
     }
 }
 
