@@ -1,12 +1,12 @@
 mod Handing
 mod Giving
 mod Agreement
+mod LogLemmas
+mod PlanLemmas
 mod OneMore
 mod Filled
-mod LogLemmas
 mod OrderLemmas
 mod DecidingItems
 mod ReplayLemmas
 mod MergedOrders
 mod FoundParts
-mod Agreement

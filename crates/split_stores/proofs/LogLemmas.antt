@@ -1,5 +1,5 @@
 -- A log with one entry more, and one from which an entry's items were struck.
-use Rattle.std.proofs.Common.{◌≡◌, ℕ, ◌-◌, ◌<◌, ◌≤◌, Bool, true, ◌&&◌, List, [], ◌∷◌, ◌++◌, length, set, refl, sym, ap, ◌∙◌, subst, lt-ltb, arith}
+use Rattle.std.proofs.Common.{◌≡◌, ℕ, ◌+◌, ◌-◌, ◌<◌, ◌≤◌, ◌^◌, Bool, true, ◌&&◌, List, [], ◌∷◌, ◌++◌, length, map, set, refl, sym, ap, ◌∙◌, subst, lt-ltb, arith}
 use Rattle.std.specs.Prelude.{get_or, slice_get, slice_set, MatchOption, false, Some}
 use Rattle.std.proofs.lemmas.Bool.{and_parts}
 use Rattle.std.proofs.lemmas.List.Elements.{All-head, All-tail}
@@ -8,8 +8,10 @@ use Rattle.std.proofs.lemmas.List.Sums.{sum_by-set}
 use Rattle.std.proofs.Math.Seq.{map-set_same}
 use Rattle.tick_word.specs.Rule.{AllUpTo}
 use Rattle.tick_word.specs.Seats.{Seated}
+use Rattle.split_stores.specs.declared.event.Event.{Event}
+use Rattle.split_stores.specs.declared.event.Event.TheVariants as event
 use Rattle.split_stores.specs.declared.seat.Entry.{Entry}
-use Rattle.split_stores.specs.Logs.{ticks_of, rises_above, rise_of, risen_by, IsKept, Logged, SameLog, Strikes}
+use Rattle.split_stores.specs.Logs.{CanRise, ticks_of, rises_above, rise_of, risen_by, IsKept, Logged, SameLog, Strikes}
 
 both_true : (a b : Bool) → a ≡ true → b ≡ true → (a && b) ≡ true
 both_true a b p q = ap (λ x. x && b) p ∙ q
@@ -30,6 +32,10 @@ kept_more entries e old new h part drawn positive above =
       drawn = drawn ∙ ap (λ l. l ++ e.tick ∷ []) h.drawn ∙ sym more;
       rise = ap (rises_above 0) more ∙ rises-push 0 (ticks_of entries) e.tick h.rise positive (subst (AllUpTo (e.tick - 1)) h.drawn above) positive;
     }
+
+pub can_rise : (e : Event) (entries : List Entry) → CanRise e entries → risen_by entries < 1099511627776 → risen_by entries + rise_of e < 1099511627776
+can_rise (event.Tick by) entries can far = can.2
+can_rise _ entries can far = omega (arith, far)
 
 -- ---- in the place of an entry stands another with the same tick and event
 pub kept_struck : (entries : List Entry) (place : ℕ) (was now : Entry) (seat : Seated) → was ≡ get_or entries place was → now.tick ≡ was.tick → IsKept entries seat → IsKept (set entries place now) seat

@@ -10,3 +10,5 @@ pub mod Plans
 pub mod Merging
 pub mod Merged
 pub mod Orders
+pub mod Locks
+pub mod Makes

@@ -1,5 +1,5 @@
 -- The logs of actors.
-use Rattle.std.specs.Prelude.{◌≡◌, ℕ, nat_lt, Bool, true, ◌&&◌, List, [], ◌∷◌, ◌++◌, map, sum_by, slice_set}
+use Rattle.std.specs.Prelude.{◌≡◌, ℕ, ◌+◌, ◌<◌, ◌≤◌, ◌^◌, nat_lt, Bool, true, ◌&&◌, List, [], ◌∷◌, ◌++◌, map, sum_by, slice_set}
 use Rattle.atomic_table.specs.Seated.{TableId}
 use Rattle.tick_word.specs.Seats.{Seated}
 use Rattle.history_book.specs.declared.item.Item.{Item}
@@ -34,6 +34,11 @@ rise_of _ = 0
 
 abbrev pub risen_by : List Entry → ℕ
 risen_by entries = sum_by (λ e. rise_of e.event) entries
+
+-- a tick of the clock raises it by 1 to 1,000,000, and all that were logged with it by less than 2^40
+abbrev pub CanRise : Event → List Entry → Type 0
+CanRise (event.Tick by) entries = (1 ≤ by) × (by ≤ 1000000) × (risen_by entries + by < 2 ^ 40)
+CanRise _ entries = Unit {0}
 
 abbrev pub IsNew : TableId → Logged → Type 0
 IsNew word log = (log.word ≡ word) × (log.entries ≡ [])

@@ -1,7 +1,7 @@
 // The log of an actor, whose ticks rise.
 ghost use Rattle.std.specs.Prelude.{◌≡◌, ◌+◌, ◌<◌, ◌^◌, [], true, false, OnOk, MatchOption, length, slice_get};
 ghost use Rattle.tick_word.specs.Rule.{seat_limit};
-ghost use Rattle.split_stores.specs.Logs.{IsNew, Adds, SameLog, Strikes, risen_by, rise_of};
+ghost use Rattle.split_stores.specs.Logs.{IsNew, Adds, SameLog, Strikes, CanRise, risen_by, rise_of};
 
 use crate::Event;
 use history_book::Item;
@@ -89,7 +89,7 @@ impl ActorSeat {
     pub(crate) fn log(&mut self, word: &TickWord, event: Event, kept: Vec<Item>)
         requires word { self.old.word ≡ word.now.id }
         requires few { length self.old.entries < seat_limit }
-        requires rises { risen_by self.old.entries + rise_of event < 2 ^ 40 }
+        requires rises { CanRise event self.old.entries }
         requires room { self.old.ready ≡ true }
         ensures { Adds event kept.items self.old self.new }
     {

@@ -1,0 +1,106 @@
+// The parts of the system, each behind a lock of its own.
+ghost use Rattle.std.specs.Prelude.{◌≡◌, ◌≤◌, All, IfOk, false, length};
+ghost use Rattle.split_stores.specs.Logs.{IsNew};
+ghost use Rattle.split_stores.specs.Makes.{planned_by};
+
+use crate::opening::{cut, faults_on, free_sessions, plan_of, vacant_nodes};
+use crate::parts::{
+    CellsPart, ClockPart, JanitorPart, MasterPart, NamesPart, NodePart, SessionPart, TablePart,
+};
+use crate::plan::Plan;
+use crate::seat::ActorSeat;
+use cell_store::Cells;
+use commit_table::Table;
+use master_record::Master;
+use session_script::Script;
+use stamp_base::{NoMemory, Store};
+use std::alloc::Global;
+use std::marker::Model;
+use std::sync::Mutex;
+use tick_word::TickWord;
+
+/// The parts of the system, each behind a lock of its own, and the word that gives ticks. A part is locked before those that
+/// stand below it here.
+#[derive(Drop)]
+pub struct Split {
+    pub(crate) sessions: Vec<Mutex<SessionPart>>,
+    pub(crate) janitor: Mutex<JanitorPart>,
+    pub(crate) clock: Mutex<ClockPart>,
+    pub(crate) nodes: Vec<Mutex<NodePart>>,
+    pub(crate) cells: Mutex<CellsPart>,
+    pub(crate) table: Mutex<TablePart>,
+    pub(crate) master: Mutex<MasterPart>,
+    pub(crate) names: Mutex<NamesPart>,
+    pub(crate) word: TickWord,
+    pub(crate) actors: usize,
+    pub(crate) plan: Plan,
+}
+
+impl Model for Split {
+    ghost use Rattle.std.specs.Prelude.{◌≡◌, ◌≤◌, vec_len};
+    ghost use Rattle.split_stores.specs.Makes.{Shared};
+    ghost use Rattle.split_stores.specs.Plans.{plan_data};
+
+    ghost Value = { Shared };
+
+    ghost view = { λ s. record { id = s.word.id; seats = s.word.seats; plan = plan_data s.plan } };
+
+    ghost invariant = { λ s. (s.actors ≡ s.word.seats) × (s.actors ≤ 26) × (vec_len s.sessions ≡ 16) × (vec_len s.nodes ≡ 8) };
+}
+
+impl Split {
+    /// The parts at their beginning, as the script sets them, and a seat for each actor. The planned faults are divided by their
+    /// stores.
+    pub fn open(
+        alloc: Global,
+        script: &Script,
+        actors: usize,
+    ) -> Result<(Split, Vec<ActorSeat>), NoMemory>
+        requires actors { (1 ≤ actors) × (actors ≤ 26) }
+        requires cache { script.now.setup.cache ≡ 0 }
+        requires direct { script.now.setup.direct ≡ false }
+        requires strict { script.now.setup.strict ≡ false }
+        ensures plan { IfOk result (λ made. made.0.plan ≡ planned_by script.now) }
+        ensures seats { IfOk result (λ made. All (IsNew made.0.id) made.1.items) }
+        ensures all { IfOk result (λ made. (length made.1.items ≡ actors) × (made.0.seats ≡ actors)) }
+    {
+        let (word, rest) = TickWord::open(alloc, actors as u64)?;
+        let seats = cut(alloc, &word, rest, actors)?;
+        let split = parts_of(alloc, script, word, actors)?;
+        Ok((split, seats))
+    }
+}
+
+/// The parts with their word.
+fn parts_of(
+    alloc: Global,
+    script: &Script,
+    word: TickWord,
+    actors: usize,
+) -> Result<Split, NoMemory>
+    requires actors { (actors ≡ word.seats) × (actors ≤ 26) }
+    requires cache { script.now.setup.cache ≡ 0 }
+    requires direct { script.now.setup.direct ≡ false }
+    requires strict { script.now.setup.strict ≡ false }
+    ensures plan { IfOk result (λ split. split.plan ≡ planned_by script.now) }
+    ensures word { IfOk result (λ split. (split.id ≡ word.id) × (split.seats ≡ word.seats)) }
+{
+    let setup = script.setup;
+    let cells = faults_on(alloc, &script.faults, Store::Cells)?;
+    let table = faults_on(alloc, &script.faults, Store::Table)?;
+    let master = faults_on(alloc, &script.faults, Store::Master)?;
+    let free = Master::free(setup.lease, setup.skew, setup.range);
+    Ok(Split {
+        sessions: free_sessions(alloc)?,
+        janitor: Mutex::new(JanitorPart::new(alloc)),
+        clock: Mutex::new(ClockPart::new(alloc)),
+        nodes: vacant_nodes(alloc, script)?,
+        cells: Mutex::new(CellsPart::new(alloc, Cells::new(alloc), cells)),
+        table: Mutex::new(TablePart::new(alloc, Table::new(alloc), table)),
+        master: Mutex::new(MasterPart::new(alloc, free, master)),
+        names: Mutex::new(NamesPart::new(alloc)),
+        word,
+        actors,
+        plan: plan_of(alloc, script)?,
+    })
+}
