@@ -23,7 +23,10 @@ impl Split {
         ensures stopped { IfErr result (SettleStops self.plan self.seats seats.items) }
     {
         let Split {
-            word, actors, plan, ..
+            word,
+            actors,
+            plan,
+            ..
         } = self;
         settle_logs(alloc, &plan, word, actors, seats)
     }
