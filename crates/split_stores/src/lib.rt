@@ -6,6 +6,7 @@ mod acting;
 mod agreeing;
 mod calls;
 mod deciding;
+mod ending;
 mod event;
 mod gate;
 mod inside;
