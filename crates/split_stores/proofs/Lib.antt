@@ -10,4 +10,3 @@ mod OrderLemmas
 mod DecidingItems
 mod ReplayLemmas
 mod MergedOrders
-mod FoundParts
