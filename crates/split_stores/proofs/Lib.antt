@@ -10,3 +10,4 @@ mod OrderLemmas
 mod DecidingItems
 mod ReplayLemmas
 mod MergedOrders
+mod MakeLemmas

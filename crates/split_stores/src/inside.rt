@@ -2,7 +2,8 @@
 ghost use Rattle.std.specs.Prelude.{◌≡◌, ◌↔◌, IfOk, IsTrue, OnErr};
 ghost use Rattle.split_stores.specs.Agrees.{HasParts};
 ghost use Rattle.split_stores.specs.Locks.{IsAtNode, IsNode, IsReady};
-ghost use Rattle.split_stores.specs.Makes.{Inside, Performs};
+ghost use Rattle.split_stores.specs.Logs.{Adds};
+ghost use Rattle.split_stores.specs.Makes.{Inside, made_of, Makes, Performs};
 ghost use Rattle.split_stores.specs.Parts.{seen};
 
 use crate::{Acted, ActorSeat, Event, Lent, Made, PartGate, act, agrees};
@@ -12,6 +13,7 @@ use std::sync::Wait;
 use tick_word::TickWord;
 
 /// An event that is to be made, with the gate that it passes.
+#[derive(Drop)]
 pub(crate) struct Turn<'a, R, G> {
     pub(crate) rt: &'a R,
     pub(crate) alloc: Global,
@@ -25,18 +27,27 @@ impl<R: Wait, G: PartGate> Turn<'_, R, G> {
     pub(crate) fn inside(&self, word: &TickWord, seat: &mut ActorSeat, lent: &mut Lent<'_>) -> Made
         requires ready { IsReady word.now.id self.now.event seat.old }
         requires parts { IsAtNode (seen lent.old) self.now.event → HasParts (seen lent.old) self.now.event }
-        ensures { Inside self.now.event (seen lent.old) (seen lent.new) seat.old seat.new result }
+        ensures done { Inside self.now.event (seen lent.old) (seen lent.new) seat.old seat.new result }
+        ensures made { Makes self.now.event result seat.old seat.new }
     {
         self.gate.inside(self.rt, &self.event);
         match perform(self.alloc, lent, &self.event) {
-            Ok(Acted { items, stopped }) => {
-                seat.log(word, self.event, items);
-                match stopped {
-                    None => Made::Did,
-                    Some(why) => Made::Stopped(why),
-                }
-            }
+            Ok(acted) => self.logged(word, seat, acted),
             Err(_) => Made::NoMemory,
+        }
+    }
+
+    /// The event is logged with its items, and answered as it stopped.
+    fn logged(&self, word: &TickWord, seat: &mut ActorSeat, acted: Acted) -> Made
+        requires { IsReady word.now.id self.now.event seat.old }
+        ensures adds { Adds self.now.event acted.items.items seat.old seat.new }
+        ensures answers { result ≡ made_of acted.stopped }
+    {
+        let Acted { items, stopped } = acted;
+        seat.log(word, self.event, items);
+        match stopped {
+            None => Made::Did,
+            Some(why) => Made::Stopped(why),
         }
     }
 }

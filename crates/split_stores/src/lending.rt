@@ -1,5 +1,5 @@
 // Parts that are lent one by one.
-ghost use Rattle.std.specs.Prelude.{◌≡◌, ◌<◌, slice_set, Some};
+ghost use Rattle.std.specs.Prelude.{◌≡◌, ◌+◌, ◌<◌, slice_set, Some};
 ghost use Rattle.split_stores.specs.Parts.{seen, session_of, sessions_seen, janitor_of, clock_of, node_of, cells_of, table_of, master_of, names_of};
 ghost use Rattle.split_stores.specs.Locks.{no_parts};
 

@@ -1,19 +1,8 @@
-use Rattle.std.proofs.Common.{rules, sym, ap}
-use Rattle.split_stores.specs.Makes.{LogsWhatIsDone, made_of}
+use Rattle.split_stores.proofs.MakeLemmas.{inside_of, makes_of}
 use Rattle.split_stores.proofs.inside.Turn.inside.Goals as goal
 
-pub returns-in-None : goal.returns-in-None
-returns-in-None g c = record {
-  acted = record { items = c.in-Ok.items; stopped = c.in-Ok.stopped };
-  performs = search rules;
-  adds = c.log.ensures;
-  answers = sym (ap made_of c.in-None.is);
-}
+pub returns-in-Ok-clause-done : goal.returns-in-Ok-clause-done
+returns-in-Ok-clause-done g c = inside_of _ _ _ _ _ c.in-Ok.acted _ c.in-Ok.ensures.performs c.logged.ensures.adds c.logged.ensures.answers
 
-pub returns-in-Some : goal.returns-in-Some
-returns-in-Some g c = record {
-  acted = record { items = c.in-Ok.items; stopped = c.in-Ok.stopped };
-  performs = search rules;
-  adds = c.log.ensures;
-  answers = sym (ap made_of c.in-Some.is);
-}
+pub returns-in-Ok-clause-made : goal.returns-in-Ok-clause-made
+returns-in-Ok-clause-made g c = makes_of _ c.in-Ok.acted.items.items c.in-Ok.acted.stopped _ _ _ c.logged.ensures.adds c.logged.ensures.answers

@@ -1,0 +1,41 @@
+-- What was made of a log with room was made of the log before.
+use Rattle.std.proofs.Common.{◌≡◌, List, ◌∷◌, ◌++◌, [], length, Option, Some, None, sym, subst, ap, ◌∙◌}
+use Rattle.history_book.specs.declared.item.Item.{Item}
+use Rattle.event_parts.specs.declared.stopped.Stopped.{Stopped}
+use Rattle.split_stores.specs.declared.acting.Acted.{Acted}
+use Rattle.split_stores.specs.declared.event.Event.{Event}
+use Rattle.split_stores.specs.declared.made.Made.{Made}
+use Rattle.split_stores.specs.declared.made.Made.TheVariants as made
+use Rattle.split_stores.specs.Logs.{Adds, Logged, SameLog}
+use Rattle.split_stores.specs.Makes.{AddsOne, Inside, LogsWhatIsDone, Makes, Performs, made_of}
+use Rattle.split_stores.specs.Parts.{Parts}
+
+added_from : (e : Event) (old mid new : Logged) → SameLog old mid → AddsOne e mid new → AddsOne e old new
+added_from e old mid new same h = record { added = h.added; of = h.of; word = h.word ∙ same.word; entries = h.entries ∙ ap (λ l. l ++ h.added ∷ []) same.entries }
+
+pub makes_from : (e : Event) (m : Made) (old mid new : Logged) → SameLog old mid → Makes e m mid new → Makes e m old new
+makes_from e made.Did old mid new same h = added_from e old mid new same h
+makes_from e (made.Stopped why) old mid new same h = added_from e old mid new same h
+makes_from e (made.Spent drawn) old mid new same h = (record { word = h.0.word ∙ same.word; entries = h.0.entries ∙ same.entries }, h.1 ∙ ap length same.entries, h.2)
+makes_from e made.NoMemory old mid new same h = record { word = h.word ∙ same.word; entries = h.entries ∙ same.entries }
+
+pub makes_word : (e : Event) (m : Made) (old new : Logged) → Makes e m old new → new.word ≡ old.word
+makes_word e made.Did old new h = h.word
+makes_word e (made.Stopped why) old new h = h.word
+makes_word e (made.Spent drawn) old new h = h.0.word
+makes_word e made.NoMemory old new h = h.word
+
+-- ---- what was logged and answered is what was done
+inside_by : (e : Event) (old now : Parts) (before after : Logged) (stopped : Option Stopped) (answer : Made) → answer ≡ made_of stopped → LogsWhatIsDone e old now before after answer → Inside e old now before after answer
+inside_by e old now before after None answer is done = subst (Inside e old now before after) (sym is) (subst (LogsWhatIsDone e old now before after) is done)
+inside_by e old now before after (Some why) answer is done = subst (Inside e old now before after) (sym is) (subst (LogsWhatIsDone e old now before after) is done)
+
+pub inside_of : (e : Event) (old now : Parts) (before after : Logged) (acted : Acted) (answer : Made) → Performs e old now acted → Adds e acted.items.items before after → answer ≡ made_of acted.stopped → Inside e old now before after answer
+inside_of e old now before after acted answer performs adds is = inside_by e old now before after acted.stopped answer is (record { acted = acted; performs = performs; adds = adds; answers = is })
+
+adds_one : (e : Event) (items : List Item) (old new : Logged) → Adds e items old new → AddsOne e old new
+adds_one e items old new h = record { added = h.added; of = h.of; word = h.word; entries = h.entries }
+
+pub makes_of : (e : Event) (items : List Item) (stopped : Option Stopped) (answer : Made) (old new : Logged) → Adds e items old new → answer ≡ made_of stopped → Makes e answer old new
+makes_of e items None answer old new adds is = subst (λ m. Makes e m old new) (sym is) (adds_one e items old new adds)
+makes_of e items (Some why) answer old new adds is = subst (λ m. Makes e m old new) (sym is) (adds_one e items old new adds)
