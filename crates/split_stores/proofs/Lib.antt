@@ -10,4 +10,5 @@ mod OrderLemmas
 mod DecidingItems
 mod ReplayLemmas
 mod MergedOrders
+mod LockLemmas
 mod MakeLemmas

@@ -1,7 +1,7 @@
 // Parts that are lent one by one.
 ghost use Rattle.std.specs.Prelude.{◌≡◌, ◌+◌, ◌<◌, slice_set, Some};
 ghost use Rattle.split_stores.specs.Parts.{seen, session_of, sessions_seen, janitor_of, clock_of, node_of, cells_of, table_of, master_of, names_of};
-ghost use Rattle.split_stores.specs.Locks.{no_parts};
+ghost use Rattle.split_stores.specs.Locks.{HasSessionsBelow, no_parts};
 
 use crate::Lent;
 use crate::parts::{
@@ -65,6 +65,16 @@ impl<'a> Lent<'a> {
             _ => lent.s15 = Some(part),
         }
         lent
+    }
+
+    /// The session of this number is lent too, after those below it.
+    #[tactic(auto, using(crate::proofs::LockLemmas::below_more))]
+    pub(crate) fn with_next_session(self, number: usize, part: &'a mut SessionPart) -> Lent<'a>
+        requires number { number < 16 }
+        requires below { HasSessionsBelow number (seen self) }
+        ensures { HasSessionsBelow (number + 1) (seen result) }
+    {
+        self.with_session(number, part)
     }
 
     /// The janitor is lent too.

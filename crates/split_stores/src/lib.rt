@@ -13,6 +13,7 @@ mod inside;
 mod laws;
 mod lending;
 mod lent;
+mod locking;
 mod made;
 mod making;
 mod merging;
@@ -23,6 +24,7 @@ mod seat;
 mod settling;
 mod split;
 mod swapping;
+mod telling;
 mod timing;
 
 pub use acting::{Acted, act};
