@@ -8,8 +8,7 @@ use Rattle.machine.specs.Machine.{stepped, asks}
 use Rattle.script_data.specs.Data.{ScriptData}
 use Rattle.line_steps.specs.Planned.{with_tick, Planned}
 use Rattle.line_steps.specs.Runs.{Played, Calls, played, opening_played, step_of, clocks_of, clock_after, calls_after, fate_by}
-use Rattle.planned_laws.specs.Orders.{TimedEvent, all_played, AllRead, ticks_made}
-use Rattle.planned_laws.proofs.AnyOrder.{orders_are_planned}
+use Rattle.planned_laws.specs.Orders.{TimedEvent, all_played, AllRead, ticks_made, OrdersArePlanned}
 use Rattle.split_stores.specs.declared.seat.Entry.{Entry}
 use Rattle.split_stores.specs.Merged.{timed_in, played_with, replayed_items, entries_played, merged_played, IsReplayed, IsSettledAt}
 use Rattle.split_stores.specs.Orders.{rise_by, timed_entries, rises_in, without_lines, SettledByPlans, SettledIsPlanned}
@@ -74,11 +73,11 @@ unfolding ticks_made timed_entries rises_in
 same_ticks script [] p = refl
 same_ticks script (e ∷ es) p = ap (with_tick (rise_by e.event)) (same_ticks script es (played_with script p e.event))
 
-pub settled_is_planned : SettledIsPlanned
-settled_is_planned script logs whole settled in_range playable ticks =
+pub settled_is_planned : OrdersArePlanned → SettledIsPlanned
+settled_is_planned law script logs whole settled in_range playable ticks =
     let es : List Entry = settled.merged in
     let p : Played = opening_played script in
     let events : List TimedEvent = timed_entries script es p in
-    let planned : Planned script (all_played script events p).items = orders_are_planned script events in_range playable (all_read script es p) (same_ticks script es p ∙ ticks) in
+    let planned : Planned script (all_played script events p).items = law script events in_range playable (all_read script es p) (same_ticks script es p ∙ ticks) in
     let at : IsSettledAt script es whole = settled_by_plans script logs whole settled in
     subst (Planned script) (ap (λ (q : Played). q.items) (same_played script es p) ∙ sym at.items) planned

@@ -19,8 +19,7 @@ use Rattle.line_steps.specs.Runs.{Played, played, opening_played, step_of, clock
 use Rattle.line_steps.proofs.Ending.{opening_reached}
 use Rattle.line_steps.proofs.Timing.{Timed, InTime, in_time}
 use Rattle.planned_laws.specs.SoFar.{ReadsClocks}
-use Rattle.planned_laws.specs.Orders.{IsTold}
-use Rattle.planned_laws.proofs.AnyOrder.{events_stay_told}
+use Rattle.planned_laws.specs.Orders.{EventsStayTold, IsTold}
 use Rattle.cluster_core.specs.Whole.{Whole}
 use Rattle.planned_cluster.specs.Standing.{StandsAt}
 use Rattle.split_stores.specs.declared.event.Event.{Event}
@@ -140,15 +139,15 @@ kept_push script done e kept here =
     ∙ flat_map_more (λ (x : Entry). x.kept.items) [] done e
 
 -- one more entry was made again, and agreed
-pub stands_more : (script : ScriptData) (done left rest : List Entry) (e : Entry) (old new : Whole) (clock later : ℕ) (ahead now : Store → ℕ → Fate) → left ≡ e ∷ rest → IsOnTime script → StandsAfter script done left old clock ahead → IsReplayed script (merged_played script done) e → StandsAt script (played_with script (merged_played script done) e.event) new later now → StandsAfter script (done ++ e ∷ []) rest new later now
-stands_more script done left rest e old new clock later ahead now split on_time h here at =
+pub stands_more : EventsStayTold → (script : ScriptData) (done left rest : List Entry) (e : Entry) (old new : Whole) (clock later : ℕ) (ahead now : Store → ℕ → Fate) → left ≡ e ∷ rest → IsOnTime script → StandsAfter script done left old clock ahead → IsReplayed script (merged_played script done) e → StandsAt script (played_with script (merged_played script done) e.event) new later now → StandsAfter script (done ++ e ∷ []) rest new later now
+stands_more law script done left rest e old new clock later ahead now split on_time h here at =
     let p : Played = merged_played script done in
     let next : Played = played_with script p e.event in
     let push : merged_played script (done ++ e ∷ []) ≡ next = played_push script done e (opening_played script) in
     let room : p.clock + risen_by (e ∷ rest) ≤ 28587302322176 = subst (λ (es : List Entry). p.clock + risen_by es ≤ 28587302322176) split h.room in
     let few : p.clock + rise_of e.event ≤ 28587302322176 = first_fits p.clock e rest room in
     let up : next.clock ≡ p.clock + rise_of e.event = clock_rises p.clock script.leads e.event in
-    let told : IsTold script next = events_stay_told script (rise_by e.event) p (timed_in script p e.event) on_time.leads (omega (arith, few, tick_is e.event, on_time.skew)) h.told (reads (clocks_of script p) e.event) in
+    let told : IsTold script next = law script (rise_by e.event) p (timed_in script p e.event) on_time.leads (omega (arith, few, tick_is e.event, on_time.skew)) h.told (reads (clocks_of script p) e.event) in
     record {
       stands = subst (λ (q : Played). StandsAt script q new later now) (sym push) at;
       told = subst (IsTold script) (sym push) told;

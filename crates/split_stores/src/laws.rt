@@ -1,6 +1,8 @@
 // What holds of every history that was settled.
 ghost use Rattle.split_stores.specs.Orders.{SettledByPlans, SettledIsPlanned};
 
+use planned_laws::orders_are_planned;
+
 /// Which lines a script has makes no difference to what its logs come to: its setup, leads and faults alone do.
 pub fn settled_by_plans()
     ensures { SettledByPlans }
@@ -9,4 +11,6 @@ pub fn settled_by_plans()
 /// A history that was settled has the faults, ticks and readings that the script plans, where its ticks are those of the lines.
 pub fn settled_is_planned()
     ensures { SettledIsPlanned }
-{}
+{
+    orders_are_planned();
+}

@@ -18,6 +18,7 @@ use cluster_core::{Cluster, Stopped};
 use history_book::Item;
 use machine::Event as TimedEvent;
 use planned_cluster::PlannedCluster;
+use planned_laws::events_stay_told;
 use port_io::{PlannedWeather, Weather};
 use stamp_base::NoMemory;
 use std::alloc::Global;
@@ -94,6 +95,8 @@ fn replay_all(play: &mut PlannedCluster, plan: &Plan, merged: &[Entry]) -> Resul
     requires risen { risen_by merged.now ≤ 26 * 2 ^ 40 }
     ensures { MatchResult result (λ _. IsSettledAt (plan_data plan.now) merged.now play.new.cluster) (ReplayStops (plan_data plan.now) merged.now) }
 {
+    // (a law of events that read the clocks, which the loop stands on)
+    events_stay_told();
     for entry in merged {
         if let Err(stop) = replay_one(play, plan.leads.as_slice(), entry) {
             return Err(stop);

@@ -41,7 +41,7 @@ loop-entry-preserved c =
     let merged : List Entry = c.args.merged.now in
     let turn = c.replay_one.ensures script (merged_played script (take i merged)) (sym c.as_slice.ensures.value) c.loop-entry.invariant.stands in
     let both = MatchResult-at_ok _ _ c.in_default.field-0 c.in_default.is turn in
-    let more = stands_more script (take i merged) (drop i merged) (drop (i + 1) merged) e _ _ _ _ _ _ (left_at merged i e c.loop-entry-test.true c.entry-item.is) (on_time c.args.plan.now) c.loop-entry.invariant both.0 both.1 in
+    let more = stands_more c.events_stay_told.ensures script (take i merged) (drop i merged) (drop (i + 1) merged) e _ _ _ _ _ _ (left_at merged i e c.loop-entry-test.true c.entry-item.is) (on_time c.args.plan.now) c.loop-entry.invariant both.0 both.1 in
     subst (λ (es : List Entry). StandsAfter script es (drop (i + 1) merged) c.replay_one.new.play.cluster c.replay_one.new.play.clock (ahead-value.it c.replay_one.new.play.weather)) (done_at merged i e c.loop-entry-test.true c.entry-item.is) more
 
 pub returns : goal.returns
