@@ -4,26 +4,28 @@ use Rattle.history_book.specs.declared.item.Actor.{Actor}
 use Rattle.script_lines.specs.declared.form.VerbForm.{VerbForm}
 use Rattle.script_lines.specs.declared.form.VerbForm.TheVariants.{Tick, Take, Renew, Crash, Extend, Hold, Free, Accept, Decide, Put, Answer, Begin, Commit, Submit, AskBegin, AskCommit, Write, Read, Fetch, Collect, Abort, Heal, Vanish, Step, Finish, Sweep, OpenSweep, SweepStep, SweepFinish, Post, Await}
 use Rattle.script_lines.specs.declared.mode.Mode.{Mode}
-use Rattle.script_lines.specs.declared.mode.Mode.TheVariants.{Replay, Run}
+use Rattle.script_lines.specs.declared.mode.Mode.TheVariants.{Replay, Run, Split}
 use Rattle.script_data.specs.declared.line.Verb.{Verb}
 use Rattle.script_data.specs.declared.line.Verb.TheVariants as verbs
 use Rattle.script_lines.specs.declared.cause.ScriptCause.{ScriptCause}
 use Rattle.script_lines.specs.declared.cause.ScriptCause.TheVariants.{UnknownVerb, WrongNumberOfWords, ReplayOnly}
 use Rattle.script_lines.specs.Checked.{number_at, start_at, node_at, target_at, session_at, key_at, value_at, stage_at, name_at}
-use Rattle.script_lines.specs.Grammar.{named, verb_forms, verb_words, is_replay_only}
+use Rattle.script_lines.specs.Grammar.{named, verb_forms, verb_words, is_replay_only, names_master}
 use Rattle.script_lines.specs.Results.{◌>>=◌}
 use Rattle.script_lines.specs.Words.{LineWords}
 
-abbrev pub is_run : Mode → Bool
-is_run Replay = false
-is_run Run = true
+-- the lines that a mode leaves to a replay: on threads those of single stages, and over split stores those that name the master
+abbrev pub is_left_to_replay : Mode → VerbForm → LineWords → Bool
+is_left_to_replay Replay form words = false
+is_left_to_replay Run form words = is_replay_only form
+is_left_to_replay Split form words = names_master form words.third
 
 -- the tests of an actor's line before its arguments, in their order
 abbrev pub form_at : Mode → LineWords → Option VerbForm → Result VerbForm ScriptCause
 form_at mode words None = Err UnknownVerb
 form_at mode words (Some form) =
     if not (words.count == verb_words form) then Err WrongNumberOfWords
-    else if is_run mode && is_replay_only form then Err ReplayOnly
+    else if is_left_to_replay mode form words then Err ReplayOnly
     else Ok form
 
 -- the form of an actor's line, which names no verb where the actor stands alone

@@ -1,7 +1,7 @@
 // A line of an actor: the tests before its arguments, and then its arguments from left to right.
 ghost use Rattle.std.specs.Prelude.{◌≡◌, IfOk};
 ghost use Rattle.script_data.specs.Sound.{VerbIsSound};
-ghost use Rattle.script_lines.specs.Verbs.{form_of, form_at, verb_of, verb_at, is_run};
+ghost use Rattle.script_lines.specs.Verbs.{form_of, form_at, verb_of, verb_at, is_left_to_replay};
 ghost use Rattle.script_lines.specs.Words.{seen};
 
 use crate::cause::ScriptCause;
@@ -46,17 +46,22 @@ fn tested_form(mode: Mode, words: &Words, form: VerbForm) -> Result<VerbForm, Sc
 {
     if words.count != form.words() {
         Err(ScriptCause::WrongNumberOfWords)
-    } else if is_run(mode) && form.is_replay_only() {
+    } else if is_left_to_replay(mode, form, words) {
         Err(ScriptCause::ReplayOnly)
     } else {
         Ok(form)
     }
 }
 
-fn is_run(mode: Mode) -> bool
-    ensures { result ≡ is_run mode }
+/// Whether the mode leaves a line of the form to a replay.
+fn is_left_to_replay(mode: Mode, form: VerbForm, words: &Words) -> bool
+    ensures { result ≡ is_left_to_replay mode form (seen words.now) }
 {
-    matches!(mode, Mode::Run)
+    match mode {
+        Mode::Replay => false,
+        Mode::Run => form.is_replay_only(),
+        Mode::Split => form.names_master(words.third),
+    }
 }
 
 /// What a line of the form asks for.

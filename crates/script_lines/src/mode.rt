@@ -5,4 +5,6 @@ pub enum Mode {
     Replay,
     /// On threads.
     Run,
+    /// On threads, over stores that are split into parts.
+    Split,
 }

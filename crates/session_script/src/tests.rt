@@ -128,6 +128,15 @@ static COUNTED: [(&str, usize); 14] = [
     ),
 ];
 
+/// The same over split stores.
+static BAD_OVER_SPLIT_STORES: [(&str, u64, &str); 5] = [
+    ("commits direct", 1, "replay only"),
+    ("lease 5\nreads loose", 2, "replay only"),
+    ("cache 1000000", 1, "replay only"),
+    ("cache 1 2", 1, "wrong number of words"),
+    ("a accept s0\ns0 submit master", 2, "replay only"),
+];
+
 // Behind functions, a proof that goes over the rows does not look into their texts.
 
 fn bad() -> &'static [(&'static str, u64, &'static str)] {
@@ -136,6 +145,10 @@ fn bad() -> &'static [(&'static str, u64, &'static str)] {
 
 fn bad_in_a_run() -> &'static [(&'static str, u64, &'static str)] {
     &BAD_IN_A_RUN
+}
+
+fn bad_over_split_stores() -> &'static [(&'static str, u64, &'static str)] {
+    &BAD_OVER_SPLIT_STORES
 }
 
 fn counted() -> &'static [(&'static str, usize)] {
@@ -174,7 +187,8 @@ fn refuses(rt: &HostRuntime, mode: Mode, rows: &[(&str, u64, &str)]) -> Result<(
 fn names_the_first_bad_line(rt: HostRuntime) -> Result<(), Fail> {
     refuses(&rt, Mode::Replay, bad())?;
     refuses(&rt, Mode::Run, bad())?;
-    refuses(&rt, Mode::Run, bad_in_a_run())
+    refuses(&rt, Mode::Run, bad_in_a_run())?;
+    refuses(&rt, Mode::Split, bad_over_split_stores())
 }
 
 #[test]
