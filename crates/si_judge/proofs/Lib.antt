@@ -11,3 +11,4 @@ mod OverlapIndexLemmas
 mod TurnLemmas
 mod SharerLemmas
 mod SecondLemmas
+mod StaleLemmas

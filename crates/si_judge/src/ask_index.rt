@@ -105,7 +105,7 @@ impl Asked {
     }
 }
 
-fn place_of(session: SessionNo) -> usize
+pub fn place_of(session: SessionNo) -> usize
     ensures place { result ≡ session }
     ensures range { result < 16 }
 {

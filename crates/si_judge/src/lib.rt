@@ -13,6 +13,7 @@ mod overlap_index;
 mod reach;
 mod reads;
 mod search;
+mod second_begin;
 mod second_commit;
 mod sharers;
 mod stamp_index;
@@ -34,7 +35,7 @@ use std::alloc::Global;
 /// numbered from 1.
 ///
 /// Each rule is judged over sets and maps, in about the time of a sort of the items and in memory for each
-/// of them; the second item of commits that overlap is found by a walk over the items behind the first. Where that
+/// of them; the second item of a pair is found by one more walk over the items. Where that
 /// memory is refused, a walk over all pairs is made in its place, in a time that grows with the square of the
 /// number of items and more, so the answer is never NoMemory.
 pub fn judge(alloc: Global, items: &[Item]) -> Result<Verdict, NoMemory>

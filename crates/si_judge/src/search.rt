@@ -6,6 +6,7 @@ ghost use Rattle.si_judge.specs.Suspects.{AreSuspects};
 use crate::ask_index::start_suspects;
 use crate::overlap_index::overlap_suspects;
 use crate::reads::first_wrong_read;
+use crate::second_begin::second_begin;
 use crate::second_commit::second_commit;
 use crate::stamp_index::stamp_suspects;
 use history_book::Item;
@@ -97,7 +98,8 @@ fn second_at(
     }
 }
 
-/// The same of a suspect. That two commits wrote one key is looked up in a set, and not asked of all items for each pair.
+/// The same of a suspect. That two commits wrote one key is looked up in a set, and where a begin was asked for in a
+/// table of the last asks; neither is looked for among all items for each pair.
 fn second_behind(
     alloc: Global,
     rule: Rule,
@@ -111,6 +113,7 @@ fn second_behind(
 {
     match rule {
         Rule::Apart => second_commit(alloc, items, first),
+        Rule::Fresh => Ok(second_begin(items, first)),
         _ => Ok(second_of(rule, items, first)),
     }
 }
