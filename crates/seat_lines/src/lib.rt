@@ -1,0 +1,7 @@
+//! Which lines the log of an actor over split stores is of: what its entries open, what a line still owes, and that logs which
+//! follow the lines of a script answer it.
+#![tactic(auto)]
+
+mod owed;
+
+pub use owed::Owed;
