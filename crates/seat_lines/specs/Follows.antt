@@ -1,8 +1,8 @@
 -- Which lines the log of an actor is of.
-use Rattle.std.specs.Prelude.{◌≡◌, ◌⊎◌, ℕ, true, List, [], ◌∷◌, ◌++◌, filter, Option, None, Some}
+use Rattle.std.specs.Prelude.{◌≡◌, ◌⊎◌, ℕ, true, List, [], ◌∷◌, filter, Option, None, Some}
 use Rattle.std.specs.List.{AllZip}
 use Rattle.history_book.specs.declared.item.Actor.{Actor}
-use Rattle.history_book.specs.declared.item.Actor.TheVariants.{Clock, Node, Session, Janitor}
+use Rattle.history_book.specs.declared.item.Actor.TheVariants.{Clock, Node, Session}
 use Rattle.history_book.specs.declared.item.Note.TheVariants as note
 use Rattle.script_data.specs.declared.line.Line.{Line}
 use Rattle.script_data.specs.declared.line.Target.{Target}
