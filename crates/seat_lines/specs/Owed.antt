@@ -158,8 +158,13 @@ abbrev pub repeats : Event → List Item → Bool
 repeats (event.Answer node session) [] = true
 repeats _ items = false
 
+-- then the line owes no answer; what else it owes stays
+abbrev pub after_repeat : Owed → Owed
+after_repeat (Answer node) = Nothing
+after_repeat owed = owed
+
 abbrev pub unless_repeated : Bool → Standing → Standing
-unless_repeated true st = record st { owed = Nothing }
+unless_repeated true st = record st { owed = after_repeat st.owed }
 unless_repeated false st = st
 
 -- an event that goes on with the line
