@@ -100,11 +100,12 @@ owed_after actor (Removal start) x = if removes actor start x then Nothing else 
 owed_after actor Erasure x = if ends_completion actor x then Nothing else Erasure
 owed_after actor Quiet x = if is_idle actor x then Nothing else Quiet
 
--- the keys that the transaction wrote: none once it begins
+-- the keys that the transaction wrote: none once the session asks for a begin, and none once it begins
 abbrev pub with_key : List ℕ → ℕ → List ℕ
 with_key keys key = if list_any (λ k. k == key) keys then keys else keys ++ key ∷ []
 
 abbrev pub written_after : Actor → List ℕ → Item → List ℕ
+written_after actor keys (item.AskBegin session node) = if same_actor (Session session) actor then [] else keys
 written_after actor keys (item.Begin session start) = if same_actor (Session session) actor then [] else keys
 written_after actor keys (item.Write session start key value) = if same_actor (Session session) actor then with_key keys key else keys
 written_after actor keys _ = keys
