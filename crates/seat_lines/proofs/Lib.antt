@@ -1,0 +1,9 @@
+mod Weaving
+mod FirstEvents
+mod OtherLogs
+mod WalkedItems
+mod MadeEntries
+mod WalkedEntries
+mod ClockTicks
+mod ActorList
+mod ActorLogs
