@@ -7,3 +7,4 @@ mod WalkedEntries
 mod ClockTicks
 mod ActorList
 mod ActorLogs
+mod SettledLogs

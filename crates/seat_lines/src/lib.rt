@@ -2,6 +2,8 @@
 //! follow the lines of a script answer it.
 #![tactic(auto)]
 
+mod laws;
 mod owed;
 
+pub use laws::{settled_logs_answer, settled_logs_are_planned};
 pub use owed::Owed;
