@@ -1,0 +1,10 @@
+mod Weaving
+mod FirstEvents
+mod OtherLogs
+mod WalkedItems
+mod MadeEntries
+mod WalkedEntries
+mod ClockTicks
+mod ActorList
+mod ActorLogs
+mod SettledLogs

@@ -1,0 +1,107 @@
+-- Entries among which the log of an actor stands, which follows its lines, answer these lines.
+use Rattle.std.proofs.Common.{◌≡◌, ℕ, ◌<◌, true, List, [], ◌∷◌, ◌++◌, Option, Some, None, inl, inr, refl, sym, subst}
+use Rattle.stamp_base.specs.SetupNumbers.{SetupNumbers}
+use Rattle.history_book.specs.declared.item.Actor.{Actor}
+use Rattle.history_book.specs.declared.item.Item.{Item}
+use Rattle.machine.specs.declared.event.Event as machine
+use Rattle.machine.specs.State.{State}
+use Rattle.script_data.specs.declared.line.Line.{Line}
+use Rattle.script_data.specs.declared.line.Target.{Target}
+use Rattle.script_data.specs.declared.line.Target.TheVariants as target
+use Rattle.script_data.specs.Data.{ScriptData}
+use Rattle.line_steps.specs.Answers.{IsAnswer, asks_last, Answered}
+use Rattle.line_steps.specs.Laws.{ActorFits, VerbFits}
+use Rattle.line_steps.specs.Next.{Clocks, target_node}
+use Rattle.line_steps.specs.Runs.{Played, fate_of, clocks_of}
+use Rattle.line_steps.specs.Views.{view_of}
+use Rattle.line_steps.proofs.OpenedLines.{line_answered}
+use Rattle.line_steps.proofs.OpeningItems.{Begins}
+use Rattle.line_steps.proofs.PlainEvents.{events_plain}
+use Rattle.line_steps.proofs.Takes.{last_fits}
+use Rattle.line_steps.proofs.Walks.{AllNot, plain_not}
+use Rattle.split_stores.specs.declared.seat.Entry.{Entry}
+use Rattle.split_stores.specs.Merged.{timed_in, replayed_items, played_with, IsReplayed, kept_items}
+use Rattle.seat_lines.specs.Follows.{opener, first_event, Follows}
+use Rattle.seat_lines.specs.Owed.{Standing, is_paid, gone_on, opened}
+use Rattle.seat_lines.proofs.FirstEvents.{first_is, none_opens}
+use Rattle.seat_lines.proofs.MadeEntries.{IsGood, AllMade}
+use Rattle.seat_lines.proofs.OtherLogs.{OwnLine, AreOwn, IsOther, other_not}
+use Rattle.seat_lines.proofs.WalkedItems.{IsOwed, none_begun, Walked, walked_past, walked_on, walked_open}
+use Rattle.seat_lines.proofs.Weaving.{Woven}
+
+-- ---- the items of one entry
+master_fits : (script : ScriptData) (p : Played) → IsGood script p → (clocks_of script p).master < p.state.setup.nodes
+master_fits script p good = last_fits p.state.setup.nodes p.items good.takes
+
+-- an event that opens no line
+plain_kept : (script : ScriptData) (actor : Actor) (p : Played) (e : Entry) → IsReplayed script p e → opener e.event ≡ None → AllNot actor e.kept.items
+plain_kept script actor p e here none =
+    let made : machine.Event = timed_in script p e.event in
+    subst (λ (xs : List Item). AllNot actor xs) (sym here) (plain_not actor (replayed_items script p e.event) (events_plain p.state made (fate_of script p made) (none_opens p.clock script.leads e.event none)))
+
+-- an event of another log
+other_kept : (script : ScriptData) (actor : Actor) (p : Played) (e : Entry) → IsGood script p → IsReplayed script p e → IsOther script.setup actor e.event → AllNot actor e.kept.items
+other_kept script actor p e good here other =
+    let mine : IsOther p.state.setup actor e.event = subst (λ (setup : SetupNumbers). IsOther setup actor e.event) (sym good.told.reached.setup) other in
+    subst (λ (xs : List Item). AllNot actor xs) (sym here) (other_not actor (clocks_of script p) p.state p.items e.event (fate_of script p (timed_in script p e.event)) good.told.reached.stands good.fit (master_fits script p good) mine)
+
+-- a line asks the last before it that took the record
+asks_it : (script : ScriptData) (p : Played) (to : Target) → asks_last p.items to (target_node (clocks_of script p) to)
+asks_it script p (target.Node node) = refl
+asks_it script p target.Master = refl
+
+-- the first event of a line
+open_kept : (script : ScriptData) (actor : Actor) (p : Played) (line : Line) (e : Entry) → IsGood script p → IsReplayed script p e → OwnLine script.setup actor line → first_event actor line.verb ≡ Some e.event → Begins (IsAnswer (asks_last p.items) line.actor line.verb) e.kept.items
+open_kept script actor p line e good here own first =
+    let w : State = p.state in
+    let clocks : Clocks = clocks_of script p in
+    let made : machine.Event = timed_in script p e.event in
+    let mine : first_event line.actor line.verb ≡ Some e.event = subst (λ (a : Actor). first_event a line.verb ≡ Some e.event) (sym own.same) first in
+    let in_range : ActorFits w.setup line.actor = subst (λ (setup : SetupNumbers). ActorFits setup line.actor) (sym good.told.reached.setup) own.in_range in
+    let asks : VerbFits w.setup line.verb = subst (λ (setup : SetupNumbers). VerbFits setup line.verb) (sym good.told.reached.setup) own.asks in
+    subst (λ (xs : List Item). Begins (IsAnswer (asks_last p.items) line.actor line.verb) xs) (sym here)
+    (line_answered (asks_last p.items) clocks w p.items line.actor line.verb (view_of w line.actor) made (fate_of script p made) good.told.reached.stands good.fit in_range asks (master_fits script p good) (asks_it script p) own.opening (first_is clocks line.actor line.verb (view_of w line.actor) e.event mine).next_is)
+
+-- ---- all entries
+-- what is walked over the items of the first, and from there to the end
+walk_on : (script : ScriptData) (actor : Actor) (p : Played) (e : Entry) (es : List Entry) (begun then : Option ℕ) (lines rest : List Line) → IsReplayed script p e → ((later : List Item) → Answered asks_last actor (p.items ++ e.kept.items) then rest later → Answered asks_last actor p.items begun lines (e.kept.items ++ later)) → Answered asks_last actor (played_with script p e.event).items then rest (kept_items es) → Answered asks_last actor p.items begun lines (kept_items (e ∷ es))
+walk_on script actor p e es begun then lines rest here walks later = walks (kept_items es) (subst (λ (xs : List Item). Answered asks_last actor (p.items ++ xs) then rest (kept_items es)) (sym here) later)
+
+at_end : (actor : Actor) (h : List Item) (begun : Option ℕ) (st : Standing) (lines : List Line) → IsOwed begun st.owed → Follows actor st lines [] → Answered asks_last actor h begun lines []
+unfolding Answered Follows
+at_end actor h begun st lines owed follows = subst (λ (b : Option ℕ). Answered asks_last actor h b lines []) (sym (none_begun begun st owed follows.1)) (refl, follows.0)
+
+-- what the rest of the entries answers, from a state where this is begun and owed
+abbrev pub Answers : ScriptData → Actor → List Entry → List Entry → Played → Type 0
+Answers script actor own es p = (st : Standing) (begun : Option ℕ) (lines : List Line) → AreOwn script.setup actor lines → Follows actor st lines own → IsOwed begun st.owed → Answered asks_last actor p.items begun lines (kept_items es)
+
+other_step : (script : ScriptData) (actor : Actor) (p : Played) (own : List Entry) (e : Entry) (es : List Entry) → IsGood script p → IsReplayed script p e → IsOther script.setup actor e.event → Answers script actor own es (played_with script p e.event) → Answers script actor own (e ∷ es) p
+other_step script actor p own e es good here other later st begun lines are_own follows owed =
+    let k : Walked actor p.items e.kept.items begun lines lines st.owed = walked_past actor p.items e.kept.items begun lines st.owed (other_kept script actor p e good here other) owed in
+    walk_on script actor p e es begun k.then lines lines here k.walks (later st k.then lines are_own follows k.is_owed)
+
+go_step : (script : ScriptData) (actor : Actor) (p : Played) (own : List Entry) (e : Entry) (es : List Entry) (st : Standing) (begun : Option ℕ) (lines : List Line) → IsReplayed script p e → Answers script actor own es (played_with script p e.event) → AreOwn script.setup actor lines → opener e.event ≡ None → Follows actor (gone_on actor st e) lines own → IsOwed begun st.owed → Answered asks_last actor p.items begun lines (kept_items (e ∷ es))
+go_step script actor p own e es st begun lines here later are_own none follows owed =
+    let k : Walked actor p.items e.kept.items begun lines lines (gone_on actor st e).owed = walked_on actor p.items begun st lines e (plain_kept script actor p e here none) owed in
+    walk_on script actor p e es begun k.then lines lines here k.walks (later (gone_on actor st e) k.then lines are_own follows k.is_owed)
+
+open_step : (script : ScriptData) (actor : Actor) (p : Played) (own : List Entry) (e : Entry) (es : List Entry) (st : Standing) (begun : Option ℕ) (line : Line) (lines : List Line) → IsGood script p → IsReplayed script p e → Answers script actor own es (played_with script p e.event) → OwnLine script.setup actor line → AreOwn script.setup actor lines → is_paid st ≡ true → first_event actor line.verb ≡ Some e.event → Follows actor (opened actor line.verb st e.kept.items) lines own → IsOwed begun st.owed → Answered asks_last actor p.items begun (line ∷ lines) (kept_items (e ∷ es))
+open_step script actor p own e es st begun line lines good here later mine are_own paid first follows owed =
+    let now : Standing = opened actor line.verb st e.kept.items in
+    let k : Walked actor p.items e.kept.items None (line ∷ lines) lines now.owed = walked_open actor p.items st line lines e.kept.items (open_kept script actor p line e good here mine first) in
+    let from : Answered asks_last actor p.items None (line ∷ lines) (kept_items (e ∷ es)) = walk_on script actor p e es None k.then (line ∷ lines) lines here k.walks (later now k.then lines are_own follows k.is_owed) in
+    subst (λ (b : Option ℕ). Answered asks_last actor p.items b (line ∷ lines) (kept_items (e ∷ es))) (sym (none_begun begun st owed paid)) from
+
+own_step : (script : ScriptData) (actor : Actor) (p : Played) (own : List Entry) (e : Entry) (es : List Entry) → IsGood script p → IsReplayed script p e → Answers script actor own es (played_with script p e.event) → Answers script actor (e ∷ own) (e ∷ es) p
+unfolding Follows AreOwn
+own_step script actor p own e es good here later st begun [] are_own follows owed = go_step script actor p own e es st begun [] here later are_own follows.0 follows.1 owed
+own_step script actor p own e es good here later st begun (line ∷ lines) are_own (inl on) owed = go_step script actor p own e es st begun (line ∷ lines) here later are_own on.0 on.1 owed
+own_step script actor p own e es good here later st begun (line ∷ lines) are_own (inr k) owed = open_step script actor p own e es st begun line lines good here later are_own.0 are_own.1 k.0 k.1 k.2 owed
+
+pub entries_answer : (script : ScriptData) (actor : Actor) (own es : List Entry) (p : Played) → AllMade script es p → Woven (λ e. IsOther script.setup actor e.event) own es → Answers script actor own es p
+unfolding AllMade Woven
+entries_answer script actor own [] p made woven = λ st begun lines are_own follows owed. at_end actor p.items begun st lines owed (subst (λ (xs : List Entry). Follows actor st lines xs) woven follows)
+entries_answer script actor [] (e ∷ es) p made woven = other_step script actor p [] e es made.0 made.1 woven.0 (entries_answer script actor [] es (played_with script p e.event) made.2 woven.1)
+entries_answer script actor (o ∷ own) (e ∷ es) p made (inl mine) =
+    subst (λ (x : Entry). Answers script actor (x ∷ own) (e ∷ es) p) mine.0 (own_step script actor p own e es made.0 made.1 (entries_answer script actor own es (played_with script p e.event) made.2 mine.1))
+entries_answer script actor (o ∷ own) (e ∷ es) p made (inr other) = other_step script actor p (o ∷ own) e es made.0 made.1 other.0 (entries_answer script actor (o ∷ own) es (played_with script p e.event) made.2 other.1)

@@ -1,0 +1,9 @@
+//! Which lines the log of an actor over split stores is of: what its entries open, what a line still owes, and that logs which
+//! follow the lines of a script answer it.
+#![tactic(auto)]
+
+mod laws;
+mod owed;
+
+pub use laws::{settled_logs_answer, settled_logs_are_planned};
+pub use owed::Owed;
