@@ -40,6 +40,8 @@ COMMANDS = [
     ('docs/PICTURES.md', HISTORY % 'takeover', 0, None),
     ('docs/PICTURES.md', PICTURE, 0, 'examples/pictures/takeover.svg'),
     ('docs/PICTURES.md', '(cd crates/omid_view && rt try -- explain < /tmp/history)', 0, 'page'),
+    ('docs/PICTURES.md', HISTORY % 'write_skew_strict', 0, None),
+    ('docs/PICTURES.md', '(cd crates/omid_view && rt try -- explain < /tmp/history)', 0, 'page'),
     ('docs/PICTURES.md', '(cd crates/omid_view && rt try -- explain < ../../examples/lost_update.history)', 7, 'page'),
 ]
 # The other pictures are made as the page tells of the takeover's.

@@ -102,18 +102,20 @@ onward_text row bar = rect_text (kind_text bar.kind) 48 (row_y row - 11) (place_
 unfoldable pub earlier_bar_text : EarlierBar → List ℕ
 earlier_bar_text earlier = opener_text earlier.opener ++ onward_text earlier.row earlier.bar ++ codes "</g>\n"
 
--- beside the lane to which a curve goes: between it and the lane before
-abbrev pub beside : ℕ → ℕ → ℕ
-beside y to_y = if ltb to_y y then to_y + 14 else to_y - 14
+-- beside the lane to which a curve goes, so far from it: between it and the lane before
+abbrev pub beside : ℕ → ℕ → ℕ → ℕ
+beside gap y to_y = if ltb to_y y then to_y + gap else to_y - gap
 
--- a curve that leaves its sign across the lane, goes along at a height, and comes to the other sign across its lane
-unfoldable pub bent_text : ℕ → ℕ → ℕ → ℕ → ℕ → List ℕ
-bent_text x y along to_x to_y =
+-- a curve that leaves its sign across the lane, goes along at a height, and from near the other sign's lane straight to that
+unfoldable pub bent_text : ℕ → ℕ → ℕ → ℕ → ℕ → ℕ → List ℕ
+bent_text x y along near to_x to_y =
     codes "<path d='M" ++ decimal x ++ codes " " ++ decimal y ++ codes "C" ++ decimal x ++ codes " " ++ decimal along
-    ++ codes " " ++ decimal to_x ++ codes " " ++ decimal along ++ codes " " ++ decimal to_x ++ codes " " ++ decimal to_y
+    ++ codes " " ++ decimal to_x ++ codes " " ++ decimal along ++ codes " " ++ decimal to_x ++ codes " " ++ decimal near
+    ++ codes "V" ++ decimal to_y
 
+-- the point of its arrow stands on the straight part
 abbrev pub curve_text : ℕ → ℕ → ℕ → ℕ → List ℕ
-curve_text x y to_x to_y = bent_text x y (beside y to_y) to_x to_y
+curve_text x y to_x to_y = bent_text x y (beside 22 y to_y) (beside 14 y to_y) to_x to_y
 
 -- an arrow over more than a hundred places is faint
 abbrev pub end_text : ℕ → ℕ → List ℕ

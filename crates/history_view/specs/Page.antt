@@ -33,7 +33,7 @@ circles_text =
 -- where the reader has set so
 unfoldable pub night_text : List ℕ
 night_text =
-    codes ".n{font-size:7px}.again{font-size:8px;fill:#777}.far{opacity:.2}@media(prefers-color-scheme:dark){svg{background:#16181d;fill:#ddd}line{stroke:#333}\n"
+    codes ".n{font-size:8px}.again{font-size:8px;fill:#777}.far{opacity:.2}@media(prefers-color-scheme:dark){svg{background:#16181d;fill:#ddd}line{stroke:#333}\n"
     ++ codes ".committed{fill:#23462a}.refused{fill:#5c2622}.aborted{fill:#3c3c3c}.dead{fill:#43305a}.open{fill:#574715}.lease{fill:#22375a}}\n"
 
 unfoldable pub arrow_text : List ℕ

@@ -136,12 +136,21 @@ fn print_arrow(text: &mut Text, place: usize, row: usize, link: Link) -> Result<
     text.push(end_of(link.place, place))
 }
 
-/// A curve that leaves its sign across the lane, goes along beside the other lane, and comes to its sign across that.
+/// A curve that leaves its sign across the lane, goes along beside the other lane, and comes to its sign across that. The point of
+/// its arrow stands on the straight part at the end.
 fn print_curve(text: &mut Text, x: u64, y: u64, to_x: u64, to_y: u64) -> Result<(), NoMemory>
     requires lane { (66 ≤ to_y) × (to_y ≤ 1054) }
     ensures { OnOk result (text.new ≡ text.old ++ curve_text x y to_x to_y) }
 {
-    print_bent(text, x, y, beside(y, to_y), to_x, to_y)
+    print_bent(
+        text,
+        x,
+        y,
+        beside(22, y, to_y),
+        beside(14, y, to_y),
+        to_x,
+        to_y,
+    )
 }
 
 fn print_bent(
@@ -149,24 +158,26 @@ fn print_bent(
     x: u64,
     y: u64,
     along: u64,
+    near: u64,
     to_x: u64,
     to_y: u64,
 ) -> Result<(), NoMemory>
-    ensures { OnOk result (text.new ≡ text.old ++ bent_text x y along to_x to_y) }
+    ensures { OnOk result (text.new ≡ text.old ++ bent_text x y along near to_x to_y) }
 {
     text.push_two(b"<path d='M", x, b" ", y)?;
     text.push_two(b"C", x, b" ", along)?;
     text.push_two(b" ", to_x, b" ", along)?;
-    text.push_two(b" ", to_x, b" ", to_y)?;
+    text.push_two(b" ", to_x, b" ", near)?;
+    text.push_field(b"V", to_y)?;
     Ok(())
 }
 
-/// Beside the lane to which a curve goes.
-fn beside(y: u64, to_y: u64) -> u64
-    requires { (66 ≤ to_y) × (to_y ≤ 1054) }
-    ensures { result ≡ beside y to_y }
+/// Beside the lane to which a curve goes, so far from it.
+fn beside(gap: u64, y: u64, to_y: u64) -> u64
+    requires { (gap ≤ 66) × (66 ≤ to_y) × (to_y ≤ 1054) }
+    ensures { result ≡ beside gap y to_y }
 {
-    if to_y < y { to_y + 14 } else { to_y - 14 }
+    if to_y < y { to_y + gap } else { to_y - gap }
 }
 
 /// The end of an arrow's words. One over more than a hundred places is faint.

@@ -78,7 +78,7 @@ fn print_night(text: &mut Text) -> Result<(), NoMemory>
     ensures { OnOk result (text.new ≡ text.old ++ night_text) }
 {
     text.push(
-        b".n{font-size:7px}.again{font-size:8px;fill:#777}.far{opacity:.2}@media(prefers-color-scheme:dark){svg{background:#16181d;fill:#ddd}line{stroke:#333}\n",
+        b".n{font-size:8px}.again{font-size:8px;fill:#777}.far{opacity:.2}@media(prefers-color-scheme:dark){svg{background:#16181d;fill:#ddd}line{stroke:#333}\n",
     )?;
     text.push(
         b".committed{fill:#23462a}.refused{fill:#5c2622}.aborted{fill:#3c3c3c}.dead{fill:#43305a}.open{fill:#574715}.lease{fill:#22375a}}\n",

@@ -105,7 +105,7 @@ fn reason(cause: &Cause) -> &'static [u8]
 {
     match *cause {
         Cause::Conflict { .. } => {
-            b"a transaction that ran at the same time wrote the key too, and its commit was drawn first"
+            b"a transaction that ran at the same time wrote the key, and its commit was drawn first; this one wrote it as well, or with strict reads may only have read it"
         }
         Cause::Hidden { .. } => {
             b"the node has forgotten what was committed at the key, and a commit that it forgot is above the start; by the buckets of the setup, which no history tells"
@@ -123,7 +123,7 @@ fn reason(cause: &Cause) -> &'static [u8]
             b"a reader or a sweep had marked the transaction before its commit was placed"
         }
         Cause::Open { .. } => {
-            b"nobody can say whether the commit was placed: the call failed, or the node crashed"
+            b"the session cannot know whether the commit was placed: the call that places it failed, or the node crashed"
         }
         Cause::Crashed { .. } => { b"the node crashed before it gave a start" }
         Cause::NotYet { .. } => {
@@ -131,7 +131,7 @@ fn reason(cause: &Cause) -> &'static [u8]
         }
         Cause::NoRequest { .. } => { b"the session has no such request there" }
         Cause::NoOracle { .. } => {
-            b"the node has no instance: it has not taken a term since it crashed, or its last take failed"
+            b"the node has no instance: it has taken no term, or none since it crashed, or its last take failed"
         }
         Cause::Full { .. } => {
             b"the node holds as many requests as it has slots; by the slots of the setup, which no history tells"
@@ -142,7 +142,9 @@ fn reason(cause: &Cause) -> &'static [u8]
         Cause::Holding { .. } => { b"the node has an instance already" }
         Cause::NoTransaction => { b"the session has no transaction open" }
         Cause::Busy => { b"it has something else under way" }
-        Cause::TooManyKeys => { b"the write would have been to a 65th key" }
+        Cause::TooManyKeys => {
+            b"the write would have been to a 65th key, or with strict reads the read of one"
+        }
         Cause::Gone => { b"the session has vanished" }
         Cause::Idle => { b"it has nothing of that kind under way" }
         Cause::Undecided { .. } => { b"the transaction may still commit, so the sweep left it" }
