@@ -1,0 +1,6 @@
+use Rattle.split_runs.specs.Runs.{stand}
+use Rattle.split_runs.proofs.Following.{stands_all, nothing_left}
+use Rattle.split_runs.proofs.player.Player.play_all.Goals as goal
+
+pub returns-clause-follows : goal.returns-clause-follows
+returns-clause-follows g c = stands_all c.args.self.now.actor c.args.lines.now c.loop-line.line-index (stand c.loop-line.seat c.loop-line.account) (nothing_left c.args.lines.now c.loop-line.line-index c.loop-line-test.false) c.loop-line.invariant.1

@@ -1,0 +1,106 @@
+// The next event of a line.
+ghost use Rattle.std.specs.Prelude.{◌≡◌, ◌^◌, IfSome, None};
+ghost use Rattle.line_steps.specs.Clocks.{TicksWithin};
+ghost use Rattle.seat_lines.specs.Follows.{opener};
+ghost use Rattle.seat_lines.specs.Owed.{Standing};
+ghost use Rattle.split_runs.specs.Runs.{MayGoOn};
+
+use crate::account::Account;
+use crate::later::later_event;
+use history_book::Actor;
+use line_steps::{Point, View, next_event};
+use machine::Doing;
+use oracle_parts::{Place, Request};
+use script_data::Line;
+use seat_lines::Owed;
+use split_stores::{Event, Split};
+use stamp_base::{NodeNo, SessionNo};
+use std::sync::Wait;
+
+/// How a line goes on.
+#[derive(Clone, Copy, Debug, PartialEq, Eq)]
+pub(crate) enum Choice {
+    Event(Event),
+    /// Nothing is left to do.
+    Over,
+    /// Something is owed, and no event can show its end.
+    Stuck,
+}
+
+/// How the line goes on from this point: as in file order, by what is seen of its actor; and where that is over before what the
+/// line owes, by an event that shows what has become of it.
+pub(crate) fn choose(line: &Line, point: Point, view: &View, account: &Account) -> Choice
+    requires { TicksWithin (2 ^ 62) line.now.verb }
+    ensures { MayGoOn account.now result }
+{
+    match line_event(line, point, view) {
+        Some(event) => Choice::Event(event),
+        None if account.is_paid() => Choice::Over,
+        None => owed_event(&line.actor, &account.owed()),
+    }
+}
+
+/// The event of the line in file order.
+fn line_event(line: &Line, point: Point, view: &View) -> Option<Event>
+    requires { TicksWithin (2 ^ 62) line.now.verb }
+    ensures { IfSome result (λ e. opener e ≡ None) }
+{
+    match &next_event(0, &[], NodeNo::FIRST, line, point, view) {
+        Some(event) => later_event(event),
+        None => None,
+    }
+}
+
+/// The event that shows the end of what is owed. A session alone owes something.
+fn owed_event(actor: &Actor, owed: &Owed) -> Choice
+    ensures { (st : Standing) → MayGoOn st result }
+{
+    match actor {
+        Actor::Session(session) => Choice::Event(paying_event(*session, owed)),
+        _ => Choice::Stuck,
+    }
+}
+
+/// An answer, which is refused where no request is left, and else a step.
+fn paying_event(session: SessionNo, owed: &Owed) -> Event
+    ensures { opener result ≡ None }
+{
+    match owed {
+        Owed::Answer { node } => Event::Answer {
+            node: *node,
+            session,
+        },
+        _ => Event::Step { session },
+    }
+}
+
+/// What the run of an actor's line looks at.
+pub(crate) fn look<R: Wait>(rt: &R, split: &Split, actor: Actor) -> View {
+    match actor {
+        Actor::Session(session) => look_at_session(rt, split, session),
+        Actor::Janitor => seen(Doing::Gone, None, split.sweeping(rt)),
+        Actor::Clock | Actor::Node(_) => seen(Doing::Gone, None, false),
+    }
+}
+
+fn look_at_session<R: Wait>(rt: &R, split: &Split, session: SessionNo) -> View {
+    let request = split.request_of(rt, session);
+    seen(split.doing(rt, session), request, false)
+}
+
+fn seen(doing: Doing, request: Option<(NodeNo, Request, Place)>, sweeping: bool) -> View {
+    match request {
+        Some((node, request, place)) => View {
+            doing,
+            request: Some((node, place)),
+            commit: matches!(request, Request::Commit { .. }),
+            sweeping,
+        },
+        None => View {
+            doing,
+            request: None,
+            commit: false,
+            sweeping,
+        },
+    }
+}
