@@ -8,3 +8,4 @@ mod ClockTicks
 mod ActorList
 mod ActorLogs
 mod SettledLogs
+mod ServedAnswers

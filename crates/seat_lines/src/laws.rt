@@ -1,5 +1,5 @@
 // What holds of every history that logs settle into, which follow the lines of a script.
-ghost use Rattle.seat_lines.specs.Laws.{SettledLogsAnswer, SettledLogsArePlanned};
+ghost use Rattle.seat_lines.specs.Laws.{ServedHistoriesAnswer, SettledLogsAnswer, SettledLogsArePlanned};
 
 use planned_laws::events_stay_told;
 use split_stores::{settled_by_plans, settled_is_planned};
@@ -18,3 +18,8 @@ pub fn settled_logs_are_planned()
 {
     settled_is_planned();
 }
+
+/// A history that serves a script answers it, at the same places.
+pub fn served_histories_answer()
+    ensures { ServedHistoriesAnswer }
+{}
