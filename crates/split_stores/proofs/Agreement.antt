@@ -1,12 +1,11 @@
 -- Parts that agree may make their event, and the call that it asks of a store is one that was counted.
-use Rattle.std.proofs.Common.{◌≡◌, ℕ, ◌≤◌, Bool, true, false, slice_get, Option, Some, None, refl, arith}
-use Rattle.std.specs.Prelude.{IfSome}
+use Rattle.std.proofs.Common.{◌≡◌, ℕ, ◌≤◌, Bool, slice_get, Option, Some, None, refl, arith}
 use Rattle.std.specs.Option.{option_or}
 use Rattle.stamp_base.specs.declared.stores.Store.{Store}
 use Rattle.stamp_base.specs.declared.stores.Store.TheVariants as store
 use Rattle.history_book.specs.declared.cause.Cause.{Cause}
 use Rattle.client_parts.specs.declared.session.State as state
-use Rattle.client_parts.specs.SessionSteps.{SessionEntry, begin_refusal, work_refusal, key_refusal}
+use Rattle.client_parts.specs.SessionSteps.{SessionEntry, begin_refusal, work_refusal}
 use Rattle.oracle_parts.specs.declared.instance.Held.{Held}
 use Rattle.oracle_parts.specs.declared.instance.Request.{Request}
 use Rattle.oracle_parts.specs.declared.instance.Request.TheVariants.{Begin, Commit}
@@ -82,13 +81,7 @@ can_make l (event.Write session key value) agrees few = λ c there may. agrees.p
 can_make l (event.Step session) agrees few = agrees.parts
 can_make l (event.Heal session) agrees few = agrees.parts
 can_make l event.SweepStep agrees few = agrees.parts
-can_make l (event.Tick by) agrees few = tt
-can_make l (event.Note actor note) agrees few = tt
-can_make l (event.Put node session) agrees few = tt
-can_make l (event.Fetch session key) agrees few = tt
-can_make l (event.Abort session) agrees few = tt
-can_make l (event.Vanish session) agrees few = tt
-can_make l (event.SweepOpen node txn) agrees few = tt
+can_make l _ agrees few = tt
 
 -- ---- the store that is asked, where one is
 -- none, or this one

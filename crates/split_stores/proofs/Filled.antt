@@ -1,11 +1,10 @@
 -- The engine that lent parts fill up makes their event, and gives them back as the step leaves them.
-use Rattle.std.proofs.Common.{◌≡◌, ℕ, List, [], ◌++◌, length, Option, Some, None, Result, Ok, Err, refl, sym, ap, ◌∙◌, subst, arith}
+use Rattle.std.proofs.Common.{◌≡◌, [], ◌++◌, length, Option, Some, None, Result, Ok, Err, refl, sym, ap, ◌∙◌, subst}
 use Rattle.std.specs.Prelude.{IfSome, IsErr, OnErr}
 use Rattle.stamp_base.specs.SetupNumbers.{SetupNumbers}
 use Rattle.stamp_base.specs.declared.stores.Store.{Store}
 use Rattle.stamp_base.specs.declared.stores.Store.TheVariants as store
 use Rattle.port_io.specs.declared.weather.Fate.{Fate}
-use Rattle.history_book.specs.declared.item.Item.{Item}
 use Rattle.machine.specs.declared.event.Event.{Event}
 use Rattle.machine.specs.State.{State, opening}
 use Rattle.machine.specs.Events.Take.{rules_of}
@@ -16,7 +15,7 @@ use Rattle.event_parts.specs.declared.stopped.Stopped.{Stopped}
 use Rattle.event_parts.specs.declared.stopped.Stopped.TheVariants.{Refused, StoreFault, NoMemory}
 use Rattle.cluster_core.specs.Required.{CanMake}
 use Rattle.cluster_core.specs.Whole.{Whole, MakesStep}
-use Rattle.split_stores.specs.Acts.{Acts, asked_of, noted, step_of, parts_after, stopped_of}
+use Rattle.split_stores.specs.Acts.{Acts, asked_of, noted, step_of, stopped_of}
 use Rattle.split_stores.specs.Agrees.{CallsFit}
 use Rattle.split_stores.specs.Making.{Ends, called_after}
 use Rattle.split_stores.specs.Parts.{Parts, Record, LeasesBySetup, called, fate_of, filled, given_from, master_called, setup_of, with_lent}

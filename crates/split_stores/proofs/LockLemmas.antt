@@ -1,10 +1,10 @@
 -- Parts that are locked are those that an event has to do with.
-use Rattle.std.proofs.Common.{◌≡◌, ℕ, zero, suc, ◌+◌, ◌<◌, ◌≤◌, List, [], ◌∷◌, length, None, Option, Some, refl, sym, ap, ◌∙◌, subst, arith, inl, inr, ◌⊎◌, ⊎_elim, rules}
-use Rattle.std.specs.Prelude.{IfSome, IsSome, IsSomeAnd, replicate, slice_get, slice_index_or, slice_set}
+use Rattle.std.proofs.Common.{◌≡◌, ℕ, zero, suc, ◌+◌, ◌<◌, List, length, None, Option, Some, refl, sym, ap, ◌∙◌, subst, arith, inl, inr, ◌⊎◌, ⊎_elim, rules}
+use Rattle.std.specs.Prelude.{IfSome, IsSome, IsSomeAnd, slice_index_or, slice_set}
 use Rattle.std.proofs.lemmas.List.{get_or-set_same, get_or-set_other, length-set}
 use Rattle.stamp_base.specs.declared.stores.Store.{Store}
 use Rattle.client_parts.specs.Sweep.{Sweeping}
-use Rattle.machine.specs.State.{Client, client_new}
+use Rattle.machine.specs.State.{Client}
 use Rattle.machine.specs.Machine.{asks_at_client}
 use Rattle.machine.specs.declared.event.Event.TheVariants as timed
 use Rattle.machine.specs.Events.Step.{step_asks}

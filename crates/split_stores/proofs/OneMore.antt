@@ -1,7 +1,7 @@
 -- One session after the other is swapped with the engine's.
-use Rattle.std.proofs.Common.{◌≡◌, ℕ, suc, ◌+◌, ◌<◌, List, length, slice_set, Option, Some, None, refl, sym, ap, ◌∙◌, arith}
+use Rattle.std.proofs.Common.{◌≡◌, ℕ, ◌+◌, ◌<◌, List, length, slice_set, Option, Some, None, refl, ap, ◌∙◌, arith}
 use Rattle.std.specs.Prelude.{slice_index_or}
-use Rattle.machine.specs.State.{Client, State, client_new}
+use Rattle.machine.specs.State.{Client, State}
 use Rattle.split_stores.specs.Parts.{given, given_sessions, lent_clients}
 use Rattle.split_stores.specs.Swaps.{client_at, client_in}
 use Rattle.split_stores.proofs.Handing.{clients_in, one_client, one_session}

@@ -1,13 +1,13 @@
 -- The faults that are planned for one store.
-use Rattle.std.proofs.Common.{◌≡◌, ◌≢◌, ℕ, suc, ◌<◌, ◌==◌, Bool, true, false, ◌&&◌, List, [], ◌∷◌, ◌++◌, append_assoc, append-nil, ◌≤◌, drop, length, refl, sym, ap, ◌∙◌, subst, arith, inl, inr}
-use Rattle.std.specs.Prelude.{All, AllPairs, if◌then◌else◌}
+use Rattle.std.proofs.Common.{◌≡◌, ◌≢◌, ℕ, suc, ◌==◌, true, List, [], ◌∷◌, ◌++◌, append_assoc, append-nil, ◌≤◌, drop, length, refl, sym, ap, ◌∙◌, arith, inl, inr}
+use Rattle.std.specs.Prelude.{All, if◌then◌else◌}
 use Rattle.std.proofs.lemmas.Bool.{cases_Bool}
 use Rattle.std.proofs.lemmas.List.{drop_all}
 use Rattle.std.proofs.lemmas.List.Elements.{All-nil, All-cons, All-head, All-tail}
 use Rattle.std.proofs.lemmas.List.Kept.{AllPairs-cons}
 use Rattle.stamp_base.specs.declared.stores.Store.{Store}
 use Rattle.stamp_base.specs.declared.stores.Store.TheVariants as store
-use Rattle.port_io.specs.Planned.{PlannedFault, same_store, is_of, planned_fate, OneEach}
+use Rattle.port_io.specs.Planned.{PlannedFault, same_store, planned_fate, OneEach}
 use Rattle.split_stores.specs.Calls.{NumberedFault, AreNumbered, fate_at, faults_on}
 
 same_is : (a b : Store) → same_store a b ≡ true → a ≡ b

@@ -20,7 +20,7 @@ use Rattle.cluster_core.specs.Required.{MayExtend, MayHeal, MayMakeStep, MaySwee
 use Rattle.cluster_core.specs.Served.{held_in}
 use Rattle.split_stores.specs.declared.event.Event.{Event}
 use Rattle.split_stores.specs.declared.event.Event.TheVariants as event
-use Rattle.split_stores.specs.Parts.{Parts, Calls, CellRows, Marks, Record, filled, base_by}
+use Rattle.split_stores.specs.Parts.{Parts, Calls, filled, base_by}
 use Rattle.split_stores.specs.Acts.{timed_by, asked_of}
 
 -- ---- the parts that an event has to do with

@@ -1,5 +1,5 @@
 -- The parts that an event locks.
-use Rattle.std.specs.Prelude.{◌≡◌, ℕ, ◌<◌, ◌≤◌, ◌+◌, ◌^◌, length, true, List, Option, None, IfSome, replicate}
+use Rattle.std.specs.Prelude.{◌≡◌, ℕ, ◌<◌, length, true, None, IfSome, replicate}
 use Rattle.atomic_table.specs.Seated.{TableId}
 use Rattle.tick_word.specs.Rule.{seat_limit}
 use Rattle.split_stores.specs.declared.event.Event.{Event}

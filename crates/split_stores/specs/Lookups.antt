@@ -1,5 +1,5 @@
 -- The lent node's instance in the filled state.
-use Rattle.std.specs.Prelude.{ℕ, nat_lt, if◌then◌else◌, Option, None, Some}
+use Rattle.std.specs.Prelude.{nat_lt, if◌then◌else◌, Option, None, Some}
 use Rattle.oracle_parts.specs.Instance.{InstanceEntry}
 use Rattle.split_stores.specs.Parts.{Node}
 

@@ -1,9 +1,8 @@
 -- What making an event does to its actor's log and to the parts that are lent to it.
-use Rattle.std.specs.Prelude.{◌≡◌, ℕ, ◌≤◌, List, [], ◌∷◌, ◌++◌, length, Option, None, Some, Result, Ok, Err}
+use Rattle.std.specs.Prelude.{◌≡◌, ℕ, ◌≤◌, [], ◌∷◌, ◌++◌, length, Option, None, Some}
 use Rattle.atomic_table.specs.Seated.{TableId}
 use Rattle.stamp_base.specs.declared.memory.NoMemory.{NoMemory}
 use Rattle.tick_word.specs.Rule.{seat_limit}
-use Rattle.history_book.specs.declared.item.Item.{Item}
 use Rattle.event_parts.specs.declared.stopped.Stopped.{Stopped}
 use Rattle.script_data.specs.Data.{ScriptData}
 use Rattle.session_script.specs.declared.script.Script.{Script}

@@ -1,5 +1,5 @@
 -- How one part and the engine's stand for each other.
-use Rattle.std.specs.Prelude.{ℕ, List, slice_index_or, Option, None, Some}
+use Rattle.std.specs.Prelude.{ℕ, slice_index_or, Option, None, Some}
 use Rattle.machine.specs.State.{Client, State, client_new}
 use Rattle.machine.specs.Machine.{with_client}
 

@@ -1,7 +1,7 @@
 // The log of an actor, whose ticks rise.
 ghost use Rattle.std.specs.Prelude.{◌≡◌, ◌+◌, ◌<◌, ◌^◌, [], true, false, OnOk, MatchOption, length, slice_get};
 ghost use Rattle.tick_word.specs.Rule.{seat_limit};
-ghost use Rattle.split_stores.specs.Logs.{IsNew, Adds, SameLog, Strikes, CanRise, risen_by, rise_of};
+ghost use Rattle.split_stores.specs.Logs.{IsNew, Adds, SameLog, Strikes, CanRise, ticks_of, rises_above, risen_by, rise_of};
 
 use crate::Event;
 use history_book::Item;
@@ -63,6 +63,14 @@ impl ActorSeat {
         ensures far { risen_by self.now.entries < 2 ^ 40 }
     {
         self.risen
+    }
+
+    /// The ticks of the log rise, as this type says.
+    pub fn rises(&self)
+        ensures { rises_above 0 (ticks_of self.now.entries) ≡ true }
+    {
+        // (what a type says of a value is known once a field was read)
+        let _risen = self.risen;
     }
 
     /// Takes what the entry at this place kept, counted from 0, and changes nothing else. False where there is no such entry.

@@ -1,7 +1,7 @@
 use Rattle.std.proofs.Common.{rules, refl, ap, ◌∙◌}
 use Rattle.machine.specs.State.{opening}
 use Rattle.split_stores.specs.Parts.{seen}
-use Rattle.split_stores.proofs.Filled.{Swapped, AreCounted, calls_fit_then, can_make_then, leases_still, back_as_before, acts_by, on_err}
+use Rattle.split_stores.proofs.Filled.{Swapped, calls_fit_then, can_make_then, leases_still, back_as_before, acts_by, on_err}
 use Rattle.split_stores.proofs.acting.act_timed.Goals as goal
 
 pub make-made-requires-clause-calls : goal.make-made-requires-clause-calls

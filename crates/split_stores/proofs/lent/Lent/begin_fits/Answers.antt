@@ -1,17 +1,9 @@
-use Rattle.std.proofs.Common.{rules, ◌≡◌, refl, sym, ap, ◌∙◌, arith, ◌<◌, Option, Some, None}
-use Rattle.std.specs.Prelude.{IfSome, IsTrue}
-use Rattle.store_parts.specs.Rows.{IsBare, HasOnly}
-use Rattle.client_parts.specs.declared.session.State.TheVariants.{Free, Open}
-use Rattle.client_parts.specs.SessionSteps.{handed_commit}
-use Rattle.oracle_parts.specs.Instance.{InstanceEntry}
-use Rattle.machine.specs.State.{Client}
-use Rattle.machine.specs.Calls.{HoldsNone, KeepsShadowNext, MayStep}
-use Rattle.machine.specs.Events.Heal.{offer_of}
-use Rattle.machine.specs.Events.Step.{next_of, work_of, step_asks}
-use Rattle.machine.specs.Machine.{asks_at_client}
-use Rattle.split_stores.specs.Agrees.{HasAskedAt}
-use Rattle.split_stores.specs.Parts.{filled, seen}
-use Rattle.split_stores.proofs.FoundParts.{client_there, of_client, of_both, of_turned, keeps_none}
+use Rattle.std.proofs.Common.{◌≡◌, sym, arith}
+use Rattle.std.specs.Prelude.{IsTrue}
+use Rattle.client_parts.specs.declared.session.State.TheVariants.{Free}
+use Rattle.machine.specs.Calls.{HoldsNone}
+use Rattle.split_stores.specs.Parts.{seen}
+use Rattle.split_stores.proofs.FoundParts.{of_turned}
 use Rattle.split_stores.proofs.lent.Lent.begin_fits.Goals as goal
 
 pub returns : goal.returns

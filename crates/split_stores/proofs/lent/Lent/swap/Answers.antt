@@ -1,4 +1,4 @@
-use Rattle.std.proofs.Common.{rules, ap, ◌∙◌}
+use Rattle.std.proofs.Common.{rules, ap}
 use Rattle.split_stores.proofs.Giving.{same_parts}
 use Rattle.split_stores.proofs.lent.Lent.swap.Goals as goal
 

@@ -1,5 +1,4 @@
-use Rattle.std.proofs.Common.{◌≡◌, refl, sym, ap, ◌∙◌, arith, List}
-use Rattle.machine.specs.State.{Client, State}
+use Rattle.std.proofs.Common.{refl, ◌∙◌, arith}
 use Rattle.split_stores.specs.Parts.{given_sessions, lent_clients, sessions_seen}
 use Rattle.split_stores.proofs.OneMore.{clients_next, sessions_next}
 use Rattle.split_stores.proofs.lent.Lent.swap_sessions.Goals as goal
