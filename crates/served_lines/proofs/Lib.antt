@@ -1,0 +1,10 @@
+mod LostAsks
+mod SilentAnswers
+mod OverAsks
+mod OwingItems
+mod SilentOutcomes
+mod OwingOutcomes
+mod LeftAlone
+mod LeftByOthers
+mod IdleSteps
+mod CompletionMoves

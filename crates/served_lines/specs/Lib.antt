@@ -1,0 +1,4 @@
+pub mod Closings
+pub mod Silences
+pub mod Overs
+pub mod Completions
