@@ -8,3 +8,12 @@ mod LeftAlone
 mod LeftByOthers
 mod IdleSteps
 mod CompletionMoves
+mod EndedCauses
+mod EndingItems
+mod CrashedClients
+mod SessionTurns
+mod TurnsOfRequests
+mod TurnsOfWork
+mod TurnsOfCrashes
+mod TurnsOfOutcomes
+mod BegunAsks

@@ -31,7 +31,7 @@ use Rattle.isolation_laws.proofs.Outcome.OutcomesOfPlacings.{own_told}
 use Rattle.served_lines.specs.Closings.{leaves_cells, Owes}
 
 -- ---- silent items
-leaves_ends : (why : Cause) → leaves_cells why ≡ true → ends_request why ≡ true
+pub leaves_ends : (why : Cause) → leaves_cells why ≡ true → ends_request why ≡ true
 leaves_ends (cause.Expired reading until) is = refl
 leaves_ends (cause.OldEpoch start epoch) is = refl
 leaves_ends (cause.Conflict key by) is = refl
@@ -41,7 +41,7 @@ leaves_ends (cause.Spent ceiling) is = refl
 leaves_ends (cause.Invalid start) is = refl
 leaves_ends _ is = absurd (not_true is)
 
-refusal_not : (ends : Bool) → ends ≡ true → (if ends then false else true) ≡ true → ⊥
+pub refusal_not : (ends : Bool) → ends ≡ true → (if ends then false else true) ≡ true → ⊥
 refusal_not true is silent = not_true silent
 refusal_not false is silent = not_true is
 

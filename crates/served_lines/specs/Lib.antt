@@ -2,3 +2,4 @@ pub mod Closings
 pub mod Silences
 pub mod Overs
 pub mod Completions
+pub mod Turns

@@ -6,6 +6,7 @@ ghost use Rattle.served_lines.specs.Closings.{OwingNeedsAnAsk, CommitsAreAsked};
 ghost use Rattle.served_lines.specs.Completions.{IdleStepsCompleteNothing, CompletionStepsTell, OthersLeaveCompletions, StepsMoveCompletions};
 ghost use Rattle.served_lines.specs.Overs.{OverStaysOver, ClosedAsksAreOver};
 ghost use Rattle.served_lines.specs.Silences.{LostAsksAreOver, SilentAnswersRepeat};
+ghost use Rattle.served_lines.specs.Turns.{SessionsTakeTurns, BeginsAreAsked};
 
 /// A session is told of its commit, or of a refusal that leaves cells, only where its ask is open, or where it looks by itself how
 /// its commit stands.
@@ -56,4 +57,14 @@ pub fn others_leave_completions()
 /// Its own step goes on to what is left, or has failed and frees the session.
 pub fn steps_move_completions()
     ensures { StepsMoveCompletions }
+{}
+
+/// What an event makes of a session and tells it is a turn: it rests, asks, begins, writes, ends, or hears how its commit ends.
+pub fn session_turns()
+    ensures { SessionsTakeTurns }
+{}
+
+/// Whoever is told of a begin, or to wait with it, or that a crash has lost it, asked for a begin last.
+pub fn begins_are_asked()
+    ensures { BeginsAreAsked }
 {}
