@@ -17,3 +17,5 @@ mod TurnsOfWork
 mod TurnsOfCrashes
 mod TurnsOfOutcomes
 mod BegunAsks
+mod AskItems
+mod AskTurns

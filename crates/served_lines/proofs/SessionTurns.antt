@@ -78,11 +78,11 @@ committing_of w h n s asker start keys i held c tells at has client_at is alive 
     record { state = inl waits.0; start_is = waits.1; asked = asked_of w h n s i held (Commit asker start keys) tells at has is }
 
 -- ---- how a commit ends
-aborted_undone_by : (e : SessionEntry) (keys : List ℕ) → IsUndone (aborted_by e keys).state
+aborted_undone_by : (e : SessionEntry) (keys : List ℕ) → IsUndone e (aborted_by e keys)
 aborted_undone_by e [] = inr refl
-aborted_undone_by e (key ∷ keys) = inl refl
+aborted_undone_by e (key ∷ keys) = inl (refl, refl)
 
-pub aborted_undone : (c : Client) → IsUndone (client_aborted c).entry.state
+pub aborted_undone : (c : Client) → IsUndone c.entry (client_aborted c).entry
 aborted_undone c = aborted_undone_by c.entry c.entry.keys
 
 open_owes_none : (s start : ℕ) → Owes s (item.Refused (Session s) (cause.Open start)) → ⊥

@@ -9,7 +9,7 @@ use Rattle.history_book.specs.declared.item.Item.{Item}
 use Rattle.history_book.specs.declared.item.Item.TheVariants as item
 use Rattle.client_parts.specs.declared.session.State.{State as SessionState}
 use Rattle.client_parts.specs.declared.session.State.TheVariants as phase
-use Rattle.client_parts.specs.SessionSteps.{session_wrote}
+use Rattle.client_parts.specs.SessionSteps.{SessionEntry, session_wrote}
 use Rattle.machine.specs.declared.event.Event.{Event}
 use Rattle.machine.specs.State.{Client, State}
 use Rattle.machine.specs.Clients.{client_aborted, client_committed, client_opened}
@@ -65,9 +65,9 @@ MayCommit h s start c = IsCommitting h s start c ⊎ ((c.entry.state ≡ phase.O
 abbrev pub MayFree : SessionState → Type 0
 MayFree state = (state ≡ phase.Open) ⊎ ((undo : Bool) × (state ≡ phase.Completing undo))
 
--- its transaction has ended without a commit
-abbrev pub IsUndone : SessionState → Type 0
-IsUndone state = (state ≡ phase.Completing true) ⊎ (state ≡ phase.Free)
+-- its transaction has ended without a commit: what it wrote is erased, or it wrote nothing
+abbrev pub IsUndone : SessionEntry → SessionEntry → Type 0
+IsUndone old new = ((new.state ≡ phase.Completing true) × (new.start ≡ old.start)) ⊎ (new.state ≡ phase.Free)
 
 -- ---- the turn of a session: the history before, its client before and after, and what is told
 pub data Turn (h : List Item) (s : ℕ) (c : Client) (items : List Item) (d : Client) : Type 0 where
@@ -83,7 +83,7 @@ pub data Turn (h : List Item) (s : ℕ) (c : Client) (items : List Item) (d : Cl
   Writes : (start key : ℕ) (value : List ℕ) → c.entry.state ≡ phase.Open → d.entry ≡ session_wrote c.entry key → c.entry.start ≡ Some start → items ≡ item.Write s start key value ∷ [] → Turn h s c items d
   -- its transaction ends, or its completion
   Frees : MayFree c.entry.state → d.entry.state ≡ phase.Free → NoneEnds s items → Turn h s c items d
-  Undoes : (c.entry.state ≡ phase.Open) ⊎ (c.entry.state ≡ phase.OpenOutcome) → IsUndone d.entry.state → NoneEnds s items → Turn h s c items d
+  Undoes : (c.entry.state ≡ phase.Open) ⊎ (c.entry.state ≡ phase.OpenOutcome) → IsUndone c.entry d.entry → NoneEnds s items → Turn h s c items d
   -- its commit is handed to it
   Hands : c.entry.state ≡ phase.Committing → d.entry.state ≡ phase.Placing → d.entry.start ≡ c.entry.start → NoneEnds s items → Turn h s c items d
   -- it is told of its commit, of its refusal, or that its outcome is open
@@ -107,3 +107,13 @@ OfBegin s _ = ⊥
 
 abbrev pub BeginsAreAsked : Type 0
 BeginsAreAsked = (w : State) (h : List Item) (e : Event) (fate : Fate) (s : ℕ) (x : Item) → Tells w h → x ∈ (stepped w e fate).items → OfBegin s x → IsAsked h s None
+
+-- ---- asks
+-- who asks was free, or had its transaction open, and the ask is told alone
+pub record TakesAsks (s : ℕ) (c : Client) (items : List Item) (d : Client) : Type 0 where
+  pub begins : (node : ℕ) → item.AskBegin s node ∈ items → (c.entry.state ≡ phase.Free) × (d.entry.state ≡ phase.Asking) × (items ≡ item.AskBegin s node ∷ [])
+  pub commits : (node start : ℕ) → item.AskCommit s node start ∈ items → (c.entry.state ≡ phase.Open) × (d.entry.state ≡ phase.Committing) × (c.entry.start ≡ Some start) × (d.entry.start ≡ Some start) × (items ≡ item.AskCommit s node start ∷ [])
+
+abbrev pub AsksAreTurns : Type 0
+AsksAreTurns =
+    (w : State) (h : List Item) (e : Event) (fate : Fate) (s : ℕ) (c d : Client) → Tells w h → ClientAt w.clients s c → ClientAt (stepped w e fate).state.clients s d → TakesAsks s c (stepped w e fate).items d

@@ -6,7 +6,7 @@ ghost use Rattle.served_lines.specs.Closings.{OwingNeedsAnAsk, CommitsAreAsked};
 ghost use Rattle.served_lines.specs.Completions.{IdleStepsCompleteNothing, CompletionStepsTell, OthersLeaveCompletions, StepsMoveCompletions};
 ghost use Rattle.served_lines.specs.Overs.{OverStaysOver, ClosedAsksAreOver};
 ghost use Rattle.served_lines.specs.Silences.{LostAsksAreOver, SilentAnswersRepeat};
-ghost use Rattle.served_lines.specs.Turns.{SessionsTakeTurns, BeginsAreAsked};
+ghost use Rattle.served_lines.specs.Turns.{SessionsTakeTurns, BeginsAreAsked, AsksAreTurns};
 
 /// A session is told of its commit, or of a refusal that leaves cells, only where its ask is open, or where it looks by itself how
 /// its commit stands.
@@ -67,4 +67,9 @@ pub fn session_turns()
 /// Whoever is told of a begin, or to wait with it, or that a crash has lost it, asked for a begin last.
 pub fn begins_are_asked()
     ensures { BeginsAreAsked }
+{}
+
+/// Who asks was free, or had its transaction open, and the ask is told alone.
+pub fn asks_are_turns()
+    ensures { AsksAreTurns }
 {}
