@@ -41,7 +41,7 @@ pub commit_not : (s node start : ℕ) (items : List Item) → NoneAsked s items 
 commit_not s node start items none m = let clash : true ≡ false = sym (eq-eqb s s refl) ∙ asks_not s (item.AskCommit s node start) items none m in cc
 
 -- ---- the client that is set
-set_is : (w : State) (r s : ℕ) (old new c d : Client) → r ≡ s → ClientAt w.clients r old → ClientAt w.clients s c → ClientAt (slice_set w.clients r new) s d → (old ≡ c) × (d ≡ new)
+pub set_is : (w : State) (r s : ℕ) (old new c d : Client) → r ≡ s → ClientAt w.clients r old → ClientAt w.clients s c → ClientAt (slice_set w.clients r new) s d → (old ≡ c) × (d ≡ new)
 set_is w r s old new c d same was at there = (
   one_client w.clients s old c (subst (λ (q : ℕ). ClientAt w.clients q old) same was) at,
   elim (client_set w.clients r s new d there) [ inl here ↦ here.1 | inr other ↦ absurd (other.0 (sym same)) ],
@@ -51,13 +51,13 @@ set_is w r s old new c d same was at there = (
 begin_same : (s n r m : ℕ) → item.AskBegin s n ≡ item.AskBegin r m → (r ≡ s) × (m ≡ n)
 begin_same s n r m same = (cc, cc)
 
-commit_same : (s n t r m u : ℕ) → item.AskCommit s n t ≡ item.AskCommit r m u → (r ≡ s) × (m ≡ n) × (u ≡ t)
+pub commit_same : (s n t r m u : ℕ) → item.AskCommit s n t ≡ item.AskCommit r m u → (r ≡ s) × (m ≡ n) × (u ≡ t)
 commit_same s n t r m u same = (cc, cc, cc)
 
 commit_begins_not : (s n r m t : ℕ) → item.AskBegin s n ≡ item.AskCommit r m t → ⊥
 commit_begins_not s n r m t same = cc
 
-begin_commits_not : (s n t r m : ℕ) → item.AskCommit s n t ≡ item.AskBegin r m → ⊥
+pub begin_commits_not : (s n t r m : ℕ) → item.AskCommit s n t ≡ item.AskBegin r m → ⊥
 begin_commits_not s n t r m same = cc
 
 begin_taken : (w : State) (k : AskedBegin w) (s : ℕ) (c d : Client) → ClientAt w.clients s c → ClientAt (asked_begin_state w k).clients s d → TakesAsks s c (asked_begin_items w k) d

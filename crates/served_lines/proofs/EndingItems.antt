@@ -54,13 +54,13 @@ silent_ends s (y ∷ ys) silent x m ends = elim m [
   | inr deeper ↦ silent_ends s ys (All-tail Silent y ys silent) x deeper ends
 ]
 
+pub leaves_end : (why : Cause) → leaves_cells why ≡ true → ends_commit why ≡ true
+leaves_end (cause.Open start) is = absurd (not_true is)
+leaves_end why is = is
+
 pub owes_ends : (s : ℕ) (x : Item) → Owes s x → EndsCommit s x
 owes_ends s (item.Committed session start commit) owes = owes
 owes_ends s (item.Refused (Session session) why) owes = (owes.0, leaves_end why owes.1)
-  where
-    leaves_end : (why : Cause) → leaves_cells why ≡ true → ends_commit why ≡ true
-    leaves_end (cause.Open start) is = absurd (not_true is)
-    leaves_end why is = is
 owes_ends s _ owes = owes
 
 -- ---- the last item alone may

@@ -149,7 +149,7 @@ owing_of w (OfOutcome k) s x m owes = inr (outcome_alone w k s x m owes)
 owing_of w o s x m owes = absurd (owing_none w o s refl x m owes)
 
 -- ---- one event
-owing_by : (w : State) (h : List Item) (e : Event) (fate : Fate) (s : ℕ) (x : Item) → Tells w h → x ∈ (stepped w e fate).items → Owes s x → HeldFor w s x ⊎ IsAlone w s
+pub owing_by : (w : State) (h : List Item) (e : Event) (fate : Fate) (s : ℕ) (x : Item) → Tells w h → x ∈ (stepped w e fate).items → Owes s x → HeldFor w s x ⊎ IsAlone w s
 owing_by w h e fate s x tells m owes =
     each_outcome (λ v items. x ∈ items → Owes s x → HeldFor w s x ⊎ IsAlone w s) w h e fate tells.stands (λ o here owed. owing_of w o s x here owed) m owes
 

@@ -3,3 +3,5 @@ pub mod Silences
 pub mod Overs
 pub mod Completions
 pub mod Turns
+pub mod Ends
+pub mod Laws
