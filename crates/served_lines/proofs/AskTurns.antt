@@ -3,23 +3,17 @@ use Rattle.std.proofs.Common.{◌≡◌, ℕ, true, false, List, [], ◌∷◌, 
 use Rattle.std.specs.Prelude.{slice_set}
 use Rattle.std.proofs.lemmas.Bool.{eq-eqb}
 use Rattle.std.proofs.lemmas.List.Elements.{All-head, All-tail}
-use Rattle.port_io.specs.declared.weather.Fate.{Fate}
 use Rattle.history_book.specs.Members.{◌∈◌}
 use Rattle.history_book.specs.declared.item.Item.{Item}
 use Rattle.history_book.specs.declared.item.Item.TheVariants as item
-use Rattle.client_parts.specs.declared.session.State.TheVariants as phase
 use Rattle.client_parts.specs.SessionSteps.{asked_state}
-use Rattle.machine.specs.declared.event.Event.{Event}
 use Rattle.machine.specs.State.{Client, State}
 use Rattle.machine.specs.Clients.{client_asked}
-use Rattle.machine.specs.Machine.{stepped}
-use Rattle.cause_rules.specs.Asks.{asks_for}
 use Rattle.isolation_laws.specs.Words.{ClientAt}
 use Rattle.isolation_laws.proofs.AlwaysHolds.{each_outcome}
 use Rattle.isolation_laws.proofs.Lookups.{client_set, one_client}
 use Rattle.isolation_laws.proofs.Outcome.OutcomesOfRequests.{AskedBegin, asked_begin_state, asked_begin_items, AskedCommit, asked_commit_state}
 use Rattle.isolation_laws.proofs.Outcome.Outcomes.{Outcome, OfAskedBegin, OfAskedCommit, left_by, told_by_outcome}
-use Rattle.cause_laws.specs.Shows.{Tells}
 use Rattle.served_lines.specs.Turns.{TakesAsks, AsksAreTurns}
 use Rattle.served_lines.proofs.OwingItems.{only_is}
 use Rattle.served_lines.proofs.OwingOutcomes.{among}

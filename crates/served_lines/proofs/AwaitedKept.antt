@@ -1,48 +1,32 @@
 -- Every outcome keeps that a node holds the request of each session that waits for the end of its commit.
-use Rattle.std.proofs.Common.{◌≡◌, ◌≢◌, ℕ, ◌+◌, ◌<◌, Bool, true, false, List, [], ◌∷◌, length, Option, None, Some, ◌⊎◌, inl, inr, refl, sym, ◌∙◌, ap, subst, arith}
-use Rattle.std.specs.Prelude.{slice_get, slice_set}
+use Rattle.std.proofs.Common.{◌≡◌, ℕ, ◌<◌, Bool, true, false, List, [], ◌∷◌, length, Option, None, Some, inl, inr, refl, sym, ◌∙◌, ap, subst}
+use Rattle.std.specs.Prelude.{slice_set}
 use Rattle.std.proofs.lemmas.Bool.{cases_eq, cases_lt}
 use Rattle.std.proofs.lemmas.List.{get_or_past}
-use Rattle.std.proofs.lemmas.Option.{same_Some, none-some, slice_get_within}
-use Rattle.port_io.specs.declared.weather.Fate.{Fate}
-use Rattle.history_book.specs.Members.{◌∈◌}
+use Rattle.std.proofs.lemmas.Option.{same_Some, none-some}
 use Rattle.history_book.specs.declared.item.Item.{Item}
-use Rattle.history_book.specs.declared.item.Item.TheVariants as item
-use Rattle.store_parts.specs.Record.{granted, renewed_until}
 use Rattle.client_parts.specs.declared.session.State.{State as SessionState}
 use Rattle.client_parts.specs.declared.session.State.TheVariants as phase
 use Rattle.client_parts.specs.SessionSteps.{SessionEntry, aborted_by}
 use Rattle.oracle_parts.specs.declared.instance.Held.{Held}
-use Rattle.oracle_parts.specs.declared.instance.Progress.TheVariants as progress
 use Rattle.oracle_parts.specs.declared.instance.Request.{Request}
 use Rattle.oracle_parts.specs.declared.instance.Request.TheVariants.{Begin, Commit}
 use Rattle.oracle_parts.specs.declared.instance.Settled.{Settled}
 use Rattle.oracle_parts.specs.declared.instance.Settled.TheVariants as how
 use Rattle.oracle_parts.specs.Instance.{InstanceEntry, held_of, with_request}
-use Rattle.oracle_parts.specs.InstanceSteps.{without_request, moved, just_asked, drawn_as, instance_stopped, instance_widened, instance_renewed}
+use Rattle.oracle_parts.specs.InstanceSteps.{without_request, instance_stopped}
 use Rattle.oracle_parts.proofs.InstanceRequests.{held_of-with_request_same, held_of-with_request_other}
-use Rattle.machine.specs.declared.event.Event.{Event}
 use Rattle.machine.specs.State.{Client, State}
 use Rattle.machine.specs.Clients.{client_begun, client_freed, client_aborted, client_handed, client_opened, unless_gone, unless_gone_by, after_refusal}
-use Rattle.machine.specs.Machine.{stepped}
 use Rattle.machine.specs.Events.Crash.{after_loss, crashed_client}
 use Rattle.isolation_laws.specs.Words.{InstanceAt, ClientAt}
-use Rattle.isolation_laws.proofs.AlwaysHolds.{each_outcome}
 use Rattle.isolation_laws.proofs.Lookups.{set_found, set_other, client_set, one_instance}
 use Rattle.isolation_laws.proofs.Outcome.OutcomesOfRecord.{StillBy, Rests as RestsBy, Stops, Tells as TellsOne, Granted, granted_nodes, Renewed, renewed_nodes, Extended, extended_nodes}
-use Rattle.isolation_laws.proofs.Outcome.OutcomesOfRequests.{Crashed, crashed_state, AskedCommit}
+use Rattle.isolation_laws.proofs.Outcome.OutcomesOfRequests.{Crashed, crashed_state}
 use Rattle.isolation_laws.proofs.Outcome.OutcomesOfStamps.{AtDrawn, settled_nodes, answered_client}
-use Rattle.isolation_laws.proofs.Outcome.Outcomes.{Outcome, OfStill, OfGranted, OfRenewed, OfExtended, OfCrashed, OfAskedBegin, OfAskedCommit, OfAccepted, OfEnded, OfDrew, OfPlaced, OfNotPlaced, OfAnsweredBegin, OfAnsweredCommit, OfHanded, left_by, told_by_outcome}
-use Rattle.cause_laws.specs.Shows.{Tells}
-use Rattle.served_lines.specs.Ends.{IsHeld, AreAwaited}
-use Rattle.served_lines.specs.Turns.{Turn, Rests, AsksBegin, AsksCommit, Begins, LosesBegin, Writes, Frees, Undoes, Hands, Commits, Refuses, LeavesOpen, Vanishes, IsGone}
-use Rattle.served_lines.proofs.OwingItems.{only_is}
-use Rattle.served_lines.proofs.OwingOutcomes.{among}
-use Rattle.served_lines.proofs.AskItems.{plain_asks}
-use Rattle.served_lines.proofs.AskTurns.{commit_not, commit_same, begin_commits_not}
+use Rattle.isolation_laws.proofs.Outcome.Outcomes.{Outcome, OfStill, OfGranted, OfRenewed, OfExtended, OfCrashed, OfAskedBegin, OfAskedCommit, OfAccepted, OfEnded, OfDrew, OfPlaced, OfNotPlaced, OfAnsweredBegin, OfAnsweredCommit, OfHanded, left_by}
+use Rattle.served_lines.specs.Ends.{IsHeld}
 use Rattle.served_lines.proofs.CrashedClients.{crashed_is}
-use Rattle.served_lines.proofs.EventFacts.{was_there}
-use Rattle.served_lines.proofs.TurnsOfOutcomes.{session_turns}
 
 -- ---- one node is set
 -- a request of the session is held there, if one was

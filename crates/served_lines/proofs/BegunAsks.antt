@@ -1,5 +1,5 @@
 -- Whoever is told of a begin asked for one last.
-use Rattle.std.proofs.Common.{◌≡◌, ℕ, List, [], ◌∷◌, ◌++◌, Option, None, Some, inl, inr, refl, sym, ◌∙◌, subst, take}
+use Rattle.std.proofs.Common.{◌≡◌, ℕ, List, [], ◌∷◌, None, Some, inl, inr, subst, take}
 use Rattle.std.specs.Prelude.{slice_get}
 use Rattle.std.proofs.lemmas.Option.{none-some}
 use Rattle.port_io.specs.declared.weather.Fate.{Fate}
@@ -19,7 +19,7 @@ use Rattle.isolation_laws.specs.Due.{Due, DueLoss, cause_of_loss}
 use Rattle.isolation_laws.proofs.AlwaysHolds.{dues, each_outcome}
 use Rattle.isolation_laws.proofs.OnceEach.{place_of}
 use Rattle.isolation_laws.proofs.Pushed.{not_true, quiet_in}
-use Rattle.isolation_laws.proofs.Outcome.Outcomes.{Outcome, told_by_outcome}
+use Rattle.isolation_laws.proofs.Outcome.Outcomes.{told_by_outcome}
 use Rattle.isolation_laws.proofs.Numbers.Placings.{placed_item}
 use Rattle.isolation_laws.proofs.Holding.IsolatedItems.{Stamping, StampsNone, StampsPlaced, StampsBegin, stamping, begin_old}
 use Rattle.cause_laws.specs.Requests.{ask_for}

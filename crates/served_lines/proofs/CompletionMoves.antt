@@ -1,6 +1,6 @@
 -- What its own step makes of a client whose completion is under way.
-use Rattle.std.proofs.Common.{◌≡◌, ℕ, Bool, List, [], ◌∷◌, ◌++◌, Option, Some, inl, inr, refl, sym, ◌∙◌, ap, subst}
-use Rattle.std.specs.Prelude.{slice_get, slice_set}
+use Rattle.std.proofs.Common.{◌≡◌, ℕ, List, [], ◌∷◌, Option, inl, inr, refl, sym, ◌∙◌, ap, subst}
+use Rattle.std.specs.Prelude.{slice_set}
 use Rattle.port_io.specs.declared.weather.Fate.{Fate}
 use Rattle.port_io.specs.declared.weather.Fate.TheVariants.{Works, FailsUnchanged, FailsApplied}
 use Rattle.history_book.specs.Members.{◌∈◌}
@@ -11,10 +11,8 @@ use Rattle.history_book.specs.declared.item.Item.TheVariants as item
 use Rattle.store_parts.specs.Rows.{Row}
 use Rattle.store_parts.specs.Pairs.{Pairs}
 use Rattle.client_parts.specs.declared.asks.Ask.{Ask}
-use Rattle.client_parts.specs.declared.asks.Told.{Told}
-use Rattle.client_parts.specs.declared.session.State.TheVariants as phase
 use Rattle.machine.specs.declared.event.Event.TheVariants as event
-use Rattle.machine.specs.State.{Completes, Client, State}
+use Rattle.machine.specs.State.{Completes, Client}
 use Rattle.machine.specs.StoreSteps.{mark_kept, store_of, told_by}
 use Rattle.machine.specs.Effect.{Effect}
 use Rattle.machine.specs.Machine.{Step, stepped, at_client, step_by, with_client}

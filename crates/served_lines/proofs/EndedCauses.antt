@@ -1,5 +1,5 @@
 -- A request that had drawn nothing is ended by a refusal that leaves cells, and neither by a crash nor by an open outcome.
-use Rattle.std.proofs.Common.{◌≡◌, ℕ, true, false, IsTrue, List, [], ◌∷◌, ◌++◌, Option, None, Some, ◌⊎◌, inl, inr, refl, sym, ◌∙◌, ap, subst}
+use Rattle.std.proofs.Common.{◌≡◌, ℕ, true, IsTrue, List, [], ◌∷◌, ◌++◌, Some, ◌⊎◌, inl, inr, refl, sym, ◌∙◌, ap, subst}
 use Rattle.std.proofs.lemmas.Option.{none-some}
 use Rattle.history_book.specs.declared.cause.Cause.{Cause}
 use Rattle.history_book.specs.declared.cause.Cause.TheVariants as cause
@@ -13,9 +13,9 @@ use Rattle.oracle_parts.specs.declared.instance.Settled.TheVariants as how
 use Rattle.oracle_parts.specs.Instance.{InstanceEntry, held_of}
 use Rattle.machine.specs.State.{State}
 use Rattle.cause_rules.specs.OpenAsks.{ends_request}
-use Rattle.isolation_laws.specs.Due.{Serves, Due, AreDue, DueSettled}
+use Rattle.isolation_laws.specs.Due.{Due, AreDue, DueSettled}
 use Rattle.isolation_laws.specs.Holds.{Holds}
-use Rattle.isolation_laws.specs.Words.{InstanceAt, HeldBy}
+use Rattle.isolation_laws.specs.Words.{InstanceAt}
 use Rattle.isolation_laws.proofs.Lookups.{one_instance, one_held, held_by}
 use Rattle.isolation_laws.proofs.Outcome.OutcomesOfRequests.{Ended}
 use Rattle.served_lines.specs.Closings.{leaves_cells}

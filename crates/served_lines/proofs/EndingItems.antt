@@ -1,7 +1,6 @@
 -- Which items tell a session how its commit ends, and of which outcomes.
-use Rattle.std.proofs.Common.{◌≡◌, ℕ, ◌+◌, Bool, true, false, if◌then◌else◌, List, [], ◌∷◌, ◌++◌, Option, None, Some, inl, inr, refl, sym, ◌∙◌, ap, subst}
-use Rattle.std.specs.Prelude.{slice_index_or}
-use Rattle.std.proofs.lemmas.List.Elements.{All-head, All-tail, All-cons}
+use Rattle.std.proofs.Common.{◌≡◌, ℕ, ◌+◌, Bool, true, false, List, [], ◌∷◌, ◌++◌, inl, inr, refl, sym, subst}
+use Rattle.std.proofs.lemmas.List.Elements.{All-head, All-tail}
 use Rattle.stamp_base.specs.declared.stores.Store.TheVariants.{Table}
 use Rattle.history_book.specs.Members.{◌∈◌}
 use Rattle.history_book.specs.declared.cause.Cause.{Cause}
@@ -13,14 +12,13 @@ use Rattle.history_book.specs.declared.item.Item.TheVariants as item
 use Rattle.store_parts.specs.Record.{granted}
 use Rattle.client_parts.specs.declared.session.State as state
 use Rattle.client_parts.specs.declared.session.State.TheVariants as phase
-use Rattle.oracle_parts.specs.declared.instance.Held.{Held}
 use Rattle.oracle_parts.specs.declared.instance.Request.{Request}
 use Rattle.oracle_parts.specs.declared.instance.Request.TheVariants.{Begin, Commit}
 use Rattle.oracle_parts.specs.declared.instance.Settled.{Settled}
 use Rattle.oracle_parts.specs.declared.instance.Settled.TheVariants as how
 use Rattle.oracle_parts.specs.Instance.{session_of}
 use Rattle.machine.specs.State.{Client, State}
-use Rattle.machine.specs.Events.Crash.{loss_heard, loss_items, crashed_items, all_crashed_items}
+use Rattle.machine.specs.Events.Crash.{loss_heard, loss_items}
 use Rattle.machine.specs.Events.Decide.{draw_item}
 use Rattle.machine.specs.Events.Take.{rules_of, take_item}
 use Rattle.cause_rules.specs.OpenAsks.{ends_request}

@@ -1,22 +1,20 @@
 -- Every event keeps that behind each refusal that ended a commit its cells are erased, unless that failed or is still to come.
-use Rattle.std.proofs.Common.{◌≡◌, ◌≢◌, ℕ, Bool, true, false, List, [], ◌∷◌, ◌++◌, Option, None, Some, ◌⊎◌, inl, inr, refl, sym, ◌∙◌, ap, subst}
+use Rattle.std.proofs.Common.{◌≡◌, ℕ, true, List, [], ◌∷◌, ◌++◌, Option, None, Some, ◌⊎◌, inl, inr, refl, sym, ◌∙◌, ap, subst}
 use Rattle.port_io.specs.declared.weather.Fate.{Fate}
 use Rattle.history_book.specs.Members.{◌∈◌}
 use Rattle.history_book.specs.declared.cause.Cause.{Cause}
-use Rattle.history_book.specs.declared.cause.Cause.TheVariants as cause
 use Rattle.history_book.specs.declared.item.Actor.TheVariants.{Session}
 use Rattle.history_book.specs.declared.item.StoreStep.TheVariants as step
 use Rattle.history_book.specs.declared.item.Item.{Item}
 use Rattle.history_book.specs.declared.item.Item.TheVariants as item
 use Rattle.history_book.proofs.MemberLemmas.{in_front}
-use Rattle.client_parts.specs.declared.asks.Ask.{Ask}
 use Rattle.client_parts.specs.declared.asks.Ask.TheVariants as ask
 use Rattle.client_parts.specs.declared.session.State.{State as SessionState}
 use Rattle.client_parts.specs.declared.session.State.TheVariants as phase
 use Rattle.client_parts.specs.SessionSteps.{aborted_by}
 use Rattle.client_parts.specs.Completion.{undo_asks}
 use Rattle.machine.specs.declared.event.Event.{Event}
-use Rattle.machine.specs.State.{Completes, Client, State}
+use Rattle.machine.specs.State.{Client, State}
 use Rattle.machine.specs.Clients.{emptied, undo_of, client_aborted}
 use Rattle.machine.specs.Machine.{stepped}
 use Rattle.cause_rules.specs.Asks.{its_ask}
@@ -28,7 +26,7 @@ use Rattle.isolation_laws.proofs.AlwaysHolds.{each_outcome}
 use Rattle.cause_laws.specs.Shows.{Tells}
 use Rattle.served_lines.specs.Closings.{leaves_cells}
 use Rattle.served_lines.specs.Ends.{AreGoneSince, AreClosed, IsToAsk, Comes, Vanished, Left, AreErased}
-use Rattle.served_lines.specs.Turns.{ends_commit, EndsCommit, IsAsked, IsCommitting, Turn, Rests, AsksBegin, AsksCommit, Begins, LosesBegin, Writes, Frees, Undoes, Hands, Commits, Refuses, LeavesOpen, Vanishes, IsGone}
+use Rattle.served_lines.specs.Turns.{EndsCommit, IsAsked, IsCommitting, Turn, Rests, AsksBegin, AsksCommit, Begins, LosesBegin, Writes, Frees, Undoes, Hands, Commits, Refuses, LeavesOpen, Vanishes, IsGone}
 use Rattle.served_lines.proofs.OwingItems.{only_is}
 use Rattle.served_lines.proofs.OwingOutcomes.{among}
 use Rattle.served_lines.proofs.EndingItems.{leaves_end}

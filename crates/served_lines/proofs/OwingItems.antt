@@ -1,6 +1,5 @@
 -- Which items leave something to be done: none that is silent, and none that tells of a loss.
 use Rattle.std.proofs.Common.{◌≡◌, ℕ, Bool, true, false, if◌then◌else◌, List, [], ◌∷◌, Option, None, Some, inl, inr, refl, sym, ◌∙◌, subst}
-use Rattle.std.specs.Prelude.{All}
 use Rattle.std.proofs.lemmas.List.Elements.{All-head, All-tail}
 use Rattle.stamp_base.specs.declared.stores.Store.TheVariants.{Master, Table}
 use Rattle.history_book.specs.Members.{◌∈◌}

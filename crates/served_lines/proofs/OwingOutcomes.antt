@@ -1,5 +1,5 @@
 -- What leaves something to be done comes of a request that a node holds, or the session finds it by itself.
-use Rattle.std.proofs.Common.{◌≡◌, ℕ, ◌+◌, Bool, true, false, if◌then◌else◌, is_some, List, [], ◌∷◌, ◌++◌, Option, None, Some, ◌⊎◌, inl, inr, refl, sym, ◌∙◌, ap, subst}
+use Rattle.std.proofs.Common.{◌≡◌, ℕ, ◌+◌, Bool, true, false, if◌then◌else◌, is_some, List, [], ◌∷◌, Option, None, Some, ◌⊎◌, inl, inr, refl, sym, ◌∙◌, ap, subst}
 use Rattle.std.proofs.lemmas.List.Elements.{All-cons}
 use Rattle.port_io.specs.declared.weather.Fate.{Fate}
 use Rattle.history_book.specs.Members.{◌∈◌}
@@ -26,7 +26,6 @@ use Rattle.machine.specs.Events.Take.{rules_of, take_item}
 use Rattle.isolation_laws.specs.Words.{InstanceAt, ClientAt}
 use Rattle.isolation_laws.proofs.AlwaysHolds.{each_outcome}
 use Rattle.isolation_laws.proofs.Lookups.{held_by}
-use Rattle.isolation_laws.proofs.Pushed.{in_append}
 use Rattle.isolation_laws.proofs.Outcome.PlainItems.{Silent, none_silent}
 use Rattle.isolation_laws.proofs.Outcome.OutcomesOfRecord.{fault_if}
 use Rattle.isolation_laws.proofs.Outcome.OutcomesOfStamps.{AnsweredCommit, answered_item}

@@ -1,5 +1,5 @@
 -- Every event keeps that the record of each commit that was told is removed, unless that failed or is still to come.
-use Rattle.std.proofs.Common.{◌≡◌, ℕ, Bool, true, false, List, [], ◌∷◌, ◌++◌, Option, None, Some, ◌⊎◌, inl, inr, refl, sym, ◌∙◌, ap, subst}
+use Rattle.std.proofs.Common.{◌≡◌, ℕ, false, List, [], ◌∷◌, ◌++◌, Option, Some, ◌⊎◌, inl, inr, refl, sym, ◌∙◌, ap, subst}
 use Rattle.port_io.specs.declared.weather.Fate.{Fate}
 use Rattle.history_book.specs.Members.{◌∈◌}
 use Rattle.history_book.specs.declared.item.Actor.TheVariants.{Session}
@@ -7,12 +7,11 @@ use Rattle.history_book.specs.declared.item.StoreStep.TheVariants as step
 use Rattle.history_book.specs.declared.item.Item.{Item}
 use Rattle.history_book.specs.declared.item.Item.TheVariants as item
 use Rattle.history_book.proofs.MemberLemmas.{in_last}
-use Rattle.client_parts.specs.declared.asks.Ask.{Ask}
 use Rattle.client_parts.specs.declared.asks.Ask.TheVariants as ask
 use Rattle.client_parts.specs.declared.session.State.TheVariants as phase
 use Rattle.client_parts.specs.Completion.{finish_asks}
 use Rattle.machine.specs.declared.event.Event.{Event}
-use Rattle.machine.specs.State.{Completes, Client, State}
+use Rattle.machine.specs.State.{Client, State}
 use Rattle.machine.specs.Clients.{client_committed, finish_of}
 use Rattle.machine.specs.Machine.{stepped}
 use Rattle.isolation_laws.specs.Requests.{WaitsFor}
@@ -20,11 +19,11 @@ use Rattle.isolation_laws.specs.Words.{ClientAt}
 use Rattle.isolation_laws.proofs.Lookups.{held_by}
 use Rattle.isolation_laws.proofs.Pushed.{in_append}
 use Rattle.cause_laws.specs.Shows.{Tells}
-use Rattle.served_lines.specs.Closings.{Owes, IsAlone}
-use Rattle.served_lines.specs.Ends.{AreGoneSince, IsToAsk, HasVanished, Comes, Vanished, Left, AreRemoved}
-use Rattle.served_lines.specs.Turns.{EndsCommit, EndsWith, IsCommitting, MayCommit, Turn, Rests, AsksBegin, AsksCommit, Begins, LosesBegin, Writes, Frees, Undoes, Hands, Commits, Refuses, LeavesOpen, Vanishes, IsGone}
+use Rattle.served_lines.specs.Closings.{Owes}
+use Rattle.served_lines.specs.Ends.{AreGoneSince, IsToAsk, Comes, Vanished, Left, AreRemoved}
+use Rattle.served_lines.specs.Turns.{EndsCommit, EndsWith, MayCommit, Turn, Rests, AsksBegin, AsksCommit, Begins, LosesBegin, Writes, Frees, Undoes, Hands, Commits, Refuses, LeavesOpen, Vanishes, IsGone}
 use Rattle.served_lines.proofs.OwingItems.{only_is}
-use Rattle.served_lines.proofs.OwingOutcomes.{among, HeldFor, owing_by}
+use Rattle.served_lines.proofs.OwingOutcomes.{among, owing_by}
 use Rattle.served_lines.proofs.EventFacts.{still_there}
 use Rattle.served_lines.proofs.CompletionsKept.{gone_vanished, comes_on}
 use Rattle.served_lines.proofs.Splits.{Stood, Before, Among, stood, stands_in}

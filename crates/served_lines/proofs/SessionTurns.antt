@@ -1,7 +1,6 @@
 -- What each outcome makes of a session, and what it tells it.
-use Rattle.std.proofs.Common.{◌≡◌, ℕ, Bool, true, false, List, [], ◌∷◌, ◌++◌, Option, None, Some, ◌⊎◌, inl, inr, refl, sym, ◌∙◌, ap, subst}
+use Rattle.std.proofs.Common.{◌≡◌, ℕ, Bool, true, false, List, [], ◌∷◌, ◌++◌, Some, ◌⊎◌, inl, inr, refl, sym, ◌∙◌, ap, subst}
 use Rattle.std.specs.Prelude.{slice_set}
-use Rattle.std.proofs.lemmas.Option.{same_Some}
 use Rattle.history_book.specs.Members.{◌∈◌}
 use Rattle.history_book.specs.declared.cause.Cause.TheVariants as cause
 use Rattle.history_book.specs.declared.item.Actor.TheVariants.{Session}
@@ -22,19 +21,18 @@ use Rattle.oracle_parts.specs.declared.instance.Settled.{Settled}
 use Rattle.oracle_parts.specs.declared.instance.Settled.TheVariants as how
 use Rattle.oracle_parts.specs.Instance.{InstanceEntry, held_of}
 use Rattle.machine.specs.State.{Client, State}
-use Rattle.machine.specs.Clients.{client_freed, client_aborted, unless_gone, unless_gone_by}
+use Rattle.machine.specs.Clients.{client_aborted, unless_gone, unless_gone_by}
 use Rattle.machine.specs.Events.Step.{client_settled, settle_items, after_asks}
 use Rattle.isolation_laws.specs.Words.{InstanceAt, ClientAt}
 use Rattle.isolation_laws.specs.Holds.{Holds}
 use Rattle.isolation_laws.specs.Requests.{WaitsFor}
 use Rattle.isolation_laws.proofs.Lookups.{client_set, one_client, held_by}
-use Rattle.isolation_laws.proofs.Outcome.PlainItems.{Silent, AllSilent, none_silent, one_silent, two_silent}
+use Rattle.isolation_laws.proofs.Outcome.PlainItems.{Silent, AllSilent, one_silent, two_silent}
 use Rattle.isolation_laws.proofs.Outcome.OutcomesOfStamps.{answered_client, answered_item}
 use Rattle.cause_laws.specs.Requests.{ask_for}
 use Rattle.cause_laws.specs.Shows.{Tells}
 use Rattle.served_lines.specs.Closings.{Owes, NoneOwes}
-use Rattle.served_lines.specs.Turns.{EndsCommit, NoneEnds, EndsWith, NoCommit, IsAsked, IsCommitting, IsUndone, Turn, Rests, Undoes, Frees, Commits, Refuses, LeavesOpen, IsGone}
-use Rattle.served_lines.proofs.OwingOutcomes.{among}
+use Rattle.served_lines.specs.Turns.{NoneEnds, EndsWith, IsAsked, IsCommitting, IsUndone, Turn, Rests, Undoes, Frees, Commits, Refuses, LeavesOpen, IsGone}
 use Rattle.served_lines.proofs.EndingItems.{silent_ends, last_is, owes_ends}
 
 -- ---- an answer that is heard, or not

@@ -1,5 +1,5 @@
 -- Which outcomes tell of requests and commits: all others are silent.
-use Rattle.std.proofs.Common.{◌≡◌, ℕ, ◌+◌, Bool, true, false, List, [], ◌∷◌, ◌++◌, Option, refl, sym, subst}
+use Rattle.std.proofs.Common.{◌≡◌, ◌+◌, Bool, true, false, List, [], ◌∷◌, Option, refl, sym, subst}
 use Rattle.std.proofs.lemmas.List.Elements.{All-cons, All-append}
 use Rattle.history_book.specs.declared.item.Actor.TheVariants.{Node, Janitor}
 use Rattle.history_book.specs.declared.item.StoreStep.TheVariants.{Keys}

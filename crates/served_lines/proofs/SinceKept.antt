@@ -1,5 +1,5 @@
 -- Every event keeps what the history shows since a session's last ask.
-use Rattle.std.proofs.Common.{◌≡◌, ℕ, true, false, List, [], ◌∷◌, ◌++◌, Option, None, Some, ◌⊎◌, inl, inr, refl, sym, ◌∙◌, ap, subst}
+use Rattle.std.proofs.Common.{◌≡◌, ℕ, true, false, List, [], ◌∷◌, ◌++◌, Some, ◌⊎◌, inl, inr, refl, sym, ◌∙◌, ap, subst}
 use Rattle.port_io.specs.declared.weather.Fate.{Fate}
 use Rattle.history_book.specs.Members.{◌∈◌}
 use Rattle.history_book.specs.declared.cause.Cause.TheVariants as cause
@@ -13,21 +13,19 @@ use Rattle.client_parts.specs.SessionSteps.{SessionEntry}
 use Rattle.oracle_parts.specs.declared.instance.Held.{Held}
 use Rattle.oracle_parts.specs.declared.instance.Request.{Request}
 use Rattle.oracle_parts.specs.declared.instance.Request.TheVariants.{Begin, Commit}
-use Rattle.oracle_parts.specs.Instance.{InstanceEntry, held_of, was_told_not_yet}
+use Rattle.oracle_parts.specs.Instance.{InstanceEntry, held_of}
 use Rattle.machine.specs.declared.event.Event.{Event}
 use Rattle.machine.specs.State.{Client, State}
 use Rattle.machine.specs.Machine.{stepped}
-use Rattle.cause_rules.specs.Asks.{its_ask, since_ask}
+use Rattle.cause_rules.specs.Asks.{since_ask}
 use Rattle.isolation_laws.specs.Words.{InstanceAt, ClientAt}
 use Rattle.isolation_laws.specs.Requests.{WaitsFor}
 use Rattle.isolation_laws.proofs.Lookups.{held_by}
 use Rattle.cause_laws.specs.Shows.{Tells}
 use Rattle.served_lines.specs.Turns.{IsCommitting, IsUndone, Turn, Rests, AsksBegin, AsksCommit, Begins, LosesBegin, Writes, Frees, Undoes, Hands, Commits, Refuses, LeavesOpen, Vanishes, IsGone}
 use Rattle.served_lines.specs.Ends.{WasToldToWait, AreToldWaits, AreGoneSince, WasToldOpen, AreToldOpen}
-use Rattle.served_lines.proofs.AskItems.{NoneAsked, ask_stays, since_was, since_now, one_unasked, Asking, Nobody, ForBegin, ForCommit}
-use Rattle.served_lines.proofs.EventFacts.{was_there, asks_of, none_asks}
-use Rattle.served_lines.proofs.OwingItems.{only_is}
-use Rattle.served_lines.proofs.OwingOutcomes.{among}
+use Rattle.served_lines.proofs.AskItems.{NoneAsked, ask_stays, since_was, since_now, one_unasked}
+use Rattle.served_lines.proofs.EventFacts.{was_there, none_asks}
 use Rattle.served_lines.proofs.SessionTurns.{aborted_undone}
 use Rattle.served_lines.proofs.TurnsOfOutcomes.{session_turns}
 use Rattle.served_lines.proofs.WaitFlags.{told_of}

@@ -1,14 +1,10 @@
 -- The turn of each session, by the outcome of an event.
-use Rattle.std.proofs.Common.{◌≡◌, ℕ, List, [], ◌∷◌, ◌++◌, Option, Some, inl, inr, refl, sym, ap, subst}
-use Rattle.port_io.specs.declared.weather.Fate.{Fate}
+use Rattle.std.proofs.Common.{ℕ, List, [], ◌∷◌, inl, refl, sym, ap, subst}
 use Rattle.history_book.specs.declared.item.Item.{Item}
 use Rattle.history_book.specs.declared.item.Item.TheVariants as item
-use Rattle.client_parts.specs.declared.session.State.TheVariants as phase
 use Rattle.client_parts.specs.SessionSteps.{asked_state}
-use Rattle.machine.specs.declared.event.Event.{Event}
 use Rattle.machine.specs.State.{Client, State}
 use Rattle.machine.specs.Events.Write.{client_wrote}
-use Rattle.machine.specs.Machine.{stepped}
 use Rattle.isolation_laws.specs.Due.{AreDue}
 use Rattle.isolation_laws.specs.Words.{ClientAt}
 use Rattle.isolation_laws.proofs.AlwaysHolds.{comes_by}

@@ -1,6 +1,5 @@
 -- The turn of a session whose request ends at a node.
-use Rattle.std.proofs.Common.{◌≡◌, ℕ, Bool, true, false, List, [], ◌∷◌, ◌++◌, Option, None, Some, refl, sym, subst}
-use Rattle.history_book.specs.Members.{◌∈◌}
+use Rattle.std.proofs.Common.{◌≡◌, ℕ, true, List, [], ◌∷◌, refl, subst}
 use Rattle.history_book.specs.declared.cause.Cause.{Cause}
 use Rattle.history_book.specs.declared.cause.Cause.TheVariants as cause
 use Rattle.history_book.specs.declared.item.Actor.TheVariants.{Session}
@@ -8,7 +7,7 @@ use Rattle.history_book.specs.declared.item.Item.{Item}
 use Rattle.history_book.specs.declared.item.Item.TheVariants as item
 use Rattle.oracle_parts.specs.declared.instance.Request.{Request}
 use Rattle.oracle_parts.specs.declared.instance.Request.TheVariants.{Begin, Commit}
-use Rattle.machine.specs.State.{Client, State}
+use Rattle.machine.specs.State.{State}
 use Rattle.machine.specs.Clients.{client_begun, client_handed, client_freed, client_aborted, unless_gone, after_refusal}
 use Rattle.isolation_laws.proofs.Outcome.PlainItems.{none_silent}
 use Rattle.isolation_laws.proofs.Outcome.OutcomesOfRequests.{Ended}

@@ -1,19 +1,16 @@
 -- Which calls of an instance tell a session that it has to wait: answers alone.
-use Rattle.std.proofs.Common.{Ok, ◌≡◌, ℕ, ◌+◌, ◌==◌, Bool, true, false, if◌then◌else◌, List, [], ◌∷◌, Option, None, Some, ◌⊎◌, inl, inr, refl, sym, ◌∙◌, ap, subst}
-use Rattle.std.proofs.lemmas.Bool.{cases_Bool}
+use Rattle.std.proofs.Common.{Ok, ◌≡◌, ℕ, ◌+◌, ◌==◌, Bool, true, false, if◌then◌else◌, List, Option, None, Some, ◌⊎◌, inl, inr, refl, sym, ◌∙◌, ap, subst}
 use Rattle.history_book.specs.declared.cause.Cause.{Cause}
 use Rattle.history_book.specs.declared.cause.Cause.TheVariants as cause
 use Rattle.oracle_parts.specs.declared.buckets.Verdict.{Verdict}
 use Rattle.oracle_parts.specs.declared.buckets.Verdict.TheVariants.{Free, Conflict, Hidden}
 use Rattle.oracle_parts.specs.declared.instance.Held.{Held}
-use Rattle.oracle_parts.specs.declared.instance.Decided.{Decided}
 use Rattle.oracle_parts.specs.declared.instance.Progress.{Progress}
-use Rattle.oracle_parts.specs.declared.instance.Progress.TheVariants.{Asked, Accepted, Drawn, Settled, Handed}
+use Rattle.oracle_parts.specs.declared.instance.Progress.TheVariants.{Asked, Accepted, Settled}
 use Rattle.oracle_parts.specs.declared.instance.Request.{Request}
-use Rattle.oracle_parts.specs.declared.instance.Request.TheVariants.{Begin, Commit}
 use Rattle.oracle_parts.specs.declared.instance.Settled.{Settled as How}
 use Rattle.oracle_parts.specs.Instance.{InstanceEntry, held_of, with_request, was_told_not_yet, not_yet_of_held, session_of, unsettled_by, in_flight}
-use Rattle.oracle_parts.specs.InstanceSteps.{InstanceStep, stays, moved, without_request, just_asked, accept_refusal, accept_unless, accept_if_asked, accept_held, instance_ask, instance_accept, out_of_stamps, drawn_as, decide_drawn, decide_by, settle_if_drawn, settle_held, instance_settle}
+use Rattle.oracle_parts.specs.InstanceSteps.{stays, without_request, just_asked, accept_refusal, accept_unless, accept_if_asked, accept_held, instance_ask, instance_accept, out_of_stamps, drawn_as, decide_drawn, decide_by, settle_if_drawn, settle_held, instance_settle}
 use Rattle.machine.specs.Events.Decide.{both_verdict, both_if_accepted, both_held, decide_both}
 use Rattle.isolation_laws.proofs.Lookups.{held_set}
 

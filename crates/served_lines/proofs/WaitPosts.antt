@@ -1,15 +1,13 @@
 -- Every event: whoever is marked as told to wait was so before, or is told now.
-use Rattle.std.proofs.Common.{◌≡◌, ℕ, ◌+◌, Bool, true, false, List, [], ◌∷◌, Option, None, Some, Ok, Err, ◌⊎◌, inl, inr, refl, sym, ◌∙◌, ap, subst}
-use Rattle.std.specs.Prelude.{slice_get, slice_set, Result}
+use Rattle.std.proofs.Common.{◌≡◌, ℕ, ◌+◌, true, List, [], ◌∷◌, Option, None, Some, Ok, Err, sym, ◌∙◌, ap}
+use Rattle.std.specs.Prelude.{Result}
 use Rattle.stamp_base.specs.SetupNumbers.{SetupNumbers}
 use Rattle.stamp_base.specs.declared.stores.Mark.{Mark}
 use Rattle.port_io.specs.declared.weather.Fate.{Fate}
 use Rattle.port_io.specs.declared.weather.Fate.TheVariants.{Works, FailsUnchanged, FailsApplied}
 use Rattle.history_book.specs.declared.cause.Cause.{Cause}
 use Rattle.history_book.specs.declared.cause.Cause.TheVariants as cause
-use Rattle.history_book.specs.declared.item.Actor.TheVariants.{Session}
 use Rattle.history_book.specs.declared.item.Item.{Item}
-use Rattle.history_book.specs.declared.item.Item.TheVariants as item
 use Rattle.store_parts.specs.declared.record.Grant.{Grant}
 use Rattle.store_parts.specs.declared.record.TakeRefused.{TakeRefused}
 use Rattle.store_parts.specs.declared.record.TakeRefused.TheVariants as take
@@ -24,8 +22,8 @@ use Rattle.oracle_parts.specs.declared.instance.Held.{Held}
 use Rattle.oracle_parts.specs.declared.instance.Request.{Request}
 use Rattle.oracle_parts.specs.declared.instance.Request.TheVariants.{Begin, Commit}
 use Rattle.oracle_parts.specs.declared.instance.Settled.TheVariants as how
-use Rattle.oracle_parts.specs.Instance.{InstanceEntry, held_of, not_yet_of_held, was_told_not_yet}
-use Rattle.oracle_parts.specs.InstanceSteps.{InstanceStep, instance_ask, instance_accept}
+use Rattle.oracle_parts.specs.Instance.{InstanceEntry, held_of, not_yet_of_held}
+use Rattle.oracle_parts.specs.InstanceSteps.{instance_ask, instance_accept}
 use Rattle.oracle_parts.proofs.InstanceRequests.{held_of-instance_new}
 use Rattle.machine.specs.State.{Client}
 use Rattle.machine.specs.Events.Take.{take_by, rules_of, take_on}
