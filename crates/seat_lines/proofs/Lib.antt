@@ -9,3 +9,15 @@ mod ActorList
 mod ActorLogs
 mod SettledLogs
 mod ServedAnswers
+mod ItemLists
+mod SinceAsk
+mod StepItems
+mod AskFacts
+mod BeginAsks
+mod CommitTrails
+mod CommitAsks
+mod KeptKeys
+mod CommitItems
+mod AskPlaces
+mod ServedItems
+mod ServedEntries

@@ -32,7 +32,7 @@ ends_is actor key (item.Read session start read found) is =
 ends_is actor key (item.Fault who store) is = actor_same who actor is
 ends_is actor key _ is = absurd (cc)
 
-still_owed : (actor : Actor) (steps : Bool) (key : ℕ) (owed : Owed) (x : Item) → owed ≡ Read key → ends_read actor key x ≡ false → owed_after actor steps owed x ≡ Read key
+pub still_owed : (actor : Actor) (steps : Bool) (key : ℕ) (owed : Owed) (x : Item) → owed ≡ Read key → ends_read actor key x ≡ false → owed_after actor steps owed x ≡ Read key
 still_owed actor steps key owed x is on = ap (λ (o : Owed). owed_after actor steps o x) is ∙ ap (λ (b : Bool). cond b Nothing (Read key)) on
 
 read_first : (key : ℕ) (x : Item) → IsOwed (read_begun (verb.Read key) x) (owed_first (verb.Read key) x)
@@ -45,7 +45,7 @@ first_owes : (line : Verb) (x : Item) → IsOwed (read_begun line x) (owed_first
 first_owes (verb.Read key) x = read_first key x
 first_owes _ x = tt
 
-paid_read : (owed : Owed) (keys : List ℕ) (key : ℕ) → owed ≡ Read key → is_settled owed keys ≡ true → ⊥
+pub paid_read : (owed : Owed) (keys : List ℕ) (key : ℕ) → owed ≡ Read key → is_settled owed keys ≡ true → ⊥
 paid_read owed keys key is paid = let clash : false ≡ true = sym (ap (λ (o : Owed). is_settled o keys) is) ∙ paid in absurd (cc)
 
 -- once nothing is owed, no read is under way

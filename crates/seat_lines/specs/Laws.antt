@@ -57,6 +57,11 @@ abbrev pub SettledLogsArePlanned : Type 0
 SettledLogsArePlanned =
     (script : ScriptData) (logs : List Logged) (whole : Whole) → IsCarried script → AllFollow script (actors_of script) logs → AllRise logs → Settled (without_lines script) (logs_of logs) whole → Planned script whole.history
 
+-- and serves the script
+abbrev pub SettledLogsServe : Type 0
+SettledLogsServe =
+    (script : ScriptData) (logs : List Logged) (whole : Whole) → IsCarried script → AllFollow script (actors_of script) logs → AllRise logs → Settled (without_lines script) (logs_of logs) whole → Served script whole.history
+
 -- a history that serves a script answers it
 abbrev pub ServedHistoriesAnswer : Type 0
 ServedHistoriesAnswer = (script : ScriptData) (h : List Item) → Served script h → Answers script h

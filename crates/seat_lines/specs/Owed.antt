@@ -13,6 +13,7 @@ use Rattle.history_book.specs.declared.item.Item.TheVariants as item
 use Rattle.script_data.specs.declared.line.Verb.{Verb}
 use Rattle.script_data.specs.declared.line.Verb.TheVariants as verb
 use Rattle.line_steps.specs.Answers.{same_actor}
+pub use Rattle.served_lines.specs.Closings.{leaves_cells}
 use Rattle.split_stores.specs.declared.event.Event.{Event}
 use Rattle.split_stores.specs.declared.event.Event.TheVariants as event
 use Rattle.split_stores.specs.declared.seat.Entry.{Entry}
@@ -26,17 +27,6 @@ ends_read actor key (item.Fault who store) = same_actor who actor
 ends_read actor key _ = false
 
 -- ---- asks
--- the refusal ends a commit, and leaves cells to erase
-abbrev pub leaves_cells : Cause → Bool
-leaves_cells (cause.Expired reading until) = true
-leaves_cells (cause.OldEpoch start epoch) = true
-leaves_cells (cause.Conflict key by) = true
-leaves_cells (cause.Hidden key water) = true
-leaves_cells (cause.Replaced found) = true
-leaves_cells (cause.Spent ceiling) = true
-leaves_cells (cause.Invalid start) = true
-leaves_cells _ = false
-
 -- the refusal of the session's request leaves nothing to be done: a begin waits for an earlier commit, or a commit is open
 abbrev pub leaves_nothing : Cause → Bool
 leaves_nothing (cause.NotYet commit) = true
