@@ -8,3 +8,16 @@ mod ClockTicks
 mod ActorList
 mod ActorLogs
 mod SettledLogs
+mod ServedAnswers
+mod ItemLists
+mod SinceAsk
+mod StepItems
+mod AskFacts
+mod BeginAsks
+mod CommitTrails
+mod CommitAsks
+mod KeptKeys
+mod CommitItems
+mod AskPlaces
+mod ServedItems
+mod ServedEntries

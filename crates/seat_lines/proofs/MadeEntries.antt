@@ -25,10 +25,15 @@ pub record IsGood (script : ScriptData) (p : Played) : Type 0 where
   pub fit : Fit p.state
   pub takes : TakesFit p.state.setup.nodes p.items
 
--- each entry finds what is reached, and kept what its step appends
+-- each entry finds what is reached, and kept what its step appends; and so is what they all come to
 unfoldable pub AllMade : ScriptData → List Entry → Played → Type 0
-AllMade script [] p = Unit {0}
+AllMade script [] p = IsGood script p
 AllMade script (e ∷ es) p = IsGood script p × IsReplayed script p e × AllMade script es (played_with script p e.event)
+
+pub made_good : (script : ScriptData) (es : List Entry) (p : Played) → AllMade script es p → IsGood script p
+unfolding AllMade
+made_good script [] p made = made
+made_good script (e ∷ es) p made = made.0
 
 reads : (clocks : Clocks) (e : Event) → ReadsClocks clocks (rise_by e) (timed_at clocks.base clocks.leads e)
 reads clocks (event.Tick by) = refl
@@ -57,7 +62,7 @@ good_next law script p e leads room good =
 
 pub all_made : EventsStayTold → (script : ScriptData) (es : List Entry) (p : Played) → ((node : ℕ) → slice_index_or script.leads node 0 ≤ script.setup.skew) → p.clock + sum (rises_in es) + script.setup.skew ≤ 2 ^ 61 → IsGood script p → AtEach (λ before e. IsReplayed script (entries_played script before p) e) es → AllMade script es p
 unfolding AllMade rises_in entries_played
-all_made law script [] p leads room good replayed = tt
+all_made law script [] p leads room good replayed = good
 all_made law script (e ∷ es) p leads room good replayed =
     let total : sum (with_tick (rise_by e.event) (rises_in es)) ≡ unwrap_or (rise_by e.event) 0 + sum (rises_in es) = first_rise (rise_by e.event) (rises_in es) in
     let up : (played_with script p e.event).clock ≡ p.clock + unwrap_or (rise_by e.event) 0 = clock_rises p.clock script.leads e.event in

@@ -1,8 +1,12 @@
 -- The history that logs settle into, which follow the lines of a script, answers the script and is as it plans.
-use Rattle.std.proofs.Common.{◌≡◌, List, [], None, sym, ap, subst, arith}
-use Rattle.std.specs.Prelude.{filter, sum}
-use Rattle.history_book.specs.declared.item.Actor.TheVariants.{Clock}
+use Rattle.std.proofs.Common.{◌≡◌, List, [], None, refl, sym, ap, subst, arith}
+use Rattle.std.specs.Prelude.{filter, sum, IsTrue}
+use Rattle.history_book.specs.Members.{◌∈◌}
+use Rattle.history_book.specs.declared.item.Actor.{Actor}
+use Rattle.history_book.specs.declared.item.Actor.TheVariants.{Clock, Session}
 use Rattle.history_book.specs.declared.item.Item.{Item}
+use Rattle.client_parts.specs.declared.session.State.{State as SessionState}
+use Rattle.client_parts.specs.SessionSteps.{has_transaction}
 use Rattle.cause_laws.proofs.AlwaysExplained.{tells_at_first}
 use Rattle.script_data.specs.Data.{ScriptData}
 use Rattle.line_steps.specs.Answers.{is_of, asks_last, Answered}
@@ -19,12 +23,16 @@ use Rattle.split_stores.specs.Merged.{kept_items, IsSettledAt, Settled}
 use Rattle.split_stores.specs.Merging.{logs_of}
 use Rattle.split_stores.specs.Orders.{rises_in, without_lines, SettledByPlans, SettledIsPlanned}
 use Rattle.seat_lines.specs.Follows.{AllFollow}
-use Rattle.seat_lines.specs.Laws.{AllRise, IsCarried, SettledLogsAnswer, SettledLogsArePlanned}
+use Rattle.seat_lines.specs.Laws.{AllRise, IsCarried, SettledLogsAnswer, SettledLogsArePlanned, SettledLogsServe}
 use Rattle.seat_lines.specs.Owed.{first_standing}
+use Rattle.seat_lines.specs.Served.{Nothing, AnsweredServed}
+use Rattle.seat_lines.proofs.AskFacts.{MachineLaws}
 use Rattle.seat_lines.proofs.ActorLogs.{WovenLog, woven_log}
 use Rattle.seat_lines.proofs.ClockTicks.{rises_as_lines, ticks_most}
+use Rattle.seat_lines.proofs.KeptKeys.{KeysKept}
 use Rattle.seat_lines.proofs.MadeEntries.{IsGood, AllMade, all_made}
 use Rattle.seat_lines.proofs.OtherLogs.{own_lines}
+use Rattle.seat_lines.proofs.ServedEntries.{entries_serve}
 use Rattle.seat_lines.proofs.WalkedEntries.{entries_answer}
 
 -- before the first entry
@@ -56,3 +64,19 @@ settled_logs_answer law by_plans script logs whole carried follow rise settled a
 pub settled_logs_are_planned : SettledIsPlanned → SettledLogsArePlanned
 settled_logs_are_planned law script logs whole carried follow rise settled =
     law script (logs_of logs) whole settled carried.setup carried.playable (rises_settled script logs whole carried follow rise settled)
+
+-- before the first entry no session has a transaction open
+keys_first : (script : ScriptData) (actor : Actor) → IsCarried script → KeysKept actor (opening_played script).state []
+unfolding ◌∈◌
+keys_first script (Session s) carried = λ c at opened key m.
+    let begun = (good_first script carried).told.tells.stands.holds.requests.have_begun.begun s c at (subst (λ (state : SessionState). IsTrue (has_transaction state)) (sym opened) refl) in
+    absurd begun.2
+keys_first script _ carried = tt
+
+pub settled_logs_serve : MachineLaws → EventsStayTold → SettledByPlans → SettledLogsServe
+settled_logs_serve laws law by_plans script logs whole carried follow rise settled actor =
+    let k : WovenLog script actor settled.merged = woven_log script actor logs settled.merged carried.lines follow rise settled.in_order in
+    let made : AllMade script settled.merged (opening_played script) = all_settled law by_plans script logs whole carried follow rise settled in
+    let serves : AnsweredServed actor [] Nothing (filter (is_of actor) script.lines) (kept_items settled.merged) =
+    entries_serve laws script actor k.entries settled.merged (opening_played script) made k.woven (laws.first script.setup) first_standing Nothing (filter (is_of actor) script.lines) (own_lines script.setup actor script.lines carried.lines) k.follows (keys_first script actor carried) tt in
+    subst (λ (h : List Item). AnsweredServed actor [] Nothing (filter (is_of actor) script.lines) h) (sym (by_plans script (logs_of logs) whole settled).history) serves

@@ -34,13 +34,13 @@ master_fits : (script : ScriptData) (p : Played) → IsGood script p → (clocks
 master_fits script p good = last_fits p.state.setup.nodes p.items good.takes
 
 -- an event that opens no line
-plain_kept : (script : ScriptData) (actor : Actor) (p : Played) (e : Entry) → IsReplayed script p e → opener e.event ≡ None → AllNot actor e.kept.items
+pub plain_kept : (script : ScriptData) (actor : Actor) (p : Played) (e : Entry) → IsReplayed script p e → opener e.event ≡ None → AllNot actor e.kept.items
 plain_kept script actor p e here none =
     let made : machine.Event = timed_in script p e.event in
     subst (λ (xs : List Item). AllNot actor xs) (sym here) (plain_not actor (replayed_items script p e.event) (events_plain p.state made (fate_of script p made) (none_opens p.clock script.leads e.event none)))
 
 -- an event of another log
-other_kept : (script : ScriptData) (actor : Actor) (p : Played) (e : Entry) → IsGood script p → IsReplayed script p e → IsOther script.setup actor e.event → AllNot actor e.kept.items
+pub other_kept : (script : ScriptData) (actor : Actor) (p : Played) (e : Entry) → IsGood script p → IsReplayed script p e → IsOther script.setup actor e.event → AllNot actor e.kept.items
 other_kept script actor p e good here other =
     let mine : IsOther p.state.setup actor e.event = subst (λ (setup : SetupNumbers). IsOther setup actor e.event) (sym good.told.reached.setup) other in
     subst (λ (xs : List Item). AllNot actor xs) (sym here) (other_not actor (clocks_of script p) p.state p.items e.event (fate_of script p (timed_in script p e.event)) good.told.reached.stands good.fit (master_fits script p good) mine)
@@ -51,7 +51,7 @@ asks_it script p (target.Node node) = refl
 asks_it script p target.Master = refl
 
 -- the first event of a line
-open_kept : (script : ScriptData) (actor : Actor) (p : Played) (line : Line) (e : Entry) → IsGood script p → IsReplayed script p e → OwnLine script.setup actor line → first_event actor line.verb ≡ Some e.event → Begins (IsAnswer (asks_last p.items) line.actor line.verb) e.kept.items
+pub open_kept : (script : ScriptData) (actor : Actor) (p : Played) (line : Line) (e : Entry) → IsGood script p → IsReplayed script p e → OwnLine script.setup actor line → first_event actor line.verb ≡ Some e.event → Begins (IsAnswer (asks_last p.items) line.actor line.verb) e.kept.items
 open_kept script actor p line e good here own first =
     let w : State = p.state in
     let clocks : Clocks = clocks_of script p in

@@ -7,6 +7,7 @@ use Rattle.script_data.specs.declared.line.Target.TheVariants as target
 use Rattle.script_data.specs.declared.line.Verb.{Verb}
 use Rattle.script_data.specs.declared.line.Verb.TheVariants as verb
 use Rattle.script_data.specs.Data.{ScriptData}
+use Rattle.history_book.specs.declared.item.Item.{Item}
 use Rattle.line_steps.specs.Answers.{Answers}
 use Rattle.line_steps.specs.Laws.{IsPlayable, AreLinesOf}
 use Rattle.line_steps.specs.Planned.{Planned}
@@ -17,6 +18,7 @@ use Rattle.split_stores.specs.Merged.{Settled}
 use Rattle.split_stores.specs.Merging.{logs_of}
 use Rattle.split_stores.specs.Orders.{without_lines}
 use Rattle.seat_lines.specs.Follows.{AllFollow}
+use Rattle.seat_lines.specs.Served.{Served}
 
 -- ---- scripts
 abbrev pub NamesNode : Target → Type 0
@@ -54,3 +56,12 @@ SettledLogsAnswer =
 abbrev pub SettledLogsArePlanned : Type 0
 SettledLogsArePlanned =
     (script : ScriptData) (logs : List Logged) (whole : Whole) → IsCarried script → AllFollow script (actors_of script) logs → AllRise logs → Settled (without_lines script) (logs_of logs) whole → Planned script whole.history
+
+-- and serves the script
+abbrev pub SettledLogsServe : Type 0
+SettledLogsServe =
+    (script : ScriptData) (logs : List Logged) (whole : Whole) → IsCarried script → AllFollow script (actors_of script) logs → AllRise logs → Settled (without_lines script) (logs_of logs) whole → Served script whole.history
+
+-- a history that serves a script answers it
+abbrev pub ServedHistoriesAnswer : Type 0
+ServedHistoriesAnswer = (script : ScriptData) (h : List Item) → Served script h → Answers script h

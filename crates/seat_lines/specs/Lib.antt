@@ -1,3 +1,4 @@
 pub mod Owed
+pub mod Served
 pub mod Follows
 pub mod Laws

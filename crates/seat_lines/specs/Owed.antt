@@ -13,6 +13,7 @@ use Rattle.history_book.specs.declared.item.Item.TheVariants as item
 use Rattle.script_data.specs.declared.line.Verb.{Verb}
 use Rattle.script_data.specs.declared.line.Verb.TheVariants as verb
 use Rattle.line_steps.specs.Answers.{same_actor}
+pub use Rattle.served_lines.specs.Closings.{leaves_cells}
 use Rattle.split_stores.specs.declared.event.Event.{Event}
 use Rattle.split_stores.specs.declared.event.Event.TheVariants as event
 use Rattle.split_stores.specs.declared.seat.Entry.{Entry}
@@ -26,17 +27,6 @@ ends_read actor key (item.Fault who store) = same_actor who actor
 ends_read actor key _ = false
 
 -- ---- asks
--- the refusal ends a commit, and leaves cells to erase
-abbrev pub leaves_cells : Cause → Bool
-leaves_cells (cause.Expired reading until) = true
-leaves_cells (cause.OldEpoch start epoch) = true
-leaves_cells (cause.Conflict key by) = true
-leaves_cells (cause.Hidden key water) = true
-leaves_cells (cause.Replaced found) = true
-leaves_cells (cause.Spent ceiling) = true
-leaves_cells (cause.Invalid start) = true
-leaves_cells _ = false
-
 -- the refusal of the session's request leaves nothing to be done: a begin waits for an earlier commit, or a commit is open
 abbrev pub leaves_nothing : Cause → Bool
 leaves_nothing (cause.NotYet commit) = true
@@ -52,14 +42,15 @@ abbrev pub denies_request : Actor → Cause → Bool
 denies_request actor (cause.NoRequest session) = same_actor (Session session) actor
 denies_request actor _ = false
 
-abbrev pub is_lost : Cause → Bool
-is_lost (cause.NoOracle node) = true
-is_lost _ = false
+-- the node that was asked has no instance any more
+abbrev pub is_lost : ℕ → Cause → Bool
+is_lost asked (cause.NoOracle node) = node == asked
+is_lost asked _ = false
 
 abbrev pub after_refusal : Actor → ℕ → Actor → Cause → Owed
 after_refusal actor node who why =
     if denies_request actor why then Nothing
-    else if is_lost why then Quiet
+    else if is_lost node why then Quiet
     else if same_actor who actor then after_own_refusal node why
     else Answer node
 
@@ -92,21 +83,21 @@ is_idle actor (item.Step who (step.Remove txn)) = same_actor who actor
 is_idle actor x = ends_completion actor x
 
 -- ---- one item more
-abbrev pub owed_after : Actor → Owed → Item → Owed
-owed_after actor Nothing x = Nothing
-owed_after actor (Read key) x = if ends_read actor key x then Nothing else Read key
-owed_after actor (Answer node) x = after_asking actor node x
-owed_after actor (Removal start) x = if removes actor start x then Nothing else Removal start
-owed_after actor Erasure x = if ends_completion actor x then Nothing else Erasure
-owed_after actor Quiet x = if is_idle actor x then Nothing else Quiet
+-- A completion goes on by steps alone: a heal, too, is refused as idle or fails, and says nothing of it.
+abbrev pub owed_after : Actor → Bool → Owed → Item → Owed
+owed_after actor steps Nothing x = Nothing
+owed_after actor steps (Read key) x = if ends_read actor key x then Nothing else Read key
+owed_after actor steps (Answer node) x = after_asking actor node x
+owed_after actor steps (Removal start) x = if steps && removes actor start x then Nothing else Removal start
+owed_after actor steps Erasure x = if steps && ends_completion actor x then Nothing else Erasure
+owed_after actor steps Quiet x = if steps && is_idle actor x then Nothing else Quiet
 
--- the keys that the transaction wrote: none once the session asks for a begin, and none once it begins
+-- the keys that the transaction wrote: none once the session asks for a begin
 abbrev pub with_key : List ℕ → ℕ → List ℕ
 with_key keys key = if list_any (λ k. k == key) keys then keys else keys ++ key ∷ []
 
 abbrev pub written_after : Actor → List ℕ → Item → List ℕ
 written_after actor keys (item.AskBegin session node) = if same_actor (Session session) actor then [] else keys
-written_after actor keys (item.Begin session start) = if same_actor (Session session) actor then [] else keys
 written_after actor keys (item.Write session start key value) = if same_actor (Session session) actor then with_key keys key else keys
 written_after actor keys _ = keys
 
@@ -114,10 +105,10 @@ written_after actor keys _ = keys
 abbrev pub without_key : List ℕ → ℕ → List ℕ
 without_key keys key = filter (λ k. not (k == key)) keys
 
-abbrev pub unerased_after : Actor → List ℕ → List ℕ → Item → List ℕ
-unerased_after actor written keys (item.Refused who why) = if same_actor who actor && leaves_cells why then written else keys
-unerased_after actor written keys (item.Step who (step.Erase key txn)) = if same_actor who actor then without_key keys key else keys
-unerased_after actor written keys _ = keys
+abbrev pub unerased_after : Actor → Bool → List ℕ → List ℕ → Item → List ℕ
+unerased_after actor steps written keys (item.Refused who why) = if same_actor who actor && leaves_cells why then written else keys
+unerased_after actor steps written keys (item.Step who (step.Erase key txn)) = if steps && same_actor who actor then without_key keys key else keys
+unerased_after actor steps written keys _ = keys
 
 -- how a session stands with its lines
 pub record Standing : Type 0 where
@@ -129,15 +120,16 @@ abbrev pub first_standing : Standing
 first_standing = record { owed = Nothing; written = []; unerased = [] }
 
 -- with another thing owed, and the keys as one item more leaves them
-abbrev pub standing_with : Actor → Standing → Item → Owed → Standing
-standing_with actor st x owed = record { owed = owed; written = written_after actor st.written x; unerased = unerased_after actor st.written st.unerased x }
+abbrev pub standing_with : Actor → Bool → Standing → Item → Owed → Standing
+standing_with actor steps st x owed = record { owed = owed; written = written_after actor st.written x; unerased = unerased_after actor steps st.written st.unerased x }
 
-abbrev pub with_item : Actor → Standing → Item → Standing
-with_item actor st x = standing_with actor st x (owed_after actor st.owed x)
+abbrev pub with_item : Actor → Bool → Standing → Item → Standing
+with_item actor steps st x = standing_with actor steps st x (owed_after actor steps st.owed x)
 
-unfoldable pub with_items : Actor → Standing → List Item → Standing
-with_items actor st [] = st
-with_items actor st (x ∷ xs) = with_items actor (with_item actor st x) xs
+-- with the items of an event, which is a step or not
+unfoldable pub with_items : Actor → Bool → Standing → List Item → Standing
+with_items actor steps st [] = st
+with_items actor steps st (x ∷ xs) = with_items actor steps (with_item actor steps st x) xs
 
 -- nothing is owed: no cell is left of a commit that was refused
 abbrev pub is_nil : List ℕ → Bool
@@ -153,23 +145,25 @@ abbrev pub is_paid : Standing → Bool
 is_paid st = is_settled st.owed st.unerased
 
 -- ---- one entry more
--- an answer that says nothing repeats one that was told before: a begin still waits
-abbrev pub repeats : Event → List Item → Bool
-repeats (event.Answer node session) [] = true
-repeats _ items = false
+-- an answer that says nothing repeats one that was told before: a begin still waits, and nothing more is owed of its ask
+abbrev pub repeats : Actor → ℕ → Event → List Item → Bool
+repeats actor asked (event.Answer node session) [] = same_actor (Session session) actor && (node == asked)
+repeats actor asked _ items = false
 
--- then the line owes no answer; what else it owes stays
-abbrev pub after_repeat : Owed → Owed
-after_repeat (Answer node) = Nothing
-after_repeat owed = owed
+abbrev pub after_repeat : Actor → Event → List Item → Owed → Owed
+after_repeat actor e items (Answer asked) = if repeats actor asked e items then Nothing else Answer asked
+after_repeat actor e items owed = owed
 
-abbrev pub unless_repeated : Bool → Standing → Standing
-unless_repeated true st = record st { owed = after_repeat st.owed }
-unless_repeated false st = st
+abbrev pub after_entry : Actor → Entry → Standing → Standing
+after_entry actor e st = record st { owed = after_repeat actor e.event e.kept.items st.owed }
+
+abbrev pub is_step : Event → Bool
+is_step (event.Step session) = true
+is_step _ = false
 
 -- an event that goes on with the line
 abbrev pub gone_on : Actor → Standing → Entry → Standing
-gone_on actor st e = unless_repeated (repeats e.event e.kept.items) (with_items actor st e.kept.items)
+gone_on actor st e = after_entry actor e (with_items actor (is_step e.event) st e.kept.items)
 
 -- what a line owes by the item with which it opens
 abbrev pub owed_first : Verb → Item → Owed
@@ -181,4 +175,4 @@ owed_first verb x = Nothing
 -- the first event of a line
 abbrev pub opened : Actor → Verb → Standing → List Item → Standing
 opened actor verb st [] = record st { owed = Nothing }
-opened actor verb st (x ∷ xs) = with_items actor (standing_with actor st x (owed_first verb x)) xs
+opened actor verb st (x ∷ xs) = with_items actor false (standing_with actor false st x (owed_first verb x)) xs

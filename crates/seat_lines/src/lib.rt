@@ -5,5 +5,7 @@
 mod laws;
 mod owed;
 
-pub use laws::{settled_logs_answer, settled_logs_are_planned};
+pub use laws::{
+    served_histories_answer, settled_logs_answer, settled_logs_are_planned, settled_logs_serve,
+};
 pub use owed::Owed;

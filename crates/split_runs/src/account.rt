@@ -63,10 +63,9 @@ impl Account {
     pub(crate) fn go_on(&mut self, actor: &Actor, entry: &Entry) -> Result<(), NoMemory>
         ensures { OnOk result (self.new ≡ owing.gone_on actor.now self.old entry.now) }
     {
-        self.add_all(actor, entry.kept.as_slice())?;
-        if repeats(&entry.event, entry.kept.as_slice()) {
-            self.owed = after_repeat(self.owed);
-        }
+        let items = entry.kept.as_slice();
+        self.add_all(actor, is_step(&entry.event), items)?;
+        self.owed = after_repeat(actor, &entry.event, items, self.owed);
         Ok(())
     }
 
@@ -76,8 +75,8 @@ impl Account {
     {
         match entry.kept.as_slice() {
             [first, rest @ ..] => {
-                self.add_owing(actor, first, owed_first(verb, first))?;
-                self.add_all(actor, rest)
+                self.add_owing(actor, false, first, owed_first(verb, first))?;
+                self.add_all(actor, false, rest)
             }
             [] => {
                 self.owed = Owed::Nothing;
@@ -87,42 +86,51 @@ impl Account {
     }
 
     #[tactic(auto, unfolding(seat_lines::specs::Owed::with_items))]
-    fn add_all(&mut self, actor: &Actor, items: &[Item]) -> Result<(), NoMemory>
-        ensures { OnOk result (self.new ≡ owing.with_items actor.now self.old items.now) }
+    fn add_all(&mut self, actor: &Actor, steps: bool, items: &[Item]) -> Result<(), NoMemory>
+        ensures { OnOk result (self.new ≡ owing.with_items actor.now steps self.old items.now) }
     {
         for item in items {
-            if let Err(stop) = self.add(actor, item) {
+            if let Err(stop) = self.add(actor, steps, item) {
                 return Err(stop);
             }
         }
         Ok(())
     }
 
-    fn add(&mut self, actor: &Actor, item: &Item) -> Result<(), NoMemory>
-        ensures { OnOk result (self.new ≡ owing.with_item actor.now self.old item.now) }
+    fn add(&mut self, actor: &Actor, steps: bool, item: &Item) -> Result<(), NoMemory>
+        ensures { OnOk result (self.new ≡ owing.with_item actor.now steps self.old item.now) }
     {
-        self.add_owing(actor, item, owed_after(actor, self.owed, item))
+        let owed = owed_after(actor, steps, self.owed, item);
+        self.add_owing(actor, steps, item, owed)
     }
 
     /// One item more, after which this is owed.
-    fn add_owing(&mut self, actor: &Actor, item: &Item, owed: Owed) -> Result<(), NoMemory>
-        ensures { OnOk result (self.new ≡ owing.standing_with actor.now self.old item.now owed) }
+    fn add_owing(
+        &mut self,
+        actor: &Actor,
+        steps: bool,
+        item: &Item,
+        owed: Owed,
+    ) -> Result<(), NoMemory>
+        ensures { OnOk result (self.new ≡ owing.standing_with actor.now steps self.old item.now owed) }
     {
-        note_erased(actor, self.written.as_slice(), &mut self.unerased, item)?;
+        note_erased(
+            actor,
+            steps,
+            self.written.as_slice(),
+            &mut self.unerased,
+            item,
+        )?;
         note_written(actor, &mut self.written, item)?;
         self.owed = owed;
         Ok(())
     }
 }
 
-/// An answer that says nothing repeats one that was told before.
-fn repeats(event: &Event, items: &[Item]) -> bool
-    ensures { result ≡ owing.repeats event.now items.now }
+fn is_step(event: &Event) -> bool
+    ensures { result ≡ owing.is_step event.now }
 {
-    match event {
-        Event::Answer { .. } => items.is_empty(),
-        _ => false,
-    }
+    matches!(event, Event::Step { .. })
 }
 
 /// The keys that the transaction wrote, after the item.
@@ -130,7 +138,7 @@ fn note_written(actor: &Actor, keys: &mut Vec<KeyNo>, item: &Item) -> Result<(),
     ensures { OnOk result (keys.new.items ≡ owing.written_after actor.now keys.old.items item.now) }
 {
     match *item {
-        Item::AskBegin { session, .. } | Item::Begin { session, .. } => {
+        Item::AskBegin { session, .. } => {
             clear_if(same_actor(&Actor::Session(session), actor), keys);
             Ok(())
         }
@@ -167,11 +175,12 @@ fn has_key(keys: &[KeyNo], key: KeyNo) -> bool
 /// The keys whose cells are not erased yet, after the item.
 fn note_erased(
     actor: &Actor,
+    steps: bool,
     written: &[KeyNo],
     keys: &mut Vec<KeyNo>,
     item: &Item,
 ) -> Result<(), NoMemory>
-    ensures { OnOk result (keys.new.items ≡ owing.unerased_after actor.now written.now keys.old.items item.now) }
+    ensures { OnOk result (keys.new.items ≡ owing.unerased_after actor.now steps written.now keys.old.items item.now) }
 {
     match *item {
         Item::Refused { actor: who, cause } if same_actor(&who, actor) && leaves_cells(&cause) => {
@@ -182,7 +191,7 @@ fn note_erased(
         Item::Step {
             actor: who,
             what: StoreStep::Erase { key, .. },
-        } if same_actor(&who, actor) => {
+        } if steps && same_actor(&who, actor) => {
             remove_key(keys, key);
             Ok(())
         }

@@ -6,6 +6,7 @@ ghost use Rattle.seat_lines.specs.Owed as owing;
 use history_book::{Actor, Cause, Item, StoreStep};
 use script_data::Verb;
 use seat_lines::Owed;
+use split_stores::Event;
 use stamp_base::{KeyNo, NodeNo, Store, TxnId};
 
 /// What a line owes by the item with which it opens.
@@ -26,17 +27,17 @@ pub(crate) fn owed_first(verb: &Verb, item: &Item) -> Owed
     }
 }
 
-/// What is owed after the item, where this was owed before.
-pub(crate) fn owed_after(actor: &Actor, owed: Owed, item: &Item) -> Owed
-    ensures { result ≡ owing.owed_after actor.now owed item.now }
+/// What is owed after the item of an event, which is a step or not, where this was owed before. A completion goes on by steps alone.
+pub(crate) fn owed_after(actor: &Actor, steps: bool, owed: Owed, item: &Item) -> Owed
+    ensures { result ≡ owing.owed_after actor.now steps owed item.now }
 {
     match owed {
         Owed::Nothing => Owed::Nothing,
         Owed::Read { key } => unless(ends_read(actor, key, item), owed),
         Owed::Answer { node } => after_asking(actor, node, item),
-        Owed::Removal { start } => unless(removes(actor, start, item), owed),
-        Owed::Erasure => unless(ends_completion(actor, item), owed),
-        Owed::Quiet => unless(is_idle(actor, item), owed),
+        Owed::Removal { start } => unless(steps && removes(actor, start, item), owed),
+        Owed::Erasure => unless(steps && ends_completion(actor, item), owed),
+        Owed::Quiet => unless(steps && is_idle(actor, item), owed),
     }
 }
 
@@ -46,13 +47,25 @@ fn unless(ended: bool, owed: Owed) -> Owed
     if ended { Owed::Nothing } else { owed }
 }
 
-/// What is owed after an answer that kept no item.
-pub(crate) fn after_repeat(owed: Owed) -> Owed
-    ensures { result ≡ owing.after_repeat owed }
+/// What is owed after the event, which kept these items.
+pub(crate) fn after_repeat(actor: &Actor, event: &Event, items: &[Item], owed: Owed) -> Owed
+    ensures { result ≡ owing.after_repeat actor.now event.now items.now owed }
 {
     match owed {
-        Owed::Answer { .. } => Owed::Nothing,
+        Owed::Answer { node } => unless(repeats(actor, node, event, items), owed),
         _ => owed,
+    }
+}
+
+/// An answer to the session that says nothing repeats one that was told before.
+fn repeats(actor: &Actor, asked: NodeNo, event: &Event, items: &[Item]) -> bool
+    ensures { result ≡ owing.repeats actor.now asked event.now items.now }
+{
+    match *event {
+        Event::Answer { node, session } if items.is_empty() => {
+            same_actor(&Actor::Session(session), actor) && node == asked
+        }
+        _ => false,
     }
 }
 
@@ -105,7 +118,7 @@ fn after_refusal(actor: &Actor, asked: NodeNo, who: &Actor, cause: &Cause) -> Ow
 {
     if denies_request(actor, cause) {
         Owed::Nothing
-    } else if is_lost(cause) {
+    } else if is_lost(asked, cause) {
         Owed::Quiet
     } else if same_actor(who, actor) {
         after_own_refusal(asked, cause)
@@ -136,10 +149,14 @@ fn denies_request(actor: &Actor, cause: &Cause) -> bool
     }
 }
 
-fn is_lost(cause: &Cause) -> bool
-    ensures { result ≡ owing.is_lost cause.now }
+/// The node that was asked has no instance any more.
+fn is_lost(asked: NodeNo, cause: &Cause) -> bool
+    ensures { result ≡ owing.is_lost asked cause.now }
 {
-    matches!(cause, Cause::NoOracle { .. })
+    match *cause {
+        Cause::NoOracle { node } => node == asked,
+        _ => false,
+    }
 }
 
 /// The refusal ends a commit, and leaves cells to erase.

@@ -1,7 +1,7 @@
 -- The lines of an actor among those of others.
-use Rattle.std.proofs.Common.{◌≡◌, ℕ, suc, ◌+◌, ◌<◌, true, cond, List, ◌∷◌, drop, length, get_or, sym, ap, ◌∙◌, subst, drop-cons, arith}
+use Rattle.std.proofs.Common.{◌≡◌, ℕ, suc, ◌+◌, ◌<◌, true, cond, List, ◌∷◌, drop, length, get_or, sym, ap, ◌∙◌, drop-cons, arith}
 use Rattle.std.specs.Prelude.{Some, slice_get}
-use Rattle.std.proofs.lemmas.Option.{get_or_from_slice_get}
+use Rattle.std.proofs.lemmas.Option.{get_or_from_slice_get, slice_get_within}
 use Rattle.history_book.specs.declared.item.Actor.{Actor}
 use Rattle.line_shares.specs.Done.{is_same}
 use Rattle.script_data.specs.declared.line.Line.{Line}
@@ -18,3 +18,7 @@ own_first actor lines i seen line within is same at =
     ap (own actor) rest
     ∙ ap (λ b. cond b (line ∷ own actor (drop (suc i) lines)) (own actor (drop (suc i) lines))) own_here
     ∙ ap (λ n. line ∷ own actor (drop n lines)) next
+
+-- behind all lines there is none
+pub none_behind : {Q : Type 0} (lines : List Line) (line : Line) → slice_get lines (length lines) ≡ Some line → Q
+none_behind lines line at = absurd (omega (arith, slice_get_within lines (length lines) line at))

@@ -1,5 +1,5 @@
 -- The lines of an actor that are not done.
-use Rattle.std.specs.Prelude.{◌≡◌, ℕ, List, drop}
+use Rattle.std.specs.Prelude.{◌≡◌, List, drop}
 use Rattle.std.specs.List.{filter}
 use Rattle.history_book.specs.declared.item.Actor.{Actor}
 use Rattle.line_shares.specs.Done.{Done, is_same}
@@ -10,9 +10,9 @@ use Rattle.thread_crew.specs.declared.lines.LinesLeft.{LinesLeft}
 abbrev pub own : Actor → List Line → List Line
 own actor lines = filter (λ line. is_same line.actor actor) lines
 
--- of those that are left, the actor's
+-- those that are left
 abbrev pub own_left : LinesLeft → List Line
-own_left left = own left.actor left.lines.now
+own_left left = own left.actor (drop left.from left.lines.now)
 
 -- what is left is what the share has not counted
 pub record AreLeft (lines : List Line) (mine : Done) (left : LinesLeft) : Type 0 where

@@ -116,7 +116,7 @@ fn tell_others<R: Wait, B: Steps + Sync, G: Gate>(
     for _line in 0..more {
         if let Some(verb) = left.next() {
             tell_taken(rt, shared, left.actor, &verb);
-            wake_for(shared.queues, &shared.setup, left.actor, &verb);
+            wake_for(shared, left.actor, &verb);
         }
     }
 }
@@ -182,7 +182,8 @@ fn awaits_stamp(line: Option<Line>) -> bool
 }
 
 // Waits until the actor is woken, also where there is room for a ticket that is not sent; the board is then asked whether its request
-// is still there. A wake since the actor's last step ends the wait at once. False where the queues are closed.
+// is still there. A wake since the actor's last step ends the wait at once. An actor that has not told for which name it waits tells
+// so, and asks the board once more. False where the queues are closed.
 fn wait<R: Wait, B: Steps + Sync, G: Gate>(
     rt: &R,
     shared: &Shared<'_, B, G>,
@@ -199,7 +200,18 @@ fn wait<R: Wait, B: Steps + Sync, G: Gate>(
     if shared.queues.closed() {
         return false;
     }
+    if tells_await(shared, left) {
+        return true;
+    }
     offer_again(rt, shared, pass, unsent);
     wait_quietly(rt, shared, left, quiet);
     true
+}
+
+// Whether the present line awaits a name, and the actor had not told so.
+fn tells_await<B: Steps + Sync, G: Gate>(shared: &Shared<'_, B, G>, left: &LinesLeft<'_>) -> bool {
+    match left.awaited() {
+        Some(place) => !shared.awaiters.tell(left.actor, place),
+        None => false,
+    }
 }

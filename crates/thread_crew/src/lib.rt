@@ -4,6 +4,7 @@
 
 mod actors;
 mod asking;
+mod awaiting;
 mod before;
 mod crew;
 mod lines;

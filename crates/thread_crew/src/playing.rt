@@ -5,6 +5,7 @@ ghost use Rattle.reply_pipeline.specs.Seats.{AreReady, IsSenderPass};
 ghost use Rattle.thread_crew.specs.Sending.{ComesBack};
 ghost use Rattle.thread_crew.specs.Sights.{IsSightOf};
 
+use crate::awaiting::Awaiters;
 use crate::crew::Crew;
 use crate::masters::open_sights;
 use crate::sending::{join_all, send_all};
@@ -50,6 +51,7 @@ pub fn play<
     } = Crew::open(alloc, setup, shares.len())?;
     let (beacon, mut publisher) = Beacon::open(alloc)?;
     let sights = open_sights(rt, alloc, &beacon, &mut publisher, shares.len())?;
+    let awaiters = Awaiters::open(alloc, shares.as_slice())?;
     let shared = Shared {
         setup: *setup,
         lines,
@@ -58,6 +60,7 @@ pub fn play<
         gate,
         beacon: &beacon,
         desk: Mutex::new(Desk::new(&beacon, publisher)),
+        awaiters,
         short: AtomicBool::new(false),
     };
     let back = run_all(rt, alloc, &shared, &mut stages, shares, senders, sights)?;

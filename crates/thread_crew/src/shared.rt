@@ -1,3 +1,4 @@
+use crate::awaiting::Awaiters;
 use master_beacon::{Beacon, Desk};
 use reply_pipeline::Gate;
 use script_data::Line;
@@ -18,6 +19,7 @@ pub struct Shared<'a, B: Steps + Sync, G: Gate> {
     /// Sessions look at it, and nodes tell it through the desk.
     pub beacon: &'a Beacon,
     pub desk: Mutex<Desk<'a>>,
+    pub awaiters: Awaiters,
     /// Whether memory was refused.
     pub short: AtomicBool,
 }

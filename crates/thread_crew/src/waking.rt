@@ -2,30 +2,33 @@
 ghost use Rattle.std.specs.Prelude.{◌≡◌};
 ghost use Rattle.thread_crew.specs.Waking.{woken_by};
 
+use crate::shared::Shared;
 use history_book::Actor;
+use reply_pipeline::Gate;
 use script_data::Verb;
-use stage_queues::{Queues, Waiter};
-use stamp_base::{NodeNo, Setup, Stage};
+use stage_queues::Queues;
+use stamp_base::{Name, NodeNo, Stage};
+use thread_steps::Steps;
 
 /// Who may wait for what a line does.
 #[derive(Clone, Copy, Debug, PartialEq, Eq)]
 pub enum Woken {
     Nobody,
-    /// Every actor.
-    Actors,
+    /// The actors that wait for the name.
+    AwaitersOf(Name),
     /// The sessions, and the stages of the node whose instance is gone.
     UsersOf(NodeNo),
     /// The threads of the node's stage.
     ThreadsOf(NodeNo, Stage),
 }
 
-/// Wakes those that may wait for what a line does.
-pub fn wake_for(queues: &Queues, setup: &Setup, actor: Actor, verb: &Verb) {
+/// Wakes those that wait for what a line of the actor does.
+pub fn wake_for<B: Steps + Sync, G: Gate>(shared: &Shared<'_, B, G>, actor: Actor, verb: &Verb) {
     match woken_by(actor, verb) {
         Woken::Nobody => {}
-        Woken::Actors => wake_actors(queues, setup),
-        Woken::UsersOf(node) => wake_users(queues, node),
-        Woken::ThreadsOf(node, stage) => queues.wake_stage(node, stage),
+        Woken::AwaitersOf(name) => shared.awaiters.wake(shared.queues, shared.lines, &name),
+        Woken::UsersOf(node) => wake_users(shared.queues, node),
+        Woken::ThreadsOf(node, stage) => shared.queues.wake_stage(node, stage),
     }
 }
 
@@ -34,22 +37,11 @@ fn woken_by(actor: Actor, verb: &Verb) -> Woken
     ensures { result ≡ woken_by actor verb.now }
 {
     match (verb, actor) {
-        (Verb::Post { .. }, _) => Woken::Actors,
+        (Verb::Post { name }, _) => Woken::AwaitersOf(*name),
         (Verb::Crash, Actor::Node(node)) => Woken::UsersOf(node),
         (Verb::Free { stage }, Actor::Node(node)) => Woken::ThreadsOf(node, *stage),
         _ => Woken::Nobody,
     }
-}
-
-fn wake_actors(queues: &Queues, setup: &Setup) {
-    queues.wake(Waiter::Actor(Actor::Clock));
-    queues.wake(Waiter::Actor(Actor::Janitor));
-    for number in 0..setup.nodes {
-        if let Some(node) = NodeNo::new(number) {
-            queues.wake(Waiter::Actor(Actor::Node(node)));
-        }
-    }
-    queues.wake_sessions();
 }
 
 // A stage that is held passes over what the instance has left.

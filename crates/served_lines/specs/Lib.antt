@@ -1,0 +1,7 @@
+pub mod Closings
+pub mod Silences
+pub mod Overs
+pub mod Completions
+pub mod Turns
+pub mod Ends
+pub mod Laws
