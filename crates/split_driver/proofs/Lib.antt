@@ -1,0 +1,3 @@
+mod ActorLemmas
+mod SettleLemmas
+mod SplitScripts

@@ -1,0 +1,101 @@
+-- What the logs of a script settle into.
+use Rattle.std.proofs.Common.{◌≡◌, ℕ, ◌≤◌, true, List, [], ◌∷◌, ◌++◌, length, refl, sym, ap, subst, ◌∙◌}
+use Rattle.std.specs.Prelude.{All, Result, Ok, Err, IfOk}
+use Rattle.std.proofs.lemmas.List.Elements.{All-nil, All-head, All-tail}
+use Rattle.atomic_table.specs.Seated.{TableId}
+use Rattle.history_book.specs.declared.item.Actor.{Actor}
+use Rattle.script_data.specs.declared.line.Line.{Line}
+use Rattle.script_data.specs.Data.{ScriptData, IsSound}
+use Rattle.line_steps.specs.Answers.{Answers}
+use Rattle.line_steps.specs.Planned.{Planned}
+use Rattle.line_steps.specs.Runs.{Played, opening_played, fate_of}
+use Rattle.machine.specs.State.{State}
+use Rattle.machine.proofs.PartsKept.{leaves_parts}
+use Rattle.planned_cluster.specs.Fitting.{SessionIsThere}
+use Rattle.planned_cluster.proofs.Playable.{playable_at_first}
+use Rattle.planned_cluster.proofs.Fitting.{lines_fit}
+use Rattle.cluster_core.specs.Whole.{Whole}
+use Rattle.thread_scripts.specs.Actors.{actors_of}
+use Rattle.split_stores.specs.declared.seat.Entry.{Entry}
+use Rattle.split_stores.specs.declared.settling.SettleStop.{SettleStop}
+use Rattle.split_stores.specs.declared.settling.SettleStop.TheVariants as settle
+use Rattle.split_stores.specs.Logs.{Logged, IsNew, ticks_of, rises_above}
+use Rattle.split_stores.specs.Merged.{SettleStops, entries_played, played_with, timed_in}
+use Rattle.split_stores.specs.Merging.{logs_of}
+use Rattle.split_stores.specs.Orders.{without_lines}
+use Rattle.seat_lines.specs.Follows.{AllFollow}
+use Rattle.seat_lines.specs.Served.{Served}
+use Rattle.seat_lines.specs.Laws.{IsCarried, AllRise, SettledLogsAnswer, SettledLogsServe, SettledLogsArePlanned}
+use Rattle.split_driver.specs.declared.stop.SplitStop.{SplitStop}
+use Rattle.split_driver.specs.declared.stop.SplitStop.TheVariants as stop
+use Rattle.split_driver.specs.Actors.{IsOfAll, SettlesBy, TearsBy}
+use Rattle.split_driver.specs.Splits.{MaySplit, Splits, SplitStops}
+
+-- ---- what settling answered
+-- where all seats are handed in, none is missing
+pub all_given : (plan : ScriptData) (seats : ℕ) (logs : List Logged) (stop : SettleStop) → SettleStops plan seats logs stop → length logs ≡ seats → IsOfAll stop
+all_given plan seats logs (settle.Missing made given) is all = is.2 (is.1 ∙ all ∙ sym is.0)
+all_given plan seats logs (settle.Torn tick kept replayed) is all = tt
+all_given plan seats logs settle.NoMemory is all = tt
+
+stops_by : (script plan : ScriptData) (logs : List Logged) (why : SplitStop) → plan ≡ without_lines script → TearsBy plan (logs_of logs) why → SplitStops script why
+stops_by script plan logs (stop.Torn tick kept replayed) is tears = record { logs = logs; torn = rw (sym is) tears }
+stops_by script plan logs (stop.Spent drawn) is tears = absurd tears
+stops_by script plan logs stop.NoMemory is tears = tt
+
+-- where the logs follow the lines of all actors
+pub splits_whole : (script plan : ScriptData) (logs : List Logged) (r : Result Whole SplitStop) → plan ≡ without_lines script → AllFollow script (actors_of script) logs → AllRise logs → SettlesBy plan (logs_of logs) r → Splits script r
+splits_whole script plan logs (Ok whole) is follow rise settled = record { logs = logs; follow = follow; rise = rise; settled = rw (sym is) settled }
+splits_whole script plan logs (Err why) is follow rise tears = stops_by script plan logs why is tears
+
+-- where it stops, whether they follow the lines or not
+pub splits_not : (script plan : ScriptData) (logs : List Logged) (why : SplitStop) (r : Result Whole SplitStop) → plan ≡ without_lines script → SettlesBy plan (logs_of logs) r → r ≡ Err why → SplitStops script why
+splits_not script plan logs why r is settled stopped = stops_by script plan logs why is (subst (λ (x : Result Whole SplitStop). SettlesBy plan (logs_of logs) x) stopped settled)
+
+-- ---- no lines
+-- empty logs are none
+no_entries : (word : TableId) (logs : List Logged) → All (IsNew word) logs → logs_of logs ≡ []
+no_entries word [] new = refl
+no_entries word (log ∷ logs) new =
+    let first : IsNew word log = All-head (IsNew word) log logs new in
+    ap (λ es. es ++ logs_of logs) first.1 ∙ no_entries word logs (All-tail (IsNew word) log logs new)
+
+pub splits_nothing : (script plan : ScriptData) (word : TableId) (logs : List Logged) (r : Result Whole SplitStop) → plan ≡ without_lines script → actors_of script ≡ [] → All (IsNew word) logs → SettlesBy plan (logs_of logs) r → Splits script r
+splits_nothing script plan word logs r is none new settled =
+    splits_whole script plan [] r is (subst (λ (actors : List Actor). AllFollow script actors []) (sym none) tt) (All-nil (λ (log : Logged). rises_above 0 (ticks_of log.entries) ≡ true))
+    (subst (λ (es : List Entry). SettlesBy plan es r) (no_entries word logs new) settled)
+
+-- ---- the setup
+setup_after : (script : ScriptData) (entries : List Entry) (p : Played) → (entries_played script entries p).state.setup ≡ p.state.setup
+unfolding entries_played
+setup_after script [] p = refl
+setup_after script (e ∷ es) p =
+    let now = timed_in script p e.event in
+    setup_after script es (played_with script p e.event) ∙ (leaves_parts p.state now (fate_of script p now)).setup
+
+pub split_setup : (script : ScriptData) (r : Result Whole SplitStop) → Splits script r → IfOk r (λ (whole : Whole). whole.state.setup ≡ script.setup)
+split_setup script (Ok whole) s =
+    ap (λ (w : State). w.setup) s.settled.settled.state ∙ setup_after (without_lines script) s.settled.merged (opening_played (without_lines script))
+split_setup script (Err why) s = tt
+
+-- ---- what the laws say
+is_carried : (script : ScriptData) → IsSound script → length script.lines ≤ 131072 → MaySplit script → All (λ (line : Line). SessionIsThere line.actor) script.lines → IsCarried script
+is_carried script sound few may there = record {
+  setup = sound.setup;
+  playable = playable_at_first script sound few;
+  lines = lines_fit script.setup script.lines sound.lines (λ k d within here. there k d here);
+  masters = may.masters;
+}
+
+module _ (script : ScriptData) (sound : IsSound script) (few : length script.lines ≤ 131072) (may : MaySplit script) (there : All (λ (line : Line). SessionIsThere line.actor) script.lines) where
+  pub split_answers : (r : Result Whole SplitStop) → Splits script r → SettledLogsAnswer → IfOk r (λ (whole : Whole). Answers script whole.history)
+  split_answers (Ok whole) s law = law script s.logs whole (is_carried script sound few may there) s.follow s.rise s.settled
+  split_answers (Err why) s law = tt
+
+  pub split_serves : (r : Result Whole SplitStop) → Splits script r → SettledLogsServe → IfOk r (λ (whole : Whole). Served script whole.history)
+  split_serves (Ok whole) s law = law script s.logs whole (is_carried script sound few may there) s.follow s.rise s.settled
+  split_serves (Err why) s law = tt
+
+  pub split_is_planned : (r : Result Whole SplitStop) → Splits script r → SettledLogsArePlanned → IfOk r (λ (whole : Whole). Planned script whole.history)
+  split_is_planned (Ok whole) s law = law script s.logs whole (is_carried script sound few may there) s.follow s.rise s.settled
+  split_is_planned (Err why) s law = tt

@@ -1,0 +1,46 @@
+use Rattle.std.proofs.Common.{List, length, sym, subst, ap, arith}
+use Rattle.std.specs.List.{AllZip}
+use Rattle.history_book.specs.declared.item.Actor.{Actor}
+use Rattle.script_data.specs.declared.line.Line.{Line}
+use Rattle.session_script.specs.Script.{data_of}
+use Rattle.seat_lines.specs.Laws.{NameNoMaster}
+use Rattle.split_runs.specs.Runs.{RiseInBounds}
+use Rattle.split_driver.specs.Actors.{IsPlayedOf}
+use Rattle.split_driver.proofs.ActorLemmas.{all_new, all_played}
+use Rattle.split_driver.proofs.driver.carry_out.Goals as goal
+
+pub jobs_of-requires-clause-paired : goal.jobs_of-requires-clause-paired
+jobs_of-requires-clause-paired g c = omega (arith, c.in_ok-split.ensures.all.0, c.in_ok-split.seats.ok.0, c.len.ensures)
+
+pub jobs_of-requires-clause-seats : goal.jobs_of-requires-clause-seats
+jobs_of-requires-clause-seats g c = c.in_ok-split.ensures.seats
+
+pub play_all-requires-clause-jobs : goal.play_all-requires-clause-jobs
+play_all-requires-clause-jobs g c κs within = all_new c.in_ok-split.split.id c.in_ok-actors.actors.items c.in_ok-jobs.jobs.items c.in_ok-jobs.ensures
+
+pub play_all-requires-clause-few : goal.play_all-requires-clause-few
+play_all-requires-clause-few g c = omega (arith, c.requires.few, c.args.script.now.lines.ok.0, ap length c.deref.ensures.value)
+
+pub play_all-requires-clause-ticks : goal.play_all-requires-clause-ticks
+play_all-requires-clause-ticks g c κs within = subst (λ (l : List Line). RiseInBounds l) (sym c.deref.ensures.value) c.requires.may_split.ticks
+
+pub play_all-requires-clause-masters : goal.play_all-requires-clause-masters
+play_all-requires-clause-masters g c κs within = subst (λ (l : List Line). NameNoMaster l) (sym c.deref.ensures.value) c.requires.may_split.masters
+
+pub finish-requires-clause-plan : goal.finish-requires-clause-plan
+finish-requires-clause-plan g c = c.in_ok-split.ensures.plan
+
+pub finish-requires-clause-all : goal.finish-requires-clause-all
+finish-requires-clause-all g c =
+    let actors = c.in_ok-actors.actors in
+    omega (arith, c.in_ok-split.ensures.all.1, c.len.ensures, actors.ok.0, ap length c.in_ok-actors.ensures.actors)
+
+pub finish-requires-clause-played : goal.finish-requires-clause-played
+finish-requires-clause-played g c =
+    let script = data_of c.args.script.now in
+    let word = c.in_ok-split.split.id in
+    let actors = c.in_ok-actors.actors.items in
+    let played = c.in_ok-played.played.items in
+    let lines = c.deref.result.now in
+    subst (λ (who : List Actor). AllZip (IsPlayedOf word script.lines) who played) c.in_ok-actors.ensures.actors
+    (subst (λ (l : List Line). AllZip (IsPlayedOf word l) actors played) c.deref.ensures.value (all_played word lines actors c.in_ok-jobs.jobs.items played c.in_ok-jobs.ensures c.in_ok-played.ensures))

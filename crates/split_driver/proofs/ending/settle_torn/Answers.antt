@@ -1,0 +1,17 @@
+use Rattle.session_script.specs.Script.{data_of}
+use Rattle.thread_scripts.specs.Actors.{actors_of}
+use Rattle.split_driver.proofs.ActorLemmas.{seats_of_word, seats_there}
+use Rattle.split_driver.proofs.ending.settle_torn.Goals as goal
+
+pub settle-settled-requires-clause-word : goal.settle-settled-requires-clause-word
+settle-settled-requires-clause-word g c =
+    let script = data_of c.args.script.now in
+    seats_of_word c.args.split.id script.lines (actors_of script) c.args.played.items c.in_ok-seats.seats.items c.requires.played c.in_ok-seats.ensures
+
+pub settle-settled-requires-clause-all : goal.settle-settled-requires-clause-all
+settle-settled-requires-clause-all g c =
+    let script = data_of c.args.script.now in
+    seats_there c.args.split.id script.lines (actors_of script) c.args.played.items c.in_ok-seats.seats.items c.requires.played c.in_ok-seats.ensures c.args.split.seats c.requires.all
+
+pub returns : goal.returns
+returns g c = c.give_up.ensures (data_of c.args.script.now) c.args.split.plan c.in_ok-seats.seats.items c.requires.plan c.settle-settled.ensures

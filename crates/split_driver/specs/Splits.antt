@@ -1,0 +1,53 @@
+-- What a script that is carried out over split stores comes to.
+use Rattle.std.specs.Prelude.{◌≡◌, ℕ, ◌≤◌, false, List, Option, Result, Ok, MatchResult}
+use Rattle.tick_word.specs.Rule.{seat_limit}
+use Rattle.history_book.specs.declared.item.Item.{Item}
+use Rattle.script_data.specs.Data.{ScriptData}
+use Rattle.script_lines.specs.declared.mode.Mode.TheVariants.{Split}
+use Rattle.session_script.specs.Script.{script_of}
+use Rattle.cluster_core.specs.Whole.{Whole}
+use Rattle.thread_scripts.specs.Actors.{actors_of}
+use Rattle.split_stores.specs.Logs.{Logged}
+use Rattle.split_stores.specs.Merged.{Settled, IsTornInOrder}
+use Rattle.split_stores.specs.Merging.{logs_of}
+use Rattle.split_stores.specs.Orders.{without_lines}
+use Rattle.seat_lines.specs.Follows.{AllFollow}
+use Rattle.seat_lines.specs.Laws.{NameNoMaster, AllRise}
+use Rattle.split_runs.specs.Runs.{RiseInBounds}
+use Rattle.split_driver.specs.declared.stop.SplitStop.{SplitStop}
+use Rattle.split_driver.specs.declared.stop.SplitStop.TheVariants as stop
+
+-- ---- scripts
+-- the script turns on nothing that split stores have not, its lines name no master, and its ticks are in their bounds
+pub record MaySplit (script : ScriptData) : Type 0 where
+  pub cache : script.setup.cache ≡ 0
+  pub direct : script.setup.direct ≡ false
+  pub strict : script.setup.strict ≡ false
+  pub ticks : RiseInBounds script.lines
+  pub masters : NameNoMaster script.lines
+
+-- so is each script that was read for split stores
+abbrev pub SplitScriptsMaySplit : Type 0
+SplitScriptsMaySplit = (bytes : List ℕ) (script : ScriptData) → script_of bytes Split ≡ Ok script → MaySplit script
+
+-- ---- what comes of it
+-- the logs of all actors with lines, each of which is of its actor's lines, in rising ticks, settle into it
+pub record SplitsTo (script : ScriptData) (whole : Whole) : Type 0 where
+  pub logs : List Logged
+  pub follow : AllFollow script (actors_of script) logs
+  pub rise : AllRise logs
+  pub settled : Settled (without_lines script) (logs_of logs) whole
+
+-- the tick is the first at which an entry of some logs kept something else than its event appends
+pub record TearsAt (script : ScriptData) (tick : ℕ) (kept replayed : Option Item) : Type 0 where
+  pub logs : List Logged
+  pub torn : IsTornInOrder (without_lines script) (logs_of logs) tick kept replayed
+
+-- why none comes: logs are torn, or an actor has drawn all its ticks
+abbrev pub SplitStops : ScriptData → SplitStop → Type 0
+SplitStops script (stop.Torn tick kept replayed) = TearsAt script tick kept replayed
+SplitStops script (stop.Spent drawn) = seat_limit ≤ drawn
+SplitStops script stop.NoMemory = Unit {0}
+
+abbrev pub Splits : ScriptData → Result Whole SplitStop → Type 0
+Splits script r = MatchResult r (SplitsTo script) (SplitStops script)

@@ -1,0 +1,105 @@
+// A script carried out over split stores.
+ghost use Rattle.std.specs.Prelude.{◌≡◌, ◌≤◌, All, IfErr, IfOk, length, vec_len};
+ghost use Rattle.stamp_base.specs.declared.limits.TheConstants.{LINE_LIMIT};
+ghost use Rattle.stamp_base.specs.Setups.{numbers_of};
+ghost use Rattle.session_script.specs.Script.{data_of};
+ghost use Rattle.line_steps.specs.Answers.{Answers};
+ghost use Rattle.line_steps.specs.Planned.{Planned};
+ghost use Rattle.planned_cluster.specs.Fitting.{SessionIsThere};
+ghost use Rattle.thread_scripts.specs.Actors.{actors_of};
+ghost use Rattle.seat_lines.specs.Served.{Served};
+ghost use Rattle.split_driver.specs.Splits.{MaySplit, Splits, SplitStops, SplitsTo};
+
+use crate::SplitStop;
+use crate::ending::{finish, settle};
+use crate::playing::{jobs_of, play_all};
+use cluster_core::Cluster;
+use planned_cluster::see_session;
+use script_data::Line;
+use seat_lines::{settled_logs_answer, settled_logs_are_planned, settled_logs_serve};
+use session_script::Script;
+use split_stores::{PartGate, Split};
+use std::alloc::Global;
+use std::sync::Wait;
+use std::thread::Threads;
+use thread_scripts::actors_with_lines;
+
+/// Carries a script out over split stores, where each event passes the gate under the locks of its parts: the cluster that the logs
+/// settle into. Its history answers the script, serves it, and is as the script plans. That it ends is not promised: an actor may
+/// wait for what never comes.
+pub fn run_split<R: Threads + Wait + Sync, G: PartGate>(
+    rt: &R,
+    alloc: Global,
+    script: &Script,
+    gate: &G,
+) -> Result<Cluster, SplitStop>
+    requires few { vec_len script.now.lines ≤ LINE_LIMIT }
+    requires may_split { MaySplit (data_of script.now) }
+    ensures split { IfOk result (SplitsTo (data_of script.now)) }
+    ensures answers { IfOk result (λ cluster. Answers (data_of script.now) cluster.history) }
+    ensures served { IfOk result (λ cluster. Served (data_of script.now) cluster.history) }
+    ensures planned { IfOk result (λ cluster. Planned (data_of script.now) cluster.history) }
+    ensures setup { IfOk result (λ cluster. cluster.state.setup ≡ numbers_of script.now.setup) }
+    ensures stopped { IfErr result (SplitStops (data_of script.now)) }
+{
+    let split = carry_out(rt, alloc, script, gate);
+    answering(script, split)
+}
+
+// What the logs settle into answers the script, serves it, and is as it plans.
+fn answering(script: &Script, split: Result<Cluster, SplitStop>) -> Result<Cluster, SplitStop>
+    requires few { vec_len script.now.lines ≤ LINE_LIMIT }
+    requires may_split { MaySplit (data_of script.now) }
+    requires split { Splits (data_of script.now) split }
+    ensures split { IfOk result (SplitsTo (data_of script.now)) }
+    ensures answers { IfOk result (λ cluster. Answers (data_of script.now) cluster.history) }
+    ensures served { IfOk result (λ cluster. Served (data_of script.now) cluster.history) }
+    ensures planned { IfOk result (λ cluster. Planned (data_of script.now) cluster.history) }
+    ensures setup { IfOk result (λ cluster. cluster.state.setup ≡ numbers_of script.now.setup) }
+    ensures stopped { IfErr result (SplitStops (data_of script.now)) }
+{
+    see_sessions(&script.lines);
+    settled_logs_answer();
+    settled_logs_serve();
+    settled_logs_are_planned();
+    split
+}
+
+// Sessions that the lines name are those that there are, as their types say.
+fn see_sessions(lines: &[Line])
+    ensures { All (λ line. SessionIsThere line.actor) lines.now }
+{
+    for line in lines {
+        see_session(&line.actor);
+    }
+}
+
+fn carry_out<R: Threads + Wait + Sync, G: PartGate>(
+    rt: &R,
+    alloc: Global,
+    script: &Script,
+    gate: &G,
+) -> Result<Cluster, SplitStop>
+    requires few { vec_len script.now.lines ≤ LINE_LIMIT }
+    requires may_split { MaySplit (data_of script.now) }
+    ensures { Splits (data_of script.now) result }
+{
+    let actors = actors_with_lines(alloc, script)?;
+    if actors.is_empty() {
+        return settle_nothing(alloc, script);
+    }
+    let (split, seats) = Split::open(alloc, script, actors.len())?;
+    let jobs = jobs_of(alloc, &split, actors, seats)?;
+    let played = play_all(rt, alloc, &split, &script.lines, jobs, gate)?;
+    finish(rt, alloc, script, split, played)
+}
+
+// Where no actor has lines, one log stays empty.
+fn settle_nothing(alloc: Global, script: &Script) -> Result<Cluster, SplitStop>
+    requires none { length (actors_of (data_of script.now)) ≡ 0 }
+    requires may_split { MaySplit (data_of script.now) }
+    ensures { Splits (data_of script.now) result }
+{
+    let (split, seats) = Split::open(alloc, script, 1)?;
+    settle(alloc, split, seats)
+}
