@@ -283,6 +283,22 @@ def threads(program, work, runs, loads):
               f"{len(script) / wall:9.0f} {wall / median(replay, 'wall'):9.1f}", flush=True)
 
 
+def over_split_stores(program, work, runs, loads):
+    print(f"{'load of run split':28} {'lines':>7} {'wall':>7} {'user':>7} {'system':>7} {'switches':>9} {'a line':>7} {'lines/s':>9} {'of run':>9} {'of replay':>9}")
+    for name, script in loads:
+        given, other = os.path.join(work, "script"), os.path.join(work, "other")
+        with open(given, "w") as it:
+            it.write("\n".join(script) + "\n")
+        costs = {words: [] for words in ("run split", "run", "replay")}
+        for _ in range(runs):
+            for words, those in costs.items():
+                those.append(ran([program, *words.split()], given, other))
+        split = costs["run split"]
+        wall, switches = median(split, "wall"), median(split, "switches")
+        print(f"{name:28} {len(script):7} {wall:7.3f} {median(split):7.3f} {median(split, 'system'):7.3f} {switches:9.0f} {switches / len(script):7.2f} "
+              f"{len(script) / wall:9.0f} {wall / median(costs['run'], 'wall'):9.2f} {wall / median(costs['replay'], 'wall'):9.1f}", flush=True)
+
+
 def main():
     words = argparse.ArgumentParser(description=__doc__, formatter_class=argparse.RawDescriptionHelpFormatter)
     words.add_argument("--program", default=os.path.join(ROOT, "crates/omid/out/omid"))
@@ -315,6 +331,7 @@ def main():
             storms(said.program, work, said.runs)
         if picked[1]:
             threads(said.program, work, max(3, said.runs // 3), picked[1])
+            over_split_stores(said.program, work, max(3, said.runs // 3), picked[1][:3])
 
 
 if __name__ == "__main__":

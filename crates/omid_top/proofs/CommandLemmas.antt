@@ -10,7 +10,7 @@ use Rattle.script_lines.specs.declared.mode.Mode.{Mode}
 use Rattle.session_script.specs.Script.{script_of}
 use Rattle.omid_top.specs.Audit.{IsVerdict, IsFairTo}
 use Rattle.omid_top.specs.declared.standard.Standard.{Standard}
-use Rattle.omid_top.specs.Commands.{Replays, Compacts, Runs, Audits, Storms}
+use Rattle.omid_top.specs.Commands.{Replays, Compacts, Runs, RunsSplit, Audits, Storms}
 use Rattle.omid_top.proofs.ReportLemmas.{silent_is_fair}
 
 -- ---- statuses
@@ -35,6 +35,32 @@ replay_codes code (inl e) = inl e
 replay_codes code (inr (inl e)) = inr (omega (arith, e), omega (arith, e))
 replay_codes code (inr (inr (inl e))) = inr (omega (arith, e), omega (arith, e))
 replay_codes code (inr (inr (inr e))) = inr (omega (arith, e), omega (arith, e))
+
+split_is_no_end : {P : Type 0} (code : ℕ) → 3 < code → code < 7 → (code ≡ 0) ⊎ (8 ≤ code) → P
+split_is_no_end code low high (inl e) = absurd (omega (arith, e, low))
+split_is_no_end code low high (inr e) = absurd (omega (arith, e, high))
+
+pub named_is_no_split : {P : Type 0} (code : ℕ) → (code ≡ 3) ⊎ (code ≡ 5) → (code ≡ 0) ⊎ (8 ≤ code) → P
+named_is_no_split code (inl e) (inl none) = absurd (omega (arith, e, none))
+named_is_no_split code (inl e) (inr more) = absurd (omega (arith, e, more))
+named_is_no_split code (inr e) (inl none) = absurd (omega (arith, e, none))
+named_is_no_split code (inr e) (inr more) = absurd (omega (arith, e, more))
+
+pub named_is_not : {P : Type 0} (code stop : ℕ) → 8 ≤ stop → (code ≡ 3) ⊎ (code ≡ 5) → code ≡ stop → P
+named_is_not code stop high (inl e) is = absurd (omega (arith, e, is, high))
+named_is_not code stop high (inr e) is = absurd (omega (arith, e, is, high))
+
+pub split_codes : (code : ℕ) → (code ≡ 0) ⊎ (code ≡ 3) ⊎ (code ≡ 5) ⊎ (code ≡ 6) ⊎ (code ≡ 8) ⊎ (code ≡ 9) → (code ≡ 0) ⊎ ((3 ≤ code) × (code ≤ 6)) ⊎ ((8 ≤ code) × (code ≤ 9))
+split_codes code (inl e) = inl e
+split_codes code (inr (inl e)) = inr (inl (omega (arith, e), omega (arith, e)))
+split_codes code (inr (inr (inl e))) = inr (inl (omega (arith, e), omega (arith, e)))
+split_codes code (inr (inr (inr (inl e)))) = inr (inl (omega (arith, e), omega (arith, e)))
+split_codes code (inr (inr (inr (inr (inl e))))) = inr (inr (omega (arith, e), omega (arith, e)))
+split_codes code (inr (inr (inr (inr (inr e))))) = inr (inr (omega (arith, e), omega (arith, e)))
+
+pub named_split_codes : (code : ℕ) → (code ≡ 3) ⊎ (code ≡ 5) → (code ≡ 0) ⊎ ((3 ≤ code) × (code ≤ 6)) ⊎ ((8 ≤ code) × (code ≤ 9))
+named_split_codes code (inl e) = inr (inl (omega (arith, e), omega (arith, e)))
+named_split_codes code (inr e) = inr (inl (omega (arith, e), omega (arith, e)))
 
 pub named_codes : (code : ℕ) → (code ≡ 3) ⊎ (code ≡ 5) → (code ≡ 0) ⊎ ((3 ≤ code) × (code ≤ 6))
 named_codes code (inl e) = inr (omega (arith, e), omega (arith, e))
@@ -79,6 +105,17 @@ runs_silently code left rest held now low high whole = record {
   bad_line = λ e. absurd (omega (arith, e, low));
   cut = λ five. absurd (whole five);
   codes = inr (omega (arith, low), omega (arith, high));
+}
+
+pub splits_silently : (code : ℕ) (left rest held now : Option (List ℕ)) → 3 < code → code < 7 → (code ≡ 5 → ⊥) → RunsSplit code left rest held now
+splits_silently code left rest held now low high whole = record {
+  read = split_is_no_end code low high;
+  ran = λ e. absurd (omega (arith, e, low));
+  torn = λ e. absurd (omega (arith, e, high));
+  spent = λ e. absurd (omega (arith, e, high));
+  bad_line = λ e. absurd (omega (arith, e, low));
+  cut = λ five. absurd (whole five);
+  codes = inr (inl (omega (arith, low), omega (arith, high)));
 }
 
 pub audits_silently : (asked : Standard) (code : ℕ) (left rest held now : Option (List ℕ)) → 3 < code → code < 7 → (code ≡ 5 → ⊥) → Audits asked code left rest held now

@@ -1,6 +1,6 @@
 -- A history that goes out line by line, and lines that did not.
-use Rattle.std.proofs.Common.{◌≡◌, ℕ, ◌+◌, ◌≤◌, ◌<◌, List, [], ◌∷◌, ◌++◌, append_assoc, append-nil, Option, Some, None, take, drop, length, get_or, inl, inr, refl, sym, ap, ◌∙◌, subst, add-one, arith}
-use Rattle.std.specs.Prelude.{IfSome}
+use Rattle.std.proofs.Common.{◌≡◌, ℕ, ◌+◌, ◌≤◌, ◌<◌, List, [], ◌∷◌, ◌++◌, append_assoc, append-nil, Option, Some, None, Result, Ok, Err, take, drop, length, get_or, inl, inr, refl, sym, ap, ◌∙◌, subst, add-one, arith}
+use Rattle.std.specs.Prelude.{IfSome, OnErr}
 use Rattle.std.specs.List.{flat_map}
 use Rattle.std.proofs.lemmas.Bool.{cases_lt}
 use Rattle.std.proofs.Math.Seq.{drop-cons, take-append-add}
@@ -48,6 +48,42 @@ line_more text (Some held) b c items i d line within is gone more =
     let lines : sent ++ line ≡ flat_map text (take (i + 1) items) = ap (λ words. sent ++ words) is ∙ sym (lines_to text items i d within) in
     subst (λ (o : Option (List ℕ)). Gains o c line) gone more ∙ ap Some (append_assoc held sent line ∙ ap (λ words. held ++ words) lines)
 
+-- ---- one text behind another
+gains_more : (a b c : Option (List ℕ)) (xs ys : List ℕ) → Gains a b xs → Gains b c ys → Gains a c (xs ++ ys)
+gains_more None b c xs ys first then = subst (λ (o : Option (List ℕ)). Gains o c ys) first then
+gains_more (Some held) b c xs ys first then = subst (λ (o : Option (List ℕ)). Gains o c ys) first then ∙ ap Some (append_assoc held xs ys)
+
+-- a front of the first is a front of both
+front_sooner : (a b : Option (List ℕ)) (xs ys : List ℕ) → GainsFront a b xs → GainsFront a b (xs ++ ys)
+front_sooner a b xs ys some =
+    let (n, (low, gone)) = short_front a b xs some in
+    let front : take n (xs ++ ys) ≡ take n xs = rw (take-append-le n xs ys) refl in
+    (n, subst (λ (bytes : List ℕ). Gains a b bytes) (sym front) gone)
+
+-- the first and a front of the second are one
+front_later : (a b c : Option (List ℕ)) (xs ys : List ℕ) → Gains a b xs → GainsFront b c ys → GainsFront a c (xs ++ ys)
+front_later a b c xs ys first (n, gone) = (length xs + n, subst (λ (bytes : List ℕ). Gains a c bytes) (sym (take-append-add xs ys n)) (gains_more a b c xs (take n ys) first gone))
+
+-- a front of three texts, of which the first one or two went out whole
+module _ (a b c d : Option (List ℕ)) (xs ys zs one two three : List ℕ) (one_is : one ≡ xs) (two_is : two ≡ ys) (three_is : three ≡ zs) where
+  pub front_of_first : GainsFront a b one → GainsFront a b (xs ++ ys ++ zs)
+  front_of_first first = front_sooner a b (xs ++ ys) zs (front_sooner a b xs ys (subst (λ (text : List ℕ). GainsFront a b text) one_is first))
+
+  pub front_of_second : Gains a b one → GainsFront b c two → GainsFront a c (xs ++ ys ++ zs)
+  front_of_second first second =
+      front_sooner a c (xs ++ ys) zs (front_later a b c xs ys (subst (λ (text : List ℕ). Gains a b text) one_is first) (subst (λ (text : List ℕ). GainsFront b c text) two_is second))
+
+  pub front_of_third : Gains a b one → Gains b c two → GainsFront c d three → GainsFront a d (xs ++ ys ++ zs)
+  front_of_third first second third =
+      front_later a c d (xs ++ ys) zs
+      (gains_more a b c xs ys (subst (λ (text : List ℕ). Gains a b text) one_is first) (subst (λ (text : List ℕ). Gains b c text) two_is second))
+      (subst (λ (text : List ℕ). GainsFront c d text) three_is third)
+
+pub on_err_more : {T E : Type 0} (r : Result T E) (P Q : Type 0) → (P → Q) → OnErr r P → OnErr r Q
+on_err_more (Ok x) P Q more holds = tt
+on_err_more (Err e) P Q more holds = more holds
+
+-- ---- nothing
 -- no line went out
 pub no_lines : (held : Option (List ℕ)) (history : List Item) → GainsLines held held history
 no_lines None history = (0, refl)

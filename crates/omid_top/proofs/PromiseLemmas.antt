@@ -13,7 +13,12 @@ use Rattle.session_script.specs.Script.{BadLine, ReadsScript}
 use Rattle.line_steps.specs.Answers.{Answers}
 use Rattle.line_steps.specs.Planned.{Planned}
 use Rattle.line_steps.specs.Runs.{replayed}
-use Rattle.omid_top.specs.Promise.{KeepsPromise}
+use Rattle.stamp_base.specs.SetupNumbers.{SetupNumbers}
+use Rattle.cluster_core.specs.Whole.{Whole}
+use Rattle.seat_lines.specs.Served.{Served}
+use Rattle.split_driver.specs.Splits.{SplitsTo}
+use Rattle.history_text.specs.Text.{printed}
+use Rattle.omid_top.specs.Promise.{KeepsPromise, KeepsSplit, WritesSplit}
 
 pub promise_kept : (script : ScriptData) (h : List Item) → h ≡ replayed script → Isolated h → SerialIfStrict script.setup h → Explained script.setup h → Answers script h → Planned script h → KeepsPromise script
 promise_kept script h is isolated serial explained answers planned = record {
@@ -23,6 +28,19 @@ promise_kept script h is isolated serial explained answers planned = record {
   answers = subst (λ (x : List Item). Answers script x) is answers;
   planned = subst (λ (x : List Item). Planned script x) is planned;
 }
+
+-- the same of a history over split stores
+pub split_kept : (script : ScriptData) (whole : Whole) → whole.state.setup ≡ script.setup → Isolated whole.history → Explained whole.state.setup whole.history → Answers script whole.history → Served script whole.history → Planned script whole.history → KeepsSplit script whole.history
+split_kept script whole setup isolated explained answers served planned = record {
+  isolated = isolated;
+  explained = subst (λ (numbers : SetupNumbers). Explained numbers whole.history) setup explained;
+  answers = answers;
+  served = served;
+  planned = planned;
+}
+
+pub split_written : (script : ScriptData) (whole : Whole) (writes : List ℕ → Type 0) (h : List Item) → SplitsTo script whole → KeepsSplit script whole.history → h ≡ whole.history → writes (printed h) → WritesSplit script writes
+split_written script whole writes h settles keeps is written = record { whole = whole; settles = settles; keeps = keeps; written = subst (λ (items : List Item). writes (printed items)) is written }
 
 -- what is told of the line that a reader answered is told of the script's first bad line
 pub bad_line_told : (fault : ScriptFault) (line : ℕ) (cause : ScriptCause) (given : Result ScriptData BadLine) (P : BadLine → Type 0) → ReadsScript (Err fault) given → fault ≡ At line cause → P (record { line = line; cause = cause }) → IsErrAnd given P

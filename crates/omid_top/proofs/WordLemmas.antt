@@ -52,7 +52,7 @@ one_word : List ℕ → Command
 one_word word = if is_word (codes "run") word then command.Run else if is_word (codes "audit") word then command.Audit else command.Replay
 
 two_words : List ℕ → List ℕ → Command
-two_words word second = if is_word (codes "storm") word then command.Storm (digits_value 10 second) else if is_word (codes "audit") word then command.AuditStrict else if is_word (codes "summary") second then command.ReplaySummary else command.ReplayJson
+two_words word second = if is_word (codes "storm") word then command.Storm (digits_value 10 second) else if is_word (codes "audit") word then command.AuditStrict else if is_word (codes "run") word then command.RunSplit else if is_word (codes "summary") second then command.ReplaySummary else command.ReplayJson
 
 named : List (List ℕ) → Command
 named (word ∷ []) = one_word word
@@ -67,6 +67,7 @@ is_named command.ReplaySummary words it = sym (ap named it)
 is_named command.ReplayJson words it = sym (ap named it)
 is_named (command.ReplayCompact n) words it = ap command.ReplayCompact (sym (decimal_is_IsNumeral n (small_stamp n it.within)).1) ∙ sym (ap named it.named)
 is_named command.Run words it = sym (ap named it)
+is_named command.RunSplit words it = sym (ap named it)
 is_named command.Audit words it = sym (ap named it)
 is_named command.AuditStrict words it = sym (ap named it)
 is_named (command.Storm n) words it = ap command.Storm (sym (decimal_is_IsNumeral n (omega (arith, it.within.1))).1) ∙ sym (ap named it.named)

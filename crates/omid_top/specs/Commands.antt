@@ -7,14 +7,14 @@ use Rattle.history_json.specs.History.{AreItems}
 use Rattle.history_json.specs.Json.{json_printed}
 use Rattle.history_text.specs.Summary.{summarized}
 use Rattle.session_script.specs.Script.{script_of}
-use Rattle.script_lines.specs.declared.mode.Mode.TheVariants.{Replay, Run}
+use Rattle.script_lines.specs.declared.mode.Mode.TheVariants.{Replay, Run, Split}
 use Rattle.line_steps.specs.Runs.{replayed}
 use Rattle.replay_driver.specs.Storm.{storm_data}
 use Rattle.omid_top.specs.Audit.{IsVerdict, Reported, ReportedFront, IsFairTo}
 use Rattle.omid_top.specs.Compaction.{KeepsCompaction, compact_text, compact_told}
-use Rattle.omid_top.specs.Promise.{KeepsPromise, GainsFront, GainsLines, history_of, WritesRun, IsCutRun}
+use Rattle.omid_top.specs.Promise.{KeepsPromise, GainsFront, GainsLines, history_of, WritesRun, IsCutRun, WritesSplit, WritesTorn, IsCutSplit}
 use Rattle.omid_top.specs.declared.standard.Standard.{Standard}
-use Rattle.omid_top.specs.Texts.{usage_text, bad_line_text, replay_text}
+use Rattle.omid_top.specs.Texts.{usage_text, bad_line_text, replay_text, spent_text}
 
 -- A script was read and carried out in file order, and this text of its history was written; or the bytes are no script, and
 -- the first bad line was named; or a front of either text went out; or nothing did.
@@ -49,6 +49,18 @@ pub record Runs (code : ℕ) (left rest held now : Option (List ℕ)) : Type 0 w
   pub bad_line : code ≡ 3 → IfSome left (λ bytes. IsErrAnd (script_of bytes Run) (λ bad. Gains held now (bad_line_text bad)))
   pub cut : code ≡ 5 → IfSome left (λ bytes. IsCutRun (script_of bytes Run) held now)
   pub codes : (code ≡ 0) ⊎ ((3 ≤ code) × (code ≤ 6))
+
+-- A script was read and carried out over split stores, and the history was written that the actors' logs settle into; or, on 8, that
+-- they do not settle, and where they differ; or, on 9, that an actor has drawn all its ticks; or the bytes are no script, and the first
+-- bad line was named; or a front of one of these texts went out; or nothing did.
+pub record RunsSplit (code : ℕ) (left rest held now : Option (List ℕ)) : Type 0 where
+  pub read : (code ≡ 0) ⊎ (8 ≤ code) → IsAtEnd rest
+  pub ran : code ≡ 0 → IfSome left (λ bytes. IsOkAnd (script_of bytes Split) (λ script. WritesSplit script (Gains held now)))
+  pub torn : code ≡ 8 → IfSome left (λ bytes. IsOkAnd (script_of bytes Split) (λ script. WritesTorn script (Gains held now)))
+  pub spent : code ≡ 9 → IfSome left (λ bytes. IsOkAnd (script_of bytes Split) (λ script. Gains held now spent_text))
+  pub bad_line : code ≡ 3 → IfSome left (λ bytes. IsErrAnd (script_of bytes Split) (λ bad. Gains held now (bad_line_text bad)))
+  pub cut : code ≡ 5 → IfSome left (λ bytes. IsCutSplit (script_of bytes Split) held now)
+  pub codes : (code ≡ 0) ⊎ ((3 ≤ code) × (code ≤ 6)) ⊎ ((8 ≤ code) × (code ≤ 9))
 
 -- A history was read and judged by what is asked of it, and a report that is right about its bytes was written; or a front of
 -- one went out; or nothing did. Where the bytes are items, the status is fair to them.

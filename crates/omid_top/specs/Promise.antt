@@ -1,5 +1,5 @@
 -- What is promised of the history of a script.
-use Rattle.std.specs.Prelude.{ℕ, List, [], Option, Result, Ok, Err, take}
+use Rattle.std.specs.Prelude.{ℕ, List, [], ◌⊎◌, Option, Result, Ok, Err, take}
 use Rattle.history_book.specs.declared.item.Item.{Item}
 use Rattle.history_book.specs.Isolation.{Isolated}
 use Rattle.history_json.specs.Json.{json_printed}
@@ -12,9 +12,12 @@ use Rattle.line_steps.specs.Runs.{replayed}
 use Rattle.line_steps.specs.Answers.{Answers}
 use Rattle.line_steps.specs.Planned.{Planned}
 use Rattle.turn_rules.specs.declared.turn.Turn.{Turn}
+use Rattle.cluster_core.specs.Whole.{Whole}
 use Rattle.run_driver.specs.Runs.{RunsTo}
+use Rattle.seat_lines.specs.Served.{Served}
+use Rattle.split_driver.specs.Splits.{SplitsTo, TearsAt}
 use Rattle.history_text.specs.Text.{printed}
-use Rattle.omid_top.specs.Texts.{bad_line_text}
+use Rattle.omid_top.specs.Texts.{bad_line_text, spent_text, torn_text}
 
 -- The history of the script, carried out in file order, is snapshot isolated, is serial where the script asks for strict reads, shows
 -- the cause of every refusal, answers every line, and has the faults, times and readings that the script plans.
@@ -50,3 +53,35 @@ pub record WritesRun (script : ScriptData) (writes : List ℕ → Type 0) : Type
 abbrev pub IsCutRun : Result ScriptData BadLine → Option (List ℕ) → Option (List ℕ) → Type 0
 IsCutRun (Ok script) held now = WritesRun script (GainsFront held now)
 IsCutRun (Err bad) held now = GainsFront held now (bad_line_text bad)
+
+-- ---- over split stores
+-- the same promise of the history of such a run, which serves the script besides
+pub record KeepsSplit (script : ScriptData) (history : List Item) : Type 0 where
+  pub isolated : Isolated history
+  pub explained : Explained script.setup history
+  pub answers : Answers script history
+  pub served : Served script history
+  pub planned : Planned script history
+
+-- the text of a history was written that the logs of all actors settle into, each of which is of its actor's lines
+pub record WritesSplit (script : ScriptData) (writes : List ℕ → Type 0) : Type 0 where
+  pub whole : Whole
+  pub settles : SplitsTo script whole
+  pub keeps : KeepsSplit script whole.history
+  pub written : writes (printed whole.history)
+
+-- it was written at which tick first something else was kept of an event than comes of it
+pub record WritesTorn (script : ScriptData) (writes : List ℕ → Type 0) : Type 0 where
+  pub tick : ℕ
+  pub kept : Option Item
+  pub replayed : Option Item
+  pub tears : TearsAt script tick kept replayed
+  pub written : writes (torn_text tick kept replayed)
+
+-- a front of one of these texts, or of the line that says that ticks are spent
+abbrev pub WritesFront : ScriptData → (List ℕ → Type 0) → Type 0
+WritesFront script front = WritesSplit script front ⊎ WritesTorn script front ⊎ front spent_text
+
+abbrev pub IsCutSplit : Result ScriptData BadLine → Option (List ℕ) → Option (List ℕ) → Type 0
+IsCutSplit (Ok script) held now = WritesFront script (GainsFront held now)
+IsCutSplit (Err bad) held now = GainsFront held now (bad_line_text bad)

@@ -1,9 +1,9 @@
 -- The texts that the program writes besides histories, and the words that it knows.
-use Rattle.std.specs.Prelude.{◌≡◌, ℕ, List, [], ◌∷◌, ◌++◌, ◌⊎◌, Result, Ok, Err, codes, decimal}
+use Rattle.std.specs.Prelude.{◌≡◌, ℕ, List, [], ◌∷◌, ◌++◌, ◌⊎◌, Option, None, Some, Result, Ok, Err, codes, decimal}
 use Rattle.stamp_base.specs.Ranges.{IsStamp, IsWithin}
 use Rattle.history_book.specs.declared.item.Item.{Item}
 use Rattle.history_text.specs.Summary.{summarized}
-use Rattle.history_text.specs.Text.{printed}
+use Rattle.history_text.specs.Text.{body_of, printed}
 use Rattle.history_json.specs.Json.{json_printed}
 use Rattle.script_lines.specs.Causes.{cause_text}
 use Rattle.script_data.specs.Data.{ScriptData}
@@ -35,6 +35,9 @@ IsAnyReplayCompact words = (water : ℕ) × IsReplayCompact water words
 abbrev pub IsRun : List (List ℕ) → Type 0
 IsRun words = words ≡ codes "run" ∷ []
 
+abbrev pub IsRunSplit : List (List ℕ) → Type 0
+IsRunSplit words = words ≡ codes "run" ∷ codes "split" ∷ []
+
 abbrev pub IsAudit : List (List ℕ) → Type 0
 IsAudit words = words ≡ codes "audit" ∷ []
 
@@ -54,7 +57,7 @@ IsAnyStorm words = (transactions : ℕ) × IsStorm transactions words
 
 -- the words name a command that is built
 abbrev pub IsKnown : List (List ℕ) → Type 0
-IsKnown words = IsReplay words ⊎ IsReplaySummary words ⊎ IsReplayJson words ⊎ IsAnyReplayCompact words ⊎ IsRun words ⊎ IsAnyAudit words ⊎ IsAnyStorm words
+IsKnown words = IsReplay words ⊎ IsReplaySummary words ⊎ IsReplayJson words ⊎ IsAnyReplayCompact words ⊎ IsRun words ⊎ IsRunSplit words ⊎ IsAnyAudit words ⊎ IsAnyStorm words
 
 abbrev pub Names : Command → List (List ℕ) → Type 0
 Names command.Replay words = IsReplay words
@@ -62,17 +65,37 @@ Names command.ReplaySummary words = IsReplaySummary words
 Names command.ReplayJson words = IsReplayJson words
 Names (command.ReplayCompact water) words = IsReplayCompact water words
 Names command.Run words = IsRun words
+Names command.RunSplit words = IsRunSplit words
 Names command.Audit words = IsAudit words
 Names command.AuditStrict words = IsAuditStrict words
 Names (command.Storm transactions) words = IsStorm transactions words
 
 abbrev pub usage_text : List ℕ
-usage_text = codes "usage: omid replay [summary|json|compact N] | run | audit [strict] | storm N" ++ 10 ∷ []
+usage_text = codes "usage: omid replay [summary|json|compact N] | run [split] | audit [strict] | storm N" ++ 10 ∷ []
 
 -- the first bad line of a script and its first cause
 abbrev pub bad_line_text : BadLine → List ℕ
 bad_line_text bad = codes "script line " ++ decimal bad.line ++ codes ": " ++ cause_text bad.cause ++ 10 ∷ []
 
+-- ---- over split stores
+abbrev pub told_text : Option Item → List ℕ
+told_text None = codes "none"
+told_text (Some item) = body_of item
+
+abbrev pub told_line : List ℕ → Option Item → List ℕ
+told_line word item = word ++ told_text item ++ 10 ∷ []
+
+abbrev pub tick_line : ℕ → List ℕ
+tick_line tick = codes "torn tick=" ++ decimal tick ++ 10 ∷ []
+
+-- at this tick an entry kept something else than its event appends: the first pair of items that differ
+abbrev pub torn_text : ℕ → Option Item → Option Item → List ℕ
+torn_text tick kept replayed = tick_line tick ++ told_line (codes "kept ") kept ++ told_line (codes "replayed ") replayed
+
+abbrev pub spent_text : List ℕ
+spent_text = codes "ticks spent" ++ 10 ∷ []
+
+-- ---- histories
 -- what a replay writes for what it read, where this is the text of a history
 abbrev pub replay_text : (List Item → List ℕ) → Result ScriptData BadLine → List ℕ
 replay_text text (Ok script) = text (replayed script)

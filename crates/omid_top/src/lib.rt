@@ -5,8 +5,8 @@ ghost use Rattle.std.specs.Prelude.{◌≡◌, ◌≢◌, ℕ, ◌≤◌, ◌⊎
 ghost use Rattle.port_io.specs.Ports.{Risen};
 ghost use Rattle.history_text.specs.Summary.{summarized};
 ghost use Rattle.history_text.specs.Text.{printed};
-ghost use Rattle.omid_top.specs.Commands.{Replays, ReplaysJson, Compacts, Runs, Audits, Storms, SaysUsage};
-ghost use Rattle.omid_top.specs.Texts.{IsReplay, IsReplaySummary, IsReplayJson, IsReplayCompact, IsRun, IsAudit, IsAuditStrict, IsAnyAudit, IsStorm, IsAnyStorm, IsKnown};
+ghost use Rattle.omid_top.specs.Commands.{Replays, ReplaysJson, Compacts, Runs, RunsSplit, Audits, Storms, SaysUsage};
+ghost use Rattle.omid_top.specs.Texts.{IsReplay, IsReplaySummary, IsReplayJson, IsReplayCompact, IsRun, IsRunSplit, IsAudit, IsAuditStrict, IsAnyAudit, IsStorm, IsAnyStorm, IsKnown};
 
 pub use session_script as script;
 
@@ -21,6 +21,7 @@ mod progress;
 mod replay;
 mod report;
 mod run;
+mod split;
 mod standard;
 mod status;
 mod usage;
@@ -45,7 +46,8 @@ use words::Command;
 /// line an item; `replay json` writes each item as an object of JSON on a line of its own, and `replay summary` the
 /// summary of the history in its place. `replay compact N` compacts the stores that the script leaves to the water N,
 /// and writes what a reader at the water finds at each key, and how many rows there were and are. `run` carries the
-/// script out on threads, which pass the gate before each step of a stage, and writes the history that came of it.
+/// script out on threads, which pass the gate before each step of a stage, and writes the history that came of it;
+/// `run split` does so over split stores, where no step passes the gate.
 /// `storm N` writes the summary for a script of its own, of N transactions, and reads nothing. `audit` reads a history
 /// from the source, as text or as JSON, and writes whether it is snapshot isolated; `audit strict` asks besides that it
 /// is serial, in the order of its commits.
@@ -54,7 +56,8 @@ use words::Command;
 /// and the usage line is written; 3 where the bytes are no script (no history, for an audit), and the first bad line
 /// is written, with its cause; 4 where the source failed, 5 where the sink did, and 6 where memory was refused; 7
 /// where the history that was audited is not as asked, and the first broken rule and two items that break it are
-/// written. On 2 the source is not read, and on 3 nothing is carried out. No error of memory comes from judging, and
+/// written; 8 where over split stores something else was kept of an event than comes of it, and the first two items that
+/// differ are written, and 9 where an actor has drawn all its ticks there. On 2 the source is not read, and on 3 nothing is carried out. No error of memory comes from judging, and
 /// none once the first byte is written, but for `replay json`: its lines take memory as they are made, and on 6 whole
 /// lines of a front of the history may have gone out.
 ///
@@ -80,6 +83,8 @@ pub fn omid<R: Threads + Wait + Sync, S: Source, K: Sink, G: Gate>(
         Compacts water result.code (S.left source.old) (S.left source.new) (K.held sink.old) (K.held sink.new) }
     ensures run { IsRun (map string_bytes words.now) →
         Runs result.code (S.left source.old) (S.left source.new) (K.held sink.old) (K.held sink.new) }
+    ensures run_split { IsRunSplit (map string_bytes words.now) →
+        RunsSplit result.code (S.left source.old) (S.left source.new) (K.held sink.old) (K.held sink.new) }
     ensures audit { IsAudit (map string_bytes words.now) →
         Audits Standard.Isolated result.code (S.left source.old) (S.left source.new) (K.held sink.old) (K.held sink.new) }
     ensures audit_strict { IsAuditStrict (map string_bytes words.now) →
@@ -91,7 +96,8 @@ pub fn omid<R: Threads + Wait + Sync, S: Source, K: Sink, G: Gate>(
     // Which words each status goes with, and which leave the source untouched.
     ensures usage { result.code ≡ 2 → IsKnown (map string_bytes words.now) → ⊥ }
     ensures judged { result.code ≡ 7 → IsAnyAudit (map string_bytes words.now) }
-    ensures codes { (result.code ≤ 7) × (result.code ≢ 1) }
+    ensures stopped { 8 ≤ result.code → IsRunSplit (map string_bytes words.now) }
+    ensures codes { (result.code ≤ 9) × (result.code ≢ 1) }
     ensures unread { (IsKnown (map string_bytes words.now) → ⊥) ⊎ IsAnyStorm (map string_bytes words.now) → source.new ≡ source.old }
 
     // A fault of the source, a fault of the sink, want of memory.
@@ -111,6 +117,7 @@ pub fn omid<R: Threads + Wait + Sync, S: Source, K: Sink, G: Gate>(
             compact::compact_source(alloc, words::stamp_of(water), source, sink, gate)
         }
         Some(Command::Run) => run::run_source(rt, alloc, source, sink, gate),
+        Some(Command::RunSplit) => split::split_source(rt, alloc, source, sink),
         Some(Command::Audit) => audit::audit_source(alloc, Standard::Isolated, source, sink),
         Some(Command::AuditStrict) => audit::audit_source(alloc, Standard::Strict, source, sink),
         Some(Command::Storm(transactions)) => replay::storm(alloc, transactions, sink, gate),

@@ -1,10 +1,10 @@
 // Writing texts and histories. But for the lines of JSON it takes no memory.
-ghost use Rattle.std.specs.Prelude.{◌≡◌, ◌<◌, OnOk, OnErr, IsErrOf};
+ghost use Rattle.std.specs.Prelude.{◌≡◌, ◌<◌, ◌≤◌, OnOk, OnErr, IsErrOf, length};
 ghost use Rattle.port_io.specs.Ports.{Risen, Gains};
 ghost use Rattle.history_text.specs.Text.{printed};
 ghost use Rattle.history_text.specs.Summary.{summarized};
 ghost use Rattle.history_json.specs.Json.{json_printed};
-ghost use Rattle.omid_top.specs.Texts.{usage_text, bad_line_text, text_in};
+ghost use Rattle.omid_top.specs.Texts.{usage_text, bad_line_text, text_in, spent_text, tick_line, told_line, told_text, torn_text};
 ghost use Rattle.omid_top.specs.Promise.{GainsFront, GainsLines};
 ghost use Rattle.omid_top.specs.Audit.{report_text};
 
@@ -14,7 +14,7 @@ use crate::report::Report;
 use crate::script::ScriptCause;
 use history_book::Item;
 use history_json::printed_line;
-use history_text::{LineBuf, Summary, print_item};
+use history_text::{LineBuf, Summary, print_body, print_item};
 use port_io::{Failed, Sink, write_all_of};
 use stamp_base::NoMemory;
 use std::alloc::Global;
@@ -122,7 +122,7 @@ pub fn print_usage<K: Sink>(sink: &mut K) -> Result<(), Failed>
 {
     print_text(
         sink,
-        b"usage: omid replay [summary|json|compact N] | run | audit [strict] | storm N\n",
+        b"usage: omid replay [summary|json|compact N] | run [split] | audit [strict] | storm N\n",
     )
 }
 
@@ -148,6 +148,67 @@ pub fn print_report<K: Sink>(sink: &mut K, report: &Report) -> Result<(), Failed
     let mut line = LineBuf::new();
     report.print(&mut line);
     print_text(sink, line.as_slice())
+}
+
+/// Writes at which tick something else was kept of an event than comes of it, and the first pair of items that differ.
+pub fn print_torn<K: Sink>(
+    sink: &mut K,
+    tick: u64,
+    kept: &Option<Item>,
+    replayed: &Option<Item>,
+) -> Result<(), Failed>
+    ensures all { OnOk result (Gains (K.held sink.old) (K.held sink.new) (torn_text tick kept.now replayed.now)) }
+    ensures front { OnErr result (GainsFront (K.held sink.old) (K.held sink.new) (torn_text tick kept.now replayed.now)) }
+    ensures failed { OnErr result (Risen (K.faults sink.old) (K.faults sink.new)) }
+    ensures worked { OnOk result (K.faults sink.new ≡ K.faults sink.old) }
+{
+    let mut line = LineBuf::new();
+    set_tick(&mut line, tick);
+    print_text(sink, line.as_slice())?;
+    set_told(&mut line, b"kept ", kept);
+    print_text(sink, line.as_slice())?;
+    set_told(&mut line, b"replayed ", replayed);
+    print_text(sink, line.as_slice())
+}
+
+/// Writes that an actor has drawn all its ticks.
+pub fn print_spent<K: Sink>(sink: &mut K) -> Result<(), Failed>
+    ensures all { OnOk result (Gains (K.held sink.old) (K.held sink.new) spent_text) }
+    ensures front { OnErr result (GainsFront (K.held sink.old) (K.held sink.new) spent_text) }
+    ensures failed { OnErr result (Risen (K.faults sink.old) (K.faults sink.new)) }
+    ensures worked { OnOk result (K.faults sink.new ≡ K.faults sink.old) }
+{
+    print_text(sink, b"ticks spent\n")
+}
+
+fn set_tick(line: &mut LineBuf, tick: u64)
+    ensures { line.new ≡ tick_line tick }
+{
+    line.set_text(b"torn tick=");
+    line.push_number(tick);
+    line.push_text(b"\n");
+}
+
+/// Leaves a line in the buffer with the word and the item, if there is one.
+fn set_told(line: &mut LineBuf, word: &[u8], item: &Option<Item>)
+    requires { length word.now ≤ 16 }
+    ensures { line.new ≡ told_line word.now item.now }
+{
+    let mut body = LineBuf::new();
+    set_body(&mut body, item);
+    line.set_text(word);
+    line.push_text(body.as_slice());
+    line.push_text(b"\n");
+}
+
+fn set_body(body: &mut LineBuf, item: &Option<Item>)
+    ensures text { body.new ≡ told_text item.now }
+    ensures len { length body.new ≤ 200 }
+{
+    match item {
+        Some(item) => print_body(item, body),
+        None => body.set_text(b"none"),
+    }
 }
 
 /// Leaves the text in the buffer that names a script's first bad line.

@@ -23,7 +23,7 @@ pub fn program<R: Env + Alloc<A = Global> + Threads + Wait + Sync>(
     output: Stdout,
     errors: Stderr,
 ) -> Status
-    ensures { (result.code ≤ 7) × (result.code ≢ 1) }
+    ensures { (result.code ≤ 9) × (result.code ≢ 1) }
 {
     match words_behind(rt, rt.alloc()) {
         Ok(words) => carried_out(
@@ -77,7 +77,7 @@ fn carried_out<R: Alloc<A = Global> + Threads + Wait + Sync>(
     ensures usage { result.code ≡ 2 → IsKnown (map string_bytes words.now) → ⊥ }
     ensures no_command { (IsKnown (map string_bytes words.now) → ⊥) → (result.code ≡ 2) ⊎ (result.code ≡ 5) }
     ensures judged { result.code ≡ 7 → IsAnyAudit (map string_bytes words.now) }
-    ensures codes { (result.code ≤ 7) × (result.code ≢ 1) }
+    ensures codes { (result.code ≤ 9) × (result.code ≢ 1) }
 {
     let status = omid(rt, rt.alloc(), words, &mut source, &mut sink, gate);
     last_status(status, sink.finish())

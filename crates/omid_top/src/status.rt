@@ -19,4 +19,8 @@ impl Status {
     pub const NO_MEMORY: Status = Status { code: 6 };
     /// The history that was audited is not isolated, or not serial where that was asked.
     pub const NOT_ISOLATED: Status = Status { code: 7 };
+    /// Over split stores something else was kept of an event than comes of it.
+    pub const TORN: Status = Status { code: 8 };
+    /// Over split stores an actor has drawn all its ticks.
+    pub const SPENT: Status = Status { code: 9 };
 }

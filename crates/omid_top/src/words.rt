@@ -20,6 +20,8 @@ pub enum Command {
     ReplayCompact(u64),
     /// Carry out a script on threads, and write its history.
     Run,
+    /// Carry out a script on threads over split stores, and write its history.
+    RunSplit,
     /// Judge whether a history is snapshot isolated.
     Audit,
     /// Judge whether a history is snapshot isolated, and serial besides.
@@ -36,6 +38,9 @@ pub fn command_of(words: &[String]) -> Option<Command>
         [word] if is_word(word.as_str(), "replay") => Some(Command::Replay),
         [word] if is_word(word.as_str(), "run") => Some(Command::Run),
         [word] if is_word(word.as_str(), "audit") => Some(Command::Audit),
+        [word, form] if is_word(word.as_str(), "run") && is_word(form.as_str(), "split") => {
+            Some(Command::RunSplit)
+        }
         [word, form] if is_word(word.as_str(), "audit") && is_word(form.as_str(), "strict") => {
             Some(Command::AuditStrict)
         }

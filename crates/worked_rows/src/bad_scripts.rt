@@ -4,7 +4,7 @@ use std::test::Fail;
 use worked_commits::commits::PLAIN_PATH;
 
 pub const USAGE: &str =
-    "usage: omid replay [summary|json|compact N] | run | audit [strict] | storm N\n";
+    "usage: omid replay [summary|json|compact N] | run [split] | audit [strict] | storm N\n";
 
 /// Words that are no command.
 static NO_COMMANDS: [&[&str]; 35] = [
