@@ -19,10 +19,14 @@ use session_script::Script;
 use stamp_base::{NoMemory, NodeNo, SessionNo, Stage, Term};
 use std::alloc::Global;
 use std::sync::ledger::{Blank, Ledger};
-use std::sync::{Mutex, Wait};
+use std::sync::{Mutex, MutexGuard, Wait};
+use std::thread::yield_now;
 use thread_scripts::{actors_with_lines, copied};
 use thread_steps::{ActorStep, ActorSteps, Steps};
 use turn_engine::{Advance, StageStep, Turn};
+
+/// How often a thread tries for the lock before it sleeps.
+const TRIES: u64 = 100;
 
 /// A play behind a lock, and its script once more.
 #[derive(Drop)]
@@ -65,11 +69,23 @@ impl<L: Ledger> Board<L> {
         &self.script
     }
 
+    // The play, once nobody else has it. An event takes about a microsecond, and to sleep and be woken several; so who finds the lock
+    // taken gives way and tries again some times before it sleeps.
+    fn taken<R: Wait>(&self, rt: &R) -> MutexGuard<'_, Play<L>> {
+        for _try in 0..TRIES {
+            if let Some(play) = self.play.try_lock() {
+                return play;
+            }
+            yield_now();
+        }
+        self.play.lock(rt)
+    }
+
     /// Makes the next event of the present line of the share's actor, as `Play::advance` does.
     pub fn advance<R: Wait>(&self, rt: &R, mine: &mut ActorShare<L>) -> Advance
         ensures { GoesOn mine.old mine.new }
     {
-        self.play.lock(rt).advance(mine)
+        self.taken(rt).advance(mine)
     }
 
     /// The cluster and the turns that led there, as `Play::finish` gives them. At Err all is handed back.
@@ -123,21 +139,21 @@ impl<L: Ledger> Steps for Board<L> {
     ) -> StageStep
         ensures memory { LacksAtRequest stage result }
     {
-        self.play.lock(rt).stage_step(node, term, stage, session)
+        self.taken(rt).stage_step(node, term, stage, session)
     }
 
     /// The term of the node's oracle, if it has one, as `Play::term_of` tells it.
     fn term_of<R: Wait>(&self, rt: &R, node: NodeNo) -> Option<Term> {
-        self.play.lock(rt).term_of(node)
+        self.taken(rt).term_of(node)
     }
 
     /// Whether the node's stage is held, as `Play::is_held` tells it.
     fn is_held<R: Wait>(&self, rt: &R, node: NodeNo, stage: Stage) -> bool {
-        self.play.lock(rt).is_held(node, stage)
+        self.taken(rt).is_held(node, stage)
     }
 
     /// How many turns were made so far, as `Play::turns_made` tells it.
     fn turns_made<R: Wait>(&self, rt: &R) -> usize {
-        self.play.lock(rt).turns_made()
+        self.taken(rt).turns_made()
     }
 }

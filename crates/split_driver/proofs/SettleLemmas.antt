@@ -24,7 +24,8 @@ use Rattle.split_stores.specs.Merged.{SettleStops, entries_played, played_with, 
 use Rattle.split_stores.specs.Merging.{logs_of}
 use Rattle.split_stores.specs.Orders.{without_lines}
 use Rattle.seat_lines.specs.Follows.{AllFollow}
-use Rattle.seat_lines.specs.Laws.{IsCarried, AllRise, SettledLogsAnswer, SettledLogsArePlanned}
+use Rattle.seat_lines.specs.Served.{Served}
+use Rattle.seat_lines.specs.Laws.{IsCarried, AllRise, SettledLogsAnswer, SettledLogsServe, SettledLogsArePlanned}
 use Rattle.split_driver.specs.declared.stop.SplitStop.{SplitStop}
 use Rattle.split_driver.specs.declared.stop.SplitStop.TheVariants as stop
 use Rattle.split_driver.specs.Actors.{IsOfAll, SettlesBy, TearsBy}
@@ -90,6 +91,10 @@ module _ (script : ScriptData) (sound : IsSound script) (few : length script.lin
   pub split_answers : (r : Result Whole SplitStop) → Splits script r → SettledLogsAnswer → IfOk r (λ (whole : Whole). Answers script whole.history)
   split_answers (Ok whole) s law = law script s.logs whole (is_carried script sound few may there) s.follow s.rise s.settled
   split_answers (Err why) s law = tt
+
+  pub split_serves : (r : Result Whole SplitStop) → Splits script r → SettledLogsServe → IfOk r (λ (whole : Whole). Served script whole.history)
+  split_serves (Ok whole) s law = law script s.logs whole (is_carried script sound few may there) s.follow s.rise s.settled
+  split_serves (Err why) s law = tt
 
   pub split_is_planned : (r : Result Whole SplitStop) → Splits script r → SettledLogsArePlanned → IfOk r (λ (whole : Whole). Planned script whole.history)
   split_is_planned (Ok whole) s law = law script s.logs whole (is_carried script sound few may there) s.follow s.rise s.settled

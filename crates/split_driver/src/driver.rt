@@ -7,6 +7,7 @@ ghost use Rattle.line_steps.specs.Answers.{Answers};
 ghost use Rattle.line_steps.specs.Planned.{Planned};
 ghost use Rattle.planned_cluster.specs.Fitting.{SessionIsThere};
 ghost use Rattle.thread_scripts.specs.Actors.{actors_of};
+ghost use Rattle.seat_lines.specs.Served.{Served};
 ghost use Rattle.split_driver.specs.Splits.{MaySplit, Splits, SplitStops, SplitsTo};
 
 use crate::SplitStop;
@@ -15,7 +16,7 @@ use crate::playing::{jobs_of, play_all};
 use cluster_core::Cluster;
 use planned_cluster::see_session;
 use script_data::Line;
-use seat_lines::{settled_logs_answer, settled_logs_are_planned};
+use seat_lines::{settled_logs_answer, settled_logs_are_planned, settled_logs_serve};
 use session_script::Script;
 use split_stores::{PartGate, Split};
 use std::alloc::Global;
@@ -24,8 +25,8 @@ use std::thread::Threads;
 use thread_scripts::actors_with_lines;
 
 /// Carries a script out over split stores, where each event passes the gate under the locks of its parts: the cluster that the logs
-/// settle into. Its history answers the script, and is as the script plans. That it ends is not promised: an actor may wait for
-/// what never comes.
+/// settle into. Its history answers the script, serves it, and is as the script plans. That it ends is not promised: an actor may
+/// wait for what never comes.
 pub fn run_split<R: Threads + Wait + Sync, G: PartGate>(
     rt: &R,
     alloc: Global,
@@ -36,6 +37,7 @@ pub fn run_split<R: Threads + Wait + Sync, G: PartGate>(
     requires may_split { MaySplit (data_of script.now) }
     ensures split { IfOk result (SplitsTo (data_of script.now)) }
     ensures answers { IfOk result (λ cluster. Answers (data_of script.now) cluster.history) }
+    ensures served { IfOk result (λ cluster. Served (data_of script.now) cluster.history) }
     ensures planned { IfOk result (λ cluster. Planned (data_of script.now) cluster.history) }
     ensures setup { IfOk result (λ cluster. cluster.state.setup ≡ numbers_of script.now.setup) }
     ensures stopped { IfErr result (SplitStops (data_of script.now)) }
@@ -44,19 +46,21 @@ pub fn run_split<R: Threads + Wait + Sync, G: PartGate>(
     answering(script, split)
 }
 
-// What the logs settle into answers the script, and is as it plans.
+// What the logs settle into answers the script, serves it, and is as it plans.
 fn answering(script: &Script, split: Result<Cluster, SplitStop>) -> Result<Cluster, SplitStop>
     requires few { vec_len script.now.lines ≤ LINE_LIMIT }
     requires may_split { MaySplit (data_of script.now) }
     requires split { Splits (data_of script.now) split }
     ensures split { IfOk result (SplitsTo (data_of script.now)) }
     ensures answers { IfOk result (λ cluster. Answers (data_of script.now) cluster.history) }
+    ensures served { IfOk result (λ cluster. Served (data_of script.now) cluster.history) }
     ensures planned { IfOk result (λ cluster. Planned (data_of script.now) cluster.history) }
     ensures setup { IfOk result (λ cluster. cluster.state.setup ≡ numbers_of script.now.setup) }
     ensures stopped { IfErr result (SplitStops (data_of script.now)) }
 {
     see_sessions(&script.lines);
     settled_logs_answer();
+    settled_logs_serve();
     settled_logs_are_planned();
     split
 }

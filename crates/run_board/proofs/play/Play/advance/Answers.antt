@@ -1,4 +1,4 @@
-use Rattle.std.proofs.Common.{◌≡◌, ℕ, List, sym, ap, ◌∙◌, subst}
+use Rattle.std.proofs.Common.{ℕ, List, sym, ap, ◌∙◌, subst}
 use Rattle.history_book.specs.declared.item.Actor.{Actor}
 use Rattle.line_shares.specs.declared.cursor.Cursor.{Cursor}
 use Rattle.thread_scripts.proofs.Behind.{can_come_up}
