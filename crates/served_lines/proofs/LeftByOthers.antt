@@ -1,26 +1,19 @@
--- What each kind of event leaves of the clients, and that none but its own steps moves one whose completion is under way.
+-- None but its own steps moves a client whose completion is under way, unless it vanishes.
 use Rattle.std.proofs.Common.{◌≡◌, ℕ, List, Option, None, Some, inl, inr, refl, sym, ◌∙◌, ap, subst}
 use Rattle.std.specs.Prelude.{slice_get, slice_set}
 use Rattle.port_io.specs.declared.weather.Fate.{Fate}
 use Rattle.store_parts.specs.Rows.{Row}
-use Rattle.store_parts.specs.Pairs.{Pairs}
-use Rattle.store_parts.specs.Record.{MasterRecord}
-use Rattle.client_parts.specs.Sweep.{Sweeping}
 use Rattle.oracle_parts.specs.Instance.{InstanceEntry}
 use Rattle.machine.specs.declared.event.Event.{Event}
 use Rattle.machine.specs.declared.event.Event.TheVariants as event
 use Rattle.machine.specs.State.{Client, State}
 use Rattle.machine.specs.Effect.{Effect}
-use Rattle.machine.specs.Machine.{stepped, step_by, with_post, with_client, with_reading, at_post, at_client, at_both, on_record, on_table, on_sweep}
-use Rattle.machine.specs.Events.Take.{take_on}
-use Rattle.machine.specs.Events.Renew.{renew_on}
-use Rattle.machine.specs.Events.Extend.{extend_on}
+use Rattle.machine.specs.Machine.{stepped, step_by, with_post, with_client, with_reading, at_post, at_client, at_both}
 use Rattle.machine.specs.Events.Crash.{crash_on}
 use Rattle.machine.specs.Events.AskBegin.{ask_begin_on}
 use Rattle.machine.specs.Events.AskCommit.{ask_commit_on}
 use Rattle.machine.specs.Events.Accept.{accept_on}
 use Rattle.machine.specs.Events.Decide.{decide_on}
-use Rattle.machine.specs.Events.Put.{put_on}
 use Rattle.machine.specs.Events.Answer.{answer_on}
 use Rattle.machine.specs.Events.Write.{write_on}
 use Rattle.machine.specs.Events.Fetch.{fetch_on}
@@ -28,34 +21,12 @@ use Rattle.machine.specs.Events.Step.{StepParts, step_on}
 use Rattle.machine.specs.Events.Heal.{heal_on}
 use Rattle.machine.specs.Events.Abort.{abort_on}
 use Rattle.machine.specs.Events.Vanish.{vanish_on}
-use Rattle.machine.specs.Events.SweepOpen.{sweep_open_on}
+use Rattle.machine.proofs.PartsKept.{leaves_parts}
 use Rattle.isolation_laws.specs.Words.{ClientAt}
 use Rattle.isolation_laws.proofs.Lookups.{client_set, one_client}
 use Rattle.isolation_laws.proofs.Requests.OpenAfter.{crashed_at}
 use Rattle.served_lines.specs.Completions.{OthersLeaveCompletions}
 use Rattle.served_lines.proofs.LeftAlone.{Completing, completing_of, same_there, write_keeps, fetch_keeps, heal_keeps, abort_keeps, begin_keeps, commit_keeps, accept_keeps, decide_keeps, answer_keeps}
-
--- ---- events that leave all clients
-record_by : (w : State) (n : ℕ) (f : Option InstanceEntry → Effect (Option InstanceEntry × MasterRecord)) (posts : Option (Option InstanceEntry)) → (at_post w posts (λ post. step_by (f post) (λ p. record (with_post w n p.0) { master = p.1 }))).state.clients ≡ w.clients
-record_by w n f None = refl
-record_by w n f (Some post) = refl
-
-record_same : (w : State) (n : ℕ) (f : Option InstanceEntry → Effect (Option InstanceEntry × MasterRecord)) → (on_record w n f).state.clients ≡ w.clients
-record_same w n f = record_by w n f (slice_get w.nodes n)
-
-table_by : (w : State) (n : ℕ) (f : Option InstanceEntry → Effect (Option InstanceEntry × Pairs)) (posts : Option (Option InstanceEntry)) → (at_post w posts (λ post. step_by (f post) (λ p. record (with_post w n p.0) { pairs = p.1 }))).state.clients ≡ w.clients
-table_by w n f None = refl
-table_by w n f (Some post) = refl
-
-table_same : (w : State) (n : ℕ) (f : Option InstanceEntry → Effect (Option InstanceEntry × Pairs)) → (on_table w n f).state.clients ≡ w.clients
-table_same w n f = table_by w n f (slice_get w.nodes n)
-
-sweep_by : (w : State) (f : Option InstanceEntry → Effect (Option Sweeping)) (posts : Option (Option InstanceEntry)) → (at_post w posts (λ post. step_by (f post) (λ p. record w { sweep = p }))).state.clients ≡ w.clients
-sweep_by w f None = refl
-sweep_by w f (Some post) = refl
-
-sweep_same : (w : State) (n : ℕ) (f : Option InstanceEntry → Effect (Option Sweeping)) → (on_sweep w n f).state.clients ≡ w.clients
-sweep_same w n f = sweep_by w f (slice_get w.nodes n)
 
 -- ---- events that set one client, where it is there
 abbrev set_by : List Client → ℕ → Option Client → (Client → Client) → List Client
@@ -116,11 +87,6 @@ all_stay : (w : State) (now : List Client) (s : ℕ) (c d : Client) → Completi
 all_stay w now s c d k is there = same_there w.nodes w.clients s c d k (subst (λ (cs : List Client). ClientAt cs s d) is there)
 
 leave : (w : State) (e : Event) (fate : Fate) (s : ℕ) (c d : Client) → Completing w.nodes w.clients s c → (e ≡ event.Step s → ⊥) → (e ≡ event.Vanish s → ⊥) → ClientAt (stepped w e fate).state.clients s d → d ≡ c
-leave w (event.Tick to) fate s c d k no_step stays there = same_there w.nodes w.clients s c d k there
-leave w (event.Note actor note) fate s c d k no_step stays there = same_there w.nodes w.clients s c d k there
-leave w (event.Take n reading) fate s c d k no_step stays there = all_stay w _ s c d k (record_same (with_reading w reading) n (λ post. take_on w.setup n reading fate post w.master)) there
-leave w (event.Renew n reading) fate s c d k no_step stays there = all_stay w _ s c d k (record_same (with_reading w reading) n (λ post. renew_on w.setup n reading fate post w.master)) there
-leave w (event.Extend n) fate s c d k no_step stays there = all_stay w _ s c d k (record_same w n (λ post. extend_on w.setup n fate post w.master)) there
 leave w (event.Crash n) fate s c d k no_step stays there = crash_by w s n c d (slice_get w.nodes n) k refl there
 leave w (event.AskBegin r n) fate s c d k no_step stays there = ask_by w s r n c d (ask_begin_on r n) (slice_get w.nodes n) (slice_get w.clients r) k refl (λ post same. begin_keeps r n c post k.undo k.completes) there
 leave w (event.AskCommit r n) fate s c d k no_step stays there = ask_by w s r n c d (ask_commit_on r n) (slice_get w.nodes n) (slice_get w.clients r) k refl (λ post same. commit_keeps r n c post k.undo k.completes) there
@@ -128,7 +94,6 @@ leave w (event.Accept n r reading) fate s c d k no_step stays there =
     request_by (with_reading w reading) s r n c d (accept_on n r reading) (slice_get w.nodes n) (slice_get w.clients r) k refl refl (λ post here same. accept_keeps w.nodes w.clients s r n reading c post k here same) there
 leave w (event.Decide n r) fate s c d k no_step stays there =
     request_by w s r n c d (decide_on n r) (slice_get w.nodes n) (slice_get w.clients r) k refl refl (λ post here same. decide_keeps w.nodes w.clients s r n c post k here same) there
-leave w (event.Put n r) fate s c d k no_step stays there = all_stay w _ s c d k (table_same w n (λ post. put_on n r fate post w.pairs)) there
 leave w (event.Answer n r) fate s c d k no_step stays there =
     request_by w s r n c d (answer_on n r) (slice_get w.nodes n) (slice_get w.clients r) k refl refl (λ post here same. answer_keeps w.nodes w.clients s r n c post k here same) there
 leave w (event.Write r key value) fate s c d k no_step stays there =
@@ -143,8 +108,7 @@ leave w (event.Abort r) fate s c d k no_step stays there =
     one_call w.nodes w.clients _ s r c d (λ x. (abort_on r x).parts) k (client_by w r (abort_on r) (slice_get w.clients r)) (λ same. abort_keeps r c k.undo k.completes) there
 leave w (event.Vanish r) fate s c d k no_step stays there =
     one_call w.nodes w.clients _ s r c d (λ x. (vanish_on r x).parts) k (client_by w r (vanish_on r) (slice_get w.clients r)) (λ same. absurd (stays (ap (λ (q : ℕ). event.Vanish q) (sym same)))) there
-leave w (event.SweepOpen n txn) fate s c d k no_step stays there = all_stay w _ s c d k (sweep_same w n (λ post. sweep_open_on n txn post w.sweep)) there
-leave w event.SweepStep fate s c d k no_step stays there = same_there w.nodes w.clients s c d k there
+leave w e fate s c d k no_step stays there = all_stay w _ s c d k ((leaves_parts w e fate).clients refl) there
 
 pub others_leave_completions : OthersLeaveCompletions
 others_leave_completions w h e fate s c d undo stands at completes no_step stays there = leave w e fate s c d (completing_of w h s c undo stands at completes) no_step stays there

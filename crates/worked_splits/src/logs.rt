@@ -1,0 +1,148 @@
+// Logs of which something is missing.
+ghost use Rattle.std.specs.Prelude.{◌≡◌, ◌≤◌, false, All, IfOk, IsTrue};
+
+use cluster_core::Cluster;
+use history_book::Item;
+use session_script::{Mode, Script, read_script};
+use split_stores::{ActorSeat, Event, OpenPartGate, SettleStop, Split};
+use stamp_base::{NoMemory, NodeNo, Setup};
+use std::alloc::Global;
+use std::sync::Wait;
+use std::test::Fail;
+
+/// Whether the setup turns on nothing that split stores have not.
+fn is_plain(setup: &Setup) -> bool
+    ensures { IsTrue result → (setup.now.cache ≡ 0) × (setup.now.direct ≡ false) × (setup.now.strict ≡ false) }
+{
+    setup.cache == 0 && !setup.direct && !setup.strict
+}
+
+/// The parts at their beginning, and a seat of theirs for each actor.
+fn open(alloc: Global, script: &Script, actors: usize) -> Result<(Split, Vec<ActorSeat>), NoMemory>
+    requires actors { (1 ≤ actors) × (actors ≤ 26) }
+    requires cache { script.now.setup.cache ≡ 0 }
+    requires direct { script.now.setup.direct ≡ false }
+    requires strict { script.now.setup.strict ≡ false }
+    ensures { IfOk result (λ made. All (λ s. s.word ≡ made.0.id) made.1.items) }
+{
+    Split::open(alloc, script, actors)
+}
+
+/// A script in which a node takes over.
+fn take_script(alloc: Global) -> Option<Script> {
+    read_script(alloc, "a take\n".as_bytes(), Mode::Split).ok()
+}
+
+/// The node takes over, and what its log kept of that is taken away.
+fn take_and_strike<R: Wait>(rt: &R, alloc: Global, split: &Split, seat: &mut ActorSeat)
+    requires { seat.old.word ≡ split.now.id }
+    ensures { seat.new.word ≡ split.now.id }
+{
+    let take = Event::Take {
+        node: NodeNo::FIRST,
+    };
+    split.make(rt, alloc, seat, take, &OpenPartGate);
+    seat.strike(0);
+}
+
+fn is_take(item: &Option<Item>) -> bool {
+    matches!(item, Some(Item::Take { .. }))
+}
+
+fn stops_at_the_take(stop: &SettleStop) -> bool {
+    match stop {
+        SettleStop::Torn {
+            tick,
+            kept,
+            replayed,
+        } => *tick == 1 && kept.is_none() && is_take(replayed),
+        _ => false,
+    }
+}
+
+fn is_torn_at_the_take(settled: &Result<Cluster, SettleStop>) -> bool {
+    match settled {
+        Err(stop) => stops_at_the_take(stop),
+        Ok(_) => false,
+    }
+}
+
+fn is_missing_one(settled: &Result<Cluster, SettleStop>) -> bool {
+    matches!(settled, Err(SettleStop::Missing { made: 2, given: 1 }))
+}
+
+/// Whether logs are torn where one was struck.
+fn tears<R: Wait>(rt: &R, alloc: Global, script: &Script) -> Result<bool, NoMemory> {
+    if !is_plain(&script.setup) {
+        return Ok(false);
+    }
+    let (split, seats) = open(alloc, script, 1)?;
+    let struck = one_struck(rt, alloc, &split, seats)?;
+    let settled = split.settle(alloc, struck);
+    Ok(is_torn_at_the_take(&settled))
+}
+
+/// The seats with the last of them struck.
+fn one_struck<R: Wait>(
+    rt: &R,
+    alloc: Global,
+    split: &Split,
+    seats: Vec<ActorSeat>,
+) -> Result<Vec<ActorSeat>, NoMemory>
+    requires { All (λ s. s.word ≡ split.now.id) seats.items }
+    ensures { IfOk result (λ struck. All (λ s. s.word ≡ split.now.id) struck.items) }
+{
+    let mut seats = seats;
+    if let Some(mut seat) = seats.pop() {
+        take_and_strike(rt, alloc, split, &mut seat);
+        seats.push(seat)?;
+    }
+    Ok(seats)
+}
+
+/// The seats but for the last of them.
+fn without_last(split: &Split, seats: Vec<ActorSeat>) -> Vec<ActorSeat>
+    requires { All (λ s. s.word ≡ split.now.id) seats.items }
+    ensures { All (λ s. s.word ≡ split.now.id) result.items }
+{
+    let mut seats = seats;
+    let _kept_back = seats.pop();
+    seats
+}
+
+/// Whether logs are not settled where one is kept back.
+fn misses(alloc: Global, script: &Script) -> Result<bool, NoMemory> {
+    if !is_plain(&script.setup) {
+        return Ok(false);
+    }
+    let (split, seats) = open(alloc, script, 2)?;
+    let others = without_last(&split, seats);
+    let settled = split.settle(alloc, others);
+    Ok(is_missing_one(&settled))
+}
+
+fn tears_in<R: Wait>(rt: &R, alloc: Global) -> Result<bool, NoMemory> {
+    match take_script(alloc) {
+        Some(script) => tears(rt, alloc, &script),
+        None => Ok(false),
+    }
+}
+
+fn misses_in(alloc: Global) -> Result<bool, NoMemory> {
+    match take_script(alloc) {
+        Some(script) => misses(alloc, &script),
+        None => Ok(false),
+    }
+}
+
+#[test]
+fn a_struck_log_is_torn(rt: HostRuntime) -> Result<(), Fail> {
+    assert!(rt; tears_in(&rt, rt.alloc())?);
+    Ok(())
+}
+
+#[test]
+fn a_log_that_is_kept_back_is_missing(rt: HostRuntime) -> Result<(), Fail> {
+    assert!(rt; misses_in(rt.alloc())?);
+    Ok(())
+}
