@@ -2,6 +2,10 @@
 #![tactic(auto)]
 
 #[cfg(test)]
+mod calls;
+#[cfg(test)]
 mod logs;
 #[cfg(test)]
 mod meeting;
+#[cfg(test)]
+mod scripts;
