@@ -28,6 +28,8 @@ mod rows;
 #[cfg(test)]
 mod storms;
 #[cfg(test)]
+mod stuck;
+#[cfg(test)]
 mod threads;
 #[cfg(test)]
 mod words;

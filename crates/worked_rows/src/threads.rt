@@ -3,6 +3,7 @@
 use crate::calls::{answer_of, is_isolated, joined, tells};
 use crate::crowd::CROWD;
 use crate::faults::{keeps_lines, open_sink, open_source, reads_nothing};
+use crate::stuck::{DRAWN_IN_A_CROWD, LEFT_BY_A_CRASH, SUBMITTED, stuck};
 use omid_top::{Gate, GatePlace, omid};
 use stamp_base::{NodeNo, Stage};
 use std::alloc::{AllocError, Global};
@@ -24,7 +25,7 @@ fn scripts_with_one_order_are_run_in_it(rt: HostRuntime) -> Result<(), Fail> {
 }
 
 /// Scripts that threads carry out in many orders.
-static FREE: [&str; 10] = [
+static FREE: [&str; 12] = [
     PLAIN_PATH,
     "\
 a take
@@ -138,36 +139,9 @@ s1 begin a
 a await done
 a free request
 ",
-    // A held persist stage keeps nothing of an instance that is gone: the next one's begin is served before the stage is freed.
-    "\
-a take
-a post t
-s0 await t
-s0 begin a
-s0 write k0 v
-s0 post w
-a await w
-a hold persist
-a post h
-s0 await h
-s0 submit a
-s0 post sub
-a await sub
-a crash
-clock await sub
-clock tick 20
-clock post ticked
-a await ticked
-a take
-a post again
-s1 await again
-s1 begin a
-s1 post began
-a await began
-a free persist
-s0 finish
-s1 commit a
-",
+    LEFT_BY_A_CRASH,
+    SUBMITTED,
+    DRAWN_IN_A_CROWD,
     CROWD,
     "\
 nodes 3
@@ -223,6 +197,17 @@ fn whatever_threads_make_of_direct_commits_is_isolated(rt: HostRuntime) -> Resul
             is_run(&rt, rt.alloc(), "commits direct\n", script)?,
             "{script}"
         );
+    }
+    Ok(())
+}
+
+/// What once waited for ever ends now, however often it is run.
+#[test]
+fn what_once_stuck_ends_a_hundred_times(rt: HostRuntime) -> Result<(), Fail> {
+    for script in stuck() {
+        for _again in 0..100 {
+            assert!(rt; is_run(&rt, rt.alloc(), "", script)?, "{script}");
+        }
     }
     Ok(())
 }
