@@ -20,7 +20,7 @@ use crate::script::{Mode, Script, ScriptCause, ScriptFault, read_script};
 use crate::{Status, print};
 use cluster_core::Cluster;
 use port_io::{Failed, ReadStop, Sink, Source, read_up_to};
-use split_driver::{SplitStop, run_split, split_scripts_may_split};
+use run_driver::{SplitStop, run_split, split_scripts_may_split};
 use split_stores::OpenPartGate;
 use stamp_base::BYTE_LIMIT;
 use std::alloc::Global;
