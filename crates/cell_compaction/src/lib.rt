@@ -13,6 +13,3 @@ pub use laws::{
     snapshots_are_visible,
 };
 pub use worked::{commits_have_their_rows, readers_find_the_latest_row, rows_below_the_water_go};
-
-#[cfg(test)]
-mod tests;

@@ -290,6 +290,3 @@ fn answered_under<T: Drop>(fate: Fate, answer: T) -> Result<T, StoreFault>
         Err(StoreFault)
     }
 }
-
-#[cfg(test)]
-mod tests;

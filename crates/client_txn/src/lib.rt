@@ -6,6 +6,3 @@ mod session;
 
 pub use client_parts::{Known, State};
 pub use session::{Session, check_key};
-
-#[cfg(test)]
-mod tests;

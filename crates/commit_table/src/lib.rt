@@ -217,6 +217,3 @@ fn answer(found: Option<Mark>) -> Put
         None => Put::Placed,
     }
 }
-
-#[cfg(test)]
-mod tests;

@@ -8,6 +8,3 @@ mod item;
 pub use book::Book;
 pub use cause::Cause;
 pub use item::{Actor, Ending, Found, Item, Note, Seen, StoreStep};
-
-#[cfg(test)]
-mod tests;

@@ -9,6 +9,3 @@ mod line;
 pub use history::{Format, format_of, read_history};
 pub use laws::one_history;
 pub use line::{from_line, printed_line, to_line};
-
-#[cfg(test)]
-mod tests;

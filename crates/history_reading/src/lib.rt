@@ -8,6 +8,3 @@ mod reading;
 pub use history::{HistoryFault, cut_line};
 pub use laws::texts_differ;
 pub use reading::read_item;
-
-#[cfg(test)]
-mod tests;

@@ -8,6 +8,3 @@ mod sweep;
 pub use client_parts::Outcome;
 pub use settle::Settle;
 pub use sweep::Sweep;
-
-#[cfg(test)]
-mod tests;

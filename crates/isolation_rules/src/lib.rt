@@ -5,8 +5,6 @@ mod apart;
 mod fresh;
 mod read;
 mod stamped;
-#[cfg(test)]
-mod tests;
 mod verdict;
 mod version;
 mod views;

@@ -9,6 +9,3 @@ mod share;
 pub use cursor::Cursor;
 pub use cursors::Cursors;
 pub use share::ActorShare;
-
-#[cfg(test)]
-mod tests;

@@ -15,6 +15,3 @@ pub use pass::BeaconPass;
 pub use publisher::Publisher;
 pub use rule::{Announced, BeaconView};
 pub use worked::looks_go_on;
-
-#[cfg(test)]
-mod tests;

@@ -260,6 +260,3 @@ fn told_under<T: Drop, E: Drop>(fate: Fate, told: Result<T, E>, fault: E) -> Res
 {
     if fate.works() { told } else { Err(fault) }
 }
-
-#[cfg(test)]
-mod tests;

@@ -6,6 +6,3 @@ mod requests;
 
 pub use instance::Instance;
 pub use oracle_parts::{Decided, Held, Place, Reply, Request, Settled};
-
-#[cfg(test)]
-mod tests;

@@ -19,6 +19,3 @@ pub use weather::{CalmWeather, Fate, OneFate, Weather};
 /// A read or a write that the outside did not carry out.
 #[derive(Clone, Copy, Debug, PartialEq, Eq)]
 pub struct Failed;
-
-#[cfg(test)]
-mod tests;

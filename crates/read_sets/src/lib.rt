@@ -9,8 +9,6 @@ mod judge;
 mod plain;
 mod read_set;
 mod search;
-#[cfg(test)]
-mod tests;
 
 pub use check::check_both;
 pub use judge::{SerialVerdict, judge_serial};

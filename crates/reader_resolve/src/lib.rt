@@ -8,6 +8,3 @@ mod turn;
 pub use client_parts::{Answer, Next};
 pub use run::ReadRun;
 pub use store_parts::Cell;
-
-#[cfg(test)]
-mod tests;

@@ -18,6 +18,3 @@ pub use reply::reply_stage;
 pub use request::request_stage;
 pub use thread_steps::{StageStep, Steps};
 pub use tickets::offer_ticket;
-
-#[cfg(test)]
-mod tests;

@@ -20,6 +20,3 @@ pub use line::verb_at;
 pub use mode::Mode;
 pub use tables::setup_form;
 pub use words::Words;
-
-#[cfg(test)]
-mod tests;

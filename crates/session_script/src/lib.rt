@@ -14,6 +14,3 @@ pub use reading::read_script;
 pub use script::Script;
 pub use script_data::{FAULT_LIMIT, Line, Target, Verb};
 pub use script_lines::{Mode, ScriptCause};
-
-#[cfg(test)]
-mod tests;

@@ -90,6 +90,3 @@ impl Completion {
         self.done += 1;
     }
 }
-
-#[cfg(test)]
-mod tests;

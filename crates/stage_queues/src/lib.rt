@@ -25,6 +25,3 @@ pub use request_queue::RequestQueue;
 pub use request_rule::Ticket;
 pub use settled_queue::SettledQueue;
 pub use waiting::Waiter;
-
-#[cfg(test)]
-mod tests;

@@ -18,6 +18,3 @@ mod stages;
 mod waking;
 
 pub use playing::play;
-
-#[cfg(test)]
-mod tests;

@@ -7,6 +7,3 @@ mod word;
 
 pub use rule::TickView;
 pub use word::{PART_LIMIT, SEAT_LIMIT, TickSeat, TickWord};
-
-#[cfg(test)]
-mod tests;

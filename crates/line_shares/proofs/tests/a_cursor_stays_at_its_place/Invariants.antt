@@ -1,4 +1,0 @@
-use Rattle.line_shares.proofs.tests.a_cursor_stays_at_its_place.Given as goal
-
-abbrev pub ghosts-still_there : goal.ghosts-still_there
-ghosts-still_there g a = record { name = a.blank.name; parts = a.blank.parts }

@@ -1,4 +1,0 @@
-use Rattle.line_shares.proofs.tests.a_share_stays_aimed.Given as goal
-
-abbrev pub ghosts-aims : goal.ghosts-aims
-ghosts-aims g a = record { name = a.blank.name; parts = a.blank.parts }

@@ -1,0 +1,179 @@
+// Each call once with ample memory, and the end of the stamps, which no script reaches.
+ghost use Rattle.std.specs.Prelude.{◌≡◌};
+ghost use Rattle.oracle_parts.specs.Instance as entry;
+
+use history_book::Cause;
+use oracle_core::{Decided, Instance, Place, Reply, Request, Settled};
+use oracle_parts::Verdict;
+use stamp_base::{KeyList, KeyNo, NodeNo, SessionNo, Setup, SetupFlag, Stamp, Term};
+use std::alloc::Global;
+use std::test::Fail;
+use store_parts::Grant;
+
+/// An instance of the first node, with these stamps to draw and a lease up to 10.
+fn opened(alloc: Global, epoch: u64, ceiling: u64) -> Result<Instance, Fail> {
+    opened_with(alloc, epoch, ceiling, &Setup::default())
+}
+
+/// The same, which hands commits to their sessions.
+fn opened_direct(alloc: Global) -> Result<Instance, Fail> {
+    let mut setup = Setup::default();
+    setup.turn_on(SetupFlag::Direct);
+    opened_with(alloc, 0, 100, &setup)
+}
+
+fn opened_with(alloc: Global, epoch: u64, ceiling: u64, setup: &Setup) -> Result<Instance, Fail> {
+    let grant = Grant {
+        term: Term::FIRST,
+        epoch,
+        until: 10,
+        ceiling,
+    };
+    if epoch <= ceiling && ceiling <= Stamp::GREATEST {
+        return Ok(Instance::open(alloc, grant, NodeNo::FIRST, setup)?);
+    }
+    Err("out of range")?
+}
+
+/// A begin of the first session.
+fn begin() -> Request {
+    Request::Begin {
+        session: SessionNo::FIRST,
+    }
+}
+
+/// A commit of the last session, of one key.
+fn commit() -> Request {
+    let mut keys = KeyList::empty();
+    let _ = keys.push(KeyNo::FIRST);
+    Request::Commit {
+        session: SessionNo::LAST,
+        start: Stamp::FIRST,
+        keys,
+    }
+}
+
+/// Whose request it is.
+fn session_of(request: &Request) -> SessionNo
+    ensures { result ≡ entry.session_of request.now }
+{
+    match request {
+        Request::Begin { session } => *session,
+        Request::Commit { session, .. } => *session,
+    }
+}
+
+/// Asks, and accepts at reading 9.
+fn accepted(instance: &mut Instance, request: Request) -> Result<(), Cause> {
+    let session = session_of(&request);
+    if instance.place(session).is_some() {
+        return Err(Cause::Busy);
+    }
+    instance.ask(request)?;
+    instance.accept(session, 9)
+}
+
+/// Asks, accepts, and decides.
+fn decided(instance: &mut Instance, request: Request) -> Result<Decided, Cause> {
+    let session = session_of(&request);
+    accepted(instance, request)?;
+    instance.decide(session)
+}
+
+#[test]
+fn a_begin_comes_and_goes(rt: HostRuntime) -> Result<(), Fail> {
+    let mut instance = opened(rt.alloc(), 0, 100)?;
+    let started = decided(&mut instance, begin());
+    assert_eq!(rt; started, Ok(Decided::Started(Stamp::FIRST)));
+    let epoch = instance.epoch();
+    let begun = Reply::Begun {
+        start: Stamp::FIRST,
+        epoch,
+    };
+    assert_eq!(rt; instance.answer(SessionNo::FIRST), Ok(begun));
+    Ok(())
+}
+
+#[test]
+fn a_commit_comes_and_goes(rt: HostRuntime) -> Result<(), Fail> {
+    let mut instance = opened(rt.alloc(), 0, 100)?;
+    let commit = decided(&mut instance, commit());
+    assert_eq!(rt; commit, Ok(Decided::Drawn(Stamp::FIRST)));
+    assert!(rt; instance.settle(SessionNo::LAST, Settled::Invalid).is_ok());
+    assert_eq!(rt; instance.answer(SessionNo::LAST), Ok(Reply::Invalid));
+    Ok(())
+}
+
+// It is handed over once, without a put.
+#[test]
+fn a_direct_commit_is_handed_over(rt: HostRuntime) -> Result<(), Fail> {
+    let mut instance = opened_direct(rt.alloc())?;
+    let session = SessionNo::LAST;
+    let drawn = decided(&mut instance, commit());
+    assert_eq!(rt; drawn, Ok(Decided::Drawn(Stamp::FIRST)));
+    let place = instance.place(session);
+    assert_eq!(rt; place, Some(Place::Settled));
+    let none = Err(Cause::NoRequest { session });
+    assert_eq!(rt; instance.settle(session, Settled::Placed), none);
+    let handed = Reply::Handed {
+        commit: Stamp::FIRST,
+    };
+    assert_eq!(rt; instance.answer(session), Ok(handed));
+    assert_eq!(rt; instance.place(session), None);
+    Ok(())
+}
+
+#[test]
+fn a_begin_waits_for_no_direct_commit(rt: HostRuntime) -> Result<(), Fail> {
+    let mut instance = opened_direct(rt.alloc())?;
+    assert!(rt; decided(&mut instance, commit()).is_ok());
+    assert!(rt; decided(&mut instance, begin()).is_ok());
+    assert!(rt; instance.answer(SessionNo::FIRST).is_ok());
+    Ok(())
+}
+
+// What is accepted can be refused, once, and nothing was recorded for it.
+#[test]
+fn a_commit_is_refused(rt: HostRuntime) -> Result<(), Fail> {
+    let mut instance = opened(rt.alloc(), 0, 100)?;
+    let session = SessionNo::LAST;
+    let none = Err(Cause::NoRequest { session });
+    assert_eq!(rt; instance.refuse(session), none);
+    assert!(rt; !instance.may_accept(session, 9));
+    assert_eq!(rt; accepted(&mut instance, commit()), Ok(()));
+    assert_eq!(rt; instance.refuse(session), Ok(()));
+    assert_eq!(rt; instance.refuse(session), none);
+    assert_eq!(rt; instance.place(session), None);
+    let mut keys = KeyList::empty();
+    let _ = keys.push(KeyNo::FIRST);
+    let told = instance.buckets().check(Stamp::FIRST, &keys);
+    assert_eq!(rt; told, Verdict::Free);
+    Ok(())
+}
+
+#[test]
+fn a_range_is_widened(rt: HostRuntime) -> Result<(), Fail> {
+    let mut instance = opened(rt.alloc(), 0, 0)?;
+    instance.renewed(20);
+    assert_eq!(rt;
+        decided(&mut instance, begin()),
+        Err(Cause::NoStamp { last: 0 })
+    );
+    if instance.range_end() <= 100 {
+        instance.widened(100);
+    }
+    assert!(rt; instance.decide(SessionNo::FIRST).is_ok());
+    Ok(())
+}
+
+#[test]
+fn the_stamps_end(rt: HostRuntime) -> Result<(), Fail> {
+    let ceiling = Stamp::GREATEST;
+    let mut instance = opened(rt.alloc(), ceiling, ceiling)?;
+    let none = decided(&mut instance, begin());
+    assert_eq!(rt; none, Err(Cause::NoStamp { last: ceiling }));
+    instance.stopped(Cause::Spent { ceiling });
+    let ended = instance.decide(SessionNo::FIRST);
+    assert_eq!(rt; ended, Err(Cause::Spent { ceiling }));
+    Ok(())
+}

@@ -1,0 +1,3 @@
+// The threads of a script over a stand-in for the board.
+mod fake;
+mod playing;
