@@ -1,11 +1,10 @@
 -- Each outcome of an event, as a deed to the nodes.
 use Rattle.std.proofs.Common.{[], ◌≡◌, ℕ, ◌+◌, Bool, true, false, List, ◌∷◌, ◌++◌, Option, None, Some, inl, inr, refl, sym, ◌∙◌, ap}
 use Rattle.std.specs.Prelude.{slice_set}
-use Rattle.std.proofs.lemmas.List.Elements.{All-cons}
 use Rattle.stamp_base.specs.declared.stores.Mark.{Mark}
 use Rattle.stamp_base.specs.declared.stores.Store.TheVariants.{Master}
-use Rattle.history_book.specs.declared.item.Actor.TheVariants.{Node, Session, Janitor}
-use Rattle.history_book.specs.declared.item.StoreStep.TheVariants.{PutFound, Handed, Keys}
+use Rattle.history_book.specs.declared.item.Actor.TheVariants.{Node, Session}
+use Rattle.history_book.specs.declared.item.StoreStep.TheVariants.{Handed}
 use Rattle.history_book.specs.declared.item.Ending.TheVariants.{Dead as DeadEnd}
 use Rattle.history_book.specs.declared.item.Item.{Item}
 use Rattle.history_book.specs.declared.item.Item.TheVariants as item
@@ -13,7 +12,6 @@ use Rattle.store_parts.specs.Pairs.{mark_of}
 use Rattle.store_parts.specs.Record.{renewed_until}
 use Rattle.client_parts.specs.declared.resolve.Outcome.TheVariants as outcome
 use Rattle.client_parts.specs.Resolve.{SettleTurn, Goes, Decides, settle_ask, settle_turn}
-use Rattle.client_parts.specs.KeyRead.{ReadTurn, Asks, Answers}
 use Rattle.oracle_parts.specs.declared.instance.Held.{Held}
 use Rattle.oracle_parts.specs.declared.instance.Request.TheVariants.{Begin, Commit}
 use Rattle.oracle_parts.specs.declared.instance.Settled.{Settled}
@@ -25,23 +23,23 @@ use Rattle.port_io.specs.declared.weather.Fate.{Fate}
 use Rattle.machine.specs.State.{State}
 use Rattle.machine.specs.StoreSteps.{told_by}
 use Rattle.machine.specs.Machine.{stepped}
-use Rattle.machine.specs.Events.Fetch.{found_of, read_items}
 use Rattle.machine.specs.Events.Crash.{all_crashed_items}
 use Rattle.machine.specs.Events.Step.{settle_items}
 use Rattle.machine.specs.Events.Take.{rules_of}
 use Rattle.isolation_laws.specs.Words.{InstanceAt, Marked}
 use Rattle.isolation_laws.specs.Holds.{Holds}
 use Rattle.isolation_laws.specs.Sound.{Stands}
-use Rattle.isolation_laws.proofs.Outcome.PlainItems.{Silent, AllSilent, none_silent, one_silent, two_silent, all_silent}
+use Rattle.isolation_laws.proofs.Outcome.PlainItems.{AllSilent, one_silent, two_silent, all_silent}
 use Rattle.isolation_laws.proofs.Outcome.OutcomesOfRecord.{StillBy, Rests, Stops, Tells, Renewed as RenewedLease, renewed_nodes, Extended, extended_nodes, fault_if}
 use Rattle.isolation_laws.proofs.Outcome.OutcomesOfStamps.{AtDrawn, PlacedOne, settled_nodes, fault_of, found_items, answered_item}
-use Rattle.isolation_laws.proofs.Outcome.OutcomesOfWork.{OutcomeStepped, fetched_turn, read_turn}
-use Rattle.isolation_laws.proofs.Outcome.Outcomes.{Outcome, OfStill, OfGranted, OfRenewed, OfExtended, OfCrashed, OfAskedBegin, OfAskedCommit, OfAccepted, OfEnded, OfDrew, OfPlaced, OfNotPlaced, OfAnsweredBegin, OfAnsweredCommit, OfHanded, OfOwnPlaced, OfOwnNotPlaced, OfEndedReadOnly, OfWrote, OfWriteFailed, OfAborted, OfVanished, OfHealed, OfFetched, OfReadDropped, OfReadStepped, OfOutcome, OfOutcomeFailed, OfCompleted, OfSweepOpened, OfSwept, OfSweepListed, OfSweepFailed, left_by, told_by_outcome}
+use Rattle.isolation_laws.proofs.Outcome.OutcomesOfWork.{OutcomeStepped}
+use Rattle.isolation_laws.proofs.Outcome.Outcomes.{Outcome, OfStill, OfGranted, OfRenewed, OfExtended, OfCrashed, OfAskedBegin, OfAskedCommit, OfAccepted, OfEnded, OfDrew, OfPlaced, OfNotPlaced, OfAnsweredBegin, OfAnsweredCommit, OfHanded, OfOwnPlaced, OfOwnNotPlaced, OfOutcome, left_by, told_by_outcome}
 use Rattle.isolation_laws.proofs.Numbers.NumbersKept.{in_flight_of, drawn_pending}
 use Rattle.isolation_laws.proofs.Inversions.InversionOfAnswers.{not_invalid}
 use Rattle.isolation_laws.proofs.AlwaysHolds.{each_outcome}
 use Rattle.cause_laws.proofs.Deeds.{Serving, EndsFor, OfRested, OfTook, OfRenewed, OfWidened, OfStopped, OfCrashed, OfAsked, OfAccepted, OfDrew, OfSettled, OfTold, OfEnded, OfLearned, DeedOf}
 use Rattle.cause_laws.proofs.DeedsOfPlacings.{answered_ends, own_told_deed, own_placed_deed}
+use Rattle.cause_laws.proofs.SilentOutcomes.{found_silent, silent_items}
 use Rattle.isolation_laws.proofs.FoundMarks.{found_marked}
 use Rattle.cause_laws.proofs.HeldAsks.{own_requests, all_losses, holds_none}
 
@@ -105,22 +103,10 @@ placed_found w k is = elim k.by_is [
   | inr faulted ↦ absurd (not_invalid (sym faulted ∙ is))
 ]
 
-found_silent : (by : Settled) (node start : ℕ) → AllSilent (found_items by node start)
-found_silent how.Placed node start = none_silent
-found_silent how.Invalid node start = one_silent (item.Step (Node node) (PutFound start)) refl
-found_silent how.Faulted node start = none_silent
-
 ended : (w : State) (it : Serving w) (last : Item) (items : List Item) → EndsFor it.session last → items ≡ last ∷ [] → DeedOf w (slice_set w.nodes it.node (Some (without_request it.i it.session))) items
 ended w it last items ends same = record { deed = OfEnded (record { it = it; last = last; ends = ends }); leaves = refl; tells = same }
 
--- ---- reads, and the resolve of an own commit
-read_silent : (session start key : ℕ) (turn : ReadTurn) → AllSilent (read_items session start key turn)
-read_silent session start key (Asks r) = none_silent
-read_silent session start key (Answers a) = one_silent (item.Read session start key (found_of a.found)) refl
-
-turned : (w : State) (first : Item) (session start key : ℕ) (turn : ReadTurn) → Silent first → DeedOf w w.nodes (first ∷ read_items session start key turn)
-turned w first session start key turn silent = rests w _ (All-cons Silent first (read_items session start key turn) silent (read_silent session start key turn))
-
+-- ---- the resolve of an own commit
 settle_decides : (w : State) (k : OutcomeStepped w) (start : Option ℕ) (turn : SettleTurn) → DeedOf w w.nodes (k.first ∷ settle_items k.it.session start turn)
 settle_decides w k (Some start) (Decides (outcome.Committed commit by_table)) = record {
   deed = OfLearned (record {
@@ -207,22 +193,8 @@ outcome_deed w h (OfAnsweredCommit k) holds = ended w (serving w k.node k.sessio
 outcome_deed w h (OfHanded k) holds = ended w (serving w k.node k.session k.i k.held k.at k.has) (item.Step (Session k.session) (Handed k.start k.commit)) k.items refl k.tells
 outcome_deed w h (OfOwnPlaced k) holds = telling w w.nodes _ _ (ap (λ items. item.Placed k.it.start k.it.commit ∷ items) k.tells) (own_placed_deed w k.it k.by)
 outcome_deed w h (OfOwnNotPlaced k) holds = telling w w.nodes k.items _ k.tells (own_told_deed w k.it k.by)
-outcome_deed w h (OfEndedReadOnly k) holds = rests w k.items k.silent
-outcome_deed w h (OfWrote k) holds = rests w _ (one_silent (item.Write k.it.session k.start k.key k.value) refl)
-outcome_deed w h (OfWriteFailed k) holds = rests w k.items k.silent
-outcome_deed w h (OfAborted k) holds = rests w k.items k.silent
-outcome_deed w h (OfVanished k) holds = rests w k.items k.silent
-outcome_deed w h (OfHealed k) holds = rests w k.items k.silent
-outcome_deed w h (OfFetched k) holds = turned w k.first k.it.session k.start k.key (fetched_turn w k) k.silent
-outcome_deed w h (OfReadDropped k) holds = rests w k.items k.silent
-outcome_deed w h (OfReadStepped k) holds = turned w k.first k.session k.r.start k.r.key (read_turn w k) k.silent
 outcome_deed w h (OfOutcome k) holds = telling w w.nodes k.items _ k.tells (settle_decides w k k.it.c.entry.start (settle_turn k.x (told_by (settle_ask k.x) w.rows w.pairs)))
-outcome_deed w h (OfOutcomeFailed k) holds = rests w k.items k.silent
-outcome_deed w h (OfCompleted k) holds = rests w k.items k.silent
-outcome_deed w h (OfSweepOpened k) holds = rests w [] none_silent
-outcome_deed w h (OfSwept k) holds = rests w k.items k.silent
-outcome_deed w h (OfSweepListed k) holds = rests w _ (one_silent (item.Step Janitor (Keys k.txn k.count)) refl)
-outcome_deed w h (OfSweepFailed k) holds = rests w k.items k.silent
+outcome_deed w h o holds = rests w (told_by_outcome w o) (silent_items w o refl)
 
 -- ---- one event
 pub deed_of : (w : State) (h : List Item) (e : Event) (fate : Fate) → Stands w h → DeedOf w (stepped w e fate).state.nodes (stepped w e fate).items

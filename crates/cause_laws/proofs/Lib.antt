@@ -25,6 +25,7 @@ mod ShownAtFirst
 pub mod LongerHistories
 mod HeldAsks
 mod DeedsOfPlacings
+pub mod SilentOutcomes
 mod DeedsDone
 mod OpenWords
 mod RecordShown

@@ -35,9 +35,8 @@ use Rattle.isolation_laws.proofs.Outcome.OutcomesOfRecord.{fault_if}
 use Rattle.isolation_laws.proofs.Outcome.OutcomesOfStamps.{answered_item}
 use Rattle.isolation_laws.proofs.Outcome.OutcomesOfPlacings.{own_told}
 use Rattle.isolation_laws.proofs.Outcome.Outcomes.{Outcome, OfGranted, OfCrashed, OfAskedBegin, OfAskedCommit, OfAccepted, OfEnded, OfDrew, OfAnsweredBegin, OfAnsweredCommit, OfHanded, OfOwnPlaced, OfOwnNotPlaced, OfOutcome, told_by_outcome}
+use Rattle.cause_laws.proofs.SilentOutcomes.{fault_if_silent, silent_items}
 use Rattle.cause_laws.proofs.SinceWords.{last_told-same, since-more}
-use Rattle.served_lines.proofs.OwingItems.{fault_if_silent}
-use Rattle.served_lines.proofs.SilentOutcomes.{silent_items}
 
 abbrev pub NotAsked : ℕ → Item → Type 0
 NotAsked s x = asks_for s x ≡ false

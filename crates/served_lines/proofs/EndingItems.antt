@@ -28,10 +28,10 @@ use Rattle.isolation_laws.proofs.Outcome.OutcomesOfRecord.{fault_if}
 use Rattle.isolation_laws.proofs.Outcome.OutcomesOfStamps.{answered_item}
 use Rattle.isolation_laws.proofs.Outcome.OutcomesOfPlacings.{own_told}
 use Rattle.isolation_laws.proofs.Outcome.Outcomes.{Outcome, OfGranted, OfCrashed, OfAskedBegin, OfAskedCommit, OfAccepted, OfEnded, OfDrew, OfAnsweredBegin, OfAnsweredCommit, OfHanded, OfOwnPlaced, OfOwnNotPlaced, OfOutcome, told_by_outcome}
+use Rattle.cause_laws.proofs.SilentOutcomes.{fault_if_silent, silent_items}
 use Rattle.served_lines.specs.Closings.{leaves_cells, Owes}
 use Rattle.served_lines.specs.Turns.{ends_commit, EndsCommit, NoneEnds}
-use Rattle.served_lines.proofs.OwingItems.{only_is, refusal_not, leaves_ends, fault_if_silent}
-use Rattle.served_lines.proofs.SilentOutcomes.{silent_items}
+use Rattle.served_lines.proofs.OwingItems.{only_is, refusal_not, leaves_ends}
 use Rattle.served_lines.proofs.OwingOutcomes.{among}
 
 -- ---- silent items do not

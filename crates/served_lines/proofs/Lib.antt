@@ -2,7 +2,6 @@ mod LostAsks
 mod SilentAnswers
 mod OverAsks
 mod OwingItems
-mod SilentOutcomes
 mod OwingOutcomes
 mod LeftAlone
 mod LeftByOthers

@@ -1,17 +1,16 @@
 -- Which items leave something to be done: none that is silent, and none that tells of a loss.
 use Rattle.std.proofs.Common.{◌≡◌, ℕ, Bool, true, false, if◌then◌else◌, List, [], ◌∷◌, Option, None, Some, inl, inr, refl, sym, ◌∙◌, subst}
 use Rattle.std.proofs.lemmas.List.Elements.{All-head, All-tail}
-use Rattle.stamp_base.specs.declared.stores.Store.TheVariants.{Master, Table}
+use Rattle.stamp_base.specs.declared.stores.Store.TheVariants.{Table}
 use Rattle.history_book.specs.Members.{◌∈◌}
 use Rattle.history_book.specs.declared.cause.Cause.{Cause}
 use Rattle.history_book.specs.declared.cause.Cause.TheVariants as cause
-use Rattle.history_book.specs.declared.item.Actor.TheVariants.{Node, Session}
+use Rattle.history_book.specs.declared.item.Actor.TheVariants.{Session}
 use Rattle.history_book.specs.declared.item.StoreStep.TheVariants.{PutFound}
 use Rattle.history_book.specs.declared.item.Item.{Item}
 use Rattle.history_book.specs.declared.item.Item.TheVariants as item
 use Rattle.client_parts.specs.declared.session.State as state
 use Rattle.client_parts.specs.declared.session.State.TheVariants as phase
-use Rattle.client_parts.specs.KeyRead.{ReadTurn, Asks, Answers}
 use Rattle.oracle_parts.specs.declared.instance.Held.{Held}
 use Rattle.oracle_parts.specs.declared.instance.Request.{Request}
 use Rattle.oracle_parts.specs.declared.instance.Request.TheVariants.{Begin, Commit}
@@ -20,12 +19,10 @@ use Rattle.oracle_parts.specs.declared.instance.Settled.TheVariants as how
 use Rattle.machine.specs.State.{Client}
 use Rattle.machine.specs.Events.Crash.{loss_heard, loss_items, crashed_items, all_crashed_items}
 use Rattle.machine.specs.Events.Decide.{draw_item}
-use Rattle.machine.specs.Events.Fetch.{found_of, read_items}
 use Rattle.cause_rules.specs.OpenAsks.{ends_request}
 use Rattle.isolation_laws.proofs.Pushed.{not_true, in_append}
-use Rattle.isolation_laws.proofs.Outcome.PlainItems.{Silent, AllSilent, none_silent, one_silent}
-use Rattle.isolation_laws.proofs.Outcome.OutcomesOfRecord.{fault_if}
-use Rattle.isolation_laws.proofs.Outcome.OutcomesOfStamps.{fault_of, found_items, answered_item}
+use Rattle.isolation_laws.proofs.Outcome.PlainItems.{Silent, AllSilent, none_silent}
+use Rattle.isolation_laws.proofs.Outcome.OutcomesOfStamps.{answered_item}
 use Rattle.isolation_laws.proofs.Outcome.OutcomesOfPlacings.{own_told}
 use Rattle.served_lines.specs.Closings.{leaves_cells, Owes}
 
@@ -72,27 +69,9 @@ pub only_is : (x y : Item) → x ∈ (y ∷ []) → x ≡ y
 unfolding ◌∈◌
 only_is x y m = elim m [ inl same ↦ same | inr none ↦ absurd none ]
 
-pub fault_if_silent : (failed : Bool) (node : ℕ) → AllSilent (fault_if failed node)
-fault_if_silent true node = one_silent (item.Fault (Node node) Master) refl
-fault_if_silent false node = none_silent
-
-pub fault_of_silent : (by : Settled) (node : ℕ) → AllSilent (fault_of by node)
-fault_of_silent how.Placed node = none_silent
-fault_of_silent how.Invalid node = none_silent
-fault_of_silent how.Faulted node = one_silent (item.Fault (Node node) Table) refl
-
-pub found_silent : (by : Settled) (node start : ℕ) → AllSilent (found_items by node start)
-found_silent how.Placed node start = none_silent
-found_silent how.Invalid node start = one_silent (item.Step (Node node) (PutFound start)) refl
-found_silent how.Faulted node start = none_silent
-
 pub draw_not : (s node term stamp : ℕ) (request : Request) → Owes s (draw_item node term request stamp) → ⊥
 draw_not s node term stamp (Begin session) owes = owes
 draw_not s node term stamp (Commit session start keys) owes = owes
-
-pub read_silent : (session start key : ℕ) (turn : ReadTurn) → AllSilent (read_items session start key turn)
-read_silent session start key (Asks r) = none_silent
-read_silent session start key (Answers a) = one_silent (item.Read session start key (found_of a.found)) refl
 
 -- ---- what a crash tells
 heard_not : (s : ℕ) (x : Item) (heard : state.State) (y : Item) → (Owes s y → ⊥) → x ∈ loss_heard heard (y ∷ []) → Owes s x → ⊥

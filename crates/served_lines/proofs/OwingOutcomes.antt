@@ -35,9 +35,9 @@ use Rattle.isolation_laws.proofs.Outcome.OutcomesOfWork.{OutcomeStepped}
 use Rattle.isolation_laws.proofs.Outcome.Outcomes.{Outcome, OfGranted, OfCrashed, OfAskedBegin, OfAskedCommit, OfAccepted, OfEnded, OfDrew, OfAnsweredBegin, OfAnsweredCommit, OfHanded, OfOwnPlaced, OfOwnNotPlaced, OfOutcome, told_by_outcome}
 use Rattle.cause_laws.specs.Requests.{ask_for}
 use Rattle.cause_laws.specs.Shows.{Tells}
+use Rattle.cause_laws.proofs.SilentOutcomes.{fault_if_silent, silent_items}
 use Rattle.served_lines.specs.Closings.{Owes, NoneOwes, HasOpenAsk, IsAlone, OwingNeedsAnAsk, CommitsAreAsked}
-use Rattle.served_lines.proofs.OwingItems.{silent_in, first_not, only_not, only_is, fault_if_silent, draw_not, all_lost_not, answered_owes, answered_start, own_owes}
-use Rattle.served_lines.proofs.SilentOutcomes.{silent_items}
+use Rattle.served_lines.proofs.OwingItems.{silent_in, first_not, only_not, only_is, draw_not, all_lost_not, answered_owes, answered_start, own_owes}
 
 -- a node holds a request of the session; of a commit that is told, that with its start
 pub record HeldFor (w : State) (s : ℕ) (x : Item) : Type 0 where

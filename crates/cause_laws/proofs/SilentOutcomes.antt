@@ -1,22 +1,46 @@
--- Which outcomes tell of requests and commits: all others are silent.
-use Rattle.std.proofs.Common.{◌≡◌, ◌+◌, Bool, true, false, List, [], ◌∷◌, Option, refl, sym, subst}
+-- For served_lines too.
+-- Which outcomes tell of requests, commits and instances: all others are silent.
+use Rattle.std.proofs.Common.{◌≡◌, ℕ, ◌+◌, Bool, true, false, List, [], ◌∷◌, Option, refl, sym, subst}
 use Rattle.std.proofs.lemmas.List.Elements.{All-cons, All-append}
+use Rattle.stamp_base.specs.declared.stores.Store.TheVariants.{Master, Table}
 use Rattle.history_book.specs.declared.item.Actor.TheVariants.{Node, Janitor}
-use Rattle.history_book.specs.declared.item.StoreStep.TheVariants.{Keys}
+use Rattle.history_book.specs.declared.item.StoreStep.TheVariants.{PutFound, Keys}
 use Rattle.history_book.specs.declared.item.Item.{Item}
 use Rattle.history_book.specs.declared.item.Item.TheVariants as item
 use Rattle.store_parts.specs.Record.{renewed_until}
-use Rattle.machine.specs.State.{State}
-use Rattle.machine.specs.Events.Fetch.{read_items}
-use Rattle.machine.specs.Events.Take.{rules_of}
+use Rattle.client_parts.specs.KeyRead.{ReadTurn, Asks, Answers}
+use Rattle.oracle_parts.specs.declared.instance.Settled.{Settled}
+use Rattle.oracle_parts.specs.declared.instance.Settled.TheVariants as how
 use Rattle.oracle_parts.specs.Instance.{InstanceEntry}
+use Rattle.machine.specs.State.{State}
+use Rattle.machine.specs.Events.Fetch.{found_of, read_items}
+use Rattle.machine.specs.Events.Take.{rules_of}
 use Rattle.isolation_laws.proofs.Outcome.PlainItems.{Silent, AllSilent, none_silent, one_silent, all_silent}
 use Rattle.isolation_laws.proofs.Outcome.OutcomesOfRecord.{StillBy, Rests, Stops, Tells as TellsOne, fault_if}
 use Rattle.isolation_laws.proofs.Outcome.OutcomesOfStamps.{fault_of, found_items}
 use Rattle.isolation_laws.proofs.Outcome.OutcomesOfWork.{fetched_turn, read_turn}
 use Rattle.isolation_laws.proofs.Outcome.Outcomes.{Outcome, OfStill, OfGranted, OfRenewed, OfExtended, OfCrashed, OfAskedBegin, OfAskedCommit, OfAccepted, OfEnded, OfDrew, OfPlaced, OfNotPlaced, OfAnsweredBegin, OfAnsweredCommit, OfHanded, OfOwnPlaced, OfOwnNotPlaced, OfEndedReadOnly, OfWrote, OfWriteFailed, OfAborted, OfVanished, OfHealed, OfFetched, OfReadDropped, OfReadStepped, OfOutcome, OfOutcomeFailed, OfCompleted, OfSweepOpened, OfSwept, OfSweepListed, OfSweepFailed, told_by_outcome}
-use Rattle.served_lines.proofs.OwingItems.{fault_if_silent, fault_of_silent, found_silent, read_silent}
 
+-- ---- items that some outcomes share
+pub fault_if_silent : (failed : Bool) (node : ℕ) → AllSilent (fault_if failed node)
+fault_if_silent true node = one_silent (item.Fault (Node node) Master) refl
+fault_if_silent false node = none_silent
+
+fault_of_silent : (by : Settled) (node : ℕ) → AllSilent (fault_of by node)
+fault_of_silent how.Placed node = none_silent
+fault_of_silent how.Invalid node = none_silent
+fault_of_silent how.Faulted node = one_silent (item.Fault (Node node) Table) refl
+
+pub found_silent : (by : Settled) (node start : ℕ) → AllSilent (found_items by node start)
+found_silent how.Placed node start = none_silent
+found_silent how.Invalid node start = one_silent (item.Step (Node node) (PutFound start)) refl
+found_silent how.Faulted node start = none_silent
+
+read_silent : (session start key : ℕ) (turn : ReadTurn) → AllSilent (read_items session start key turn)
+read_silent session start key (Asks r) = none_silent
+read_silent session start key (Answers a) = one_silent (item.Read session start key (found_of a.found)) refl
+
+-- ---- every outcome
 abbrev pub is_loud : {w : State} → Outcome w → Bool
 is_loud (OfGranted k) = true
 is_loud (OfCrashed k) = true
