@@ -12,8 +12,8 @@ use Rattle.line_steps.specs.declared.point.View.{View}
 use Rattle.line_steps.specs.Next.{Clocks, next}
 use Rattle.line_steps.specs.Planned.{tick_by}
 use Rattle.line_steps.proofs.PlainEvents.{OpensNone}
-use Rattle.split_stores.specs.declared.event.Event.{Event}
-use Rattle.split_stores.specs.declared.event.Event.TheVariants as event
+use Rattle.split_parts.specs.declared.event.Event.{Event}
+use Rattle.split_parts.specs.declared.event.Event.TheVariants as event
 use Rattle.split_stores.specs.Merged.{timed_at}
 use Rattle.split_stores.specs.Orders.{rise_by}
 use Rattle.seat_lines.specs.Follows.{opener, first_event}

@@ -13,8 +13,8 @@ use Rattle.line_steps.proofs.AlwaysFit.{Fit, fit_stays}
 use Rattle.line_steps.proofs.Takes.{TakesFit, takes_stay}
 use Rattle.planned_laws.specs.SoFar.{ReadsClocks}
 use Rattle.planned_laws.specs.Orders.{EventsStayTold, IsTold}
-use Rattle.split_stores.specs.declared.event.Event.{Event}
-use Rattle.split_stores.specs.declared.event.Event.TheVariants as event
+use Rattle.split_parts.specs.declared.event.Event.{Event}
+use Rattle.split_parts.specs.declared.event.Event.TheVariants as event
 use Rattle.split_stores.specs.declared.seat.Entry.{Entry}
 use Rattle.split_stores.specs.Merged.{timed_at, timed_in, played_with, entries_played, IsReplayed}
 use Rattle.split_stores.specs.Orders.{rise_by, rises_in}

@@ -22,7 +22,7 @@ use Rattle.line_steps.proofs.LineWalks.{any_not}
 use Rattle.line_steps.proofs.PlainEvents.{events_plain}
 use Rattle.line_steps.proofs.ScriptWalks.{actor_same, both_true}
 use Rattle.line_steps.proofs.Walks.{AllNot, plain_not}
-use Rattle.split_stores.specs.declared.event.Event.{Event}
+use Rattle.split_parts.specs.declared.event.Event.{Event}
 use Rattle.split_stores.specs.declared.seat.Entry.{Entry}
 use Rattle.split_stores.specs.Merged.{timed_at}
 use Rattle.split_stores.specs.Orders.{rise_by}

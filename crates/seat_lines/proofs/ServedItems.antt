@@ -25,8 +25,8 @@ use Rattle.line_steps.specs.Answers.{IsAnswer, asks_last}
 use Rattle.line_steps.specs.Laws.{ActorFits, TargetFits, VerbFits}
 use Rattle.line_steps.proofs.AlwaysFit.{found}
 use Rattle.line_steps.proofs.Walks.{AllNot}
-use Rattle.split_stores.specs.declared.event.Event.{Event}
-use Rattle.split_stores.specs.declared.event.Event.TheVariants as event
+use Rattle.split_parts.specs.declared.event.Event.{Event}
+use Rattle.split_parts.specs.declared.event.Event.TheVariants as event
 use Rattle.split_stores.specs.Merged.{timed_at}
 use Rattle.seat_lines.specs.declared.owed.Owed.{Owed}
 use Rattle.seat_lines.specs.declared.owed.Owed.TheVariants.{Nothing as OwesNothing, Read, Answer, Removal, Erasure, Quiet}

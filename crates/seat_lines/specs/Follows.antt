@@ -11,8 +11,8 @@ use Rattle.script_data.specs.declared.line.Verb.{Verb}
 use Rattle.script_data.specs.declared.line.Verb.TheVariants as verb
 use Rattle.script_data.specs.Data.{ScriptData}
 use Rattle.line_steps.specs.Answers.{is_of}
-use Rattle.split_stores.specs.declared.event.Event.{Event}
-use Rattle.split_stores.specs.declared.event.Event.TheVariants as event
+use Rattle.split_parts.specs.declared.event.Event.{Event}
+use Rattle.split_parts.specs.declared.event.Event.TheVariants as event
 use Rattle.split_stores.specs.declared.seat.Entry.{Entry}
 use Rattle.split_stores.specs.Logs.{Logged}
 use Rattle.seat_lines.specs.Owed.{Standing, first_standing, gone_on, opened, is_paid}

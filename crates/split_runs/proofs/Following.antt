@@ -12,8 +12,8 @@ use Rattle.script_data.specs.Ticks.{tick_of}
 use Rattle.line_steps.specs.Answers.{is_of, same_actor, has_opening}
 use Rattle.line_steps.specs.Clocks.{TicksWithin}
 use Rattle.line_steps.proofs.ScriptWalks.{actor_same}
-use Rattle.split_stores.specs.declared.event.Event.{Event}
-use Rattle.split_stores.specs.declared.event.Event.TheVariants as event
+use Rattle.split_parts.specs.declared.event.Event.{Event}
+use Rattle.split_parts.specs.declared.event.Event.TheVariants as event
 use Rattle.split_stores.specs.declared.seat.Entry.{Entry}
 use Rattle.split_stores.specs.Makes.{AddsOne}
 use Rattle.split_stores.specs.Logs.{Logged, CanRise, risen_by, rise_of}

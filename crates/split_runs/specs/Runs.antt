@@ -8,8 +8,8 @@ use Rattle.script_data.specs.declared.line.Verb.TheVariants as verb
 use Rattle.script_data.specs.Ticks.{tick_of}
 use Rattle.line_steps.specs.Answers.{is_of}
 use Rattle.line_steps.specs.declared.point.Halt.{Halt}
-use Rattle.split_stores.specs.declared.event.Event.{Event}
-use Rattle.split_stores.specs.declared.event.Event.TheVariants as event
+use Rattle.split_parts.specs.declared.event.Event.{Event}
+use Rattle.split_parts.specs.declared.event.Event.TheVariants as event
 use Rattle.split_stores.specs.declared.seat.Entry.{Entry}
 use Rattle.split_stores.specs.Logs.{Logged, CanRise, risen_by}
 use Rattle.split_stores.specs.Makes.{AddsOne}

@@ -5,7 +5,7 @@ ghost use Rattle.script_data.specs.Ticks.{tick_of};
 ghost use Rattle.line_steps.specs.Answers.{is_of};
 ghost use Rattle.line_steps.specs.Clocks.{TicksWithin};
 ghost use Rattle.split_stores.specs.declared.seat.Entry.{Entry};
-ghost use Rattle.split_stores.specs.declared.event.Event.{Event};
+ghost use Rattle.split_parts.specs.declared.event.Event.{Event};
 ghost use Rattle.split_stores.specs.Logs.{CanRise, Logged, rise_of};
 ghost use Rattle.split_stores.specs.Makes.{Makes};
 ghost use Rattle.seat_lines.specs.Follows as follows;

@@ -1,11 +1,4 @@
-mod Handing
-mod Giving
-mod Agreement
 mod LogLemmas
-mod PlanLemmas
-mod OneMore
-mod Filled
-mod FoundParts
 mod OrderLemmas
 mod DecidingItems
 mod ReplayLemmas

@@ -8,8 +8,8 @@ use Rattle.std.proofs.lemmas.List.Sums.{sum_by-set}
 use Rattle.std.proofs.Math.Seq.{map-set_same}
 use Rattle.tick_word.specs.Rule.{AllUpTo}
 use Rattle.tick_word.specs.Seats.{Seated}
-use Rattle.split_stores.specs.declared.event.Event.{Event}
-use Rattle.split_stores.specs.declared.event.Event.TheVariants as event
+use Rattle.split_parts.specs.declared.event.Event.{Event}
+use Rattle.split_parts.specs.declared.event.Event.TheVariants as event
 use Rattle.split_stores.specs.declared.seat.Entry.{Entry}
 use Rattle.split_stores.specs.Logs.{CanRise, ticks_of, rises_above, rise_of, risen_by, IsKept, Logged, SameLog, Strikes}
 

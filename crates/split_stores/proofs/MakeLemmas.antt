@@ -2,13 +2,13 @@
 use Rattle.std.proofs.Common.{◌≡◌, List, ◌∷◌, ◌++◌, [], length, Option, Some, None, sym, subst, ap, ◌∙◌}
 use Rattle.history_book.specs.declared.item.Item.{Item}
 use Rattle.event_parts.specs.declared.stopped.Stopped.{Stopped}
-use Rattle.split_stores.specs.declared.acting.Acted.{Acted}
-use Rattle.split_stores.specs.declared.event.Event.{Event}
+use Rattle.split_parts.specs.declared.acting.Acted.{Acted}
+use Rattle.split_parts.specs.declared.event.Event.{Event}
 use Rattle.split_stores.specs.declared.made.Made.{Made}
 use Rattle.split_stores.specs.declared.made.Made.TheVariants as made
 use Rattle.split_stores.specs.Logs.{Adds, Logged, SameLog}
 use Rattle.split_stores.specs.Makes.{AddsOne, Inside, LogsWhatIsDone, Makes, Performs, made_of}
-use Rattle.split_stores.specs.Parts.{Parts}
+use Rattle.split_parts.specs.Parts.{Parts}
 
 added_from : (e : Event) (old mid new : Logged) → SameLog old mid → AddsOne e mid new → AddsOne e old new
 added_from e old mid new same h = record { added = h.added; of = h.of; word = h.word ∙ same.word; entries = h.entries ∙ ap (λ l. l ++ h.added ∷ []) same.entries }

@@ -22,8 +22,8 @@ use Rattle.planned_laws.specs.SoFar.{ReadsClocks}
 use Rattle.planned_laws.specs.Orders.{EventsStayTold, IsTold}
 use Rattle.cluster_core.specs.Whole.{Whole}
 use Rattle.planned_cluster.specs.Standing.{StandsAt}
-use Rattle.split_stores.specs.declared.event.Event.{Event}
-use Rattle.split_stores.specs.declared.event.Event.TheVariants as event
+use Rattle.split_parts.specs.declared.event.Event.{Event}
+use Rattle.split_parts.specs.declared.event.Event.TheVariants as event
 use Rattle.split_stores.specs.declared.seat.Entry.{Entry}
 use Rattle.split_stores.specs.declared.settling.SettleStop.{SettleStop}
 use Rattle.split_stores.specs.declared.settling.SettleStop.TheVariants.{Missing, Torn, NoMemory}

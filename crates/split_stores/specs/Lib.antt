@@ -1,10 +1,3 @@
-pub mod Calls
-pub mod Parts
-pub mod Swaps
-pub mod Lookups
-pub mod Acts
-pub mod Agrees
-pub mod Making
 pub mod Logs
 pub mod Plans
 pub mod Merging

@@ -1,15 +1,12 @@
 -- The parts that an event locks.
-use Rattle.std.specs.Prelude.{◌≡◌, ℕ, ◌<◌, length, true, None, IfSome, replicate}
+use Rattle.std.specs.Prelude.{◌≡◌, ℕ, ◌<◌, length, true, IfSome}
 use Rattle.atomic_table.specs.Seated.{TableId}
 use Rattle.tick_word.specs.Rule.{seat_limit}
-use Rattle.split_stores.specs.declared.event.Event.{Event}
-use Rattle.split_stores.specs.declared.event.Event.TheVariants as event
-use Rattle.split_stores.specs.Agrees.{HasParts, HasSession}
+use Rattle.split_parts.specs.declared.event.Event.{Event}
+use Rattle.split_parts.specs.declared.event.Event.TheVariants as event
+use Rattle.split_parts.specs.Agrees.{HasParts}
 use Rattle.split_stores.specs.Logs.{Logged, CanRise}
-use Rattle.split_stores.specs.Parts.{Parts}
-
-abbrev pub no_parts : Parts
-no_parts = record { sessions = replicate 16 None; janitor = None; clock = None; node = None; cells = None; table = None; master = None; names = None }
+use Rattle.split_parts.specs.Parts.{Parts}
 
 -- a node that is lent is this one
 abbrev pub IsNode : Parts → ℕ → Type 0
@@ -33,11 +30,6 @@ IsAtNode l _ = Unit {0}
 -- whatever parts of this kind are lent, they are those that the event has to do with, if the node is the event's
 abbrev pub Suffices : (Parts → Type 0) → Event → Type 0
 Suffices lent e = (l : Parts) → lent l → IsAtNode l e → HasParts l e
-
--- the sessions below this number are lent
-pub record HasSessionsBelow (number : ℕ) (l : Parts) : Type 0 where
-  pub all : length l.sessions ≡ 16
-  pub each : (session : ℕ) → session < number → HasSession l session
 
 -- the seat is of the word, and there is room for an entry of the event
 pub record IsReady (id : TableId) (e : Event) (log : Logged) : Type 0 where

@@ -7,16 +7,16 @@ use Rattle.event_parts.specs.declared.stopped.Stopped.{Stopped}
 use Rattle.script_data.specs.Data.{ScriptData}
 use Rattle.session_script.specs.declared.script.Script.{Script}
 use Rattle.session_script.specs.Script.{data_of}
-use Rattle.split_stores.specs.declared.acting.Acted.{Acted}
-use Rattle.split_stores.specs.declared.event.Event.{Event}
+use Rattle.split_parts.specs.declared.acting.Acted.{Acted}
+use Rattle.split_parts.specs.declared.event.Event.{Event}
 use Rattle.split_stores.specs.declared.made.Made.{Made}
 use Rattle.split_stores.specs.declared.made.Made.TheVariants as made
 use Rattle.split_stores.specs.declared.seat.Entry.{Entry}
-use Rattle.split_stores.specs.Acts.{Acts, timed_by}
-use Rattle.split_stores.specs.Agrees.{Agrees}
+use Rattle.split_parts.specs.Acts.{Acts, timed_by}
+use Rattle.split_parts.specs.Agrees.{Agrees}
 use Rattle.split_stores.specs.Locks.{IsAtNode}
 use Rattle.split_stores.specs.Logs.{Logged, SameLog, Adds}
-use Rattle.split_stores.specs.Parts.{Parts, LeasesBySetup}
+use Rattle.split_parts.specs.Parts.{Parts, LeasesBySetup}
 
 -- one entry of the event was added
 pub record AddsOne (event : Event) (old new : Logged) : Type 0 where

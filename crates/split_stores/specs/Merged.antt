@@ -7,8 +7,8 @@ use Rattle.machine.specs.declared.event.Event.TheVariants as timed
 use Rattle.script_data.specs.Data.{ScriptData}
 use Rattle.line_steps.specs.Runs.{Played, played, opening_played, step_of}
 use Rattle.cluster_core.specs.Whole.{Whole}
-use Rattle.split_stores.specs.declared.event.Event.{Event}
-use Rattle.split_stores.specs.declared.event.Event.TheVariants as event
+use Rattle.split_parts.specs.declared.event.Event.{Event}
+use Rattle.split_parts.specs.declared.event.Event.TheVariants as event
 use Rattle.split_stores.specs.declared.seat.Entry.{Entry}
 use Rattle.split_stores.specs.declared.settling.SettleStop.{SettleStop}
 use Rattle.split_stores.specs.declared.settling.SettleStop.TheVariants.{Missing, Torn, NoMemory}

@@ -7,8 +7,8 @@ use Rattle.line_steps.specs.Laws.{IsPlayable}
 use Rattle.line_steps.specs.Planned.{with_tick, ticks_in, Planned}
 use Rattle.planned_laws.specs.Orders.{TimedEvent}
 use Rattle.cluster_core.specs.Whole.{Whole}
-use Rattle.split_stores.specs.declared.event.Event.{Event}
-use Rattle.split_stores.specs.declared.event.Event.TheVariants as event
+use Rattle.split_parts.specs.declared.event.Event.{Event}
+use Rattle.split_parts.specs.declared.event.Event.TheVariants as event
 use Rattle.split_stores.specs.declared.seat.Entry.{Entry}
 use Rattle.split_stores.specs.Merged.{timed_in, played_with, IsSettledAt, Settled}
 

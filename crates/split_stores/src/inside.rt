@@ -1,12 +1,13 @@
 // An event whose parts are locked.
 ghost use Rattle.std.specs.Prelude.{◌≡◌, ◌↔◌, IfOk, IsTrue, OnErr};
-ghost use Rattle.split_stores.specs.Agrees.{HasParts};
+ghost use Rattle.split_parts.specs.Agrees.{HasParts};
 ghost use Rattle.split_stores.specs.Locks.{IsAtNode, IsNode, IsReady};
 ghost use Rattle.split_stores.specs.Logs.{Adds};
 ghost use Rattle.split_stores.specs.Makes.{Inside, made_of, Makes, Performs};
-ghost use Rattle.split_stores.specs.Parts.{seen};
+ghost use Rattle.split_parts.specs.Parts.{seen};
 
-use crate::{Acted, ActorSeat, Event, Lent, Made, PartGate, act, agrees};
+use crate::{ActorSeat, Made, PartGate};
+use split_parts::{Acted, Event, Lent, act, agrees};
 use stamp_base::{NoMemory, NodeNo};
 use std::alloc::Global;
 use std::sync::Wait;
@@ -91,7 +92,7 @@ fn is_node(lent: &Lent<'_>, node: NodeNo) -> bool
     ensures { IsTrue result ↔ IsNode (seen lent.now) node }
 {
     match &lent.node {
-        Some(part) => part.node == node,
+        Some(part) => part.node() == node,
         None => true,
     }
 }

@@ -1,9 +1,10 @@
 // The parts that an event has to do with, locked. Locks are taken in the order sessions by their numbers, janitor, clock, node,
 // cells, table, master record, names.
 ghost use Rattle.std.specs.Prelude.{◌≡◌, IsSome};
-ghost use Rattle.split_stores.specs.declared.event.Event.TheVariants as event;
-ghost use Rattle.split_stores.specs.Agrees.{HasSession};
-ghost use Rattle.split_stores.specs.Locks.{HasSessionsBelow, IsReady, Suffices};
+ghost use Rattle.split_parts.specs.declared.event.Event.TheVariants as event;
+ghost use Rattle.split_parts.specs.Agrees.{HasSession};
+ghost use Rattle.split_parts.specs.Lending.{HasSessionsBelow};
+ghost use Rattle.split_stores.specs.Locks.{IsReady, Suffices};
 ghost use Rattle.split_stores.specs.Logs.{CanRise};
 ghost use Rattle.split_stores.specs.Makes.{Makes};
 
@@ -138,7 +139,7 @@ impl Split {
         turn.inside(&self.word, seat, &mut lent)
     }
 
-    #[tactic(auto, using(crate::proofs::LockLemmas::none_below))]
+    #[tactic(auto, using(split_parts::proofs::LentSessions::none_below))]
     fn at_all_sessions<R: Wait, G: PartGate>(
         &self,
         turn: &Turn<'_, R, G>,
@@ -187,7 +188,7 @@ impl Split {
         turn.inside(&self.word, seat, &mut lent)
     }
 
-    #[tactic(auto, using(crate::proofs::LockLemmas::has_set))]
+    #[tactic(auto, using(split_parts::proofs::LentSessions::has_set))]
     fn at_session<R: Wait, G: PartGate>(
         &self,
         turn: &Turn<'_, R, G>,
@@ -203,7 +204,7 @@ impl Split {
         turn.inside(&self.word, seat, &mut lent)
     }
 
-    #[tactic(auto, using(crate::proofs::LockLemmas::has_set))]
+    #[tactic(auto, using(split_parts::proofs::LentSessions::has_set))]
     fn at_session_and_node<R: Wait, G: PartGate>(
         &self,
         turn: &Turn<'_, R, G>,
@@ -223,7 +224,7 @@ impl Split {
         turn.inside(&self.word, seat, &mut lent)
     }
 
-    #[tactic(auto, using(crate::proofs::LockLemmas::has_set))]
+    #[tactic(auto, using(split_parts::proofs::LentSessions::has_set))]
     fn at_session_and_clock<R: Wait, G: PartGate>(
         &self,
         turn: &Turn<'_, R, G>,
@@ -261,7 +262,7 @@ impl Split {
         turn.inside(&self.word, seat, &mut lent)
     }
 
-    #[tactic(auto, using(crate::proofs::LockLemmas::has_set))]
+    #[tactic(auto, using(split_parts::proofs::LentSessions::has_set))]
     fn at_session_and_cells<R: Wait, G: PartGate>(
         &self,
         turn: &Turn<'_, R, G>,
@@ -297,7 +298,7 @@ impl Split {
     }
 
     /// The store that a step asks is known once its session is locked.
-    #[tactic(auto, using(crate::proofs::LockLemmas::has_set, crate::proofs::LockLemmas::step_holds))]
+    #[tactic(auto, using(split_parts::proofs::LentSessions::has_set, crate::proofs::LockLemmas::step_holds))]
     fn at_next_step<R: Wait, G: PartGate>(
         &self,
         turn: &Turn<'_, R, G>,
@@ -309,7 +310,7 @@ impl Split {
         ensures { Makes turn.now.event result seat.old seat.new }
     {
         let mut client = self.sessions[session.index()].lock(turn.rt);
-        match next_store(&client.client) {
+        match next_store(client.client()) {
             None => {
                 let mut lent = Lent::none().with_session(session.index(), &mut client);
                 turn.inside(&self.word, seat, &mut lent)
@@ -350,7 +351,7 @@ impl Split {
         ensures { Makes turn.now.event result seat.old seat.new }
     {
         let mut janitor = self.janitor.lock(turn.rt);
-        match sweep_store(&janitor.sweep) {
+        match sweep_store(janitor.sweep()) {
             None => {
                 let mut lent = Lent::none().with_janitor(&mut janitor);
                 turn.inside(&self.word, seat, &mut lent)

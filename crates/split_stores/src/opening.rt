@@ -1,17 +1,14 @@
 // The parts of the system as they are at first.
-ghost use Rattle.std.specs.Prelude.{◌≡◌, ◌≤◌, ◌++◌, ℕ, ◌∷◌, [], All, IfOk, OnOk, false, vec_len};
-ghost use Rattle.port_io.specs.Planned.{OneEach, planned_fate, same_store};
-ghost use Rattle.split_stores.specs.Calls.{AreNumbered, fate_at, faults_on};
+ghost use Rattle.std.specs.Prelude.{◌≡◌, ◌≤◌, [], All, IfOk, false, vec_len};
 ghost use Rattle.split_stores.specs.Logs.{IsNew};
 ghost use Rattle.split_stores.specs.Plans.{plan_data};
 ghost use Rattle.split_stores.specs.Makes.{planned_by};
 
-use crate::parts::{NodePart, SessionPart};
 use crate::plan::Plan;
 use crate::seat::ActorSeat;
-use port_io::Fate;
 use session_script::Script;
-use stamp_base::{NoMemory, NodeNo, SessionNo, Store};
+use split_parts::{NodePart, SessionPart};
+use stamp_base::{NoMemory, NodeNo, SessionNo};
 use std::alloc::Global;
 use std::sync::Mutex;
 use tick_word::{TickSeat, TickWord};
@@ -90,45 +87,4 @@ fn lead_of(script: &Script, number: usize) -> u64
     } else {
         0
     }
-}
-
-/// The planned faults of the calls on one store.
-pub(crate) fn faults_on(
-    alloc: Global,
-    faults: &[(Store, u64, Fate)],
-    store: Store,
-) -> Result<Vec<(u64, Fate)>, NoMemory>
-    requires { OneEach faults.now }
-    ensures fates { IfOk result (λ own. (number : ℕ) → fate_at own.items number ≡ planned_fate faults.now store number) }
-    ensures numbered { IfOk result (λ own. AreNumbered own.items) }
-{
-    let mut own = Vec::new(alloc);
-    for fault in faults {
-        add_on(&mut own, fault, store)?;
-    }
-    Ok(own)
-}
-
-/// Adds the fault, if it is planned for a call on this store.
-#[tactic(auto, unfolding(crate::specs::Calls::faults_on))]
-fn add_on(
-    own: &mut Vec<(u64, Fate)>,
-    fault: &(Store, u64, Fate),
-    store: Store,
-) -> Result<(), NoMemory>
-    ensures { OnOk result (own.new.items ≡ own.old.items ++ faults_on store (fault.now ∷ [])) }
-{
-    if is_on(fault, store) {
-        own.extend_from_slice(&[(fault.1, fault.2)])?;
-    }
-    Ok(())
-}
-
-fn is_on(fault: &(Store, u64, Fate), store: Store) -> bool
-    ensures { result ≡ same_store fault.now.0 store }
-{
-    matches!(
-        (fault.0, store),
-        (Store::Cells, Store::Cells) | (Store::Table, Store::Table) | (Store::Master, Store::Master)
-    )
 }

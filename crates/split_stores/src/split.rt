@@ -3,16 +3,17 @@ ghost use Rattle.std.specs.Prelude.{◌≡◌, ◌≤◌, All, IfOk, false, leng
 ghost use Rattle.split_stores.specs.Logs.{IsNew};
 ghost use Rattle.split_stores.specs.Makes.{planned_by};
 
-use crate::opening::{cut, faults_on, free_sessions, plan_of, vacant_nodes};
-use crate::parts::{
-    CellsPart, ClockPart, JanitorPart, MasterPart, NamesPart, NodePart, SessionPart, TablePart,
-};
+use crate::opening::{cut, free_sessions, plan_of, vacant_nodes};
 use crate::plan::Plan;
 use crate::seat::ActorSeat;
 use cell_store::Cells;
 use commit_table::Table;
 use master_record::Master;
 use session_script::Script;
+use split_parts::{
+    CellsPart, ClockPart, JanitorPart, MasterPart, NamesPart, NodePart, SessionPart, TablePart,
+    faults_on,
+};
 use stamp_base::{NoMemory, Store};
 use std::alloc::Global;
 use std::marker::Model;

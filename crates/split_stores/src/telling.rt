@@ -14,7 +14,7 @@ use takeover_core::Post;
 impl Split {
     /// What the session is doing.
     pub fn doing<R: Wait>(&self, rt: &R, session: SessionNo) -> Doing {
-        doing_of(&self.sessions[session.index()].lock(rt).client)
+        doing_of(self.sessions[session.index()].lock(rt).client())
     }
 
     /// The first node that holds a request of the session, with the request and the place where that stands.
@@ -25,8 +25,8 @@ impl Split {
     ) -> Option<(NodeNo, Request, Place)> {
         for node in &self.nodes {
             let part = node.lock(rt);
-            if let Some((request, place)) = request_at(&part.post, session) {
-                return Some((part.node, request, place));
+            if let Some((request, place)) = request_at(part.post(), session) {
+                return Some((part.node(), request, place));
             }
         }
         None
@@ -34,12 +34,12 @@ impl Split {
 
     /// Whether a sweep is open.
     pub fn sweeping<R: Wait>(&self, rt: &R) -> bool {
-        self.janitor.lock(rt).sweep.is_some()
+        self.janitor.lock(rt).sweep().is_some()
     }
 
     /// Whether the name is posted.
     pub fn posted<R: Wait>(&self, rt: &R, name: &Name) -> bool {
-        self.names.lock(rt).names.contains(name)
+        self.names.lock(rt).contains(name)
     }
 }
 

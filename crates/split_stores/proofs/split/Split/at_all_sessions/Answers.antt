@@ -1,6 +1,6 @@
 use Rattle.std.proofs.Common.{rules, ap}
-use Rattle.split_stores.specs.Parts.{Parts, seen}
-use Rattle.split_stores.proofs.LockLemmas.{kept_below}
+use Rattle.split_parts.specs.Parts.{Parts, seen}
+use Rattle.split_parts.proofs.LentSessions.{kept_below}
 use Rattle.split_stores.proofs.split.Split.at_all_sessions.Goals as goal
 
 pub inside-requires-clause-parts : goal.inside-requires-clause-parts

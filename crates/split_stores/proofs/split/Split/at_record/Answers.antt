@@ -1,5 +1,5 @@
 use Rattle.std.proofs.Common.{rules}
-use Rattle.split_stores.specs.Parts.{seen}
+use Rattle.split_parts.specs.Parts.{seen}
 use Rattle.split_stores.proofs.split.Split.at_record.Goals as goal
 
 pub inside-requires-clause-parts : goal.inside-requires-clause-parts

@@ -1,6 +1,6 @@
 use Rattle.std.proofs.Common.{arith}
-use Rattle.split_stores.specs.Parts.{seen}
-use Rattle.split_stores.proofs.LockLemmas.{lent_session}
+use Rattle.split_parts.specs.Parts.{seen}
+use Rattle.split_parts.proofs.LentSessions.{lent_session}
 use Rattle.split_stores.proofs.split.Split.at_session.Goals as goal
 
 pub inside-requires-clause-parts : goal.inside-requires-clause-parts

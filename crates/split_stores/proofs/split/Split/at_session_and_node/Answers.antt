@@ -1,6 +1,6 @@
 use Rattle.std.proofs.Common.{rules, ap, arith}
-use Rattle.split_stores.specs.Parts.{Parts, seen}
-use Rattle.split_stores.proofs.LockLemmas.{kept_session, lent_session}
+use Rattle.split_parts.specs.Parts.{Parts, seen}
+use Rattle.split_parts.proofs.LentSessions.{kept_session, lent_session}
 use Rattle.split_stores.proofs.split.Split.at_session_and_node.Goals as goal
 
 pub inside-requires-clause-parts : goal.inside-requires-clause-parts

@@ -1,0 +1,7 @@
+use Rattle.std.proofs.Common.{ℕ, ◌<◌}
+use Rattle.split_parts.specs.Agrees.{IsAsked}
+use Rattle.split_parts.specs.Parts.{filled, seen}
+use Rattle.split_parts.proofs.lent.Lent.crash_fits.Given as goal
+
+abbrev pub invariant-loop-number : goal.invariant-loop-number
+invariant-loop-number l = (session : ℕ) → session < l.number → IsAsked (filled (seen l.self)) l.node session

@@ -1,0 +1,71 @@
+-- What an event makes of the parts that are lent to it.
+use Rattle.std.specs.Prelude.{◌≡◌, ℕ, ◌+◌, List, Option, None, Some}
+use Rattle.stamp_base.specs.declared.stores.Store.{Store}
+use Rattle.machine.specs.declared.event.Event as machine
+use Rattle.machine.specs.declared.event.Event.TheVariants as timed
+use Rattle.machine.specs.Effect.{Stop, Refuses, Faults}
+use Rattle.machine.specs.Machine.{Step, stepped, asks}
+use Rattle.turn_rules.specs.Carried.{names_after}
+use Rattle.event_parts.specs.declared.stopped.Stopped.{Stopped}
+use Rattle.event_parts.specs.declared.stopped.Stopped.TheVariants.{Refused, StoreFault}
+use Rattle.split_parts.specs.declared.acting.Acted.{Acted}
+use Rattle.split_parts.specs.declared.event.Event.{Event}
+use Rattle.split_parts.specs.declared.event.Event.TheVariants as event
+use Rattle.split_parts.specs.Parts.{Parts, filled, given, given_from, base_by, reading_by, fate_of, called}
+
+-- the event of the machine: a tick goes up to the base clock with its rise, and a reading is that of the lent node's clock
+abbrev pub timed_by : Parts → Event → machine.Event
+timed_by l (event.Tick by) = timed.Tick (base_by l.clock + by)
+timed_by l (event.Note actor note) = timed.Note actor note
+timed_by l (event.Take node) = timed.Take node (reading_by l)
+timed_by l (event.Renew node) = timed.Renew node (reading_by l)
+timed_by l (event.Extend node) = timed.Extend node
+timed_by l (event.Crash node) = timed.Crash node
+timed_by l (event.AskBegin session node) = timed.AskBegin session node
+timed_by l (event.AskCommit session node) = timed.AskCommit session node
+timed_by l (event.Accept node session) = timed.Accept node session (reading_by l)
+timed_by l (event.Decide node session) = timed.Decide node session
+timed_by l (event.Put node session) = timed.Put node session
+timed_by l (event.Answer node session) = timed.Answer node session
+timed_by l (event.Write session key value) = timed.Write session key value
+timed_by l (event.Fetch session key) = timed.Fetch session key
+timed_by l (event.Step session) = timed.Step session
+timed_by l (event.Heal session) = timed.Heal session
+timed_by l (event.Abort session) = timed.Abort session
+timed_by l (event.Vanish session) = timed.Vanish session
+timed_by l (event.SweepOpen node txn) = timed.SweepOpen node txn
+timed_by l event.SweepStep = timed.SweepStep
+
+-- the store that the event asks of the parts
+abbrev pub asked_of : Parts → machine.Event → Option Store
+asked_of l e = asks (filled l) e
+
+-- the step of the filled state, under the planned fate of the call that the event makes
+abbrev pub step_of : Parts → machine.Event → Step
+step_of l e = stepped (filled l) e (fate_of l (asked_of l e))
+
+abbrev pub names_noted : Option (List (List ℕ)) → machine.Event → Option (List (List ℕ))
+names_noted None e = None
+names_noted (Some names) e = Some (names_after names e)
+
+-- a tick sets the base clock, and a note that posts a name joins it to the names
+abbrev pub noted : machine.Event → Parts → Parts
+noted (timed.Tick to) l = record l { clock = given l.clock to }
+noted (timed.Note actor note) l = record l { names = names_noted l.names (timed.Note actor note) }
+noted _ l = l
+
+-- the lent parts after the event: those of the next state, with the call counted, and the event noted
+abbrev pub parts_after : Parts → machine.Event → Parts
+parts_after l e = noted e (called (asked_of l e) (given_from l (step_of l e).state))
+
+-- how the event's method answers, where it is not done
+abbrev pub stopped_of : Option Stop → Option Stopped
+stopped_of None = None
+stopped_of (Some (Refuses why)) = Some (Refused why)
+stopped_of (Some (Faults store)) = Some (StoreFault store)
+
+-- the items are those of the step, and the parts are those after it
+pub record Acts (l now : Parts) (e : machine.Event) (acted : Acted) : Type 0 where
+  pub items : acted.items.items ≡ (step_of l e).items
+  pub stopped : acted.stopped ≡ stopped_of (step_of l e).stop
+  pub parts : now ≡ parts_after l e

@@ -1,0 +1,288 @@
+-- The parts that are lent to an event, and the state that is filled up around them.
+use Rattle.std.specs.Prelude.{◌≡◌, ℕ, zero, suc, ◌+◌, List, [], ◌∷◌, slice_set, slice_index_or, Option, None, Some, IfSome}
+use Rattle.std.specs.Borrow.{MutBor}
+use Rattle.stamp_base.specs.SetupNumbers.{SetupNumbers, default_numbers}
+use Rattle.stamp_base.specs.Setups.{numbers_of}
+use Rattle.stamp_base.specs.declared.stores.Store.{Store}
+use Rattle.stamp_base.specs.declared.stores.Store.TheVariants as store
+use Rattle.port_io.specs.declared.weather.Fate.{Fate}
+use Rattle.port_io.specs.declared.weather.Fate.TheVariants.{Works}
+use Rattle.store_parts.specs.Rows.{Row}
+use Rattle.store_parts.specs.Pairs.{Pairs}
+use Rattle.store_parts.specs.Record.{MasterRecord, Leasing}
+use Rattle.client_parts.specs.Sweep.{Sweeping}
+use Rattle.oracle_parts.specs.Instance.{InstanceEntry}
+use Rattle.machine.specs.State.{Client, State, opening}
+use Rattle.machine.specs.Events.Take.{rules_of}
+use Rattle.posted_names.specs.Names.{Posted}
+use Rattle.split_parts.specs.Calls.{NumberedFault, fate_at}
+use Rattle.split_parts.specs.declared.calls.PlannedCalls.{PlannedCalls}
+use Rattle.split_parts.specs.declared.lent.Lent.{Lent}
+use Rattle.split_parts.specs.declared.parts.SessionPart.{SessionPart}
+use Rattle.split_parts.specs.declared.parts.JanitorPart.{JanitorPart}
+use Rattle.split_parts.specs.declared.parts.ClockPart.{ClockPart}
+use Rattle.split_parts.specs.declared.parts.NodePart.{NodePart}
+use Rattle.split_parts.specs.declared.parts.CellsPart.{CellsPart}
+use Rattle.split_parts.specs.declared.parts.TablePart.{TablePart}
+use Rattle.split_parts.specs.declared.parts.MasterPart.{MasterPart}
+use Rattle.split_parts.specs.declared.parts.NamesPart.{NamesPart}
+
+-- ---- the parts as contracts see them
+-- the planned faults on a store, and how many calls there were
+pub record Calls : Type 0 where
+  pub faults : List NumberedFault
+  pub made : ℕ
+
+pub record Node : Type 0 where
+  pub node : ℕ
+  pub lead : ℕ
+  pub setup : SetupNumbers
+  pub instance : Option InstanceEntry
+
+pub record CellRows : Type 0 where
+  pub rows : List Row
+  pub calls : Calls
+
+pub record Marks : Type 0 where
+  pub pairs : Pairs
+  pub calls : Calls
+
+pub record Record : Type 0 where
+  pub rules : Leasing
+  pub state : MasterRecord
+  pub calls : Calls
+
+-- the parts that are lent, and those that are not
+pub record Parts : Type 0 where
+  pub sessions : List (Option Client)
+  pub janitor : Option (Option Sweeping)
+  pub clock : Option ℕ
+  pub node : Option Node
+  pub cells : Option CellRows
+  pub table : Option Marks
+  pub master : Option Record
+  pub names : Option (List (List ℕ))
+
+-- ---- what stands behind the references
+abbrev pub behind : {P S : Type 0} → (P → S) → Option (MutBor P) → Option S
+behind see None = None
+behind see (Some r) = Some (see r.now)
+
+abbrev pub calls_of : PlannedCalls → Calls
+calls_of c = record { faults = c.faults.items; made = c.made }
+
+abbrev pub session_of : SessionPart → Client
+session_of p = p.client
+
+abbrev pub janitor_of : JanitorPart → Option Sweeping
+janitor_of p = p.sweep
+
+abbrev pub clock_of : ClockPart → ℕ
+clock_of p = p.base
+
+abbrev pub node_of : NodePart → Node
+node_of p = record { node = p.node; lead = p.lead; setup = numbers_of p.setup; instance = p.post }
+
+abbrev pub cells_of : CellsPart → CellRows
+cells_of p = record { rows = p.cells.rows; calls = calls_of p.calls }
+
+abbrev pub table_of : TablePart → Marks
+table_of p = record { pairs = p.table.pairs; calls = calls_of p.calls }
+
+abbrev pub master_of : MasterPart → Record
+master_of p = record { rules = p.master.rules; state = p.master.state; calls = calls_of p.calls }
+
+abbrev pub names_of : NamesPart → List (List ℕ)
+names_of p = p.names.names
+
+abbrev pub sessions_seen : Lent → List (Option Client)
+sessions_seen l =
+    behind session_of l.s0 ∷ behind session_of l.s1 ∷ behind session_of l.s2 ∷ behind session_of l.s3 ∷ behind session_of l.s4 ∷ behind session_of l.s5 ∷ behind session_of l.s6 ∷ behind session_of l.s7 ∷ behind session_of l.s8 ∷ behind session_of l.s9 ∷ behind session_of l.s10 ∷ behind session_of l.s11 ∷ behind session_of l.s12 ∷ behind session_of l.s13 ∷ behind session_of l.s14 ∷ behind session_of l.s15 ∷ []
+
+abbrev pub seen : Lent → Parts
+seen l = record {
+  sessions = sessions_seen l;
+  janitor = behind janitor_of l.janitor;
+  clock = behind clock_of l.clock;
+  node = behind node_of l.node;
+  cells = behind cells_of l.cells;
+  table = behind table_of l.table;
+  master = behind master_of l.master;
+  names = behind names_of l.names;
+}
+
+-- the names with the room for more
+abbrev pub posted_of : NamesPart → Posted
+posted_of p = p.names
+
+-- what is lent besides the sessions
+pub record Rest : Type 0 where
+  pub janitor : Option (Option Sweeping)
+  pub clock : Option ℕ
+  pub node : Option Node
+  pub cells : Option CellRows
+  pub table : Option Marks
+  pub master : Option Record
+  pub posted : Option Posted
+
+abbrev pub rest_of : Lent → Rest
+rest_of l = record {
+  janitor = behind janitor_of l.janitor;
+  clock = behind clock_of l.clock;
+  node = behind node_of l.node;
+  cells = behind cells_of l.cells;
+  table = behind table_of l.table;
+  master = behind master_of l.master;
+  posted = behind posted_of l.names;
+}
+
+-- ---- the filled state
+abbrev pub or_else : {T : Type 0} → Option T → T → T
+or_else None there = there
+or_else (Some lent) there = lent
+
+-- where a part is lent, it has this value
+abbrev pub given : {T : Type 0} → Option T → T → Option T
+given None now = None
+given (Some was) now = Some now
+
+-- the clients of which the first n sessions are the lent ones, where they are lent
+unfoldable pub lent_clients : ℕ → List Client → List (Option Client) → List Client
+lent_clients zero clients sessions = clients
+lent_clients (suc n) [] sessions = []
+lent_clients (suc n) (c ∷ clients) [] = c ∷ clients
+lent_clients (suc n) (c ∷ clients) (s ∷ sessions) = or_else s c ∷ lent_clients n clients sessions
+
+-- the lent sessions of which the first n are as the clients are
+unfoldable pub given_sessions : ℕ → List (Option Client) → List Client → List (Option Client)
+given_sessions zero sessions clients = sessions
+given_sessions (suc n) [] clients = []
+given_sessions (suc n) (s ∷ sessions) [] = s ∷ sessions
+given_sessions (suc n) (s ∷ sessions) (c ∷ clients) = given s c ∷ given_sessions n sessions clients
+
+abbrev pub lent_nodes : List (Option InstanceEntry) → Option Node → List (Option InstanceEntry)
+lent_nodes nodes None = nodes
+lent_nodes nodes (Some n) = slice_set nodes n.node n.instance
+
+abbrev pub lent_rows : List Row → Option CellRows → List Row
+lent_rows rows None = rows
+lent_rows rows (Some part) = part.rows
+
+abbrev pub lent_pairs : Pairs → Option Marks → Pairs
+lent_pairs pairs None = pairs
+lent_pairs pairs (Some part) = part.pairs
+
+abbrev pub lent_master : MasterRecord → Option Record → MasterRecord
+lent_master master None = master
+lent_master master (Some part) = part.state
+
+-- the state with the lent parts in place of its own
+abbrev pub with_lent : State → Parts → State
+with_lent w l = record w {
+  clients = lent_clients 16 w.clients l.sessions;
+  nodes = lent_nodes w.nodes l.node;
+  sweep = or_else l.janitor w.sweep;
+  rows = lent_rows w.rows l.cells;
+  pairs = lent_pairs w.pairs l.table;
+  master = lent_master w.master l.master;
+}
+
+abbrev pub given_node : List (Option InstanceEntry) → Option Node → Option Node
+given_node nodes None = None
+given_node nodes (Some n) = Some (record n { instance = slice_index_or nodes n.node n.instance })
+
+abbrev pub given_rows : List Row → Option CellRows → Option CellRows
+given_rows rows None = None
+given_rows rows (Some part) = Some (record part { rows = rows })
+
+abbrev pub given_pairs : Pairs → Option Marks → Option Marks
+given_pairs pairs None = None
+given_pairs pairs (Some part) = Some (record part { pairs = pairs })
+
+abbrev pub given_master : MasterRecord → Option Record → Option Record
+given_master master None = None
+given_master master (Some part) = Some (record part { state = master })
+
+-- the lent parts as the state has them; clock, names and counts stay
+abbrev pub given_from : Parts → State → Parts
+given_from l w = record l {
+  sessions = given_sessions 16 l.sessions w.clients;
+  janitor = given l.janitor w.sweep;
+  node = given_node w.nodes l.node;
+  cells = given_rows w.rows l.cells;
+  table = given_pairs w.pairs l.table;
+  master = given_master w.master l.master;
+}
+
+-- the setup of the lent node, or what holds where a script sets nothing
+abbrev pub setup_by : Option Node → SetupNumbers
+setup_by None = default_numbers
+setup_by (Some n) = n.setup
+
+abbrev pub setup_of : Parts → SetupNumbers
+setup_of l = setup_by l.node
+
+-- the state that has the lent parts, and is as at the opening elsewhere
+abbrev pub filled : Parts → State
+filled l = with_lent (opening (setup_of l)) l
+
+-- the lent record leases by that setup
+abbrev pub LeasesBySetup : Parts → Type 0
+LeasesBySetup l = IfSome l.master (λ part. part.rules ≡ rules_of (setup_of l))
+
+-- ---- clock and fates
+abbrev pub base_by : Option ℕ → ℕ
+base_by None = 0
+base_by (Some base) = base
+
+abbrev pub lead_by : Option Node → ℕ
+lead_by None = 0
+lead_by (Some n) = n.lead
+
+-- the reading of the lent node's clock
+abbrev pub reading_by : Parts → ℕ
+reading_by l = base_by l.clock + lead_by l.node
+
+abbrev pub next_fate : Calls → Fate
+next_fate calls = fate_at calls.faults (calls.made + 1)
+
+abbrev pub cells_fate : Option CellRows → Fate
+cells_fate None = Works
+cells_fate (Some part) = next_fate part.calls
+
+abbrev pub table_fate : Option Marks → Fate
+table_fate None = Works
+table_fate (Some part) = next_fate part.calls
+
+abbrev pub master_fate : Option Record → Fate
+master_fate None = Works
+master_fate (Some part) = next_fate part.calls
+
+-- the planned fate of the next call on the store
+abbrev pub fate_of : Parts → Option Store → Fate
+fate_of l None = Works
+fate_of l (Some store.Cells) = cells_fate l.cells
+fate_of l (Some store.Table) = table_fate l.table
+fate_of l (Some store.Master) = master_fate l.master
+
+-- ---- what a store call counts
+abbrev pub once_more : Calls → Calls
+once_more calls = record calls { made = calls.made + 1 }
+
+abbrev pub cells_called : Option CellRows → Option CellRows
+cells_called None = None
+cells_called (Some part) = Some (record part { calls = once_more part.calls })
+
+abbrev pub table_called : Option Marks → Option Marks
+table_called None = None
+table_called (Some part) = Some (record part { calls = once_more part.calls })
+
+abbrev pub master_called : Option Record → Option Record
+master_called None = None
+master_called (Some part) = Some (record part { calls = once_more part.calls })
+
+abbrev pub called : Option Store → Parts → Parts
+called None l = l
+called (Some store.Cells) l = record l { cells = cells_called l.cells }
+called (Some store.Table) l = record l { table = table_called l.table }
+called (Some store.Master) l = record l { master = master_called l.master }

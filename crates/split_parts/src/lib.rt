@@ -1,0 +1,23 @@
+//! The parts of the system, which are lent to one event at a time: whether those that are lent agree, and what the event makes of
+//! them.
+#![tactic(auto)]
+
+mod acting;
+mod agreeing;
+mod calls;
+mod deciding;
+mod event;
+mod lending;
+mod lent;
+mod making;
+mod parts;
+mod swapping;
+
+pub use acting::{Acted, act};
+pub use agreeing::agrees;
+pub use calls::faults_on;
+pub use event::Event;
+pub use lent::Lent;
+pub use parts::{
+    CellsPart, ClockPart, JanitorPart, MasterPart, NamesPart, NodePart, SessionPart, TablePart,
+};

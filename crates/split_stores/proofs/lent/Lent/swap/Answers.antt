@@ -1,6 +1,0 @@
-use Rattle.std.proofs.Common.{rules, ap}
-use Rattle.split_stores.proofs.Giving.{same_parts}
-use Rattle.split_stores.proofs.lent.Lent.swap.Goals as goal
-
-pub returns-clause-parts : goal.returns-clause-parts
-returns-clause-parts c = same_parts _ _ c.swap_sessions.ensures.sessions (search rules) (ap (λ r. r.clock) c.swap_sessions.ensures.rest) (search rules) (search rules) (search rules) (search rules) (search rules)

@@ -1,7 +1,0 @@
-use Rattle.std.proofs.Common.{◌+◌, sym, subst}
-use Rattle.split_stores.specs.Locks.{HasSessionsBelow}
-use Rattle.split_stores.proofs.LockLemmas.{below_more}
-use Rattle.split_stores.proofs.lent.Lent.with_next_session.Goals as goal
-
-pub returns : goal.returns
-returns c = subst (HasSessionsBelow (c.args.number + 1)) (sym c.with_session.ensures) (below_more _ c.args.number _ c.requires.number c.requires.below)
