@@ -16,6 +16,8 @@ LINES = 131_072
 # the longest history that is read back, in bytes
 READ_BACK = 16 * 1024 * 1024
 WIDE = ["range 1000000000", "lease 1000000"]
+# the causes of refusals for which a session's or the janitor's own part is enough
+OF_ONE_PART = ("busy", "gone", "idle", "no-transaction")
 # how the scripts of one session or one node begin
 HEAD = [*WIDE, "a take"]
 
@@ -283,20 +285,41 @@ def threads(program, work, runs, loads):
               f"{len(script) / wall:9.0f} {wall / median(replay, 'wall'):9.1f}", flush=True)
 
 
+def locked_together(history):
+    """Of a history's events, the share of those that lock two parts or more: all but ticks, notes, aborts, vanishes, and what is refused to a
+    session or the janitor by its own part. An event is seen by its first item, and so not where it appended none; a read, and what a
+    session is told by its own step, are items of the event before. It is of histories without crashes, faults and sweeps. With it, how many
+    events were refused as busy."""
+    events, together, busy, before = 0, 0, 0, ["", ""]
+    with open(history) as it:
+        for line in it:
+            words = line.split()
+            told = words[0] == "read" or words[0] in ("committed", "end") and before[:2] == ["step", words[1]]
+            alone = words[0] in ("tick", "note", "vanish") or words[-1] == "aborted" or words[0] == "refused" and words[2] in OF_ONE_PART
+            events += not told
+            together += not told and not alone
+            busy += words[0] == "refused" and words[2] == "busy"
+            before = words
+    return together / events, busy
+
+
 def over_split_stores(program, work, runs, loads):
-    print(f"{'load of run split':28} {'lines':>7} {'wall':>7} {'user':>7} {'system':>7} {'switches':>9} {'a line':>7} {'lines/s':>9} {'of run':>9} {'of replay':>9}")
+    print(f"{'load of run split':28} {'lines':>7} {'wall':>7} {'user':>7} {'system':>7} {'switches':>9} {'a line':>7} {'lines/s':>9} {'of run':>9} "
+          f"{'of replay':>9} {'two parts':>9} {'busy':>6}")
     for name, script in loads:
-        given, other = os.path.join(work, "script"), os.path.join(work, "other")
+        given, history, other = (os.path.join(work, it) for it in ("script", "history", "other"))
         with open(given, "w") as it:
             it.write("\n".join(script) + "\n")
         costs = {words: [] for words in ("run split", "run", "replay")}
         for _ in range(runs):
             for words, those in costs.items():
-                those.append(ran([program, *words.split()], given, other))
+                those.append(ran([program, *words.split()], given, history if words == "run split" else other))
         split = costs["run split"]
         wall, switches = median(split, "wall"), median(split, "switches")
+        together, busy = locked_together(history)
         print(f"{name:28} {len(script):7} {wall:7.3f} {median(split):7.3f} {median(split, 'system'):7.3f} {switches:9.0f} {switches / len(script):7.2f} "
-              f"{len(script) / wall:9.0f} {wall / median(costs['run'], 'wall'):9.2f} {wall / median(costs['replay'], 'wall'):9.1f}", flush=True)
+              f"{len(script) / wall:9.0f} {wall / median(costs['run'], 'wall'):9.2f} {wall / median(costs['replay'], 'wall'):9.1f} "
+              f"{together:9.1%} {busy / len(script):6.1%}", flush=True)
 
 
 def main():
