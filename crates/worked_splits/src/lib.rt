@@ -2,10 +2,14 @@
 #![tactic(auto)]
 
 #[cfg(test)]
+mod agreeing;
+#[cfg(test)]
 mod calls;
 #[cfg(test)]
 mod logs;
 #[cfg(test)]
 mod meeting;
+#[cfg(test)]
+mod orders;
 #[cfg(test)]
 mod scripts;

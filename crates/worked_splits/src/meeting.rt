@@ -1,13 +1,7 @@
 // Two events that have no part in common are made beside each other.
-ghost use Rattle.std.specs.Prelude.{◌≤◌, IfOk, vec_len};
-ghost use Rattle.stamp_base.specs.declared.limits.TheConstants.{LINE_LIMIT};
-ghost use Rattle.session_script.specs.Script.{data_of};
-ghost use Rattle.split_driver.specs.Splits.{MaySplit};
-
-use session_script::{Mode, Script, ScriptFault, read_script};
-use split_driver::{run_split, split_scripts_may_split};
+use crate::calls::read;
+use split_driver::run_split;
 use split_stores::{Event, PartGate};
-use std::alloc::Global;
 use std::sync::Wait;
 use std::sync::atomic::{AtomicBool, Ordering};
 use std::test::Fail;
@@ -82,15 +76,6 @@ s1 step
 s0 await p3
 s0 write k1 w
 ";
-
-/// The script that the text is.
-fn read(alloc: Global, text: &str) -> Result<Script, ScriptFault>
-    ensures may_split { IfOk result (λ script. MaySplit (data_of script)) }
-    ensures few { IfOk result (λ script. vec_len script.lines ≤ LINE_LIMIT) }
-{
-    split_scripts_may_split();
-    read_script(alloc, text.as_bytes(), Mode::Split)
-}
 
 /// No single thread passes this gate, nor do threads behind one lock.
 #[test]

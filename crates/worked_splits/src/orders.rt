@@ -1,0 +1,73 @@
+// Events that have two parts in common lock them in one order.
+use crate::calls::read;
+use split_driver::run_split;
+use split_stores::{Event, PartGate};
+use std::alloc::{AllocError, Global};
+use std::sync::Wait;
+use std::test::Fail;
+use std::thread;
+
+/// How often the actors carry out their lines.
+const ROUNDS: usize = 200;
+
+/// For how many turns an event gives way under its locks.
+const TURNS: usize = 8;
+
+/// A gate at which each event gives way to others, which come to their locks meanwhile.
+struct GivingGate;
+
+impl PartGate for GivingGate {
+    fn inside<R: Wait>(&self, _rt: &R, _event: &Event) {
+        for _ in 0..TURNS {
+            thread::yield_now();
+        }
+    }
+}
+
+/// A node that draws one stamp at a time.
+const HEAD: &str = "\
+nodes 2
+range 1
+lease 1000000
+a take
+a post p1
+s0 await p1
+";
+
+/// Four actors, whose events have these pairs of parts in common, by two kinds of event each: the session and a node, the clock and the
+/// node, and the node and the master record.
+const ROUND: &str = "\
+s0 begin a
+s0 write k0 v
+s0 commit a
+s0 begin b
+a accept s0
+a renew
+a accept s0
+a renew
+a accept s0
+a renew
+a accept s0
+a renew
+b crash
+b crash
+clock tick 1
+";
+
+fn rounds(alloc: Global) -> Result<String, AllocError> {
+    let mut text = HEAD.to_string(alloc)?;
+    for _ in 0..ROUNDS {
+        text.push_str(ROUND)?;
+    }
+    Ok(text)
+}
+
+/// Where one kind of event locks two of these parts in another order than the others, two actors soon wait for each other for ever.
+#[test]
+fn parts_are_locked_in_one_order(rt: HostRuntime) -> Result<(), Fail> {
+    let text = rounds(rt.alloc())?;
+    let script = read(rt.alloc(), text.as_str()).ok().ok_or("a script")?;
+    let split = run_split(&rt, rt.alloc(), &script, &GivingGate);
+    assert!(rt; split.is_ok());
+    Ok(())
+}
