@@ -6,15 +6,11 @@ use Rattle.std.proofs.lemmas.List.Elements.{All-nil, All-cons, All-head, All-tai
 use Rattle.atomic_table.specs.Seated.{TableId}
 use Rattle.history_book.specs.declared.item.Actor.{Actor}
 use Rattle.script_data.specs.declared.line.Line.{Line}
-use Rattle.split_stores.specs.declared.seat.Entry.{Entry}
 use Rattle.split_stores.specs.Logs.{Logged, IsNew, ticks_of, rises_above}
 use Rattle.seat_lines.specs.Follows.{FollowsLines}
 use Rattle.seat_lines.specs.Laws.{AllRise}
 use Rattle.split_runs.specs.declared.stop.PlayStop.{PlayStop}
-use Rattle.split_runs.specs.declared.stop.PlayStop.TheVariants as play
-use Rattle.split_runs.specs.Runs.{TellsDrawn}
 use Rattle.split_driver.specs.declared.playing.Job.{Job}
-use Rattle.split_driver.specs.declared.playing.Played.{Played}
 use Rattle.split_driver.specs.Actors.{DrewAll, IsJobOf, IsPlayedBy, IsPlayedOf, IsThrough}
 
 -- ---- two lists, place by place
@@ -25,27 +21,12 @@ zip_more R [] (b ∷ ys) x y so r = absurd so
 zip_more R (a ∷ xs) [] x y so r = absurd so
 zip_more R (a ∷ xs) (b ∷ ys) x y so r = (so.0, zip_more R xs ys x y so.1 r)
 
--- the item of the first list at a place stands so to the one of the second
-pub record IsAt {A B : Type 0} (R : A → B → Type 0) (xs : List A) (i : ℕ) (y : B) : Type 0 where
-  pub item : A
-  pub there : (d : A) → slice_index_or xs i d ≡ item
-  pub so : R item y
-
-abbrev pub AreAt : {A B : Type 0} → (A → B → Type 0) → List A → List B → Type 0
-AreAt {A} {B} R xs ys = (i : ℕ) (e : B) → i < length xs → IsAt R xs i (slice_index_or ys i e)
-
-later_at : {A B : Type 0} (R : A → B → Type 0) (x : A) (y : B) (xs : List A) (ys : List B) → AreAt R (x ∷ xs) (y ∷ ys) → AreAt R xs ys
-later_at R x y xs ys at i e within =
-    let k = at (suc i) e (omega (arith, within)) in
-    record { item = k.item; there = k.there; so = k.so }
-
-pub zip_of_places : {A B : Type 0} (R : A → B → Type 0) (xs : List A) (ys : List B) → length ys ≡ length xs → AreAt R xs ys → AllZip R xs ys
+-- what holds at each place holds of the lists
+pub zip_of_places : {A : Type 0} (R : A → A → Type 0) (xs ys : List A) → length ys ≡ length xs → ((i : ℕ) (d : A) → i < length xs → R (slice_index_or xs i d) (slice_index_or ys i d)) → AllZip R xs ys
 zip_of_places R [] [] long at = tt
 zip_of_places R [] (y ∷ ys) long at = absurd (omega (arith, long))
 zip_of_places R (x ∷ xs) [] long at = absurd (omega (arith, long))
-zip_of_places R (x ∷ xs) (y ∷ ys) long at =
-    let k = at 0 y (omega arith) in
-    (subst (λ a. R a y) (sym (k.there x)) k.so, zip_of_places R xs ys (omega (arith, long)) (later_at R x y xs ys at))
+zip_of_places R (x ∷ xs) (y ∷ ys) long at = (at 0 x (omega arith), zip_of_places R xs ys (omega (arith, long)) (λ i d within. at (suc i) d (omega (arith, within))))
 
 -- ---- jobs
 pub one_job_more : (word : TableId) (actors : List Actor) (jobs : List Job) (actor : Actor) (job : Job) → AllZip (IsJobOf word) actors jobs → IsJobOf word actor job → AllZip (IsJobOf word) (actors ++ actor ∷ []) (jobs ++ job ∷ [])
@@ -58,25 +39,7 @@ all_new word [] (job ∷ jobs) at = absurd at
 all_new word (actor ∷ actors) [] at = absurd at
 all_new word (actor ∷ actors) (job ∷ jobs) at = All-cons (λ (x : Job). IsNew word x.seat) job jobs at.0.new (all_new word actors jobs at.1)
 
--- ---- what an actor hands back
-drew_all : (entries : List Entry) (stop : PlayStop) → TellsDrawn entries stop → DrewAll stop
-drew_all entries (play.Spent drawn) tells = tells.1
-drew_all entries _ tells = tt
-
-spent_of : (entries : List Entry) (answer : Result (Unit {0}) PlayStop) → IfErr answer (TellsDrawn entries) → IfErr answer DrewAll
-spent_of entries (Ok done) tells = tt
-spent_of entries (Err stop) tells = drew_all entries stop tells
-
-pub played_by : (lines : List Line) (job : Job) (log : Logged) (answer : Result (Unit {0}) PlayStop) (played : Played) → log.word ≡ job.seat.word → rises_above 0 (ticks_of log.entries) ≡ true
-    → OnOk answer (FollowsLines lines job.actor log.entries) → IfErr answer (TellsDrawn log.entries) → played.seat ≡ log → played.answer ≡ answer → IsPlayedBy lines job played
-played_by lines job log answer played word rise follows spent seat is = record {
-  word_is = ap (λ (l : Logged). l.word) seat ∙ word;
-  rise = subst (λ (l : Logged). rises_above 0 (ticks_of l.entries) ≡ true) (sym seat) rise;
-  follows = rw (seat, is) follows;
-  spent = rw is (spent_of log.entries answer spent);
-}
-
-played_of : (word : TableId) (lines : List Line) (actor : Actor) (job : Job) (p : Played) → IsJobOf word actor job → IsPlayedBy lines job p → IsPlayedOf word lines actor p
+played_of : (word : TableId) (lines : List Line) (actor : Actor) (job : Job) (p : Job) → IsJobOf word actor job → IsPlayedBy lines job p → IsPlayedOf word lines actor p
 played_of word lines actor job p is by = record {
   word_is = by.word_is ∙ is.new.0;
   rise = by.rise;
@@ -84,7 +47,7 @@ played_of word lines actor job p is by = record {
   spent = by.spent;
 }
 
-pub all_played : (word : TableId) (lines : List Line) (actors : List Actor) (jobs : List Job) (played : List Played) → AllZip (IsJobOf word) actors jobs → AllZip (IsPlayedBy lines) jobs played → AllZip (IsPlayedOf word lines) actors played
+pub all_played : (word : TableId) (lines : List Line) (actors : List Actor) (jobs : List Job) (played : List Job) → AllZip (IsJobOf word) actors jobs → AllZip (IsPlayedBy lines) jobs played → AllZip (IsPlayedOf word lines) actors played
 all_played word lines [] [] [] at ended = tt
 all_played word lines [] [] (p ∷ played) at ended = absurd ended
 all_played word lines [] (job ∷ jobs) played at ended = absurd at
@@ -99,45 +62,45 @@ through (Err stop) P is holds = absurd is
 
 module _ (word : TableId) (lines : List Line) where
   -- where all came to the end of their lines, the logs follow these
-  all_follow : (actors : List Actor) (played : List Played) → AllZip (IsPlayedOf word lines) actors played → All (λ (p : Played). IsThrough p.answer) played → AllZip (λ (actor : Actor) (log : Logged). FollowsLines lines actor log.entries) actors (map (λ (p : Played). p.seat) played)
+  all_follow : (actors : List Actor) (played : List Job) → AllZip (IsPlayedOf word lines) actors played → All (λ (p : Job). IsThrough p.answer) played → AllZip (λ (actor : Actor) (log : Logged). FollowsLines lines actor log.entries) actors (map (λ (p : Job). p.seat) played)
   all_follow [] [] at whole = tt
   all_follow [] (p ∷ played) at whole = absurd at
   all_follow (actor ∷ actors) [] at whole = absurd at
   all_follow (actor ∷ actors) (p ∷ played) at whole =
-      let HasEnded : Played → Type 0 = λ x. IsThrough x.answer in
+      let HasEnded : Job → Type 0 = λ x. IsThrough x.answer in
       (through p.answer (FollowsLines lines actor p.seat.entries) (All-head HasEnded p played whole) at.0.follows, all_follow actors played at.1 (All-tail HasEnded p played whole))
 
   -- their ticks rise
-  all_rise : (actors : List Actor) (played : List Played) → AllZip (IsPlayedOf word lines) actors played → AllRise (map (λ (p : Played). p.seat) played)
+  all_rise : (actors : List Actor) (played : List Job) → AllZip (IsPlayedOf word lines) actors played → AllRise (map (λ (p : Job). p.seat) played)
   all_rise [] [] at = All-nil (λ (log : Logged). rises_above 0 (ticks_of log.entries) ≡ true)
   all_rise [] (p ∷ played) at = absurd at
   all_rise (actor ∷ actors) [] at = absurd at
   all_rise (actor ∷ actors) (p ∷ played) at =
-      All-cons (λ (log : Logged). rises_above 0 (ticks_of log.entries) ≡ true) p.seat (map (λ (x : Played). x.seat) played) at.0.rise (all_rise actors played at.1)
+      All-cons (λ (log : Logged). rises_above 0 (ticks_of log.entries) ≡ true) p.seat (map (λ (x : Job). x.seat) played) at.0.rise (all_rise actors played at.1)
 
   -- all logs draw from the word
-  all_of_word : (actors : List Actor) (played : List Played) → AllZip (IsPlayedOf word lines) actors played → All (λ (log : Logged). log.word ≡ word) (map (λ (p : Played). p.seat) played)
+  all_of_word : (actors : List Actor) (played : List Job) → AllZip (IsPlayedOf word lines) actors played → All (λ (log : Logged). log.word ≡ word) (map (λ (p : Job). p.seat) played)
   all_of_word [] [] at = All-nil (λ (log : Logged). log.word ≡ word)
   all_of_word [] (p ∷ played) at = absurd at
   all_of_word (actor ∷ actors) [] at = absurd at
   all_of_word (actor ∷ actors) (p ∷ played) at =
-      All-cons (λ (log : Logged). log.word ≡ word) p.seat (map (λ (x : Played). x.seat) played) at.0.word_is (all_of_word actors played at.1)
+      All-cons (λ (log : Logged). log.word ≡ word) p.seat (map (λ (x : Job). x.seat) played) at.0.word_is (all_of_word actors played at.1)
 
   -- and there are as many as actors
-  all_there : (actors : List Actor) (played : List Played) → AllZip (IsPlayedOf word lines) actors played → length (map (λ (p : Played). p.seat) played) ≡ length actors
+  all_there : (actors : List Actor) (played : List Job) → AllZip (IsPlayedOf word lines) actors played → length (map (λ (p : Job). p.seat) played) ≡ length actors
   all_there [] [] at = refl
   all_there [] (p ∷ played) at = absurd at
   all_there (actor ∷ actors) [] at = absurd at
   all_there (actor ∷ actors) (p ∷ played) at = ap suc (all_there actors played at.1)
 
   -- one who has drawn all its ticks tells so
-  pub all_drew : (actors : List Actor) (played : List Played) → AllZip (IsPlayedOf word lines) actors played → All (λ (p : Played). IfErr p.answer DrewAll) played
-  all_drew [] [] at = All-nil (λ (p : Played). IfErr p.answer DrewAll)
+  pub all_drew : (actors : List Actor) (played : List Job) → AllZip (IsPlayedOf word lines) actors played → All (λ (p : Job). IfErr p.answer DrewAll) played
+  all_drew [] [] at = All-nil (λ (p : Job). IfErr p.answer DrewAll)
   all_drew [] (p ∷ played) at = absurd at
   all_drew (actor ∷ actors) [] at = absurd at
-  all_drew (actor ∷ actors) (p ∷ played) at = All-cons (λ (x : Played). IfErr x.answer DrewAll) p played at.0.spent (all_drew actors played at.1)
+  all_drew (actor ∷ actors) (p ∷ played) at = All-cons (λ (x : Job). IfErr x.answer DrewAll) p played at.0.spent (all_drew actors played at.1)
 
-  module _ (actors : List Actor) (played : List Played) (logs : List Logged) (at : AllZip (IsPlayedOf word lines) actors played) (is : logs ≡ map (λ (p : Played). p.seat) played) where
+  module _ (actors : List Actor) (played : List Job) (logs : List Logged) (at : AllZip (IsPlayedOf word lines) actors played) (is : logs ≡ map (λ (p : Job). p.seat) played) where
     pub seats_of_word : All (λ (log : Logged). log.word ≡ word) logs
     seats_of_word = subst (λ (l : List Logged). All (λ (log : Logged). log.word ≡ word) l) (sym is) (all_of_word actors played at)
 
@@ -147,5 +110,5 @@ module _ (word : TableId) (lines : List Line) where
     pub seats_rise : AllRise logs
     seats_rise = subst (λ (l : List Logged). AllRise l) (sym is) (all_rise actors played at)
 
-    pub seats_follow : All (λ (p : Played). IsThrough p.answer) played → AllZip (λ (actor : Actor) (log : Logged). FollowsLines lines actor log.entries) actors logs
+    pub seats_follow : All (λ (p : Job). IsThrough p.answer) played → AllZip (λ (actor : Actor) (log : Logged). FollowsLines lines actor log.entries) actors logs
     seats_follow whole = subst (AllZip (λ (actor : Actor) (log : Logged). FollowsLines lines actor log.entries) actors) (sym is) (all_follow actors played at whole)

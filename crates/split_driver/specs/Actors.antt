@@ -17,7 +17,6 @@ use Rattle.split_runs.specs.declared.stop.PlayStop.TheVariants as play
 use Rattle.split_driver.specs.declared.ending.End.{End}
 use Rattle.split_driver.specs.declared.ending.End.TheVariants as end
 use Rattle.split_driver.specs.declared.playing.Job.{Job}
-use Rattle.split_driver.specs.declared.playing.Played.{Played}
 use Rattle.split_driver.specs.declared.stop.SplitStop.{SplitStop}
 use Rattle.split_driver.specs.declared.stop.SplitStop.TheVariants as stop
 
@@ -32,14 +31,14 @@ DrewAll (play.Spent drawn) = seat_limit ≤ drawn
 DrewAll _ = Unit {0}
 
 -- the log draws from this word, in rising ticks, and is of the actor's lines where it came to their end
-pub record IsPlayedOf (word : TableId) (lines : List Line) (actor : Actor) (played : Played) : Type 0 where
+pub record IsPlayedOf (word : TableId) (lines : List Line) (actor : Actor) (played : Job) : Type 0 where
   pub word_is : played.seat.word ≡ word
   pub rise : rises_above 0 (ticks_of played.seat.entries) ≡ true
   pub follows : OnOk played.answer (FollowsLines lines actor played.seat.entries)
   pub spent : IfErr played.answer DrewAll
 
 -- so it is with the log of the job
-abbrev pub IsPlayedBy : List Line → Job → Played → Type 0
+abbrev pub IsPlayedBy : List Line → Job → Job → Type 0
 IsPlayedBy lines job played = IsPlayedOf job.seat.word lines job.actor played
 
 -- ---- how they ended

@@ -13,7 +13,7 @@ ghost use Rattle.split_driver.specs.Actors.{DrewAll, IsOfAll, IsPlayedOf, IsSpen
 ghost use Rattle.split_driver.specs.Splits.{Splits};
 
 use crate::SplitStop;
-use crate::playing::Played;
+use crate::playing::Job;
 use cluster_core::Cluster;
 use session_script::Script;
 use split_runs::PlayStop;
@@ -56,7 +56,7 @@ pub(crate) fn finish<R: Wait>(
     alloc: Global,
     script: &Script,
     split: Split,
-    played: Vec<Played>,
+    played: Vec<Job>,
 ) -> Result<Cluster, SplitStop>
     requires plan { split.plan ≡ planned_by script.now }
     requires all { split.seats ≡ length (actors_of (data_of script.now)) }
@@ -72,7 +72,7 @@ pub(crate) fn finish<R: Wait>(
 }
 
 // How all actors together have ended.
-fn end_of(played: &[Played]) -> End
+fn end_of(played: &[Job]) -> End
     requires { All (λ p. IfErr p.answer DrewAll) played.now }
     ensures whole { result ≡ End.Whole → All (λ p. IsThrough p.answer) played.now }
     ensures spent { IsSpentSo result }
@@ -89,7 +89,7 @@ fn settle_whole(
     alloc: Global,
     script: &Script,
     split: Split,
-    played: Vec<Played>,
+    played: Vec<Job>,
 ) -> Result<Cluster, SplitStop>
     requires plan { split.plan ≡ planned_by script.now }
     requires all { split.seats ≡ length (actors_of (data_of script.now)) }
@@ -107,7 +107,7 @@ fn settle_torn<R: Wait>(
     alloc: Global,
     script: &Script,
     split: Split,
-    played: Vec<Played>,
+    played: Vec<Job>,
 ) -> Result<Cluster, SplitStop>
     requires plan { split.plan ≡ planned_by script.now }
     requires all { split.seats ≡ length (actors_of (data_of script.now)) }
@@ -139,7 +139,7 @@ fn wait_for_ever<R: Wait>(rt: &R) -> Result<Cluster, SplitStop>
     unreachable!()
 }
 
-fn seats_of(alloc: Global, played: Vec<Played>) -> Result<Vec<ActorSeat>, NoMemory>
+fn seats_of(alloc: Global, played: Vec<Job>) -> Result<Vec<ActorSeat>, NoMemory>
     ensures { IfOk result (λ seats. seats.items ≡ map (λ p. p.seat) played.items) }
 {
     let mut seats = Vec::with_capacity(alloc, played.len())?;

@@ -17,16 +17,10 @@ use std::sync::Wait;
 use std::thread;
 use std::thread::Threads;
 
-/// An actor with its log.
+/// An actor with its log, and, once it has ended, why it ended before its lines did, if so.
 #[derive(Drop)]
 pub(crate) struct Job {
     pub(crate) actor: Actor,
-    pub(crate) seat: ActorSeat,
-}
-
-/// The log of an actor that has ended, and why it ended before its lines did, if so.
-#[derive(Drop)]
-pub(crate) struct Played {
     pub(crate) seat: ActorSeat,
     pub(crate) answer: Result<(), PlayStop>,
 }
@@ -47,37 +41,43 @@ pub(crate) fn jobs_of(
     for actor in actors {
         // There is a seat for each actor.
         if let Some(seat) = seats.pop() {
-            jobs.push_reserved(Job { actor, seat });
+            jobs.push_reserved(Job {
+                actor,
+                seat,
+                answer: Ok(()),
+            });
         }
     }
     Ok(jobs)
 }
 
-/// Each actor carries out its lines on a thread of its own. Where one cannot be made, actors go on one after another there.
+/// Each actor carries out its lines on a thread of its own. Where one cannot be made, actors go on one after another there. It takes
+/// no memory, so that no actor waits for one that was left out.
 pub(crate) fn play_all<R: Threads + Wait + Sync, G: PartGate>(
     rt: &R,
     alloc: Global,
     split: &Split,
     lines: &[Line],
-    jobs: Vec<Job>,
+    jobs: &mut [Job],
     gate: &G,
-) -> Result<Vec<Played>, NoMemory>
-    requires jobs { All (λ job. IsNew split.now.id job.seat) jobs.items }
+)
+    requires jobs { All (λ job. IsNew split.now.id job.seat) jobs.old }
     requires few { length lines.now ≤ LINE_LIMIT }
     requires ticks { RiseInBounds lines.now }
     requires masters { NameNoMaster lines.now }
-    ensures { IfOk result (λ played. AllZip (IsPlayedBy lines.now) jobs.items played.items) }
+    ensures { AllZip (IsPlayedBy lines.now) jobs.old jobs.new }
 {
     let posting = Posting::new();
-    let played = thread::map_vec(
+    let threads = jobs.len().max(1);
+    thread::for_each_mut(
         rt,
         jobs,
-        &|job| -> Played
-            requires { IsNew split.now.id job.seat × (length lines.now ≤ LINE_LIMIT) × RiseInBounds lines.now × NameNoMaster lines.now }
-            ensures { IsPlayedBy lines.entry.now job result }
+        threads,
+        &|_, job: &mut Job|
+            requires { IsNew split.now.id job.now.seat × (length lines.now ≤ LINE_LIMIT) × RiseInBounds lines.now × NameNoMaster lines.now }
+            ensures { IsPlayedBy lines.entry.now job.entry.now job.exit.now }
         { play(rt, alloc, split, &posting, lines, job, gate) },
-    )?;
-    Ok(played)
+    );
 }
 
 // What the thread of an actor does.
@@ -87,26 +87,24 @@ fn play<R: Wait, G: PartGate>(
     split: &Split,
     posting: &Posting,
     lines: &[Line],
-    job: Job,
+    job: &mut Job,
     gate: &G,
-) -> Played
-    requires new { IsNew split.now.id job.seat }
+)
+    requires new { IsNew split.now.id job.old.seat }
     requires few { length lines.now ≤ LINE_LIMIT }
     requires ticks { RiseInBounds lines.now }
     requires masters { NameNoMaster lines.now }
-    ensures { IsPlayedBy lines.now job result }
+    ensures { IsPlayedBy lines.now job.old job.new }
 {
-    let Job { actor, mut seat } = job;
-    let answer = play_lines(rt, alloc, split, posting, &mut seat, actor, lines, gate);
-    ended(seat, answer)
-}
-
-// The log of an actor that has ended so.
-fn ended(seat: ActorSeat, answer: Result<(), PlayStop>) -> Played
-    ensures seat { result.seat ≡ seat }
-    ensures answer { result.answer ≡ answer }
-    ensures rise { rises_above 0 (ticks_of seat.entries) ≡ true }
-{
-    seat.rises();
-    Played { seat, answer }
+    job.answer = play_lines(
+        rt,
+        alloc,
+        split,
+        posting,
+        &mut job.seat,
+        job.actor,
+        lines,
+        gate,
+    );
+    job.seat.rises();
 }

@@ -1,5 +1,5 @@
 use Rattle.std.proofs.Common.{List, [], ◌∷◌, ◌++◌, refl, sym, subst, arith}
-use Rattle.std.specs.Prelude.{Option}
+use Rattle.std.specs.Prelude.{Option, Ok}
 use Rattle.std.specs.List.{AllZip}
 use Rattle.std.proofs.lemmas.List.{length_push}
 use Rattle.std.proofs.lemmas.List.Elements.{All-pop}
@@ -15,7 +15,7 @@ loop-actor-preserved-in-Some-pop c =
     let h = c.loop-actor.invariant in
     let popped = All-pop (IsNew c.args.split.now.id) c.loop-actor.seats.items c.pop.new.self.items c.pop.result c.pop.ensures.items h.0 in
     let fresh : IsNew c.args.split.now.id c.in-Some-pop.seat = subst (λ (o : Option Logged). IfSome o (IsNew c.args.split.now.id)) c.in-Some-pop.is popped.1 in
-    let job : Job = record { actor = c.in-Some.actor; seat = c.in-Some-pop.seat } in
+    let job : Job = record { actor = c.in-Some.actor; seat = c.in-Some-pop.seat; answer = Ok tt } in
     let n = length_push c.loop-actor.yielded c.in-Some.actor in (
       popped.0,
       omega (arith, n, h.1, c.pop.ensures.len, c.in-Some-pop.ensures.len),
