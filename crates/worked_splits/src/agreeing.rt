@@ -43,35 +43,6 @@ fn begins(alloc: Global, lent: &mut Lent<'_>) -> bool
         && does(alloc, lent, &Event::Answer { node, session })
 }
 
-/// Nothing is lent.
-fn none<'a>() -> Lent<'a> {
-    Lent {
-        s0: None,
-        s1: None,
-        s2: None,
-        s3: None,
-        s4: None,
-        s5: None,
-        s6: None,
-        s7: None,
-        s8: None,
-        s9: None,
-        s10: None,
-        s11: None,
-        s12: None,
-        s13: None,
-        s14: None,
-        s15: None,
-        janitor: None,
-        clock: None,
-        node: None,
-        cells: None,
-        table: None,
-        master: None,
-        names: None,
-    }
-}
-
 /// What `agrees` says of the first write of the session that has begun, over these cells. None where it could not begin.
 fn write_agrees(alloc: Global, value: Value, cells: Cells) -> Option<bool> {
     let setup = Setup::default();
@@ -81,7 +52,7 @@ fn write_agrees(alloc: Global, value: Value, cells: Cells) -> Option<bool> {
     let mut node = NodePart::new(alloc, NodeNo::FIRST, 0, setup);
     let mut cells = CellsPart::new(alloc, cells, Vec::new(alloc));
     let mut master = MasterPart::new(alloc, record, Vec::new(alloc));
-    let mut lent = none();
+    let mut lent = Lent::none();
     lent.s0 = Some(&mut session);
     lent.clock = Some(&mut clock);
     lent.node = Some(&mut node);

@@ -32,15 +32,19 @@ lease 1000000
 a take
 a post p1
 s0 await p1
+s1 await p1
 ";
 
-/// Four actors, whose events have these pairs of parts in common, by two kinds of event each: the session and a node, the clock and the
+/// Five actors, whose events have these pairs of parts in common, by two kinds of event each: the session and a node, the clock and the
 /// node, and the node and the master record.
 const ROUND: &str = "\
 s0 begin a
 s0 write k0 v
 s0 commit a
 s0 begin b
+s1 begin a
+s1 write k1 v
+s1 commit a
 a accept s0
 a renew
 a accept s0
