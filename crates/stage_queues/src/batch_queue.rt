@@ -72,7 +72,7 @@ impl BatchQueue {
 
     pub(crate) fn wake_readers(&self) {
         for reader in &self.readers {
-            reader.parker.unpark();
+            reader.bell.ring();
         }
     }
 
@@ -95,7 +95,7 @@ impl BatchQueue {
     fn wake_reader(&self) {
         for reader in &self.readers {
             if reader.rise() {
-                reader.parker.unpark();
+                reader.bell.ring();
                 return;
             }
         }

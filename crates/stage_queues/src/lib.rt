@@ -3,6 +3,7 @@
 #![tactic(auto)]
 
 mod batch_queue;
+mod bell;
 mod buffers;
 mod gathering;
 mod laws;

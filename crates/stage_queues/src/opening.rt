@@ -10,6 +10,7 @@ ghost use Rattle.stage_queues.specs.Halfway.{IsOpening, AreRoots};
 ghost use Rattle.stage_queues.specs.Plan.{NodeRings, AreNumbered};
 
 use crate::batch_queue::BatchQueue;
+use crate::bell::Watchers;
 use crate::buffers::Buffers;
 use crate::gathering::AtWork;
 use crate::node::NodeQueues;
@@ -117,6 +118,7 @@ impl Opening {
             actors: places(alloc, ACTORS)?,
             at_work: AtWork::all(sizes.senders),
             closed: AtomicBool::new(false),
+            watchers: Watchers::none(),
         };
         Ok((queues, passes))
     }

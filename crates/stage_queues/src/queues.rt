@@ -4,6 +4,7 @@ ghost use Rattle.stage_queues.specs.Passes.{AreNodePassesOf, pass_at};
 ghost use Rattle.stage_queues.specs.Plan.{node_ring};
 
 use crate::batch_queue::BatchQueue;
+use crate::bell::{Bell, Watchers};
 use crate::gathering::AtWork;
 use crate::node::NodeQueues;
 use crate::node_pass::NodePass;
@@ -17,7 +18,6 @@ use stamp_base::{NodeNo, SessionNo, Stage};
 use std::marker::Model;
 use std::sync::Wait;
 use std::sync::atomic::{AtomicBool, Ordering};
-use std::thread::Parker;
 use std::time::Duration;
 
 /// The queues and pools of all nodes, and where their threads wait.
@@ -29,6 +29,7 @@ pub struct Queues {
     pub(crate) actors: Vec<Place>,
     pub(crate) at_work: AtWork,
     pub(crate) closed: AtomicBool,
+    pub(crate) watchers: Watchers,
 }
 
 impl Model for Queues {
@@ -102,7 +103,7 @@ impl Queues {
         queues.buffers.lock(rt).pool.give(batch);
         pass.held -= 1;
         if queues.requests.lacks_batch.leave() {
-            queues.requests.reader.unpark();
+            queues.requests.reader.ring();
         }
     }
 
@@ -113,27 +114,29 @@ impl Queues {
         }
     }
 
-    /// Parks the waiter until it is woken. It may be woken for no reason, and once the queues are closed it does not wait.
+    /// Parks the waiter until it is woken, once it has looked for that in vain. It may be woken for no reason, and once the queues are
+    /// closed it does not wait.
     pub fn wait<R: Wait>(&self, rt: &R, waiter: Waiter) {
         match waiter {
             Waiter::Actor(actor) => {
                 if let Some(place) = self.actors.get(actor_place(actor)) {
                     self.rest(place);
-                    self.park(rt, &place.parker);
+                    self.park(rt, &place.bell);
                     self.rise(place);
                 }
             }
             Waiter::Stage(node, stage, number) => {
-                if let Some(parker) = self.stage_parker(node, stage, number) {
-                    self.park(rt, parker);
+                if let Some(bell) = self.stage_bell(node, stage, number) {
+                    self.park(rt, bell);
                 }
             }
         }
     }
 
-    fn park<R: Wait>(&self, rt: &R, parker: &Parker) {
+    fn park<R: Wait>(&self, rt: &R, bell: &Bell) {
         if !self.closed() {
-            parker.park(rt);
+            self.watchers.watch(bell);
+            bell.wait(rt);
         }
     }
 
@@ -142,7 +145,8 @@ impl Queues {
         if let Some(place) = self.actors.get(actor_place(actor)) {
             self.rest(place);
             if !self.closed() {
-                place.parker.park_timeout(rt, most);
+                self.watchers.watch(&place.bell);
+                place.bell.wait_a_while(rt, most);
             }
             self.rise(place);
         }
@@ -153,8 +157,8 @@ impl Queues {
         match waiter {
             Waiter::Actor(actor) => self.wake_actor(actor),
             Waiter::Stage(node, stage, number) => {
-                if let Some(parker) = self.stage_parker(node, stage, number) {
-                    parker.unpark();
+                if let Some(bell) = self.stage_bell(node, stage, number) {
+                    bell.ring();
                 }
             }
         }
@@ -163,7 +167,7 @@ impl Queues {
     fn wake_actor(&self, actor: Actor) {
         if let Some(place) = self.actors.get(actor_place(actor)) {
             self.rise(place);
-            place.parker.unpark();
+            place.bell.ring();
         }
     }
 
@@ -258,9 +262,9 @@ impl Queues {
     pub fn wake_stage(&self, node: NodeNo, stage: Stage) {
         if let Some(queues) = self.nodes.get(node.index()) {
             match stage {
-                Stage::Request => queues.requests.reader.unpark(),
+                Stage::Request => queues.requests.reader.ring(),
                 Stage::Persist => queues.batches.wake_readers(),
-                Stage::Reply => queues.settled.reader.unpark(),
+                Stage::Reply => queues.settled.reader.ring(),
             }
         }
     }
@@ -303,12 +307,12 @@ impl Queues {
     pub fn close(&self) {
         self.closed.store(true, Ordering::SeqCst);
         for actor in &self.actors {
-            actor.parker.unpark();
+            actor.bell.ring();
         }
         for node in &self.nodes {
-            node.requests.reader.unpark();
+            node.requests.reader.ring();
             node.batches.wake_readers();
-            node.settled.reader.unpark();
+            node.settled.reader.ring();
         }
     }
 
@@ -324,11 +328,11 @@ impl Queues {
         &self.nodes[node.index()]
     }
 
-    fn stage_parker(&self, node: NodeNo, stage: Stage, number: u64) -> Option<&Parker> {
+    fn stage_bell(&self, node: NodeNo, stage: Stage, number: u64) -> Option<&Bell> {
         let queues = self.nodes.get(node.index())?;
         match stage {
             Stage::Request => Some(&queues.requests.reader),
-            Stage::Persist => Some(&queues.batches.readers.get(number as usize)?.parker),
+            Stage::Persist => Some(&queues.batches.readers.get(number as usize)?.bell),
             Stage::Reply => Some(&queues.settled.reader),
         }
     }

@@ -3,20 +3,20 @@ ghost use Rattle.stage_queues.specs.NodePasses.{ticket_put, TakesTicket, TookAll
 ghost use Rattle.stage_queues.specs.Passes.{at_node, with_node, SendsTickets, ReceivesTickets};
 ghost use Rattle.stage_queues.specs.Plan.{node_ring};
 
+use crate::bell::Bell;
 use crate::gathering::Gathered;
 use crate::pass::StagePass;
 use crate::waiting::Crowd;
 use request_rule::{RequestRing, Ticket};
 use std::marker::Model;
 use std::sync::Wait;
-use std::thread::Parker;
 
 /// A node's queue of requests: from the threads of sessions to its request stage, which waits here.
 #[derive(Drop)]
 pub struct RequestQueue {
     pub(crate) node: usize,
     pub(crate) ring: RequestRing,
-    pub(crate) reader: Parker,
+    pub(crate) reader: Bell,
     pub(crate) crowd: Crowd,
     pub(crate) gathered: Gathered,
     // Whether the stage waits for a batch of the pool.
@@ -38,7 +38,7 @@ impl RequestQueue {
         RequestQueue {
             node,
             ring,
-            reader: Parker::new(),
+            reader: Bell::new(),
             crowd: Crowd::none(),
             gathered: Gathered::none(enough),
             lacks_batch: Crowd::none(),
@@ -61,7 +61,7 @@ impl RequestQueue {
 
     pub(crate) fn press(&self) {
         self.gathered.press();
-        self.reader.unpark();
+        self.reader.ring();
     }
 
     /// Receives the ticket at the front. None only where the queue was empty at that step.

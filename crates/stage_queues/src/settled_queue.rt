@@ -3,20 +3,20 @@ ghost use Rattle.stage_queues.specs.NodePasses.{settled_put, settled_taken, HasL
 ghost use Rattle.stage_queues.specs.Passes.{at_node, let_go, got, UsesSettled};
 ghost use Rattle.stage_queues.specs.Plan.{node_ring};
 
+use crate::bell::Bell;
 use crate::pass::StagePass;
 use crate::waiting::Crowd;
 use persist_batches::Numbered;
 use settled_rule::SettledRing;
 use std::marker::Model;
 use std::sync::Wait;
-use std::thread::Parker;
 
 /// A node's queue of settled batches: from its persist workers to its reply stage, which waits here.
 #[derive(Drop)]
 pub struct SettledQueue {
     pub(crate) node: usize,
     pub(crate) ring: SettledRing,
-    pub(crate) reader: Parker,
+    pub(crate) reader: Bell,
     pub(crate) crowd: Crowd,
 }
 
@@ -35,7 +35,7 @@ impl SettledQueue {
         SettledQueue {
             node,
             ring,
-            reader: Parker::new(),
+            reader: Bell::new(),
             crowd: Crowd::none(),
         }
     }
@@ -54,7 +54,7 @@ impl SettledQueue {
     {
         pass.nodes[self.node].send_settled(rt, &self.ring, batch)?;
         pass.held -= 1;
-        self.reader.unpark();
+        self.reader.ring();
         Ok(())
     }
 

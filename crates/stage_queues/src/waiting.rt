@@ -1,11 +1,11 @@
 ghost use Rattle.std.specs.Prelude.{◌≡◌, ◌<◌};
 ghost use Rattle.stage_queues.specs.Places.{place_of};
 
+use crate::bell::Bell;
 use history_book::Actor;
 use stamp_base::{NoMemory, NodeNo, SessionNo, Stage};
 use std::alloc::Global;
 use std::sync::atomic::{AtomicBool, Ordering};
-use std::thread::Parker;
 
 /// Who may wait until another thread wakes it.
 #[derive(Clone, Copy, Debug, PartialEq, Eq)]
@@ -59,7 +59,7 @@ impl Crowd {
 /// Where a thread waits, and whether it has told that it does.
 #[derive(Drop)]
 pub struct Place {
-    pub parker: Parker,
+    pub bell: Bell,
     waits: AtomicBool,
     // Of a session: whether its line waits for its stamp.
     awaits_stamp: AtomicBool,
@@ -69,7 +69,7 @@ impl Place {
     /// Nobody waits there.
     pub fn new() -> Place {
         Place {
-            parker: Parker::new(),
+            bell: Bell::new(),
             waits: AtomicBool::new(false),
             awaits_stamp: AtomicBool::new(false),
         }
