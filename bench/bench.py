@@ -18,6 +18,10 @@ READ_BACK = 16 * 1024 * 1024
 WIDE = ["range 1000000000", "lease 1000000"]
 # the causes of refusals for which a session's or the janitor's own part is enough
 OF_ONE_PART = ("busy", "gone", "idle", "no-transaction")
+# where the kernel is told to count calls of a program's function; only root may write there, and only where tracefs is mounted
+TRACING = "/sys/kernel/tracing"
+# what a stage calls once for each batch, when all entries of it are answered
+GIVE_BACK = "stage_queues::queues::Queues::give_batch"
 # how the scripts of one session or one node begin
 HEAD = [*WIDE, "a take"]
 
@@ -270,8 +274,61 @@ def storms(program, work, runs):
         print(f"storm {count}: {median(costs):.3f} s of user time", flush=True)
 
 
+def place_in_file(program, function):
+    """Where the code of a function lies in the program's file, or None where no symbol begins so or the tools are not there."""
+    try:
+        symbols = subprocess.check_output(["nm", program], text=True)
+        segments = subprocess.check_output(["readelf", "-lW", program], text=True)
+    except (OSError, subprocess.CalledProcessError):
+        return None
+    found = re.search(rf"^([0-9a-f]+) t {re.escape(function)}", symbols, re.M)
+    for offset, start, size in re.findall(r"LOAD +0x(\w+) 0x(\w+) 0x\w+ 0x(\w+)", segments):
+        inside = int(found[1], 16) - int(start, 16) if found else -1
+        if 0 <= inside < int(size, 16):
+            return int(offset, 16) + inside
+    return None
+
+
+def calls_of(place, words, given, taken):
+    """Runs the words with a probe of the kernel at this place in the program's file, and gives how often it was reached, or None
+    where the kernel takes no probe from us."""
+    def tell(file, text):
+        # (Python's own appending seeks, which these files refuse)
+        file = os.open(os.path.join(TRACING, file), os.O_WRONLY | os.O_APPEND)
+        try:
+            os.write(file, text.encode())
+        finally:
+            os.close(file)
+
+    probe = f"omid_bench/p{os.getpid()}"
+    try:
+        tell("uprobe_events", f"p:{probe} {os.path.realpath(words[0])}:{place:#x}\n")
+    except OSError:
+        return None
+    try:
+        tell(f"events/{probe}/enable", "1")
+        ran(words, given, taken)
+        with open(os.path.join(TRACING, "uprobe_profile")) as it:
+            return int(re.search(rf" {os.path.basename(probe)} +(\d+)", it.read())[1])
+    finally:
+        tell(f"events/{probe}/enable", "0")
+        tell("uprobe_events", f"-:{probe}\n")
+
+
+def entries_a_batch(program, given, history):
+    """How many requests a batch of the stages had in one run of the script: what was drawn, by the history, over how many batches came
+    back to their pools. No item tells of a batch, so the kernel counts the calls; `-` where it does not."""
+    place = place_in_file(program, GIVE_BACK)
+    batches = place and calls_of(place, [program, "run"], given, history)
+    if not batches:
+        return "-"
+    with open(history) as it:
+        return f"{sum(line.startswith('draw ') for line in it) / batches:.2f}"
+
+
 def threads(program, work, runs, loads):
-    print(f"{'load of run':28} {'lines':>7} {'wall':>7} {'user':>7} {'system':>7} {'switches':>9} {'a line':>7} {'lines/s':>9} {'of replay':>9}")
+    print(f"{'load of run':28} {'lines':>7} {'wall':>7} {'user':>7} {'system':>7} {'switches':>9} {'a line':>7} {'lines/s':>9} {'of replay':>9} "
+          f"{'entries a batch':>15}")
     for name, script in loads:
         given, other = os.path.join(work, "script"), os.path.join(work, "other")
         with open(given, "w") as it:
@@ -282,7 +339,7 @@ def threads(program, work, runs, loads):
             replay.append(ran([program, "replay"], given, other))
         wall, switches = median(run, "wall"), median(run, "switches")
         print(f"{name:28} {len(script):7} {wall:7.3f} {median(run):7.3f} {median(run, 'system'):7.3f} {switches:9.0f} {switches / len(script):7.2f} "
-              f"{len(script) / wall:9.0f} {wall / median(replay, 'wall'):9.1f}", flush=True)
+              f"{len(script) / wall:9.0f} {wall / median(replay, 'wall'):9.1f} {entries_a_batch(program, given, other):>15}", flush=True)
 
 
 def locked_together(history):
