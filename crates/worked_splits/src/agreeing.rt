@@ -74,6 +74,9 @@ fn shadowed(alloc: Global, value: Value) -> Option<Cells> {
     let mut cells = Cells::new(alloc);
     let mut calm = CalmWeather::new();
     let (key, start, commit) = (KeyNo::FIRST, Stamp::FIRST, Stamp::new(2)?);
+    if cells.shadow_of(key, start).is_some() {
+        return None;
+    }
     if cells.put(&mut calm, key, start, value).is_err() {
         return None;
     }
