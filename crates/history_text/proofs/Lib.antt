@@ -1,2 +1,1 @@
 mod DigitLemmas
-mod SummaryLemmas
