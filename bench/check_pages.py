@@ -22,6 +22,7 @@ COMMANDS = [
     ('README.md', '(cd crates/omid && rt try -- replay < ../../examples/conflict.omid)', 0, 'beside'),
     ('README.md', 'crates/omid/out/omid replay < examples/conflict.omid', 0, 'beside'),
     ('README.md', 'crates/omid/out/omid run < examples/paused_stage.omid', 0, None),
+    ('README.md', 'crates/omid/out/omid run split < examples/conflict.omid', 0, None),
     ('README.md', 'crates/omid/out/omid audit < examples/lost_update.history', 7, 'page'),
     ('README.md', 'crates/omid/out/omid replay compact 5 < examples/old_balances.omid', 0, 'examples/old_balances.answer'),
     ('README.md', 'crates/omid/out/omid replay < examples/takeover.omid > /tmp/history', 0, None),

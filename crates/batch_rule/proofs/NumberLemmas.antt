@@ -1,3 +1,4 @@
+-- For reply_pipeline too.
 -- For those who send: lists of batches whose numbers rise.
 use Rattle.std.proofs.Common.{◌≡◌, ℕ, ◌+◌, ◌<◌, ◌≤◌, ◌==◌, Bool, true, ◌&&◌, if◌then◌else◌, List, [], ◌∷◌, ◌++◌, inl, inr, refl, ap, ◌∙◌, le-leb, leb-true, ne_eqb, arith}
 use Rattle.std.specs.Prelude.{nat_le, sum_by}

@@ -1,4 +1,4 @@
--- For cluster_core, planned_laws and grant_laws too.
+-- For served_lines, cluster_core, planned_laws and others above too.
 -- What the history shows of the state is kept by every event; so every refusal is shown in each history.
 use Rattle.std.proofs.Common.{◌≡◌, List, [], ◌∷◌, ◌++◌, append_assoc, Option, sym, ◌∙◌, subst}
 use Rattle.std.proofs.lemmas.List.{append-nil}

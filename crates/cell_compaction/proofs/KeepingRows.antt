@@ -1,3 +1,4 @@
+-- For this crate's own proofs.
 -- Rows that are kept one by one are those that stay.
 use Rattle.std.proofs.Common.{◌≡◌, ℕ, ◌+◌, ◌<◌, ◌≤◌, Bool, true, false, List, [], ◌∷◌, ◌++◌, length, get_or, refl, sym, ap, ◌∙◌, append-nil, append_assoc}
 use Rattle.std.specs.Prelude.{map, drop, if◌then◌else◌}

@@ -1,3 +1,4 @@
+-- For this crate's own proofs.
 -- What a reader at the water or above it finds in all rows, it finds in those that stay.
 use Rattle.std.proofs.Common.{◌≡◌, ℕ, ◌<◌, ◌≤◌, Bool, true, false, ◌||◌, ◌⊎◌, List, [], ◌∷◌, inl, inr, refl, sym, ap, ◌∙◌, subst, true≢false, arith, eq-eqb}
 use Rattle.std.specs.Prelude.{nat_le, if◌then◌else◌, Option, None, Some}

@@ -1,3 +1,4 @@
+-- For this crate's own proofs.
 -- The rows of one key among rows that ascend: those before them and behind them give its readers nothing.
 use Rattle.std.proofs.Common.{◌≡◌, ℕ, zero, suc, ◌+◌, ◌<◌, ◌≤◌, ◌==◌, leb, Bool, true, false, not, List, [], ◌∷◌, ◌++◌, length, get_or, ⊎_elim, refl, sym, ap, ◌∙◌, subst, arith}
 use Rattle.std.specs.Prelude.{map, take, drop, Option, None, Some}

@@ -1,3 +1,4 @@
+-- For this crate's own proofs.
 -- In rows that ascend, what stands among them is what a look finds, so that a key and a version name one row.
 use Rattle.std.proofs.Common.{◌≡◌, ℕ, ◌<◌, ◌⊎◌, List, [], ◌∷◌, inl, inr, ⊎_elim, refl, sym, ap, ◌∙◌, subst, arith}
 use Rattle.std.specs.Prelude.{Some}

@@ -1,3 +1,4 @@
+-- For this crate's own proofs.
 -- The small stores, worked out.
 use Rattle.std.proofs.Common.{◌≡◌, ℕ, ◌==◌, Bool, true, false, ◌⊎◌, inl, inr, ⊎_elim, refl, sym, ap, ◌∙◌, subst, arith, List, [], ◌∷◌, get_or}
 use Rattle.std.specs.Prelude.{if◌then◌else◌, Option, None, Some}

@@ -1,3 +1,4 @@
+-- For this crate's own proofs.
 -- Stores at rest give every reader what it sees in the history.
 use Rattle.std.proofs.Common.{◌≡◌, ℕ, ◌<◌, ◌≤◌, List, inl, inr, ⊎_elim, refl, sym, ap, ◌∙◌, subst, arith}
 use Rattle.std.specs.Prelude.{Option, None, Some}

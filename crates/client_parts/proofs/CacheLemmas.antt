@@ -1,3 +1,4 @@
+-- For isolation_laws too.
 -- Public laws, for the proofs of crates above: what a cache keeps was kept before, or was just made.
 use Rattle.std.proofs.Common.{◌≡◌, ◌⊎◌, ℕ, zero, suc, ◌+◌, ◌-◌, ◌<◌, ◌≤◌, arith, length, take, nat_eq, Bool, true, false, cond, List, [], ◌∷◌, Option, None, Some, refl, sym, ◌∙◌, ap, subst, inl, inr, Contains}
 use Rattle.std.specs.Map.{lookup, lookup_entry, remove_entry}

@@ -1,3 +1,4 @@
+-- For this crate's own proofs.
 -- Public laws, for the proofs of crates above: what a completion asks, in which order, and for which keys.
 use Rattle.std.proofs.Common.{◌≡◌, ℕ, zero, suc, ◌↔◌, List, [], ◌∷◌, None, Some, length, drop, refl, ap, inl, inr}
 use Rattle.history_book.specs.Members.{◌∈◌}

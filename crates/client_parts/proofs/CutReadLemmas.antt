@@ -1,3 +1,4 @@
+-- For this crate's own proofs.
 -- Public laws, for the proofs of crates above: a read that has the front of the cells beside one that has them all.
 use Rattle.std.proofs.Common.{◌≡◌, ℕ, suc, ◌==◌, nat_lt, Bool, true, false, cond, List, [], ◌∷◌, Option, None, Some, refl, ap, arith}
 use Rattle.std.proofs.lemmas.Bool.{lt-leb, leb-true}

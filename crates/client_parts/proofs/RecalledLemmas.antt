@@ -1,3 +1,4 @@
+-- For isolation_laws, event_parts, line_steps and grant_laws too.
 -- Public laws, for the proofs of crates above: a read that recalls, beside the plain one.
 use Rattle.std.proofs.Common.{◌≡◌, ℕ, ◌==◌, nat_lt, Bool, true, false, ◌||◌, cond, is_some, List, [], ◌∷◌, Option, Some, None, refl, sym, subst}
 use Rattle.store_parts.specs.declared.rows.Cell.{Cell}

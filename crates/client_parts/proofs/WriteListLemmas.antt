@@ -1,3 +1,4 @@
+-- For refusal_reasons too.
 -- Public laws, for the proofs of crates above: what a write of a key leaves of a write list.
 use Rattle.std.proofs.Common.{◌≡◌, ℕ, ◌≤◌, ◌==◌, nat_eq, nat_lt, Bool, true, false, ◌||◌, List, [], ◌∷◌, ◌++◌, None, Some, if◌then◌else◌, length, refl, sym, ap, ◌∙◌, inl, inr, arith, length-append}
 use Rattle.std.specs.List.{list_any}

@@ -1,3 +1,4 @@
+-- For event_parts too.
 -- A push to a list of keys as the definitions say it. For the sets of keys that `event_parts` keeps too.
 use Rattle.std.proofs.Common.{◌≡◌, ℕ, ◌≤◌, nat_lt, nat_eq, Bool, true, false, ◌||◌, List, [], ◌∷◌, ◌++◌, None, Some, Contains, length, refl, ap, ◌∙◌, arith, length-append}
 use Rattle.std.specs.List.{list_any}

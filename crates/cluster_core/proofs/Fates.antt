@@ -1,3 +1,4 @@
+-- For this crate's own proofs.
 -- The fate that an event meets is the first that its store has ahead; where it asks none, any would do.
 use Rattle.std.proofs.Common.{◌≡◌, ℕ, List, Option, Some, None, Result, refl, sym, subst}
 use Rattle.stamp_base.specs.SetupNumbers.{SetupNumbers}

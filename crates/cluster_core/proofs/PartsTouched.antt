@@ -1,3 +1,4 @@
+-- For this crate's own proofs.
 -- Each kind of event, by the parts that it touches: the parts are looked up, and put back.
 use Rattle.std.proofs.Common.{◌≡◌, ℕ, List, slice_get, Option, Some, Result, refl}
 use Rattle.history_book.specs.declared.item.Item.{Item}

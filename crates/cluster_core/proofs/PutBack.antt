@@ -1,3 +1,4 @@
+-- For this crate's own proofs.
 -- What an event makes of its parts is a step of the whole, once the parts are put back.
 use Rattle.std.proofs.Common.{◌≡◌, ℕ, ◌<◌, ◌≤◌, max, List, append-nil, length, get_or, slice_get, slice_set, Option, Some, None, Result, Ok, Err, inl, inr, refl, sym, ap, ◌∙◌, arith}
 use Rattle.std.proofs.lemmas.List.{set-get_or}

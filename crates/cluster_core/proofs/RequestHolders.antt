@@ -1,3 +1,4 @@
+-- For this crate's own proofs.
 -- The nodes are looked at one after the other for a request of the session.
 use Rattle.std.proofs.Common.{◌≡◌, ℕ, Bool, ◌+◌, ◌<◌, ◌≤◌, List, length, get_or, drop, Option, Some, None, refl, sym, ap}
 use Rattle.std.proofs.lemmas.List.{drop_more, drop_all}

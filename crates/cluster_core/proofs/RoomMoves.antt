@@ -1,4 +1,4 @@
--- For planned_cluster and turn_engine too.
+-- For turn_engine too.
 -- How far an event moves the room that is kept for requests: an accept reserves at most five items, no other event reserves any, and
 -- what serves a request uses up as much as it appends.
 use Rattle.std.proofs.Common.{◌≡◌, ◌≤◌, ◌+◌, ℕ, Bool, true, false, List, length, Option, Some, None, Result, arith}

@@ -1,3 +1,4 @@
+-- For this crate's own proofs.
 -- A cluster's state is reached with its history: at the opening, and after each call. So the calls on its parts may be made.
 use Rattle.std.proofs.Common.{◌≡◌, ℕ, List, [], ◌++◌, Option, Some, None, Result, Ok, Err, refl, sym, ap, subst}
 use Rattle.std.specs.Prelude.{IfSome}

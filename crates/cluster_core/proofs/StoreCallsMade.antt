@@ -1,3 +1,4 @@
+-- For this crate's own proofs.
 -- Each event that may ask a store, by the fate that its store has ahead.
 use Rattle.std.proofs.Common.{◌≡◌, ℕ, List, slice_get, Option, Some, Result}
 use Rattle.stamp_base.specs.declared.stores.Store.{Store}

@@ -1,3 +1,4 @@
+-- For node_events and step_events too.
 -- For the crates of the events: a placing that failed shows its record exactly where the table has it since.
 use Rattle.std.proofs.Common.{◌≡◌, ◌≢◌, ℕ, [], ◌∷◌, refl, Option, None, Some, arith}
 use Rattle.stamp_base.specs.declared.stores.Mark.{Mark}

@@ -1,3 +1,4 @@
+-- For session_events too.
 -- A read that recalls, by what it has left and what it says is next, is the read of the definitions. For the crates of the events too.
 use Rattle.std.proofs.Common.{◌≡◌, ℕ, ◌+◌, ◌<◌, ◌==◌, Bool, true, false, ◌||◌, is_some, nat_eq, nat_lt, List, [], ◌∷◌, Option, None, Some, IfSome, length, refl, sym, ap, ◌∙◌, subst, arith}
 use Rattle.std.specs.Map.{lookup, lookup_entry}

@@ -1,3 +1,4 @@
+-- For omid_top and omid_view too.
 -- Public laws, which the audit cites. A line is that of one item at most; so bytes have one list of items at most, and
 -- with items no line is bad.
 use Rattle.std.proofs.Common.{◌≡◌, ℕ, zero, suc, ◌-◌, ◌<◌, List, [], ◌∷◌, length, filter, refl, sym, ◌∙◌, arith}

@@ -1,3 +1,4 @@
+-- For si_judge too.
 -- Public laws, which the judge above cites. The last ask in a list, found from its end.
 use Rattle.std.proofs.Common.{◌≡◌, ◌≤◌, ℕ, zero, suc, Bool, true, false, ◌||◌, not, if◌then◌else◌, List, [], ◌∷◌, Some, length, take, drop, slice_get, refl, ap, arith}
 use Rattle.std.proofs.lemmas.Option.{same_Some}

@@ -1,3 +1,4 @@
+-- For si_judge too.
 -- Public laws, which the judge above cites. Begins are fresh exactly where no pair of items breaks the rule.
 use Rattle.std.proofs.Common.{◌≡◌, ◌≤◌, ◌<◌, ℕ, List, Some, length, take, slice_get, inl, inr, sym, subst, arith}
 use Rattle.std.proofs.lemmas.Bool.{cases_lt}

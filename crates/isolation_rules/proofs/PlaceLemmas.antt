@@ -1,3 +1,4 @@
+-- For read_sets and si_judge too.
 -- Public laws, which the judge above cites. Places in a list, and what stands before one.
 use Rattle.std.proofs.Common.{◌≡◌, ◌≤◌, ◌<◌, ℕ, zero, suc, List, [], ◌∷◌, Option, Some, None, length, take, slice_get, IsSomeAnd, inl, inr, refl, sym, ap, subst, arith}
 use Rattle.std.proofs.lemmas.Option.{same_Some}

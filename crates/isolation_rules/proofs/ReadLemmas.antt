@@ -1,3 +1,4 @@
+-- For cell_compaction, si_judge and omid_top too.
 -- Public laws, which the judge above cites. What is visible is one answer, written at one place.
 use Rattle.std.proofs.Common.{◌≡◌, ◌<◌, ℕ, List, Option, Some, None, option_map, option_and_then, length, take, slice_get, IfSome, inl, inr, refl, sym, ap, subst, ◌∙◌, arith}
 use Rattle.std.proofs.lemmas.Bool.{cases_lt}

@@ -1,3 +1,4 @@
+-- For si_judge and worked_words too.
 -- Public laws, which the judge above cites. Stamps are in order exactly where no pair of items breaks the rule.
 use Rattle.std.proofs.Common.{◌≡◌, ◌<◌, ◌==◌, ◌||◌, ℕ, Bool, true, false, List, Some, take, slice_get, nat_le, inl, inr, refl, sym, ap, subst, ◌∙◌, arith}
 use Rattle.std.proofs.lemmas.Bool.{eqb-true, eq-eqb, or_cases, cases_lt}

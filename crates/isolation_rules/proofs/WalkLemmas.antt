@@ -1,3 +1,4 @@
+-- For si_judge and worked_words too.
 -- Public laws, which the judge above cites. The order and range of the pairs that break a rule, and what passing a place means.
 use Rattle.std.proofs.Common.{◌≡◌, ◌≢◌, ◌≤◌, ◌<◌, ℕ, List, Option, Some, IfSome, true, length, take, slice_get, inl, inr, refl, subst, arith}
 use Rattle.std.proofs.lemmas.Option.{slice_get_within}

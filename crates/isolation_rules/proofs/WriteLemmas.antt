@@ -1,3 +1,4 @@
+-- For si_judge too.
 -- Public laws, which the judge above cites. The place of a last write, and listed keys.
 use Rattle.std.proofs.Common.{◌≡◌, ◌||◌, ◌<◌, ℕ, zero, suc, Bool, true, false, List, [], ◌∷◌, Option, Some, None, inl, inr, refl, ap, subst, ◌∙◌, arith}
 use Rattle.std.specs.List.{list_any}

@@ -1,3 +1,4 @@
+-- For history_json too.
 -- Public laws, for the proofs of `history_json`: a text is that of one item at most, and so is an object.
 use Rattle.std.proofs.Common.{◌≡◌, ◌∷◌, [], ◌++◌, sym, ap, ◌∙◌}
 use Rattle.std.proofs.lemmas.Option.{same_Some}

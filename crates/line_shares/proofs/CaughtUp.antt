@@ -1,3 +1,4 @@
+-- For thread_scripts and run_board too.
 -- For crates that keep facts of cursors: what holds of each cursor still does once one has come up.
 use Rattle.std.proofs.Common.{◌≡◌, ℕ, Bool, true, false, cond, List, [], ◌∷◌, All, inl, inr, refl, sym, ap, ◌∙◌}
 use Rattle.std.specs.Prelude.{map}

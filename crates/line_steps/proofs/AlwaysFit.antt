@@ -1,4 +1,4 @@
--- For turn_rules and grant_laws too.
+-- For turn_rules, seat_lines and grant_laws too.
 -- Every event keeps the numbers of nodes and clients, and that an open transaction has an epoch.
 use Rattle.std.proofs.Common.{◌≡◌, ℕ, zero, suc, ◌<◌, List, [], ◌∷◌, Option, Some, None, refl, sym, ◌∙◌, ap, subst, arith, length}
 use Rattle.std.specs.Prelude.{slice_get, slice_set, replicate}

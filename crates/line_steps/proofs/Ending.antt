@@ -1,4 +1,4 @@
--- For planned_laws, replay_driver, turn_rules and grant_laws too.
+-- For planned_laws, replay_driver, turn_rules and others above too.
 -- Runs end, and lines lead from what is reached to what is reached. A property that every event keeps is kept by them too.
 use Rattle.std.proofs.Common.{◌≡◌, ℕ, zero, suc, ◌+◌, ◌<◌, ◌≤◌, ◌^◌, List, [], ◌∷◌, ◌++◌, Option, Some, None, refl, sym, ◌∙◌, subst, arith}
 use Rattle.std.specs.Prelude.{slice_index_or}

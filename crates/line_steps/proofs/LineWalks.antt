@@ -1,4 +1,4 @@
--- For turn_rules too.
+-- For turn_rules and seat_lines too.
 -- What the run of a line appends: its answer and what belongs to it for the line's actor, and no opening item of any other.
 use Rattle.std.proofs.Common.{◌≡◌, ℕ, zero, suc, ◌<◌, Bool, true, false, List, [], ◌++◌, append_assoc, Option, Some, None, ◌⊎◌, inl, inr, refl, sym, ◌∙◌, ap, subst}
 use Rattle.std.proofs.lemmas.List.{append-nil}

@@ -1,4 +1,4 @@
--- For turn_rules too.
+-- For turn_rules and seat_lines too.
 -- The first event of a line that has an opening item answers the line, where all that the line names is there.
 use Rattle.std.proofs.Common.{◌≡◌, ℕ, ◌<◌, true, List, Option, Some, ◌⊎◌, inl, inr, refl, sym, subst}
 use Rattle.std.specs.Prelude.{slice_get}

@@ -1,4 +1,4 @@
--- For turn_rules too.
+-- For turn_rules and seat_lines too.
 -- The first item of an event that opens a line answers the line, and no other item of it opens one.
 use Rattle.std.proofs.Common.{◌≡◌, ℕ, Bool, true, false, cond, List, [], ◌∷◌, Option, Some, None, Ok, ◌⊎◌, inl, inr, refl}
 use Rattle.stamp_base.specs.SetupNumbers.{SetupNumbers}

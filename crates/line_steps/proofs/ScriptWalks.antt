@@ -1,4 +1,4 @@
--- For turn_rules, thread_scripts, turn_engine and grant_laws too.
+-- For turn_rules, thread_scripts, seat_lines and others above too.
 -- The history of a script answers its lines.
 use Rattle.std.proofs.Common.{◌≡◌, ℕ, ◌+◌, ◌≤◌, ◌^◌, ◌==◌, Bool, true, false, ◌&&◌, cond, List, [], ◌∷◌, ◌++◌, append_assoc, None, inl, inr, refl, sym, ◌∙◌, ap, subst, arith}
 use Rattle.std.specs.Prelude.{filter}

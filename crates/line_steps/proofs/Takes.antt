@@ -1,4 +1,4 @@
--- For turn_rules too.
+-- For turn_rules and seat_lines too.
 -- The nodes whose takes a history tells are those of the system, whatever events are made.
 use Rattle.std.proofs.Common.{◌≡◌, ℕ, zero, suc, ◌<◌, ◌==◌, Bool, true, false, ◌||◌, List, [], ◌∷◌, ◌++◌, Option, None, Some, ◌⊎◌, inl, inr, refl, sym, ◌∙◌, ap, subst, arith, length, fold}
 use Rattle.std.specs.Prelude.{slice_get, IfSome, unwrap_or}

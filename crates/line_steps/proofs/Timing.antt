@@ -1,4 +1,4 @@
--- For planned_laws, turn_rules, turn_engine and grant_laws too.
+-- For planned_laws, turn_rules, split_stores, turn_engine and grant_laws too.
 -- The events of a line come at their time: readings are the base clock and a lead, and a tick is as long as its line says.
 use Rattle.std.proofs.Common.{◌≡◌, ℕ, ◌+◌, ◌≤◌, ◌^◌, Bool, true, false, cond, Option, Some, None, refl, sym, subst, arith}
 use Rattle.std.specs.Prelude.{slice_index_or}

@@ -1,4 +1,4 @@
--- For turn_rules too.
+-- For turn_rules and seat_lines too.
 -- The walk of a history along an actor's lines, over the items of one line after the other.
 use Rattle.std.proofs.Common.{◌≡◌, ℕ, List, [], ◌∷◌, ◌++◌, append_assoc, Option, Some, None, ◌⊎◌, inl, inr, refl, sym, ◌∙◌, subst}
 use Rattle.std.proofs.lemmas.List.{append-nil}

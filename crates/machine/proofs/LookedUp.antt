@@ -1,4 +1,4 @@
--- For isolation_laws, line_steps, turn_rules and grant_laws too.
+-- For isolation_laws, served_lines, line_steps and others above too.
 -- An event by the parts that it looks up: where one of them is not of the system nothing is done, else it has been found.
 use Rattle.std.proofs.Common.{◌≡◌, Option, Some, None, refl}
 use Rattle.oracle_parts.specs.Instance.{InstanceEntry}

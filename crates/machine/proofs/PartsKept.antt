@@ -1,4 +1,4 @@
--- For isolation_laws, cause_laws, call_laws, cluster_core, line_steps, planned_laws, turn_rules and grant_laws too.
+-- For isolation_laws, cause_laws, call_laws and others above too.
 -- Each event is of one kind, by the parts that it looks up and puts back: so it leaves what it does not touch, its refusals that
 -- leave all do, and it asks a store as its definition says. Other tables name the events that matter to them, and leave the rest to
 -- these laws by a catch-all.

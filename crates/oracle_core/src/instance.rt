@@ -135,6 +135,13 @@ impl Instance {
         self.requests[session.index()]
     }
 
+    /// The request of a session, and where it stands. None exactly where the session has none.
+    pub fn request_of(&self, session: SessionNo) -> Option<(Request, Place)>
+        ensures { result ≡ entry.request_at self.now session }
+    {
+        requests::request_of(&self.requests[session.index()])
+    }
+
     /// Where the request of a session stands. None exactly where the session has none.
     pub fn place(&self, session: SessionNo) -> Option<Place>
         ensures { result ≡ entry.place_at self.now session }

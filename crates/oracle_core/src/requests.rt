@@ -27,6 +27,15 @@ pub fn just_asked(request: Request) -> Held
     }
 }
 
+pub fn request_of(held: &Option<Held>) -> Option<(Request, Place)>
+    ensures { result ≡ entry.request_of_held held.now }
+{
+    match held {
+        None => None,
+        Some(held) => Some((held.request, place_of_progress(&held.progress))),
+    }
+}
+
 pub fn place_of(held: &Option<Held>) -> Option<Place>
     ensures { result ≡ entry.place_of_held held.now }
 {

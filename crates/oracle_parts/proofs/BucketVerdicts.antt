@@ -1,3 +1,4 @@
+-- For isolation_laws and cause_laws too.
 -- Laws for the crates above: what the buckets tell a start, by the commits that were recorded.
 use Rattle.std.proofs.Common.{◌≡◌, ℕ, zero, suc, ◌<◌, ◌≤◌, nat_lt, List, [], ◌∷◌, ◌++◌, length, replicate, Option, Some, None, ◌⊎◌, inl, inr, refl, sym, subst, ◌∙◌, arith, AllPairs, Contains}
 use Rattle.std.specs.Prelude.{slice_index_or}

@@ -1,3 +1,4 @@
+-- For isolation_laws and cause_laws too.
 -- Laws for the crates above: a begin is answered where no commit below its start waits, and otherwise told the least of
 -- them.
 use Rattle.std.proofs.Common.{◌≡◌, ℕ, ◌<◌, ◌≤◌, nat_lt, min, Bool, true, false, List, [], ◌∷◌, Option, Some, None, Result, Ok, Err, ◌⊎◌, inl, inr, refl, sym, subst, ap, ◌∙◌, arith, suc, All, Any, IfSome, if◌then◌else◌}

@@ -1,3 +1,4 @@
+-- For this crate's own proofs.
 -- Laws for the crates above: the stamps, the range and the lease of an instance.
 use Rattle.std.proofs.Common.{◌≡◌, ◌≢◌, ℕ, ◌+◌, ◌≤◌, Bool, Option, Some, None, Result, Ok, inl, inr, refl, sym, ap, ◌∙◌, arith}
 use Rattle.history_book.specs.declared.cause.Cause.{Cause}

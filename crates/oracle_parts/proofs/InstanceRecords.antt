@@ -1,3 +1,4 @@
+-- For this crate's own proofs.
 -- Laws for the crates above: what an instance records rises, and a commit is drawn only where nothing was recorded above its start.
 use Rattle.std.proofs.Common.{◌≡◌, ℕ, ◌+◌, ◌≤◌, Bool, List, [], ◌∷◌, ◌++◌, replicate, Option, Some, None, Result, Ok, inl, inr, refl, sym, subst, ap, ◌∙◌, arith, All}
 use Rattle.std.specs.Prelude.{slice_index_or}

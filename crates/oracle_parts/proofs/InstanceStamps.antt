@@ -1,3 +1,4 @@
+-- For this crate's own proofs.
 -- Laws for the crates above: the stamps of the requests that are held stay between the epoch and the last stamp.
 use Rattle.std.proofs.Common.{ℕ, zero, suc, ◌+◌, ◌<◌, ◌≤◌, ◌==◌, Bool, true, false, List, [], ◌∷◌, slice_set, Option, Some, None, Ok, arith, All, IfSome, if◌then◌else◌}
 use Rattle.std.specs.Prelude.{slice_index_or}

@@ -1,3 +1,4 @@
+-- For isolation_laws and cause_laws too.
 -- Laws for the crates above: the last commit of a key was recorded for it, and it is the greatest where commits never fall.
 use Rattle.std.proofs.Common.{◌≡◌, ℕ, zero, suc, ◌≤◌, ◌==◌, List, [], ◌∷◌, Option, Some, None, inl, inr, refl, ap, arith, All, Contains, if◌then◌else◌}
 use Rattle.std.specs.Option.{option_or, IsSomeAnd}

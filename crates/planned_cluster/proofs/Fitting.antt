@@ -1,3 +1,4 @@
+-- For replay_driver, turn_engine, run_board and split_driver too.
 -- The lines of a script that was read name actors and nodes of the system.
 use Rattle.std.proofs.Common.{◌≡◌, ℕ, suc, ◌+◌, ◌<◌, ◌≤◌, List, [], ◌∷◌, length, get_or, All, arith, subst}
 use borrow.Author.Count.{below_more}

@@ -1,3 +1,4 @@
+-- For this crate's own proofs.
 -- A call leaves the cluster where its event leads to, and before the first event it stands at the opening.
 use Rattle.std.proofs.Common.{◌≡◌, ℕ, ◌+◌, List, [], Option, None, Some, Result, Ok, Err, sym, ap, ◌∙◌, arith}
 use Rattle.stamp_base.specs.SetupNumbers.{SetupNumbers}

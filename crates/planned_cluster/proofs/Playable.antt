@@ -1,3 +1,4 @@
+-- For replay_driver, split_stores, turn_engine, run_board and split_driver too.
 -- A script that was read can be played: no clock is ahead by more than the skew, and its ticks are few.
 use Rattle.std.proofs.Common.{ℕ, zero, suc, ◌*◌, ◌≤◌, List, [], ◌∷◌, length, All, arith}
 use Rattle.std.proofs.lemmas.List.Elements.{All-head, All-tail}

@@ -1,3 +1,4 @@
+-- For replay_driver and turn_engine too.
 -- What the clocks come to fits.
 use Rattle.std.proofs.Common.{ℕ, ◌+◌, ◌<◌, ◌≤◌, ◌^◌, length, get_or, arith}
 use Rattle.std.proofs.lemmas.Grind.{get_or_default_zero}

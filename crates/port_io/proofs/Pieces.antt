@@ -1,3 +1,4 @@
+-- For omid_top too.
 -- Pieces of input and of output, one after another.
 use Rattle.std.proofs.Common.{◌≡◌, ℕ, ◌+◌, ◌-◌, ◌≤◌, ◌<◌, List, [], ◌++◌, Option, None, Some, IfSome, length, take, drop, append_assoc, take-add, length-append, length-take, length-drop, sym, ap, ◌∙◌, subst, arith, refl}
 use Rattle.std.proofs.lemmas.Option.{same_Some, none-some}

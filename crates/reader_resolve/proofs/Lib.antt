@@ -1,3 +1,2 @@
 mod TurnLemmas
 mod RunLemmas
-mod Fetched

@@ -6,4 +6,3 @@ mod ReplyLemmas
 pub mod OpeningLemmas
 pub mod TicketLemmas
 pub mod SeatLemmas
-mod ByHandLemmas

@@ -3,4 +3,3 @@ mod Kept
 mod Counted
 mod Closing
 mod SoFar
-mod Lacking

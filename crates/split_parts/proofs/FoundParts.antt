@@ -1,3 +1,4 @@
+-- For split_stores too.
 -- What is found in the filled state where a part is lent, and what follows for facts of what is found there.
 use Rattle.std.proofs.Common.{◌≡◌, ℕ, zero, suc, ◌<◌, ◌≤◌, ◌↔◌, Bool, true, false, nat_lt, List, [], ◌∷◌, length, replicate, slice_get, slice_set, Option, Some, None, refl, sym, ap, ◌∙◌, subst, arith}
 use Rattle.std.specs.Prelude.{slice_index_or, IfSome, IsSomeAnd, IsTrue, if◌then◌else◌}

@@ -1,3 +1,4 @@
+-- For split_stores too.
 -- Sessions that are lent one by one: which are there. Serves `Lent::with_next_session`, and split_stores, where they are locked.
 use Rattle.std.proofs.Common.{◌≡◌, ℕ, zero, suc, ◌+◌, ◌<◌, List, length, None, Option, Some, refl, sym, ap, ◌∙◌, subst, arith, inl, inr, ◌⊎◌, ⊎_elim}
 use Rattle.std.specs.Prelude.{IsSome, slice_index_or, slice_set}

@@ -6,7 +6,7 @@ use crate::Split;
 use client_parts::State;
 use event_parts::Client;
 use machine::Doing;
-use oracle_parts::{Held, Place, Request};
+use oracle_parts::{Place, Request};
 use stamp_base::{Name, NodeNo, SessionNo};
 use std::sync::Wait;
 use takeover_core::Post;
@@ -61,18 +61,7 @@ fn doing_of(client: &Client) -> Doing
 /// The request of the session that a node holds, and where it stands.
 fn request_at(post: &Post, session: SessionNo) -> Option<(Request, Place)> {
     match &post.instance {
-        Some(instance) => {
-            let place = instance.place(session)?;
-            let request = request_in(&instance.requests()[session.index()])?;
-            Some((request, place))
-        }
-        None => None,
-    }
-}
-
-fn request_in(held: &Option<Held>) -> Option<Request> {
-    match held {
-        Some(held) => Some(held.request),
+        Some(instance) => instance.request_of(session),
         None => None,
     }
 }

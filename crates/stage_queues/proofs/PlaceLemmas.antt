@@ -1,3 +1,4 @@
+-- For reply_pipeline too.
 -- For those who hand out passes: where each stands in the list that the opening gives, and what it may do.
 use Rattle.std.proofs.Common.{◌≡◌, ℕ, zero, suc, ◌+◌, ◌*◌, ◌<◌, List, [], ◌∷◌, ◌++◌, length, map, replicate, get_or, refl, sym, ap, ◌∙◌, subst, length-append, get_or-set_same, append_assoc, suc-mul, arith}
 use Rattle.std.specs.Prelude.{None, Some, slice_get, flat_map}

@@ -1,3 +1,4 @@
+-- For machine, isolation_laws, event_parts and others above too.
 -- The laws of the pairs, for the crates above: what a look finds after a put and after a removal, of the transaction
 -- itself and of another.
 use Rattle.std.proofs.Common.{◌≡◌, ◌≢◌, ℕ, true, false, cond, Option, None, Some, inl, inr, refl, sym, ap, ◌∙◌, subst, arith}

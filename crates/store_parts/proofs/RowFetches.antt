@@ -1,3 +1,4 @@
+-- For isolation_laws and cell_store too.
 -- Laws that other crates cite: what a fetch gives of rows in order, and of rows one behind another.
 use Rattle.std.proofs.Common.{◌≡◌, ℕ, zero, suc, ◌<◌, ◌≤◌, ◌==◌, nat_le, true, false, ◌&&◌, ◌↔◌, List, [], ◌∷◌, ◌++◌, append-nil, append_assoc, Some, ◌⊎◌, inl, inr, sym, subst, ap, ◌∙◌, arith}
 use Rattle.std.specs.List.{All, AllPairs, Contains}

@@ -1,3 +1,4 @@
+-- For isolation_laws, cell_store and cell_compaction too.
 -- Laws that other crates cite: what a look finds after a put, a shadow or a removal, and that each keeps the rows' order.
 use Rattle.std.proofs.Common.{◌≡◌, ℕ, ◌<◌, true, false, List, [], ◌∷◌, Option, Some, None, IfSome, ◌⊎◌, inl, inr, refl, sym, subst, ap, ◌∙◌, arith}
 use Rattle.std.proofs.lemmas.Bool.{cases_Bool, cases_eq}

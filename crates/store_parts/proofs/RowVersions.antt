@@ -1,3 +1,4 @@
+-- For isolation_laws and cell_store too.
 -- Laws that other crates cite: the keys of a version's rows, and what a removal leaves at its own place.
 use Rattle.std.proofs.Common.{◌≡◌, ℕ, ◌==◌, nat_eq, true, false, ◌↔◌, List, [], ◌∷◌, Option, Some, None, is_some, IsSome, ◌⊎◌, inl, inr, refl, sym, ◌∙◌, arith}
 use Rattle.std.specs.Ordering.{nat_cmp}

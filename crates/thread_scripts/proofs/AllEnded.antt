@@ -1,3 +1,4 @@
+-- For run_board too.
 -- Where every cursor is at its end, no actor has a line left.
 use Rattle.std.proofs.Common.{◌≡◌, ℕ, ◌≤◌, Bool, true, false, ◌||◌, cond, List, [], ◌∷◌, None, refl, sym, ap, ◌∙◌, subst, arith}
 use Rattle.std.specs.Prelude.{map, filter, slice_get}

@@ -1,3 +1,4 @@
+-- For run_board too.
 -- Cursors stay behind the places of their actors, and cover the lines: at first, where places rise, and where a cursor comes up.
 use Rattle.std.proofs.Common.{◌≡◌, ℕ, ◌≤◌, List, All, ap, arith}
 use Rattle.std.specs.Prelude.{map}

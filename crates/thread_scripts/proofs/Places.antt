@@ -1,3 +1,4 @@
+-- For run_board too.
 -- No actor's place is past the lines of the script.
 use Rattle.std.proofs.Common.{◌≡◌, ℕ, zero, suc, ◌+◌, ◌-◌, ◌≤◌, Bool, true, false, cond, List, [], ◌∷◌, ◌++◌, All, Option, Some, None, length, refl, arith}
 use Rattle.std.specs.Prelude.{map, fold, filter}

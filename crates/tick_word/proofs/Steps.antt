@@ -1,3 +1,4 @@
+-- For split_stores too.
 -- Each step keeps the rule of a tick word, and what the rule tells in the end.
 use Rattle.std.proofs.Common.{◌≡◌, ℕ, zero, suc, ◌+◌, ◌*◌, ◌%◌, ◌<◌, ◌≤◌, List, [], ◌∷◌, ◌++◌, length, refl, sym, ap, ◌∙◌, arith, set}
 use Rattle.std.specs.Prelude.{sum_by, slice_index}

@@ -1,3 +1,4 @@
+-- For this crate's own proofs.
 -- No turn lowers a place.
 use Rattle.std.proofs.Common.{◌≡◌, ℕ, ◌≤◌, Bool, true, false, cond, List, [], ◌∷◌, ◌++◌, Option, Some, None, refl, sym, subst, arith}
 use Rattle.std.specs.Option.{option_map}

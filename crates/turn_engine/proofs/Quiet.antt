@@ -1,3 +1,4 @@
+-- For this crate's own proofs.
 -- A turn is told where its event appends an item or opens a sweep, and else all is as before.
 use Rattle.std.proofs.Common.{◌≡◌, ℕ, ◌≢◌, ◌≤◌, true, false, List, [], ◌∷◌, Some, length, refl, sym, ◌∙◌, ap, subst}
 use Rattle.std.proofs.lemmas.Bool.{true≢false}

@@ -1,3 +1,4 @@
+-- For this crate's own proofs.
 -- The clocks of a script run have room, and the reading of its next event is steady.
 use Rattle.std.proofs.Common.{◌≡◌, ℕ, ◌+◌, ◌≤◌, ◌^◌, List, Some, All, length, sym, subst, arith}
 use Rattle.std.specs.Prelude.{slice_index_or}

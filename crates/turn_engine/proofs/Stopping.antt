@@ -1,3 +1,4 @@
+-- For this crate's own proofs.
 -- How a call answered, and what stands after it.
 use Rattle.std.proofs.Common.{◌≡◌, Option, Some, None, Result, Ok, Err, sym, ◌∙◌, ap}
 use Rattle.std.proofs.lemmas.Option.{same_Some, none-some}

@@ -1,3 +1,4 @@
+-- For this crate's own proofs.
 -- What a script run keeps once the event of a turn was made.
 use Rattle.std.proofs.Common.{◌≡◌, ℕ, Bool, true, false, List, [], ◌∷◌, ◌++◌, Option, Some, None, inl, inr, refl, sym, ◌∙◌, ap, subst}
 use Rattle.std.specs.Prelude.{map, slice_get, slice_set, IsSomeAnd}

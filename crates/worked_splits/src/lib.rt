@@ -8,6 +8,8 @@ mod calls;
 #[cfg(test)]
 mod logs;
 #[cfg(test)]
+mod making;
+#[cfg(test)]
 mod meeting;
 #[cfg(test)]
 mod orders;

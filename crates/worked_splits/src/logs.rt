@@ -1,11 +1,13 @@
 // Logs of which something is missing.
 ghost use Rattle.std.specs.Prelude.{◌≡◌, ◌≤◌, false, All, IfOk, IsTrue};
 
+use crate::making::read_behind;
+use crate::scripts::READ_BEHIND;
 use cluster_core::Cluster;
 use history_book::Item;
 use session_script::{Mode, Script, read_script};
-use split_stores::{ActorSeat, Event, OpenPartGate, SettleStop, Split};
-use stamp_base::{NoMemory, NodeNo, Setup};
+use split_stores::{ActorSeat, SettleStop, Split};
+use stamp_base::{NoMemory, Setup};
 use std::alloc::Global;
 use std::sync::Wait;
 use std::test::Fail;
@@ -28,21 +30,17 @@ fn open(alloc: Global, script: &Script, actors: usize) -> Result<(Split, Vec<Act
     Split::open(alloc, script, actors)
 }
 
-/// A script in which a node takes over.
-fn take_script(alloc: Global) -> Option<Script> {
-    read_script(alloc, "a take\n".as_bytes(), Mode::Split).ok()
+/// The script whose events are made.
+fn script_behind(alloc: Global) -> Option<Script> {
+    read_script(alloc, READ_BEHIND.as_bytes(), Mode::Split).ok()
 }
 
-/// The node takes over, and what its log kept of that is taken away.
-fn take_and_strike<R: Wait>(rt: &R, alloc: Global, split: &Split, seat: &mut ActorSeat)
+/// All events of the script are made, and what the log kept of the first, a take, is taken away.
+fn make_and_strike<R: Wait>(rt: &R, alloc: Global, split: &Split, seat: &mut ActorSeat) -> bool
     requires { seat.old.word ≡ split.now.id }
     ensures { seat.new.word ≡ split.now.id }
 {
-    let take = Event::Take {
-        node: NodeNo::FIRST,
-    };
-    split.make(rt, alloc, seat, take, &OpenPartGate);
-    seat.strike(0);
+    read_behind(rt, alloc, split, seat) && seat.strike(0)
 }
 
 fn is_take(item: &Option<Item>) -> bool {
@@ -82,7 +80,7 @@ fn tears<R: Wait>(rt: &R, alloc: Global, script: &Script) -> Result<bool, NoMemo
     Ok(is_torn_at_the_take(&settled))
 }
 
-/// The seats with the last of them struck.
+/// The seats with the last of them struck; without it where one of its events was not done.
 fn one_struck<R: Wait>(
     rt: &R,
     alloc: Global,
@@ -94,8 +92,9 @@ fn one_struck<R: Wait>(
 {
     let mut seats = seats;
     if let Some(mut seat) = seats.pop() {
-        take_and_strike(rt, alloc, split, &mut seat);
-        seats.push(seat)?;
+        if make_and_strike(rt, alloc, split, &mut seat) {
+            seats.push(seat)?;
+        }
     }
     Ok(seats)
 }
@@ -122,14 +121,14 @@ fn misses(alloc: Global, script: &Script) -> Result<bool, NoMemory> {
 }
 
 fn tears_in<R: Wait>(rt: &R, alloc: Global) -> Result<bool, NoMemory> {
-    match take_script(alloc) {
+    match script_behind(alloc) {
         Some(script) => tears(rt, alloc, &script),
         None => Ok(false),
     }
 }
 
 fn misses_in(alloc: Global) -> Result<bool, NoMemory> {
-    match take_script(alloc) {
+    match script_behind(alloc) {
         Some(script) => misses(alloc, &script),
         None => Ok(false),
     }

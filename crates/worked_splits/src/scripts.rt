@@ -6,7 +6,7 @@ use std::test::Fail;
 use std::thread::Threads;
 
 /// A commit, and a reader that waits for it.
-const READ_BEHIND: &str = "\
+pub const READ_BEHIND: &str = "\
 a take
 a post p1
 s0 await p1
@@ -51,6 +51,8 @@ fn a_commit_is_read_over_split_stores(rt: HostRuntime) -> Result<(), Fail> {
 #[test]
 fn a_commit_is_collected_over_split_stores(rt: HostRuntime) -> Result<(), Fail> {
     assert!(rt; is_one(&rt, rt.alloc(), COLLECTED)?);
+    let (written, _) = answer_of(&rt, rt.alloc(), &["run", "split"], COLLECTED)?;
+    assert!(rt; written.as_slice().ends_with("refused s0 idle\n".as_bytes()));
     Ok(())
 }
 

@@ -1,3 +1,4 @@
+-- For served_lines too.
 -- Outcomes that place, open, write and read nothing, whatever they make of numbers and requests. For the tables of cells, of what
 -- is under way, of reads and of stamps, which name only the others.
 use Rattle.std.proofs.Common.{refl, ◌≡◌, ℕ, Bool, true, List, ◌++◌, Option, inl}

@@ -1,4 +1,4 @@
--- For cause_laws and call_laws too.
+-- For cause_laws, call_laws and served_lines too.
 -- What keeps the facts on stamps, terms and leases: one item that is not quiet, requests as they stand, reads, quiet items.
 use Rattle.std.proofs.Common.{[], ◌≡◌, ℕ, ◌≤◌, IsTrue, List, ◌∷◌, ◌++◌, append_assoc, Option, Some, refl, sym, ◌∙◌, subst, arith}
 use Rattle.std.specs.Prelude.{slice_set}

@@ -1,3 +1,4 @@
+-- For served_lines too.
 -- A commit that is pending and has no mark is placed. Who places it does not matter here.
 use Rattle.std.proofs.Common.{◌≡◌, ℕ, true, List, None, inl, inr, refl, ap}
 use Rattle.history_book.specs.Isolation.{Committed}

@@ -1,4 +1,4 @@
--- For cause_laws, call_laws and grant_laws too.
+-- For cause_laws, call_laws, served_lines and grant_laws too.
 -- All that an event of the machine comes to, with the state that it leaves and the items that it appends.
 use Rattle.std.proofs.Common.{◌≡◌, ℕ, [], List, Option, None, Some, subst}
 use Rattle.history_book.specs.declared.item.Item.{Item}

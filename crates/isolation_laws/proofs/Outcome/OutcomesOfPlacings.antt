@@ -1,4 +1,4 @@
--- For cause_laws too.
+-- For cause_laws and served_lines too.
 -- What an event comes to for a session that is to place its commit.
 use Rattle.std.proofs.Common.{[], ◌≡◌, ℕ, List, ◌∷◌, None, Some, ◌⊎◌}
 use Rattle.std.specs.Prelude.{slice_set}

@@ -1,4 +1,4 @@
--- For cause_laws and grant_laws too.
+-- For cause_laws, served_lines and grant_laws too.
 -- What an event of the machine comes to at the master record, or where nothing changes that a fact reads. Each outcome is a
 -- record of what was the case, with the state that it leaves and the items that it appends, so that no proof about the facts
 -- has to look into the machine's definitions. The deeds of cause_laws are a view of the same outcomes.

@@ -1,3 +1,4 @@
+-- For served_lines too.
 -- What an event comes to for requests without a stamp: a crash, an ask, a request that is accepted or refused.
 use Rattle.std.proofs.Common.{[], ◌≡◌, ◌≢◌, ℕ, ◌+◌, ◌<◌, ◌≤◌, max, false, List, ◌∷◌, None, Some, ◌⊎◌}
 use Rattle.std.specs.Prelude.{slice_set, IsTrue}

@@ -1,4 +1,4 @@
--- For cause_laws and grant_laws too.
+-- For cause_laws, served_lines and grant_laws too.
 -- What an event comes to for requests with a stamp: the draw, the put of a commit, the answer.
 use Rattle.std.proofs.Common.{Option, [], ◌≡◌, ◌≢◌, ℕ, ◌+◌, List, ◌∷◌, ◌++◌, None, Some, ◌⊎◌}
 use Rattle.std.specs.Prelude.{slice_set}

@@ -1,4 +1,4 @@
--- For cause_laws too.
+-- For cause_laws and served_lines too.
 -- What an event comes to for the work of sessions: reads, outcomes that are open, completions.
 use Rattle.std.proofs.Common.{[], ◌≡◌, ℕ, ◌≤◌, Bool, true, false, if◌then◌else◌, List, ◌∷◌, Option, None, Some, ◌⊎◌}
 use Rattle.std.specs.Prelude.{slice_set}

@@ -1,4 +1,4 @@
--- For cause_laws and call_laws too.
+-- For cause_laws, call_laws and served_lines too.
 -- Items that say nothing: neither to the facts, nor of requests and instances. For the inversion here, and for the deeds of
 -- cause_laws.
 use Rattle.std.proofs.Common.{Bool, true, false, List, [], ◌∷◌, Option, None, Some, ◌≡◌, refl, subst}

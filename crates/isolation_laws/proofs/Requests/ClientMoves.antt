@@ -1,4 +1,4 @@
--- For cause_laws too.
+-- For cause_laws and served_lines too.
 -- One frame for how an outcome moves clients: each was there, it opens, places and reads nothing that it did not before, keeps what its
 -- transaction read and what it remembers, and is gone only where it was. Outcomes that move one otherwise have lemmas of their own.
 use Rattle.std.proofs.Common.{[], ◌≡◌, ℕ, Bool, true, false, List, ◌∷◌, ◌⊎◌, inl, inr, refl, sym, ◌∙◌, ap, subst, Option, Some, None}

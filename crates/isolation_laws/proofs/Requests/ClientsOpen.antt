@@ -1,4 +1,4 @@
--- For cause_laws too.
+-- For cause_laws and served_lines too.
 -- What clients become when they have no transaction open and none to place, or as before.
 use Rattle.std.proofs.Common.{[], ◌≡◌, ℕ, Bool, true, false, List, ◌∷◌, ◌⊎◌, inl, inr, refl, sym, ◌∙◌, ap, subst}
 use Rattle.std.specs.Prelude.{slice_set}

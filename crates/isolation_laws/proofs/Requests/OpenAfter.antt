@@ -1,3 +1,4 @@
+-- For served_lines too.
 -- What the outcomes that no frame has make of the transactions that are open or are placed: one more is open where a begin is
 -- answered, and else there are fewer.
 use Rattle.std.proofs.Common.{[], ◌≡◌, ℕ, zero, suc, List, ◌∷◌, Option, Some, None, ◌⊎◌, inl, inr, refl, sym, ◌∙◌, ap}

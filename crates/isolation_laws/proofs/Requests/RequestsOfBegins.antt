@@ -1,3 +1,4 @@
+-- For served_lines too.
 -- Sessions and requests where a begin is answered.
 use Rattle.std.proofs.Common.{[], ◌≡◌, ℕ, IsTrue, List, ◌∷◌, ◌++◌, Some, None, ◌⊎◌, inl, inr, refl, sym, ◌∙◌, ap, subst, arith}
 use Rattle.std.proofs.lemmas.Option.{same_Some}

@@ -1,0 +1,126 @@
+// The events of a script, made one after the other: a commit, and a reader that waits for it.
+ghost use Rattle.std.specs.Prelude.{◌≡◌};
+ghost use Rattle.split_stores.specs.Logs.{CanRise};
+
+use history_book::{Actor, Note};
+use split_stores::{ActorSeat, Event, Made, OpenPartGate, Split};
+use stamp_base::{KeyNo, Name, NodeNo, SessionNo, Value};
+use std::alloc::Global;
+use std::sync::Wait;
+
+/// Makes the event. False where it was not done.
+fn makes<R: Wait>(rt: &R, alloc: Global, split: &Split, seat: &mut ActorSeat, event: Event) -> bool
+    requires word { seat.old.word ≡ split.now.id }
+    requires rises { CanRise event seat.old.entries }
+    ensures { seat.new.word ≡ split.now.id }
+{
+    match split.make(rt, alloc, seat, event, &OpenPartGate) {
+        Made::Did => true,
+        _ => false,
+    }
+}
+
+/// One actor posts a name for which the other waits.
+fn tells<R: Wait>(
+    rt: &R,
+    alloc: Global,
+    split: &Split,
+    seat: &mut ActorSeat,
+    from: Actor,
+    to: Actor,
+    name: &str,
+) -> bool
+    requires { seat.old.word ≡ split.now.id }
+    ensures { seat.new.word ≡ split.now.id }
+{
+    let Some(name) = Name::new(name.as_bytes()) else {
+        return false;
+    };
+    let post = Event::Note {
+        actor: from,
+        note: Note::Post(name),
+    };
+    let awaits = Event::Note {
+        actor: to,
+        note: Note::Await(name),
+    };
+    makes(rt, alloc, split, seat, post) && makes(rt, alloc, split, seat, awaits)
+}
+
+fn begins<R: Wait>(
+    rt: &R,
+    alloc: Global,
+    split: &Split,
+    seat: &mut ActorSeat,
+    session: SessionNo,
+) -> bool
+    requires { seat.old.word ≡ split.now.id }
+    ensures { seat.new.word ≡ split.now.id }
+{
+    let node = NodeNo::FIRST;
+    makes(rt, alloc, split, seat, Event::AskBegin { session, node })
+        && makes(rt, alloc, split, seat, Event::Accept { node, session })
+        && makes(rt, alloc, split, seat, Event::Decide { node, session })
+        && makes(rt, alloc, split, seat, Event::Answer { node, session })
+}
+
+/// The session writes the first key and commits, with its two steps of completion.
+fn commits<R: Wait>(
+    rt: &R,
+    alloc: Global,
+    split: &Split,
+    seat: &mut ActorSeat,
+    session: SessionNo,
+    value: Value,
+) -> bool
+    requires { seat.old.word ≡ split.now.id }
+    ensures { seat.new.word ≡ split.now.id }
+{
+    let (node, key) = (NodeNo::FIRST, KeyNo::FIRST);
+    makes(
+        rt,
+        alloc,
+        split,
+        seat,
+        Event::Write {
+            session,
+            key,
+            value,
+        },
+    ) && makes(rt, alloc, split, seat, Event::AskCommit { session, node })
+        && makes(rt, alloc, split, seat, Event::Accept { node, session })
+        && makes(rt, alloc, split, seat, Event::Decide { node, session })
+        && makes(rt, alloc, split, seat, Event::Put { node, session })
+        && makes(rt, alloc, split, seat, Event::Answer { node, session })
+        && makes(rt, alloc, split, seat, Event::Step { session })
+        && makes(rt, alloc, split, seat, Event::Step { session })
+}
+
+/// The node takes over, a session commits, and another reads what it wrote. False where one of the events was not done.
+pub fn read_behind<R: Wait>(rt: &R, alloc: Global, split: &Split, seat: &mut ActorSeat) -> bool
+    requires { seat.old.word ≡ split.now.id }
+    ensures { seat.new.word ≡ split.now.id }
+{
+    let (node, key) = (NodeNo::FIRST, KeyNo::FIRST);
+    let (Some(reader), Some(value)) = (SessionNo::new(1), Value::new("v".as_bytes())) else {
+        return false;
+    };
+    let writer = SessionNo::FIRST;
+    let (first, second) = (Actor::Session(writer), Actor::Session(reader));
+    makes(rt, alloc, split, seat, Event::Take { node })
+        && tells(rt, alloc, split, seat, Actor::Node(node), first, "p1")
+        && begins(rt, alloc, split, seat, writer)
+        && commits(rt, alloc, split, seat, writer, value)
+        && tells(rt, alloc, split, seat, first, second, "p2")
+        && begins(rt, alloc, split, seat, reader)
+        && makes(
+            rt,
+            alloc,
+            split,
+            seat,
+            Event::Fetch {
+                session: reader,
+                key,
+            },
+        )
+}
