@@ -1,5 +1,5 @@
 -- Each step, each split and each joining keeps the rule of a beacon.
-use Rattle.std.proofs.Common.{◌≡◌, ℕ, ◌<◌, true, true≢false, List, [], ◌∷◌, ◌++◌, refl, sym, ap, ◌∙◌, subst}
+use Rattle.std.proofs.Common.{rules, ◌≡◌, ℕ, ◌<◌, true, true≢false, List, [], ◌∷◌, ◌++◌, refl, sym, ap, ◌∙◌, subst}
 use Rattle.std.proofs.lemmas.List.Elements.{All-nil, All-push}
 use mathlib.Core.Option.{some}
 use lib.ListN.{get_elem?}
@@ -13,6 +13,10 @@ use Rattle.master_beacon.specs.Rule.{IsPair, words_of, Fits, IsPublished}
 use Rattle.master_beacon.specs.Steps.{Publishes, Looks, Compares}
 use Rattle.master_beacon.proofs.Fronts.{front_of_itself, front_of_more, longer_has_both, whole_is_longer}
 use Rattle.master_beacon.proofs.Risen.{last_of-push, rising-push, last_is_pair}
+
+-- a cell of two words fits in memory
+pub words_fit : (64 < 9223372036854775808) × (0 < 9223372036854775808)
+words_fit = search rules
 
 pub opens : IsPublished (0 ∷ 0 ∷ []) (first_view ∷ [])
 opens = record {
