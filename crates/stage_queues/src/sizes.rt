@@ -42,6 +42,6 @@ impl Sizes {
         ensures { result ≡ min (max 1 (self.now.senders / 2)) self.now.batch }
     {
         let half = self.senders / 2;
-        1.max(half).min(self.batch)
+        half.max(1).min(self.batch)
     }
 }
