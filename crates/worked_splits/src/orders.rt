@@ -3,6 +3,7 @@ use crate::calls::read;
 use split_driver::run_split;
 use split_stores::{Event, PartGate};
 use std::alloc::{AllocError, Global};
+use std::hint::spin_loop;
 use std::sync::Wait;
 use std::test::Fail;
 use std::thread;
@@ -10,52 +11,59 @@ use std::thread;
 /// How often the actors carry out their lines.
 const ROUNDS: usize = 200;
 
-/// For how many turns an event gives way under its locks.
+/// For how many turns an event gives way under its locks, and how long each turn takes.
 const TURNS: usize = 8;
 
-/// A gate at which each event gives way to others, which come to their locks meanwhile.
+const SPINS: usize = 500;
+
+/// A gate at which each event gives way to others, which come to their locks meanwhile. It takes its time too, since nobody is given
+/// way to where there are processors enough.
 struct GivingGate;
 
 impl PartGate for GivingGate {
     fn inside<R: Wait>(&self, _rt: &R, _event: &Event) {
         for _ in 0..TURNS {
             thread::yield_now();
+            for _ in 0..SPINS {
+                spin_loop();
+            }
         }
     }
 }
 
-/// A node that draws one stamp at a time.
+/// A node that draws one stamp at a time, so that each begin extends what it may draw.
 const HEAD: &str = "\
-nodes 2
 range 1
-lease 1000000
 a take
 a post p1
+b await p1
 s0 await p1
 s1 await p1
+s2 await p1
 ";
 
 /// Five actors, whose events have these pairs of parts in common, by two kinds of event each: the session and a node, the clock and the
-/// node, and the node and the master record.
+/// node, and the node and the master record. Four of them lock node `a` again and again: while one holds it, a renewal and an extension
+/// come to wait for it side by side. No session stays with a request that nobody goes on with, but for `s0`, which asks all the same.
 const ROUND: &str = "\
+a accept s0
+a renew
+a accept s0
+a renew
+a renew
+a renew
+b crash
+b crash
 s0 begin a
-s0 write k0 v
-s0 commit a
-s0 begin b
+s0 begin a
+s0 begin a
+s0 begin a
 s1 begin a
-s1 write k1 v
-s1 commit a
-a accept s0
-a renew
-a accept s0
-a renew
-a accept s0
-a renew
-a accept s0
-a renew
-b crash
-b crash
-clock tick 1
+s1 abort
+s1 begin b
+s2 begin a
+s2 abort
+s2 begin b
 ";
 
 fn rounds(alloc: Global) -> Result<String, AllocError> {
