@@ -1,5 +1,5 @@
 -- What making an event does to its actor's log and to the parts that are lent to it.
-use Rattle.std.specs.Prelude.{◌≡◌, ℕ, ◌≤◌, [], ◌∷◌, ◌++◌, length, Option, None, Some}
+use Rattle.std.specs.Prelude.{◌≡◌, ℕ, ◌≤◌, [], ◌∷◌, ◌++◌, length, Option, None, Some, Unit}
 use Rattle.atomic_table.specs.Seated.{TableId}
 use Rattle.stamp_base.specs.declared.memory.NoMemory.{NoMemory}
 use Rattle.tick_word.specs.Rule.{seat_limit}
@@ -31,6 +31,11 @@ Makes event made.Did old new = AddsOne event old new
 Makes event (made.Stopped stopped) old new = AddsOne event old new
 Makes event (made.Spent drawn) old new = SameLog old new × (drawn ≡ length old.entries) × (seat_limit ≤ drawn)
 Makes event made.NoMemory old new = SameLog old new
+
+-- the seat was told that it has drawn all its ticks
+abbrev pub IsSpent : Made → Type 0
+IsSpent (made.Spent drawn) = Unit {0}
+IsSpent _ = ⊥
 
 -- ---- where the parts are lent
 -- the parts agree, and the node is the event's

@@ -1,12 +1,13 @@
 // The parts that an event has to do with, locked. Locks are taken in the order sessions by their numbers, janitor, clock, node,
 // cells, table, master record, names.
-ghost use Rattle.std.specs.Prelude.{◌≡◌, IsSome};
+ghost use Rattle.std.specs.Prelude.{◌≡◌, ◌≤◌, IsSome, length};
 ghost use Rattle.split_parts.specs.declared.event.Event.TheVariants as event;
 ghost use Rattle.split_parts.specs.Agrees.{HasSession};
 ghost use Rattle.split_parts.specs.Lending.{HasSessionsBelow};
 ghost use Rattle.split_stores.specs.Locks.{IsReady, Suffices};
 ghost use Rattle.split_stores.specs.Logs.{CanRise};
-ghost use Rattle.split_stores.specs.Makes.{Makes};
+ghost use Rattle.split_stores.specs.Makes.{Makes, IsSpent};
+ghost use Rattle.tick_word.specs.Rule.{seat_limit};
 
 use crate::inside::Turn;
 use crate::{ActorSeat, Event, Lent, Made, PartGate, Split};
@@ -32,6 +33,7 @@ impl Split {
         requires rises { CanRise event seat.old.entries }
         ensures word { seat.new.word ≡ seat.old.word }
         ensures made { Makes event result seat.old seat.new }
+        ensures spent { seat_limit ≤ length seat.old.entries → IsSpent result }
     {
         let drawn = seat.entries().len() as u64;
         if drawn >= SEAT_LIMIT {

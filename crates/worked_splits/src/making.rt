@@ -96,31 +96,70 @@ fn commits<R: Wait>(
         && makes(rt, alloc, split, seat, Event::Step { session })
 }
 
-/// The node takes over, a session commits, and another reads what it wrote. False where one of the events was not done.
-pub fn read_behind<R: Wait>(rt: &R, alloc: Global, split: &Split, seat: &mut ActorSeat) -> bool
+/// A session waits until the writer tells it, begins, and reads the first key.
+fn reads<R: Wait>(
+    rt: &R,
+    alloc: Global,
+    split: &Split,
+    seat: &mut ActorSeat,
+    writer: SessionNo,
+    session: SessionNo,
+) -> bool
     requires { seat.old.word ≡ split.now.id }
     ensures { seat.new.word ≡ split.now.id }
 {
-    let (node, key) = (NodeNo::FIRST, KeyNo::FIRST);
-    let (Some(reader), Some(value)) = (SessionNo::new(1), Value::new("v".as_bytes())) else {
-        return false;
-    };
-    let writer = SessionNo::FIRST;
-    let (first, second) = (Actor::Session(writer), Actor::Session(reader));
+    let key = KeyNo::FIRST;
+    tells(
+        rt,
+        alloc,
+        split,
+        seat,
+        Actor::Session(writer),
+        Actor::Session(session),
+        "p2",
+    ) && begins(rt, alloc, split, seat, session)
+        && makes(rt, alloc, split, seat, Event::Fetch { session, key })
+}
+
+/// The node takes over and tells a session, which begins, writes and commits.
+fn takes_and_commits<R: Wait>(
+    rt: &R,
+    alloc: Global,
+    split: &Split,
+    seat: &mut ActorSeat,
+    session: SessionNo,
+    value: Value,
+) -> bool
+    requires { seat.old.word ≡ split.now.id }
+    ensures { seat.new.word ≡ split.now.id }
+{
+    let node = NodeNo::FIRST;
     makes(rt, alloc, split, seat, Event::Take { node })
-        && tells(rt, alloc, split, seat, Actor::Node(node), first, "p1")
-        && begins(rt, alloc, split, seat, writer)
-        && commits(rt, alloc, split, seat, writer, value)
-        && tells(rt, alloc, split, seat, first, second, "p2")
-        && begins(rt, alloc, split, seat, reader)
-        && makes(
+        && tells(
             rt,
             alloc,
             split,
             seat,
-            Event::Fetch {
-                session: reader,
-                key,
-            },
+            Actor::Node(node),
+            Actor::Session(session),
+            "p1",
         )
+        && begins(rt, alloc, split, seat, session)
+        && commits(rt, alloc, split, seat, session, value)
+}
+
+/// A session commits, and another reads what it wrote. False where one of the events was not done.
+pub fn read_behind<R: Wait>(rt: &R, alloc: Global, split: &Split, seat: &mut ActorSeat) -> bool
+    requires { seat.old.word ≡ split.now.id }
+    ensures { seat.new.word ≡ split.now.id }
+{
+    let writer = SessionNo::FIRST;
+    let Some(reader) = SessionNo::new(1) else {
+        return false;
+    };
+    let Some(value) = Value::new("v".as_bytes()) else {
+        return false;
+    };
+    takes_and_commits(rt, alloc, split, seat, writer, value)
+        && reads(rt, alloc, split, seat, writer, reader)
 }
