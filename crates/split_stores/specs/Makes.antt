@@ -1,5 +1,5 @@
 -- What making an event does to its actor's log and to the parts that are lent to it.
-use Rattle.std.specs.Prelude.{◌≡◌, ℕ, ◌≤◌, [], ◌∷◌, ◌++◌, length, Option, None, Some, Unit}
+use Rattle.std.specs.Prelude.{◌≡◌, ℕ, ◌≤◌, [], ◌∷◌, ◌++◌, length, Option, None, Some}
 use Rattle.atomic_table.specs.Seated.{TableId}
 use Rattle.stamp_base.specs.declared.memory.NoMemory.{NoMemory}
 use Rattle.tick_word.specs.Rule.{seat_limit}
