@@ -2,19 +2,17 @@
 use Rattle.std.proofs.Common.{◌≡◌, ℕ, ◌<◌, ◌≤◌, Bool, true, false, List, Option, Some, ◌⊎◌, inl, inr, refl, sym, subst, arith}
 use Rattle.std.specs.Bool.{IsTrue}
 use Rattle.std.proofs.lemmas.Bool.{le-leb}
-use Rattle.stamp_base.specs.SetupNumbers.{SetupNumbers}
 use Rattle.history_book.specs.Isolation.{Committed, Wrote, Apart, Stamped}
 use Rattle.history_book.specs.declared.item.Item.{Item}
-use Rattle.store_parts.specs.Record.{MasterRecord}
 use Rattle.client_parts.specs.KeyRead.{may_mark}
 use Rattle.oracle_parts.specs.Instance.{InstanceEntry}
-use Rattle.machine.specs.State.{Client}
+use Rattle.machine.specs.State.{Client, State}
 use Rattle.machine.specs.Events.Fetch.{marks_every}
 use Rattle.isolation_laws.specs.Words.{OpenAt}
+use Rattle.isolation_laws.specs.Holds.{Holds}
 use Rattle.isolation_laws.specs.Pending.{Stage, Waits, Taken, Has, InFlight, HeldPending, Pending, IsStageBelow, ComesBelow}
-use Rattle.isolation_laws.specs.Numbers.{AreRanges, AreDrawn, AreNewDraws}
-use Rattle.isolation_laws.specs.Requests.{ArePending, AreAccepted, AreForm}
-use Rattle.isolation_laws.specs.Begins.{AreSettledBelow}
+use Rattle.isolation_laws.specs.Numbers.{AreNewDraws}
+use Rattle.isolation_laws.specs.Requests.{ArePending, AreAccepted}
 use Rattle.isolation_laws.proofs.OnceEach.{commit_above_start}
 use Rattle.isolation_laws.proofs.Owners.{taken_within, has_held, held_drew, taken_held, has_drew}
 
@@ -34,34 +32,33 @@ coming_is_below clients nodes h b t news accepted pending c = elim (below_stage 
 ]
 
 -- and where an instance holds it, a reader that is open has an epoch that is not below it
-held_is_within : (setup : SetupNumbers) (nodes : List (Option InstanceEntry)) (clients : List Client) (master : MasterRecord) (h : List Item) (s b e : ℕ) (q : InFlight) → AreForm setup nodes clients → setup.direct ≡ false → AreRanges nodes master → AreDrawn nodes master h → AreNewDraws h → AreAccepted nodes → ArePending clients nodes h → AreSettledBelow clients nodes → OpenAt clients s b e → HeldPending nodes q → IsStageBelow b q.stage → q.start ≤ e
-held_is_within setup nodes clients master h s b e q form plain ranges drawn news accepted pending settled o p below =
+held_is_within : (w : State) (h : List Item) (s b e : ℕ) (q : InFlight) → Holds w h → w.setup.direct ≡ false → OpenAt w.clients s b e → HeldPending w.nodes q → IsStageBelow b q.stage → q.start ≤ e
+held_is_within w h s b e q holds plain o p below =
     let i = p.instance_of in
     elim (below_stage b q.stage below) [
       | inl (x, is, low) ↦
-          let within = taken_within nodes q x p accepted is in
-          elim (settled.below s b e p.node i o p.at) [
-            | inl all ↦ omega (arith, within.0, within.1, ranges.within p.node i p.at, all)
+          let within = taken_within w.nodes q x p holds.requests.accepted is in
+          elim ((holds.begins.below plain).below s b e p.node i o p.at) [
+            | inl all ↦ omega (arith, within.0, within.1, holds.numbers.ranges.within p.node i p.at, all)
             | inr past ↦ absurd (omega (arith, past.last, within.1, low))
           ]
       | inr (x, is, low) ↦
-          let drew = held_drew clients nodes h q x p pending is in
-          let last : x ≤ i.last = (drawn.same q.session p.node i.term q.start p.node (Some x) i drew p.at refl).1 in
-          elim (settled.below s b e p.node i o p.at) [
-            | inl all ↦ omega (arith, commit_above_start h q.session p.node i.term q.start x news drew, last, ranges.within p.node i p.at, all)
-            | inr past ↦ absurd (omega (arith, past.settled q.session q.start x q.keys (has_held setup nodes clients q x p form plain is), low))
+          let drew = held_drew w.clients w.nodes h q x p holds.requests.pending is in
+          let last : x ≤ i.last = (holds.numbers.drawn.same q.session p.node i.term q.start p.node (Some x) i drew p.at refl).1 in
+          elim ((holds.begins.below plain).below s b e p.node i o p.at) [
+            | inl all ↦ omega (arith, commit_above_start h q.session p.node i.term q.start x holds.numbers.new drew, last, holds.numbers.ranges.within p.node i p.at, all)
+            | inr past ↦ absurd (omega (arith, past.settled q.session q.start x q.keys (has_held w.setup w.nodes w.clients q x p holds.requests.form plain is), low))
           ]
     ]
 
 -- so it may mark it: by its epoch where no session places its own commit, and in any case where one may
-coming_is_within : (setup : SetupNumbers) (nodes : List (Option InstanceEntry)) (clients : List Client) (master : MasterRecord) (h : List Item) (s b e : ℕ) (q : InFlight) → AreForm setup nodes clients → setup.direct ≡ false → AreRanges nodes master → AreDrawn nodes master h → AreNewDraws h → AreAccepted nodes → ArePending clients nodes h → AreSettledBelow clients nodes → OpenAt clients s b e → Pending clients nodes q → IsStageBelow b q.stage → q.start ≤ e
-coming_is_within setup nodes clients master h s b e q form plain ranges drawn news accepted pending settled o (inl p) below = held_is_within setup nodes clients master h s b e q form plain ranges drawn news accepted pending settled o p below
-coming_is_within setup nodes clients master h s b e q form plain ranges drawn news accepted pending settled o (inr p) below = absurd (form.plain plain q.session p.client p.at p.state_is)
+coming_is_within : (w : State) (h : List Item) (s b e : ℕ) (q : InFlight) → Holds w h → w.setup.direct ≡ false → OpenAt w.clients s b e → Pending w.clients w.nodes q → IsStageBelow b q.stage → q.start ≤ e
+coming_is_within w h s b e q holds plain o (inl p) below = held_is_within w h s b e q holds plain o p below
+coming_is_within w h s b e q holds plain o (inr p) below = absurd (holds.requests.form.plain plain q.session p.client p.at p.state_is)
 
-pub coming_is_markable : (setup : SetupNumbers) (every : Bool) (nodes : List (Option InstanceEntry)) (clients : List Client) (master : MasterRecord) (h : List Item) (s b e t : ℕ) → every ≡ marks_every setup → AreForm setup nodes clients → AreRanges nodes master → AreDrawn nodes master h → AreNewDraws h → AreAccepted nodes → ArePending clients nodes h → (setup.direct ≡ false → AreSettledBelow clients nodes) → OpenAt clients s b e → ComesBelow clients nodes b t → IsTrue (may_mark every t e)
-coming_is_markable setup true nodes clients master h s b e t every form ranges drawn news accepted pending settled o c = refl
-coming_is_markable setup false nodes clients master h s b e t every form ranges drawn news accepted pending settled o c =
-    le-leb t e (subst (λ x. x ≤ e) c.start_is (coming_is_within setup nodes clients master h s b e c.coming form (sym every) ranges drawn news accepted pending (settled (sym every)) o c.pending c.below))
+pub coming_is_markable : (w : State) (h : List Item) (every : Bool) (s b e t : ℕ) → every ≡ marks_every w.setup → Holds w h → OpenAt w.clients s b e → ComesBelow w.clients w.nodes b t → IsTrue (may_mark every t e)
+coming_is_markable w h true s b e t every holds o c = refl
+coming_is_markable w h false s b e t every holds o c = le-leb t e (subst (λ x. x ≤ e) c.start_is (coming_is_within w h s b e c.coming holds (sym every) o c.pending c.below))
 
 -- of two committed versions of a key the later one has the later commit
 pub later_version : (h : List Item) (v u c d k : ℕ) (x y : List ℕ) → Apart h → Stamped h → Committed h v c → Committed h u d → Wrote h v k x → Wrote h u k y → u < v → d < c

@@ -111,18 +111,28 @@ not_above d t low other = elim (cases_eq d t) [
   | inr differ ↦ omega (arith, low, differ)
 ]
 
+-- a commit that was drawn before, of a transaction that wrote the key
+pub record DrewBefore (h : List Item) (key : ℕ) : Type 0 where
+  pub session : ℕ
+  pub node : ℕ
+  pub term : ℕ
+  pub start : ℕ
+  pub commit : ℕ
+  pub value : List ℕ
+  pub drew : DrewCommit h session node term start commit
+  pub wrote : Wrote h start key value
+
 -- the commit that is drawn now, of a transaction with a free key, and one before it that wrote the key
-pub apart_now : (w : State) (h : List Item) (k : Drew w) (r t : ℕ) (asked keys : List ℕ) (s m other u d key : ℕ) (value : List ℕ) → Holds w h → k.held.request ≡ Commit r t asked → verdict k.i.buckets t keys ≡ Free → Contains keys key → DrewCommit h s m other u d → Wrote h u key value → (k.i.last + 1 < u) ⊎ (d < t)
-apart_now w h k r t asked keys s m other u d key value holds is free has drew wrote = elim (three_ways other k.i.term) [
-  | inl less ↦ inr (omega (arith, holds.numbers.drawn.earlier s m other u k.node (Some d) k.i drew k.at less, (drew_within w k r t asked holds.requests.requests holds.requests.accepted is).0))
-  | inr (inl same) ↦ inr (not_above d t (free_below w h k t keys s m u d key value holds free has (subst (λ term. DrewCommit h s m term u d) same drew) wrote) (apart_stamps w h k r t asked s m other u d holds is drew))
-  | inr (inr more) ↦ inl (omega (arith, (holds.numbers.drawn.later s m other u k.node (Some d) k.i drew k.at more).1, drew_room w k holds.numbers.ranges))
+pub apart_now : (w : State) (h : List Item) (k : Drew w) (r t : ℕ) (asked keys : List ℕ) (key : ℕ) (o : DrewBefore h key) → Holds w h → k.held.request ≡ Commit r t asked → verdict k.i.buckets t keys ≡ Free → Contains keys key → (k.i.last + 1 < o.start) ⊎ (o.commit < t)
+apart_now w h k r t asked keys key o holds is free has = elim (three_ways o.term k.i.term) [
+  | inl less ↦ inr (omega (arith, holds.numbers.drawn.earlier o.session o.node o.term o.start k.node (Some o.commit) k.i o.drew k.at less, (drew_within w k r t asked holds.requests.requests holds.requests.accepted is).0))
+  | inr (inl same) ↦ inr (not_above o.commit t (free_below w h k t keys o.session o.node o.start o.commit key o.value holds free has (subst (λ term. DrewCommit h o.session o.node term o.start o.commit) same o.drew) o.wrote) (apart_stamps w h k r t asked o.session o.node o.term o.start o.commit holds is o.drew))
+  | inr (inr more) ↦ inl (omega (arith, (holds.numbers.drawn.later o.session o.node o.term o.start k.node (Some o.commit) k.i o.drew k.at more).1, drew_room w k holds.numbers.ranges))
 ]
 
 -- where it wrote the key itself
-wrote_now : (w : State) (h : List Item) (k : Drew w) (r t : ℕ) (keys : List ℕ) (s m other u d key : ℕ) (own value : List ℕ) → Holds w h → k.held.request ≡ Commit r t keys → DrewCommit h s m other u d → Wrote h t key own → Wrote h u key value → (k.i.last + 1 < u) ⊎ (d < t)
-wrote_now w h k r t keys s m other u d key own value holds is drew mine wrote =
-    apart_now w h k r t keys keys s m other u d key value holds is (own_free w k r t keys is) (own_has w h k r t keys key own holds is mine) drew wrote
+wrote_now : (w : State) (h : List Item) (k : Drew w) (r t : ℕ) (keys : List ℕ) (key : ℕ) (own : List ℕ) (o : DrewBefore h key) → Holds w h → k.held.request ≡ Commit r t keys → Wrote h t key own → (k.i.last + 1 < o.start) ⊎ (o.commit < t)
+wrote_now w h k r t keys key own o holds is mine = apart_now w h k r t keys keys key o holds is (own_free w k r t keys is) (own_has w h k r t keys key own holds is mine)
 
 -- ---- the facts
 pub commit_is : (request : Request) (stamp c : ℕ) → Some c ≡ commit_drawn request stamp → c ≡ stamp
@@ -155,13 +165,13 @@ drew_apart w h k holds = record {
           | inr now ↦
               let draws : DrawsFor w k u = draws_commit w k k.held.request u d refl now.1 now.2 in
               let stamp : d ≡ k.i.last + 1 = commit_is k.held.request (k.i.last + 1) d now.2 in
-              subst (λ q. (c < u) ⊎ (q < t)) (sym stamp) (swapped (k.i.last + 1) t c u (wrote_now w h k draws.0 u draws.1 r n term t c key x v holds draws.2 old b a))
+              subst (λ q. (c < u) ⊎ (q < t)) (sym stamp) (swapped (k.i.last + 1) t c u (wrote_now w h k draws.0 u draws.1 key x (record { session = r; node = n; term = term; start = t; commit = c; value = v; drew = old; wrote = a }) holds draws.2 b))
         ]
         | inr now ↦
             let draws : DrawsFor w k t = draws_commit w k k.held.request t c refl now.1 now.2 in
             let stamp : c ≡ k.i.last + 1 = commit_is k.held.request (k.i.last + 1) c now.2 in
             elim (drew_or w k h s m other u (Some d) second) [
-              | inl older ↦ subst (λ q. (q < u) ⊎ (d < t)) (sym stamp) (wrote_now w h k draws.0 t draws.1 s m other u d key v x holds draws.2 older a b)
+              | inl older ↦ subst (λ q. (q < u) ⊎ (d < t)) (sym stamp) (wrote_now w h k draws.0 t draws.1 key v (record { session = s; node = m; term = other; start = u; commit = d; value = x; drew = older; wrote = b }) holds draws.2 a)
               | inr both ↦ absurd (differ (same_transaction w k t u now.1 both.1))
             ]
       ];

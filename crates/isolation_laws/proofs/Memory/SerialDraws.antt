@@ -18,7 +18,7 @@ use Rattle.isolation_laws.proofs.Numbers.NewDraws.{drew_or}
 use Rattle.isolation_laws.proofs.Requests.RequestsOfDraws.{DrawsFor, draws_commit}
 use Rattle.isolation_laws.proofs.Reading.ReadsStay.{draw_no_reads}
 use Rattle.isolation_laws.proofs.Reading.FirstReads.{first_no_reads}
-use Rattle.isolation_laws.proofs.Memory.MemoryOfDraws.{drew_records, drew_apart, apart_now, commit_is, draw_writes_nothing, same_transaction}
+use Rattle.isolation_laws.proofs.Memory.MemoryOfDraws.{DrewBefore, drew_records, drew_apart, apart_now, commit_is, draw_writes_nothing, same_transaction}
 
 -- ---- the reader draws now
 -- its client has kept what it read
@@ -28,10 +28,10 @@ reader_keeps w h k r t keys holds strict is =
     let held : HeldBy k.i k.session (Commit k.session t keys) k.held.progress = record { held = k.held; has = k.has; asks = commit_own k.held.request k.session r t keys is own; stands = refl } in
     holds.reads.read_sets.asked strict k.node k.session t keys k.held.progress k.i k.c k.at held k.client_at
 
-reader_now : (w : State) (h : List Item) (k : Drew w) (r t : ℕ) (keys : List ℕ) (s m other u c key : ℕ) (value : List ℕ) → Holds w h → w.setup.strict ≡ true → k.held.request ≡ Commit r t keys → DrewCommit h s m other u c → ReadFirst h t key → Wrote h u key value → (c < t) ⊎ (k.i.last + 1 < c)
-reader_now w h k r t keys s m other u c key value holds strict is drew read wrote =
-    elim (apart_now w h k r t keys k.c.reads s m other u c key value holds is (k.reads_free r t keys is) (reader_keeps w h k r t keys holds strict is key read) drew wrote) [
-      | inl above ↦ inr (omega (arith, above, commit_above_start h s m other u c holds.numbers.new drew))
+reader_now : (w : State) (h : List Item) (k : Drew w) (r t : ℕ) (keys : List ℕ) (key : ℕ) (o : DrewBefore h key) → Holds w h → w.setup.strict ≡ true → k.held.request ≡ Commit r t keys → ReadFirst h t key → (o.commit < t) ⊎ (k.i.last + 1 < o.commit)
+reader_now w h k r t keys key o holds strict is read =
+    elim (apart_now w h k r t keys k.c.reads key o holds is (k.reads_free r t keys is) (reader_keeps w h k r t keys holds strict is key read)) [
+      | inl above ↦ inr (omega (arith, above, commit_above_start h o.session o.node o.term o.start o.commit holds.numbers.new o.drew))
       | inr below ↦ inl below
     ]
 
@@ -61,7 +61,7 @@ drew_serial w h k holds strict = record {
             let draws : DrawsFor w k t = draws_commit w k k.held.request t d refl now.1 now.2 in
             let stamp : d ≡ k.i.last + 1 = commit_is k.held.request (k.i.last + 1) d now.2 in
             elim (drew_or w k h s m other u (Some c) second) [
-              | inl older ↦ subst (λ q. (c < t) ⊎ (q < c)) (sym stamp) (reader_now w h k draws.0 t draws.1 s m other u c key value holds strict draws.2 older a b)
+              | inl older ↦ subst (λ q. (c < t) ⊎ (q < c)) (sym stamp) (reader_now w h k draws.0 t draws.1 key (record { session = s; node = m; term = other; start = u; commit = c; value = value; drew = older; wrote = b }) holds strict draws.2 a)
               | inr both ↦ absurd (differ (same_transaction w k t u now.1 both.1))
             ]
       ];

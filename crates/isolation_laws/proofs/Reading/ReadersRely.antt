@@ -92,14 +92,10 @@ sees_on w h clients nodes rows pairs g r b k cells rely begun sees = record {
       rely.writes _ k (written_coming w h b _ was) ∙ sees.coming_values i x lt was (λ m. unmarked (rely.marks _ m));
 }
 
--- what comes below the start of an open transaction may be marked by it
-pub markable : (w : State) (h : List Item) (every : Bool) (s b e u : ℕ) → every ≡ marks_every w.setup → Holds w h → OpenAt w.clients s b e → ComesBelow w.clients w.nodes b u → IsTrue (may_mark every u e)
-markable w h every s b e u every_is holds o c = coming_is_markable w.setup every w.nodes w.clients w.master h s b e u every_is holds.requests.form holds.numbers.ranges holds.numbers.drawn holds.numbers.new holds.requests.accepted holds.requests.pending holds.begins.below o c
-
 -- so at a last look, what still comes was marked
 pub marked_before : (w : State) (h : List Item) (every : Bool) (s b e t : ℕ) (met : Bool) → every ≡ marks_every w.setup → Holds w h → OpenAt w.clients s b e → (met ≡ true → Marked w.pairs t) → (met ≡ false → IsTrue (may_mark every t e) → ⊥) → ComesBelow w.clients w.nodes b t → Marked w.pairs t
 marked_before w h every s b e t true every_is holds o marked none comes = marked refl
-marked_before w h every s b e t false every_is holds o marked none comes = absurd (none refl (markable w h every s b e t every_is holds o comes))
+marked_before w h every s b e t false every_is holds o marked none comes = absurd (none refl (coming_is_markable w h every s b e t every_is holds o comes))
 
 resolved_on : (w : State) (h : List Item) (clients : List Client) (nodes : List (Option InstanceEntry)) (rows : List Row) (pairs : Pairs) (g : List Item) (s k b : ℕ) (every : Bool) (e t : ℕ) (point : SettlePoint) → every ≡ marks_every w.setup → RelyOn w h clients nodes rows pairs g → Holds w h → OpenAt w.clients s b e → IsResolvedTo w.pairs w.rows h k b every e t point → IsResolvedTo pairs rows g k b every e t point
 resolved_on w h clients nodes rows pairs g s k b every e t FirstLook every_is rely holds o is = is
