@@ -83,28 +83,40 @@ seat_stays script c s start key r seat line mine present verb_is point_is k =
     ap (λ (left : List Line). passed clocks view left seat) (get_drop seat.place (lines_of script seat.actor) line present)
     ∙ not_passed clocks view line _ seat (ap (λ (x : Ahead). is_passed x) ahead)
 
+-- the read line at which a seat stands
+pub record ReadLine (script : ScriptData) (seat : Seat) (key : ℕ) : Type 0 where
+  pub line : Line
+  pub present : present_line script seat ≡ Some line
+  pub verb_is : line.verb ≡ verb.Read key
+
+-- a session's read under way, with at most so many steps left
+pub record StillReads (q : Played) (s start key most : ℕ) : Type 0 where
+  pub r : Reading
+  pub reads : ReadsKey q s start key r
+  pub few : read_steps r ≤ most
+
 -- so the line is under way after the event
-pub under_after : (script : ScriptData) (c : Carried) (t : Turn) (e : Event) (s start key most : ℕ) (r : Reading) (old seat : Seat) (line : Line) → event_of script c t ≡ Some e → seat_of c.seats (Session s) ≡ Some old → moved script t (step_of script c.played e) old ≡ seat → seat.actor ≡ Session s → present_line script seat ≡ Some line → line.verb ≡ verb.Read key → seat.point ≡ Reads → ReadsKey (played script c.played e) s start key r → read_steps r ≤ most → IsUnder script (turned script c t) s start key most
-under_after script c t e s start key most r old seat line makes sits goes mine present verb_is point_is k few =
+pub under_after : (script : ScriptData) (c : Carried) (t : Turn) (e : Event) (s start key most : ℕ) (old seat : Seat) → event_of script c t ≡ Some e → seat_of c.seats (Session s) ≡ Some old → moved script t (step_of script c.played e) old ≡ seat → seat.actor ≡ Session s → ReadLine script seat key → seat.point ≡ Reads → StillReads (played script c.played e) s start key most → IsUnder script (turned script c t) s start key most
+under_after script c t e s start key most old seat makes sits goes mine l point_is k =
     let next : Carried = with_event script c t e in
-    let stays : seat_passed script next seat ≡ seat = seat_stays script next s start key r seat line mine present verb_is point_is k in
+    let stays : seat_passed script next seat ≡ seat = seat_stays script next s start key k.r seat l.line mine l.present l.verb_is point_is k.reads in
     let there : seat_of (all_passed script next).seats (Session s) ≡ Some seat =
     turned_seat script c t e (Session s)
     ∙ ap (λ (found : Option Seat). option_map (seat_after script c t e) found) sits
     ∙ ap (λ (x : Seat). Some (seat_passed script next x)) goes
     ∙ ap (λ (x : Seat). Some x) stays in
-    let under : IsUnder script (all_passed script next) s start key most = record { seat = seat; sits = there; line = line; present = present; verb_is = verb_is; point_is = point_is; r = r; reads = k; few = few } in
+    let under : IsUnder script (all_passed script next) s start key most = record { seat = seat; sits = there; line = l.line; present = l.present; verb_is = l.verb_is; point_is = point_is; r = k.r; reads = k.reads; few = k.few } in
     subst (λ (found : Option Event). IsUnder script (turned_by script c t found) s start key most) (sym makes) under
 
 -- ---- an own turn of the line
 -- it goes on at the steps of the read where it did not stop
-pub own_under : (script : ScriptData) (c : Carried) (aim : ℕ) (e : Event) (s start key most : ℕ) (r : Reading) (seat : Seat) (line : Line) → event_of script c (turn.Own (Session s) aim) ≡ Some e → seat_of c.seats (Session s) ≡ Some seat → present_line script seat ≡ Some line → line.verb ≡ verb.Read key → follows (verb.Read key) seat.point None ≡ Reads → (step_of script c.played e).stop ≡ None → ReadsKey (played script c.played e) s start key r → read_steps r ≤ most → IsUnder script (turned script c (turn.Own (Session s) aim)) s start key most
-own_under script c aim e s start key most r seat line makes sits present verb_is goes_on stops k few =
+pub own_under : (script : ScriptData) (c : Carried) (aim : ℕ) (e : Event) (s start key most : ℕ) (seat : Seat) → event_of script c (turn.Own (Session s) aim) ≡ Some e → seat_of c.seats (Session s) ≡ Some seat → ReadLine script seat key → follows (verb.Read key) seat.point None ≡ Reads → (step_of script c.played e).stop ≡ None → StillReads (played script c.played e) s start key most → IsUnder script (turned script c (turn.Own (Session s) aim)) s start key most
+own_under script c aim e s start key most seat makes sits l goes_on stops k =
     let step : Step = step_of script c.played e in
     let mine : seat.actor ≡ Session s = seat_actor c (Session s) seat sits in
-    let now : Seat = with_event_of line step seat in
+    let now : Seat = with_event_of l.line step seat in
     let point_is : now.point ≡ Reads =
-    ap (λ (v : Verb). follows v seat.point (halt_of step.stop)) verb_is
+    ap (λ (v : Verb). follows v seat.point (halt_of step.stop)) l.verb_is
     ∙ ap (λ (stop : Option Stop). follows (verb.Read key) seat.point (halt_of stop)) stops
     ∙ goes_on in
-    under_after script c (turn.Own (Session s) aim) e s start key most r seat now line makes sits (own_moved script (Session s) aim step seat line mine present) mine present verb_is point_is k few
+    under_after script c (turn.Own (Session s) aim) e s start key most seat now makes sits (own_moved script (Session s) aim step seat l.line mine l.present) mine (record { line = l.line; present = l.present; verb_is = l.verb_is }) point_is k

@@ -66,17 +66,28 @@ parts_of p node s request at k stands =
 pub served_so : (q : Played) (node s : ℕ) (request : Request) (now : Progress) (i : InstanceEntry) (held : Held) → InstanceAt q.state.nodes node i → held_of i s ≡ Some held → held.request ≡ request → held.progress ≡ now → IsServed q node s request now
 served_so q node s request now i held node_has has asks stands = record { oracle = i; node_has = node_has; held = record { held = held; has = has; asks = asks; stands = stands } }
 
--- by an event on the node and the client
-pub by_request : (script : ScriptData) (c : Carried) (t : Turn) (e : Event) (x : Item) (node s seen : ℕ) (request : Request) (at now : Progress) (f : Option InstanceEntry → Client → Effect (Option InstanceEntry × Client)) (i : InstanceEntry) (k : IsServed c.played node s request at) (parts : Parts c.played node s request at k) →
-    ((turned script c t).played ≡ played script c.played e) → Adds script c t x → step_of script c.played e ≡ on_request (record c.played.state { seen = seen }) node s f → f (Some k.oracle) parts.client ≡ done (Some i, parts.client) (x ∷ []) → i.requests ≡ (with_request k.oracle s (Some (record k.held.held { progress = now }))).requests →
+-- a turn whose event is of that node and that client, and what it leaves of the instance
+pub record OnRequest (script : ScriptData) (c : Carried) (t : Turn) (x : Item) (node s : ℕ) : Type 0 where
+  pub event : Event
+  pub seen : ℕ
+  pub does : Option InstanceEntry → Client → Effect (Option InstanceEntry × Client)
+  pub leaves : InstanceEntry
+  pub goes : (turned script c t).played ≡ played script c.played event
+  pub adds : Adds script c t x
+  pub is : step_of script c.played event ≡ on_request (record c.played.state { seen = seen }) node s does
+
+-- by such an event
+pub by_request : (script : ScriptData) (c : Carried) (t : Turn) (x : Item) (node s : ℕ) (request : Request) (at now : Progress) (k : IsServed c.played node s request at) (parts : Parts c.played node s request at k) (o : OnRequest script c t x node s) →
+    o.does (Some k.oracle) parts.client ≡ done (Some o.leaves, parts.client) (x ∷ []) → o.leaves.requests ≡ (with_request k.oracle s (Some (record k.held.held { progress = now }))).requests →
     Serves script c t x node s request now
-by_request script c t e x node s seen request at now f i k parts goes adds is effect requests =
-    let u : State = record c.played.state { seen = seen } in
+by_request script c t x node s request at now k parts o effect requests =
+    let i : InstanceEntry = o.leaves in
+    let u : State = record c.played.state { seen = o.seen } in
     let held : Held = record k.held.held { progress = now } in
-    let made : step_of script c.played e ≡ node_step u node s (done (Some i, parts.client) (x ∷ [])) = is ∙ on_both u node s k.oracle parts.client f k.node_has parts.session_is ∙ ap (λ (it : Effect (Option InstanceEntry × Client)). node_step u node s it) effect in
-    let node_has : InstanceAt (played script c.played e).state.nodes node i = subst (λ (step : Step). InstanceAt step.state.nodes node i) (sym made) (set_found c.played.state.nodes node (Some i) (Some k.oracle) k.node_has) in
+    let made : step_of script c.played o.event ≡ node_step u node s (done (Some i, parts.client) (x ∷ [])) = o.is ∙ on_both u node s k.oracle parts.client o.does k.node_has parts.session_is ∙ ap (λ (it : Effect (Option InstanceEntry × Client)). node_step u node s it) effect in
+    let node_has : InstanceAt (played script c.played o.event).state.nodes node i = subst (λ (step : Step). InstanceAt step.state.nodes node i) (sym made) (set_found c.played.state.nodes node (Some i) (Some k.oracle) k.node_has) in
     let has : held_of i s ≡ Some held = ap (λ (rs : List (Option Held)). held_of (record i { requests = rs }) s) requests ∙ held_of-with_request_same k.oracle s (Some held) parts.within in
-    record { adds = adds; comes = subst (λ (q : Played). IsServed q node s request now) (sym goes) (served_so (played script c.played e) node s request now i held node_has has k.held.asks refl) }
+    record { adds = o.adds; comes = subst (λ (q : Played). IsServed q node s request now) (sym o.goes) (served_so (played script c.played o.event) node s request now i held node_has has k.held.asks refl) }
 
 -- what the event appends
 pub tells_by : (script : ScriptData) (c : Carried) (e : Event) (node s seen : ℕ) (request : Request) (at : Progress) (f : Option InstanceEntry → Client → Effect (Option InstanceEntry × Client)) (items : List Item) (k : IsServed c.played node s request at) (parts : Parts c.played node s request at k) → step_of script c.played e ≡ on_request (record c.played.state { seen = seen }) node s f → (f (Some k.oracle) parts.client).items ≡ items → (step_of script c.played e).items ≡ items

@@ -69,7 +69,7 @@ accepts script c node s request stands k leased above =
     let now : InstanceEntry = moved i s held progress.Accepted in
     let effect : accept_on node s reading (Some i) parts.client ≡ done (Some now, parts.client) (x ∷ []) = accepts_so node s reading i parts.client held k.held.has k.held.stands is_free in
     let tells : (step_of script c.played e).items ≡ x ∷ [] = tells_by script c e node s seen request progress.Asked (accept_on node s reading) (x ∷ []) k parts refl (ap (λ (it : Effect (Option InstanceEntry × Client)). it.items) effect) in
-    by_request script c (turn.Accept node s) e x node s seen request progress.Asked progress.Accepted (accept_on node s reading) now k parts refl (turn_adds script c (turn.Accept node s) e x refl tells) refl effect refl
+    by_request script c (turn.Accept node s) x node s request progress.Asked progress.Accepted k parts (record { event = e; seen = seen; does = accept_on node s reading; leaves = now; goes = refl; adds = turn_adds script c (turn.Accept node s) e x refl tells; is = refl }) effect refl
 
 draws : (script : ScriptData) (c : Carried) (node s : ℕ) (request : Request) → Stands c.played.state c.played.items → (k : IsServed c.played node s request progress.Accepted) → (client : Client) → ClientAt c.played.state.clients s client → both_verdict k.oracle.buckets client.reads request ≡ Free → k.oracle.last < k.oracle.ceiling →
     Serves script c (turn.Decide node s) (draw_item node k.oracle.term request (k.oracle.last + 1)) node s request (drawn_as k.oracle.direct request (k.oracle.last + 1))
@@ -88,7 +88,7 @@ draws script c node s request stands k client session_is no_conflict left =
     let effect : decide_on node s (Some i) parts.client ≡ done (Some now, parts.client) (x ∷ []) =
     draws_so node s i parts.client held k.held.has k.held.stands free more ∙ ap (λ (asked : Request). done (Some now, parts.client) (draw_item node i.term asked stamp ∷ [])) k.held.asks in
     let tells : (step_of script c.played e).items ≡ x ∷ [] = tells_by script c e node s c.played.state.seen request progress.Accepted (decide_on node s) (x ∷ []) k parts refl (ap (λ (it : Effect (Option InstanceEntry × Client)). it.items) effect) in
-    by_request script c (turn.Decide node s) e x node s c.played.state.seen request progress.Accepted (drawn_as i.direct request stamp) (decide_on node s) now k parts refl (turn_adds script c (turn.Decide node s) e x refl tells) refl effect (ap (λ (asked : Request). (moved i s held (drawn_as i.direct asked stamp)).requests) k.held.asks)
+    by_request script c (turn.Decide node s) x node s request progress.Accepted (drawn_as i.direct request stamp) k parts (record { event = e; seen = c.played.state.seen; does = decide_on node s; leaves = now; goes = refl; adds = turn_adds script c (turn.Decide node s) e x refl tells; is = refl }) effect (ap (λ (asked : Request). (moved i s held (drawn_as i.direct asked stamp)).requests) k.held.asks)
 
 -- ---- the turn of the persist stage
 commit_placed : (script : ScriptData) (c : Carried) (node s start commit : ℕ) (keys : List ℕ) → Stands c.played.state c.played.items → (k : IsServed c.played node s (Commit s start keys) (progress.Drawn commit)) → (Marked c.played.state.pairs start → ⊥) → next_fate script c.played Table ≡ Works →

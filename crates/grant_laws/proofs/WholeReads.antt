@@ -62,14 +62,14 @@ own_step ends script c aim s start key many k works =
       | inl answers ↦
           let has : item.Read s start key answers.0 ∈ (played script c.played e).items = has_appended c.played.items (played script c.played e).items (item.Read s start key answers.0) answers.1 in
           inl (answers.0, subst (λ (found : Option Event). item.Read s start key answers.0 ∈ (turned_by script c (turn.Own (Session s) aim) found).played.items) (sym is) has)
-      | inr goes ↦ inr (own_under script c aim e s start key many goes.later k.seat k.line is k.sits k.present k.verb_is (ap (λ (at : Point). follows (verb.Read key) at None) k.point_is) stops goes.reads (omega (arith, goes.fewer, k.few)))
+      | inr goes ↦ inr (own_under script c aim e s start key many k.seat is k.sits (record { line = k.line; present = k.present; verb_is = k.verb_is }) (ap (λ (at : Point). follows (verb.Read key) at None) k.point_is) stops (record { r = goes.later; reads = goes.reads; few = omega (arith, goes.fewer, k.few) }))
     ]
 
 other_under : (script : ScriptData) (c : Carried) (t : Turn) (s start key most : ℕ) (found : Option Event) → KnownTurns script c → event_of script c t ≡ found → is_own s t ≡ false → IsUnder script c s start key most → IsUnder script (turned script c t) s start key most
 other_under script c t s start key most None known is other k = subst (λ (made : Option Event). IsUnder script (turned_by script c t made) s start key most) (sym is) k
 other_under script c t s start key most (Some e) known is other k =
     let mine : k.seat.actor ≡ Session s = seat_actor c (Session s) k.seat k.sits in
-    under_after script c t e s start key most k.r k.seat k.seat k.line is k.sits (seat_left script t (step_of script c.played e) s k.seat mine other) mine k.present k.verb_is k.point_is (read_left_by_event script c t s start key k.r e known is other k.reads) k.few
+    under_after script c t e s start key most k.seat k.seat is k.sits (seat_left script t (step_of script c.played e) s k.seat mine other) mine (record { line = k.line; present = k.present; verb_is = k.verb_is }) k.point_is (record { r = k.r; reads = read_left_by_event script c t s start key k.r e known is other k.reads; few = k.few })
 
 -- ---- all turns
 -- an own turn is the session's
@@ -122,7 +122,7 @@ fetched_or ends script c aim s key known ahead can =
       | inl answers ↦
           let has : item.Read s start key answers.0 ∈ (played script c.played e).items = has_appended c.played.items (played script c.played e).items (item.Read s start key answers.0) answers.1 in
           inl (answers.0, subst (λ (found : Option Event). item.Read s start key answers.0 ∈ (turned_by script c (turn.Own (Session s) aim) found).played.items) (sym is) has)
-      | inr goes ↦ inr (own_under script c aim e s start key most goes.later ahead.seat ahead.line is ahead.sits ahead.present ahead.verb_is (ap (λ (at : Point). follows (verb.Read key) at None) ahead.unopened) stops goes.reads (omega (arith, goes.fewer)))
+      | inr goes ↦ inr (own_under script c aim e s start key most ahead.seat is ahead.sits (record { line = ahead.line; present = ahead.present; verb_is = ahead.verb_is }) (ap (λ (at : Point). follows (verb.Read key) at None) ahead.unopened) stops (record { r = goes.later; reads = goes.reads; few = omega (arith, goes.fewer) }))
     ]
 
 -- ---- the line
