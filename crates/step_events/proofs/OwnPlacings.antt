@@ -45,22 +45,53 @@ told_twice before made between after fault refusal first second = rw (second, fi
 shown : (before after made kept rest : List Item) → made ≡ kept → after ≡ before ++ made ++ rest → after ≡ before ++ (kept ++ rest)
 shown before after made kept rest same items = subst (λ (effects : List Item). after ≡ before ++ (effects ++ rest)) same (items ∙ append_assoc before made rest)
 
--- the step by its items
-failed_with : (session start commit : ℕ) (fate : Fate) (found : Option Mark) (c : Client) (rows : List Row) (old now : Pairs) (made before after : List Item) → fate ≢ Works → made ≡ kept_items fate found (item.Placed start commit ∷ []) → after ≡ before ++ made ++ failing session start → Makes (placed_among rows (place_by session start commit fate found c now)) (c, rows, old) (client_opened c, rows, now) before after (Err (StoreFault Table))
-failed_with session start commit Works found c rows old now made before after fails kept items = grind arith
-failed_with session start commit FailsUnchanged None c rows old now made before after fails kept items =
-    record { parts = refl; items = shown before after made (kept_items {E = Mark} FailsUnchanged None (item.Placed start commit ∷ [])) (failing session start) kept items; stop = refl }
-failed_with session start commit FailsUnchanged (Some there) c rows old now made before after fails kept items =
-    record { parts = refl; items = shown before after made (kept_items FailsUnchanged (Some there) (item.Placed start commit ∷ [])) (failing session start) kept items; stop = refl }
-failed_with session start commit FailsApplied None c rows old now made before after fails kept items =
-    record { parts = refl; items = shown before after made (kept_items {E = Mark} FailsApplied None (item.Placed start commit ∷ [])) (failing session start) kept items; stop = refl }
-failed_with session start commit FailsApplied (Some there) c rows old now made before after fails kept items =
-    record { parts = refl; items = shown before after made (kept_items FailsApplied (Some there) (item.Placed start commit ∷ [])) (failing session start) kept items; stop = refl }
+-- a placing: whose it is, its two stamps, and the client, the rows and the table before it
+pub record Put : Type 0 where
+  pub session : ℕ
+  pub start : ℕ
+  pub commit : ℕ
+  pub client : Client
+  pub rows : List Row
+  pub table : Pairs
 
-pub place_failed : (session start commit : ℕ) (fate : Fate) (c left : Client) (rows : List Row) (old now : Pairs) (made before after : List Item) (result : Result Unit Stopped) → fate ≢ Works → now ≡ fated fate old (put_pair old start (Committed commit)) → made ≡ placed_kept (mark_of old start) (mark_of now start) start commit → after ≡ before ++ made ++ failing session start → left ≡ client_opened c → result ≡ Err (StoreFault Table) → Makes (placed_among rows (place_by session start commit fate (mark_of old start) c (fated fate old (put_pair old start (Committed commit))))) (c, rows, old) (left, rows, now) before after result
-place_failed session start commit fate c left rows old now made before after result fails moved kept items opened told =
-    let effects = (rw moved at kept) ∙ kept_as_placed fate old start commit fails in
-    rw told (rw opened (rw moved (failed_with session start commit fate (mark_of old start) c rows old (fated fate old (put_pair old start (Committed commit))) made before after fails effects items)))
+-- what is left of it: the client and the table, the items of the change, the history before and after, and the answer
+pub record Left : Type 0 where
+  pub client : Client
+  pub table : Pairs
+  pub made : List Item
+  pub before : List Item
+  pub after : List Item
+  pub result : Result Unit Stopped
+
+-- the step by its items
+failed_with : (fate : Fate) (found : Option Mark) (x : Put) (now : Pairs) (made before after : List Item) → fate ≢ Works → made ≡ kept_items fate found (item.Placed x.start x.commit ∷ []) → after ≡ before ++ made ++ failing x.session x.start → Makes (placed_among x.rows (place_by x.session x.start x.commit fate found x.client now)) (x.client, x.rows, x.table) (client_opened x.client, x.rows, now) before after (Err (StoreFault Table))
+failed_with Works found x now made before after fails kept items = grind arith
+failed_with FailsUnchanged None x now made before after fails kept items =
+    record { parts = refl; items = shown before after made (kept_items {E = Mark} FailsUnchanged None (item.Placed x.start x.commit ∷ [])) (failing x.session x.start) kept items; stop = refl }
+failed_with FailsUnchanged (Some there) x now made before after fails kept items =
+    record { parts = refl; items = shown before after made (kept_items FailsUnchanged (Some there) (item.Placed x.start x.commit ∷ [])) (failing x.session x.start) kept items; stop = refl }
+failed_with FailsApplied None x now made before after fails kept items =
+    record { parts = refl; items = shown before after made (kept_items {E = Mark} FailsApplied None (item.Placed x.start x.commit ∷ [])) (failing x.session x.start) kept items; stop = refl }
+failed_with FailsApplied (Some there) x now made before after fails kept items =
+    record { parts = refl; items = shown before after made (kept_items FailsApplied (Some there) (item.Placed x.start x.commit ∷ [])) (failing x.session x.start) kept items; stop = refl }
+
+-- the table as a call of this fate leaves it
+abbrev pub table_after : Fate → Put → Pairs
+table_after fate x = fated fate x.table (put_pair x.table x.start (Committed x.commit))
+
+-- the placing failed: the client's transaction is open again, and what changed of the table was told, then the fault
+pub record HasFailed (fate : Fate) (x : Put) (y : Left) : Type 0 where
+  pub fails : fate ≢ Works
+  pub moved : y.table ≡ table_after fate x
+  pub kept : y.made ≡ placed_kept (mark_of x.table x.start) (mark_of y.table x.start) x.start x.commit
+  pub items : y.after ≡ y.before ++ y.made ++ failing x.session x.start
+  pub opened : y.client ≡ client_opened x.client
+  pub told : y.result ≡ Err (StoreFault Table)
+
+pub place_failed : (fate : Fate) (x : Put) (y : Left) → HasFailed fate x y → Makes (placed_among x.rows (place_by x.session x.start x.commit fate (mark_of x.table x.start) x.client (table_after fate x))) (x.client, x.rows, x.table) (y.client, x.rows, y.table) y.before y.after y.result
+place_failed fate x y has =
+    let effects = (rw has.moved at has.kept) ∙ kept_as_placed fate x.table x.start x.commit has.fails in
+    rw has.told (rw has.opened (rw has.moved (failed_with fate (mark_of x.table x.start) x (table_after fate x) y.made y.before y.after has.fails effects has.items)))
 
 -- so is the step of a session that is to place
 pub placing_step : (session : ℕ) (ahead : Store → ℕ → Fate) (c left : Client) (rows : List Row) (pairs now : Pairs) (start commit : ℕ) (before after : List Item) (result : Result Unit Stopped) → Makes (placed_among rows (place_on session start commit (ahead Table 0) c pairs)) (c, rows, pairs) (left, rows, now) before after result → handed_commit c.entry ≡ Some (start, commit) → Makes (step_on session (fate_ahead (step_asks c) ahead) c rows pairs) (c, rows, pairs) (left, rows, now) before after result

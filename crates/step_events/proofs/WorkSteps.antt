@@ -54,27 +54,61 @@ step_is session fate c rows pairs (Completes (first ∷ asks)) asked is = comple
 left_parts : {a b : Client} {r s : List Row} {p q : Pairs} → a ≡ b → r ≡ s → p ≡ q → ◌≡◌ {A = StepParts} (a, r, p) (b, s, q)
 left_parts d e f = cc
 
-pub step_heard : (session : ℕ) (fate : Fate) (c c_ready c_now : Client) (rows rows_now : List Row) (pairs pairs_now : Pairs) (work : UnderWay) (asked : Ask) (answer : Told) (before between after : List Item) → next_of work ≡ Some asked → IsMet (met (Session session) asked fate rows pairs) rows_now pairs_now before between (Some answer) → c_ready ≡ client_ready c work → work_of c_ready ≡ work → c_now ≡ client_told c_ready (work_of c_ready) answer → after ≡ between ++ told_items session c_ready (work_of c_ready) answer → Leaves (step_at session fate c rows pairs work) (c_now, rows_now, pairs_now) before after None
-step_heard session fate c c_ready c_now rows rows_now pairs pairs_now work asked answer before between after is is_met ready works of_client of_items =
-    let m : Met = met (Session session) asked fate rows pairs in
-    let told_client : c_now ≡ client_told (client_ready c work) work answer = rw (works, ready) at of_client in
-    let told : after ≡ between ++ told_items session (client_ready c work) work answer = rw (works, ready) at of_items in
-    subst (λ (e : Effect StepParts). Leaves e (c_now, rows_now, pairs_now) before after None)
-    (sym (step_is session fate c rows pairs work asked is ∙ ap (by_told session (client_ready c work) work asked m) is_met.told))
+-- the step: whose it is, the fate of its call, the client and the stores before it, the work that is under way, and what it asks next
+pub record Asking : Type 0 where
+  pub session : ℕ
+  pub fate : Fate
+  pub client : Client
+  pub rows : List Row
+  pub pairs : Pairs
+  pub work : UnderWay
+  pub asked : Ask
+
+-- what it leaves: the client as it was made ready and as it is at the end, and the stores
+pub record Left : Type 0 where
+  pub ready : Client
+  pub client : Client
+  pub rows : List Row
+  pub pairs : Pairs
+
+abbrev pub met_in : Asking → Met
+met_in x = met (Session x.session) x.asked x.fate x.rows x.pairs
+
+abbrev pub step_of : Asking → Effect StepParts
+step_of x = step_at x.session x.fate x.client x.rows x.pairs x.work
+
+abbrev pub parts_of : Left → StepParts
+parts_of y = (y.client, y.rows, y.pairs)
+
+-- the ask is the next of the work, the call met it, and the client was ready for it
+pub record IsAsked (x : Asking) (y : Left) (before after : List Item) (told : Option Told) : Type 0 where
+  pub next : next_of x.work ≡ Some x.asked
+  pub met : IsMet (met_in x) y.rows y.pairs before after told
+  pub ready : y.ready ≡ client_ready x.client x.work
+  pub work : work_of y.ready ≡ x.work
+
+met_is : (x : Asking) (y : Left) (before after : List Item) (told : Option Told) → IsAsked x y before after told → step_of x ≡ by_told x.session (client_ready x.client x.work) x.work x.asked (met_in x) told
+met_is x y before after told is = step_is x.session x.fate x.client x.rows x.pairs x.work x.asked is.next ∙ ap (by_told x.session (client_ready x.client x.work) x.work x.asked (met_in x)) is.met.told
+
+pub step_heard : (x : Asking) (y : Left) (answer : Told) (before between after : List Item) → IsAsked x y before between (Some answer) → y.client ≡ client_told y.ready (work_of y.ready) answer → after ≡ between ++ told_items x.session y.ready (work_of y.ready) answer → Leaves (step_of x) (parts_of y) before after None
+step_heard x y answer before between after is of_client of_items =
+    let told_client : y.client ≡ client_told (client_ready x.client x.work) x.work answer = rw (is.work, is.ready) at of_client in
+    let told : after ≡ between ++ told_items x.session (client_ready x.client x.work) x.work answer = rw (is.work, is.ready) at of_items in
+    subst (λ (e : Effect StepParts). Leaves e (parts_of y) before after None)
+    (sym (met_is x y before between (Some answer) is))
     (record {
-      parts = left_parts told_client is_met.rows is_met.pairs;
-      items = told ∙ ap (λ (b : List Item). b ++ told_items session (client_ready c work) work answer) is_met.items ∙ append_assoc before m.items (told_items session (client_ready c work) work answer);
+      parts = left_parts told_client is.met.rows is.met.pairs;
+      items = told ∙ ap (λ (b : List Item). b ++ told_items x.session (client_ready x.client x.work) x.work answer) is.met.items ∙ append_assoc before (met_in x).items (told_items x.session (client_ready x.client x.work) x.work answer);
       stop = refl;
     })
 
-pub step_faulted : (session : ℕ) (fate : Fate) (c c_ready c_now : Client) (rows rows_now : List Row) (pairs pairs_now : Pairs) (work : UnderWay) (asked : Ask) (before after : List Item) (store : Store) → next_of work ≡ Some asked → IsMet (met (Session session) asked fate rows pairs) rows_now pairs_now before after None → c_ready ≡ client_ready c work → work_of c_ready ≡ work → c_now ≡ client_failed c_ready (work_of c_ready) → store ≡ store_of asked → Leaves (step_at session fate c rows pairs work) (c_now, rows_now, pairs_now) before after (Some (Faults store))
-step_faulted session fate c c_ready c_now rows rows_now pairs pairs_now work asked before after store is is_met ready works of_client of_store =
-    let m : Met = met (Session session) asked fate rows pairs in
-    let failed : c_now ≡ client_failed (client_ready c work) work = rw (works, ready) at of_client in
-    subst (λ (e : Effect StepParts). Leaves e (c_now, rows_now, pairs_now) before after (Some (Faults store)))
-    (sym (step_is session fate c rows pairs work asked is ∙ ap (by_told session (client_ready c work) work asked m) is_met.told))
+pub step_faulted : (x : Asking) (y : Left) (before after : List Item) (store : Store) → IsAsked x y before after None → y.client ≡ client_failed y.ready (work_of y.ready) → store ≡ store_of x.asked → Leaves (step_of x) (parts_of y) before after (Some (Faults store))
+step_faulted x y before after store is of_client of_store =
+    let failed : y.client ≡ client_failed (client_ready x.client x.work) x.work = rw (is.work, is.ready) at of_client in
+    subst (λ (e : Effect StepParts). Leaves e (parts_of y) before after (Some (Faults store)))
+    (sym (met_is x y before after None is))
     (record {
-      parts = left_parts failed is_met.rows is_met.pairs;
-      items = is_met.items;
+      parts = left_parts failed is.met.rows is.met.pairs;
+      items = is.met.items;
       stop = ap (λ s. Some (Faults s)) (sym of_store);
     })

@@ -8,5 +8,7 @@ use Rattle.step_events.proofs.placing.place_record.Goals as goal
 pub returns-in-Err-clause-made : goal.returns-in-Err-clause-made
 returns-in-Err-clause-made g c = λ rows.
     let fails : g.W.Weather.ahead c.args.weather.now Table 0 ≢ Works = grind arith in
-    place_failed c.args.session c.args.start c.args.commit (g.W.Weather.ahead c.args.weather.now Table 0) c.args.client.now c.opened.new.self rows c.args.table.now.pairs c.put_in_room.new.self.pairs (made_items c.placed_item-made.result) c.args.book.now.items c.tell_failed.new.book.items c.tell_failed.result
-    fails (grind arith) (grind arith) (grind arith) c.opened.ensures c.tell_failed.ensures.answer
+    place_failed (g.W.Weather.ahead c.args.weather.now Table 0)
+    (record { session = c.args.session; start = c.args.start; commit = c.args.commit; client = c.args.client.now; rows = rows; table = c.args.table.now.pairs })
+    (record { client = c.opened.new.self; table = c.put_in_room.new.self.pairs; made = made_items c.placed_item-made.result; before = c.args.book.now.items; after = c.tell_failed.new.book.items; result = c.tell_failed.result })
+    (record { fails = fails; moved = grind arith; kept = grind arith; items = grind arith; opened = c.opened.ensures; told = c.tell_failed.ensures.answer })
