@@ -24,19 +24,50 @@ use Rattle.event_parts.proofs.PlacedKept.{kept_as_placed}
 shown : (before after made kept : List Item) (fault : Item) → made ≡ kept → after ≡ before ++ made ++ fault ∷ [] → after ≡ before ++ (kept ++ fault ∷ [])
 shown before after made kept fault same items = subst (λ (effects : List Item). after ≡ before ++ (effects ++ fault ∷ [])) same (items ∙ append_assoc before made (fault ∷ []))
 
--- the event by its items
-failed_with : (node session start commit : ℕ) (fate : Fate) (found : Option Mark) (i : InstanceEntry) (old now : Pairs) (made before after : List Item) → fate ≢ Works → made ≡ kept_items fate found (item.Placed start commit ∷ []) → after ≡ before ++ made ++ item.Fault (Node node) Table ∷ [] → Makes (put_by node session start commit fate found i now) (Some i, old) (Some (instance_settle i session how.Faulted).left, now) before after (Err (StoreFault Table))
-failed_with node session start commit Works found i old now made before after fails kept items = grind arith
-failed_with node session start commit FailsUnchanged None i old now made before after fails kept items =
-    record { parts = refl; items = shown before after made (kept_items {E = Mark} FailsUnchanged None (item.Placed start commit ∷ [])) (item.Fault (Node node) Table) kept items; stop = refl }
-failed_with node session start commit FailsUnchanged (Some there) i old now made before after fails kept items =
-    record { parts = refl; items = shown before after made (kept_items FailsUnchanged (Some there) (item.Placed start commit ∷ [])) (item.Fault (Node node) Table) kept items; stop = refl }
-failed_with node session start commit FailsApplied None i old now made before after fails kept items =
-    record { parts = refl; items = shown before after made (kept_items {E = Mark} FailsApplied None (item.Placed start commit ∷ [])) (item.Fault (Node node) Table) kept items; stop = refl }
-failed_with node session start commit FailsApplied (Some there) i old now made before after fails kept items =
-    record { parts = refl; items = shown before after made (kept_items FailsApplied (Some there) (item.Placed start commit ∷ [])) (item.Fault (Node node) Table) kept items; stop = refl }
+-- a put: the node, whose request it is, its two stamps, and the instance and the table before it
+pub record Put : Type 0 where
+  pub node : ℕ
+  pub session : ℕ
+  pub start : ℕ
+  pub commit : ℕ
+  pub instance : InstanceEntry
+  pub table : Pairs
 
-pub put_failed : (node session start commit : ℕ) (fate : Fate) (i new : InstanceEntry) (old now : Pairs) (made before after : List Item) (result : Result Unit Stopped) → fate ≢ Works → now ≡ fated fate old (put_pair old start (Committed commit)) → made ≡ placed_kept (mark_of old start) (mark_of now start) start commit → after ≡ before ++ made ++ item.Fault (Node node) Table ∷ [] → new ≡ (instance_settle i session how.Faulted).left → result ≡ Err (StoreFault Table) → Makes (put_by node session start commit fate (mark_of old start) i (fated fate old (put_pair old start (Committed commit)))) (Some i, old) (Some new, now) before after result
-put_failed node session start commit fate i new old now made before after result fails moved kept items settled told =
-    let effects = (rw moved at kept) ∙ kept_as_placed fate old start commit fails in
-    rw told (rw settled (rw moved (failed_with node session start commit fate (mark_of old start) i old (fated fate old (put_pair old start (Committed commit))) made before after fails effects items)))
+-- what is left of it: the instance and the table, the items of the change, the history before and after, and the answer
+pub record Left : Type 0 where
+  pub instance : InstanceEntry
+  pub table : Pairs
+  pub made : List Item
+  pub before : List Item
+  pub after : List Item
+  pub result : Result Unit Stopped
+
+-- the event by its items
+failed_with : (fate : Fate) (found : Option Mark) (x : Put) (now : Pairs) (made before after : List Item) → fate ≢ Works → made ≡ kept_items fate found (item.Placed x.start x.commit ∷ []) → after ≡ before ++ made ++ item.Fault (Node x.node) Table ∷ [] → Makes (put_by x.node x.session x.start x.commit fate found x.instance now) (Some x.instance, x.table) (Some (instance_settle x.instance x.session how.Faulted).left, now) before after (Err (StoreFault Table))
+failed_with Works found x now made before after fails kept items = grind arith
+failed_with FailsUnchanged None x now made before after fails kept items =
+    record { parts = refl; items = shown before after made (kept_items {E = Mark} FailsUnchanged None (item.Placed x.start x.commit ∷ [])) (item.Fault (Node x.node) Table) kept items; stop = refl }
+failed_with FailsUnchanged (Some there) x now made before after fails kept items =
+    record { parts = refl; items = shown before after made (kept_items FailsUnchanged (Some there) (item.Placed x.start x.commit ∷ [])) (item.Fault (Node x.node) Table) kept items; stop = refl }
+failed_with FailsApplied None x now made before after fails kept items =
+    record { parts = refl; items = shown before after made (kept_items {E = Mark} FailsApplied None (item.Placed x.start x.commit ∷ [])) (item.Fault (Node x.node) Table) kept items; stop = refl }
+failed_with FailsApplied (Some there) x now made before after fails kept items =
+    record { parts = refl; items = shown before after made (kept_items FailsApplied (Some there) (item.Placed x.start x.commit ∷ [])) (item.Fault (Node x.node) Table) kept items; stop = refl }
+
+-- the table as a call of this fate leaves it
+abbrev pub table_after : Fate → Put → Pairs
+table_after fate x = fated fate x.table (put_pair x.table x.start (Committed x.commit))
+
+-- the put failed: the instance settled the request so, and what changed of the table was told, then the fault
+pub record HasFailed (fate : Fate) (x : Put) (y : Left) : Type 0 where
+  pub fails : fate ≢ Works
+  pub moved : y.table ≡ table_after fate x
+  pub kept : y.made ≡ placed_kept (mark_of x.table x.start) (mark_of y.table x.start) x.start x.commit
+  pub items : y.after ≡ y.before ++ y.made ++ item.Fault (Node x.node) Table ∷ []
+  pub settled : y.instance ≡ (instance_settle x.instance x.session how.Faulted).left
+  pub told : y.result ≡ Err (StoreFault Table)
+
+pub put_failed : (fate : Fate) (x : Put) (y : Left) → HasFailed fate x y → Makes (put_by x.node x.session x.start x.commit fate (mark_of x.table x.start) x.instance (table_after fate x)) (Some x.instance, x.table) (Some y.instance, y.table) y.before y.after y.result
+put_failed fate x y has =
+    let effects = (rw has.moved at has.kept) ∙ kept_as_placed fate x.table x.start x.commit has.fails in
+    rw has.told (rw has.settled (rw has.moved (failed_with fate (mark_of x.table x.start) x (table_after fate x) y.made y.before y.after has.fails effects has.items)))

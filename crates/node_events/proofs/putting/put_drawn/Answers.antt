@@ -8,5 +8,7 @@ use Rattle.node_events.proofs.putting.put_drawn.Goals as goal
 pub returns-in-Err-clause-made : goal.returns-in-Err-clause-made
 returns-in-Err-clause-made g c =
     let fails : g.W.Weather.ahead c.args.weather.now Table 0 ≢ Works = grind arith in
-    put_failed c.args.node c.args.session c.args.start c.args.commit (g.W.Weather.ahead c.args.weather.now Table 0) c.args.instance.now c.settle-in-Err.new.instance c.args.table.now.pairs c.put_reserved.new.self.pairs (made_items c.placed_item-made.result) c.args.book.now.items c.fail_reserved.new.book.items c.fail_reserved.result
-    fails (grind arith) (grind arith) (grind arith) (grind arith) (grind arith)
+    put_failed (g.W.Weather.ahead c.args.weather.now Table 0)
+    (record { node = c.args.node; session = c.args.session; start = c.args.start; commit = c.args.commit; instance = c.args.instance.now; table = c.args.table.now.pairs })
+    (record { instance = c.settle-in-Err.new.instance; table = c.put_reserved.new.self.pairs; made = made_items c.placed_item-made.result; before = c.args.book.now.items; after = c.fail_reserved.new.book.items; result = c.fail_reserved.result })
+    (record { fails = fails; moved = grind arith; kept = grind arith; items = grind arith; settled = grind arith; told = grind arith })
