@@ -1,7 +1,6 @@
 -- What the machine's laws say of one event to a session that has asked a node, and of its ask.
 use Rattle.std.proofs.Common.{◌≡◌, ℕ, ◌==◌, Bool, true, false, if◌then◌else◌, List, ◌++◌, ◌⊎◌, inl, inr, refl, ap, subst}
 use Rattle.std.proofs.lemmas.Bool.{eqb-true, eq-eqb}
-use Rattle.port_io.specs.declared.weather.Fate.{Fate}
 use Rattle.history_book.specs.Members.{◌∈◌}
 use Rattle.history_book.specs.declared.cause.Cause.{Cause}
 use Rattle.history_book.specs.declared.cause.Cause.TheVariants as cause
@@ -12,9 +11,6 @@ use Rattle.history_book.specs.declared.item.Item.TheVariants as item
 use Rattle.history_book.proofs.MemberLemmas.{in_back}
 use Rattle.stamp_base.specs.declared.stores.Store.{Store}
 use Rattle.stamp_base.specs.declared.stores.Store.TheVariants.{Master}
-use Rattle.machine.specs.declared.event.Event.{Event}
-use Rattle.machine.specs.State.{Client, State}
-use Rattle.machine.specs.Machine.{stepped}
 use Rattle.cause_rules.specs.Asks.{Ask}
 use Rattle.cause_rules.specs.OpenAsks.{closes, open_asks_of}
 use Rattle.isolation_laws.specs.Words.{ClientAt}
@@ -29,6 +25,7 @@ use Rattle.served_lines.specs.Turns.{SessionsTakeTurns, BeginsAreAsked, AsksAreT
 use Rattle.seat_lines.specs.declared.owed.Owed.{Owed}
 use Rattle.seat_lines.specs.Owed.{leaves_cells, leaves_nothing, denies_request, is_lost, fails_record}
 use Rattle.seat_lines.specs.Served.{IsLeft}
+use Rattle.seat_lines.proofs.Moves.{items_of, state_after, history_after, AskMove}
 use Rattle.seat_lines.proofs.SinceAsk.{IsSince, none_asks}
 
 -- ---- the laws of the machine
@@ -44,27 +41,27 @@ pub record MachineLaws : Type 0 where
   pub closed : ClosedAsksAreOver
 
 -- ---- one event, between two places of a history since the ask
-pub record Passed (s : ℕ) (ask : Ask) (w : State) (h upto since : List Item) (c : Client) (e : Event) (fate : Fate) (d : Client) : Type 0 where
-  pub tells : Tells w h
-  pub ends : Ends w h
-  pub now : Tells (stepped w e fate).state (h ++ (stepped w e fate).items)
-  pub ended : Ends (stepped w e fate).state (h ++ (stepped w e fate).items)
-  pub is_since : IsSince s ask h upto since
-  pub at : ClientAt w.clients s c
-  pub there : ClientAt (stepped w e fate).state.clients s d
-  pub none : AllNot (Session s) (stepped w e fate).items
+pub record Passed (ask : Ask) (upto : List Item) (a : AskMove) : Type 0 where
+  pub tells : Tells a.move.state a.move.history
+  pub ends : Ends a.move.state a.move.history
+  pub now : Tells (state_after a.move) (history_after a.move)
+  pub ended : Ends (state_after a.move) (history_after a.move)
+  pub is_since : IsSince a.session ask a.move.history upto a.since
+  pub at : ClientAt a.move.state.clients a.session a.client
+  pub there : ClientAt (state_after a.move).clients a.session a.next
+  pub none : AllNot (Session a.session) (items_of a.move)
 
 -- what is over stays so
-pub stays_over : MachineLaws → (s : ℕ) (ask : Ask) (w : State) (h upto since : List Item) (c d : Client) (e : Event) (fate : Fate) → Passed s ask w h upto since c e fate d → open_asks_of h ask.node s ≡ 0 → open_asks_of (h ++ (stepped w e fate).items) ask.node s ≡ 0
-stays_over laws s ask w h upto since c d e fate k over = laws.stays h (stepped w e fate).items ask.node s over (none_asks ask.node s (stepped w e fate).items k.none)
+pub stays_over : MachineLaws → (ask : Ask) (upto : List Item) (a : AskMove) → Passed ask upto a → open_asks_of a.move.history ask.node a.session ≡ 0 → open_asks_of (history_after a.move) ask.node a.session ≡ 0
+stays_over laws ask upto a k over = laws.stays a.move.history (items_of a.move) ask.node a.session over (none_asks ask.node a.session (items_of a.move) k.none)
 
 -- an item of the event closes the ask
-pub closes_ask : MachineLaws → (s : ℕ) (ask : Ask) (w : State) (h upto since : List Item) (c d : Client) (e : Event) (fate : Fate) (x : Item) → Passed s ask w h upto since c e fate d → x ∈ (stepped w e fate).items → closes ask.node s x ≡ true → open_asks_of (h ++ (stepped w e fate).items) ask.node s ≡ 0
-closes_ask laws s ask w h upto since c d e fate x k m closing = laws.closed h (stepped w e fate).items ask.node s x m closing (none_asks ask.node s (stepped w e fate).items k.none)
+pub closes_ask : MachineLaws → (ask : Ask) (upto : List Item) (a : AskMove) (x : Item) → Passed ask upto a → x ∈ items_of a.move → closes ask.node a.session x ≡ true → open_asks_of (history_after a.move) ask.node a.session ≡ 0
+closes_ask laws ask upto a x k m closing = laws.closed a.move.history (items_of a.move) ask.node a.session x m closing (none_asks ask.node a.session (items_of a.move) k.none)
 
 -- the node has no instance
-pub loses_ask : MachineLaws → (s : ℕ) (ask : Ask) (w : State) (h upto since : List Item) (c d : Client) (e : Event) (fate : Fate) (who : Actor) → Passed s ask w h upto since c e fate d → item.Refused who (cause.NoOracle ask.node) ∈ (stepped w e fate).items → open_asks_of (h ++ (stepped w e fate).items) ask.node s ≡ 0
-loses_ask laws s ask w h upto since c d e fate who k m = stays_over laws s ask w h upto since c d e fate k (laws.lost w h e fate who ask.node s k.tells m)
+pub loses_ask : MachineLaws → (ask : Ask) (upto : List Item) (a : AskMove) (who : Actor) → Passed ask upto a → item.Refused who (cause.NoOracle ask.node) ∈ items_of a.move → open_asks_of (history_after a.move) ask.node a.session ≡ 0
+loses_ask laws ask upto a who k m = stays_over laws ask upto a k (laws.lost a.move.state a.move.history a.move.event a.move.fate who ask.node a.session k.tells m)
 
 -- ---- what the tests of items say
 pub if_either : (P : Owed → Type 0) (b : Bool) (x y : Owed) → (b ≡ true → P x) → (b ≡ false → P y) → P (if b then x else y)

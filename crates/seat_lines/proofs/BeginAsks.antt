@@ -1,7 +1,6 @@
 -- What the ask of a begin has come to, by what its actor's log owes of it.
 use Rattle.std.proofs.Common.{◌≡◌, ℕ, ◌==◌, Bool, true, false, ◌&&◌, if◌then◌else◌, List, [], ◌∷◌, ◌++◌, None, Some, ◌⊎◌, inl, inr, refl, sym, ◌∙◌, ap, subst}
 use Rattle.std.proofs.lemmas.Option.{same_Some, none-some}
-use Rattle.port_io.specs.declared.weather.Fate.{Fate}
 use Rattle.history_book.specs.Members.{◌∈◌}
 use Rattle.history_book.specs.declared.cause.Cause.{Cause}
 use Rattle.history_book.specs.declared.item.Actor.{Actor}
@@ -10,9 +9,7 @@ use Rattle.history_book.specs.declared.item.Item.{Item}
 use Rattle.history_book.specs.declared.item.Item.TheVariants as item
 use Rattle.history_book.proofs.MemberLemmas.{in_back, in_front, in_push}
 use Rattle.client_parts.specs.declared.session.State.TheVariants as phase
-use Rattle.machine.specs.declared.event.Event.{Event}
-use Rattle.machine.specs.State.{Client, State}
-use Rattle.machine.specs.Machine.{stepped}
+use Rattle.machine.specs.State.{Client}
 use Rattle.cause_rules.specs.Asks.{Ask, its_ask}
 use Rattle.cause_rules.specs.OpenAsks.{closes, open_asks_of}
 use Rattle.line_steps.specs.Answers.{same_actor}
@@ -24,6 +21,7 @@ use Rattle.seat_lines.specs.Owed.{leaves_cells, leaves_nothing, after_own_refusa
 use Rattle.seat_lines.specs.Served.{IsOver, IsLeft, HasCome}
 use Rattle.seat_lines.proofs.AskFacts.{MachineLaws, Passed, stays_over, closes_ask, loses_ask, if_either, lost_is, nothing_left, leaving_closes, opening_closes, crashing_closes, left_by_denial, left_by_fault}
 use Rattle.seat_lines.proofs.ItemLists.{in_split}
+use Rattle.seat_lines.proofs.Moves.{items_of, history_after, AskMove, since_after}
 use Rattle.seat_lines.proofs.SinceAsk.{asked_now, stays_there}
 
 -- ---- nobody is told of a commit
@@ -70,12 +68,14 @@ turn_commits s n h items c d asked alive opened (LeavesOpen start k m none is) =
 turn_commits s n h items c d asked alive opened (Vanishes now is) = only_committed s (item.Vanish s) items is (λ start commit same. absurd (cc))
 turn_commits s n h items c d asked alive opened (IsGone gone same) = absurd (alive gone)
 
-pub tells_no_commit : MachineLaws → (s n : ℕ) (w : State) (h upto since : List Item) (c d : Client) (e : Event) (fate : Fate) → Passed s (begin_ask n) w h upto since c e fate d → NoCommitted s (stepped w e fate).items
-tells_no_commit laws s n w h upto since c d e fate k =
-    turn_commits s n h (stepped w e fate).items c d (asked_now s (begin_ask n) h upto since k.is_since)
-    (λ gone. stays_there s (begin_ask n) h upto since k.is_since (k.ends.gone.vanished s c k.at gone))
-    (λ open_now. let o = k.ends.outcomes.told s c k.at open_now in (o.start, (o.node, o.asked)))
-    (laws.turns w h e fate s c d k.tells k.at k.there)
+pub tells_no_commit : MachineLaws → (n : ℕ) (upto : List Item) (a : AskMove) → Passed (begin_ask n) upto a → NoCommitted a.session (items_of a.move)
+tells_no_commit laws n upto a k =
+    let s : ℕ = a.session in
+    let h : List Item = a.move.history in
+    turn_commits s n h (items_of a.move) a.client a.next (asked_now s (begin_ask n) h upto a.since k.is_since)
+    (λ gone. stays_there s (begin_ask n) h upto a.since k.is_since (k.ends.gone.vanished s a.client k.at gone))
+    (λ open_now. let o = k.ends.outcomes.told s a.client k.at open_now in (o.start, (o.node, o.asked)))
+    (laws.turns a.move.state h a.move.event a.move.fate s a.client a.next k.tells k.at k.there)
 
 -- ---- what is owed, and what has come
 abbrev pub BeginComes : ℕ → ℕ → List Item → List Item → Owed → Type 0
@@ -91,82 +91,78 @@ left_later : (s n : ℕ) (since items : List Item) → IsLeft s n since → IsLe
 left_later s n since items (inl k) = inl (k.0, in_front _ since items k.1)
 left_later s n since items (inr k) = inr (in_front _ since items k)
 
-pub begin_later : MachineLaws → (s n : ℕ) (w : State) (h upto since : List Item) (c d : Client) (e : Event) (fate : Fate) (owed : Owed) → Passed s (begin_ask n) w h upto since c e fate d → BeginComes s n h since owed → BeginComes s n (h ++ (stepped w e fate).items) (since ++ (stepped w e fate).items) owed
-begin_later laws s n w h upto since c d e fate Nothing k (inl left) = inl (left_later s n since (stepped w e fate).items left)
-begin_later laws s n w h upto since c d e fate Nothing k (inr (inl over)) = inr (inl (stays_over laws s (begin_ask n) w h upto since c d e fate k over))
-begin_later laws s n w h upto since c d e fate Nothing k (inr (inr told)) = inr (inr (told.0, in_front _ since (stepped w e fate).items told.1))
-begin_later laws s n w h upto since c d e fate (Read key) k comes = absurd comes
-begin_later laws s n w h upto since c d e fate (Answer asked) k comes = comes
-begin_later laws s n w h upto since c d e fate (Removal start) k comes = stays_over laws s (begin_ask n) w h upto since c d e fate k comes
-begin_later laws s n w h upto since c d e fate Erasure k comes = stays_over laws s (begin_ask n) w h upto since c d e fate k comes
-begin_later laws s n w h upto since c d e fate Quiet k comes = stays_over laws s (begin_ask n) w h upto since c d e fate k comes
+-- what has come of the ask behind the event
+abbrev pub BeginBehind : ℕ → AskMove → Owed → Type 0
+BeginBehind n a owed = BeginComes a.session n (history_after a.move) (since_after a) owed
+
+pub begin_later : MachineLaws → (n : ℕ) (upto : List Item) (a : AskMove) (owed : Owed) → Passed (begin_ask n) upto a → BeginComes a.session n a.move.history a.since owed → BeginBehind n a owed
+begin_later laws n upto a Nothing k (inl left) = inl (left_later a.session n a.since (items_of a.move) left)
+begin_later laws n upto a Nothing k (inr (inl over)) = inr (inl (stays_over laws (begin_ask n) upto a k over))
+begin_later laws n upto a Nothing k (inr (inr told)) = inr (inr (told.0, in_front _ a.since (items_of a.move) told.1))
+begin_later laws n upto a (Read key) k comes = absurd comes
+begin_later laws n upto a (Answer asked) k comes = comes
+begin_later laws n upto a (Removal start) k comes = stays_over laws (begin_ask n) upto a k comes
+begin_later laws n upto a Erasure k comes = stays_over laws (begin_ask n) upto a k comes
+begin_later laws n upto a Quiet k comes = stays_over laws (begin_ask n) upto a k comes
 
 -- ---- one item of an own event
-own_refused : MachineLaws → (s n : ℕ) (w : State) (h upto since : List Item) (c d : Client) (e : Event) (fate : Fate) (why : Cause) → Passed s (begin_ask n) w h upto since c e fate d → item.Refused (Session s) why ∈ (stepped w e fate).items →
-    BeginComes s n (h ++ (stepped w e fate).items) (since ++ (stepped w e fate).items) (after_own_refusal n why)
-own_refused laws s n w h upto since c d e fate why k m =
-    let items : List Item = (stepped w e fate).items in
-    let P : Owed → Type 0 = BeginComes s n (h ++ items) (since ++ items) in
+own_refused : MachineLaws → (n : ℕ) (upto : List Item) (a : AskMove) (why : Cause) → Passed (begin_ask n) upto a → item.Refused (Session a.session) why ∈ items_of a.move → BeginBehind n a (after_own_refusal n why)
+own_refused laws n upto a why k m =
+    let s : ℕ = a.session in
+    let items : List Item = items_of a.move in
+    let P : Owed → Type 0 = BeginBehind n a in
     if_either P (leaves_cells why) Erasure (if leaves_nothing why then Nothing else Answer n)
-    (λ leaves. closes_ask laws s (begin_ask n) w h upto since c d e fate (item.Refused (Session s) why) k m (leaving_closes n s why leaves))
+    (λ leaves. closes_ask laws (begin_ask n) upto a (item.Refused (Session s) why) k m (leaving_closes n s why leaves))
     (λ not. if_either P (leaves_nothing why) Nothing (Answer n) (λ nothing. elim (nothing_left why nothing) [
-      | inl waits ↦ inr (inr (waits.0, in_back _ since items (subst (λ (q : Cause). item.Refused (Session s) q ∈ items) waits.1 m)))
-      | inr (inl opens) ↦ inr (inl (closes_ask laws s (begin_ask n) w h upto since c d e fate (item.Refused (Session s) why) k m (ap (λ (q : Cause). closes n s (item.Refused (Session s) q)) opens.1 ∙ opening_closes n s opens.0)))
-      | inr (inr lost) ↦ inr (inl (closes_ask laws s (begin_ask n) w h upto since c d e fate (item.Refused (Session s) why) k m (ap (λ (q : Cause). closes n s (item.Refused (Session s) q)) lost.2 ∙ crashing_closes n s lost.0 lost.1)))
+      | inl waits ↦ inr (inr (waits.0, in_back _ a.since items (subst (λ (q : Cause). item.Refused (Session s) q ∈ items) waits.1 m)))
+      | inr (inl opens) ↦ inr (inl (closes_ask laws (begin_ask n) upto a (item.Refused (Session s) why) k m (ap (λ (q : Cause). closes n s (item.Refused (Session s) q)) opens.1 ∙ opening_closes n s opens.0)))
+      | inr (inr lost) ↦ inr (inl (closes_ask laws (begin_ask n) upto a (item.Refused (Session s) why) k m (ap (λ (q : Cause). closes n s (item.Refused (Session s) q)) lost.2 ∙ crashing_closes n s lost.0 lost.1)))
     ]) (λ other. refl))
 
-any_refused : MachineLaws → (s n : ℕ) (w : State) (h upto since : List Item) (c d : Client) (e : Event) (fate : Fate) (who : Actor) (why : Cause) → Passed s (begin_ask n) w h upto since c e fate d → item.Refused who why ∈ (stepped w e fate).items →
-    BeginComes s n (h ++ (stepped w e fate).items) (since ++ (stepped w e fate).items) (after_refusal (Session s) n who why)
-any_refused laws s n w h upto since c d e fate who why k m =
-    let items : List Item = (stepped w e fate).items in
-    let P : Owed → Type 0 = BeginComes s n (h ++ items) (since ++ items) in
+any_refused : MachineLaws → (n : ℕ) (upto : List Item) (a : AskMove) (who : Actor) (why : Cause) → Passed (begin_ask n) upto a → item.Refused who why ∈ items_of a.move → BeginBehind n a (after_refusal (Session a.session) n who why)
+any_refused laws n upto a who why k m =
+    let s : ℕ = a.session in
+    let items : List Item = items_of a.move in
+    let P : Owed → Type 0 = BeginBehind n a in
     let own : Owed = if same_actor who (Session s) then after_own_refusal n why else Answer n in
     if_either P (denies_request (Session s) why) Nothing (if is_lost n why then Quiet else own)
-    (λ denies. inl (left_by_denial s n since items who why m denies))
+    (λ denies. inl (left_by_denial s n a.since items who why m denies))
     (λ not. if_either P (is_lost n why) Quiet own
-    (λ lost. loses_ask laws s (begin_ask n) w h upto since c d e fate who k (subst (λ (q : Cause). item.Refused who q ∈ items) (lost_is n why lost) m))
+    (λ lost. loses_ask laws (begin_ask n) upto a who k (subst (λ (q : Cause). item.Refused who q ∈ items) (lost_is n why lost) m))
     (λ there. if_either P (same_actor who (Session s)) (after_own_refusal n why) (Answer n)
-    (λ mine. own_refused laws s n w h upto since c d e fate why k (subst (λ (a : Actor). item.Refused a why ∈ items) (actor_same who (Session s) mine) m))
+    (λ mine. own_refused laws n upto a why k (subst (λ (b : Actor). item.Refused b why ∈ items) (actor_same who (Session s) mine) m))
     (λ other. refl)))
 
-begin_asking : MachineLaws → (s n : ℕ) (w : State) (h upto since : List Item) (c d : Client) (e : Event) (fate : Fate) (x : Item) → Passed s (begin_ask n) w h upto since c e fate d → x ∈ (stepped w e fate).items →
-    BeginComes s n (h ++ (stepped w e fate).items) (since ++ (stepped w e fate).items) (after_asking (Session s) n x)
-begin_asking laws s n w h upto since c d e fate (item.Begin session start) k m =
-    let P : Owed → Type 0 = BeginComes s n (h ++ (stepped w e fate).items) (since ++ (stepped w e fate).items) in
-    if_either P (session == s) Nothing (Answer n) (λ mine. inr (inl (closes_ask laws s (begin_ask n) w h upto since c d e fate (item.Begin session start) k m mine))) (λ other. refl)
-begin_asking laws s n w h upto since c d e fate (item.Committed session start commit) k m =
-    let P : Owed → Type 0 = BeginComes s n (h ++ (stepped w e fate).items) (since ++ (stepped w e fate).items) in
-    if_either P (session == s) (Removal start) (Answer n) (λ mine. closes_ask laws s (begin_ask n) w h upto since c d e fate (item.Committed session start commit) k m mine) (λ other. refl)
-begin_asking laws s n w h upto since c d e fate (item.Refused who why) k m = any_refused laws s n w h upto since c d e fate who why k m
-begin_asking laws s n w h upto since c d e fate (item.Fault who store) k m =
-    let items : List Item = (stepped w e fate).items in
-    if_either (BeginComes s n (h ++ items) (since ++ items)) (fails_record n who store) Nothing (Answer n) (λ fails. inl (left_by_fault s n since items who store m fails)) (λ other. refl)
-begin_asking laws s n w h upto since c d e fate _ k m = refl
+begin_asking : MachineLaws → (n : ℕ) (upto : List Item) (a : AskMove) (x : Item) → Passed (begin_ask n) upto a → x ∈ items_of a.move → BeginBehind n a (after_asking (Session a.session) n x)
+begin_asking laws n upto a (item.Begin session start) k m =
+    if_either (BeginBehind n a) (session == a.session) Nothing (Answer n) (λ mine. inr (inl (closes_ask laws (begin_ask n) upto a (item.Begin session start) k m mine))) (λ other. refl)
+begin_asking laws n upto a (item.Committed session start commit) k m =
+    if_either (BeginBehind n a) (session == a.session) (Removal start) (Answer n) (λ mine. closes_ask laws (begin_ask n) upto a (item.Committed session start commit) k m mine) (λ other. refl)
+begin_asking laws n upto a (item.Refused who why) k m = any_refused laws n upto a who why k m
+begin_asking laws n upto a (item.Fault who store) k m =
+    if_either (BeginBehind n a) (fails_record n who store) Nothing (Answer n) (λ fails. inl (left_by_fault a.session n a.since (items_of a.move) who store m fails)) (λ other. refl)
+begin_asking laws n upto a _ k m = refl
 
 -- one that is over stays so, whatever is owed of its completion
 pays : (s n : ℕ) (h since : List Item) (paid : Bool) (owed : Owed) → open_asks_of h n s ≡ 0 → BeginComes s n h since owed → BeginComes s n h since (if paid then Nothing else owed)
 pays s n h since true owed over comes = inr (inl over)
 pays s n h since false owed over comes = comes
 
-begin_item : MachineLaws → (s n : ℕ) (w : State) (h upto since : List Item) (c d : Client) (e : Event) (fate : Fate) (steps : Bool) (owed : Owed) (x : Item) → Passed s (begin_ask n) w h upto since c e fate d → x ∈ (stepped w e fate).items →
-    BeginComes s n (h ++ (stepped w e fate).items) (since ++ (stepped w e fate).items) owed → BeginComes s n (h ++ (stepped w e fate).items) (since ++ (stepped w e fate).items) (owed_after (Session s) steps owed x)
-begin_item laws s n w h upto since c d e fate steps Nothing x k m comes = comes
-begin_item laws s n w h upto since c d e fate steps (Read key) x k m comes = absurd comes
-begin_item laws s n w h upto since c d e fate steps (Answer asked) x k m comes =
-    let items : List Item = (stepped w e fate).items in
-    subst (λ (q : ℕ). BeginComes s n (h ++ items) (since ++ items) (after_asking (Session s) q x)) (sym comes) (begin_asking laws s n w h upto since c d e fate x k m)
-begin_item laws s n w h upto since c d e fate steps (Removal start) x k m comes = pays s n (h ++ (stepped w e fate).items) (since ++ (stepped w e fate).items) (steps && removes (Session s) start x) (Removal start) comes comes
-begin_item laws s n w h upto since c d e fate steps Erasure x k m comes = pays s n (h ++ (stepped w e fate).items) (since ++ (stepped w e fate).items) (steps && ends_completion (Session s) x) Erasure comes comes
-begin_item laws s n w h upto since c d e fate steps Quiet x k m comes = pays s n (h ++ (stepped w e fate).items) (since ++ (stepped w e fate).items) (steps && is_idle (Session s) x) Quiet comes comes
+begin_item : MachineLaws → (n : ℕ) (upto : List Item) (a : AskMove) (steps : Bool) (owed : Owed) (x : Item) → Passed (begin_ask n) upto a → x ∈ items_of a.move → BeginBehind n a owed → BeginBehind n a (owed_after (Session a.session) steps owed x)
+begin_item laws n upto a steps Nothing x k m comes = comes
+begin_item laws n upto a steps (Read key) x k m comes = absurd comes
+begin_item laws n upto a steps (Answer asked) x k m comes = subst (λ (q : ℕ). BeginBehind n a (after_asking (Session a.session) q x)) (sym comes) (begin_asking laws n upto a x k m)
+begin_item laws n upto a steps (Removal start) x k m comes = pays a.session n (history_after a.move) (since_after a) (steps && removes (Session a.session) start x) (Removal start) comes comes
+begin_item laws n upto a steps Erasure x k m comes = pays a.session n (history_after a.move) (since_after a) (steps && ends_completion (Session a.session) x) Erasure comes comes
+begin_item laws n upto a steps Quiet x k m comes = pays a.session n (history_after a.move) (since_after a) (steps && is_idle (Session a.session) x) Quiet comes comes
 
 -- all items of an own event
-pub begin_items : MachineLaws → (s n : ℕ) (w : State) (h upto since : List Item) (c d : Client) (e : Event) (fate : Fate) (steps : Bool) (st : Standing) (xs : List Item) → Passed s (begin_ask n) w h upto since c e fate d → ((x : Item) → x ∈ xs → x ∈ (stepped w e fate).items) →
-    BeginComes s n (h ++ (stepped w e fate).items) (since ++ (stepped w e fate).items) st.owed → BeginComes s n (h ++ (stepped w e fate).items) (since ++ (stepped w e fate).items) (with_items (Session s) steps st xs).owed
+pub begin_items : MachineLaws → (n : ℕ) (upto : List Item) (a : AskMove) (steps : Bool) (st : Standing) (xs : List Item) → Passed (begin_ask n) upto a → ((x : Item) → x ∈ xs → x ∈ items_of a.move) → BeginBehind n a st.owed → BeginBehind n a (with_items (Session a.session) steps st xs).owed
 unfolding with_items ◌∈◌
-begin_items laws s n w h upto since c d e fate steps st [] k all comes = comes
-begin_items laws s n w h upto since c d e fate steps st (x ∷ xs) k all comes =
-    begin_items laws s n w h upto since c d e fate steps (with_item (Session s) steps st x) xs k (λ y m. all y (inr m))
-    (begin_item laws s n w h upto since c d e fate steps st.owed x k (all x (inl refl)) comes)
+begin_items laws n upto a steps st [] k all comes = comes
+begin_items laws n upto a steps st (x ∷ xs) k all comes =
+    begin_items laws n upto a steps (with_item (Session a.session) steps st x) xs k (λ y m. all y (inr m))
+    (begin_item laws n upto a steps st.owed x k (all x (inl refl)) comes)
 
 -- ---- once nothing is owed
 pub begin_ended : (s n : ℕ) (h since : List Item) (owed : Owed) (keys : List ℕ) → NoCommitted s since → BeginComes s n h since owed → is_settled owed keys ≡ true → IsLeft s n since ⊎ HasCome h s (begin_ask n) since

@@ -2,7 +2,6 @@
 use Rattle.std.proofs.Common.{◌≡◌, ℕ, Bool, true, false, if◌then◌else◌, List, [], ◌∷◌, ◌++◌, Option, Some, ◌⊎◌, inl, inr, refl, sym, ◌∙◌, ap, subst, append_assoc, arith}
 use Rattle.std.specs.Prelude.{is_some}
 use Rattle.std.proofs.lemmas.Option.{same_Some}
-use Rattle.port_io.specs.declared.weather.Fate.{Fate}
 use Rattle.history_book.specs.Members.{◌∈◌}
 use Rattle.history_book.specs.declared.cause.Cause.{Cause}
 use Rattle.history_book.specs.declared.cause.Cause.TheVariants as cause
@@ -18,9 +17,7 @@ use Rattle.oracle_parts.specs.declared.instance.Held.{Held}
 use Rattle.oracle_parts.specs.declared.instance.Request.{Request}
 use Rattle.oracle_parts.specs.declared.instance.Request.TheVariants as request
 use Rattle.oracle_parts.specs.Instance.{InstanceEntry, held_of}
-use Rattle.machine.specs.declared.event.Event.{Event}
 use Rattle.machine.specs.State.{Client, State}
-use Rattle.machine.specs.Machine.{stepped}
 use Rattle.isolation_laws.specs.Words.{ClientAt, written_keys}
 use Rattle.isolation_laws.proofs.Lookups.{one_client, held_by}
 use Rattle.isolation_laws.proofs.Pushed.{in_append}
@@ -38,49 +35,78 @@ use Rattle.seat_lines.specs.Served.{HasFailed, WasOpen, IsRemoved, IsErased, IsL
 use Rattle.seat_lines.proofs.AskFacts.{MachineLaws, Passed, stays_over}
 use Rattle.seat_lines.proofs.CommitTrails.{commit_ask, of_commit, after_open, IsUndone, Trail, not_begin, trail_next, leaves_ends, undone_turn, free_turn, NoLeaving, open_turn}
 use Rattle.seat_lines.proofs.ItemLists.{split_cases, in_split, none_append}
+use Rattle.seat_lines.proofs.Moves.{Move, items_of, state_after, history_after, AskMove, since_after}
 use Rattle.seat_lines.proofs.SinceAsk.{IsSince, since_more, asked_at, asked_now, since_now, place_in, none_before, stays_there}
 use Rattle.seat_lines.proofs.StepItems.{rests}
 
 -- ---- a place of the history since the ask
-pub record Place (s n t : ℕ) (w : State) (h before since : List Item) (c : Client) : Type 0 where
+-- the ask of a commit: its node and transaction, and the history before its item
+pub record CommitAsk : Type 0 where
+  pub node : ℕ
+  pub start : ℕ
+  pub before : List Item
+
+abbrev pub ask_of : CommitAsk → Ask
+ask_of ask = commit_ask ask.node ask.start
+
+-- the history up to its item
+abbrev pub asked_upto : ℕ → CommitAsk → List Item
+asked_upto s ask = ask.before ++ item.AskCommit s ask.node ask.start ∷ []
+
+pub record Place (s : ℕ) (ask : CommitAsk) (w : State) (h since : List Item) (c : Client) : Type 0 where
   pub tells : Tells w h
   pub ends : Ends w h
-  pub is_since : IsSince s (commit_ask n t) h (before ++ item.AskCommit s n t ∷ []) since
+  pub is_since : IsSince s (ask_of ask) h (asked_upto s ask) since
   pub at : ClientAt w.clients s c
-  pub trail : Trail s t since c
+  pub trail : Trail s ask.start since c
   pub unwaited : (commit : ℕ) → item.Refused (Session s) (cause.NotYet commit) ∈ since → ⊥
 
+-- before an event, and behind it
+abbrev pub PlaceBefore : CommitAsk → AskMove → Type 0
+PlaceBefore ask a = Place a.session ask a.move.state a.move.history a.since a.client
+
+abbrev pub PlaceBehind : CommitAsk → AskMove → Type 0
+PlaceBehind ask a = Place a.session ask (state_after a.move) (history_after a.move) (since_after a) a.next
+
+-- what the session asked last
+pub now_asked : (ask : CommitAsk) (a : AskMove) → PlaceBefore ask a → its_ask a.move.history a.session ≡ Some (ask_of ask)
+now_asked ask a k = asked_now a.session (ask_of ask) a.move.history _ a.since k.is_since
+
+-- what the event does to it
+pub turn_of : MachineLaws → (ask : CommitAsk) (a : AskMove) → PlaceBefore ask a → ClientAt (state_after a.move).clients a.session a.next → Turn a.move.history a.session a.client (items_of a.move) a.next
+turn_of laws ask a k there = laws.turns a.move.state a.move.history a.move.event a.move.fate a.session a.client a.next k.tells k.at there
+
 -- one event later
-pub place_later : MachineLaws → (s n t : ℕ) (w : State) (h before since : List Item) (c d : Client) (e : Event) (fate : Fate) → Place s n t w h before since c → Tells (stepped w e fate).state (h ++ (stepped w e fate).items) → ClientAt (stepped w e fate).state.clients s d → AllNot (Session s) (stepped w e fate).items →
-    Place s n t (stepped w e fate).state (h ++ (stepped w e fate).items) before (since ++ (stepped w e fate).items) d
-place_later laws s n t w h before since c d e fate k now there none =
-    let asked : its_ask h s ≡ Some (commit_ask n t) = asked_now s (commit_ask n t) h _ since k.is_since in
+pub place_later : MachineLaws → (ask : CommitAsk) (a : AskMove) → PlaceBefore ask a → Tells (state_after a.move) (history_after a.move) → ClientAt (state_after a.move).clients a.session a.next → AllNot (Session a.session) (items_of a.move) → PlaceBehind ask a
+place_later laws ask a k now there none =
+    let v : Move = a.move in
+    let s : ℕ = a.session in
+    let asked : its_ask v.history s ≡ Some (ask_of ask) = now_asked ask a k in
     record {
       tells = now;
-      ends = laws.keeps w h e fate k.tells k.ends;
-      is_since = since_more s (commit_ask n t) h _ since (stepped w e fate).items k.is_since none;
+      ends = laws.keeps v.state v.history v.event v.fate k.tells k.ends;
+      is_since = since_more s (ask_of ask) v.history _ a.since (items_of v) k.is_since none;
       at = there;
-      trail = trail_next s n t h since (stepped w e fate).items c d asked none k.trail (laws.turns w h e fate s c d k.tells k.at there);
-      unwaited = λ commit m. elim (in_append (item.Refused (Session s) (cause.NotYet commit)) since (stepped w e fate).items m) [
+      trail = trail_next s ask.node ask.start v.history a.since (items_of v) a.client a.next asked none k.trail (turn_of laws ask a k there);
+      unwaited = λ commit m. elim (in_append (item.Refused (Session s) (cause.NotYet commit)) a.since (items_of v) m) [
         | inl here ↦ k.unwaited commit here
-        | inr told ↦ not_begin h s n t asked (laws.begins w h e fate s (item.Refused (Session s) (cause.NotYet commit)) k.tells told refl)
+        | inr told ↦ not_begin v.history s ask.node ask.start asked (laws.begins v.state v.history v.event v.fate s (item.Refused (Session s) (cause.NotYet commit)) k.tells told refl)
       ];
     }
 
 -- the event between the two
-pub passed_of : (s n t : ℕ) (w : State) (h before since : List Item) (c d : Client) (e : Event) (fate : Fate) → Place s n t w h before since c → Place s n t (stepped w e fate).state (h ++ (stepped w e fate).items) before (since ++ (stepped w e fate).items) d → AllNot (Session s) (stepped w e fate).items →
-    Passed s (commit_ask n t) w h (before ++ item.AskCommit s n t ∷ []) since c e fate d
-passed_of s n t w h before since c d e fate k l none = record { tells = k.tells; ends = k.ends; now = l.tells; ended = l.ends; is_since = k.is_since; at = k.at; there = l.at; none = none }
+pub passed_of : (ask : CommitAsk) (a : AskMove) → PlaceBefore ask a → PlaceBehind ask a → AllNot (Session a.session) (items_of a.move) → Passed (ask_of ask) (asked_upto a.session ask) a
+passed_of ask a k l none = record { tells = k.tells; ends = k.ends; now = l.tells; ended = l.ends; is_since = k.is_since; at = k.at; there = l.at; none = none }
 
 -- the transaction writes no further key
-pub keys_before : (s n t : ℕ) (w : State) (h before since : List Item) (c : Client) → Place s n t w h before since c → written_keys h t ≡ written_keys before t
-keys_before s n t w h before since c k = k.ends.closed.keys before since s n t (k.is_since.is ∙ append_assoc before (item.AskCommit s n t ∷ []) since)
+pub keys_before : (s : ℕ) (ask : CommitAsk) (w : State) (h since : List Item) (c : Client) → Place s ask w h since c → written_keys h ask.start ≡ written_keys ask.before ask.start
+keys_before s ask w h since c k = k.ends.closed.keys ask.before since s ask.node ask.start (k.is_since.is ∙ append_assoc ask.before (item.AskCommit s ask.node ask.start ∷ []) since)
 
-pub keys_same : (s n t : ℕ) (w v : State) (h g before since later : List Item) (c d : Client) → Place s n t w h before since c → Place s n t v g before later d → written_keys g t ≡ written_keys h t
-keys_same s n t w v h g before since later c d k l = keys_before s n t v g before later d l ∙ sym (keys_before s n t w h before since c k)
+pub keys_same : (ask : CommitAsk) (a : AskMove) → PlaceBefore ask a → PlaceBehind ask a → written_keys (history_after a.move) ask.start ≡ written_keys a.move.history ask.start
+keys_same ask a k l = keys_before a.session ask (state_after a.move) (history_after a.move) (since_after a) a.next l ∙ sym (keys_before a.session ask a.move.state a.move.history a.since a.client k)
 
-gone_not : (s n t : ℕ) (w : State) (h before since : List Item) (c : Client) → Place s n t w h before since c → HasVanished w.clients h s → ⊥
-gone_not s n t w h before since c k v = stays_there s (commit_ask n t) h _ since k.is_since v.told
+gone_not : (s : ℕ) (ask : CommitAsk) (w : State) (h since : List Item) (c : Client) → Place s ask w h since c → HasVanished w.clients h s → ⊥
+gone_not s ask w h since c k v = stays_there s (ask_of ask) h _ since k.is_since v.told
 
 -- ---- what is left to be done of the commit
 pub record Settled (s t : ℕ) (h since : List Item) (c : Client) : Type 0 where
@@ -128,38 +154,38 @@ erased_more s t h g since items same erased none before behind why is leaves = e
   | inr k ↦ absurd (none why (in_split items k.front behind (item.Refused (Session s) why) k.is) leaves)
 ]
 
-settled_later : MachineLaws → (s n t : ℕ) (w : State) (h before since : List Item) (c d : Client) (e : Event) (fate : Fate) → (k : Place s n t w h before since c) → (l : Place s n t (stepped w e fate).state (h ++ (stepped w e fate).items) before (since ++ (stepped w e fate).items) d) → AllNot (Session s) (stepped w e fate).items →
-    Settled s t h since c → Settled s t (h ++ (stepped w e fate).items) (since ++ (stepped w e fate).items) d
-settled_later laws s n t w h before since c d e fate k l none settled =
-    let items : List Item = (stepped w e fate).items in
-    let asked : its_ask h s ≡ Some (commit_ask n t) = asked_now s (commit_ask n t) h _ since k.is_since in
-    let turn : Turn h s c items d = laws.turns w h e fate s c d k.tells k.at l.at in
-    let same : written_keys (h ++ items) t ≡ written_keys h t = keys_same s n t w (stepped w e fate).state h (h ++ items) before since (since ++ items) c d k l in
+settled_later : MachineLaws → (ask : CommitAsk) (a : AskMove) → PlaceBefore ask a → PlaceBehind ask a → AllNot (Session a.session) (items_of a.move) → Settled a.session ask.start a.move.history a.since a.client → Settled a.session ask.start (history_after a.move) (since_after a) a.next
+settled_later laws ask a k l none settled =
+    let s : ℕ = a.session in
+    let h : List Item = a.move.history in
+    let items : List Item = items_of a.move in
+    let asked : its_ask h s ≡ Some (ask_of ask) = now_asked ask a k in
+    let turn : Turn h s a.client items a.next = turn_of laws ask a k l.at in
+    let same : written_keys (h ++ items) ask.start ≡ written_keys h ask.start = keys_same ask a k l in
     elim settled.stays [
       | inl free ↦
-          let still = free_turn s n t h since items c d asked none k.trail free turn in
+          let still = free_turn s ask.node ask.start h a.since items a.client a.next asked none k.trail free turn in
           record {
-            removed = removed_more s since items settled.removed (λ start commit m. absurd (still.1 (item.Committed s start commit) m refl));
-            erased = erased_more s t h (h ++ items) since items same settled.erased (λ why m leaves. still.1 (item.Refused (Session s) why) m (refl, leaves_ends why leaves));
+            removed = removed_more s a.since items settled.removed (λ start commit m. absurd (still.1 (item.Committed s start commit) m refl));
+            erased = erased_more s ask.start h (h ++ items) a.since items same settled.erased (λ why m leaves. still.1 (item.Refused (Session s) why) m (refl, leaves_ends why leaves));
             stays = inl still.0;
           }
       | inr open_now ↦
-          let still = open_turn s n t h since items c d asked none k.trail open_now.1 turn in
+          let still = open_turn s ask.node ask.start h a.since items a.client a.next asked none k.trail open_now.1 turn in
           record {
-            removed = removed_more s since items settled.removed (λ start commit m. open_now.0);
-            erased = erased_more s t h (h ++ items) since items same settled.erased still.1;
-            stays = inr ((open_now.0.0, in_front _ since items open_now.0.1), still.0);
+            removed = removed_more s a.since items settled.removed (λ start commit m. open_now.0);
+            erased = erased_more s ask.start h (h ++ items) a.since items same settled.erased still.1;
+            stays = inr ((open_now.0.0, in_front _ a.since items open_now.0.1), still.0);
           }
     ]
 
-erasing_later : MachineLaws → (s n t : ℕ) (w : State) (h before since : List Item) (c d : Client) (e : Event) (fate : Fate) (keys : List ℕ) → (k : Place s n t w h before since c) → (l : Place s n t (stepped w e fate).state (h ++ (stepped w e fate).items) before (since ++ (stepped w e fate).items) d) → AllNot (Session s) (stepped w e fate).items →
-    Erasing s t h since c keys → Erasing s t (h ++ (stepped w e fate).items) (since ++ (stepped w e fate).items) d keys
-erasing_later laws s n t w h before since c d e fate keys k l none erasing =
-    let items : List Item = (stepped w e fate).items in
-    let asked : its_ask h s ≡ Some (commit_ask n t) = asked_now s (commit_ask n t) h _ since k.is_since in
-    let turn : Turn h s c items d = laws.turns w h e fate s c d k.tells k.at l.at in
-    let same : written_keys (h ++ items) t ≡ written_keys h t = keys_same s n t w (stepped w e fate).state h (h ++ items) before since (since ++ items) c d k l in
-    let still = undone_turn s n t h since items c d asked none k.trail erasing.undone turn in
+erasing_later : MachineLaws → (ask : CommitAsk) (a : AskMove) (keys : List ℕ) → PlaceBefore ask a → PlaceBehind ask a → AllNot (Session a.session) (items_of a.move) → Erasing a.session ask.start a.move.history a.since a.client keys → Erasing a.session ask.start (history_after a.move) (since_after a) a.next keys
+erasing_later laws ask a keys k l none erasing =
+    let s : ℕ = a.session in
+    let h : List Item = a.move.history in
+    let items : List Item = items_of a.move in
+    let same : written_keys (h ++ items) ask.start ≡ written_keys h ask.start = keys_same ask a k l in
+    let still = undone_turn s ask.node ask.start h a.since items a.client a.next (now_asked ask a k) none k.trail erasing.undone (turn_of laws ask a k l.at) in
     record {
       front = erasing.front;
       behind = erasing.behind ++ items;
@@ -178,15 +204,18 @@ left_later : (s n : ℕ) (since items : List Item) → IsLeft s n since → IsLe
 left_later s n since items (inl k) = inl (k.0, in_front _ since items k.1)
 left_later s n since items (inr k) = inr (in_front _ since items k)
 
-pub commit_later : MachineLaws → (s n t : ℕ) (w : State) (h before since : List Item) (c d : Client) (e : Event) (fate : Fate) (keys : List ℕ) (owed : Owed) → (k : Place s n t w h before since c) → (l : Place s n t (stepped w e fate).state (h ++ (stepped w e fate).items) before (since ++ (stepped w e fate).items) d) → AllNot (Session s) (stepped w e fate).items →
-    CommitComes s n t h since c keys owed → CommitComes s n t (h ++ (stepped w e fate).items) (since ++ (stepped w e fate).items) d keys owed
-commit_later laws s n t w h before since c d e fate keys Nothing k l none (inl left) = inl (left_later s n since (stepped w e fate).items left)
-commit_later laws s n t w h before since c d e fate keys Nothing k l none (inr over) = inr (stays_over laws s (commit_ask n t) w h _ since c d e fate (passed_of s n t w h before since c d e fate k l none) over.0, settled_later laws s n t w h before since c d e fate k l none over.1)
-commit_later laws s n t w h before since c d e fate keys (Read key) k l none comes = absurd comes
-commit_later laws s n t w h before since c d e fate keys (Answer asked) k l none comes = comes
-commit_later laws s n t w h before since c d e fate keys (Removal start) k l none comes = stays_over laws s (commit_ask n t) w h _ since c d e fate (passed_of s n t w h before since c d e fate k l none) comes
-commit_later laws s n t w h before since c d e fate keys Erasure k l none comes = (stays_over laws s (commit_ask n t) w h _ since c d e fate (passed_of s n t w h before since c d e fate k l none) comes.0, erasing_later laws s n t w h before since c d e fate keys k l none comes.1)
-commit_later laws s n t w h before since c d e fate keys Quiet k l none comes = stays_over laws s (commit_ask n t) w h _ since c d e fate (passed_of s n t w h before since c d e fate k l none) comes
+over_later : MachineLaws → (ask : CommitAsk) (a : AskMove) → PlaceBefore ask a → PlaceBehind ask a → AllNot (Session a.session) (items_of a.move) → open_asks_of a.move.history ask.node a.session ≡ 0 → open_asks_of (history_after a.move) ask.node a.session ≡ 0
+over_later laws ask a k l none over = stays_over laws (ask_of ask) _ a (passed_of ask a k l none) over
+
+pub commit_later : MachineLaws → (ask : CommitAsk) (a : AskMove) (keys : List ℕ) (owed : Owed) → PlaceBefore ask a → PlaceBehind ask a → AllNot (Session a.session) (items_of a.move) →
+    CommitComes a.session ask.node ask.start a.move.history a.since a.client keys owed → CommitComes a.session ask.node ask.start (history_after a.move) (since_after a) a.next keys owed
+commit_later laws ask a keys Nothing k l none (inl left) = inl (left_later a.session ask.node a.since (items_of a.move) left)
+commit_later laws ask a keys Nothing k l none (inr over) = inr (over_later laws ask a k l none over.0, settled_later laws ask a k l none over.1)
+commit_later laws ask a keys (Read key) k l none comes = absurd comes
+commit_later laws ask a keys (Answer asked) k l none comes = comes
+commit_later laws ask a keys (Removal start) k l none comes = over_later laws ask a k l none comes
+commit_later laws ask a keys Erasure k l none comes = (over_later laws ask a k l none comes.0, erasing_later laws ask a keys k l none comes.1)
+commit_later laws ask a keys Quiet k l none comes = over_later laws ask a k l none comes
 
 -- ---- a session that rests has done what there was to do
 held_one : (i : InstanceEntry) (s : ℕ) (held : Held) → held_of i s ≡ Some held → held_count (Some i) s ≡ 1
@@ -197,13 +226,13 @@ node_for n (request.Begin session) = refl
 node_for n (request.Commit session start keys) = refl
 
 -- its request is no longer held
-not_committing : (s n t : ℕ) (w : State) (h before since : List Item) (c : Client) → Place s n t w h before since c → open_asks_of h n s ≡ 0 → c.entry.state ≡ phase.Committing → ⊥
-not_committing s n t w h before since c k over committing =
+not_committing : (s : ℕ) (ask : CommitAsk) (w : State) (h since : List Item) (c : Client) → Place s ask w h since c → open_asks_of h ask.node s ≡ 0 → c.entry.state ≡ phase.Committing → ⊥
+not_committing s ask w h since c k over committing =
     let held : IsHeld w.nodes s = k.ends.awaited.each s c k.at committing in
     let asked : its_ask h s ≡ Some (ask_for held.node held.held.request) = k.tells.shows.asked.asked held.node s held.i held.held.request held.held.progress held.at (held_by held.i s held.held held.has) in
-    let node : held.node ≡ n = sym (node_for held.node held.held.request) ∙ ap (λ (a : Ask). a.node) (same_Some _ _ (sym asked ∙ asked_now s (commit_ask n t) h _ since k.is_since)) in
+    let node : held.node ≡ ask.node = sym (node_for held.node held.held.request) ∙ ap (λ (a : Ask). a.node) (same_Some _ _ (sym asked ∙ asked_now s (ask_of ask) h _ since k.is_since)) in
     let one : open_asks_of h held.node s ≡ 1 = k.tells.shows.open_asks.each held.node s (Some held.i) held.at ∙ held_one held.i s held.held held.has in
-    let here : open_asks_of h n s ≡ 1 = subst (λ (m : ℕ). open_asks_of h m s ≡ 1) node one in
+    let here : open_asks_of h ask.node s ≡ 1 = subst (λ (m : ℕ). open_asks_of h m s ≡ 1) node one in
     absurd (omega (arith, over, here))
 
 rest_state : (state : SessionState) → of_commit state ≡ true → rests state ≡ true → (state ≡ phase.Committing) ⊎ ((state ≡ phase.Free) ⊎ (state ≡ phase.OpenOutcome))
@@ -222,10 +251,10 @@ has_come w h s start undo asked made behind (Failed store m) there done = inr (s
 has_come w h s start undo asked made behind (Vanished v) there done = absurd (there v)
 has_come w h s start undo asked made behind (Left k) there done = absurd (done k)
 
-pub removed_now : (s n t : ℕ) (w : State) (h before since : List Item) (c : Client) → Place s n t w h before since c → (c.entry.state ≡ phase.Completing false → ⊥) → IsRemoved s since
-removed_now s n t w h before since c k idle front behind start commit is =
-    let come = k.ends.removed.each _ behind s start commit (place_in s (commit_ask n t) h _ since front behind (item.Committed s start commit) k.is_since is) in
-    inr (has_come w h s start false _ _ behind come (gone_not s n t w h before since c k)
+pub removed_now : (s : ℕ) (ask : CommitAsk) (w : State) (h since : List Item) (c : Client) → Place s ask w h since c → (c.entry.state ≡ phase.Completing false → ⊥) → IsRemoved s since
+removed_now s ask w h since c k idle front behind start commit is =
+    let come = k.ends.removed.each _ behind s start commit (place_in s (ask_of ask) h _ since front behind (item.Committed s start commit) k.is_since is) in
+    inr (has_come w h s start false _ _ behind come (gone_not s ask w h since c k)
     (λ left. idle (ap (λ (x : Client). x.entry.state) (one_client w.clients s c left.client k.at left.at) ∙ left.completes)))
 
 -- for all keys, or a call has failed
@@ -240,27 +269,27 @@ all_or P Q (k ∷ keys) each = elim (each k (inl refl)) [
   ]
 ]
 
-erased_now : (s n t : ℕ) (w : State) (h before since : List Item) (c : Client) → Place s n t w h before since c → (c.entry.state ≡ phase.Completing true → ⊥) → IsErased h s (Some t) since
-erased_now s n t w h before since c k idle front behind why is leaves =
-    all_or (λ key. item.Step (Session s) (step.Erase key t) ∈ behind) (HasFailed s behind) (written_keys h t) (λ key m.
-    let come = k.ends.erased.each _ behind s n t key why (place_in s (commit_ask n t) h _ since front behind (item.Refused (Session s) why) k.is_since is) leaves
-    (asked_at s (commit_ask n t) h _ since front k.is_since (none_before s (commit_ask n t) h _ since front behind (item.Refused (Session s) why) k.is_since is)) m in
-    has_come w h s t true _ _ behind come (gone_not s n t w h before since c k)
+erased_now : (s : ℕ) (ask : CommitAsk) (w : State) (h since : List Item) (c : Client) → Place s ask w h since c → (c.entry.state ≡ phase.Completing true → ⊥) → IsErased h s (Some ask.start) since
+erased_now s ask w h since c k idle front behind why is leaves =
+    all_or (λ key. item.Step (Session s) (step.Erase key ask.start) ∈ behind) (HasFailed s behind) (written_keys h ask.start) (λ key m.
+    let come = k.ends.erased.each _ behind s ask.node ask.start key why (place_in s (ask_of ask) h _ since front behind (item.Refused (Session s) why) k.is_since is) leaves
+    (asked_at s (ask_of ask) h _ since front k.is_since (none_before s (ask_of ask) h _ since front behind (item.Refused (Session s) why) k.is_since is)) m in
+    has_come w h s ask.start true _ _ behind come (gone_not s ask w h since c k)
     (λ left. idle (ap (λ (x : Client). x.entry.state) (one_client w.clients s c left.client k.at left.at) ∙ left.completes)))
 
-settled_at : (s n t : ℕ) (w : State) (h before since : List Item) (c : Client) → Place s n t w h before since c → (state : SessionState) → c.entry.state ≡ state → (state ≡ phase.Completing false → ⊥) → (state ≡ phase.Completing true → ⊥) → ((c.entry.state ≡ phase.Free) ⊎ (WasOpen s since × (after_open c.entry.state ≡ true))) → Settled s t h since c
-settled_at s n t w h before since c k state is finishes undoes stays = record {
-  removed = removed_now s n t w h before since c k (λ now. finishes (sym is ∙ now));
-  erased = erased_now s n t w h before since c k (λ now. undoes (sym is ∙ now));
+settled_at : (s : ℕ) (ask : CommitAsk) (w : State) (h since : List Item) (c : Client) → Place s ask w h since c → (state : SessionState) → c.entry.state ≡ state → (state ≡ phase.Completing false → ⊥) → (state ≡ phase.Completing true → ⊥) → ((c.entry.state ≡ phase.Free) ⊎ (WasOpen s since × (after_open c.entry.state ≡ true))) → Settled s ask.start h since c
+settled_at s ask w h since c k state is finishes undoes stays = record {
+  removed = removed_now s ask w h since c k (λ now. finishes (sym is ∙ now));
+  erased = erased_now s ask w h since c k (λ now. undoes (sym is ∙ now));
   stays = stays;
 }
 
-pub settled_at_rest : (s n t : ℕ) (w : State) (h before since : List Item) (c : Client) → Place s n t w h before since c → open_asks_of h n s ≡ 0 → rests c.entry.state ≡ true → Settled s t h since c
-settled_at_rest s n t w h before since c k over rest = elim (rest_state c.entry.state k.trail.state_is rest) [
-  | inl committing ↦ absurd (not_committing s n t w h before since c k over committing)
-  | inr (inl free) ↦ settled_at s n t w h before since c k phase.Free free (λ is. cc) (λ is. cc) (inl free)
+pub settled_at_rest : (s : ℕ) (ask : CommitAsk) (w : State) (h since : List Item) (c : Client) → Place s ask w h since c → open_asks_of h ask.node s ≡ 0 → rests c.entry.state ≡ true → Settled s ask.start h since c
+settled_at_rest s ask w h since c k over rest = elim (rest_state c.entry.state k.trail.state_is rest) [
+  | inl committing ↦ absurd (not_committing s ask w h since c k over committing)
+  | inr (inl free) ↦ settled_at s ask w h since c k phase.Free free (λ is. cc) (λ is. cc) (inl free)
   | inr (inr open_now) ↦
       let told = k.ends.outcomes.told s c k.at open_now in
-      settled_at s n t w h before since c k phase.OpenOutcome open_now (λ is. cc) (λ is. cc)
-      (inr ((told.start, subst (λ (xs : List Item). item.Refused (Session s) (cause.Open told.start) ∈ xs) (since_now s (commit_ask n t) h _ since k.is_since) told.told), ap after_open open_now))
+      settled_at s ask w h since c k phase.OpenOutcome open_now (λ is. cc) (λ is. cc)
+      (inr ((told.start, subst (λ (xs : List Item). item.Refused (Session s) (cause.Open told.start) ∈ xs) (since_now s (ask_of ask) h _ since k.is_since) told.told), ap after_open open_now))
 ]

@@ -2,7 +2,6 @@
 use Rattle.std.proofs.Common.{◌≡◌, ℕ, ◌==◌, Bool, true, false, ◌||◌, if◌then◌else◌, List, [], ◌∷◌, ◌++◌, ◌⊎◌, inl, inr, refl, sym, ◌∙◌, ap, subst}
 use Rattle.std.specs.List.{list_any}
 use Rattle.std.proofs.lemmas.Bool.{eqb-true}
-use Rattle.port_io.specs.declared.weather.Fate.{Fate}
 use Rattle.history_book.specs.Members.{◌∈◌}
 use Rattle.history_book.specs.declared.item.Actor.{Actor}
 use Rattle.history_book.specs.declared.item.Actor.TheVariants.{Session}
@@ -12,9 +11,7 @@ use Rattle.history_book.proofs.MemberLemmas.{in_front, in_last, in_push}
 use Rattle.client_parts.specs.declared.session.State.{State as SessionState}
 use Rattle.client_parts.specs.declared.session.State.TheVariants as phase
 use Rattle.client_parts.specs.SessionSteps.{SessionEntry, has_key}
-use Rattle.machine.specs.declared.event.Event.{Event}
 use Rattle.machine.specs.State.{Client, State}
-use Rattle.machine.specs.Machine.{stepped}
 use Rattle.script_data.specs.declared.line.Verb.{Verb}
 use Rattle.isolation_laws.specs.Words.{ClientAt}
 use Rattle.cause_laws.specs.Shows.{Tells}
@@ -22,6 +19,7 @@ use Rattle.served_lines.specs.Turns.{IsUndone as TurnUndone, Turn, Rests, AsksBe
 use Rattle.seat_lines.specs.Owed.{with_key, written_after, Standing, standing_with, with_item, with_items, owed_first, opened}
 use Rattle.seat_lines.proofs.AskFacts.{MachineLaws, same_self}
 use Rattle.seat_lines.proofs.CommitTrails.{aborted_undone, IsUndone}
+use Rattle.seat_lines.proofs.Moves.{Move, items_of, state_after}
 
 -- ---- the keys in the log
 abbrev pub NoneBegins : ℕ → List Item → Type 0
@@ -133,13 +131,13 @@ turn_keys h s c d items key (Vanishes now is) opened m not = absurd (open_not d 
 turn_keys h s c d items key (IsGone gone same) opened m not = absurd (open_not d phase.Gone opened (ap (λ (x : Client). x.entry.state) same ∙ gone) refl)
 
 -- an event later the log has them, if it keeps what it has and takes what is written
-pub keys_later : MachineLaws → (s : ℕ) (w : State) (h : List Item) (e : Event) (fate : Fate) (old new : List ℕ) → Tells w h → ((d : Client) → ClientAt (stepped w e fate).state.clients s d → (c : Client) × ClientAt w.clients s c) → KeysKept (Session s) w old →
-    ((key : ℕ) → NoneBegins s (stepped w e fate).items → key ∈ old → key ∈ new) → ((key : ℕ) → NoneBegins s (stepped w e fate).items → WritesKey s (stepped w e fate).items key → key ∈ new) → KeysKept (Session s) (stepped w e fate).state new
-keys_later laws s w h e fate old new tells there kept keeps takes d at opened key m =
-    let before : (c : Client) × ClientAt w.clients s c = there d at in
-    let asks : TakesAsks s before.0 (stepped w e fate).items d = laws.asks w h e fate s before.0 d tells before.1 at in
-    let none : NoneBegins s (stepped w e fate).items = λ node told. open_not d phase.Asking opened (asks.begins node told).1 refl in
-    elim (turn_keys h s before.0 d (stepped w e fate).items key (laws.turns w h e fate s before.0 d tells before.1 at) opened m none) [
+pub keys_later : MachineLaws → (s : ℕ) (v : Move) (old new : List ℕ) → Tells v.state v.history → ((d : Client) → ClientAt (state_after v).clients s d → (c : Client) × ClientAt v.state.clients s c) → KeysKept (Session s) v.state old →
+    ((key : ℕ) → NoneBegins s (items_of v) → key ∈ old → key ∈ new) → ((key : ℕ) → NoneBegins s (items_of v) → WritesKey s (items_of v) key → key ∈ new) → KeysKept (Session s) (state_after v) new
+keys_later laws s v old new tells there kept keeps takes d at opened key m =
+    let before : (c : Client) × ClientAt v.state.clients s c = there d at in
+    let asks : TakesAsks s before.0 (items_of v) d = laws.asks v.state v.history v.event v.fate s before.0 d tells before.1 at in
+    let none : NoneBegins s (items_of v) = λ node told. open_not d phase.Asking opened (asks.begins node told).1 refl in
+    elim (turn_keys v.history s before.0 d (items_of v) key (laws.turns v.state v.history v.event v.fate s before.0 d tells before.1 at) opened m none) [
       | inl was ↦ keeps key none (kept before.0 before.1 was.0 key was.1)
       | inr writes ↦ takes key none writes
     ]

@@ -12,6 +12,7 @@ mod ServedAnswers
 mod ItemLists
 mod SinceAsk
 mod StepItems
+mod Moves
 mod AskFacts
 mod BeginAsks
 mod CommitTrails

@@ -11,10 +11,8 @@ use Rattle.history_book.specs.declared.item.Actor.TheVariants.{Clock, Node, Sess
 use Rattle.history_book.specs.declared.item.StoreStep.TheVariants as step
 use Rattle.history_book.specs.declared.item.Item.{Item}
 use Rattle.history_book.specs.declared.item.Item.TheVariants as item
-use Rattle.machine.specs.declared.event.Event as machine
 use Rattle.machine.specs.declared.event.Event.TheVariants as made
 use Rattle.machine.specs.State.{State}
-use Rattle.machine.specs.Machine.{stepped}
 use Rattle.cause_rules.specs.Asks.{Ask}
 use Rattle.script_data.specs.declared.line.Line.{Line}
 use Rattle.script_data.specs.declared.line.Target.{Target}
@@ -35,10 +33,11 @@ use Rattle.seat_lines.specs.Follows.{first_event}
 use Rattle.seat_lines.specs.Laws.{NamesNode}
 use Rattle.seat_lines.specs.Served.{Begun, Nothing, Reads, Asks, begun_by, begun_after, HasEnded, AnsweredServed}
 use Rattle.seat_lines.proofs.AskFacts.{MachineLaws, if_either}
-use Rattle.seat_lines.proofs.AskPlaces.{Known, client_there, AskStands, Between, between, begin_first, commit_first, stands_later, stands_own, stands_silent, own_says, ask_ended}
+use Rattle.seat_lines.proofs.AskPlaces.{Known, KnownBehind, client_there, AskStands, Between, between, begin_first, CommitAsked, commit_first, stands_later, stands_own, stands_silent, own_says, ask_ended}
 use Rattle.seat_lines.proofs.BeginAsks.{begin_ask}
 use Rattle.seat_lines.proofs.CommitTrails.{commit_ask}
 use Rattle.seat_lines.proofs.KeptKeys.{KeysKept}
+use Rattle.seat_lines.proofs.Moves.{Move, items_of, state_after, history_after}
 use Rattle.seat_lines.proofs.WalkedItems.{still_owed, paid_read}
 
 -- ---- what was begun, after items
@@ -104,28 +103,32 @@ ComesTo actor w h st (Asks s ask since) = OfAsk actor s ask w h since st
 own_none : (actor : Actor) (s : ℕ) (items : List Item) → actor ≡ Session s → AllNot actor items → AllNot (Session s) items
 own_none actor s items own none = subst (λ (a : Actor). AllNot a items) own none
 
--- the numbers of the setup stay
-abbrev pub SetupStays : State → machine.Event → Fate → Type 0
-SetupStays w e fate = (stepped w e fate).state.setup.nodes ≡ w.setup.nodes
+-- what is known before and behind a move; the numbers of the setup stay
+pub record Moved (v : Move) : Type 0 where
+  pub k : Known v.state v.history
+  pub l : KnownBehind v
+  pub setup : (state_after v).setup.nodes ≡ v.state.setup.nodes
 
 -- an event of another log
-asks_past : MachineLaws → (actor : Actor) (s : ℕ) (ask : Ask) (w : State) (h since : List Item) (st : Standing) (e : machine.Event) (fate : Fate) → Known w h → Known (stepped w e fate).state (h ++ (stepped w e fate).items) → SetupStays w e fate → AllNot actor (stepped w e fate).items → OfAsk actor s ask w h since st → OfAsk actor s ask (stepped w e fate).state (h ++ (stepped w e fate).items) (since ++ (stepped w e fate).items) st
-asks_past laws actor s ask w h since st e fate k l setup none of = record {
+asks_past : MachineLaws → (actor : Actor) (s : ℕ) (ask : Ask) (v : Move) (since : List Item) (st : Standing) → Moved v → AllNot actor (items_of v) → OfAsk actor s ask v.state v.history since st → OfAsk actor s ask (state_after v) (history_after v) (since ++ items_of v) st
+asks_past laws actor s ask v since st moved none of = record {
   own = of.own;
   session = of.session;
-  node = subst (λ (n : ℕ). ask.node < n) (sym setup) of.node;
-  stands = stands_later laws s ask.node ask.start w h since e fate st (between s w h e fate of.session k l (own_none actor s (stepped w e fate).items of.own none)) of.stands;
+  node = subst (λ (n : ℕ). ask.node < n) (sym moved.setup) of.node;
+  stands = stands_later laws s ask.node ask.start v since st (between s v of.session moved.k moved.l (own_none actor s (items_of v) of.own none)) of.stands;
 }
 
-pub comes_past : MachineLaws → (actor : Actor) (w : State) (h : List Item) (st : Standing) (begun : Begun) (e : machine.Event) (fate : Fate) → Known w h → Known (stepped w e fate).state (h ++ (stepped w e fate).items) → SetupStays w e fate → AllNot actor (stepped w e fate).items → ComesTo actor w h st begun →
-    ComesTo actor (stepped w e fate).state (h ++ (stepped w e fate).items) st (begun_over actor begun (stepped w e fate).items)
-comes_past laws actor w h st Nothing e fate k l setup none comes = subst (λ (b : Begun). ComesTo actor (stepped w e fate).state (h ++ (stepped w e fate).items) st b) (sym (nothing_over actor (stepped w e fate).items)) tt
-comes_past laws actor w h st (Reads key) e fate k l setup none comes = elim (reads_over actor key (stepped w e fate).items) [
-  | inl over ↦ subst (λ (b : Begun). ComesTo actor (stepped w e fate).state (h ++ (stepped w e fate).items) st b) (sym over) tt
-  | inr still ↦ subst (λ (b : Begun). ComesTo actor (stepped w e fate).state (h ++ (stepped w e fate).items) st b) (sym still) comes
+-- what has come behind a move of what was begun
+abbrev ComesBehind : Actor → Move → Standing → Begun → Type 0
+ComesBehind actor v st begun = ComesTo actor (state_after v) (history_after v) st begun
+
+pub comes_past : MachineLaws → (actor : Actor) (v : Move) (st : Standing) (begun : Begun) → Moved v → AllNot actor (items_of v) → ComesTo actor v.state v.history st begun → ComesBehind actor v st (begun_over actor begun (items_of v))
+comes_past laws actor v st Nothing moved none comes = subst (λ (b : Begun). ComesBehind actor v st b) (sym (nothing_over actor (items_of v))) tt
+comes_past laws actor v st (Reads key) moved none comes = elim (reads_over actor key (items_of v)) [
+  | inl over ↦ subst (λ (b : Begun). ComesBehind actor v st b) (sym over) tt
+  | inr still ↦ subst (λ (b : Begun). ComesBehind actor v st b) (sym still) comes
 ]
-comes_past laws actor w h st (Asks s ask since) e fate k l setup none comes =
-    subst (λ (b : Begun). ComesTo actor (stepped w e fate).state (h ++ (stepped w e fate).items) st b) (sym (asks_over actor s ask since (stepped w e fate).items)) (asks_past laws actor s ask w h since st e fate k l setup none comes)
+comes_past laws actor v st (Asks s ask since) moved none comes = subst (λ (b : Begun). ComesBehind actor v st b) (sym (asks_over actor s ask since (items_of v))) (asks_past laws actor s ask v since st moved none comes)
 
 -- ---- an event of its own that opens no line
 -- the standing behind it
@@ -147,70 +150,84 @@ repeats_is s n (event.Answer node session) [] is =
     record { is = ap (λ (m : ℕ). event.Answer m session) (eqb-true node n both.1) ∙ ap (λ (q : ℕ). event.Answer n q) (eqb-true session s both.0); none = refl }
 repeats_is s n _ _ is = absurd (cc)
 
-answer_node : (s n : ℕ) (start : Option ℕ) (w : State) (h since : List Item) (asked : ℕ) (written unerased : List ℕ) → AskStands s n start w h since (record { owed = Answer asked; written = written; unerased = unerased }) → asked ≡ n
-answer_node s n None w h since asked written unerased stands = stands.comes
-answer_node s n (Some t) w h since asked written unerased stands = stands.comes
+answer_node : (s n : ℕ) (start : Option ℕ) (w : State) (h since : List Item) (asked : ℕ) (st : Standing) → AskStands s n start w h since (record st { owed = Answer asked }) → asked ≡ n
+answer_node s n None w h since asked st stands = stands.comes
+answer_node s n (Some t) w h since asked st stands = stands.comes
 
-repeat_by : (s n : ℕ) (start : Option ℕ) (w : State) (h since : List Item) (e : Event) (items : List Item) (owed : Owed) (written unerased : List ℕ) → (Repeats s n e items → AskStands s n start w h since (record { owed = OwesNothing; written = written; unerased = unerased })) → AskStands s n start w h since (record { owed = owed; written = written; unerased = unerased }) →
-    AskStands s n start w h since (record { owed = after_repeat (Session s) e items owed; written = written; unerased = unerased })
-repeat_by s n start w h since e items (Answer asked) written unerased silent stands =
-    let asked_is : asked ≡ n = answer_node s n start w h since asked written unerased stands in
-    if_either (λ o. AskStands s n start w h since (record { owed = o; written = written; unerased = unerased })) (repeats (Session s) asked e items) OwesNothing (Answer asked)
+repeat_by : (s n : ℕ) (start : Option ℕ) (w : State) (h since : List Item) (e : Event) (items : List Item) (owed : Owed) (st : Standing) → (Repeats s n e items → AskStands s n start w h since (record st { owed = OwesNothing })) → AskStands s n start w h since (record st { owed = owed }) →
+    AskStands s n start w h since (record st { owed = after_repeat (Session s) e items owed })
+repeat_by s n start w h since e items (Answer asked) st silent stands =
+    let asked_is : asked ≡ n = answer_node s n start w h since asked st stands in
+    if_either (λ o. AskStands s n start w h since (record st { owed = o })) (repeats (Session s) asked e items) OwesNothing (Answer asked)
     (λ is. silent (subst (λ (m : ℕ). Repeats s m e items) asked_is (repeats_is s asked e items is))) (λ other. stands)
-repeat_by s n start w h since e items OwesNothing written unerased silent stands = stands
-repeat_by s n start w h since e items (Read key) written unerased silent stands = stands
-repeat_by s n start w h since e items (Removal txn) written unerased silent stands = stands
-repeat_by s n start w h since e items Erasure written unerased silent stands = stands
-repeat_by s n start w h since e items Quiet written unerased silent stands = stands
+repeat_by s n start w h since e items OwesNothing st silent stands = stands
+repeat_by s n start w h since e items (Read key) st silent stands = stands
+repeat_by s n start w h since e items (Removal txn) st silent stands = stands
+repeat_by s n start w h since e items Erasure st silent stands = stands
+repeat_by s n start w h since e items Quiet st silent stands = stands
 
 no_items : (s : ℕ) (steps : Bool) (st : Standing) (items : List Item) → items ≡ [] → with_items (Session s) steps st items ≡ st
 unfolding with_items
 no_items s steps st items none = ap (λ (xs : List Item). with_items (Session s) steps st xs) none
 
-own_stands : MachineLaws → (s n : ℕ) (start : Option ℕ) (w : State) (h since : List Item) (st : Standing) (base : ℕ) (leads : List ℕ) (e : Event) (fate : Fate) → n < w.setup.nodes → Between s w h (timed_at base leads e) fate → AskStands s n start w h since st →
-    AskStands s n start (stepped w (timed_at base leads e) fate).state (h ++ (stepped w (timed_at base leads e) fate).items) (since ++ (stepped w (timed_at base leads e) fate).items) (gone_by (Session s) st e (stepped w (timed_at base leads e) fate).items)
-own_stands laws s n start w h since st base leads e fate less b stands =
-    let made_is : machine.Event = timed_at base leads e in
-    let items : List Item = (stepped w made_is fate).items in
-    let steps : Bool = is_step e in
+-- an event of the log, made in the time of a place of a history
+pub record TimedMove : Type 0 where
+  pub state : State
+  pub history : List Item
+  pub base : ℕ
+  pub leads : List ℕ
+  pub event : Event
+  pub fate : Fate
+
+abbrev pub made_of : TimedMove → Move
+made_of g = record { state = g.state; history = g.history; event = timed_at g.base g.leads g.event; fate = g.fate }
+
+own_stands : MachineLaws → (s n : ℕ) (start : Option ℕ) (g : TimedMove) (since : List Item) (st : Standing) → n < g.state.setup.nodes → Between s (made_of g) → AskStands s n start g.state g.history since st →
+    AskStands s n start (state_after (made_of g)) (history_after (made_of g)) (since ++ items_of (made_of g)) (gone_by (Session s) st g.event (items_of (made_of g)))
+own_stands laws s n start g since st less b stands =
+    let v : Move = made_of g in
+    let items : List Item = items_of v in
+    let steps : Bool = is_step g.event in
     let one : Standing = with_items (Session s) steps st items in
-    let post = found w.nodes n (let many : length w.nodes ≡ w.setup.nodes = b.k.fit.nodes in omega (arith, many, less)) in
-    let behind : AskStands s n start (stepped w made_is fate).state (h ++ items) (since ++ items) one = stands_own laws s n start w h since made_is fate steps st b (λ is x m. let r = step_is base leads e is in own_says s r.0 w h made_is fate b r.1 x m) stands in
-    repeat_by s n start (stepped w made_is fate).state (h ++ items) (since ++ items) e items one.owed one.written one.unerased
-    (λ k. subst (λ (z : Standing). AskStands s n start (stepped w made_is fate).state (h ++ items) (since ++ items) (record z { owed = OwesNothing })) (sym (no_items s steps st items k.none))
-    (stands_silent laws s n start w h since made_is fate post.0 st b post.1 (ap (λ (x : Event). timed_at base leads x) k.is) k.none stands))
+    let post = found g.state.nodes n (let many : length g.state.nodes ≡ g.state.setup.nodes = b.k.fit.nodes in omega (arith, many, less)) in
+    let behind : AskStands s n start (state_after v) (history_after v) (since ++ items) one = stands_own laws s n start v since steps st b (λ is x m. let r = step_is g.base g.leads g.event is in own_says s r.0 v b r.1 x m) stands in
+    repeat_by s n start (state_after v) (history_after v) (since ++ items) g.event items one.owed one
+    (λ k. subst (λ (z : Standing). AskStands s n start (state_after v) (history_after v) (since ++ items) (record z { owed = OwesNothing })) (sym (no_items s steps st items k.none))
+    (stands_silent laws s n start v since st b (record { post = post.0; here = post.1; answer = ap (λ (x : Event). timed_at g.base g.leads x) k.is; none = k.none }) stands))
     behind
 
 -- ---- an event of its own
 read_stays : (actor : Actor) (e : Event) (items : List Item) (owed : Owed) (key : ℕ) → owed ≡ Read key → after_repeat actor e items owed ≡ Read key
 read_stays actor e items owed key is = ap (λ (o : Owed). after_repeat actor e items o) is
 
-asks_on : MachineLaws → (actor : Actor) (s : ℕ) (ask : Ask) (w : State) (h since : List Item) (st : Standing) (base : ℕ) (leads : List ℕ) (e : Event) (fate : Fate) → Known w h → Known (stepped w (timed_at base leads e) fate).state (h ++ (stepped w (timed_at base leads e) fate).items) → SetupStays w (timed_at base leads e) fate → AllNot actor (stepped w (timed_at base leads e) fate).items → OfAsk actor s ask w h since st →
-    OfAsk actor s ask (stepped w (timed_at base leads e) fate).state (h ++ (stepped w (timed_at base leads e) fate).items) (since ++ (stepped w (timed_at base leads e) fate).items) (gone_by actor st e (stepped w (timed_at base leads e) fate).items)
-asks_on laws actor s ask w h since st base leads e fate k l setup none of =
-    let items : List Item = (stepped w (timed_at base leads e) fate).items in
+asks_on : MachineLaws → (actor : Actor) (s : ℕ) (ask : Ask) (g : TimedMove) (since : List Item) (st : Standing) → Moved (made_of g) → AllNot actor (items_of (made_of g)) → OfAsk actor s ask g.state g.history since st →
+    OfAsk actor s ask (state_after (made_of g)) (history_after (made_of g)) (since ++ items_of (made_of g)) (gone_by actor st g.event (items_of (made_of g)))
+asks_on laws actor s ask g since st moved none of =
+    let v : Move = made_of g in
+    let items : List Item = items_of v in
     record {
       own = of.own;
       session = of.session;
-      node = subst (λ (n : ℕ). ask.node < n) (sym setup) of.node;
-      stands = subst (λ (a : Actor). AskStands s ask.node ask.start (stepped w (timed_at base leads e) fate).state (h ++ items) (since ++ items) (gone_by a st e items)) (sym of.own)
-          (own_stands laws s ask.node ask.start w h since st base leads e fate of.node (between s w h (timed_at base leads e) fate of.session k l (own_none actor s items of.own none)) of.stands);
+      node = subst (λ (n : ℕ). ask.node < n) (sym moved.setup) of.node;
+      stands = subst (λ (a : Actor). AskStands s ask.node ask.start (state_after v) (history_after v) (since ++ items) (gone_by a st g.event items)) (sym of.own)
+          (own_stands laws s ask.node ask.start g since st of.node (between s v of.session moved.k moved.l (own_none actor s items of.own none)) of.stands);
     }
 
-pub comes_on : MachineLaws → (actor : Actor) (w : State) (h : List Item) (st : Standing) (begun : Begun) (base : ℕ) (leads : List ℕ) (e : Event) (fate : Fate) → Known w h → Known (stepped w (timed_at base leads e) fate).state (h ++ (stepped w (timed_at base leads e) fate).items) → SetupStays w (timed_at base leads e) fate → AllNot actor (stepped w (timed_at base leads e) fate).items → ComesTo actor w h st begun →
-    ComesTo actor (stepped w (timed_at base leads e) fate).state (h ++ (stepped w (timed_at base leads e) fate).items) (gone_by actor st e (stepped w (timed_at base leads e) fate).items) (begun_over actor begun (stepped w (timed_at base leads e) fate).items)
-comes_on laws actor w h st Nothing base leads e fate k l setup none comes =
-    let items : List Item = (stepped w (timed_at base leads e) fate).items in
-    subst (λ (b : Begun). ComesTo actor (stepped w (timed_at base leads e) fate).state (h ++ items) (gone_by actor st e items) b) (sym (nothing_over actor items)) tt
-comes_on laws actor w h st (Reads key) base leads e fate k l setup none comes =
-    let items : List Item = (stepped w (timed_at base leads e) fate).items in
-    elim (reads_own actor (is_step e) key st items comes) [
-      | inl over ↦ subst (λ (b : Begun). ComesTo actor (stepped w (timed_at base leads e) fate).state (h ++ items) (gone_by actor st e items) b) (sym over) tt
-      | inr still ↦ subst (λ (b : Begun). ComesTo actor (stepped w (timed_at base leads e) fate).state (h ++ items) (gone_by actor st e items) b) (sym still.0) (read_stays actor e items (with_items actor (is_step e) st items).owed key still.1)
+pub comes_on : MachineLaws → (actor : Actor) (g : TimedMove) (st : Standing) (begun : Begun) → Moved (made_of g) → AllNot actor (items_of (made_of g)) → ComesTo actor g.state g.history st begun →
+    ComesBehind actor (made_of g) (gone_by actor st g.event (items_of (made_of g))) (begun_over actor begun (items_of (made_of g)))
+comes_on laws actor g st Nothing moved none comes =
+    let items : List Item = items_of (made_of g) in
+    subst (λ (b : Begun). ComesBehind actor (made_of g) (gone_by actor st g.event items) b) (sym (nothing_over actor items)) tt
+comes_on laws actor g st (Reads key) moved none comes =
+    let v : Move = made_of g in
+    let items : List Item = items_of v in
+    elim (reads_own actor (is_step g.event) key st items comes) [
+      | inl over ↦ subst (λ (b : Begun). ComesBehind actor v (gone_by actor st g.event items) b) (sym over) tt
+      | inr still ↦ subst (λ (b : Begun). ComesBehind actor v (gone_by actor st g.event items) b) (sym still.0) (read_stays actor g.event items (with_items actor (is_step g.event) st items).owed key still.1)
     ]
-comes_on laws actor w h st (Asks s ask since) base leads e fate k l setup none comes =
-    let items : List Item = (stepped w (timed_at base leads e) fate).items in
-    subst (λ (b : Begun). ComesTo actor (stepped w (timed_at base leads e) fate).state (h ++ items) (gone_by actor st e items) b) (sym (asks_over actor s ask since items)) (asks_on laws actor s ask w h since st base leads e fate k l setup none comes)
+comes_on laws actor g st (Asks s ask since) moved none comes =
+    let items : List Item = items_of (made_of g) in
+    subst (λ (b : Begun). ComesBehind actor (made_of g) (gone_by actor st g.event items) b) (sym (asks_over actor s ask since items)) (asks_on laws actor s ask g since st moved none comes)
 
 -- ---- once nothing is owed
 pub has_ended : (actor : Actor) (w : State) (h : List Item) (st : Standing) (begun : Begun) → ComesTo actor w h st begun → is_paid st ≡ true → HasEnded h begun
@@ -291,62 +308,74 @@ read_opened actor key w h st first rest items is = nothing_opened actor (verb.Re
 one_alone : (x y : Item) (rest : List Item) → y ∷ rest ≡ x ∷ [] → rest ≡ []
 one_alone x y rest is = cc
 
-begin_opened : MachineLaws → (actor : Actor) (to : Target) (w : State) (h : List Item) (st : Standing) (session node : ℕ) (rest : List Item) (e : machine.Event) (fate : Fate) → Known w h → Known (stepped w e fate).state (h ++ (stepped w e fate).items) → SetupStays w e fate → ActorFits w.setup actor → TargetFits w.setup to → NamesNode to →
-    IsAnswer (asks_last h) actor (verb.Begin to) (item.AskBegin session node) → (stepped w e fate).items ≡ item.AskBegin session node ∷ rest → Opened actor (verb.Begin to) (stepped w e fate).state h st (item.AskBegin session node) rest (stepped w e fate).items
+-- the first event of a line, with the item that answers the line and those behind it
+pub record OpensLine (actor : Actor) (line : Verb) (st : Standing) (first : Item) (rest : List Item) (own : Event) (v : Move) : Type 0 where
+  pub moved : Moved v
+  pub fits : ActorFits v.state.setup actor
+  pub asks : VerbFits v.state.setup line
+  pub begins : first_event actor line ≡ Some own
+  pub kept : KeysKept actor v.state st.written
+  pub answers : IsAnswer (asks_last v.history) actor line first
+  pub is : items_of v ≡ first ∷ rest
+
+-- what the line has begun behind it
+abbrev OpenedBehind : Actor → Verb → Standing → Item → List Item → Move → Type 0
+OpenedBehind actor line st first rest v = Opened actor line (state_after v) v.history st first rest (items_of v)
+
+begin_opened : MachineLaws → (actor : Actor) (to : Target) (st : Standing) (session node : ℕ) (rest : List Item) (own : Event) (v : Move) → OpensLine actor (verb.Begin to) st (item.AskBegin session node) rest own v → OpenedBehind actor (verb.Begin to) st (item.AskBegin session node) rest v
 unfolding ◌∈◌ with_items begun_over
-begin_opened laws actor to w h st session node rest e fate k l setup fits target names answers is =
-    let v : State = (stepped w e fate).state in
+begin_opened laws actor to st session node rest own v o =
+    let w : State = v.state in
+    let h : List Item = v.history in
     let x : Item = item.AskBegin session node in
-    let answer : (actor ≡ Session session) × asks_last h to node = begin_answer h actor to session node answers in
-    let less : session < 16 = subst (λ (a : Actor). ActorFits w.setup a) answer.0 fits in
-    let c = client_there w h session k less in
-    let d = client_there v (h ++ (stepped w e fate).items) session l less in
-    let told : x ∈ (stepped w e fate).items = subst (λ (xs : List Item). x ∈ xs) (sym is) (inl refl) in
-    let takes = (laws.asks w h e fate session c.0 d.0 k.tells c.1 d.1).begins node told in
-    let none : rest ≡ [] = one_alone x x rest (sym is ∙ takes.2) in
-    let of : OfAsk actor session (begin_ask node) v (h ++ x ∷ []) [] (standing_with actor false st x (Answer node)) = record {
+    let answer : (actor ≡ Session session) × asks_last h to node = begin_answer h actor to session node o.answers in
+    let less : session < 16 = subst (λ (a : Actor). ActorFits w.setup a) answer.0 o.fits in
+    let c = client_there w h session o.moved.k less in
+    let d = client_there (state_after v) (history_after v) session o.moved.l less in
+    let told : x ∈ items_of v = subst (λ (xs : List Item). x ∈ xs) (sym o.is) (inl refl) in
+    let takes = (laws.asks w h v.event v.fate session c.0 d.0 o.moved.k.tells c.1 d.1).begins node told in
+    let none : rest ≡ [] = one_alone x x rest (sym o.is ∙ takes.2) in
+    let of : OfAsk actor session (begin_ask node) (state_after v) (h ++ x ∷ []) [] (standing_with actor false st x (Answer node)) = record {
       own = answer.0;
       session = less;
-      node = subst (λ (n : ℕ). node < n) (sym setup) (node_fits h w.setup to node names answer.1 target);
+      node = subst (λ (n : ℕ). node < n) (sym o.moved.setup) (node_fits h w.setup to node (begin_names actor to own o.begins) answer.1 o.asks);
       stands = begin_first session node h;
     } in
-    subst (λ (xs : List Item). Opened actor (verb.Begin to) v h st x xs (stepped w e fate).items) (sym none) (subst (λ (xs : List Item). Opened actor (verb.Begin to) v h st x [] xs) (sym takes.2) of)
+    subst (λ (xs : List Item). OpenedBehind actor (verb.Begin to) st x xs v) (sym none) (subst (λ (xs : List Item). Opened actor (verb.Begin to) (state_after v) h st x [] xs) (sym takes.2) of)
 
-commit_opened : MachineLaws → (actor : Actor) (to : Target) (w : State) (h : List Item) (st : Standing) (session node start : ℕ) (rest : List Item) (e : machine.Event) (fate : Fate) → Known w h → Known (stepped w e fate).state (h ++ (stepped w e fate).items) → SetupStays w e fate → ActorFits w.setup actor → TargetFits w.setup to → NamesNode to → KeysKept actor w st.written →
-    IsAnswer (asks_last h) actor (verb.Commit to) (item.AskCommit session node start) → (stepped w e fate).items ≡ item.AskCommit session node start ∷ rest → Opened actor (verb.Commit to) (stepped w e fate).state h st (item.AskCommit session node start) rest (stepped w e fate).items
+commit_opened : MachineLaws → (actor : Actor) (to : Target) (st : Standing) (session node start : ℕ) (rest : List Item) (own : Event) (v : Move) → OpensLine actor (verb.Commit to) st (item.AskCommit session node start) rest own v → OpenedBehind actor (verb.Commit to) st (item.AskCommit session node start) rest v
 unfolding ◌∈◌ with_items begun_over
-commit_opened laws actor to w h st session node start rest e fate k l setup fits target names kept answers is =
-    let v : State = (stepped w e fate).state in
+commit_opened laws actor to st session node start rest own v o =
+    let w : State = v.state in
+    let h : List Item = v.history in
     let x : Item = item.AskCommit session node start in
-    let answer : (actor ≡ Session session) × asks_last h to node = commit_answer h actor to session node start answers in
-    let less : session < 16 = subst (λ (a : Actor). ActorFits w.setup a) answer.0 fits in
-    let c = client_there w h session k less in
-    let d = client_there v (h ++ (stepped w e fate).items) session l less in
-    let told : x ∈ (stepped w e fate).items = subst (λ (xs : List Item). x ∈ xs) (sym is) (inl refl) in
-    let takes = (laws.asks w h e fate session c.0 d.0 k.tells c.1 d.1).commits node start told in
-    let none : rest ≡ [] = one_alone x x rest (sym is ∙ takes.4) in
-    let now : Known v (h ++ x ∷ []) = subst (λ (xs : List Item). Known v (h ++ xs)) takes.4 l in
-    let of : OfAsk actor session (commit_ask node start) v (h ++ x ∷ []) [] (standing_with actor false st x (Answer node)) = record {
+    let answer : (actor ≡ Session session) × asks_last h to node = commit_answer h actor to session node start o.answers in
+    let less : session < 16 = subst (λ (a : Actor). ActorFits w.setup a) answer.0 o.fits in
+    let c = client_there w h session o.moved.k less in
+    let d = client_there (state_after v) (history_after v) session o.moved.l less in
+    let told : x ∈ items_of v = subst (λ (xs : List Item). x ∈ xs) (sym o.is) (inl refl) in
+    let takes = (laws.asks w h v.event v.fate session c.0 d.0 o.moved.k.tells c.1 d.1).commits node start told in
+    let none : rest ≡ [] = one_alone x x rest (sym o.is ∙ takes.4) in
+    let now : Known (state_after v) (h ++ x ∷ []) = subst (λ (xs : List Item). Known (state_after v) (h ++ xs)) takes.4 o.moved.l in
+    let asked : CommitAsked session node start w (state_after v) h c.0 d.0 = record { k = o.moved.k; l = now; at = c.1; there = d.1; was = takes.0; now = takes.1; old = takes.2; new = takes.3 } in
+    let of : OfAsk actor session (commit_ask node start) (state_after v) (h ++ x ∷ []) [] (standing_with actor false st x (Answer node)) = record {
       own = answer.0;
       session = less;
-      node = subst (λ (n : ℕ). node < n) (sym setup) (node_fits h w.setup to node names answer.1 target);
-      stands = commit_first session node start w v h c.0 d.0 (standing_with actor false st x (Answer node)) k now c.1 d.1 takes.0 takes.1 takes.2 takes.3 (subst (λ (a : Actor). KeysKept a w st.written) answer.0 kept) refl;
+      node = subst (λ (n : ℕ). node < n) (sym o.moved.setup) (node_fits h w.setup to node (commit_names actor to own o.begins) answer.1 o.asks);
+      stands = commit_first session node start w (state_after v) h c.0 d.0 (standing_with actor false st x (Answer node)) asked (subst (λ (a : Actor). KeysKept a w st.written) answer.0 o.kept) refl;
     } in
-    subst (λ (xs : List Item). Opened actor (verb.Commit to) v h st x xs (stepped w e fate).items) (sym none) (subst (λ (xs : List Item). Opened actor (verb.Commit to) v h st x [] xs) (sym takes.4) of)
+    subst (λ (xs : List Item). OpenedBehind actor (verb.Commit to) st x xs v) (sym none) (subst (λ (xs : List Item). Opened actor (verb.Commit to) (state_after v) h st x [] xs) (sym takes.4) of)
 
-begin_line : MachineLaws → (actor : Actor) (to : Target) (w : State) (h : List Item) (st : Standing) (first : Item) (rest : List Item) (e : machine.Event) (fate : Fate) → Known w h → Known (stepped w e fate).state (h ++ (stepped w e fate).items) → SetupStays w e fate → ActorFits w.setup actor → TargetFits w.setup to → NamesNode to →
-    IsAnswer (asks_last h) actor (verb.Begin to) first → (stepped w e fate).items ≡ first ∷ rest → Opened actor (verb.Begin to) (stepped w e fate).state h st first rest (stepped w e fate).items
-begin_line laws actor to w h st (item.AskBegin session node) rest e fate k l setup fits target names answers is = begin_opened laws actor to w h st session node rest e fate k l setup fits target names answers is
-begin_line laws actor to w h st first rest e fate k l setup fits target names answers is = nothing_opened actor (verb.Begin to) (stepped w e fate).state h st first rest (stepped w e fate).items refl
+begin_line : MachineLaws → (actor : Actor) (to : Target) (st : Standing) (first : Item) (rest : List Item) (own : Event) (v : Move) → OpensLine actor (verb.Begin to) st first rest own v → OpenedBehind actor (verb.Begin to) st first rest v
+begin_line laws actor to st (item.AskBegin session node) rest own v o = begin_opened laws actor to st session node rest own v o
+begin_line laws actor to st first rest own v o = nothing_opened actor (verb.Begin to) (state_after v) v.history st first rest (items_of v) refl
 
-commit_line : MachineLaws → (actor : Actor) (to : Target) (w : State) (h : List Item) (st : Standing) (first : Item) (rest : List Item) (e : machine.Event) (fate : Fate) → Known w h → Known (stepped w e fate).state (h ++ (stepped w e fate).items) → SetupStays w e fate → ActorFits w.setup actor → TargetFits w.setup to → NamesNode to → KeysKept actor w st.written →
-    IsAnswer (asks_last h) actor (verb.Commit to) first → (stepped w e fate).items ≡ first ∷ rest → Opened actor (verb.Commit to) (stepped w e fate).state h st first rest (stepped w e fate).items
-commit_line laws actor to w h st (item.AskCommit session node start) rest e fate k l setup fits target names kept answers is = commit_opened laws actor to w h st session node start rest e fate k l setup fits target names kept answers is
-commit_line laws actor to w h st first rest e fate k l setup fits target names kept answers is = nothing_opened actor (verb.Commit to) (stepped w e fate).state h st first rest (stepped w e fate).items refl
+commit_line : MachineLaws → (actor : Actor) (to : Target) (st : Standing) (first : Item) (rest : List Item) (own : Event) (v : Move) → OpensLine actor (verb.Commit to) st first rest own v → OpenedBehind actor (verb.Commit to) st first rest v
+commit_line laws actor to st (item.AskCommit session node start) rest own v o = commit_opened laws actor to st session node start rest own v o
+commit_line laws actor to st first rest own v o = nothing_opened actor (verb.Commit to) (state_after v) v.history st first rest (items_of v) refl
 
-pub comes_open : MachineLaws → (actor : Actor) (line : Verb) (w : State) (h : List Item) (st : Standing) (first : Item) (rest : List Item) (own : Event) (e : machine.Event) (fate : Fate) → Known w h → Known (stepped w e fate).state (h ++ (stepped w e fate).items) → SetupStays w e fate → ActorFits w.setup actor → VerbFits w.setup line → first_event actor line ≡ Some own → KeysKept actor w st.written →
-    IsAnswer (asks_last h) actor line first → (stepped w e fate).items ≡ first ∷ rest → Opened actor line (stepped w e fate).state h st first rest (stepped w e fate).items
-comes_open laws actor (verb.Read key) w h st first rest own e fate k l setup fits asks begins kept answers is = read_opened actor key (stepped w e fate).state h st first rest (stepped w e fate).items is
-comes_open laws actor (verb.Begin to) w h st first rest own e fate k l setup fits asks begins kept answers is = begin_line laws actor to w h st first rest e fate k l setup fits asks (begin_names actor to own begins) answers is
-comes_open laws actor (verb.Commit to) w h st first rest own e fate k l setup fits asks begins kept answers is = commit_line laws actor to w h st first rest e fate k l setup fits asks (commit_names actor to own begins) kept answers is
-comes_open laws actor line w h st first rest own e fate k l setup fits asks begins kept answers is = nothing_opened actor line (stepped w e fate).state h st first rest (stepped w e fate).items refl
+pub comes_open : MachineLaws → (actor : Actor) (line : Verb) (st : Standing) (first : Item) (rest : List Item) (own : Event) (v : Move) → OpensLine actor line st first rest own v → OpenedBehind actor line st first rest v
+comes_open laws actor (verb.Read key) st first rest own v o = read_opened actor key (state_after v) v.history st first rest (items_of v) o.is
+comes_open laws actor (verb.Begin to) st first rest own v o = begin_line laws actor to st first rest own v o
+comes_open laws actor (verb.Commit to) st first rest own v o = commit_line laws actor to st first rest own v o
+comes_open laws actor line st first rest own v o = nothing_opened actor line (state_after v) v.history st first rest (items_of v) refl

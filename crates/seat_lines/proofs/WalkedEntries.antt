@@ -63,9 +63,26 @@ open_kept script actor p line e good here own first =
     (line_answered (asks_last p.items) clocks w p.items line.actor line.verb (view_of w line.actor) made (fate_of script p made) good.told.reached.stands good.fit in_range asks (master_fits script p good) (asks_it script p) own.opening (first_is clocks line.actor line.verb (view_of w line.actor) e.event mine).next_is)
 
 -- ---- all entries
+-- a place of the walk: what has been played, the first of the entries that are left, the others, and those among these that are left of the actor's log
+pub record WalkAt : Type 0 where
+  pub script : ScriptData
+  pub actor : Actor
+  pub played : Played
+  pub entry : Entry
+  pub entries : List Entry
+  pub own : List Entry
+
+-- what is played behind the entry, and what is left before it
+abbrev pub played_after : WalkAt → Played
+played_after a = played_with a.script a.played a.entry.event
+
+abbrev pub left_of : WalkAt → List Item
+left_of a = kept_items (a.entry ∷ a.entries)
+
 -- what is walked over the items of the first, and from there to the end
-walk_on : (script : ScriptData) (actor : Actor) (p : Played) (e : Entry) (es : List Entry) (begun then : Option ℕ) (lines rest : List Line) → IsReplayed script p e → ((later : List Item) → Answered asks_last actor (p.items ++ e.kept.items) then rest later → Answered asks_last actor p.items begun lines (e.kept.items ++ later)) → Answered asks_last actor (played_with script p e.event).items then rest (kept_items es) → Answered asks_last actor p.items begun lines (kept_items (e ∷ es))
-walk_on script actor p e es begun then lines rest here walks later = walks (kept_items es) (subst (λ (xs : List Item). Answered asks_last actor (p.items ++ xs) then rest (kept_items es)) (sym here) later)
+walk_on : (a : WalkAt) (begun then : Option ℕ) (lines rest : List Line) → IsReplayed a.script a.played a.entry → ((later : List Item) → Answered asks_last a.actor (a.played.items ++ a.entry.kept.items) then rest later → Answered asks_last a.actor a.played.items begun lines (a.entry.kept.items ++ later)) → Answered asks_last a.actor (played_after a).items then rest (kept_items a.entries) →
+    Answered asks_last a.actor a.played.items begun lines (left_of a)
+walk_on a begun then lines rest here walks later = walks (kept_items a.entries) (subst (λ (xs : List Item). Answered asks_last a.actor (a.played.items ++ xs) then rest (kept_items a.entries)) (sym here) later)
 
 at_end : (actor : Actor) (h : List Item) (begun : Option ℕ) (st : Standing) (lines : List Line) → IsOwed begun st.owed → Follows actor st lines [] → Answered asks_last actor h begun lines []
 unfolding Answered Follows
@@ -75,33 +92,46 @@ at_end actor h begun st lines owed follows = subst (λ (b : Option ℕ). Answere
 abbrev pub Answers : ScriptData → Actor → List Entry → List Entry → Played → Type 0
 Answers script actor own es p = (st : Standing) (begun : Option ℕ) (lines : List Line) → AreOwn script.setup actor lines → Follows actor st lines own → IsOwed begun st.owed → Answered asks_last actor p.items begun lines (kept_items es)
 
-other_step : (script : ScriptData) (actor : Actor) (p : Played) (own : List Entry) (e : Entry) (es : List Entry) → IsGood script p → IsReplayed script p e → IsOther script.setup actor e.event → Answers script actor own es (played_with script p e.event) → Answers script actor own (e ∷ es) p
-other_step script actor p own e es good here other later st begun lines are_own follows owed =
-    let k : Walked actor p.items e.kept.items begun lines lines st.owed = walked_past actor p.items e.kept.items begun lines st.owed (other_kept script actor p e good here other) owed in
-    walk_on script actor p e es begun k.then lines lines here k.walks (later st k.then lines are_own follows k.is_owed)
+-- what is known of a place of the walk: it is good, its entry is replayed, and the rest answers
+record Stands (a : WalkAt) : Type 0 where
+  pub good : IsGood a.script a.played
+  pub here : IsReplayed a.script a.played a.entry
+  pub later : Answers a.script a.actor a.own a.entries (played_after a)
 
-go_step : (script : ScriptData) (actor : Actor) (p : Played) (own : List Entry) (e : Entry) (es : List Entry) (st : Standing) (begun : Option ℕ) (lines : List Line) → IsReplayed script p e → Answers script actor own es (played_with script p e.event) → AreOwn script.setup actor lines → opener e.event ≡ None → Follows actor (gone_on actor st e) lines own → IsOwed begun st.owed → Answered asks_last actor p.items begun lines (kept_items (e ∷ es))
-go_step script actor p own e es st begun lines here later are_own none follows owed =
-    let k : Walked actor p.items e.kept.items begun lines lines (gone_on actor st e).owed = walked_on actor p.items begun st lines e (plain_kept script actor p e here none) owed in
-    walk_on script actor p e es begun k.then lines lines here k.walks (later (gone_on actor st e) k.then lines are_own follows k.is_owed)
+other_step : (a : WalkAt) → Stands a → IsOther a.script.setup a.actor a.entry.event → Answers a.script a.actor a.own (a.entry ∷ a.entries) a.played
+other_step a at other st begun lines are_own follows owed =
+    let k : Walked a.actor a.played.items a.entry.kept.items begun lines lines st.owed = walked_past a.actor a.played.items a.entry.kept.items begun lines st.owed (other_kept a.script a.actor a.played a.entry at.good at.here other) owed in
+    walk_on a begun k.then lines lines at.here k.walks (at.later st k.then lines are_own follows k.is_owed)
 
-open_step : (script : ScriptData) (actor : Actor) (p : Played) (own : List Entry) (e : Entry) (es : List Entry) (st : Standing) (begun : Option ℕ) (line : Line) (lines : List Line) → IsGood script p → IsReplayed script p e → Answers script actor own es (played_with script p e.event) → OwnLine script.setup actor line → AreOwn script.setup actor lines → is_paid st ≡ true → first_event actor line.verb ≡ Some e.event → Follows actor (opened actor line.verb st e.kept.items) lines own → IsOwed begun st.owed → Answered asks_last actor p.items begun (line ∷ lines) (kept_items (e ∷ es))
-open_step script actor p own e es st begun line lines good here later mine are_own paid first follows owed =
-    let now : Standing = opened actor line.verb st e.kept.items in
-    let k : Walked actor p.items e.kept.items None (line ∷ lines) lines now.owed = walked_open actor p.items st line lines e.kept.items (open_kept script actor p line e good here mine first) in
-    let from : Answered asks_last actor p.items None (line ∷ lines) (kept_items (e ∷ es)) = walk_on script actor p e es None k.then (line ∷ lines) lines here k.walks (later now k.then lines are_own follows k.is_owed) in
-    subst (λ (b : Option ℕ). Answered asks_last actor p.items b (line ∷ lines) (kept_items (e ∷ es))) (sym (none_begun begun st owed paid)) from
+go_step : (a : WalkAt) (st : Standing) (begun : Option ℕ) (lines : List Line) → Stands a → AreOwn a.script.setup a.actor lines → opener a.entry.event ≡ None → Follows a.actor (gone_on a.actor st a.entry) lines a.own → IsOwed begun st.owed → Answered asks_last a.actor a.played.items begun lines (left_of a)
+go_step a st begun lines at are_own none follows owed =
+    let now : Standing = gone_on a.actor st a.entry in
+    let k : Walked a.actor a.played.items a.entry.kept.items begun lines lines now.owed = walked_on a.actor a.played.items begun st lines a.entry (plain_kept a.script a.actor a.played a.entry at.here none) owed in
+    walk_on a begun k.then lines lines at.here k.walks (at.later now k.then lines are_own follows k.is_owed)
 
-own_step : (script : ScriptData) (actor : Actor) (p : Played) (own : List Entry) (e : Entry) (es : List Entry) → IsGood script p → IsReplayed script p e → Answers script actor own es (played_with script p e.event) → Answers script actor (e ∷ own) (e ∷ es) p
+open_step : (a : WalkAt) (st : Standing) (begun : Option ℕ) (line : Line) (lines : List Line) → Stands a → OwnLine a.script.setup a.actor line → AreOwn a.script.setup a.actor lines → is_paid st ≡ true → first_event a.actor line.verb ≡ Some a.entry.event → Follows a.actor (opened a.actor line.verb st a.entry.kept.items) lines a.own → IsOwed begun st.owed →
+    Answered asks_last a.actor a.played.items begun (line ∷ lines) (left_of a)
+open_step a st begun line lines at mine are_own paid first follows owed =
+    let items : List Item = a.entry.kept.items in
+    let now : Standing = opened a.actor line.verb st items in
+    let k : Walked a.actor a.played.items items None (line ∷ lines) lines now.owed = walked_open a.actor a.played.items st line lines items (open_kept a.script a.actor a.played line a.entry at.good at.here mine first) in
+    let from : Answered asks_last a.actor a.played.items None (line ∷ lines) (left_of a) = walk_on a None k.then (line ∷ lines) lines at.here k.walks (at.later now k.then lines are_own follows k.is_owed) in
+    subst (λ (b : Option ℕ). Answered asks_last a.actor a.played.items b (line ∷ lines) (left_of a)) (sym (none_begun begun st owed paid)) from
+
+own_step : (a : WalkAt) → Stands a → Answers a.script a.actor (a.entry ∷ a.own) (a.entry ∷ a.entries) a.played
 unfolding Follows AreOwn
-own_step script actor p own e es good here later st begun [] are_own follows owed = go_step script actor p own e es st begun [] here later are_own follows.0 follows.1 owed
-own_step script actor p own e es good here later st begun (line ∷ lines) are_own (inl on) owed = go_step script actor p own e es st begun (line ∷ lines) here later are_own on.0 on.1 owed
-own_step script actor p own e es good here later st begun (line ∷ lines) are_own (inr k) owed = open_step script actor p own e es st begun line lines good here later are_own.0 are_own.1 k.0 k.1 k.2 owed
+own_step a at st begun [] are_own follows owed = go_step a st begun [] at are_own follows.0 follows.1 owed
+own_step a at st begun (line ∷ lines) are_own (inl on) owed = go_step a st begun (line ∷ lines) at are_own on.0 on.1 owed
+own_step a at st begun (line ∷ lines) are_own (inr k) owed = open_step a st begun line lines at are_own.0 are_own.1 k.0 k.1 k.2 owed
+
+-- the place before the first entry
+abbrev pub walk_at : ScriptData → Actor → Played → Entry → List Entry → List Entry → WalkAt
+walk_at script actor p e es own = record { script = script; actor = actor; played = p; entry = e; entries = es; own = own }
 
 pub entries_answer : (script : ScriptData) (actor : Actor) (own es : List Entry) (p : Played) → AllMade script es p → Woven (λ e. IsOther script.setup actor e.event) own es → Answers script actor own es p
 unfolding AllMade Woven
 entries_answer script actor own [] p made woven = λ st begun lines are_own follows owed. at_end actor p.items begun st lines owed (subst (λ (xs : List Entry). Follows actor st lines xs) woven follows)
-entries_answer script actor [] (e ∷ es) p made woven = other_step script actor p [] e es made.0 made.1 woven.0 (entries_answer script actor [] es (played_with script p e.event) made.2 woven.1)
+entries_answer script actor [] (e ∷ es) p made woven = other_step (walk_at script actor p e es []) (record { good = made.0; here = made.1; later = entries_answer script actor [] es (played_with script p e.event) made.2 woven.1 }) woven.0
 entries_answer script actor (o ∷ own) (e ∷ es) p made (inl mine) =
-    subst (λ (x : Entry). Answers script actor (x ∷ own) (e ∷ es) p) mine.0 (own_step script actor p own e es made.0 made.1 (entries_answer script actor own es (played_with script p e.event) made.2 mine.1))
-entries_answer script actor (o ∷ own) (e ∷ es) p made (inr other) = other_step script actor p (o ∷ own) e es made.0 made.1 other.0 (entries_answer script actor (o ∷ own) es (played_with script p e.event) made.2 other.1)
+    subst (λ (x : Entry). Answers script actor (x ∷ own) (e ∷ es) p) mine.0 (own_step (walk_at script actor p e es own) (record { good = made.0; here = made.1; later = entries_answer script actor own es (played_with script p e.event) made.2 mine.1 }))
+entries_answer script actor (o ∷ own) (e ∷ es) p made (inr other) = other_step (walk_at script actor p e es (o ∷ own)) (record { good = made.0; here = made.1; later = entries_answer script actor (o ∷ own) es (played_with script p e.event) made.2 other.1 }) other.0
