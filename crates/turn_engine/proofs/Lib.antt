@@ -3,6 +3,7 @@ pub mod Silent
 pub mod Steady
 pub mod Quiet
 pub mod TurnMade
+mod Kept
 pub mod Places
 pub mod Sitting
 pub mod Stopping

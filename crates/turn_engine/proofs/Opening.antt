@@ -1,17 +1,14 @@
 -- What a script run keeps before its first turn.
 use Rattle.std.proofs.Common.{◌≡◌, ℕ, ◌+◌, ◌≤◌, ◌^◌, Bool, false, List, [], All, length, get_or, refl, sym, ◌∙◌, ap, subst, arith}
-use Rattle.std.specs.Prelude.{map, replicate, slice_get, slice_index_or}
-use Rattle.std.proofs.lemmas.List.Elements.{All-nil, All-weaker}
+use Rattle.std.specs.Prelude.{map, replicate, slice_index_or}
+use Rattle.std.proofs.lemmas.List.Elements.{All-weaker}
 use Rattle.std.proofs.lemmas.Option.{none-some}
-use Rattle.stamp_base.specs.declared.stores.Store.{Store}
-use Rattle.port_io.specs.declared.weather.Fate.{Fate}
 use Rattle.script_data.specs.declared.line.Line.{Line}
 use Rattle.script_data.specs.Data.{ScriptData, IsSound}
 use Rattle.line_steps.specs.Clocks.{HaveRoom}
 use Rattle.line_steps.specs.Laws.{AreLinesOf}
 use Rattle.line_steps.specs.Next.{Clocks}
 use Rattle.line_steps.specs.Runs.{opening_played}
-use Rattle.cluster_core.specs.Whole.{Whole}
 use Rattle.planned_cluster.specs.Fitting.{SessionIsThere}
 use Rattle.planned_cluster.specs.Standing.{StandsAt, clocks_at}
 use Rattle.planned_cluster.proofs.Clocks.{clocks_there}
@@ -20,13 +17,12 @@ use Rattle.turn_rules.specs.declared.seat.Holds.{Holds}
 use Rattle.turn_rules.specs.declared.turn.Turn.{Turn}
 use Rattle.turn_rules.specs.Carried.{at_first, carried, none_held}
 use Rattle.turn_rules.specs.Told.{AreForThreads}
-use Rattle.machine.specs.State.{State}
 use Rattle.turn_engine.specs.declared.seated.Seated.{Seated}
-use Rattle.turn_engine.specs.Run.{IsSeated, IsUsedUp, SitsAt}
+use Rattle.turn_engine.specs.Run.{IsSeated, SitsAt}
 use Rattle.turn_engine.specs.Seating.{own_lines, after_passing, CanPass, AreSeatedFirst}
 use Rattle.turn_engine.proofs.Lacking.{none_at_first}
 use Rattle.turn_engine.proofs.Steady.{clock_room, lines_have_room}
-use Rattle.turn_engine.proofs.TurnMade.{IsMade}
+use Rattle.turn_engine.proofs.Kept.{Kept, IsMade}
 use Rattle.turn_engine.proofs.Turned.{passed_all}
 
 -- ---- lines can be passed
@@ -63,10 +59,11 @@ are_lines_of : (script : ScriptData) → IsSound script → All (λ (line : Line
 are_lines_of script sound there = lines_fit script.setup script.lines sound.lines (λ k d within here. there k d here)
 
 -- each actor passes its first lines with nothing to do
-pub opens : (script : ScriptData) (whole : Whole) (clock : ℕ) (ahead : Store → ℕ → Fate) (clock_times : Clocks) (w : State) (names : List (List ℕ)) (held : List Holds) (seated : List Seated) (lacking : List Bool) → IsSound script → length script.lines ≤ 131072 → AreForThreads script.lines → All (λ (line : Line). SessionIsThere line.actor) script.lines → StandsAt script (opening_played script) whole clock ahead → SitsAt script (at_first script) names held seated → lacking ≡ replicate script.setup.nodes false → clock_times ≡ clocks_at whole clock script.leads → w ≡ whole.state → IsMade script [] whole clock ahead names held (map (after_passing clock_times w) seated) lacking
-opens script whole clock ahead clock_times w names held seated lacking sound few threads there stands sits none times state = record {
+pub opens : (script : ScriptData) (kept : Kept) (clock_times : Clocks) → IsSound script → length script.lines ≤ 131072 → AreForThreads script.lines → All (λ (line : Line). SessionIsThere line.actor) script.lines → StandsAt script (opening_played script) kept.whole kept.clock kept.ahead → SitsAt script (at_first script) kept.names kept.held kept.seated → kept.lacking ≡ replicate script.setup.nodes false → clock_times ≡ clocks_at kept.whole kept.clock script.leads →
+    IsMade (record { script = script; turns = [] }) (record kept { seated = map (after_passing clock_times kept.whole.state) kept.seated })
+opens script kept clock_times sound few threads there stands sits none times = record {
   stands = stands;
-  sits = passed_all script (at_first script) clock_times w names held seated sits (times ∙ clocks_there script (opening_played script) whole clock ahead stands) (state ∙ stands.state);
+  sits = passed_all script (at_first script) clock_times kept.whole.state kept.names kept.held kept.seated sits (times ∙ clocks_there script (opening_played script) kept.whole kept.clock kept.ahead stands) stands.state;
   out = record {
     sound = sound;
     few = few;

@@ -1,23 +1,23 @@
 -- For this crate's own proofs.
 -- A turn is told where its event appends an item or opens a sweep, and else all is as before.
-use Rattle.std.proofs.Common.{◌≡◌, ℕ, ◌≢◌, ◌≤◌, true, false, List, [], ◌∷◌, Some, length, refl, sym, ◌∙◌, ap, subst}
+use Rattle.std.proofs.Common.{◌≡◌, ℕ, ◌≢◌, Bool, true, false, List, [], ◌∷◌, Some, refl, sym, ◌∙◌, ap, subst}
 use Rattle.std.proofs.lemmas.Bool.{true≢false}
 use Rattle.std.proofs.lemmas.Option.{same_Some}
 use Rattle.history_book.specs.declared.item.Actor.{Actor}
 use Rattle.history_book.specs.declared.item.Item.{Item}
 use Rattle.machine.specs.declared.event.Event.{Event}
 use Rattle.machine.specs.declared.event.Event.TheVariants as event
-use Rattle.script_data.specs.Data.{ScriptData, IsSound}
+use Rattle.script_data.specs.Data.{ScriptData}
 use Rattle.isolation_laws.specs.Sound.{Stands}
-use Rattle.line_steps.specs.Laws.{AreLinesOf}
 use Rattle.line_steps.specs.Runs.{Played, step_of, played}
 use Rattle.planned_cluster.proofs.Playable.{playable_at_first}
 use Rattle.turn_rules.specs.declared.turn.Turn.{Turn}
 use Rattle.turn_rules.specs.declared.turn.Turn.TheVariants as turn
-use Rattle.turn_rules.specs.Carried.{Carried, event_of, carried}
+use Rattle.turn_rules.specs.Carried.{Carried, event_of}
 use Rattle.turn_rules.specs.Lawful.{IsInPlace, IsTold}
-use Rattle.turn_rules.specs.Told.{AreForThreads, OwnTurnsAreTold, StageTurnsAreTold, QuietTurnsChangeNothing}
+use Rattle.turn_rules.specs.Told.{OwnTurnsAreTold, StageTurnsAreTold, QuietTurnsChangeNothing}
 use Rattle.turn_engine.specs.Making.{has_some, is_told}
+use Rattle.turn_engine.specs.Run.{Ran, reached_by, IsCarriedOut}
 use Rattle.turn_engine.proofs.Silent.{not_empty}
 use Rattle.turn_engine.proofs.Steady.{facts}
 
@@ -66,8 +66,8 @@ stays_by laws script c (turn.Extend node) e stands in_place is own = told_stays 
 stays_by laws script c (turn.Decide node s) e stands in_place is own = quiet_stays script c (event.Decide node s) e is (λ quiet. laws.quiet.decide script c.played node s stands (none_there (step_of script c.played (event.Decide node s)).items quiet))
 stays_by laws script c (turn.Answer node s) e stands in_place is own = quiet_stays script c (event.Answer node s) e is (λ quiet. laws.quiet.answer script c.played node s stands (none_there (step_of script c.played (event.Answer node s)).items quiet))
 
-own_told : (laws : ToldLaws) (script : ScriptData) (turns : List Turn) (t : Turn) (e : Event) → IsSound script → length script.lines ≤ 131072 → AreLinesOf script.setup script.lines → AreForThreads script.lines → event_of script (carried script turns) t ≡ Some e → (actor : Actor) (aim : ℕ) → t ≡ turn.Own actor aim → IsTold script (carried script turns).played e
-own_told laws script turns t e sound few lines threads is actor aim own = laws.own script turns actor aim e sound.setup (playable_at_first script sound few) lines threads (ap (λ (x : Turn). event_of script (carried script turns) x) (sym own) ∙ is)
+own_told : (laws : ToldLaws) (r : Ran) (lacking : List Bool) (t : Turn) (e : Event) → IsCarriedOut r.script r.turns lacking → event_of r.script (reached_by r) t ≡ Some e → (actor : Actor) (aim : ℕ) → t ≡ turn.Own actor aim → IsTold r.script (reached_by r).played e
+own_told laws r lacking t e out is actor aim own = laws.own r.script r.turns actor aim e out.sound.setup (playable_at_first r.script out.sound out.few) out.sessions out.for_threads (ap (λ (x : Turn). event_of r.script (reached_by r) x) (sym own) ∙ is)
 
-pub stays : (laws : ToldLaws) (script : ScriptData) (turns : List Turn) (t : Turn) (e : Event) → IsSound script → length script.lines ≤ 131072 → AreLinesOf script.setup script.lines → AreForThreads script.lines → IsInPlace (carried script turns).played.state t → event_of script (carried script turns) t ≡ Some e → StaysPlayed script (carried script turns) e
-stays laws script turns t e sound few lines threads in_place is = stays_by laws script (carried script turns) t e (facts script turns sound few).reached.stands in_place is (own_told laws script turns t e sound few lines threads is)
+pub stays : (laws : ToldLaws) (r : Ran) (lacking : List Bool) (t : Turn) (e : Event) → IsCarriedOut r.script r.turns lacking → IsInPlace (reached_by r).played.state t → event_of r.script (reached_by r) t ≡ Some e → StaysPlayed r.script (reached_by r) e
+stays laws r lacking t e out in_place is = stays_by laws r.script (reached_by r) t e (facts r.script r.turns out.sound out.few).reached.stands in_place is (own_told laws r lacking t e out is)

@@ -131,16 +131,21 @@ own_by old new actor aim e asked is told asks (inl made) = record {
 }
 own_by old new actor aim e asked is told asks (inr quiet) = absurd (quiet.untold told)
 
-pub makes_own : (old new : Ran) (actor : Actor) (aim : ℕ) (e : Event) (stop : Option Stop) (asked : Option (ℕ × ℕ)) (items : List Item) → event_of old.script (reached_by old) (turn.Own actor aim) ≡ Some e → (step_in old e).items ≡ items → MakesTurn old (turn.Own actor aim) e stop new → IsTold old.script (reached_by old).played e → asked ≡ asked_of (state_of new) (node_asked items) → MakesOwn old actor aim asked new
-makes_own old new actor aim e stop asked items is appended made told asks = own_by old new actor aim e asked is told (asks ∙ ap (λ (xs : List Item). asked_of (state_of new) (node_asked xs)) (sym appended)) made.made
+-- what it found: its event is the actor's turn there and is told, and this was asked since
+pub record OwnCall (old new : Ran) (actor : Actor) (aim : ℕ) (e : Event) (before : ℕ) (asked : Option (ℕ × ℕ)) : Type 0 where
+  pub event : event_of old.script (reached_by old) (turn.Own actor aim) ≡ Some e
+  pub told : IsTold old.script (reached_by old).played e
+  pub length_is : before ≡ length (items_of old)
+  pub asks : asked ≡ asked_of (state_of new) (node_asked (drop before (items_of new)))
 
-own_stopped : (old new : Ran) (actor : Actor) (aim : ℕ) (e : Event) (stop : Option Stop) (before : ℕ) (asked : Option (ℕ × ℕ)) → event_of old.script (reached_by old) (turn.Own actor aim) ≡ Some e → IsTold old.script (reached_by old).played e → before ≡ length (items_of old) → asked ≡ asked_of (state_of new) (node_asked (drop before (items_of new))) → MakesTurn old (turn.Own actor aim) e stop new → MakesOwn old actor aim asked new
-own_stopped old new actor aim e stop before asked is told length_is asks made =
-    makes_own old new actor aim e stop asked (drop before (items_of new)) is (sym (has_grown old new (turn.Own actor aim) e before is length_is made.made).since) made told asks
+own_stopped : (old new : Ran) (actor : Actor) (aim : ℕ) (e : Event) (stop : Option Stop) (before : ℕ) (asked : Option (ℕ × ℕ)) → OwnCall old new actor aim e before asked → MakesTurn old (turn.Own actor aim) e stop new → MakesOwn old actor aim asked new
+own_stopped old new actor aim e stop before asked k made =
+    let appended : drop before (items_of new) ≡ (step_in old e).items = (has_grown old new (turn.Own actor aim) e before k.event k.length_is made.made).since in
+    own_by old new actor aim e asked k.event k.told (k.asks ∙ ap (λ (xs : List Item). asked_of (state_of new) (node_asked xs)) appended) made.made
 
 -- unless memory was refused
-pub own_made : (old new : Ran) (actor : Actor) (aim : ℕ) (e : Event) (answer : Result Unit Stopped) (before : ℕ) (asked : Option (ℕ × ℕ)) → event_of old.script (reached_by old) (turn.Own actor aim) ≡ Some e → IsTold old.script (reached_by old).played e → before ≡ length (items_of old) → asked ≡ asked_of (state_of new) (node_asked (drop before (items_of new))) → (answer ≡ Err NoMemory → ⊥) → Makes old (turn.Own actor aim) e answer new → MakesOwn old actor aim asked new
-own_made old new actor aim e (Ok done) before asked is told length_is asks some made = own_stopped old new actor aim e None before asked is told length_is asks made
-own_made old new actor aim e (Err (Refused why)) before asked is told length_is asks some made = own_stopped old new actor aim e (Some (Refuses why)) before asked is told length_is asks made
-own_made old new actor aim e (Err (StoreFault store)) before asked is told length_is asks some made = own_stopped old new actor aim e (Some (Faults store)) before asked is told length_is asks made
-own_made old new actor aim e (Err NoMemory) before asked is told length_is asks some made = absurd (some refl)
+pub own_made : (old new : Ran) (actor : Actor) (aim : ℕ) (e : Event) (answer : Result Unit Stopped) (before : ℕ) (asked : Option (ℕ × ℕ)) → OwnCall old new actor aim e before asked → (answer ≡ Err NoMemory → ⊥) → Makes old (turn.Own actor aim) e answer new → MakesOwn old actor aim asked new
+own_made old new actor aim e (Ok done) before asked k some made = own_stopped old new actor aim e None before asked k made
+own_made old new actor aim e (Err (Refused why)) before asked k some made = own_stopped old new actor aim e (Some (Refuses why)) before asked k made
+own_made old new actor aim e (Err (StoreFault store)) before asked k some made = own_stopped old new actor aim e (Some (Faults store)) before asked k made
+own_made old new actor aim e (Err NoMemory) before asked k some made = absurd (some refl)

@@ -1,10 +1,8 @@
 -- For this crate's own proofs.
 -- What a script run keeps once the event of a turn was made.
 use Rattle.std.proofs.Common.{◌≡◌, ℕ, Bool, true, false, List, [], ◌∷◌, ◌++◌, Option, Some, None, inl, inr, refl, sym, ◌∙◌, ap, subst}
-use Rattle.std.specs.Prelude.{map, slice_get, slice_set, IsSomeAnd}
+use Rattle.std.specs.Prelude.{slice_get, slice_set, IsSomeAnd}
 use Rattle.std.proofs.lemmas.Option.{same_Some}
-use Rattle.stamp_base.specs.declared.stores.Store.{Store}
-use Rattle.port_io.specs.declared.weather.Fate.{Fate}
 use Rattle.history_book.specs.declared.item.Item.{Item}
 use Rattle.history_book.proofs.MemberLemmas.{AtEach-push}
 use Rattle.oracle_parts.specs.declared.instance.Place.TheVariants as place
@@ -15,21 +13,16 @@ use Rattle.script_data.specs.Data.{ScriptData}
 use Rattle.line_steps.specs.declared.point.Halt.{Halt}
 use Rattle.line_steps.specs.declared.point.Halt.TheVariants as halt
 use Rattle.line_steps.specs.Halts.{halt_of}
-use Rattle.line_steps.specs.Runs.{Played, clocks_of, fate_of, step_of, played}
+use Rattle.line_steps.specs.Runs.{Played, fate_of, step_of, played}
 use Rattle.line_steps.proofs.Serving.{Serving}
-use Rattle.cluster_core.specs.Whole.{Whole}
-use Rattle.planned_cluster.specs.Standing.{StandsAt, clocks_at}
-use Rattle.planned_cluster.proofs.Clocks.{clocks_there}
-use Rattle.turn_rules.specs.declared.seat.Holds.{Holds}
+use Rattle.planned_cluster.specs.Standing.{StandsAt}
 use Rattle.turn_rules.specs.declared.turn.Turn.{Turn}
 use Rattle.turn_rules.specs.declared.turn.Turn.TheVariants as turn
-use Rattle.turn_rules.specs.Seats.{was_asked}
-use Rattle.turn_rules.specs.Carried.{Carried, event_of, names_after, held_after, carried}
+use Rattle.turn_rules.specs.Carried.{Carried, event_of, carried}
 use Rattle.turn_rules.specs.Lawful.{IsFree, IsInPlace, IsTold, IsLawful, stage_of}
-use Rattle.turn_engine.specs.declared.seated.Seated.{Seated}
-use Rattle.turn_engine.specs.Making.{is_told, lacking_after, cleared}
-use Rattle.turn_engine.specs.Run.{IsUsedUp, AreUsedUp, SitsAt, IsCarriedOut}
-use Rattle.turn_engine.specs.Seating.{after_turn, after_passing}
+use Rattle.turn_engine.specs.Making.{step_in, is_told, lacking_after, cleared}
+use Rattle.turn_engine.specs.Run.{Ran, reached_by, with_turn, IsUsedUp, AreUsedUp, IsCarriedOut}
+use Rattle.turn_engine.proofs.Kept.{Kept, Call, IsMade, CanTurn, HasGone, since, kept_after, kept_still}
 use Rattle.turn_engine.proofs.Lacking.{noted_at, none_cleared}
 use Rattle.turn_engine.proofs.Quiet.{ToldLaws, told, stays}
 use Rattle.turn_engine.proofs.Silent.{decide_lacks, serving, is_accepted}
@@ -77,47 +70,38 @@ pub played_on : (script : ScriptData) (turns : List Turn) (t : Turn) (e : Event)
 played_on script turns t e is = ap (λ (d : Carried). d.played) (carried_on script turns t e is)
 
 -- what is kept after it
-pub record IsMade (script : ScriptData) (turns : List Turn) (whole : Whole) (clock : ℕ) (ahead : Store → ℕ → Fate) (names : List (List ℕ)) (held : List Holds) (seated : List Seated) (lacking : List Bool) : Type 0 where
-  pub stands : StandsAt script (carried script turns).played whole clock ahead
-  pub sits : SitsAt script (carried script turns) names held seated
-  pub out : IsCarriedOut script turns lacking
-
-pub turn_made : (script : ScriptData) (turns : List Turn) (t : Turn) (e : Event) (stop : Option Halt) (items : List Item) (whole : Whole) (clock : ℕ) (ahead : Store → ℕ → Fate) (names : List (List ℕ)) (held : List Holds) (seated : List Seated) (lacking : List Bool) → SitsAt script (carried script turns) names held seated → IsCarriedOut script turns lacking → event_of script (carried script turns) t ≡ Some e → IsFree (carried script turns).held (stage_of t) → IsInPlace (carried script turns).played.state t → StandsAt script (played script (carried script turns).played e) whole clock ahead → stop ≡ halt_of (step_of script (carried script turns).played e).stop → items ≡ (step_of script (carried script turns).played e).items → is_told e items ≡ true →
-    IsMade script (turns ++ t ∷ []) whole clock ahead (names_after names e) (held_after held e) (map (after_passing (clocks_at whole clock script.leads) whole.state) (map (after_turn t stop (was_asked items)) seated)) (lacking_after (cleared lacking) t stop)
-turn_made script turns t e stop items whole clock ahead names held seated lacking sits out is free in_place stands stopped appended tells =
-    let c : Carried = carried script turns in
-    let on : (carried script (turns ++ t ∷ [])).played ≡ played script c.played e = played_on script turns t e is in
-    let time : clocks_at whole clock script.leads ≡ clocks_of script (played script c.played e) = clocks_there script (played script c.played e) whole clock ahead stands in
-    let none : AreUsedUp (step_of script c.played e).state (cleared lacking) = λ node is. absurd (none_cleared lacking node is) in
+pub turn_made : (r : Ran) (kept : Kept) (call : Call) → IsMade r kept → CanTurn r call.turn call.event → HasGone r call → is_told call.event (since call) ≡ true → IsMade (with_turn r call.turn) (kept_after r.script.leads kept call)
+turn_made r kept call k can gone tells =
+    let on : (reached_by (with_turn r call.turn)).played ≡ played r.script (reached_by r).played call.event = played_on r.script r.turns call.turn call.event can.event in
+    let none : AreUsedUp (step_in r call.event).state (cleared kept.lacking) = λ node is. absurd (none_cleared kept.lacking node is) in
     record {
-      stands = subst (λ (p : Played). StandsAt script p whole clock ahead) (sym on) stands;
-      sits = sits_on script turns t e stop (was_asked items) (clocks_at whole clock script.leads) whole.state names held seated sits is stopped (ap (λ (xs : List Item). was_asked xs) appended) time stands.state;
+      stands = subst (λ (p : Played). StandsAt r.script p call.now call.after call.later) (sym on) gone.stands;
+      sits = sits_on r kept call k.sits can.event gone;
       out = record {
-        sound = out.sound;
-        few = out.few;
-        sessions = out.sessions;
-        for_threads = out.for_threads;
-        lawful = AtEach-push (λ before x. IsLawful script (carried script before) x) turns t out.lawful (lawful script c t e items is free in_place appended tells);
-        used_up = subst (λ (p : Played). AreUsedUp p.state (lacking_after (cleared lacking) t stop)) (sym on) (lacks_on script turns lacking (cleared lacking) t e stop out in_place is stopped none);
+        sound = k.out.sound;
+        few = k.out.few;
+        sessions = k.out.sessions;
+        for_threads = k.out.for_threads;
+        lawful = AtEach-push (λ before x. IsLawful r.script (carried r.script before) x) r.turns call.turn k.out.lawful (lawful r.script (reached_by r) call.turn call.event (since call) can.event can.free can.in_place gone.appended tells);
+        used_up = subst (λ (p : Played). AreUsedUp p.state (lacking_after (cleared kept.lacking) call.turn call.stop)) (sym on) (lacks_on r.script r.turns kept.lacking (cleared kept.lacking) call.turn call.event call.stop k.out can.in_place can.event gone.stopped none);
       };
     }
 
 -- ---- it is not told
-pub turn_silent : (laws : ToldLaws) (script : ScriptData) (turns : List Turn) (t : Turn) (e : Event) (stop : Option Halt) (items : List Item) (whole : Whole) (clock : ℕ) (ahead : Store → ℕ → Fate) (names : List (List ℕ)) (held : List Holds) (seated : List Seated) (lacking : List Bool) → SitsAt script (carried script turns) names held seated → IsCarriedOut script turns lacking → event_of script (carried script turns) t ≡ Some e → IsInPlace (carried script turns).played.state t → StandsAt script (played script (carried script turns).played e) whole clock ahead → stop ≡ halt_of (step_of script (carried script turns).played e).stop → items ≡ (step_of script (carried script turns).played e).items → is_told e items ≡ false →
-    IsMade script turns whole clock ahead names held seated (lacking_after lacking t stop)
-turn_silent laws script turns t e stop items whole clock ahead names held seated lacking sits out is in_place stands stopped appended quiet =
-    let c : Carried = carried script turns in
-    let same : played script c.played e ≡ c.played = stays laws script turns t e out.sound out.few out.sessions out.for_threads in_place is (sym (ap (λ (xs : List Item). is_told e xs) appended) ∙ quiet) in
-    let all : AreUsedUp (step_of script c.played e).state lacking = subst (λ (p : Played). AreUsedUp p.state lacking) (sym same) out.used_up in
+pub turn_silent : (laws : ToldLaws) (r : Ran) (kept : Kept) (call : Call) → IsMade r kept → CanTurn r call.turn call.event → HasGone r call → is_told call.event (since call) ≡ false → IsMade r (kept_still kept call)
+turn_silent laws r kept call k can gone quiet =
+    let p : Played = (reached_by r).played in
+    let same : played r.script p call.event ≡ p = stays laws r kept.lacking call.turn call.event k.out can.in_place can.event (sym (ap (λ (xs : List Item). is_told call.event xs) gone.appended) ∙ quiet) in
+    let all : AreUsedUp (step_in r call.event).state kept.lacking = subst (λ (q : Played). AreUsedUp q.state kept.lacking) (sym same) k.out.used_up in
     record {
-      stands = subst (λ (p : Played). StandsAt script p whole clock ahead) same stands;
-      sits = sits;
+      stands = subst (λ (q : Played). StandsAt r.script q call.now call.after call.later) same gone.stands;
+      sits = k.sits;
       out = record {
-        sound = out.sound;
-        few = out.few;
-        sessions = out.sessions;
-        for_threads = out.for_threads;
-        lawful = out.lawful;
-        used_up = subst (λ (p : Played). AreUsedUp p.state (lacking_after lacking t stop)) same (lacks_on script turns lacking lacking t e stop out in_place is stopped all);
+        sound = k.out.sound;
+        few = k.out.few;
+        sessions = k.out.sessions;
+        for_threads = k.out.for_threads;
+        lawful = k.out.lawful;
+        used_up = subst (λ (q : Played). AreUsedUp q.state (lacking_after kept.lacking call.turn call.stop)) same (lacks_on r.script r.turns kept.lacking kept.lacking call.turn call.event call.stop k.out can.in_place can.event gone.stopped all);
       };
     }

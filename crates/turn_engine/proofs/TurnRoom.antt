@@ -1,5 +1,5 @@
 -- A turn that serves a request has its room among what is kept for requests in flight, and every other turn leaves that room.
-use Rattle.std.proofs.Common.{◌≡◌, ◌≤◌, ◌<◌, ◌+◌, ℕ, Bool, true, false, List, [], ◌∷◌, drop, length, length-drop, Option, Some, None, Result, refl, sym, ◌∙◌, ap, subst, arith}
+use Rattle.std.proofs.Common.{◌≡◌, ◌≤◌, ◌<◌, ◌+◌, ℕ, Bool, true, false, List, [], ◌∷◌, length, length-drop, Option, Some, Result, refl, sym, ◌∙◌, ap, subst, arith}
 use Rattle.std.specs.Prelude.{is_ok, is_some, IsOk}
 use Rattle.std.proofs.lemmas.Bool.{true≢false}
 use Rattle.std.proofs.lemmas.Option.{same_Some}
@@ -18,27 +18,22 @@ use Rattle.machine.specs.Readers.{is_commit, asks_commit}
 use Rattle.machine.specs.State.{State}
 use Rattle.event_parts.specs.Served.{decides_at, is_to_decide, is_to_put, answers_at, is_to_answer}
 use Rattle.event_parts.specs.declared.stopped.Stopped.{Stopped}
-use Rattle.stamp_base.specs.declared.stores.Store.{Store}
-use Rattle.port_io.specs.declared.weather.Fate.{Fate}
 use Rattle.script_data.specs.Data.{ScriptData}
 use Rattle.isolation_laws.specs.Sound.{Stands}
 use Rattle.line_steps.proofs.Serving.{Serving}
 use Rattle.cluster_core.specs.Whole.{Whole}
 use Rattle.cluster_core.specs.Served.{held_found, held_in, is_served, LeavesRoom, NeverLacksIf, most_reserved}
 use Rattle.cluster_core.proofs.RoomMoves.{room_rises, served_spends}
-use Rattle.turn_rules.specs.declared.seat.Holds.{Holds}
 use Rattle.turn_rules.specs.declared.turn.Turn.{Turn}
 use Rattle.turn_rules.specs.declared.turn.Turn.TheVariants as turn
 use Rattle.turn_rules.specs.Carried.{Carried, event_of}
 use Rattle.turn_rules.specs.Lawful.{IsInPlace, answered_from}
 use Rattle.posted_names.specs.Names.{posts}
 use Rattle.turn_engine.specs.Making.{has_some, is_told, serves}
-use Rattle.turn_engine.specs.declared.seated.Seated.{Seated}
 use Rattle.turn_engine.specs.Run.{Ran, reached_by}
-use Rattle.turn_engine.proofs.Called.{CanTurn}
+use Rattle.turn_engine.proofs.Kept.{Kept, Call, IsMade, CanTurn, since}
 use Rattle.turn_engine.proofs.Silent.{serving}
 use Rattle.turn_engine.proofs.Steady.{facts}
-use Rattle.turn_engine.proofs.TurnMade.{IsMade}
 
 -- ---- such a turn's event serves a request that was accepted
 held_here : (w : State) (h : List Item) (node s : ℕ) (at : Place) (k : Serving w h s (node, at)) → held_in w node s ≡ Some k.served.held
@@ -125,13 +120,6 @@ pub record MovesRoom (t : Turn) (e : Event) (old now : Whole) : Type 0 where
   pub spends : serves t ≡ true → now.spare + length now.history ≡ old.spare + length old.history
   pub serving : serves t ≡ true → IsServing e
 
-pub moves_room : (script : ScriptData) (c : Carried) (t : Turn) (e : Event) (old now : Whole) (answer : Result Unit Stopped) → Stands c.played.state c.played.items → IsInPlace c.played.state t → event_of script c t ≡ Some e → old.state ≡ c.played.state → length old.history ≤ length now.history → LeavesRoom e old now answer → MovesRoom t e old now
-moves_room script c t e old now answer stands in_place is same grown room = record {
-  rises = room_rises old now e answer grown room;
-  spends = λ served. served_spends old now e answer (ap (λ (w : State). is_served w e) same ∙ is_served_here script c t e stands in_place is served) room;
-  serving = is_serving script c t e is;
-}
-
 still_by : (t : Turn) (e : Event) (spare now len capacity : ℕ) (served : Bool) → serves t ≡ served → HasRoom t e spare len capacity → now ≤ spare + most_reserved e → (serves t ≡ true → IsServing e) → len + now ≤ capacity
 still_by t e spare now len capacity true served room rises serving = omega (arith, room.kept, rises, (serving served).reserves)
 still_by t e spare now len capacity false served room rises serving = omega (arith, room.more served, rises)
@@ -140,13 +128,15 @@ still_by t e spare now len capacity false served room rises serving = omega (ari
 pub still_room : (t : Turn) (e : Event) (old now : Whole) (len capacity : ℕ) → HasRoom t e old.spare len capacity → MovesRoom t e old now → len + now.spare ≤ capacity
 still_room t e old now len capacity room moves = still_by t e old.spare now.spare len capacity (serves t) refl room moves.rises moves.serving
 
-added_by : (t : Turn) (e : Event) (items : List Item) (old now : Whole) (len capacity : ℕ) (served : Bool) → serves t ≡ served → HasRoom t e old.spare len capacity → MovesRoom t e old now → length now.history ≡ length old.history + length items → is_told e items ≡ true → len + 1 + now.spare ≤ capacity
-added_by t e items old now len capacity true served room moves grown told = omega (arith, room.kept, moves.spends served, grown, (moves.serving served).told items told)
-added_by t e items old now len capacity false served room moves grown told = omega (arith, room.more served, moves.rises)
+added_by : (old : Whole) (call : Call) (len capacity : ℕ) (served : Bool) → serves call.turn ≡ served → HasRoom call.turn call.event old.spare len capacity → MovesRoom call.turn call.event old call.now → length call.now.history ≡ length old.history + length (since call) → is_told call.event (since call) ≡ true → len + 1 + call.now.spare ≤ capacity
+added_by old call len capacity true served room moves grown told = omega (arith, room.kept, moves.spends served, grown, (moves.serving served).told (since call) told)
+added_by old call len capacity false served room moves grown told = omega (arith, room.more served, moves.rises)
 
 -- and where the turn was
-pub added_room : (t : Turn) (e : Event) (items : List Item) (old now : Whole) (len capacity : ℕ) → HasRoom t e old.spare len capacity → MovesRoom t e old now → length now.history ≡ length old.history + length items → is_told e items ≡ true → len + 1 + now.spare ≤ capacity
-added_room t e items old now len capacity room moves grown told = added_by t e items old now len capacity (serves t) refl room moves grown told
+pub added_room : (old : Whole) (call : Call) (len capacity : ℕ) → HasRoom call.turn call.event old.spare len capacity → MovesRoom call.turn call.event old call.now → call.before ≡ length old.history → call.before ≤ length call.now.history → is_told call.event (since call) ≡ true → len + 1 + call.now.spare ≤ capacity
+added_room old call len capacity room moves length_is least told =
+    let grown : length call.now.history ≡ length old.history + length (since call) = omega (arith, length_is, least, length-drop call.before call.now.history) in
+    added_by old call len capacity (serves call.turn) refl room moves grown told
 
 -- ---- memory
 never_by : (w : State) (e : Event) (served : Bool) (answer : Result Unit Stopped) → (served ≡ true → is_served w e ≡ true) → NeverLacksIf (is_served w e) answer → NeverLacksIf served answer
@@ -158,11 +148,17 @@ pub never_lacks : (script : ScriptData) (c : Carried) (t : Turn) (e : Event) (w 
 never_lacks script c t e w answer stands in_place is same never = never_by w e (serves t) answer (λ served. ap (λ (x : State). is_served x e) same ∙ is_served_here script c t e stands in_place is served) never
 
 -- ---- of a turn that can be made where the run stands
-pub room_moved : (r : Ran) (t : Turn) (e : Event) (answer : Result Unit Stopped) (whole now : Whole) (clock : ℕ) (ahead : Store → ℕ → Fate) (names : List (List ℕ)) (held : List Holds) (seated : List Seated) (lacking : List Bool) → IsMade r.script r.turns whole clock ahead names held seated lacking → CanTurn r t e → length whole.history ≤ length now.history → LeavesRoom e whole now answer → MovesRoom t e whole now
-room_moved r t e answer whole now clock ahead names held seated lacking k can grown room = moves_room r.script (reached_by r) t e whole now answer (facts r.script r.turns k.out.sound k.out.few).reached.stands can.in_place can.event k.stands.state grown room
+pub room_moved : (r : Ran) (kept : Kept) (t : Turn) (e : Event) (now : Whole) (answer : Result Unit Stopped) → IsMade r kept → CanTurn r t e → length kept.whole.history ≤ length now.history → LeavesRoom e kept.whole now answer → MovesRoom t e kept.whole now
+room_moved r kept t e now answer k can grown room =
+    let stands : Stands (reached_by r).played.state (reached_by r).played.items = (facts r.script r.turns k.out.sound k.out.few).reached.stands in
+    record {
+      rises = room_rises kept.whole now e answer grown room;
+      spends = λ served. served_spends kept.whole now e answer (ap (λ (w : State). is_served w e) k.stands.state ∙ is_served_here r.script (reached_by r) t e stands can.in_place can.event served) room;
+      serving = is_serving r.script (reached_by r) t e can.event;
+    }
 
-pub never_refused : (r : Ran) (t : Turn) (e : Event) (answer : Result Unit Stopped) (whole : Whole) (clock : ℕ) (ahead : Store → ℕ → Fate) (names : List (List ℕ)) (held : List Holds) (seated : List Seated) (lacking : List Bool) → IsMade r.script r.turns whole clock ahead names held seated lacking → CanTurn r t e → NeverLacksIf (is_served whole.state e) answer → NeverLacksIf (serves t) answer
-never_refused r t e answer whole clock ahead names held seated lacking k can never = never_lacks r.script (reached_by r) t e whole.state answer (facts r.script r.turns k.out.sound k.out.few).reached.stands can.in_place can.event k.stands.state never
+pub never_refused : (r : Ran) (kept : Kept) (t : Turn) (e : Event) (answer : Result Unit Stopped) → IsMade r kept → CanTurn r t e → NeverLacksIf (is_served kept.whole.state e) answer → NeverLacksIf (serves t) answer
+never_refused r kept t e answer k can never = never_lacks r.script (reached_by r) t e kept.whole.state answer (facts r.script r.turns k.out.sound k.out.few).reached.stands can.in_place can.event k.stands.state never
 
 -- nor does it lack the room for it
 pub lacked_by : (served : Bool) {A B : Type 0} (room : Result A B) (answer : Result Unit Stopped) → (served ≡ true → IsOk room) → is_ok room ≡ false → NeverLacksIf served answer
@@ -172,6 +168,3 @@ lacked_by false room answer free lacks = tt
 -- ---- as the call finds it
 pub has_room : (t : Turn) (e : Event) (spare found len capacity : ℕ) → found ≡ spare → len + found ≤ capacity → (serves t ≡ false → len + found + most_reserved e + 1 ≤ capacity) → HasRoom t e spare len capacity
 has_room t e spare found len capacity is kept more = record { kept = omega (arith, is, kept); more = λ none. omega (arith, is, more none) }
-
-pub grown_by : (before : ℕ) (items old now : List Item) → before ≡ length old → before ≤ length now → items ≡ drop before now → length now ≡ length old + length items
-grown_by before items old now is least appended = omega (arith, is, least, ap (λ (xs : List Item). length xs) appended, length-drop before now)

@@ -5,6 +5,7 @@ use Rattle.std.specs.Prelude.{map, slice_get}
 use Rattle.std.proofs.lemmas.List.{length-drop}
 use Rattle.std.proofs.lemmas.List.Elements.{All-head, All-tail, All-map, All-weaker}
 use Rattle.std.proofs.lemmas.List.Sums.{fold_push}
+use Rattle.history_book.specs.declared.item.Item.{Item}
 use Rattle.machine.specs.declared.event.Event.{Event}
 use Rattle.machine.specs.Machine.{Step}
 use Rattle.machine.specs.State.{State}
@@ -15,8 +16,10 @@ use Rattle.line_steps.specs.declared.point.View.{View}
 use Rattle.line_steps.specs.Answers.{same_actor}
 use Rattle.line_steps.specs.Halts.{halt_of}
 use Rattle.line_steps.specs.Next.{Clocks}
-use Rattle.line_steps.specs.Runs.{clocks_of, step_of, played}
+use Rattle.line_steps.specs.Runs.{clocks_of}
 use Rattle.line_steps.specs.Views.{view_of}
+use Rattle.planned_cluster.specs.Standing.{clocks_at}
+use Rattle.planned_cluster.proofs.Clocks.{clocks_there}
 use Rattle.turn_rules.specs.declared.seat.Holds.{Holds}
 use Rattle.turn_rules.specs.declared.seat.Seat.{Seat}
 use Rattle.turn_rules.specs.declared.turn.Turn.{Turn}
@@ -26,7 +29,9 @@ use Rattle.turn_rules.specs.Carried.{Carried, event_of, names_after, held_after,
 use Rattle.turn_rules.proofs.SeatsOn.{passed_actor}
 use Rattle.turn_engine.specs.declared.seated.Seated.{Seated}
 use Rattle.turn_engine.specs.Seating.{line_of, gone_on_at, after_turn, after_passing}
-use Rattle.turn_engine.specs.Run.{IsSeated, SitsAt}
+use Rattle.turn_engine.specs.Making.{step_in}
+use Rattle.turn_engine.specs.Run.{Ran, reached_by, with_turn, IsSeated, SitsAt}
+use Rattle.turn_engine.proofs.Kept.{Kept, Call, HasGone, since, moved_by, kept_after}
 
 pub carried_on : (script : ScriptData) (turns : List Turn) (t : Turn) (e : Event) → event_of script (carried script turns) t ≡ Some e → carried script (turns ++ t ∷ []) ≡ all_passed script (with_event script (carried script turns) t e)
 carried_on script turns t e is = fold_push (turned script) (all_passed script (at_first script)) turns t ∙ ap (λ (o : Option Event). turned_by script (carried script turns) t o) is
@@ -95,28 +100,32 @@ mapped : (script : ScriptData) (f : Seated → Seated) (g : Seat → Seat) → (
 mapped script f g same [] k = refl
 mapped script f g same (s ∷ all) k = λ i. same s (All-head (IsSeated script) s all k) i ∷ mapped script f g same all (All-tail (IsSeated script) s all k) i
 
-kept : (script : ScriptData) (f : Seated → Seated) → ((s : Seated) → IsSeated script s → IsSeated script (f s)) → (all : List Seated) → All (IsSeated script) all → All (IsSeated script) (map f all)
-kept script f keeps all k = All-map (IsSeated script) f all (All-weaker (IsSeated script) (λ s. IsSeated script (f s)) keeps all k)
+each_kept : (script : ScriptData) (f : Seated → Seated) → ((s : Seated) → IsSeated script s → IsSeated script (f s)) → (all : List Seated) → All (IsSeated script) all → All (IsSeated script) (map f all)
+each_kept script f keeps all k = All-map (IsSeated script) f all (All-weaker (IsSeated script) (λ s. IsSeated script (f s)) keeps all k)
 
 pub passed_all : (script : ScriptData) (c : Carried) (clocks : Clocks) (w : State) (names : List (List ℕ)) (held : List Holds) (seated : List Seated) → SitsAt script c names held seated → clocks ≡ clocks_of script c.played → w ≡ c.played.state → SitsAt script (all_passed script c) names held (map (after_passing clocks w) seated)
 passed_all script c clocks w names held seated k time state = record {
   posted = k.posted;
   held_is = k.held_is;
   seats = mapped script (after_passing clocks w) (seat_passed script c) (λ s sits. passing_seat script c clocks w s sits time state) seated k.each ∙ ap (λ seats. map (seat_passed script c) seats) k.seats;
-  each = kept script (after_passing clocks w) (λ s sits. passing_seated script c clocks w s sits time state) seated k.each;
+  each = each_kept script (after_passing clocks w) (λ s sits. passing_seated script c clocks w s sits time state) seated k.each;
 }
 
-pub event_seated : (script : ScriptData) (c : Carried) (t : Turn) (e : Event) (halt : Option Halt) (asked : Bool) (names : List (List ℕ)) (held : List Holds) (seated : List Seated) → SitsAt script c names held seated → halt ≡ halt_of (step_of script c.played e).stop → asked ≡ was_asked (step_of script c.played e).items → SitsAt script (with_event script c t e) (names_after names e) (held_after held e) (map (after_turn t halt asked) seated)
-event_seated script c t e halt asked names held seated k stopped was = record {
-  posted = ap (λ ns. names_after ns e) k.posted;
-  held_is = ap (λ hs. held_after hs e) k.held_is;
-  seats = mapped script (after_turn t halt asked) (moved script t (step_of script c.played e)) (λ s sits. turned_seat script t (step_of script c.played e) halt asked s sits stopped was) seated k.each ∙ ap (λ seats. map (moved script t (step_of script c.played e)) seats) k.seats;
-  each = kept script (after_turn t halt asked) (λ s sits. turned_seated script t halt asked s sits) seated k.each;
-}
+pub event_seated : (r : Ran) (kept : Kept) (call : Call) → SitsAt r.script (reached_by r) kept.names kept.held kept.seated → HasGone r call → SitsAt r.script (with_event r.script (reached_by r) call.turn call.event) (names_after kept.names call.event) (held_after kept.held call.event) (moved_by kept call)
+event_seated r kept call k gone =
+    let asked : Bool = was_asked (since call) in
+    let was : asked ≡ was_asked (step_in r call.event).items = ap (λ (items : List Item). was_asked items) gone.appended in
+    record {
+      posted = ap (λ ns. names_after ns call.event) k.posted;
+      held_is = ap (λ hs. held_after hs call.event) k.held_is;
+      seats = mapped r.script (after_turn call.turn call.stop asked) (moved r.script call.turn (step_in r call.event)) (λ s sits. turned_seat r.script call.turn (step_in r call.event) call.stop asked s sits gone.stopped was) kept.seated k.each ∙ ap (λ seats. map (moved r.script call.turn (step_in r call.event)) seats) k.seats;
+      each = each_kept r.script (after_turn call.turn call.stop asked) (λ s sits. turned_seated r.script call.turn call.stop asked s sits) kept.seated k.each;
+    }
 
 -- the parts after a turn more
-pub sits_on : (script : ScriptData) (turns : List Turn) (t : Turn) (e : Event) (halt : Option Halt) (asked : Bool) (clocks : Clocks) (w : State) (names : List (List ℕ)) (held : List Holds) (seated : List Seated) → SitsAt script (carried script turns) names held seated → event_of script (carried script turns) t ≡ Some e → halt ≡ halt_of (step_of script (carried script turns).played e).stop → asked ≡ was_asked (step_of script (carried script turns).played e).items → clocks ≡ clocks_of script (played script (carried script turns).played e) → w ≡ (played script (carried script turns).played e).state → SitsAt script (carried script (turns ++ t ∷ [])) (names_after names e) (held_after held e) (map (after_passing clocks w) (map (after_turn t halt asked) seated))
-sits_on script turns t e halt asked clocks w names held seated k is stopped was time state =
-    let c : Carried = carried script turns in
-    let on : SitsAt script (with_event script c t e) (names_after names e) (held_after held e) (map (after_turn t halt asked) seated) = event_seated script c t e halt asked names held seated k stopped was in
-    subst (λ (d : Carried). SitsAt script d (names_after names e) (held_after held e) (map (after_passing clocks w) (map (after_turn t halt asked) seated))) (sym (carried_on script turns t e is)) (passed_all script (with_event script c t e) clocks w (names_after names e) (held_after held e) (map (after_turn t halt asked) seated) on time state)
+pub sits_on : (r : Ran) (kept : Kept) (call : Call) → SitsAt r.script (reached_by r) kept.names kept.held kept.seated → event_of r.script (reached_by r) call.turn ≡ Some call.event → HasGone r call → SitsAt r.script (reached_by (with_turn r call.turn)) (names_after kept.names call.event) (held_after kept.held call.event) (kept_after r.script.leads kept call).seated
+sits_on r kept call k is gone =
+    let c : Carried = with_event r.script (reached_by r) call.turn call.event in
+    let clocks : Clocks = clocks_at call.now call.after r.script.leads in
+    let time : clocks ≡ clocks_of r.script c.played = clocks_there r.script c.played call.now call.after call.later gone.stands in
+    subst (λ (d : Carried). SitsAt r.script d (names_after kept.names call.event) (held_after kept.held call.event) (kept_after r.script.leads kept call).seated) (sym (carried_on r.script r.turns call.turn call.event is)) (passed_all r.script c clocks call.now.state (names_after kept.names call.event) (held_after kept.held call.event) (moved_by kept call) (event_seated r kept call k gone) time gone.stands.state)

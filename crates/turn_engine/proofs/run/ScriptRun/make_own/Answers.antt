@@ -26,4 +26,4 @@ returns-in-Ok c =
     let told = subst (λ (x : Ran). IsTold x.script (reached_by x).played c.args.event.now) c.self.view_is (c.own_turns_are_told.ensures r.script r.turns c.args.actor.now c.args.aim c.args.event.now out.sound.setup (playable_at_first r.script out.sound out.few) out.sessions out.for_threads is_here) in
     let before = ap (λ (items : List Item). length items) (c.history-before.ensures.value ∙ c.self.invariant.0.history ∙ ap items_of c.self.view_is) in
     let some : c.make.result ≡ Err NoMemory → ⊥ = grind arith in
-    own_made c.args.self.now c.make.new.self c.args.actor.now c.args.aim c.args.event.now c.make.result (length c.history-before.result.now) c.asked_since.result is told before c.asked_since.ensures some c.make.ensures.made
+    own_made c.args.self.now c.make.new.self c.args.actor.now c.args.aim c.args.event.now c.make.result (length c.history-before.result.now) c.asked_since.result (record { event = is; told = told; length_is = before; asks = c.asked_since.ensures }) some c.make.ensures.made

@@ -8,6 +8,7 @@ use Rattle.planned_cluster.specs.Standing.{clocks_at}
 use Rattle.turn_rules.specs.declared.seat.Holds.{Holds}
 use Rattle.turn_engine.specs.Seating.{AreSeatedFirst}
 use Rattle.turn_engine.proofs.Called.{same_made}
+use Rattle.turn_engine.proofs.Kept.{Kept}
 use Rattle.turn_engine.proofs.Opening.{all_can_pass, sits_first, opens}
 use Rattle.turn_engine.proofs.run.ScriptRun.open.Goals as goal
 
@@ -27,6 +28,16 @@ invariant_of-result c =
     let held = c.in_ok-held.ensures.items_if_clones_equal (λ y same. same) ∙ ap (λ (h : Holds). replicate script.setup.nodes h) c.none.ensures in
     let lacking = c.in_ok-lacking.ensures.items_if_clones_equal (λ y same. same) in
     let there = subst (λ (ls : List Line). All (λ (line : Line). SessionIsThere line.actor) ls) c.as_slice.ensures.value c.see_sessions.ensures in
-    let made = opens script c.in_ok-planned.planned.cluster c.in_ok-planned.planned.clock (ahead-value.it c.in_ok-planned.planned.weather) (clocks_at c.in_ok-planned.planned.cluster c.in_ok-planned.planned.clock c.as_slice-4.result.now) c.in_ok-planned.planned.cluster.state [] c.in_ok-held.held.items c.in_ok-seated.seated.items c.in_ok-lacking.lacking.items c.args.script.sound (omega (arith, c.requires.few, c.args.script.lines.ok)) c.requires.for_threads there stands (sits_first script c.in_ok-held.held.items c.in_ok-seated.seated.items seated held) lacking (ap (clocks_at c.in_ok-planned.planned.cluster c.in_ok-planned.planned.clock) c.as_slice-4.ensures.value) refl in
-    let kept = same_made script [] c.new-2.result.items c.in_ok-planned.planned.cluster c.in_ok-planned.planned.clock (ahead-value.it c.in_ok-planned.planned.weather) [] c.new.result.names c.in_ok-held.held.items c.in_ok-held.held.items _ c.pass_all.new.seated.items c.in_ok-lacking.lacking.items c.in_ok-lacking.lacking.items made c.new-2.ensures.items c.new.ensures refl c.pass_all.ensures refl in
-    (kept.stands, kept.sits, kept.out, omega (arith, c.in_ok-planned.ensures.spare, c.new-2.ensures.len))
+    let kept : Kept = record {
+      whole = c.in_ok-planned.planned.cluster;
+      clock = c.in_ok-planned.planned.clock;
+      ahead = ahead-value.it c.in_ok-planned.planned.weather;
+      names = [];
+      held = c.in_ok-held.held.items;
+      seated = c.in_ok-seated.seated.items;
+      lacking = c.in_ok-lacking.lacking.items;
+    } in
+    let made = opens script kept (clocks_at kept.whole kept.clock c.as_slice-4.result.now) c.args.script.sound (omega (arith, c.requires.few, c.args.script.lines.ok)) c.requires.for_threads there stands (sits_first script kept.held kept.seated seated held) lacking (λ k. clocks_at kept.whole kept.clock (c.as_slice-4.ensures.value k)) in
+    let on : Kept = record kept { names = c.new.result.names; seated = c.pass_all.new.seated.items } in
+    let opened = same_made (record { script = script; turns = [] }) (record { script = script; turns = c.new-2.result.items }) _ on made (λ k. record { script = script; turns = c.new-2.ensures.items k }) (λ k. record kept { names = c.new.ensures k; seated = c.pass_all.ensures k }) in
+    (opened.stands, opened.sits, opened.out, omega (arith, c.in_ok-planned.ensures.spare, c.new-2.ensures.len))
