@@ -8,7 +8,7 @@ use Rattle.port_io.specs.declared.weather.Fate.{Fate}
 use Rattle.machine.specs.declared.event.Event.{Event}
 use Rattle.machine.specs.State.{State, opening}
 use Rattle.machine.specs.Events.Take.{rules_of}
-use Rattle.machine.specs.Machine.{asks, stepped}
+use Rattle.machine.specs.Machine.{Step, asks, stepped}
 use Rattle.machine.proofs.PartsKept.{leaves_parts}
 use Rattle.store_parts.specs.Record.{Leasing}
 use Rattle.event_parts.specs.declared.stopped.Stopped.{Stopped}
@@ -23,25 +23,55 @@ use Rattle.split_parts.specs.declared.acting.Acted.{Acted}
 use Rattle.split_parts.proofs.Giving.{given_back, given_called, given_fate, given_fit, given_leases, given_twice}
 
 -- ---- what the engine is filled up with
--- the parts before they are swapped, the engine as it was opened, and both after the swap
-pub record Swapped (l m n : Parts) (w s : State) : Type 0 where
-  pub setup : w ≡ opening (setup_of l)
-  pub same : m ≡ l
-  pub state : s ≡ with_lent w m
-  pub parts : n ≡ given_from m w
+-- a swap: the parts that were lent, those that are set in for them, what is left of these, and the engine as it was opened and filled up
+pub record Swap : Type 0 where
+  pub lent : Parts
+  pub set_in : Parts
+  pub left : Parts
+  pub opened : State
+  pub full : State
 
-filled_up : (l m n : Parts) (w s : State) → Swapped l m n w s → s ≡ filled l
-filled_up l m n w s swapped = swapped.state ∙ (λ k. with_lent (swapped.setup k) (swapped.same k))
+pub record Swapped (x : Swap) : Type 0 where
+  pub setup : x.opened ≡ opening (setup_of x.lent)
+  pub same : x.set_in ≡ x.lent
+  pub state : x.full ≡ with_lent x.opened x.set_in
+  pub parts : x.left ≡ given_from x.set_in x.opened
 
-given_up : (l m n : Parts) (w s : State) → Swapped l m n w s → n ≡ given_from l (opening (setup_of l))
-given_up l m n w s swapped = swapped.parts ∙ (λ k. given_from (swapped.same k) (swapped.setup k))
+filled_up : (x : Swap) → Swapped x → x.full ≡ filled x.lent
+filled_up x swapped = swapped.state ∙ (λ k. with_lent (swapped.setup k) (swapped.same k))
 
-pub calls_fit_then : (l m n : Parts) (w s : State) (e : Event) → Swapped l m n w s → CallsFit l (asks (filled l) e) → CallsFit n (asks s e)
-calls_fit_then l m n w s e swapped fit =
-    subst (λ (p : Parts). CallsFit p (asks s e)) (sym (given_up l m n w s swapped)) (given_fit (asks s e) l (opening (setup_of l)) (subst (λ (v : State). CallsFit l (asks v e)) (sym (filled_up l m n w s swapped)) fit))
+given_up : (x : Swap) → Swapped x → x.left ≡ given_from x.lent (opening (setup_of x.lent))
+given_up x swapped = swapped.parts ∙ (λ k. given_from (swapped.same k) (swapped.setup k))
 
-pub can_make_then : (l m n : Parts) (w s : State) (e : Event) → Swapped l m n w s → CanMake (filled l) e → CanMake s e
-can_make_then l m n w s e swapped can = subst (λ (v : State). CanMake v e) (sym (filled_up l m n w s swapped)) can
+pub calls_fit_then : (x : Swap) (e : Event) → Swapped x → CallsFit x.lent (asks (filled x.lent) e) → CallsFit x.left (asks x.full e)
+calls_fit_then x e swapped fit =
+    subst (λ (p : Parts). CallsFit p (asks x.full e)) (sym (given_up x swapped)) (given_fit (asks x.full e) x.lent (opening (setup_of x.lent)) (subst (λ (v : State). CallsFit x.lent (asks v e)) (sym (filled_up x swapped)) fit))
+
+pub can_make_then : (x : Swap) (e : Event) → Swapped x → CanMake (filled x.lent) e → CanMake x.full e
+can_make_then x e swapped can = subst (λ (v : State). CanMake v e) (sym (filled_up x swapped)) can
+
+-- ---- the step of the engine that was filled up
+-- its swap and its event, the engine before and after it, and the parts outside of the engine after it
+pub record Round : Type 0 where
+  pub swap : Swap
+  pub event : Event
+  pub old : Whole
+  pub now : Whole
+  pub after : Parts
+
+-- the store that the event asks
+abbrev pub asked_in : Round → Option Store
+asked_in x = asks x.swap.full x.event
+
+abbrev pub step_in : Round → Step
+step_in x = stepped x.swap.full x.event (fate_of x.swap.left (asked_in x))
+
+-- it was made after the swap, as far as it came, and its call was counted
+pub record IsMade (x : Round) (result : Result Unit Stopped) : Type 0 where
+  pub swapped : Swapped x.swap
+  pub full : x.old.state ≡ x.swap.full
+  pub made : MakesStep (step_in x) x.old x.now result
+  pub counted : x.after ≡ called_after (asked_in x) result x.swap.left
 
 -- ---- the record leases by the setup still
 called_record : (rules : Leasing) (part : Option Record) → IfSome part (λ p. p.rules ≡ rules) → IfSome (master_called part) (λ p. p.rules ≡ rules)
@@ -66,11 +96,12 @@ made_setup s e fate old now (Err (Refused why)) at made = ap (λ (v : State). v.
 made_setup s e fate old now (Err (StoreFault x)) at made = ap (λ (v : State). v.setup) made.parts ∙ (leaves_parts s e fate).setup
 made_setup s e fate old now (Err NoMemory) at made = ap (λ (v : State). v.setup) (made.0 ∙ at)
 
-pub leases_still : (l m n after : Parts) (w : State) (e : Event) (old now : Whole) (result : Result Unit Stopped) → Swapped l m n w old.state → LeasesBySetup l → MakesStep (stepped old.state e (fate_of n (asks old.state e))) old now result → after ≡ called_after (asks old.state e) result n → IfSome after.master (λ p. p.rules ≡ rules_of now.state.setup)
-leases_still l m n after w e old now result swapped leases made counted =
-    let setup : now.state.setup ≡ setup_of l = made_setup old.state e (fate_of n (asks old.state e)) old now result refl made ∙ ap (λ (v : State). v.setup) (filled_up l m n w old.state swapped) in
-    let before : IfSome n.master (λ p. p.rules ≡ rules_of (setup_of l)) = subst (λ (p : Parts). IfSome p.master (λ r. r.rules ≡ rules_of (setup_of l))) (sym (given_up l m n w old.state swapped)) (given_leases (rules_of (setup_of l)) (opening (setup_of l)).master l.master leases) in
-    subst (λ (p : Parts). IfSome p.master (λ r. r.rules ≡ rules_of now.state.setup)) (sym counted) (subst (λ (x : SetupNumbers). IfSome (called_after (asks old.state e) result n).master (λ r. r.rules ≡ rules_of x)) (sym setup) (after_leases (asks old.state e) result (rules_of (setup_of l)) n before))
+pub leases_still : (x : Round) (result : Result Unit Stopped) → IsMade x result → LeasesBySetup x.swap.lent → IfSome x.after.master (λ p. p.rules ≡ rules_of x.now.state.setup)
+leases_still x result is leases =
+    let lent : Parts = x.swap.lent in
+    let setup : x.now.state.setup ≡ setup_of lent = made_setup x.swap.full x.event (fate_of x.swap.left (asked_in x)) x.old x.now result is.full is.made ∙ ap (λ (v : State). v.setup) (filled_up x.swap is.swapped) in
+    let before : IfSome x.swap.left.master (λ p. p.rules ≡ rules_of (setup_of lent)) = subst (λ (p : Parts). IfSome p.master (λ r. r.rules ≡ rules_of (setup_of lent))) (sym (given_up x.swap is.swapped)) (given_leases (rules_of (setup_of lent)) (opening (setup_of lent)).master lent.master leases) in
+    subst (λ (p : Parts). IfSome p.master (λ r. r.rules ≡ rules_of x.now.state.setup)) (sym is.counted) (subst (λ (y : SetupNumbers). IfSome (called_after (asked_in x) result x.swap.left).master (λ r. r.rules ≡ rules_of y)) (sym setup) (after_leases (asked_in x) result (rules_of (setup_of lent)) x.swap.left before))
 
 -- ---- and the parts come back
 -- how many there are before the first swap and before the second
@@ -83,22 +114,28 @@ pub record AreCounted (w v : State) : Type 0 where
 same_nodes : (l : Parts) (w v : State) → w ≡ opening (setup_of l) → v.setup ≡ setup_of l → AreCounted w v → length w.nodes ≡ length v.nodes
 same_nodes l w v opened setup counted = counted.nodes ∙ ap (λ (x : State). x.setup.nodes) opened ∙ sym (ap (λ (x : SetupNumbers). x.nodes) setup) ∙ sym counted.posts
 
-given_again : (l m n : Parts) (w v : State) (s : State) → Swapped l m n w s → v.setup ≡ setup_of l → AreCounted w v → given_from n v ≡ given_from l v
-given_again l m n w v s swapped setup counted =
-    ap (λ (p : Parts). given_from p v) (swapped.parts ∙ ap (λ (p : Parts). given_from p w) swapped.same) ∙ given_twice l w v counted.clients counted.others (same_nodes l w v swapped.setup setup counted)
+given_again : (x : Swap) (v : State) → Swapped x → v.setup ≡ setup_of x.lent → AreCounted x.opened v → given_from x.left v ≡ given_from x.lent v
+given_again x v swapped setup counted =
+    ap (λ (p : Parts). given_from p v) (swapped.parts ∙ ap (λ (p : Parts). given_from p x.opened) swapped.same) ∙ given_twice x.lent x.opened v counted.clients counted.others (same_nodes x.lent x.opened v swapped.setup setup counted)
+
+-- the second swap: the parts at the end are those that the engine gives back
+pub record IsBack (x : Round) (end : Parts) : Type 0 where
+  pub counts : AreCounted x.swap.opened x.now.state
+  pub parts : end ≡ given_from x.after x.now.state
 
 err_is_not : {E : Type 0} → (r : Result (Option Stopped) E) (x : Option Stopped) → r ≡ Ok x → IsErr r → ⊥
 err_is_not (Ok y) x is err = absurd (cc)
 err_is_not (Err e) x is err = absurd (cc)
 
 -- where memory was refused they are as before
-pub back_as_before : {E : Type 0} → (l m n after end : Parts) (w : State) (e : Event) (old now : Whole) (result : Result Unit Stopped) (r : Result (Option Stopped) E) → Swapped l m n w old.state → AreCounted w now.state → MakesStep (stepped old.state e (fate_of n (asks old.state e))) old now result → after ≡ called_after (asks old.state e) result n → end ≡ given_from after now.state → Ends result r → IsErr r → end ≡ l
-back_as_before l m n after end w e old now (Ok _) r swapped counts made counted back ends err = absurd (err_is_not r None ends err)
-back_as_before l m n after end w e old now (Err (Refused why)) r swapped counts made counted back ends err = absurd (err_is_not r (Some (Refused why)) ends err)
-back_as_before l m n after end w e old now (Err (StoreFault s)) r swapped counts made counted back ends err = absurd (err_is_not r (Some (StoreFault s)) ends err)
-back_as_before l m n after end w e old now (Err NoMemory) r swapped counts made counted back ends err =
-    let at : now.state ≡ filled l = made.0 ∙ filled_up l m n w old.state swapped in
-    back ∙ ap (λ (p : Parts). given_from p now.state) counted ∙ given_again l m n w now.state old.state swapped (ap (λ (v : State). v.setup) at) counts ∙ ap (λ (v : State). given_from l v) at ∙ given_back (opening (setup_of l)) l
+pub back_as_before : {E : Type 0} → (x : Round) (end : Parts) (result : Result Unit Stopped) (r : Result (Option Stopped) E) → IsMade x result → IsBack x end → Ends result r → IsErr r → end ≡ x.swap.lent
+back_as_before x end (Ok _) r is back ends err = absurd (err_is_not r None ends err)
+back_as_before x end (Err (Refused why)) r is back ends err = absurd (err_is_not r (Some (Refused why)) ends err)
+back_as_before x end (Err (StoreFault s)) r is back ends err = absurd (err_is_not r (Some (StoreFault s)) ends err)
+back_as_before x end (Err NoMemory) r is back ends err =
+    let now : State = x.now.state in
+    let at : now ≡ filled x.swap.lent = is.made.0 ∙ is.full ∙ filled_up x.swap is.swapped in
+    back.parts ∙ ap (λ (p : Parts). given_from p now) is.counted ∙ given_again x.swap now is.swapped (ap (λ (v : State). v.setup) at) back.counts ∙ ap (λ (v : State). given_from x.swap.lent v) at ∙ given_back (opening (setup_of x.swap.lent)) x.swap.lent
 
 done_of : {E : Type 0} → Result (Option Stopped) E → Option Stopped
 done_of (Ok stopped) = stopped
@@ -109,28 +146,44 @@ unfolding done_of
 same_ok a b r is was = sym (ap done_of is) ∙ ap done_of was
 
 -- otherwise they are those after the step, whose items are told
-acts_then : (l m n after end final : Parts) (w : State) (e : Event) (old now : Whole) (acted : Acted) (stopped : Option Stopped) → Swapped l m n w old.state → AreCounted w now.state → now.state ≡ (stepped old.state e (fate_of n (asks old.state e))).state → now.history ≡ old.history ++ (stepped old.state e (fate_of n (asks old.state e))).items → old.history ≡ [] → stopped ≡ stopped_of (stepped old.state e (fate_of n (asks old.state e))).stop → after ≡ called (asks old.state e) n → end ≡ given_from after now.state → final ≡ noted e end → acted.items.items ≡ now.history → acted.stopped ≡ stopped → Acts l final e acted
-acts_then l m n after end final w e old now acted stopped swapped counts at told none stops counted back noting items stop =
-    let full = filled_up l m n w old.state swapped in
-    let given = given_up l m n w old.state swapped in
-    let fate : fate_of n (asks old.state e) ≡ fate_of l (asked_of l e) = ap (λ (p : Parts). fate_of p (asks old.state e)) given ∙ given_fate (asks old.state e) l (opening (setup_of l)) ∙ ap (λ (v : State). fate_of l (asks v e)) full in
-    let step : stepped old.state e (fate_of n (asks old.state e)) ≡ step_of l e = λ k. stepped (full k) e (fate k) in
-    let setup : now.state.setup ≡ setup_of l = ap (λ (v : State). v.setup) at ∙ (leaves_parts old.state e (fate_of n (asks old.state e))).setup ∙ ap (λ (v : State). v.setup) full in
+pub record IsTold (x : Round) (acted : Acted) : Type 0 where
+  pub none : x.old.history ≡ []
+  pub items : acted.items.items ≡ x.now.history
+
+-- the step came to its end, and stopped so
+record CameTo (x : Round) (stopped : Option Stopped) : Type 0 where
+  state : x.now.state ≡ (step_in x).state
+  items : x.now.history ≡ x.old.history ++ (step_in x).items
+  stop : stopped ≡ stopped_of (step_in x).stop
+  counted : x.after ≡ called (asked_in x) x.swap.left
+
+acts_then : (x : Round) (end final : Parts) (acted : Acted) → Swapped x.swap → CameTo x acted.stopped → IsBack x end → final ≡ noted x.event end → IsTold x acted → Acts x.swap.lent final x.event acted
+acts_then x end final acted swapped came back noting told =
+    let l : Parts = x.swap.lent in
+    let e : Event = x.event in
+    let full = filled_up x.swap swapped in
+    let given = given_up x.swap swapped in
+    let fate : fate_of x.swap.left (asked_in x) ≡ fate_of l (asked_of l e) = ap (λ (p : Parts). fate_of p (asked_in x)) given ∙ given_fate (asked_in x) l (opening (setup_of l)) ∙ ap (λ (v : State). fate_of l (asks v e)) full in
+    let step : step_in x ≡ step_of l e = λ k. stepped (full k) e (fate k) in
+    let setup : x.now.state.setup ≡ setup_of l = ap (λ (v : State). v.setup) came.state ∙ (leaves_parts x.swap.full e (fate_of x.swap.left (asked_in x))).setup ∙ ap (λ (v : State). v.setup) full in
     record {
-      items = items ∙ told ∙ (λ k. none k ++ (step k).items);
-      stopped = stop ∙ stops ∙ ap (λ x. stopped_of x.stop) step;
-      parts = noting ∙ ap (noted e) (back ∙ ap (λ (p : Parts). given_from p now.state) counted ∙ given_called (asks old.state e) n now.state
-          ∙ (λ k. called (asks (full k) e) (given_again l m n w now.state old.state swapped setup counts k)) ∙ ap (λ (v : State). called (asked_of l e) (given_from l v)) (at ∙ ap (λ x. x.state) step));
+      items = told.items ∙ came.items ∙ (λ k. told.none k ++ (step k).items);
+      stopped = came.stop ∙ ap (λ y. stopped_of y.stop) step;
+      parts = noting ∙ ap (noted e) (back.parts ∙ ap (λ (p : Parts). given_from p x.now.state) came.counted ∙ given_called (asked_in x) x.swap.left x.now.state
+          ∙ (λ k. called (asks (full k) e) (given_again x.swap x.now.state swapped setup back.counts k)) ∙ ap (λ (v : State). called (asked_of l e) (given_from l v)) (came.state ∙ ap (λ y. y.state) step));
     }
 
-pub acts_by : {E : Type 0} → (l m n after end final : Parts) (w : State) (e : Event) (old now : Whole) (result : Result Unit Stopped) (acted : Acted) (stopped : Option Stopped) (r : Result (Option Stopped) E) → Swapped l m n w old.state → AreCounted w now.state → MakesStep (stepped old.state e (fate_of n (asks old.state e))) old now result → after ≡ called_after (asks old.state e) result n → old.history ≡ [] → end ≡ given_from after now.state → Ends result r → r ≡ Ok stopped → final ≡ noted e end → acted.items.items ≡ now.history → acted.stopped ≡ stopped → Acts l final e acted
-acts_by l m n after end final w e old now (Ok _) acted stopped r swapped counts made counted none back ends is noting items stop =
-    acts_then l m n after end final w e old now acted stopped swapped counts made.parts made.items none (same_ok stopped None r is ends ∙ sym (ap stopped_of made.stop)) counted back noting items stop
-acts_by l m n after end final w e old now (Err (Refused why)) acted stopped r swapped counts made counted none back ends is noting items stop =
-    acts_then l m n after end final w e old now acted stopped swapped counts made.parts made.items none (same_ok stopped (Some (Refused why)) r is ends ∙ sym (ap stopped_of made.stop)) counted back noting items stop
-acts_by l m n after end final w e old now (Err (StoreFault s)) acted stopped r swapped counts made counted none back ends is noting items stop =
-    acts_then l m n after end final w e old now acted stopped swapped counts made.parts made.items none (same_ok stopped (Some (StoreFault s)) r is ends ∙ sym (ap stopped_of made.stop)) counted back noting items stop
-acts_by l m n after end final w e old now (Err NoMemory) acted stopped r swapped counts made counted none back ends is noting items stop = absurd (err_is_not r stopped is ends)
+came_to : {E : Type 0} → (x : Round) (result : Result Unit Stopped) (stopped : Option Stopped) (r : Result (Option Stopped) E) → IsMade x result → Ends result r → r ≡ Ok stopped → CameTo x stopped
+came_to x (Ok _) stopped r made ends is =
+    record { state = made.made.parts; items = made.made.items; stop = same_ok stopped None r is ends ∙ sym (ap stopped_of made.made.stop); counted = made.counted }
+came_to x (Err (Refused why)) stopped r made ends is =
+    record { state = made.made.parts; items = made.made.items; stop = same_ok stopped (Some (Refused why)) r is ends ∙ sym (ap stopped_of made.made.stop); counted = made.counted }
+came_to x (Err (StoreFault s)) stopped r made ends is =
+    record { state = made.made.parts; items = made.made.items; stop = same_ok stopped (Some (StoreFault s)) r is ends ∙ sym (ap stopped_of made.made.stop); counted = made.counted }
+came_to x (Err NoMemory) stopped r made ends is = absurd (err_is_not r stopped is ends)
+
+pub acts_by : {E : Type 0} → (x : Round) (end final : Parts) (result : Result Unit Stopped) (acted : Acted) (r : Result (Option Stopped) E) → IsMade x result → IsBack x end → Ends result r → r ≡ Ok acted.stopped → final ≡ noted x.event end → IsTold x acted → Acts x.swap.lent final x.event acted
+acts_by x end final result acted r made back ends is noting told = acts_then x end final acted made.swapped (came_to x result acted.stopped r made ends is) back noting told
 
 pub on_err : {T E : Type 0} → (r : Result T E) (P : Type 0) → P → OnErr r P
 on_err (Ok x) P holds = tt
