@@ -14,7 +14,7 @@ use Rattle.machine.specs.Events.Take.{rules_of}
 use Rattle.machine.proofs.PartsKept.{seen_up, leaves_parts, posts_stay}
 use Rattle.isolation_laws.specs.Holds.{Holds}
 use Rattle.isolation_laws.specs.Sound.{Stands}
-use Rattle.isolation_laws.proofs.Outcome.Outcomes.{Outcome, OfGranted, OfRenewed, OfExtended, left_by}
+use Rattle.machine.specs.Outcome.Outcomes.{Outcome, OfGranted, OfRenewed, OfExtended, left_by}
 use Rattle.isolation_laws.proofs.AlwaysHolds.{each_outcome}
 use Rattle.cause_laws.specs.Shows.{Tells}
 use Rattle.call_laws.specs.Bounds.{IsBounded, Bounded}

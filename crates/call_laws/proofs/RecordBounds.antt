@@ -9,7 +9,7 @@ use Rattle.store_parts.specs.Record.{MasterRecord, Leasing, is_early, is_spent, 
 use Rattle.machine.specs.State.{State}
 use Rattle.machine.specs.Events.Take.{rules_of}
 use Rattle.isolation_laws.proofs.Numbers.NumbersOfTakes.{record_taken}
-use Rattle.isolation_laws.proofs.Inversions.InversionOfExtensions.{extend_room}
+use Rattle.machine.proofs.Inversions.InversionOfExtensions.{extend_room}
 use Rattle.call_laws.specs.Bounds.{IsBounded}
 
 -- ---- room in the record for one more range

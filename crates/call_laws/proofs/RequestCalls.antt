@@ -19,11 +19,11 @@ use Rattle.machine.specs.Events.Put.{to_place, to_place_by}
 use Rattle.isolation_laws.specs.Words.{InstanceAt, ClientAt, HasRecord}
 use Rattle.isolation_laws.specs.Requests.{WaitsFor}
 use Rattle.isolation_laws.specs.Holds.{Holds}
-use Rattle.isolation_laws.proofs.Lookups.{held_by, one_client}
-use Rattle.isolation_laws.proofs.Outcome.Outcomes.{AtDrawn}
+use Rattle.machine.proofs.Lookups.{held_by, one_client}
+use Rattle.machine.specs.Outcome.Outcomes.{AtDrawn}
 use Rattle.isolation_laws.proofs.Numbers.NumbersKept.{in_flight_of, drawn_pending}
 use Rattle.isolation_laws.proofs.Owners.{pending_unplaced}
-use Rattle.isolation_laws.proofs.Inversions.InversionOfSessions.{work_open}
+use Rattle.machine.proofs.Inversions.InversionOfSessions.{work_open}
 use Rattle.cause_laws.specs.Shows.{Tells}
 use Rattle.call_laws.specs.Requests.{PostAt, BeginMayBeAsked, CommitMayBeAsked, RequestsAreWaitedFor, PutMayBeMade}
 

@@ -25,11 +25,12 @@ use Rattle.isolation_laws.specs.Words.{ClientAt}
 use Rattle.isolation_laws.specs.Pending.{Has, is_placing, IsPending}
 use Rattle.isolation_laws.specs.Holds.{Holds}
 use Rattle.isolation_laws.proofs.Owners.{pending_unplaced}
-use Rattle.isolation_laws.proofs.Pushed.{one_quiet}
-use Rattle.isolation_laws.proofs.Outcome.PlainItems.{one_silent}
-use Rattle.isolation_laws.proofs.Inversions.InversionOfWork.{IsWork, work_fits}
+use Rattle.machine.proofs.Outcome.QuietItems.{one_quiet}
+use Rattle.machine.proofs.Outcome.PlainItems.{one_silent}
+use Rattle.machine.specs.Fits.{IsWork}
+use Rattle.isolation_laws.proofs.Inversions.StepsFitting.{work_fits}
 use Rattle.isolation_laws.proofs.Stores.StoresStay.{completed_fills}
-use Rattle.isolation_laws.proofs.Stores.MarksTold.{marks_same}
+use Rattle.machine.proofs.MarksTold.{marks_same}
 use Rattle.cause_laws.specs.Shows.{Tells}
 use Rattle.call_laws.specs.Stores.{StepMayBeMade, PlacingMayBeMade}
 use Rattle.call_laws.proofs.StoreCalls.{only_shadow, keeps_next}

@@ -30,7 +30,7 @@ use Rattle.isolation_laws.specs.Holds.{Holds}
 use Rattle.isolation_laws.specs.Sound.{Sound}
 use Rattle.isolation_laws.proofs.OnceEach.{one_commit}
 use Rattle.isolation_laws.proofs.Stores.StoresStay.{swept_fills}
-use Rattle.isolation_laws.proofs.Inversions.InversionOfSessions.{work_open, write_may}
+use Rattle.machine.proofs.Inversions.InversionOfSessions.{work_open, write_may}
 use Rattle.cause_laws.specs.Shows.{Tells}
 use Rattle.call_laws.specs.Stores.{WriteMayBeMade, HealMayBeMade, ReadsFetched, ReadMayGoOn, SweepMayStep}
 

@@ -17,7 +17,7 @@ use Rattle.machine.specs.Events.Take.{rules_of, instance_of}
 use Rattle.machine.specs.Events.Decide.{draw_item}
 use Rattle.isolation_laws.specs.Words.{InstanceAt, HeldBy}
 use Rattle.isolation_laws.specs.Sound.{Stands}
-use Rattle.isolation_laws.proofs.Lookups.{instance_changed, held_by, heldby_ended, heldby_changed}
+use Rattle.machine.proofs.Lookups.{instance_changed, held_by, heldby_ended, heldby_changed}
 use Rattle.isolation_laws.proofs.Requests.PendingAfter.{new_holds_none, same_requests}
 use Rattle.cause_laws.specs.Requests.{AreAsked, AreFaulted, ArePutByNodes}
 use Rattle.cause_laws.specs.Shows.{Shows}

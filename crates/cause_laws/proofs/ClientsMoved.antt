@@ -20,11 +20,11 @@ use Rattle.machine.specs.Events.Write.{client_wrote}
 use Rattle.isolation_laws.specs.Words.{InstanceAt, HeldBy, ClientAt}
 use Rattle.isolation_laws.specs.Requests.{WaitsFor}
 use Rattle.isolation_laws.specs.Holds.{Holds}
-use Rattle.isolation_laws.proofs.Lookups.{one_client}
+use Rattle.machine.proofs.Lookups.{one_client}
 use Rattle.isolation_laws.proofs.Requests.ClientsOpen.{gone_cases}
-use Rattle.isolation_laws.proofs.Outcome.OutcomesOfStamps.{HandedOver}
-use Rattle.isolation_laws.proofs.Outcome.OutcomesOfWork.{fetched_turn, fetched_client, read_turn, read_client}
-use Rattle.isolation_laws.proofs.Outcome.Outcomes.{Outcome, OfAnsweredBegin, OfHanded, OfWrote, OfVanished, OfFetched, OfReadDropped, OfReadStepped, left_by, told_by_outcome}
+use Rattle.machine.specs.Outcome.OutcomesOfStamps.{HandedOver}
+use Rattle.machine.specs.Outcome.OutcomesOfWork.{fetched_turn, fetched_client, read_turn, read_client}
+use Rattle.machine.specs.Outcome.Outcomes.{Outcome, OfAnsweredBegin, OfHanded, OfWrote, OfVanished, OfFetched, OfReadDropped, OfReadStepped, left_by, told_by_outcome}
 use Rattle.cause_laws.proofs.AsBefore.{IsGone, IsPlacing, AsBefore, same_before, begun_before, heard, read_before}
 
 -- a commit that was drawn is handed to the session, which is to place it

@@ -19,9 +19,9 @@ use Rattle.machine.specs.State.{Client, State}
 use Rattle.machine.specs.Events.Take.{rules_of, take_item}
 use Rattle.cause_rules.specs.OpenAsks.{ends_request}
 use Rattle.isolation_laws.specs.Words.{InstanceAt, ClientAt, Marked}
-pub use Rattle.isolation_laws.proofs.Outcome.PlainItems.{is_silent, Silent, AllSilent}
-pub use Rattle.isolation_laws.proofs.Outcome.OutcomesOfRecord.{Stopped, Serving, Told, Granted, granted_nodes, fault_if}
-pub use Rattle.isolation_laws.proofs.Outcome.OutcomesOfStamps.{fault_of}
+pub use Rattle.machine.specs.Plain.{is_silent, Silent, AllSilent}
+pub use Rattle.machine.specs.Outcome.OutcomesOfRecord.{Stopped, Serving, Told, Granted, granted_nodes, fault_if}
+pub use Rattle.machine.specs.Outcome.OutcomesOfStamps.{fault_of}
 use Rattle.oracle_parts.specs.InstanceSteps.{without_request, moved, just_asked, decide_drawn, instance_widened, instance_renewed, instance_stopped}
 use Rattle.machine.specs.Events.Decide.{draw_item}
 

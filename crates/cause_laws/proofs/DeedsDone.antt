@@ -29,13 +29,14 @@ use Rattle.machine.specs.Events.Take.{rules_of}
 use Rattle.isolation_laws.specs.Words.{InstanceAt, Marked}
 use Rattle.isolation_laws.specs.Holds.{Holds}
 use Rattle.isolation_laws.specs.Sound.{Stands}
-use Rattle.isolation_laws.proofs.Outcome.PlainItems.{AllSilent, one_silent, two_silent, all_silent}
-use Rattle.isolation_laws.proofs.Outcome.OutcomesOfRecord.{StillBy, Rests, Stops, Tells, Renewed as RenewedLease, renewed_nodes, Extended, extended_nodes, fault_if}
-use Rattle.isolation_laws.proofs.Outcome.OutcomesOfStamps.{AtDrawn, PlacedOne, settled_nodes, fault_of, found_items, answered_item}
-use Rattle.isolation_laws.proofs.Outcome.OutcomesOfWork.{OutcomeStepped}
-use Rattle.isolation_laws.proofs.Outcome.Outcomes.{Outcome, OfStill, OfGranted, OfRenewed, OfExtended, OfCrashed, OfAskedBegin, OfAskedCommit, OfAccepted, OfEnded, OfDrew, OfPlaced, OfNotPlaced, OfAnsweredBegin, OfAnsweredCommit, OfHanded, OfOwnPlaced, OfOwnNotPlaced, OfOutcome, left_by, told_by_outcome}
+use Rattle.machine.specs.Plain.{AllSilent}
+use Rattle.machine.proofs.Outcome.PlainItems.{one_silent, two_silent, all_silent}
+use Rattle.machine.specs.Outcome.OutcomesOfRecord.{StillBy, Rests, Stops, Tells, Renewed as RenewedLease, renewed_nodes, Extended, extended_nodes, fault_if}
+use Rattle.machine.specs.Outcome.OutcomesOfStamps.{AtDrawn, PlacedOne, settled_nodes, fault_of, found_items, answered_item}
+use Rattle.machine.specs.Outcome.OutcomesOfWork.{OutcomeStepped}
+use Rattle.machine.specs.Outcome.Outcomes.{Outcome, OfStill, OfGranted, OfRenewed, OfExtended, OfCrashed, OfAskedBegin, OfAskedCommit, OfAccepted, OfEnded, OfDrew, OfPlaced, OfNotPlaced, OfAnsweredBegin, OfAnsweredCommit, OfHanded, OfOwnPlaced, OfOwnNotPlaced, OfOutcome, left_by, told_by_outcome}
 use Rattle.isolation_laws.proofs.Numbers.NumbersKept.{in_flight_of, drawn_pending}
-use Rattle.isolation_laws.proofs.Inversions.InversionOfAnswers.{not_invalid}
+use Rattle.machine.proofs.Inversions.InversionOfAnswers.{not_invalid}
 use Rattle.isolation_laws.proofs.AlwaysHolds.{each_outcome}
 use Rattle.cause_laws.proofs.Deeds.{Serving, EndsFor, OfRested, OfTook, OfRenewed, OfWidened, OfStopped, OfCrashed, OfAsked, OfAccepted, OfDrew, OfSettled, OfTold, OfEnded, OfLearned, DeedOf}
 use Rattle.cause_laws.proofs.DeedsOfPlacings.{answered_ends, own_told_deed, own_placed_deed}

@@ -8,9 +8,10 @@ use Rattle.history_book.specs.declared.item.Item.TheVariants as item
 use Rattle.oracle_parts.specs.declared.instance.Settled.{Settled}
 use Rattle.oracle_parts.specs.declared.instance.Settled.TheVariants as how
 use Rattle.machine.specs.State.{State}
-use Rattle.isolation_laws.proofs.Outcome.PlainItems.{AllSilent, none_silent, one_silent, two_silent}
-use Rattle.isolation_laws.proofs.Outcome.OutcomesOfStamps.{answered_item}
-use Rattle.isolation_laws.proofs.Outcome.OutcomesOfPlacings.{AtPlacing, own_told}
+use Rattle.machine.specs.Plain.{AllSilent}
+use Rattle.machine.proofs.Outcome.PlainItems.{none_silent, one_silent, two_silent}
+use Rattle.machine.specs.Outcome.OutcomesOfStamps.{answered_item}
+use Rattle.machine.specs.Outcome.OutcomesOfPlacings.{AtPlacing, own_told}
 use Rattle.cause_laws.proofs.Deeds.{EndsFor, OfLearned, DeedOf}
 
 pub answered_ends : (by : Settled) (session start commit : ℕ) → EndsFor session (answered_item by session start commit)

@@ -11,8 +11,8 @@ use Rattle.machine.specs.State.{Client, State}
 use Rattle.machine.specs.Machine.{stepped}
 use Rattle.isolation_laws.specs.Words.{ClientAt}
 use Rattle.isolation_laws.specs.Sound.{Stands}
-use Rattle.isolation_laws.proofs.Lookups.{client_set}
-use Rattle.isolation_laws.proofs.Outcome.Outcomes.{left_by, told_by_outcome}
+use Rattle.machine.proofs.Lookups.{client_set}
+use Rattle.machine.specs.Outcome.Outcomes.{left_by, told_by_outcome}
 use Rattle.isolation_laws.proofs.AlwaysHolds.{each_outcome}
 use Rattle.cause_laws.specs.Stores.{AreGone}
 use Rattle.cause_laws.proofs.AsBefore.{IsGone}

@@ -17,7 +17,7 @@ use Rattle.machine.specs.State.{Client, State}
 use Rattle.machine.specs.Events.Crash.{loss_heard, loss_items, crashed_items, all_crashed_items}
 use Rattle.isolation_laws.specs.Words.{InstanceAt, ClientAt}
 use Rattle.isolation_laws.specs.Requests.{WaitsFor, AreRequests}
-use Rattle.isolation_laws.proofs.Lookups.{held_by, one_client}
+use Rattle.machine.proofs.Lookups.{held_by, one_client}
 use Rattle.cause_laws.proofs.Deeds.{IsLossOf}
 
 -- ---- crash: each session that is told something has its request there

@@ -14,7 +14,7 @@ use Rattle.oracle_parts.specs.Instance.{InstanceEntry, held_of, with_request}
 use Rattle.oracle_parts.proofs.InstanceRequests.{held_of-with_request_same, held_of-with_request_other}
 use Rattle.cause_rules.specs.OpenAsks.{open_then}
 use Rattle.isolation_laws.specs.Words.{InstanceAt, HeldBy}
-use Rattle.isolation_laws.proofs.Lookups.{set_cases, instance_changed, instance_ended, held_by}
+use Rattle.machine.proofs.Lookups.{set_cases, instance_changed, instance_ended, held_by}
 use Rattle.cause_laws.specs.Requests.{held_count, AreOpenAsks}
 use Rattle.cause_laws.proofs.OpenWords.{open_more, open_kept, Calm, all_calm_keep}
 

@@ -9,8 +9,9 @@ use Rattle.machine.specs.declared.event.Event.{Event}
 use Rattle.machine.specs.State.{State}
 use Rattle.machine.specs.Machine.{stepped}
 use Rattle.isolation_laws.specs.Sound.{Stands}
-use Rattle.isolation_laws.proofs.Outcome.Outcomes.{Outcome, OfPlaced, OfOwnPlaced, OfReadDropped, OfReadStepped, OfOutcome, OfOutcomeFailed, OfCompleted, OfSwept, OfSweepFailed, left_by, told_by_outcome}
-use Rattle.isolation_laws.proofs.Stores.MarksTold.{MarksTold, marks_same, marks_behind, placed_marks}
+use Rattle.machine.specs.Outcome.Outcomes.{Outcome, OfPlaced, OfOwnPlaced, OfReadDropped, OfReadStepped, OfOutcome, OfOutcomeFailed, OfCompleted, OfSwept, OfSweepFailed, left_by, told_by_outcome}
+use Rattle.machine.specs.MarksTold.{MarksTold}
+use Rattle.machine.proofs.MarksTold.{marks_same, marks_behind, placed_marks}
 use Rattle.isolation_laws.proofs.AlwaysHolds.{each_outcome}
 use Rattle.cause_laws.specs.Stores.{AreMarked}
 

@@ -25,7 +25,7 @@ use Rattle.machine.specs.Events.Decide.{draw_item}
 use Rattle.cause_rules.specs.OpenAsks.{ends_request, asks_at, open_then}
 use Rattle.isolation_laws.specs.Words.{InstanceAt, HeldBy}
 use Rattle.isolation_laws.specs.Sound.{Stands}
-use Rattle.isolation_laws.proofs.Lookups.{held_by}
+use Rattle.machine.proofs.Lookups.{held_by}
 use Rattle.cause_laws.specs.Requests.{held_count, AreOpenAsks}
 use Rattle.cause_laws.specs.Shows.{Shows}
 use Rattle.cause_laws.proofs.Deeds.{Granted, Crashed, Asked, Serving, Ended, Learned, Deed, OfRested, OfTook, OfRenewed, OfWidened, OfStopped, OfCrashed, OfAsked, OfAccepted, OfDrew, OfSettled, OfTold, OfEnded, OfLearned, IsLossOf, granted_nodes, took_items, fault_if, fault_of, renewed_to, widened_to, ask_item, nodes_by, items_by}

@@ -20,8 +20,8 @@ use Rattle.machine.specs.State.{Client, State}
 use Rattle.machine.specs.Machine.{stepped}
 use Rattle.isolation_laws.specs.Words.{HeldBy, ClientAt}
 use Rattle.isolation_laws.specs.Sound.{Stands}
-use Rattle.isolation_laws.proofs.Lookups.{client_set, held_by, one_client}
-use Rattle.isolation_laws.proofs.Outcome.Outcomes.{Outcome, left_by, told_by_outcome}
+use Rattle.machine.proofs.Lookups.{client_set, held_by, one_client}
+use Rattle.machine.specs.Outcome.Outcomes.{Outcome, left_by, told_by_outcome}
 use Rattle.isolation_laws.proofs.AlwaysHolds.{each_outcome}
 use Rattle.cause_laws.specs.Requests.{AskedToPlace, ArePlacingAsked}
 use Rattle.cause_laws.specs.Shows.{Shows}

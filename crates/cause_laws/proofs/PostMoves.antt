@@ -17,7 +17,7 @@ use Rattle.machine.specs.State.{State}
 use Rattle.machine.specs.Events.Take.{rules_of, instance_of}
 use Rattle.machine.specs.Events.Decide.{draw_item}
 use Rattle.isolation_laws.specs.Words.{InstanceAt}
-use Rattle.isolation_laws.proofs.Lookups.{instance_changed, instance_ended}
+use Rattle.machine.proofs.Lookups.{instance_changed, instance_ended}
 use Rattle.cause_rules.specs.Posts.{takes_for, crashes_for}
 use Rattle.cause_laws.proofs.Deeds.{Deed, OfRested, OfTook, OfRenewed, OfWidened, OfStopped, OfCrashed, OfAsked, OfAccepted, OfDrew, OfSettled, OfTold, OfEnded, OfLearned, Granted, Renewed, Widened, Stopped, Crashed, Drew, SettledOne, Learned, granted_nodes, took_items, fault_if, fault_of, renewed_to, widened_to, IsLossOf, EndsFor, ask_item, now_at, nodes_by, items_by}
 use Rattle.cause_laws.proofs.PostWords.{NoTakes, NoCrashes}

@@ -13,8 +13,8 @@ use Rattle.machine.specs.Machine.{stepped}
 use Rattle.machine.specs.Events.Take.{rules_of, take_item}
 use Rattle.isolation_laws.specs.Holds.{Holds}
 use Rattle.isolation_laws.specs.Sound.{Stands}
-use Rattle.isolation_laws.proofs.Outcome.OutcomesOfRecord.{fault_if}
-use Rattle.isolation_laws.proofs.Outcome.Outcomes.{Outcome, OfGranted, OfRenewed, OfExtended, left_by, told_by_outcome}
+use Rattle.machine.specs.Outcome.OutcomesOfRecord.{fault_if}
+use Rattle.machine.specs.Outcome.Outcomes.{Outcome, OfGranted, OfRenewed, OfExtended, left_by, told_by_outcome}
 use Rattle.isolation_laws.proofs.AlwaysHolds.{each_outcome}
 use Rattle.cause_laws.specs.Stores.{IsRecordShown}
 use Rattle.cause_laws.proofs.PostWords.{term_taken_on, lease_given_on, ceiling_given_on}

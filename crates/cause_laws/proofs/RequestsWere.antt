@@ -12,7 +12,7 @@ use Rattle.machine.specs.State.{Client, State}
 use Rattle.isolation_laws.specs.Words.{InstanceAt, HeldBy, ClientAt}
 use Rattle.isolation_laws.specs.Requests.{WaitsFor}
 use Rattle.isolation_laws.specs.Sound.{Stands}
-use Rattle.isolation_laws.proofs.Lookups.{instance_changed, instance_ended, held_by, one_client, heldby_changed}
+use Rattle.machine.proofs.Lookups.{instance_changed, instance_ended, held_by, one_client, heldby_changed}
 use Rattle.cause_laws.proofs.Deeds.{Serving, Asked, Learned}
 use Rattle.cause_laws.proofs.RequestsTold.{Told, AllTold}
 

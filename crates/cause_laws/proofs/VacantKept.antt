@@ -12,7 +12,7 @@ use Rattle.oracle_parts.specs.Instance.{InstanceEntry}
 use Rattle.machine.specs.State.{State}
 use Rattle.machine.specs.Events.Take.{rules_of, take_item}
 use Rattle.isolation_laws.specs.Sound.{Stands}
-use Rattle.isolation_laws.proofs.Lookups.{set_cases}
+use Rattle.machine.proofs.Lookups.{set_cases}
 use Rattle.cause_rules.specs.Posts.{HasNone}
 use Rattle.cause_laws.specs.Nodes.{AreVacant}
 use Rattle.cause_laws.specs.Shows.{Shows}

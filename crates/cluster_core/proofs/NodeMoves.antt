@@ -30,7 +30,7 @@ use Rattle.machine.proofs.PartsKept.{leaves_parts}
 use Rattle.event_parts.specs.Served.{is_to_decide, is_to_put, is_to_answer}
 use Rattle.node_events.specs.Reserved.{is_direct, HeldHasPlace}
 use Rattle.isolation_laws.specs.Words.{InstanceAt}
-use Rattle.isolation_laws.proofs.Lookups.{instance_set}
+use Rattle.machine.proofs.Lookups.{instance_set}
 use Rattle.cluster_core.specs.Room.{need, needs_of, start_to_place}
 use Rattle.cluster_core.specs.Served.{held_found, direct_found}
 use Rattle.cluster_core.proofs.Needs.{set_sum}

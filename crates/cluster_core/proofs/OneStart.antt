@@ -12,7 +12,7 @@ use Rattle.machine.specs.State.{State}
 use Rattle.isolation_laws.specs.Words.{InstanceAt, HeldBy, Begun}
 use Rattle.isolation_laws.specs.Pending.{Taken, Has, InFlight, HeldPending}
 use Rattle.isolation_laws.specs.Holds.{Holds}
-use Rattle.isolation_laws.proofs.Lookups.{held_by, commit_own}
+use Rattle.machine.proofs.Lookups.{held_by, commit_own}
 use Rattle.isolation_laws.proofs.OnceEach.{begun_once}
 use Rattle.cluster_core.specs.Room.{unless_direct, start_by, start_to_place}
 use Rattle.cluster_core.proofs.NodeMoves.{StartsAt}

@@ -26,7 +26,7 @@ use Rattle.event_parts.specs.Served.{is_to_decide, is_to_put, is_to_answer, Spen
 use Rattle.node_events.specs.Reserved.{ReservesFive, HeldHasPlace, KeepPlaces}
 use Rattle.node_events.proofs.Places.{used_keeps}
 use Rattle.isolation_laws.specs.Holds.{Holds}
-use Rattle.isolation_laws.proofs.Lookups.{instance_set}
+use Rattle.machine.proofs.Lookups.{instance_set}
 use Rattle.cluster_core.specs.Whole.{Whole}
 use Rattle.cluster_core.specs.Room.{start_by, start_to_place, AreRoomy, ArePlacesKept}
 use Rattle.cluster_core.specs.Served.{held_found, held_in, direct_in, is_served, ReservesFor, KeepsRoom, Spends, Reserves, LeavesRoom}

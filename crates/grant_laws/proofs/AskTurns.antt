@@ -21,7 +21,7 @@ use Rattle.machine.specs.Events.AskBegin.{ask_begin_on}
 use Rattle.machine.specs.Events.AskCommit.{ask_commit_on}
 use Rattle.script_data.specs.Data.{ScriptData}
 use Rattle.isolation_laws.specs.Words.{InstanceAt, ClientAt}
-use Rattle.isolation_laws.proofs.Lookups.{set_found}
+use Rattle.machine.proofs.Lookups.{set_found}
 use Rattle.line_steps.specs.Runs.{Played, step_of, played}
 use Rattle.turn_rules.specs.declared.ahead.Ahead.TheVariants.{Makes}
 use Rattle.turn_rules.specs.declared.turn.Turn.TheVariants as turn

@@ -11,7 +11,7 @@ use Rattle.oracle_parts.specs.declared.instance.Request.TheVariants.{Begin, Comm
 use Rattle.oracle_parts.specs.Instance.{InstanceEntry, unsettled_by, only_below, lesser, least_unsettled}
 use Rattle.machine.specs.State.{State}
 use Rattle.isolation_laws.specs.Words.{InstanceAt}
-use Rattle.isolation_laws.proofs.Lookups.{held_by}
+use Rattle.machine.proofs.Lookups.{held_by}
 use Rattle.cause_laws.specs.Requests.{WhereNodesPut}
 use Rattle.cause_laws.specs.Shows.{Tells}
 use Rattle.line_steps.specs.Laws.{EventsLowerWhatIsLeft}

@@ -41,8 +41,8 @@ use Rattle.machine.specs.Events.Decide.{both_verdict, both_if_accepted, both_hel
 use Rattle.machine.specs.Events.Put.{put_by, put_commit}
 use Rattle.machine.specs.Events.Answer.{answer_by, answer_request}
 use Rattle.isolation_laws.specs.Words.{InstanceAt}
-use Rattle.isolation_laws.proofs.Inversions.FreeVerdicts.{writes_free}
-use Rattle.isolation_laws.proofs.Lookups.{set_found, set_other}
+use Rattle.machine.proofs.Inversions.FreeVerdicts.{writes_free}
+use Rattle.machine.proofs.Lookups.{set_found, set_other}
 
 -- ---- a request at a node
 pub record Has (nodes : List (Option InstanceEntry)) (node s : ℕ) (held : Held) : Type 0 where

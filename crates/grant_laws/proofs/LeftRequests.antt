@@ -20,7 +20,7 @@ use Rattle.machine.specs.Events.Answer.{answer_by, answer_request, answer_on}
 use Rattle.script_data.specs.Data.{ScriptData}
 use Rattle.isolation_laws.specs.Sound.{Stands}
 use Rattle.isolation_laws.specs.Words.{InstanceAt}
-use Rattle.isolation_laws.proofs.Lookups.{set_found, one_instance}
+use Rattle.machine.proofs.Lookups.{set_found, one_instance}
 use Rattle.line_steps.specs.Laws.{IsPlayable}
 use Rattle.line_steps.specs.Runs.{Played, step_of, played}
 use Rattle.line_steps.proofs.Serving.{node_step, on_both}

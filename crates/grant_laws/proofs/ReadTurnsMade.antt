@@ -17,7 +17,7 @@ use Rattle.machine.specs.Machine.{Step}
 use Rattle.machine.specs.Events.Fetch.{marks_every, client_fetched, found_of}
 use Rattle.script_data.specs.Data.{ScriptData}
 use Rattle.isolation_laws.specs.Words.{ClientAt}
-use Rattle.isolation_laws.proofs.Lookups.{set_found}
+use Rattle.machine.proofs.Lookups.{set_found}
 use Rattle.line_steps.specs.Laws.{IsPlayable}
 use Rattle.line_steps.specs.Runs.{Played, step_of, played}
 use Rattle.line_steps.proofs.ReadLines.{OfRead, over_recalls, told_recalls}

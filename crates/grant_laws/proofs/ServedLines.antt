@@ -23,7 +23,7 @@ use Rattle.script_data.specs.declared.line.Target.TheVariants as target
 use Rattle.script_data.specs.declared.line.Verb.{Verb}
 use Rattle.script_data.specs.declared.line.Verb.TheVariants as verb
 use Rattle.script_data.specs.Data.{ScriptData}
-use Rattle.isolation_laws.proofs.Lookups.{one_instance, one_client}
+use Rattle.machine.proofs.Lookups.{one_instance, one_client}
 use Rattle.line_steps.specs.declared.point.Point.TheVariants.{Opens}
 use Rattle.line_steps.specs.declared.point.View.{View}
 use Rattle.line_steps.specs.Laws.{IsPlayable}

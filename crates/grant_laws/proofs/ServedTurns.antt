@@ -37,7 +37,7 @@ use Rattle.isolation_laws.specs.Words.{InstanceAt, ClientAt, Marked}
 use Rattle.isolation_laws.specs.Sound.{Stands}
 use Rattle.isolation_laws.specs.Pending.{Has, InFlight, HeldPending}
 use Rattle.isolation_laws.specs.Requests.{WaitsFor}
-use Rattle.isolation_laws.proofs.Lookups.{set_found}
+use Rattle.machine.proofs.Lookups.{set_found}
 use Rattle.line_steps.specs.Runs.{Played, step_of, played}
 use Rattle.line_steps.proofs.Serving.{node_step, on_both}
 use Rattle.turn_rules.specs.declared.turn.Turn.{Turn}

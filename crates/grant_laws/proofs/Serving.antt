@@ -22,7 +22,7 @@ use Rattle.machine.specs.Events.Decide.{draw_item, decide_on, both_verdict}
 use Rattle.script_data.specs.declared.line.Line.{Line}
 use Rattle.script_data.specs.declared.line.Verb.{Verb}
 use Rattle.script_data.specs.Data.{ScriptData}
-use Rattle.isolation_laws.proofs.Lookups.{set_found}
+use Rattle.machine.proofs.Lookups.{set_found}
 use Rattle.line_steps.specs.declared.point.Point.TheVariants.{Drives}
 use Rattle.line_steps.specs.Next.{is_served}
 use Rattle.line_steps.specs.Runs.{Played, step_of, calls_after, clock_after, played}

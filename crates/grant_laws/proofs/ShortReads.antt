@@ -13,7 +13,8 @@ use Rattle.store_parts.specs.declared.rows.Cell.{Cell}
 use Rattle.store_parts.specs.Rows.{fetched, is_below, front_of}
 use Rattle.script_data.specs.declared.limits.TheConstants.{FAULT_LIMIT}
 use Rattle.script_data.specs.Data.{ScriptData}
-use Rattle.isolation_laws.specs.Bare.{is_fault, faults_in, is_bare}
+use Rattle.machine.specs.Faults.{is_fault, faults_in}
+use Rattle.isolation_laws.specs.Bare.{is_bare}
 use Rattle.isolation_laws.proofs.Bare.FewBare.{few_bare}
 use Rattle.line_steps.specs.Planned.{is_fault_of, plans, FaultsArePlanned}
 use Rattle.line_steps.specs.Laws.{EventsLowerWhatIsLeft}

@@ -23,7 +23,7 @@ use Rattle.script_data.specs.Data.{ScriptData}
 use Rattle.isolation_laws.specs.Words.{InstanceAt, ClientAt}
 use Rattle.isolation_laws.specs.Requests.{WaitsFor}
 use Rattle.isolation_laws.specs.Sound.{Stands}
-use Rattle.isolation_laws.proofs.Lookups.{set_found, instance_changed, held_by, one_client}
+use Rattle.machine.proofs.Lookups.{set_found, instance_changed, held_by, one_client}
 use Rattle.line_steps.specs.declared.point.Point.{Point}
 use Rattle.line_steps.specs.declared.point.Point.TheVariants.{Drives}
 use Rattle.line_steps.specs.Halts.{halt_of, follows}

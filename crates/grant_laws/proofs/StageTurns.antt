@@ -39,7 +39,7 @@ use Rattle.script_data.specs.Data.{ScriptData}
 use Rattle.isolation_laws.specs.Words.{InstanceAt, ClientAt, Marked}
 use Rattle.isolation_laws.specs.Requests.{WaitsFor}
 use Rattle.isolation_laws.specs.Sound.{Stands}
-use Rattle.isolation_laws.proofs.Lookups.{set_found, one_client}
+use Rattle.machine.proofs.Lookups.{set_found, one_client}
 use Rattle.line_steps.proofs.Serving.{node_step, on_both}
 use Rattle.line_steps.specs.Runs.{fate_by, fate_of, step_of, played}
 use Rattle.turn_rules.specs.declared.turn.Turn.TheVariants as turn

@@ -23,7 +23,7 @@ use Rattle.machine.specs.Events.Decide.{decide_on}
 use Rattle.script_data.specs.Data.{ScriptData}
 use Rattle.isolation_laws.specs.Sound.{Stands}
 use Rattle.isolation_laws.specs.Words.{InstanceAt, ClientAt}
-use Rattle.isolation_laws.proofs.Lookups.{held_by}
+use Rattle.machine.proofs.Lookups.{held_by}
 use Rattle.line_steps.specs.Next.{reading_at}
 use Rattle.line_steps.specs.Runs.{step_of, clocks_of}
 use Rattle.line_steps.proofs.Holders.{Served, is_served_at}

@@ -11,10 +11,11 @@ use Rattle.cause_rules.specs.Strict.{SerialIfStrict}
 use Rattle.machine.specs.declared.event.Event.{Event}
 use Rattle.machine.specs.State.{State, opening}
 use Rattle.machine.specs.Machine.{Step, stepped, Move, state_after, items_after, history_after, reading_of, seen_after, IsSteadyAt, AreSteady, Steady}
-use Rattle.isolation_laws.specs.Due.{AreDue}
+use Rattle.machine.specs.Due.{AreDue}
 use Rattle.isolation_laws.specs.Holds.{Holds}
 use Rattle.isolation_laws.specs.Sound.{Stands}
-use Rattle.isolation_laws.proofs.Outcome.Outcomes.{Outcome, OfStill, left_by, told_by_outcome, IsTimely, steadily}
+use Rattle.machine.specs.Outcome.Outcomes.{Outcome, OfStill, left_by, told_by_outcome, IsTimely}
+use Rattle.machine.proofs.Outcome.Readings.{steadily}
 use Rattle.isolation_laws.proofs.Numbers.NumbersOfAll.{numbers_kept}
 use Rattle.isolation_laws.proofs.Requests.RequestsOfAll.{requests_kept}
 use Rattle.isolation_laws.proofs.Memory.MemoryKept.{memory_kept}
@@ -24,7 +25,7 @@ use Rattle.isolation_laws.proofs.Requests.BeginsKept.{begins_kept}
 use Rattle.isolation_laws.proofs.Reading.ReadsKept.{reads_kept, right_reads_kept}
 use Rattle.isolation_laws.proofs.Known.KnownKept.{known_kept}
 use Rattle.isolation_laws.proofs.Bare.BareKept.{owned_kept}
-use Rattle.isolation_laws.proofs.Inversions.InversionParts.{ComesAt}
+use Rattle.machine.specs.Outcome.Inverted.{ComesAt}
 use Rattle.isolation_laws.proofs.Inversions.Inversion.{comes_to}
 use Rattle.isolation_laws.proofs.Inversions.InversionSound.{sound_kept, opening_sound}
 use Rattle.isolation_laws.proofs.Holding.IsolatedStamps.{stamped_kept, fresh_kept, apart_kept}

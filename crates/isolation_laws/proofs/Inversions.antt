@@ -1,17 +1,4 @@
--- Each event comes to one outcome.
-pub mod InversionParts
-pub mod InversionOfSessions
-pub mod InversionOfFetches
-pub mod InversionOfRecord
-pub mod InversionOfExtensions
-pub mod InversionOfAsks
-pub mod FreeVerdicts
-pub mod InversionOfRequests
-pub mod InversionOfAnswers
-pub mod InversionOfCalls
-pub mod InversionOfSweeps
-pub mod InversionOfSteps
-pub mod InversionOfPlacings
-pub mod InversionOfWork
+-- The facts make the parts of a state fit together, as the outcomes of events ask, and each event keeps it so.
+pub mod StepsFitting
 pub mod Inversion
 pub mod InversionSound

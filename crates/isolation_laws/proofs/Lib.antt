@@ -1,13 +1,9 @@
-pub mod Outcome
-mod Orders
-pub mod Lookups
 pub mod Pushed
 pub mod Requests
 pub mod OnceEach
 pub mod Owners
 mod ComingBelow
 pub mod FoundMarks
-mod Dues
 pub mod Numbers
 pub mod Memory
 pub mod Stores
@@ -17,5 +13,4 @@ pub mod Bare
 mod Reading
 pub mod Holding
 pub mod Inversions
-pub mod InversionOfAsks
 pub mod AlwaysHolds

@@ -9,7 +9,7 @@ use Rattle.history_book.specs.declared.item.Item.{Item}
 use Rattle.history_book.specs.declared.item.Item.TheVariants.{Begin, Draw, Placed}
 use Rattle.isolation_laws.specs.Words.{Begun, DrewCommit, drawn_stamp}
 use Rattle.isolation_laws.specs.Numbers.{IsNewDraw, AreNewDraws}
-use Rattle.isolation_laws.proofs.Orders.{three_ways}
+use Rattle.machine.proofs.Orders.{three_ways}
 
 -- ---- two members of a list in which something holds at each place
 pub place_of : {X : Type 0} (x : X) (xs : List X) → x ∈ xs → (p : ℕ) × (slice_get xs p ≡ Some x)

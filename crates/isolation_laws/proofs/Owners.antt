@@ -19,9 +19,9 @@ use Rattle.isolation_laws.specs.Words.{InstanceAt, HeldBy, ClientAt, OpenAt, Beg
 use Rattle.isolation_laws.specs.Pending.{Stage, Waits, Taken, Has, InFlight, stage_of, HeldPending, is_placing, Pending, IsPending, IsOpen, Live}
 use Rattle.isolation_laws.specs.Numbers.{AreRanges, AreLeases, AreDrawn, AreBegun, ArePlaced}
 use Rattle.isolation_laws.specs.Requests.{AreRequests, WaitsFor, IsDrawnSoFar, ArePending, AreAccepted, AreOpen, AreForm}
-use Rattle.isolation_laws.proofs.Lookups.{one_client}
+use Rattle.machine.proofs.Lookups.{one_client}
 use Rattle.isolation_laws.proofs.OnceEach.{begun_once}
-use Rattle.isolation_laws.proofs.Orders.{three_ways}
+use Rattle.machine.proofs.Orders.{three_ways}
 pub use Rattle.isolation_laws.proofs.OnceEach.{drawn_once}
 
 -- ---- whose a transaction is

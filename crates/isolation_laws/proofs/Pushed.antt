@@ -3,7 +3,7 @@
 use Rattle.std.proofs.Common.{◌≡◌, ℕ, ◌==◌, true, false, if◌then◌else◌, List, [], ◌∷◌, ◌++◌, append_assoc, Option, Some, None, ◌⊎◌, inl, inr, refl, sym, ◌∙◌, ap, subst}
 use Rattle.std.specs.Option.{option_or}
 use Rattle.std.proofs.lemmas.List.{append-nil}
-use Rattle.std.proofs.lemmas.List.Elements.{All-nil, All-cons, All-head, All-tail}
+use Rattle.std.proofs.lemmas.List.Elements.{All-head, All-tail}
 use Rattle.history_book.specs.Members.{◌∈◌}
 use Rattle.history_book.specs.Isolation.{Committed, last_write, written_by}
 use Rattle.history_book.specs.declared.item.Found.{Found}
@@ -13,7 +13,7 @@ use Rattle.history_book.proofs.MemberLemmas.{in_front}
 use Rattle.history_book.proofs.HistoryLemmas.{last_write-push}
 use Rattle.oracle_parts.specs.Buckets.{pairs_of}
 use Rattle.isolation_laws.specs.Words.{Begun, HasDrawn, keys_with, keys_from, written_keys, recorded_by, recorded_in, recorded}
-use Rattle.isolation_laws.specs.Quiet.{Quiet, AllQuiet}
+use Rattle.machine.specs.Quiet.{Quiet, AllQuiet}
 
 pub not_true : false ≡ true → ⊥
 not_true same = cc
@@ -129,6 +129,3 @@ recorded-push h x term same =
     recorded_in-append (h ++ x ∷ []) term h (x ∷ [])
     ∙ (ap (λ front. front ++ (recorded_by (h ++ x ∷ []) term x ++ [])) (recorded_in_same h (h ++ x ∷ []) term h same)
     ∙ ap (λ rest. recorded_in h term h ++ rest) (append-nil (recorded_by (h ++ x ∷ []) term x)))
-
-pub one_quiet : (x : Item) → Quiet x → AllQuiet (x ∷ [])
-one_quiet x quiet = All-cons Quiet x [] quiet (All-nil Quiet)

@@ -5,6 +5,5 @@ pub mod CellsStay
 pub mod CellsMove
 pub mod StoreMoves
 pub mod StoresStay
-pub mod MarksTold
 pub mod CompletionSteps
 pub mod CellsKept

@@ -1,26 +1,17 @@
 -- Cells without a shadow, and whose they are: of a transaction that a session has, or of one that a session let go where a store failed.
-use Rattle.std.specs.Prelude.{◌≡◌, ℕ, ◌+◌, ◌≤◌, ◌⊎◌, Bool, true, false, List, length, count_by, is_some, not, Some, None}
+use Rattle.std.specs.Prelude.{◌≡◌, ℕ, ◌+◌, ◌≤◌, ◌⊎◌, Bool, true, false, List, length, is_some, not, Some, None}
 use Rattle.std.specs.List.{filter}
 use Rattle.history_book.specs.Members.{◌∈◌}
 use Rattle.history_book.specs.declared.item.Item.{Item}
-use Rattle.history_book.specs.declared.item.Item.TheVariants.{Fault}
 use Rattle.store_parts.specs.declared.rows.Cell.{Cell}
 use Rattle.store_parts.specs.Rows.{Row, looked, fetched}
 use Rattle.client_parts.specs.declared.session.State.{State as SessionState}
 use Rattle.client_parts.specs.declared.session.State.TheVariants as phase
 use Rattle.client_parts.specs.SessionSteps.{SessionEntry}
 use Rattle.client_parts.specs.Completion.{undo_asks}
+pub use Rattle.machine.specs.Faults.{is_fault, faults_in}
 use Rattle.machine.specs.State.{UnderWay, Completes, Client, State}
 use Rattle.isolation_laws.specs.Words.{ClientAt}
-
--- ---- what failed
-abbrev pub is_fault : Item → Bool
-is_fault (Fault actor store) = true
-is_fault _ = false
-
--- how many store calls have failed so far
-abbrev pub faults_in : List Item → ℕ
-faults_in h = count_by is_fault h
 
 -- ---- whose a cell is
 -- the row of the key and the version is there, without a shadow

@@ -1,7 +1,5 @@
 pub mod Words
 pub mod Pending
-pub mod Quiet
-pub mod Due
 pub mod Numbers
 pub mod Requests
 pub mod ReadSets

@@ -1,6 +1,6 @@
 -- The words in which the facts are told: what stands where in a state, and what a history has.
-use Rattle.std.specs.Prelude.{◌≡◌, ℕ, List, slice_get, Option, None, Some}
-use Rattle.stamp_base.specs.declared.stores.Mark.TheVariants.{Committed as CommittedMark, Invalid as InvalidMark}
+use Rattle.std.specs.Prelude.{◌≡◌, ℕ, List, Option, None, Some}
+use Rattle.stamp_base.specs.declared.stores.Mark.TheVariants.{Committed as CommittedMark}
 use Rattle.history_book.specs.Members.{◌∈◌}
 use Rattle.history_book.specs.declared.item.Item.{Item}
 use Rattle.history_book.specs.declared.item.Item.TheVariants.{Begin, Draw}
@@ -8,29 +8,12 @@ use Rattle.store_parts.specs.declared.rows.Cell.{Cell}
 use Rattle.store_parts.specs.Pairs.{Pairs, mark_of}
 use Rattle.client_parts.specs.declared.session.State.{State as SessionState}
 use Rattle.client_parts.specs.declared.session.State.TheVariants as phase
-use Rattle.oracle_parts.specs.declared.instance.Held.{Held}
-use Rattle.oracle_parts.specs.declared.instance.Progress.{Progress}
-use Rattle.oracle_parts.specs.declared.instance.Request.{Request}
-use Rattle.oracle_parts.specs.Instance.{InstanceEntry, held_of}
 use Rattle.machine.specs.State.{Client}
+pub use Rattle.machine.specs.FoundAt.{InstanceAt, HeldBy, ClientAt, Marked}
 pub use Rattle.cause_rules.specs.Written.{keys_with, written_keys, recorded_by, recorded}
 unfoldable pub use Rattle.cause_rules.specs.Written.{keys_from, recorded_in}
 
 -- ---- what stands where
--- the node has this instance
-abbrev pub InstanceAt : List (Option InstanceEntry) → ℕ → InstanceEntry → Type 0
-InstanceAt nodes n i = slice_get nodes n ≡ Some (Some i)
-
--- the instance holds this request of the session, and it has come this far
-pub record HeldBy (i : InstanceEntry) (s : ℕ) (request : Request) (progress : Progress) : Type 0 where
-  pub held : Held
-  pub has : held_of i s ≡ Some held
-  pub asks : held.request ≡ request
-  pub stands : held.progress ≡ progress
-
-abbrev pub ClientAt : List Client → ℕ → Client → Type 0
-ClientAt clients s c = slice_get clients s ≡ Some c
-
 -- the session is in this state with this transaction
 pub record TxnAt (clients : List Client) (s : ℕ) (state : SessionState) (t : ℕ) : Type 0 where
   pub client : Client
@@ -75,10 +58,6 @@ drawn_stamp t (Some c) = c
 abbrev pub cell_with : ℕ → Option ℕ → Option (List ℕ) → Option Cell
 cell_with t shadow None = None
 cell_with t shadow (Some value) = Some (record { version = t; value = value; shadow = shadow })
-
--- the commit table has a mark that the transaction can never commit
-abbrev pub Marked : Pairs → ℕ → Type 0
-Marked pairs t = mark_of pairs t ≡ Some InvalidMark
 
 -- the commit table has the commit of the transaction
 abbrev pub HasRecord : Pairs → ℕ → ℕ → Type 0

@@ -21,7 +21,7 @@ use Rattle.machine.specs.Machine.{Step, step_by, with_post, with_client, with_re
 use Rattle.machine.specs.Events.Accept.{accept_by, accept_request, accept_on}
 use Rattle.script_data.specs.declared.line.Verb.{Verb}
 use Rattle.isolation_laws.specs.Words.{InstanceAt, ClientAt}
-use Rattle.isolation_laws.proofs.Lookups.{set_found}
+use Rattle.machine.proofs.Lookups.{set_found}
 use Rattle.line_steps.specs.Left.{of_client, client_completes, client_ends, lacks_stamps, place_left, drive_left}
 use Rattle.line_steps.proofs.Clients.{refused_left}
 use Rattle.line_steps.proofs.Serving.{Lowers, Serving, left_to_drive, node_step, goes_on, ends_so}

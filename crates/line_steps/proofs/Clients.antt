@@ -10,7 +10,7 @@ use Rattle.oracle_parts.specs.declared.instance.Request.TheVariants.{Begin, Comm
 use Rattle.machine.specs.State.{Client, State}
 use Rattle.machine.specs.Clients.{undo_of, finish_of, client_freed, client_aborted, client_handed, client_committed, unless_gone, unless_gone_by, after_refusal}
 use Rattle.machine.specs.Machine.{Step, at_client}
-use Rattle.isolation_laws.proofs.Lookups.{set_found}
+use Rattle.machine.proofs.Lookups.{set_found}
 use Rattle.line_steps.specs.Left.{asks_left, steps_due, keys_of, of_client, client_completes, client_ends, client_settles}
 
 -- ---- a client that is set is found

@@ -22,12 +22,12 @@ use Rattle.machine.specs.Clients.{after_refusal}
 use Rattle.machine.specs.Machine.{Step, with_post, with_client, stepped}
 use Rattle.script_data.specs.declared.line.Verb.{Verb}
 use Rattle.isolation_laws.specs.Words.{InstanceAt, ClientAt}
-use Rattle.isolation_laws.proofs.Lookups.{set_found}
+use Rattle.machine.proofs.Lookups.{set_found}
 use Rattle.line_steps.specs.Left.{of_client, client_completes, client_ends, lacks_stamps, place_left, drive_left}
 use Rattle.line_steps.proofs.Clients.{client_now, refused_left}
 use Rattle.oracle_parts.specs.InstanceSteps.{InstanceStep, IsStop, out_of_stamps, drawn_as, decide_drawn, decide_by as verdict_by}
 use Rattle.machine.specs.Events.Decide.{both_verdict, both_if_accepted, both_held, decide_by, decide_request, decide_on}
-use Rattle.isolation_laws.specs.Sound.{StopOf}
+use Rattle.machine.specs.Fits.{StopOf}
 use Rattle.line_steps.proofs.Serving.{Lowers, Serving, left_to_drive, node_step, on_both, goes_on, ends_so}
 
 -- an effect of the decision that the instance makes

@@ -28,7 +28,7 @@ use Rattle.machine.specs.Readers.{holder_from, place_held, place_of, is_commit, 
 use Rattle.script_data.specs.declared.line.Verb.{Verb}
 use Rattle.isolation_laws.specs.Words.{ClientAt}
 use Rattle.isolation_laws.specs.Sound.{Stands}
-use Rattle.isolation_laws.proofs.Lookups.{held_by}
+use Rattle.machine.proofs.Lookups.{held_by}
 use Rattle.line_steps.specs.declared.point.Point.{Point}
 use Rattle.line_steps.specs.Next.{Clocks, serves}
 use Rattle.line_steps.specs.Left.{of_client, client_completes, client_settles, client_ends, drive_left_by, drive_left, session_left}

@@ -26,7 +26,7 @@ use Rattle.machine.specs.Events.Fetch.{fetch_recall, marks_every, keeps_read, re
 use Rattle.script_data.specs.declared.line.Verb.TheVariants as verb
 use Rattle.isolation_laws.specs.Words.{ClientAt}
 use Rattle.isolation_laws.specs.Sound.{Stands}
-use Rattle.isolation_laws.proofs.Lookups.{set_found}
+use Rattle.machine.proofs.Lookups.{set_found}
 use Rattle.line_steps.specs.Answers.{RefusesLine, IsFetch, IsRefusal, read_begun}
 use Rattle.line_steps.proofs.Fitting.{fit_at}
 use Rattle.line_steps.proofs.AlwaysFit.{Fit}

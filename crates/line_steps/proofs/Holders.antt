@@ -11,7 +11,7 @@ use Rattle.machine.specs.State.{Client, State}
 use Rattle.machine.specs.Readers.{held_at, first_holder, holder_from, holder_of, place_held, place_of, is_commit, commit_held, asks_commit}
 use Rattle.isolation_laws.specs.Words.{InstanceAt}
 use Rattle.isolation_laws.specs.Sound.{Stands}
-use Rattle.isolation_laws.proofs.Lookups.{set_found, instance_changed, held_by}
+use Rattle.machine.proofs.Lookups.{set_found, instance_changed, held_by}
 use Rattle.line_steps.specs.Left.{of_client, client_settles, client_ends, lacks_stamps, lacks_at, place_left, request_left, drive_left_by, drive_left}
 
 -- the node has an instance that holds this request of the session

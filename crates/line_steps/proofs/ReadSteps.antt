@@ -21,7 +21,7 @@ use Rattle.machine.specs.Machine.{Step, with_client, stepped}
 use Rattle.machine.specs.Events.Fetch.{client_put_fresh, found_of, client_read, read_items}
 use Rattle.machine.specs.Events.Step.{step_recall, work_by, work_of, read_step}
 use Rattle.machine.specs.Readers.{open_doing, doing_by, doing_at, doing_of}
-use Rattle.isolation_laws.proofs.Lookups.{set_found}
+use Rattle.machine.proofs.Lookups.{set_found}
 use Rattle.line_steps.specs.Next.{read_next}
 use Rattle.line_steps.proofs.PlainEvents.{effect_plain, met_plain}
 use Rattle.line_steps.proofs.Plain.{plain_append, no_plain}

@@ -14,7 +14,7 @@ use Rattle.machine.specs.Readers.{place_of}
 use Rattle.script_data.specs.declared.line.Verb.{Verb}
 use Rattle.isolation_laws.specs.Words.{InstanceAt, ClientAt}
 use Rattle.isolation_laws.specs.Sound.{Stands}
-use Rattle.isolation_laws.proofs.Lookups.{held_set}
+use Rattle.machine.proofs.Lookups.{held_set}
 use Rattle.line_steps.specs.Halts.{halt_of, after_serving}
 use Rattle.line_steps.specs.Left.{of_client, client_completes, client_settles, client_ends, lacks_stamps, place_left, drive_left, session_left}
 use Rattle.line_steps.proofs.Holders.{Served, Changed, drives_on, driven}

@@ -20,3 +20,9 @@ mod WorkedReading
 mod TableMoves
 mod WorkedTables
 mod WorkedRecalls
+pub mod Orders
+pub mod Lookups
+pub mod MarksTold
+pub mod Outcome
+mod Dues
+pub mod Inversions

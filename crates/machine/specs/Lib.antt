@@ -6,6 +6,14 @@ pub mod Events
 pub mod Machine
 pub mod Readers
 pub mod Calls
+pub mod FoundAt
+pub mod Quiet
+pub mod Plain
+pub mod Faults
+pub mod MarksTold
+pub mod Due
+pub mod Fits
+pub mod Outcome
 pub mod Laws
 pub mod WorkedMoves
 pub mod WorkedRefusals

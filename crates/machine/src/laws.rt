@@ -8,6 +8,7 @@ ghost use Rattle.machine.specs.State.{Client};
 ghost use Rattle.machine.specs.Clients.{is_reading};
 ghost use Rattle.machine.specs.Events.Fetch.{client_fetched, fetch_refused};
 ghost use Rattle.machine.specs.Events.Decide.{decide_both};
+ghost use Rattle.machine.specs.Outcome.Inverted.{EventsComeToOutcomes};
 ghost use Rattle.machine.specs.Laws.{StopsAreKept, RefusalsLeaveAll, SeenGoesUp, EventsLeaveParts, StoresAreAskedOnce, RequestsAreToldOnce, GoneStaysGone};
 
 /// What an instance keeps of the master record's refusals is Replaced or Spent: so it is at the opening, and each event keeps
@@ -57,4 +58,11 @@ pub fn reads_count_if_strict()
     ensures kept { (setup : SetupNumbers) (c : Client) (key : ℕ) → setup.strict ≡ false → client_fetched setup c key ≡ c }
     ensures refused { (setup : SetupNumbers) (c : Client) (key : ℕ) → setup.strict ≡ false →
         fetch_refused setup c key ≡ work_refusal c.entry.state (is_reading c) }
+{}
+
+/// Each event comes to one outcome of `specs/Outcome`: the state that it leaves and the items that it tells are exactly those of the
+/// outcome, and each refusal among them says what is the case. It is asked that the state's parts fit together (`Fits`), as they do
+/// in each state that is reached.
+pub fn events_come_to_outcomes()
+    ensures { EventsComeToOutcomes }
 {}

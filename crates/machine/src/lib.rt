@@ -8,8 +8,9 @@ mod worked;
 
 pub use event::{Doing, Event};
 pub use laws::{
-    events_leave_parts, gone_stays_gone, instances_keep_stops, reads_count_if_strict,
-    refusals_leave_all, requests_are_told_once, seen_goes_up, stores_are_asked_once,
+    events_come_to_outcomes, events_leave_parts, gone_stays_gone, instances_keep_stops,
+    reads_count_if_strict, refusals_leave_all, requests_are_told_once, seen_goes_up,
+    stores_are_asked_once,
 };
 pub use worked::{
     boundaries_of_the_lease, conflict, crash, end_of_the_stamps, faulted_put,

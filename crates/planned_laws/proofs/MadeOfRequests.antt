@@ -33,8 +33,8 @@ use Rattle.machine.specs.Events.Put.{to_place, put_by, put_commit, put_on, commi
 use Rattle.machine.specs.Events.Answer.{answer_by, answer_request, answer_on}
 use Rattle.cause_rules.specs.Asks.{its_node}
 use Rattle.isolation_laws.specs.Words.{InstanceAt}
-use Rattle.isolation_laws.specs.Sound.{StopOf, AreStops}
-use Rattle.isolation_laws.proofs.Lookups.{held_by}
+use Rattle.machine.specs.Fits.{StopOf, AreStops}
+use Rattle.machine.proofs.Lookups.{held_by}
 use Rattle.cause_laws.specs.Due.{Serves}
 use Rattle.cause_laws.specs.Shows.{Shows}
 use Rattle.cause_laws.proofs.ShownOfRequests.{node_of}

@@ -33,7 +33,7 @@ use Rattle.machine.specs.Events.Abort.{abort_by, abort_on}
 use Rattle.machine.specs.Events.Vanish.{vanish_by, vanish_on}
 use Rattle.machine.specs.Events.Write.{write_refused, write_by, write_open, write_on, open_asks, write_asks}
 use Rattle.machine.specs.Events.Fetch.{fetch_recall, keeps_read, reads_refusal, fetch_refused, read_items, fetch_by, fetch_open, fetch_on, epoch_asks, fetch_asks}
-use Rattle.isolation_laws.proofs.InversionOfAsks.{asked_if}
+use Rattle.machine.proofs.Inversions.InversionOfAsks.{asked_if}
 use Rattle.line_steps.specs.Next.{Clocks}
 use Rattle.planned_laws.proofs.ReadItems.{IsRead, Made, none_read, one_read, made_none, made_one, made_failed, made_fault, unchanged_fails, applied_fails, IfUntimed, made_refused}
 

@@ -20,7 +20,7 @@ use Rattle.cause_rules.specs.Asks.{Ask, ask_by, asks_for, its_ask, since_ask}
 use Rattle.cause_laws.proofs.SinceWords.{last_told-push, since-push}
 use Rattle.cause_laws.specs.Shows.{Tells}
 use Rattle.isolation_laws.specs.Words.{ClientAt, written_keys}
-use Rattle.isolation_laws.proofs.Lookups.{one_client}
+use Rattle.machine.proofs.Lookups.{one_client}
 use Rattle.line_steps.proofs.AlwaysFit.{Fit, fit_stays, found}
 use Rattle.line_steps.proofs.Walks.{AllNot}
 use Rattle.served_lines.specs.Ends.{Ends}

@@ -19,7 +19,7 @@ use Rattle.oracle_parts.specs.declared.instance.Request.TheVariants as request
 use Rattle.oracle_parts.specs.Instance.{InstanceEntry, held_of}
 use Rattle.machine.specs.State.{Client, State}
 use Rattle.isolation_laws.specs.Words.{ClientAt, written_keys}
-use Rattle.isolation_laws.proofs.Lookups.{one_client, held_by}
+use Rattle.machine.proofs.Lookups.{one_client, held_by}
 use Rattle.isolation_laws.proofs.Pushed.{in_append}
 use Rattle.cause_rules.specs.Asks.{Ask, its_ask}
 use Rattle.cause_rules.specs.OpenAsks.{open_asks_of}

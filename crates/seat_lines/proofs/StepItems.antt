@@ -40,7 +40,7 @@ use Rattle.machine.specs.StoreSteps.{met, entry_of, mark_item, step_item, mark_k
 use Rattle.isolation_laws.specs.Words.{ClientAt, Begun}
 use Rattle.isolation_laws.specs.Sound.{Stands}
 use Rattle.isolation_laws.specs.UnderWay.{IsUndo}
-use Rattle.isolation_laws.proofs.Lookups.{client_set, one_client, set_found}
+use Rattle.machine.proofs.Lookups.{client_set, one_client, set_found}
 
 -- ---- what items say
 -- the session neither places a commit nor completes a transaction

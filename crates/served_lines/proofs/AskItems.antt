@@ -28,13 +28,13 @@ use Rattle.machine.specs.Events.Step.{settle_items}
 use Rattle.machine.specs.Events.Take.{rules_of, take_item}
 use Rattle.cause_rules.specs.Asks.{ask_by, asks_for, its_ask, since_ask}
 use Rattle.isolation_laws.specs.Words.{ClientAt}
-use Rattle.isolation_laws.proofs.Lookups.{one_client}
+use Rattle.machine.proofs.Lookups.{one_client}
 use Rattle.isolation_laws.proofs.Pushed.{not_true}
-use Rattle.isolation_laws.proofs.Outcome.PlainItems.{Silent, AllSilent}
-use Rattle.isolation_laws.proofs.Outcome.OutcomesOfRecord.{fault_if}
-use Rattle.isolation_laws.proofs.Outcome.OutcomesOfStamps.{answered_item}
-use Rattle.isolation_laws.proofs.Outcome.OutcomesOfPlacings.{own_told}
-use Rattle.isolation_laws.proofs.Outcome.Outcomes.{Outcome, OfGranted, OfCrashed, OfAskedBegin, OfAskedCommit, OfAccepted, OfEnded, OfDrew, OfAnsweredBegin, OfAnsweredCommit, OfHanded, OfOwnPlaced, OfOwnNotPlaced, OfOutcome, told_by_outcome}
+use Rattle.machine.specs.Plain.{Silent, AllSilent}
+use Rattle.machine.specs.Outcome.OutcomesOfRecord.{fault_if}
+use Rattle.machine.specs.Outcome.OutcomesOfStamps.{answered_item}
+use Rattle.machine.specs.Outcome.OutcomesOfPlacings.{own_told}
+use Rattle.machine.specs.Outcome.Outcomes.{Outcome, OfGranted, OfCrashed, OfAskedBegin, OfAskedCommit, OfAccepted, OfEnded, OfDrew, OfAnsweredBegin, OfAnsweredCommit, OfHanded, OfOwnPlaced, OfOwnNotPlaced, OfOutcome, told_by_outcome}
 use Rattle.cause_laws.proofs.SilentOutcomes.{fault_if_silent, silent_items}
 use Rattle.cause_laws.proofs.SinceWords.{last_told-same, since-more}
 

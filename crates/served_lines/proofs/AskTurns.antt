@@ -11,9 +11,9 @@ use Rattle.machine.specs.State.{Client, State}
 use Rattle.machine.specs.Clients.{client_asked}
 use Rattle.isolation_laws.specs.Words.{ClientAt}
 use Rattle.isolation_laws.proofs.AlwaysHolds.{each_outcome}
-use Rattle.isolation_laws.proofs.Lookups.{client_set, one_client}
-use Rattle.isolation_laws.proofs.Outcome.OutcomesOfRequests.{AskedBegin, asked_begin_state, asked_begin_items, AskedCommit, asked_commit_state}
-use Rattle.isolation_laws.proofs.Outcome.Outcomes.{Outcome, OfAskedBegin, OfAskedCommit, left_by, told_by_outcome}
+use Rattle.machine.proofs.Lookups.{client_set, one_client}
+use Rattle.machine.specs.Outcome.OutcomesOfRequests.{AskedBegin, asked_begin_state, asked_begin_items, AskedCommit, asked_commit_state}
+use Rattle.machine.specs.Outcome.Outcomes.{Outcome, OfAskedBegin, OfAskedCommit, left_by, told_by_outcome}
 use Rattle.served_lines.specs.Turns.{TakesAsks, AsksAreTurns}
 use Rattle.served_lines.proofs.OwingItems.{only_is}
 use Rattle.served_lines.proofs.OwingOutcomes.{among}

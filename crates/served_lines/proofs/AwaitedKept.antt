@@ -20,11 +20,11 @@ use Rattle.machine.specs.State.{Client, State}
 use Rattle.machine.specs.Clients.{client_begun, client_freed, client_aborted, client_handed, client_opened, unless_gone, unless_gone_by, after_refusal}
 use Rattle.machine.specs.Events.Crash.{after_loss, crashed_client}
 use Rattle.isolation_laws.specs.Words.{InstanceAt, ClientAt}
-use Rattle.isolation_laws.proofs.Lookups.{set_found, set_other, client_set, one_instance}
-use Rattle.isolation_laws.proofs.Outcome.OutcomesOfRecord.{StillBy, Rests as RestsBy, Stops, Tells as TellsOne, Granted, granted_nodes, Renewed, renewed_nodes, Extended, extended_nodes}
-use Rattle.isolation_laws.proofs.Outcome.OutcomesOfRequests.{Crashed, crashed_state}
-use Rattle.isolation_laws.proofs.Outcome.OutcomesOfStamps.{AtDrawn, settled_nodes, answered_client}
-use Rattle.isolation_laws.proofs.Outcome.Outcomes.{Outcome, OfStill, OfGranted, OfRenewed, OfExtended, OfCrashed, OfAskedBegin, OfAskedCommit, OfAccepted, OfEnded, OfDrew, OfPlaced, OfNotPlaced, OfAnsweredBegin, OfAnsweredCommit, OfHanded, left_by}
+use Rattle.machine.proofs.Lookups.{set_found, set_other, client_set, one_instance}
+use Rattle.machine.specs.Outcome.OutcomesOfRecord.{StillBy, Rests as RestsBy, Stops, Tells as TellsOne, Granted, granted_nodes, Renewed, renewed_nodes, Extended, extended_nodes}
+use Rattle.machine.specs.Outcome.OutcomesOfRequests.{Crashed, crashed_state}
+use Rattle.machine.specs.Outcome.OutcomesOfStamps.{AtDrawn, settled_nodes, answered_client}
+use Rattle.machine.specs.Outcome.Outcomes.{Outcome, OfStill, OfGranted, OfRenewed, OfExtended, OfCrashed, OfAskedBegin, OfAskedCommit, OfAccepted, OfEnded, OfDrew, OfPlaced, OfNotPlaced, OfAnsweredBegin, OfAnsweredCommit, OfHanded, left_by}
 use Rattle.served_lines.specs.Ends.{IsHeld}
 use Rattle.served_lines.proofs.CrashedClients.{crashed_is}
 

@@ -18,9 +18,9 @@ use Rattle.machine.specs.State.{Client, State}
 use Rattle.machine.specs.Machine.{stepped}
 use Rattle.isolation_laws.specs.Words.{ClientAt}
 use Rattle.isolation_laws.proofs.AlwaysHolds.{each_outcome}
-use Rattle.isolation_laws.proofs.Lookups.{set_found}
-use Rattle.isolation_laws.proofs.Outcome.OutcomesOfRequests.{AskedCommit, asked_commit_state}
-use Rattle.isolation_laws.proofs.Outcome.Outcomes.{Outcome, OfAskedBegin, OfAskedCommit, left_by, told_by_outcome}
+use Rattle.machine.proofs.Lookups.{set_found}
+use Rattle.machine.specs.Outcome.OutcomesOfRequests.{AskedCommit, asked_commit_state}
+use Rattle.machine.specs.Outcome.Outcomes.{Outcome, OfAskedBegin, OfAskedCommit, left_by, told_by_outcome}
 use Rattle.cause_laws.specs.Shows.{Tells}
 use Rattle.served_lines.specs.Ends.{IsHeld, AreAwaited}
 use Rattle.served_lines.specs.Turns.{Turn, Rests, AsksBegin, AsksCommit, Begins, LosesBegin, Writes, Frees, Undoes, Hands, Commits, Refuses, LeavesOpen, Vanishes, IsGone}

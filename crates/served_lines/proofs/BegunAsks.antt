@@ -15,11 +15,11 @@ use Rattle.machine.specs.declared.event.Event.{Event}
 use Rattle.machine.specs.State.{State}
 use Rattle.machine.specs.Machine.{stepped}
 use Rattle.cause_rules.specs.Asks.{its_ask}
-use Rattle.isolation_laws.specs.Due.{Due, DueLoss, cause_of_loss}
+use Rattle.machine.specs.Due.{Due, DueLoss, cause_of_loss}
 use Rattle.isolation_laws.proofs.AlwaysHolds.{dues, each_outcome}
 use Rattle.isolation_laws.proofs.OnceEach.{place_of}
 use Rattle.isolation_laws.proofs.Pushed.{not_true, quiet_in}
-use Rattle.isolation_laws.proofs.Outcome.Outcomes.{told_by_outcome}
+use Rattle.machine.specs.Outcome.Outcomes.{told_by_outcome}
 use Rattle.isolation_laws.proofs.Numbers.Placings.{placed_item}
 use Rattle.isolation_laws.proofs.Holding.IsolatedItems.{Stamping, StampsNone, StampsPlaced, StampsBegin, stamping, begin_old}
 use Rattle.cause_laws.specs.Requests.{ask_for}

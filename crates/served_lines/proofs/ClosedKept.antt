@@ -14,16 +14,16 @@ use Rattle.machine.specs.Clients.{client_asked}
 use Rattle.cause_rules.specs.Written.{keys_with, written_keys}
 use Rattle.isolation_laws.specs.Holds.{Holds}
 use Rattle.isolation_laws.specs.Pending.{IsOpen}
-use Rattle.isolation_laws.specs.Quiet.{AllQuiet}
+use Rattle.machine.specs.Quiet.{AllQuiet}
 use Rattle.isolation_laws.specs.Words.{ClientAt, epoch_or_none, OpenAt, Begun}
 use Rattle.isolation_laws.proofs.Holding.Calmed.{calmed}
 use Rattle.isolation_laws.proofs.Holding.Framed.{framed}
-use Rattle.isolation_laws.proofs.Lookups.{client_set}
+use Rattle.machine.proofs.Lookups.{client_set}
 use Rattle.isolation_laws.proofs.Numbers.NumbersKept.{open_begun}
 use Rattle.isolation_laws.proofs.OnceEach.{begun_once}
-use Rattle.isolation_laws.proofs.Outcome.OutcomesOfRequests.{AskedCommit, asked_commit_state}
-use Rattle.isolation_laws.proofs.Outcome.OutcomesOfWork.{fetched_turn, read_turn}
-use Rattle.isolation_laws.proofs.Outcome.Outcomes.{Outcome, OfAskedBegin, OfAskedCommit, OfDrew, OfPlaced, OfAnsweredBegin, OfHanded, OfOwnPlaced, OfWrote, OfVanished, OfFetched, OfReadDropped, OfReadStepped, OfSweepListed, left_by, told_by_outcome}
+use Rattle.machine.specs.Outcome.OutcomesOfRequests.{AskedCommit, asked_commit_state}
+use Rattle.machine.specs.Outcome.OutcomesOfWork.{fetched_turn, read_turn}
+use Rattle.machine.specs.Outcome.Outcomes.{Outcome, OfAskedBegin, OfAskedCommit, OfDrew, OfPlaced, OfAnsweredBegin, OfHanded, OfOwnPlaced, OfWrote, OfVanished, OfFetched, OfReadDropped, OfReadStepped, OfSweepListed, left_by, told_by_outcome}
 use Rattle.isolation_laws.proofs.Pushed.{in_append, written_keys-push, written_keys-quiet}
 use Rattle.isolation_laws.proofs.Requests.ClientMoves.{at_work_after}
 use Rattle.isolation_laws.proofs.Requests.ClientsAfter.{written_keys-other}

@@ -18,7 +18,7 @@ use Rattle.machine.specs.Effect.{Effect}
 use Rattle.machine.specs.Machine.{Step, stepped, at_client, step_by, with_client}
 use Rattle.machine.specs.Events.Step.{StepParts, step_at, step_on}
 use Rattle.isolation_laws.specs.Words.{ClientAt}
-use Rattle.isolation_laws.proofs.Lookups.{client_set}
+use Rattle.machine.proofs.Lookups.{client_set}
 use Rattle.served_lines.specs.Completions.{GoesOn, StepsMoveCompletions}
 use Rattle.served_lines.proofs.IdleSteps.{completing_effect}
 

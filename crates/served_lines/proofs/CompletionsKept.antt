@@ -22,7 +22,7 @@ use Rattle.machine.specs.Events.Step.{after_asks}
 use Rattle.machine.specs.Events.Vanish.{vanish_by, vanish_on}
 use Rattle.machine.specs.StoreSteps.{step_item, store_of}
 use Rattle.isolation_laws.specs.Words.{ClientAt}
-use Rattle.isolation_laws.proofs.Lookups.{client_set}
+use Rattle.machine.proofs.Lookups.{client_set}
 use Rattle.cause_laws.specs.Shows.{Tells}
 use Rattle.served_lines.specs.Completions.{GoesOn}
 use Rattle.served_lines.specs.Ends.{AreGoneSince, IsToAsk, HasVanished, Comes, Made, Failed, Vanished, Left}

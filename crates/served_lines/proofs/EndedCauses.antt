@@ -13,11 +13,11 @@ use Rattle.oracle_parts.specs.declared.instance.Settled.TheVariants as how
 use Rattle.oracle_parts.specs.Instance.{InstanceEntry, held_of}
 use Rattle.machine.specs.State.{State}
 use Rattle.cause_rules.specs.OpenAsks.{ends_request}
-use Rattle.isolation_laws.specs.Due.{Due, AreDue, DueSettled}
+use Rattle.machine.specs.Due.{Due, AreDue, DueSettled}
 use Rattle.isolation_laws.specs.Holds.{Holds}
 use Rattle.isolation_laws.specs.Words.{InstanceAt}
-use Rattle.isolation_laws.proofs.Lookups.{one_instance, one_held, held_by}
-use Rattle.isolation_laws.proofs.Outcome.OutcomesOfRequests.{Ended}
+use Rattle.machine.proofs.Lookups.{one_instance, one_held, held_by}
+use Rattle.machine.specs.Outcome.OutcomesOfRequests.{Ended}
 use Rattle.served_lines.specs.Closings.{leaves_cells}
 
 -- ---- nothing stands before it

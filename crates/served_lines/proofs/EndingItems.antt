@@ -23,11 +23,12 @@ use Rattle.machine.specs.Events.Decide.{draw_item}
 use Rattle.machine.specs.Events.Take.{rules_of, take_item}
 use Rattle.cause_rules.specs.OpenAsks.{ends_request}
 use Rattle.isolation_laws.proofs.Pushed.{not_true, in_append}
-use Rattle.isolation_laws.proofs.Outcome.PlainItems.{Silent, AllSilent, none_silent, one_silent}
-use Rattle.isolation_laws.proofs.Outcome.OutcomesOfRecord.{fault_if}
-use Rattle.isolation_laws.proofs.Outcome.OutcomesOfStamps.{answered_item}
-use Rattle.isolation_laws.proofs.Outcome.OutcomesOfPlacings.{own_told}
-use Rattle.isolation_laws.proofs.Outcome.Outcomes.{Outcome, OfGranted, OfCrashed, OfAskedBegin, OfAskedCommit, OfAccepted, OfEnded, OfDrew, OfAnsweredBegin, OfAnsweredCommit, OfHanded, OfOwnPlaced, OfOwnNotPlaced, OfOutcome, told_by_outcome}
+use Rattle.machine.specs.Plain.{Silent, AllSilent}
+use Rattle.machine.proofs.Outcome.PlainItems.{none_silent, one_silent}
+use Rattle.machine.specs.Outcome.OutcomesOfRecord.{fault_if}
+use Rattle.machine.specs.Outcome.OutcomesOfStamps.{answered_item}
+use Rattle.machine.specs.Outcome.OutcomesOfPlacings.{own_told}
+use Rattle.machine.specs.Outcome.Outcomes.{Outcome, OfGranted, OfCrashed, OfAskedBegin, OfAskedCommit, OfAccepted, OfEnded, OfDrew, OfAnsweredBegin, OfAnsweredCommit, OfHanded, OfOwnPlaced, OfOwnNotPlaced, OfOutcome, told_by_outcome}
 use Rattle.cause_laws.proofs.SilentOutcomes.{fault_if_silent, silent_items}
 use Rattle.served_lines.specs.Closings.{leaves_cells, Owes}
 use Rattle.served_lines.specs.Turns.{ends_commit, EndsCommit, NoneEnds}

@@ -28,7 +28,7 @@ use Rattle.machine.specs.Events.Abort.{abort_by, abort_on}
 use Rattle.isolation_laws.specs.Words.{InstanceAt, ClientAt}
 use Rattle.isolation_laws.specs.Requests.{WaitsFor}
 use Rattle.isolation_laws.specs.Sound.{Stands}
-use Rattle.isolation_laws.proofs.Lookups.{one_client, held_by}
+use Rattle.machine.proofs.Lookups.{one_client, held_by}
 
 -- ---- a client that completes, of whom no node holds a request
 pub record Completing (nodes : List (Option InstanceEntry)) (clients : List Client) (s : ℕ) (c : Client) : Type 0 where

@@ -23,7 +23,7 @@ use Rattle.machine.specs.Events.Abort.{abort_on}
 use Rattle.machine.specs.Events.Vanish.{vanish_on}
 use Rattle.machine.proofs.PartsKept.{leaves_parts}
 use Rattle.isolation_laws.specs.Words.{ClientAt}
-use Rattle.isolation_laws.proofs.Lookups.{client_set, one_client}
+use Rattle.machine.proofs.Lookups.{client_set, one_client}
 use Rattle.isolation_laws.proofs.Requests.OpenAfter.{crashed_at}
 use Rattle.served_lines.specs.Completions.{OthersLeaveCompletions}
 use Rattle.served_lines.proofs.LeftAlone.{Completing, completing_of, same_there, write_keeps, fetch_keeps, heal_keeps, abort_keeps, begin_keeps, commit_keeps, accept_keeps, decide_keeps, answer_keeps}

@@ -16,7 +16,7 @@ use Rattle.machine.specs.State.{State}
 use Rattle.machine.specs.Machine.{stepped}
 use Rattle.cause_rules.specs.Explained.{ShownCause}
 use Rattle.cause_rules.specs.Posts.{Taken, last_take, since_take, HasNone}
-use Rattle.isolation_laws.specs.Due.{Due, DueNow, cause_of_loss}
+use Rattle.machine.specs.Due.{Due, DueNow, cause_of_loss}
 use Rattle.isolation_laws.proofs.AlwaysHolds.{dues}
 use Rattle.isolation_laws.proofs.OnceEach.{place_of}
 use Rattle.served_lines.specs.Silences.{LostAsksAreOver}

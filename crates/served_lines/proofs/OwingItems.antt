@@ -21,9 +21,10 @@ use Rattle.machine.specs.Events.Crash.{loss_heard, loss_items, crashed_items, al
 use Rattle.machine.specs.Events.Decide.{draw_item}
 use Rattle.cause_rules.specs.OpenAsks.{ends_request}
 use Rattle.isolation_laws.proofs.Pushed.{not_true, in_append}
-use Rattle.isolation_laws.proofs.Outcome.PlainItems.{Silent, AllSilent, none_silent}
-use Rattle.isolation_laws.proofs.Outcome.OutcomesOfStamps.{answered_item}
-use Rattle.isolation_laws.proofs.Outcome.OutcomesOfPlacings.{own_told}
+use Rattle.machine.specs.Plain.{Silent, AllSilent}
+use Rattle.machine.proofs.Outcome.PlainItems.{none_silent}
+use Rattle.machine.specs.Outcome.OutcomesOfStamps.{answered_item}
+use Rattle.machine.specs.Outcome.OutcomesOfPlacings.{own_told}
 use Rattle.served_lines.specs.Closings.{leaves_cells, Owes}
 
 -- ---- silent items

@@ -25,14 +25,15 @@ use Rattle.machine.specs.Events.Step.{settle_items}
 use Rattle.machine.specs.Events.Take.{rules_of, take_item}
 use Rattle.isolation_laws.specs.Words.{InstanceAt, ClientAt}
 use Rattle.isolation_laws.proofs.AlwaysHolds.{each_outcome}
-use Rattle.isolation_laws.proofs.Lookups.{held_by}
-use Rattle.isolation_laws.proofs.Outcome.PlainItems.{Silent, none_silent}
-use Rattle.isolation_laws.proofs.Outcome.OutcomesOfRecord.{fault_if}
-use Rattle.isolation_laws.proofs.Outcome.OutcomesOfStamps.{AnsweredCommit, answered_item}
-use Rattle.isolation_laws.proofs.Outcome.OutcomesOfRequests.{Ended}
-use Rattle.isolation_laws.proofs.Outcome.OutcomesOfPlacings.{AtPlacing, own_told}
-use Rattle.isolation_laws.proofs.Outcome.OutcomesOfWork.{OutcomeStepped}
-use Rattle.isolation_laws.proofs.Outcome.Outcomes.{Outcome, OfGranted, OfCrashed, OfAskedBegin, OfAskedCommit, OfAccepted, OfEnded, OfDrew, OfAnsweredBegin, OfAnsweredCommit, OfHanded, OfOwnPlaced, OfOwnNotPlaced, OfOutcome, told_by_outcome}
+use Rattle.machine.proofs.Lookups.{held_by}
+use Rattle.machine.specs.Plain.{Silent}
+use Rattle.machine.proofs.Outcome.PlainItems.{none_silent}
+use Rattle.machine.specs.Outcome.OutcomesOfRecord.{fault_if}
+use Rattle.machine.specs.Outcome.OutcomesOfStamps.{AnsweredCommit, answered_item}
+use Rattle.machine.specs.Outcome.OutcomesOfRequests.{Ended}
+use Rattle.machine.specs.Outcome.OutcomesOfPlacings.{AtPlacing, own_told}
+use Rattle.machine.specs.Outcome.OutcomesOfWork.{OutcomeStepped}
+use Rattle.machine.specs.Outcome.Outcomes.{Outcome, OfGranted, OfCrashed, OfAskedBegin, OfAskedCommit, OfAccepted, OfEnded, OfDrew, OfAnsweredBegin, OfAnsweredCommit, OfHanded, OfOwnPlaced, OfOwnNotPlaced, OfOutcome, told_by_outcome}
 use Rattle.cause_laws.specs.Requests.{ask_for}
 use Rattle.cause_laws.specs.Shows.{Tells}
 use Rattle.cause_laws.proofs.SilentOutcomes.{fault_if_silent, silent_items}

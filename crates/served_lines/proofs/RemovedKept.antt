@@ -16,7 +16,7 @@ use Rattle.machine.specs.Clients.{client_committed, finish_of}
 use Rattle.machine.specs.Machine.{stepped}
 use Rattle.isolation_laws.specs.Requests.{WaitsFor}
 use Rattle.isolation_laws.specs.Words.{ClientAt}
-use Rattle.isolation_laws.proofs.Lookups.{held_by}
+use Rattle.machine.proofs.Lookups.{held_by}
 use Rattle.isolation_laws.proofs.Pushed.{in_append}
 use Rattle.cause_laws.specs.Shows.{Tells}
 use Rattle.served_lines.specs.Closings.{Owes}

@@ -26,9 +26,10 @@ use Rattle.machine.specs.Events.Step.{client_settled, settle_items, after_asks}
 use Rattle.isolation_laws.specs.Words.{InstanceAt, ClientAt}
 use Rattle.isolation_laws.specs.Holds.{Holds}
 use Rattle.isolation_laws.specs.Requests.{WaitsFor}
-use Rattle.isolation_laws.proofs.Lookups.{client_set, one_client, held_by}
-use Rattle.isolation_laws.proofs.Outcome.PlainItems.{Silent, AllSilent, one_silent, two_silent}
-use Rattle.isolation_laws.proofs.Outcome.OutcomesOfStamps.{answered_client, answered_item}
+use Rattle.machine.proofs.Lookups.{client_set, one_client, held_by}
+use Rattle.machine.specs.Plain.{Silent, AllSilent}
+use Rattle.machine.proofs.Outcome.PlainItems.{one_silent, two_silent}
+use Rattle.machine.specs.Outcome.OutcomesOfStamps.{answered_client, answered_item}
 use Rattle.cause_laws.specs.Requests.{ask_for}
 use Rattle.cause_laws.specs.Shows.{Tells}
 use Rattle.served_lines.specs.Closings.{Owes, NoneOwes}

@@ -20,7 +20,7 @@ use Rattle.machine.specs.Machine.{stepped}
 use Rattle.cause_rules.specs.Asks.{since_ask}
 use Rattle.isolation_laws.specs.Words.{InstanceAt, ClientAt}
 use Rattle.isolation_laws.specs.Requests.{WaitsFor}
-use Rattle.isolation_laws.proofs.Lookups.{held_by}
+use Rattle.machine.proofs.Lookups.{held_by}
 use Rattle.cause_laws.specs.Shows.{Tells}
 use Rattle.served_lines.specs.Turns.{IsCommitting, IsUndone, Turn, Rests, AsksBegin, AsksCommit, Begins, LosesBegin, Writes, Frees, Undoes, Hands, Commits, Refuses, LeavesOpen, Vanishes, IsGone}
 use Rattle.served_lines.specs.Ends.{WasToldToWait, AreToldWaits, AreGoneSince, WasToldOpen, AreToldOpen}

@@ -15,9 +15,9 @@ use Rattle.machine.specs.State.{Client, State}
 use Rattle.machine.specs.Clients.{client_freed, client_opened}
 use Rattle.machine.specs.Events.Crash.{after_loss, crashed_client, loss_items, all_crashed_items}
 use Rattle.isolation_laws.specs.Words.{ClientAt}
-use Rattle.isolation_laws.proofs.Lookups.{held_by, one_held}
-use Rattle.isolation_laws.proofs.Outcome.OutcomesOfRequests.{Crashed, crashed_state}
-use Rattle.isolation_laws.proofs.Outcome.Outcomes.{OfCrashed}
+use Rattle.machine.proofs.Lookups.{held_by, one_held}
+use Rattle.machine.specs.Outcome.OutcomesOfRequests.{Crashed, crashed_state}
+use Rattle.machine.specs.Outcome.Outcomes.{OfCrashed}
 use Rattle.cause_laws.specs.Shows.{Tells}
 use Rattle.served_lines.specs.Turns.{EndsCommit, NoCommit, Turn, Rests, LosesBegin, LeavesOpen}
 use Rattle.served_lines.proofs.OwingItems.{only_is}

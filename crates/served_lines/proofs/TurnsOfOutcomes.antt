@@ -5,13 +5,13 @@ use Rattle.history_book.specs.declared.item.Item.TheVariants as item
 use Rattle.client_parts.specs.SessionSteps.{asked_state}
 use Rattle.machine.specs.State.{Client, State}
 use Rattle.machine.specs.Events.Write.{client_wrote}
-use Rattle.isolation_laws.specs.Due.{AreDue}
+use Rattle.machine.specs.Due.{AreDue}
 use Rattle.isolation_laws.specs.Words.{ClientAt}
 use Rattle.isolation_laws.proofs.AlwaysHolds.{comes_by}
-use Rattle.isolation_laws.proofs.Outcome.PlainItems.{none_silent, one_silent}
-use Rattle.isolation_laws.proofs.Outcome.OutcomesOfStamps.{answered_item}
-use Rattle.isolation_laws.proofs.Outcome.OutcomesOfWork.{fetched_turn, fetched_client, read_turn, read_client}
-use Rattle.isolation_laws.proofs.Outcome.Outcomes.{Outcome, OfCrashed, OfAskedBegin, OfAskedCommit, OfEnded, OfAnsweredBegin, OfAnsweredCommit, OfHanded, OfOwnPlaced, OfOwnNotPlaced, OfEndedReadOnly, OfWrote, OfWriteFailed, OfAborted, OfVanished, OfHealed, OfFetched, OfReadDropped, OfReadStepped, OfOutcome, OfOutcomeFailed, OfCompleted, left_by, told_by_outcome}
+use Rattle.machine.proofs.Outcome.PlainItems.{none_silent, one_silent}
+use Rattle.machine.specs.Outcome.OutcomesOfStamps.{answered_item}
+use Rattle.machine.specs.Outcome.OutcomesOfWork.{fetched_turn, fetched_client, read_turn, read_client}
+use Rattle.machine.specs.Outcome.Outcomes.{Outcome, OfCrashed, OfAskedBegin, OfAskedCommit, OfEnded, OfAnsweredBegin, OfAnsweredCommit, OfHanded, OfOwnPlaced, OfOwnNotPlaced, OfEndedReadOnly, OfWrote, OfWriteFailed, OfAborted, OfVanished, OfHealed, OfFetched, OfReadDropped, OfReadStepped, OfOutcome, OfOutcomeFailed, OfCompleted, left_by, told_by_outcome}
 use Rattle.isolation_laws.proofs.Requests.ClientsOpen.{read_keeps_entry}
 use Rattle.cause_laws.specs.Shows.{Tells}
 use Rattle.served_lines.specs.Turns.{Turn, Rests, AsksBegin, AsksCommit, Writes, Frees, Undoes, Vanishes, SessionsTakeTurns}

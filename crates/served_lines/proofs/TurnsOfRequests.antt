@@ -9,10 +9,10 @@ use Rattle.oracle_parts.specs.declared.instance.Request.{Request}
 use Rattle.oracle_parts.specs.declared.instance.Request.TheVariants.{Begin, Commit}
 use Rattle.machine.specs.State.{State}
 use Rattle.machine.specs.Clients.{client_begun, client_handed, client_freed, client_aborted, unless_gone, after_refusal}
-use Rattle.isolation_laws.proofs.Outcome.PlainItems.{none_silent}
-use Rattle.isolation_laws.proofs.Outcome.OutcomesOfRequests.{Ended}
-use Rattle.isolation_laws.proofs.Outcome.OutcomesOfStamps.{AnsweredBegin, AnsweredCommit, HandedOver, answered_client}
-use Rattle.isolation_laws.proofs.Outcome.Outcomes.{OfAnsweredBegin, OfHanded}
+use Rattle.machine.proofs.Outcome.PlainItems.{none_silent}
+use Rattle.machine.specs.Outcome.OutcomesOfRequests.{Ended}
+use Rattle.machine.specs.Outcome.OutcomesOfStamps.{AnsweredBegin, AnsweredCommit, HandedOver, answered_client}
+use Rattle.machine.specs.Outcome.Outcomes.{OfAnsweredBegin, OfHanded}
 use Rattle.cause_laws.specs.Shows.{Tells}
 use Rattle.served_lines.specs.Closings.{leaves_cells}
 use Rattle.served_lines.specs.Turns.{NoneEnds, NoCommit, Turn, Begins, LosesBegin, Hands, Refuses}

@@ -11,11 +11,12 @@ use Rattle.oracle_parts.specs.declared.instance.Settled.{Settled}
 use Rattle.machine.specs.State.{Client, State}
 use Rattle.machine.specs.StoreSteps.{told_by}
 use Rattle.machine.specs.Events.Step.{client_settled, settle_items}
-use Rattle.isolation_laws.proofs.Outcome.PlainItems.{Silent, AllSilent, one_silent, two_silent}
-use Rattle.isolation_laws.proofs.Outcome.OutcomesOfStamps.{answered_client, answered_item}
-use Rattle.isolation_laws.proofs.Outcome.OutcomesOfPlacings.{AtPlacing, own_told}
-use Rattle.isolation_laws.proofs.Outcome.OutcomesOfWork.{OutcomeStepped, CompletedOne}
-use Rattle.isolation_laws.proofs.Outcome.Outcomes.{OfCompleted}
+use Rattle.machine.specs.Plain.{Silent, AllSilent}
+use Rattle.machine.proofs.Outcome.PlainItems.{one_silent, two_silent}
+use Rattle.machine.specs.Outcome.OutcomesOfStamps.{answered_client, answered_item}
+use Rattle.machine.specs.Outcome.OutcomesOfPlacings.{AtPlacing, own_told}
+use Rattle.machine.specs.Outcome.OutcomesOfWork.{OutcomeStepped, CompletedOne}
+use Rattle.machine.specs.Outcome.Outcomes.{OfCompleted}
 use Rattle.isolation_laws.proofs.Requests.ClientsAfter.{has_by}
 use Rattle.cause_laws.specs.Shows.{Tells}
 use Rattle.served_lines.specs.Turns.{NoneEnds, IsCommitting, Turn, Frees}

@@ -12,7 +12,7 @@ use Rattle.oracle_parts.specs.declared.instance.Settled.{Settled as How}
 use Rattle.oracle_parts.specs.Instance.{InstanceEntry, held_of, with_request, was_told_not_yet, not_yet_of_held, session_of, unsettled_by, in_flight}
 use Rattle.oracle_parts.specs.InstanceSteps.{stays, without_request, just_asked, accept_refusal, accept_unless, accept_if_asked, accept_held, instance_ask, instance_accept, out_of_stamps, drawn_as, decide_drawn, decide_by, settle_if_drawn, settle_held, instance_settle}
 use Rattle.machine.specs.Events.Decide.{both_verdict, both_if_accepted, both_held, decide_both}
-use Rattle.isolation_laws.proofs.Lookups.{held_set}
+use Rattle.machine.proofs.Lookups.{held_set}
 
 -- no session was told so that was not told before
 abbrev pub NoneNew : InstanceEntry → InstanceEntry → Type 0

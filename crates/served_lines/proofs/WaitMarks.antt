@@ -16,7 +16,7 @@ use Rattle.machine.specs.Machine.{Step, stepped, with_reading}
 use Rattle.machine.proofs.LookedUp.{of_post, of_both}
 use Rattle.machine.proofs.PartsKept.{leaves_parts}
 use Rattle.isolation_laws.specs.Words.{InstanceAt}
-use Rattle.isolation_laws.proofs.Lookups.{instance_set}
+use Rattle.machine.proofs.Lookups.{instance_set}
 use Rattle.served_lines.proofs.WaitAnswers.{told_in, IsTold, answer_told}
 use Rattle.served_lines.proofs.WaitPosts.{Marked, take_marks, renew_marks, extend_marks, crash_marks, begin_marks, commit_marks, accept_marks, decide_marks, put_marks}
 

@@ -21,8 +21,8 @@ use Rattle.machine.specs.State.{Client, State}
 use Rattle.machine.specs.Machine.{Step, stepped}
 use Rattle.machine.specs.Events.Decide.{both_verdict, both_if_accepted, both_held, decide_by, decide_request, decide_on}
 use Rattle.isolation_laws.specs.Words.{InstanceAt, ClientAt}
-use Rattle.isolation_laws.specs.Sound.{StopOf}
-use Rattle.isolation_laws.proofs.Lookups.{set_found}
+use Rattle.machine.specs.Fits.{StopOf}
+use Rattle.machine.proofs.Lookups.{set_found}
 use Rattle.line_steps.specs.declared.point.Halt.{Halt}
 use Rattle.line_steps.specs.declared.point.Halt.TheVariants as halt
 use Rattle.line_steps.specs.Halts.{halt_of}

@@ -27,7 +27,8 @@ use Rattle.machine.specs.Events.Answer.{answer_by, answer_request, answer_on}
 use Rattle.machine.specs.Events.Decide.{both_verdict, both_if_accepted, both_held, decide_both, decide_by, decide_request, decide_on}
 use Rattle.machine.proofs.Refusals.{same_both}
 use Rattle.script_data.specs.Data.{ScriptData}
-use Rattle.isolation_laws.specs.Sound.{StopOf, Stands}
+use Rattle.machine.specs.Fits.{StopOf}
+use Rattle.isolation_laws.specs.Sound.{Stands}
 use Rattle.line_steps.specs.Runs.{Played, fate_of}
 use Rattle.turn_rules.specs.Told.{QuietTurnsChangeNothing}
 

@@ -28,7 +28,7 @@ use Rattle.machine.specs.Events.Extend.{extend_by, extend_on}
 use Rattle.machine.specs.Events.Put.{to_place, put_by, put_commit, put_on}
 use Rattle.script_data.specs.Data.{ScriptData}
 use Rattle.isolation_laws.specs.Sound.{Stands}
-use Rattle.isolation_laws.proofs.Lookups.{held_by}
+use Rattle.machine.proofs.Lookups.{held_by}
 use Rattle.line_steps.specs.Next.{reading_at}
 use Rattle.line_steps.specs.Runs.{Played, fate_of, clocks_of}
 use Rattle.line_steps.proofs.Holders.{Served, is_served_at}

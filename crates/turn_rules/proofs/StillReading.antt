@@ -27,7 +27,7 @@ use Rattle.machine.proofs.PartsKept.{leaves_parts}
 use Rattle.isolation_laws.specs.Requests.{WaitsFor}
 use Rattle.isolation_laws.specs.Sound.{Stands}
 use Rattle.isolation_laws.specs.Words.{InstanceAt, ClientAt}
-use Rattle.isolation_laws.proofs.Lookups.{set_found, set_other, one_client, held_by}
+use Rattle.machine.proofs.Lookups.{set_found, set_other, one_client, held_by}
 use Rattle.line_steps.proofs.ReadLines.{ReadsKey}
 
 -- ---- no request of an open transaction, or of a commit that was handed over, is in flight

@@ -25,8 +25,8 @@ use Rattle.isolation_laws.specs.Words.{ClientAt}
 use Rattle.isolation_laws.specs.Requests.{WaitsFor}
 use Rattle.isolation_laws.specs.Pending.{is_placing}
 use Rattle.isolation_laws.specs.Bare.{MayHave, IsOf, IsOwned}
-use Rattle.isolation_laws.proofs.Lookups.{set_found, set_other, one_client}
-use Rattle.isolation_laws.proofs.Outcome.OutcomesOfStamps.{answered_client}
+use Rattle.machine.proofs.Lookups.{set_found, set_other, one_client}
+use Rattle.machine.specs.Outcome.OutcomesOfStamps.{answered_client}
 use Rattle.isolation_laws.proofs.Requests.ClientsOpen.{gone_cases}
 use Rattle.isolation_laws.proofs.Requests.WrittenKeys.{added_stays, added_in}
 use Rattle.isolation_laws.proofs.Stores.CompletionSteps.{in_none}

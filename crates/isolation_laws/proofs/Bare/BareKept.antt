@@ -18,12 +18,13 @@ use Rattle.machine.specs.Events.Write.{client_wrote}
 use Rattle.machine.specs.Events.Step.{after_asks}
 use Rattle.isolation_laws.specs.Words.{ClientAt}
 use Rattle.isolation_laws.specs.Requests.{WaitsFor}
-use Rattle.isolation_laws.specs.Bare.{is_fault, faults_in, BareAt, IsOf, IsOwned, AreOwned}
+use Rattle.machine.specs.Faults.{is_fault, faults_in}
+use Rattle.isolation_laws.specs.Bare.{BareAt, IsOf, IsOwned, AreOwned}
 use Rattle.isolation_laws.specs.Holds.{Holds}
-use Rattle.isolation_laws.proofs.Lookups.{set_found, set_other, one_client}
-use Rattle.isolation_laws.proofs.Outcome.OutcomesOfSessions.{AtOpen, WriteFailed, write_failed_state}
-use Rattle.isolation_laws.proofs.Outcome.OutcomesOfWork.{fetched_client, fetched_turn, read_client, read_turn, ReadDropped, CompletedOne, completed_state}
-use Rattle.isolation_laws.proofs.Outcome.Outcomes.{Outcome, OfCrashed, OfAskedBegin, OfAskedCommit, OfEnded, OfAnsweredBegin, OfAnsweredCommit, OfHanded, OfOwnPlaced, OfOwnNotPlaced, OfEndedReadOnly, OfWrote, OfWriteFailed, OfAborted, OfVanished, OfHealed, OfFetched, OfReadDropped, OfReadStepped, OfOutcome, OfOutcomeFailed, OfCompleted, OfSwept, OfSweepFailed, left_by, told_by_outcome}
+use Rattle.machine.proofs.Lookups.{set_found, set_other, one_client}
+use Rattle.machine.specs.Outcome.OutcomesOfSessions.{AtOpen, WriteFailed, write_failed_state}
+use Rattle.machine.specs.Outcome.OutcomesOfWork.{fetched_client, fetched_turn, read_client, read_turn, ReadDropped, CompletedOne, completed_state}
+use Rattle.machine.specs.Outcome.Outcomes.{Outcome, OfCrashed, OfAskedBegin, OfAskedCommit, OfEnded, OfAnsweredBegin, OfAnsweredCommit, OfHanded, OfOwnPlaced, OfOwnNotPlaced, OfEndedReadOnly, OfWrote, OfWriteFailed, OfAborted, OfVanished, OfHealed, OfFetched, OfReadDropped, OfReadStepped, OfOutcome, OfOutcomeFailed, OfCompleted, OfSwept, OfSweepFailed, left_by, told_by_outcome}
 use Rattle.isolation_laws.proofs.Numbers.Placings.{is_placing_now}
 use Rattle.isolation_laws.proofs.Requests.RequestsOfNodes.{waits_for}
 use Rattle.isolation_laws.proofs.Stores.CellsMove.{put_cases}

@@ -3,12 +3,12 @@
 -- is under way, of reads and of stamps, which name only the others.
 use Rattle.std.proofs.Common.{refl, ◌≡◌, ℕ, Bool, true, List, ◌++◌, Option, inl}
 use Rattle.isolation_laws.proofs.Requests.ClientMoves.{reading_after}
-use Rattle.isolation_laws.proofs.Outcome.Outcomes.{OfAskedCommit, Outcome, OfGranted, OfRenewed, OfExtended, OfAccepted, IsTimely, left_by, told_by_outcome}
+use Rattle.machine.specs.Outcome.Outcomes.{OfAskedCommit, Outcome, OfGranted, OfRenewed, OfExtended, OfAccepted, IsTimely, left_by, told_by_outcome}
 use Rattle.history_book.specs.declared.item.Item.{Item}
 use Rattle.store_parts.specs.Record.{MasterRecord}
 use Rattle.oracle_parts.specs.Instance.{InstanceEntry}
 use Rattle.machine.specs.State.{Client, State}
-use Rattle.isolation_laws.specs.Quiet.{AllQuiet}
+use Rattle.machine.specs.Quiet.{AllQuiet}
 use Rattle.isolation_laws.specs.Cells.{CellFacts}
 use Rattle.isolation_laws.specs.UnderWay.{UnderWayFacts}
 use Rattle.isolation_laws.specs.Holds.{Holds}

@@ -1,7 +1,7 @@
 -- For served_lines too.
 -- Which outcomes have a frame, and what it is of each.
 use Rattle.isolation_laws.proofs.Requests.ClientMoves.{reading_after}
-use Rattle.isolation_laws.proofs.Outcome.Outcomes.{OfAborted, OfAnsweredCommit, OfCompleted, OfCrashed, OfEnded, OfEndedReadOnly, OfHealed, OfOutcome, OfOutcomeFailed, OfOwnNotPlaced, OfWriteFailed, Outcome, OfStill, OfGranted, OfRenewed, OfExtended, OfAskedBegin, OfAskedCommit, OfAccepted, OfDrew, OfPlaced, OfNotPlaced, OfAnsweredBegin, OfHanded, OfOwnPlaced, OfWrote, OfVanished, OfFetched, OfReadDropped, OfReadStepped, OfSweepOpened, OfSwept, OfSweepListed, OfSweepFailed, left_by, told_by_outcome}
+use Rattle.machine.specs.Outcome.Outcomes.{OfAborted, OfAnsweredCommit, OfCompleted, OfCrashed, OfEnded, OfEndedReadOnly, OfHealed, OfOutcome, OfOutcomeFailed, OfOwnNotPlaced, OfWriteFailed, Outcome, OfStill, OfGranted, OfRenewed, OfExtended, OfAskedBegin, OfAskedCommit, OfAccepted, OfDrew, OfPlaced, OfNotPlaced, OfAnsweredBegin, OfHanded, OfOwnPlaced, OfWrote, OfVanished, OfFetched, OfReadDropped, OfReadStepped, OfSweepOpened, OfSwept, OfSweepListed, OfSweepFailed, left_by, told_by_outcome}
 use Rattle.std.proofs.Common.{◌≡◌, ◌≤◌, ℕ, Bool, true, false, if◌then◌else◌, List, ◌++◌, [], refl, subst, arith}
 use Rattle.std.proofs.lemmas.List.Elements.{All-nil}
 use Rattle.history_book.specs.declared.item.Item.{Item}
@@ -13,12 +13,12 @@ use Rattle.client_parts.specs.declared.resolve.SettlePoint.TheVariants as point
 use Rattle.client_parts.specs.Resolve.{Settling, ask_at, settle_ask}
 use Rattle.machine.specs.State.{Client, State}
 use Rattle.machine.specs.StoreSteps.{rows_after, pairs_after}
-use Rattle.isolation_laws.specs.Quiet.{Quiet, AllQuiet}
+use Rattle.machine.specs.Quiet.{Quiet, AllQuiet}
 use Rattle.isolation_laws.specs.Cells.{CellFacts}
 use Rattle.isolation_laws.specs.UnderWay.{UnderWayFacts}
 use Rattle.isolation_laws.specs.Holds.{Holds}
-use Rattle.isolation_laws.proofs.Outcome.OutcomesOfSessions.{Healed}
-use Rattle.isolation_laws.proofs.Outcome.OutcomesOfWork.{MayHaveMarked}
+use Rattle.machine.specs.Outcome.OutcomesOfSessions.{Healed}
+use Rattle.machine.specs.Outcome.OutcomesOfWork.{MayHaveMarked}
 use Rattle.isolation_laws.proofs.Requests.PendingFewer.{fewer_settled}
 use Rattle.isolation_laws.proofs.Reading.ClientsReading.{FewerReading, same_reading, reading_handed, reading_vanished, reading_dropped}
 use Rattle.isolation_laws.proofs.Stores.Calm.{calm_quiet}

@@ -17,12 +17,12 @@ use Rattle.machine.specs.State.{State}
 use Rattle.machine.specs.Events.Decide.{draw_item}
 use Rattle.machine.specs.Events.Fetch.{read_items, found_of}
 use Rattle.isolation_laws.specs.Words.{Begun}
-use Rattle.isolation_laws.specs.Quiet.{Quiet, AllQuiet}
+use Rattle.machine.specs.Quiet.{Quiet, AllQuiet}
 use Rattle.isolation_laws.specs.Holds.{Holds}
 use Rattle.isolation_laws.proofs.Pushed.{in_append}
-use Rattle.isolation_laws.proofs.Outcome.OutcomesOfStamps.{AnsweredBegin, answered_begin_items}
-use Rattle.isolation_laws.proofs.Outcome.OutcomesOfWork.{fetched_turn, read_turn}
-use Rattle.isolation_laws.proofs.Outcome.Outcomes.{Outcome, OfAskedBegin, OfDrew, OfPlaced, OfOwnPlaced, OfAnsweredBegin, OfWrote, OfFetched, OfReadStepped, OfSweepListed, told_by_outcome}
+use Rattle.machine.specs.Outcome.OutcomesOfStamps.{AnsweredBegin, answered_begin_items}
+use Rattle.machine.specs.Outcome.OutcomesOfWork.{fetched_turn, read_turn}
+use Rattle.machine.specs.Outcome.Outcomes.{Outcome, OfAskedBegin, OfDrew, OfPlaced, OfOwnPlaced, OfAnsweredBegin, OfWrote, OfFetched, OfReadStepped, OfSweepListed, told_by_outcome}
 use Rattle.isolation_laws.proofs.Numbers.Placings.{PlacedPending, placed_item, by_its_node, by_its_session}
 use Rattle.isolation_laws.proofs.Holding.Calmed.{calmed}
 

@@ -10,8 +10,8 @@ use Rattle.isolation_laws.specs.Numbers.{AreNewDraws, AreBegun, ArePlaced}
 use Rattle.isolation_laws.specs.Memory.{DrawnApart}
 use Rattle.isolation_laws.specs.Holds.{Holds}
 use Rattle.isolation_laws.proofs.OnceEach.{drawn_once, commit_above_start}
-use Rattle.isolation_laws.proofs.Outcome.OutcomesOfStamps.{AnsweredBegin, answered_begin_items}
-use Rattle.isolation_laws.proofs.Outcome.Outcomes.{Outcome, told_by_outcome}
+use Rattle.machine.specs.Outcome.OutcomesOfStamps.{AnsweredBegin, answered_begin_items}
+use Rattle.machine.specs.Outcome.Outcomes.{Outcome, told_by_outcome}
 use Rattle.isolation_laws.proofs.Numbers.NumbersKept.{drew_start}
 use Rattle.isolation_laws.proofs.Numbers.NumbersOfAll.{numbers_kept}
 use Rattle.isolation_laws.proofs.Memory.MemoryKept.{memory_kept}

@@ -1,6 +1,6 @@
 -- A commit in flight is lost where its instance crashes, and where its put fails without effect.
 use Rattle.isolation_laws.proofs.Requests.ClientMoves.{at_work_after}
-use Rattle.isolation_laws.proofs.Outcome.Outcomes.{OfCrashed}
+use Rattle.machine.specs.Outcome.Outcomes.{OfCrashed}
 use Rattle.std.proofs.Common.{◌≡◌, ℕ, false, List, [], ◌∷◌, ◌++◌, Option, Some, inl, inr, refl, sym, ◌∙◌, ap, subst}
 use Rattle.std.proofs.lemmas.List.Elements.{All-cons}
 use Rattle.port_io.specs.declared.weather.Fate.{Fate}
@@ -23,23 +23,24 @@ use Rattle.machine.specs.Events.Crash.{all_crashed_items, crash_on}
 use Rattle.machine.specs.Events.Put.{to_place_by, to_place, put_commit, put_on}
 use Rattle.isolation_laws.specs.Words.{HeldBy}
 use Rattle.isolation_laws.specs.Pending.{Has, InFlight, HeldPending, Pending, IsPending, IsOpen, Live}
-use Rattle.isolation_laws.specs.Quiet.{Quiet}
+use Rattle.machine.specs.Quiet.{Quiet}
 use Rattle.isolation_laws.specs.Holds.{Holds}
 use Rattle.isolation_laws.specs.Sound.{Stands}
 use Rattle.isolation_laws.specs.Laws.{IsLost}
-use Rattle.isolation_laws.proofs.Lookups.{instance_ended}
-use Rattle.isolation_laws.proofs.Pushed.{old_placed, one_quiet}
+use Rattle.machine.proofs.Lookups.{instance_ended}
+use Rattle.isolation_laws.proofs.Pushed.{old_placed}
+use Rattle.machine.proofs.Outcome.QuietItems.{one_quiet}
 use Rattle.isolation_laws.proofs.Owners.{open_not_pending, pending_unplaced, has_held}
-use Rattle.isolation_laws.proofs.Outcome.OutcomesOfRequests.{Crashed, crashed_state}
-use Rattle.isolation_laws.proofs.Outcome.OutcomesOfStamps.{AtDrawn, NotPlaced, not_placed_state}
+use Rattle.machine.specs.Outcome.OutcomesOfRequests.{Crashed, crashed_state}
+use Rattle.machine.specs.Outcome.OutcomesOfStamps.{AtDrawn, NotPlaced, not_placed_state}
 use Rattle.isolation_laws.proofs.Numbers.NumbersKept.{open_begun}
 use Rattle.isolation_laws.proofs.Requests.PendingFewer.{StaysPut, pending_settled}
 use Rattle.isolation_laws.proofs.Requests.PendingAfter.{pending_in, pending_at}
 use Rattle.isolation_laws.proofs.Requests.OtherCommits.{other_commit}
 use Rattle.isolation_laws.proofs.Requests.ClientsOpen.{placing_was}
 use Rattle.isolation_laws.proofs.Requests.OpenAfter.{fewer_is_open}
-use Rattle.isolation_laws.proofs.Inversions.InversionOfAsks.{for_clients, all_crashed_quiet}
-use Rattle.isolation_laws.proofs.Inversions.InversionOfAnswers.{for_table, put_settled, not_invalid}
+use Rattle.machine.proofs.Inversions.InversionOfAsks.{for_clients, all_crashed_quiet}
+use Rattle.machine.proofs.Inversions.InversionOfAnswers.{for_table, put_settled, not_invalid}
 
 -- ---- one transaction has one commit in flight, and is not open
 in_flight : (w : State) (q : InFlight) → HeldPending w.nodes q → IsPending w.clients w.nodes q.start

@@ -20,19 +20,19 @@ use Rattle.machine.specs.Clients.{is_reading, client_opened, client_vanished}
 use Rattle.machine.specs.Events.Step.{step_on, step_by, step_due}
 use Rattle.machine.specs.Events.Vanish.{vanish_by, vanish_on}
 use Rattle.isolation_laws.specs.Pending.{InFlight, is_placing, PlacingAt, Live}
-use Rattle.isolation_laws.specs.Quiet.{AllQuiet}
+use Rattle.machine.specs.Quiet.{AllQuiet}
 use Rattle.isolation_laws.specs.Holds.{Holds}
 use Rattle.isolation_laws.specs.Sound.{Stands}
 use Rattle.isolation_laws.specs.Laws.{IsLost}
-use Rattle.isolation_laws.proofs.Pushed.{old_placed, one_quiet}
+use Rattle.isolation_laws.proofs.Pushed.{old_placed}
+use Rattle.machine.proofs.Outcome.QuietItems.{one_quiet, two_quiet}
 use Rattle.isolation_laws.proofs.Owners.{open_not_pending, pending_unplaced}
 use Rattle.isolation_laws.proofs.Numbers.NumbersKept.{open_begun}
 use Rattle.isolation_laws.proofs.Requests.ClientsOpen.{IsAtRest, FewerAtWork, fewer_set, outcome_rests, gone_rests}
 use Rattle.isolation_laws.proofs.Requests.OpenAfter.{fewer_is_open}
 use Rattle.isolation_laws.proofs.Requests.OtherCommits.{none_of_placed}
-use Rattle.isolation_laws.proofs.Inversions.InversionParts.{two_quiet}
-use Rattle.isolation_laws.proofs.Inversions.InversionOfSessions.{for_client}
-use Rattle.isolation_laws.proofs.Inversions.InversionOfSteps.{for_stores}
+use Rattle.machine.proofs.Inversions.InversionOfSessions.{for_client}
+use Rattle.machine.proofs.Inversions.InversionOfSteps.{for_stores}
 
 -- ---- a session that is placing its commit comes to rest
 rests_dead : (w : State) (h : List Item) (q : InFlight) (new : Client) → Holds w h → PlacingAt w.clients q → IsAtRest new.entry.state → FewerAtWork w.clients (slice_set w.clients q.session new) → Live (slice_set w.clients q.session new) w.nodes q.start → ⊥

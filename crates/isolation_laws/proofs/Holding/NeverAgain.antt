@@ -7,7 +7,7 @@ use Rattle.machine.specs.Machine.{Step, stepped, Move, state_after, items_after,
 use Rattle.isolation_laws.specs.Holds.{Holds}
 use Rattle.isolation_laws.specs.Sound.{Stands}
 use Rattle.isolation_laws.specs.Laws.{IsMarkedFirst, IsLost}
-use Rattle.isolation_laws.proofs.Outcome.Outcomes.{Outcome, left_by, told_by_outcome}
+use Rattle.machine.specs.Outcome.Outcomes.{Outcome, left_by, told_by_outcome}
 use Rattle.isolation_laws.proofs.AlwaysHolds.{each_outcome, facts_stay, steady_now, steady_stays}
 use Rattle.isolation_laws.proofs.Holding.NeverPlaced.{marked_outcome, lost_outcome}
 

@@ -1,6 +1,6 @@
 -- An outcome places nothing that is marked before it is placed, and nothing that is neither open nor in flight.
 use Rattle.isolation_laws.proofs.Requests.ClientMoves.{at_work_after}
-use Rattle.isolation_laws.proofs.Outcome.Outcomes.{OfAskedBegin, OfOwnPlaced, Outcome, OfDrew, OfPlaced, OfAnsweredBegin, OfWrote, OfFetched, OfReadDropped, OfReadStepped, OfOutcome, OfOutcomeFailed, OfCompleted, OfSwept, OfSweepListed, OfSweepFailed, left_by, told_by_outcome}
+use Rattle.machine.specs.Outcome.Outcomes.{OfAskedBegin, OfOwnPlaced, Outcome, OfDrew, OfPlaced, OfAnsweredBegin, OfWrote, OfFetched, OfReadDropped, OfReadStepped, OfOutcome, OfOutcomeFailed, OfCompleted, OfSwept, OfSweepListed, OfSweepFailed, left_by, told_by_outcome}
 use Rattle.std.proofs.Common.{◌≡◌, ℕ, List, [], ◌∷◌, ◌++◌, append_assoc, ◌⊎◌, inl, inr, refl, sym, ◌∙◌, ap, subst}
 use Rattle.std.proofs.lemmas.Option.{none-some}
 use Rattle.stamp_base.specs.declared.stores.Mark.TheVariants.{Invalid as InvalidMark}
@@ -24,7 +24,7 @@ use Rattle.isolation_laws.proofs.Requests.PendingFewer.{pending_asked_begin, few
 use Rattle.isolation_laws.proofs.Requests.OpenAfter.{at_work_wrote, at_work_fetched, at_work_read}
 use Rattle.isolation_laws.proofs.Stores.LiveAfter.{fewer_live, live_by_clients, live_by_nodes, live_drew, live_answered_begin}
 use Rattle.isolation_laws.proofs.Numbers.Placings.{PlacedPending, placed_item, placed_live}
-use Rattle.isolation_laws.specs.Quiet.{AllQuiet}
+use Rattle.machine.specs.Quiet.{AllQuiet}
 use Rattle.isolation_laws.proofs.Requests.RequestsOfBegins.{start_unbegun}
 use Rattle.isolation_laws.proofs.Holding.Calmed.{calmed}
 

@@ -17,8 +17,9 @@ use Rattle.oracle_parts.specs.Instance.{InstanceEntry}
 use Rattle.machine.specs.State.{State, opening}
 use Rattle.machine.specs.Events.SweepStep.{still_open, sweep_left}
 use Rattle.isolation_laws.specs.Words.{InstanceAt}
-use Rattle.isolation_laws.specs.Sound.{StopOf, AreStops, SweepAsks, Sound}
-use Rattle.isolation_laws.proofs.Outcome.Outcomes.{Outcome, OfSweepOpened, OfSwept, OfSweepListed, OfSweepFailed, left_by}
+use Rattle.machine.specs.Fits.{StopOf, AreStops, SweepAsks}
+use Rattle.isolation_laws.specs.Sound.{Sound}
+use Rattle.machine.specs.Outcome.Outcomes.{Outcome, OfSweepOpened, OfSwept, OfSweepListed, OfSweepFailed, left_by}
 
 -- ---- kept refusals: those of an instance, as the machine's laws have them
 kept_stop : (stop : Option Cause) → StopOf stop → IfSome stop IsStop

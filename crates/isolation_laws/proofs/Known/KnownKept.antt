@@ -1,6 +1,6 @@
 -- Every outcome keeps it so that what clients remember is true, and that the cells of their reads were written.
 use Rattle.isolation_laws.proofs.Requests.ClientMoves.{reading_after}
-use Rattle.isolation_laws.proofs.Outcome.Outcomes.{OfAskedBegin, OfOwnPlaced, Outcome, OfDrew, OfPlaced, OfAnsweredBegin, OfWrote, OfVanished, OfFetched, OfReadDropped, OfReadStepped, OfSweepListed, left_by, told_by_outcome}
+use Rattle.machine.specs.Outcome.Outcomes.{OfAskedBegin, OfOwnPlaced, Outcome, OfDrew, OfPlaced, OfAnsweredBegin, OfWrote, OfVanished, OfFetched, OfReadDropped, OfReadStepped, OfSweepListed, left_by, told_by_outcome}
 use Rattle.std.proofs.Common.{◌≡◌, ℕ, All, List, ◌∷◌, ◌++◌, inl, inr, refl, sym, ◌∙◌, ap, subst}
 use Rattle.std.specs.Prelude.{slice_set}
 use Rattle.std.proofs.lemmas.List.Elements.{All-weaker}
@@ -21,8 +21,8 @@ use Rattle.machine.specs.Events.Fetch.{marks_every, client_read}
 use Rattle.isolation_laws.specs.Words.{ClientAt}
 use Rattle.isolation_laws.specs.Known.{IsTrueOf, IsTrueCache, AreKnown, IsWrittenCell, AreWrittenCells, KnownFacts}
 use Rattle.isolation_laws.specs.Holds.{Holds}
-use Rattle.isolation_laws.proofs.Lookups.{client_set}
-use Rattle.isolation_laws.proofs.Outcome.OutcomesOfWork.{fetched_recall, fetched_turn, fetched_client, fetched_items, read_recall, read_turn, read_client, read_stepped_items}
+use Rattle.machine.proofs.Lookups.{client_set}
+use Rattle.machine.specs.Outcome.OutcomesOfWork.{fetched_recall, fetched_turn, fetched_client, fetched_items, read_recall, read_turn, read_client, read_stepped_items}
 use Rattle.isolation_laws.proofs.Reading.ClientsReading.{FewerReading, nothing_reads, same_reading, reading_answered_begin, reading_wrote}
 use Rattle.isolation_laws.proofs.Reading.FirstReads.{wrote_on}
 use Rattle.isolation_laws.proofs.Reading.KeptReads.{SameCaches, read_remembers, caches_keep}

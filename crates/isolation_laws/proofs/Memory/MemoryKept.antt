@@ -13,12 +13,12 @@ use Rattle.oracle_parts.specs.Instance.{InstanceEntry}
 use Rattle.machine.specs.State.{State}
 use Rattle.machine.specs.Events.Fetch.{read_items, found_of}
 use Rattle.isolation_laws.specs.Words.{InstanceAt, OpenAt, HasDrawn, recorded}
-use Rattle.isolation_laws.specs.Quiet.{Quiet, AllQuiet}
+use Rattle.machine.specs.Quiet.{Quiet, AllQuiet}
 use Rattle.isolation_laws.specs.Memory.{AreOfForm, AreRecorded, MemoryFacts}
 use Rattle.isolation_laws.specs.Holds.{Holds}
 use Rattle.isolation_laws.proofs.Holding.Framed.{framed}
 use Rattle.isolation_laws.proofs.Holding.Frames.{memory_framed}
-use Rattle.isolation_laws.proofs.Lookups.{instance_changed}
+use Rattle.machine.proofs.Lookups.{instance_changed}
 use Rattle.isolation_laws.proofs.Memory.RecordedCommits.{recorded_none}
 use Rattle.isolation_laws.proofs.Memory.MemoryStays.{SameMemory, remembered_same, remembered_set, RecordsNothing, nothing_quiet, nothing_push, nothing_more, nothing_twice, memory_same}
 use Rattle.isolation_laws.proofs.Memory.SerialDraws.{memory_drew}
@@ -26,11 +26,11 @@ use Rattle.isolation_laws.proofs.Numbers.NumbersOfItems.{begin_is_no_draw, write
 use Rattle.isolation_laws.proofs.Requests.RequestsOfWrites.{wrote_open}
 use Rattle.isolation_laws.proofs.Reading.ReadsOfReads.{fetched_open, stepped_open}
 use Rattle.isolation_laws.specs.Words.{epoch_or_none}
-use Rattle.isolation_laws.proofs.Outcome.OutcomesOfRecord.{Granted, granted_nodes, granted_state, Renewed, renewed_nodes, renewed_state, Extended, extended_nodes, extended_state}
-use Rattle.isolation_laws.proofs.Outcome.OutcomesOfSessions.{WroteOne, wrote_items}
-use Rattle.isolation_laws.proofs.Outcome.OutcomesOfWork.{Fetched, fetched_turn, fetched_items, ReadStepped, read_turn, read_stepped_items}
-use Rattle.isolation_laws.proofs.Outcome.Outcomes.{Outcome, OfGranted, OfRenewed, OfExtended, OfAskedBegin, OfAskedCommit, OfAccepted, OfDrew, OfPlaced, OfOwnPlaced, OfAnsweredBegin, OfWrote, OfFetched, OfReadStepped, OfSweepListed, left_by, told_by_outcome}
-use Rattle.isolation_laws.proofs.Pushed.{one_quiet}
+use Rattle.machine.specs.Outcome.OutcomesOfRecord.{Granted, granted_nodes, granted_state, Renewed, renewed_nodes, renewed_state, Extended, extended_nodes, extended_state}
+use Rattle.machine.specs.Outcome.OutcomesOfSessions.{WroteOne, wrote_items}
+use Rattle.machine.specs.Outcome.OutcomesOfWork.{Fetched, fetched_turn, fetched_items, ReadStepped, read_turn, read_stepped_items}
+use Rattle.machine.specs.Outcome.Outcomes.{Outcome, OfGranted, OfRenewed, OfExtended, OfAskedBegin, OfAskedCommit, OfAccepted, OfDrew, OfPlaced, OfOwnPlaced, OfAnsweredBegin, OfWrote, OfFetched, OfReadStepped, OfSweepListed, left_by, told_by_outcome}
+use Rattle.machine.proofs.Outcome.QuietItems.{one_quiet}
 
 -- ---- the record
 -- a new instance begins with empty buckets, and nothing was drawn in its term

@@ -21,7 +21,7 @@ use Rattle.machine.specs.State.{State}
 use Rattle.isolation_laws.specs.Words.{DrewCommit, written_keys, recorded, recorded_by}
 use Rattle.isolation_laws.specs.Memory.{AreRecorded, DrawnApart}
 use Rattle.isolation_laws.specs.Holds.{Holds}
-use Rattle.isolation_laws.proofs.Outcome.OutcomesOfStamps.{Drew, drew_state, drew_items}
+use Rattle.machine.specs.Outcome.OutcomesOfStamps.{Drew, drew_state, drew_items}
 use Rattle.isolation_laws.proofs.OnceEach.{drawn_once}
 use Rattle.isolation_laws.proofs.Pushed.{recorded-push}
 use Rattle.isolation_laws.proofs.Memory.RecordedCommits.{recorded_contains, recorded_rise, recorded_by_own, recorded_by_other, wrote_key}
@@ -30,7 +30,7 @@ use Rattle.isolation_laws.proofs.Numbers.NumbersOfDraws.{start_drawn, commit_dra
 use Rattle.isolation_laws.proofs.Numbers.NewStamps.{new_draw, drew_taken, drew_within}
 use Rattle.isolation_laws.proofs.Numbers.NewDraws.{drew_or}
 use Rattle.isolation_laws.proofs.Requests.RequestsOfDraws.{drew_keys, DrawsFor, draws_commit, drawing}
-use Rattle.isolation_laws.proofs.Orders.{three_ways}
+use Rattle.machine.proofs.Orders.{three_ways}
 
 -- ---- what the draw records
 own_keys : (w : State) (h : List Item) (k : Drew w) (r t : ℕ) (keys : List ℕ) → Holds w h → k.held.request ≡ Commit r t keys → keys ≡ written_keys h t

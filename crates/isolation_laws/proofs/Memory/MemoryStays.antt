@@ -14,11 +14,11 @@ use Rattle.stamp_base.specs.SetupNumbers.{SetupNumbers}
 use Rattle.oracle_parts.specs.Buckets.{contents}
 use Rattle.oracle_parts.specs.Instance.{InstanceEntry}
 use Rattle.isolation_laws.specs.Words.{InstanceAt, DrewCommit, HasDrawn, keys_with, written_keys, recorded_by, recorded}
-use Rattle.isolation_laws.specs.Quiet.{AllQuiet}
+use Rattle.machine.specs.Quiet.{AllQuiet}
 use Rattle.isolation_laws.specs.ReadSets.{ReadFirst}
 use Rattle.isolation_laws.specs.Memory.{AreRecorded, DrawnSerial, MemoryFacts}
-use Rattle.isolation_laws.proofs.Lookups.{instance_changed, instance_ended}
-use Rattle.isolation_laws.proofs.Outcome.OutcomesOfRecord.{AlikeNodes}
+use Rattle.machine.proofs.Lookups.{instance_changed, instance_ended}
+use Rattle.machine.specs.Outcome.OutcomesOfRecord.{AlikeNodes}
 use Rattle.isolation_laws.proofs.Numbers.NumbersOfItems.{NoDraw}
 use Rattle.isolation_laws.proofs.Reading.ReadsStay.{quiet_no_reads}
 use Rattle.isolation_laws.proofs.Reading.FirstReads.{first_push, first_no_reads}

@@ -9,10 +9,10 @@ use Rattle.isolation_laws.specs.Words.{HeldBy, DrewCommit}
 use Rattle.isolation_laws.specs.ReadSets.{ReadFirst, KeepsReads}
 use Rattle.isolation_laws.specs.Memory.{AreOfForm, DrawnSerial, MemoryFacts}
 use Rattle.isolation_laws.specs.Holds.{Holds}
-use Rattle.isolation_laws.proofs.Lookups.{held_by, commit_own}
+use Rattle.machine.proofs.Lookups.{held_by, commit_own}
 use Rattle.isolation_laws.proofs.OnceEach.{commit_above_start}
-use Rattle.isolation_laws.proofs.Orders.{three_ways}
-use Rattle.isolation_laws.proofs.Outcome.OutcomesOfStamps.{Drew, drew_state, drew_items}
+use Rattle.machine.proofs.Orders.{three_ways}
+use Rattle.machine.specs.Outcome.OutcomesOfStamps.{Drew, drew_state, drew_items}
 use Rattle.isolation_laws.proofs.Numbers.NumbersOfDraws.{drew_room, drew_cases}
 use Rattle.isolation_laws.proofs.Numbers.NewDraws.{drew_or}
 use Rattle.isolation_laws.proofs.Requests.RequestsOfDraws.{DrawsFor, draws_commit}

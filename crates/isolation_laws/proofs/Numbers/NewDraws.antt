@@ -14,7 +14,7 @@ use Rattle.isolation_laws.specs.Words.{Begun, drawn_stamp}
 use Rattle.isolation_laws.specs.Pending.{Taken}
 use Rattle.isolation_laws.specs.Numbers.{AreDrawn, IsNewDraw, AreNewDraws, AreBegun, NumberFacts}
 use Rattle.isolation_laws.specs.Holds.{Holds}
-use Rattle.isolation_laws.proofs.Outcome.OutcomesOfStamps.{Drew, drew_state, drew_items}
+use Rattle.machine.specs.Outcome.OutcomesOfStamps.{Drew, drew_state, drew_items}
 use Rattle.isolation_laws.proofs.Numbers.NumbersStay.{begun_on, start_on, placed_on}
 use Rattle.isolation_laws.proofs.Numbers.NumbersOfDraws.{start_drawn, commit_drawn, asker_of, draw_item_is, drew_cases, drew_room, drew_ranges, drew_leases, stamp_drawn}
 use Rattle.isolation_laws.proofs.Numbers.NewStamps.{new_draw, drew_taken, start_above, new_now, parts_of, stamp_up_to, stamp_low, stamp_over, stamp_between}

@@ -15,10 +15,10 @@ use Rattle.isolation_laws.specs.Pending.{Taken, HeldPending}
 use Rattle.isolation_laws.specs.Numbers.{AreRanges, AreDrawn, IsNewDraw}
 use Rattle.isolation_laws.specs.Requests.{AreRequests, AreAccepted}
 use Rattle.isolation_laws.specs.Holds.{Holds}
-use Rattle.isolation_laws.proofs.Lookups.{held_by, commit_own}
-use Rattle.isolation_laws.proofs.Outcome.OutcomesOfStamps.{Drew}
+use Rattle.machine.proofs.Lookups.{held_by, commit_own}
+use Rattle.machine.specs.Outcome.OutcomesOfStamps.{Drew}
 use Rattle.isolation_laws.proofs.Numbers.NumbersOfDraws.{start_drawn, commit_drawn, asker_of, drew_room, stamp_drawn}
-use Rattle.isolation_laws.proofs.Orders.{three_ways}
+use Rattle.machine.proofs.Orders.{three_ways}
 
 -- the draw, as an item
 abbrev pub new_draw : (w : State) → Drew w → Item

@@ -20,16 +20,16 @@ use Rattle.machine.specs.State.{Client, State}
 use Rattle.machine.specs.Events.Fetch.{read_items, found_of}
 use Rattle.isolation_laws.specs.Words.{InstanceAt, ClientAt, Begun, DrewStart, DrewCommit}
 use Rattle.isolation_laws.specs.Pending.{InFlight, Has, HeldPending}
-use Rattle.isolation_laws.specs.Quiet.{Quiet, AllQuiet}
+use Rattle.machine.specs.Quiet.{Quiet, AllQuiet}
 use Rattle.isolation_laws.specs.Numbers.{NumberFacts}
 use Rattle.isolation_laws.specs.Requests.{HaveBegun, AreRequests}
 use Rattle.isolation_laws.specs.Holds.{Holds}
-use Rattle.isolation_laws.proofs.Lookups.{held_by, commit_own, begin_own}
+use Rattle.machine.proofs.Lookups.{held_by, commit_own, begin_own}
 use Rattle.isolation_laws.proofs.Owners.{held_drew}
-use Rattle.isolation_laws.proofs.Outcome.OutcomesOfStamps.{AtDrawn, AnsweredBegin}
+use Rattle.machine.specs.Outcome.OutcomesOfStamps.{AtDrawn, AnsweredBegin}
 use Rattle.isolation_laws.proofs.Numbers.NumbersStay.{SameNumbers, IsNumberedAs, numbered_same, numbered_set, numbers_quiet}
 use Rattle.isolation_laws.proofs.Numbers.NumbersOfItems.{NoDraw, read_is_no_draw, drawn_push, new_push, FitsBegun, begun_push, fits_read, placed_push}
-use Rattle.isolation_laws.proofs.Pushed.{one_quiet}
+use Rattle.machine.proofs.Outcome.QuietItems.{one_quiet}
 
 -- ---- one item that is not quiet, and quiet ones behind it
 abbrev pub FitsPlaced : List Item → Item → Type 0

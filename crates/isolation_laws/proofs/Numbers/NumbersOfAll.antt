@@ -8,17 +8,17 @@ use Rattle.history_book.specs.declared.item.Item.TheVariants.{AskBegin, Begin, W
 use Rattle.oracle_parts.specs.Instance.{InstanceEntry}
 use Rattle.machine.specs.State.{State}
 use Rattle.isolation_laws.specs.Words.{Begun}
-use Rattle.isolation_laws.specs.Quiet.{AllQuiet, Quiet}
+use Rattle.machine.specs.Quiet.{AllQuiet, Quiet}
 use Rattle.isolation_laws.specs.Numbers.{NumberFacts}
 use Rattle.isolation_laws.specs.Holds.{Holds}
 use Rattle.isolation_laws.proofs.Holding.Framed.{framed}
 use Rattle.isolation_laws.proofs.Holding.Frames.{numbers_framed}
-use Rattle.isolation_laws.proofs.Outcome.OutcomesOfRequests.{AskedBegin, asked_begin_items, asked_begin_state}
-use Rattle.isolation_laws.proofs.Outcome.OutcomesOfStamps.{AnsweredBegin, answered_begin_items, answered_begin_state}
-use Rattle.isolation_laws.proofs.Outcome.OutcomesOfSessions.{WroteOne, wrote_items}
-use Rattle.isolation_laws.proofs.Outcome.OutcomesOfWork.{Fetched, ReadStepped, fetched_turn, read_turn, fetched_items, read_stepped_items}
-use Rattle.isolation_laws.proofs.Outcome.OutcomesOfSweeps.{SweepListed, sweep_listed_items}
-use Rattle.isolation_laws.proofs.Outcome.Outcomes.{Outcome, OfGranted, OfRenewed, OfExtended, OfAskedBegin, OfAskedCommit, OfAccepted, OfDrew, OfPlaced, OfOwnPlaced, OfAnsweredBegin, OfWrote, OfFetched, OfReadStepped, OfSweepListed, left_by, told_by_outcome}
+use Rattle.machine.specs.Outcome.OutcomesOfRequests.{AskedBegin, asked_begin_items, asked_begin_state}
+use Rattle.machine.specs.Outcome.OutcomesOfStamps.{AnsweredBegin, answered_begin_items, answered_begin_state}
+use Rattle.machine.specs.Outcome.OutcomesOfSessions.{WroteOne, wrote_items}
+use Rattle.machine.specs.Outcome.OutcomesOfWork.{Fetched, ReadStepped, fetched_turn, read_turn, fetched_items, read_stepped_items}
+use Rattle.machine.specs.Outcome.OutcomesOfSweeps.{SweepListed, sweep_listed_items}
+use Rattle.machine.specs.Outcome.Outcomes.{Outcome, OfGranted, OfRenewed, OfExtended, OfAskedBegin, OfAskedCommit, OfAccepted, OfDrew, OfPlaced, OfOwnPlaced, OfAnsweredBegin, OfWrote, OfFetched, OfReadStepped, OfSweepListed, left_by, told_by_outcome}
 use Rattle.isolation_laws.proofs.Numbers.NumbersStay.{SameNumbers, numbered_same, numbered}
 use Rattle.isolation_laws.proofs.Numbers.NumbersOfTakes.{numbers_granted}
 use Rattle.isolation_laws.proofs.Numbers.NumbersOfRenewals.{numbers_renewed}
@@ -26,7 +26,7 @@ use Rattle.isolation_laws.proofs.Numbers.NumbersOfRanges.{numbers_extended}
 use Rattle.isolation_laws.proofs.Numbers.NewDraws.{numbers_drew}
 use Rattle.isolation_laws.proofs.Numbers.NumbersOfItems.{begin_is_no_draw, write_is_no_draw, placed_is_no_draw, fits_begin, fits_write, fits_placed, placed_fits}
 use Rattle.isolation_laws.proofs.Numbers.NumbersKept.{loud_numbers, open_begun, drew_start, first_then, quiet_one, at_node}
-use Rattle.isolation_laws.proofs.Orders.{max_left}
+use Rattle.machine.proofs.Orders.{max_left}
 use Rattle.isolation_laws.proofs.Numbers.Placings.{PlacedPending, placed_item, placed_drew, by_its_node, by_its_session}
 
 -- ---- every outcome

@@ -8,8 +8,8 @@ use Rattle.machine.specs.State.{State}
 use Rattle.machine.specs.Events.Decide.{draw_item}
 use Rattle.isolation_laws.specs.Words.{InstanceAt, drawn_stamp}
 use Rattle.isolation_laws.specs.Numbers.{AreRanges, AreLeases}
-use Rattle.isolation_laws.proofs.Lookups.{instance_changed}
-use Rattle.isolation_laws.proofs.Outcome.OutcomesOfStamps.{Drew, drew_instance, drew_state}
+use Rattle.machine.proofs.Lookups.{instance_changed}
+use Rattle.machine.specs.Outcome.OutcomesOfStamps.{Drew, drew_instance, drew_state}
 
 -- ---- what is drawn: its stamp, and the start that it is drawn for
 abbrev pub start_drawn : Request → ℕ → ℕ

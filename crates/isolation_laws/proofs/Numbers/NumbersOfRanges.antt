@@ -9,8 +9,8 @@ use Rattle.machine.specs.State.{State}
 use Rattle.isolation_laws.specs.Words.{InstanceAt}
 use Rattle.isolation_laws.specs.Numbers.{AreRanges, AreLeases, AreDrawn, NumberFacts}
 use Rattle.isolation_laws.specs.Holds.{Holds}
-use Rattle.isolation_laws.proofs.Lookups.{instance_changed}
-use Rattle.isolation_laws.proofs.Outcome.OutcomesOfRecord.{Extended, extended_nodes, extended_state}
+use Rattle.machine.proofs.Lookups.{instance_changed}
+use Rattle.machine.specs.Outcome.OutcomesOfRecord.{Extended, extended_nodes, extended_state}
 use Rattle.isolation_laws.proofs.Numbers.NumbersMoved.{numbers_told, ranges_under, drawn_under, numbers_moved}
 
 -- ---- an extension: the record's ceiling goes up, and the instance's range with it; no term is above the instance's

@@ -9,10 +9,10 @@ use Rattle.machine.specs.Events.Take.{rules_of}
 use Rattle.isolation_laws.specs.Words.{InstanceAt}
 use Rattle.isolation_laws.specs.Numbers.{AreRanges, AreLeases, AreDrawn, NumberFacts}
 use Rattle.isolation_laws.specs.Holds.{Holds}
-use Rattle.isolation_laws.proofs.Lookups.{instance_changed}
-use Rattle.isolation_laws.proofs.Outcome.OutcomesOfRecord.{Renewed, renewed_nodes, renewed_state}
+use Rattle.machine.proofs.Lookups.{instance_changed}
+use Rattle.machine.specs.Outcome.OutcomesOfRecord.{Renewed, renewed_nodes, renewed_state}
 use Rattle.isolation_laws.proofs.Numbers.NumbersMoved.{numbers_told, ranges_under, drawn_under, numbers_moved}
-use Rattle.isolation_laws.proofs.Orders.{max_left, max_within}
+use Rattle.machine.proofs.Orders.{max_left, max_within}
 
 -- ---- a renewal: instance and record get the same end of the lease, or the record alone
 renewed_number : (w : State) (reading n : ℕ) (i : InstanceEntry) (nodes : List (Option InstanceEntry)) → AreLeases w.setup w.seen nodes w.master → AreLeases w.setup (max w.seen reading) nodes (record w.master { until = renewed_until (rules_of w.setup) w.master reading })

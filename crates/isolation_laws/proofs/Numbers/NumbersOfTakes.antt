@@ -15,10 +15,10 @@ use Rattle.machine.specs.Events.Take.{rules_of, instance_of}
 use Rattle.isolation_laws.specs.Words.{InstanceAt}
 use Rattle.isolation_laws.specs.Numbers.{AreRanges, AreLeases, AreDrawn, NumberFacts}
 use Rattle.isolation_laws.specs.Holds.{Holds}
-use Rattle.isolation_laws.proofs.Lookups.{instance_changed}
-use Rattle.isolation_laws.proofs.Outcome.OutcomesOfRecord.{Granted, granted_nodes, granted_state}
+use Rattle.machine.proofs.Lookups.{instance_changed}
+use Rattle.machine.specs.Outcome.OutcomesOfRecord.{Granted, granted_nodes, granted_state}
 use Rattle.isolation_laws.proofs.Numbers.NumbersMoved.{below_or_at, numbers_told, ranges_under, drawn_under, numbers_moved}
-use Rattle.isolation_laws.proofs.Orders.{max_left, max_right}
+use Rattle.machine.proofs.Orders.{max_left, max_right}
 
 -- ---- a take that is not early
 not_early : (b : Bool) (r : MasterRecord) (reading : ℕ) (other : Option TakeRefused) → (if b then Some (Early reading r.until) else other) ≡ None → b ≡ false

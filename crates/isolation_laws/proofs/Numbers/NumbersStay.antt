@@ -12,10 +12,10 @@ use Rattle.stamp_base.specs.SetupNumbers.{SetupNumbers}
 use Rattle.store_parts.specs.Record.{MasterRecord}
 use Rattle.oracle_parts.specs.Instance.{InstanceEntry}
 use Rattle.isolation_laws.specs.Words.{InstanceAt, Begun, DrewStart, DrewCommit}
-use Rattle.isolation_laws.specs.Quiet.{Quiet, AllQuiet}
+use Rattle.machine.specs.Quiet.{Quiet, AllQuiet}
 use Rattle.isolation_laws.specs.Numbers.{AreRanges, AreLeases, AreDrawn, IsNewDraw, AreNewDraws, AreBegun, ArePlaced, NumberFacts}
-use Rattle.isolation_laws.proofs.Lookups.{instance_changed, instance_ended}
-use Rattle.isolation_laws.proofs.Outcome.OutcomesOfRecord.{AlikeNodes}
+use Rattle.machine.proofs.Lookups.{instance_changed, instance_ended}
+use Rattle.machine.specs.Outcome.OutcomesOfRecord.{AlikeNodes}
 use Rattle.isolation_laws.proofs.Pushed.{not_true, old_begin, old_draw, old_write, old_read, old_placed}
 
 -- ---- instances with the same numbers

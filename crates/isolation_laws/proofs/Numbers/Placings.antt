@@ -11,8 +11,8 @@ use Rattle.isolation_laws.specs.Words.{DrewCommit}
 use Rattle.isolation_laws.specs.Pending.{InFlight, Has, is_placing, PlacingAt, Pending, Live}
 use Rattle.isolation_laws.specs.Holds.{Holds}
 use Rattle.isolation_laws.proofs.Owners.{has_drew}
-use Rattle.isolation_laws.proofs.Outcome.OutcomesOfStamps.{PlacedOne}
-use Rattle.isolation_laws.proofs.Outcome.OutcomesOfPlacings.{AtPlacing, OwnPlaced}
+use Rattle.machine.specs.Outcome.OutcomesOfStamps.{PlacedOne}
+use Rattle.machine.specs.Outcome.OutcomesOfPlacings.{AtPlacing, OwnPlaced}
 use Rattle.isolation_laws.proofs.Numbers.NumbersKept.{in_flight_of, drawn_pending}
 
 pub record PlacedPending (w : State) : Type 0 where

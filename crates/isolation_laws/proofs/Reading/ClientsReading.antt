@@ -12,10 +12,10 @@ use Rattle.machine.specs.State.{Reads, Client, State}
 use Rattle.machine.specs.Clients.{client_begun, client_handed}
 use Rattle.isolation_laws.specs.Words.{ClientAt, OpenAt}
 use Rattle.isolation_laws.specs.Reads.{AreReading}
-use Rattle.isolation_laws.proofs.Lookups.{one_client}
-use Rattle.isolation_laws.proofs.Outcome.OutcomesOfStamps.{AnsweredBegin, answered_begin_state, HandedOver, handed_over_state}
-use Rattle.isolation_laws.proofs.Outcome.OutcomesOfSessions.{WroteOne, wrote_state, Vanished, vanished_state}
-use Rattle.isolation_laws.proofs.Outcome.OutcomesOfWork.{ReadDropped, read_dropped_state}
+use Rattle.machine.proofs.Lookups.{one_client}
+use Rattle.machine.specs.Outcome.OutcomesOfStamps.{AnsweredBegin, answered_begin_state, HandedOver, handed_over_state}
+use Rattle.machine.specs.Outcome.OutcomesOfSessions.{WroteOne, wrote_state, Vanished, vanished_state}
+use Rattle.machine.specs.Outcome.OutcomesOfWork.{ReadDropped, read_dropped_state}
 use Rattle.isolation_laws.proofs.Reading.ReadersRely.{ReadingBy}
 
 still_open : (old new : List Client) (s b e : ℕ) (c : Client) → ClientAt old s c → ClientAt new s c → OpenAt old s b e → OpenAt new s b e

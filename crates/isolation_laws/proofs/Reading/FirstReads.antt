@@ -11,9 +11,10 @@ use Rattle.history_book.specs.declared.item.Item.TheVariants.{Read, Write}
 use Rattle.history_book.proofs.MemberLemmas.{in_front, slice_get-push, in_at}
 use Rattle.client_parts.specs.KeyRead.{ReadTurn, Asks, Answers}
 use Rattle.machine.specs.Events.Fetch.{found_of, read_items}
-use Rattle.isolation_laws.specs.Quiet.{Quiet}
+use Rattle.machine.specs.Quiet.{Quiet}
 use Rattle.isolation_laws.specs.ReadSets.{ReadFirst}
-use Rattle.isolation_laws.proofs.Pushed.{one_quiet, last_write-quiet}
+use Rattle.machine.proofs.Outcome.QuietItems.{one_quiet}
+use Rattle.isolation_laws.proofs.Pushed.{last_write-quiet}
 use Rattle.isolation_laws.proofs.Requests.WrittenKeys.{write_of, wrote_some}
 use Rattle.isolation_laws.proofs.Reading.ReadsStay.{NoReads, quiet_no_reads}
 

@@ -8,9 +8,9 @@ use Rattle.machine.specs.State.{Client, State}
 use Rattle.machine.specs.Clients.{client_begun, client_handed, unless_gone}
 use Rattle.machine.specs.Events.Fetch.{client_read}
 use Rattle.isolation_laws.specs.Words.{ClientAt}
-use Rattle.isolation_laws.proofs.Lookups.{client_set}
-use Rattle.isolation_laws.proofs.Outcome.OutcomesOfWork.{read_turn, read_client}
-use Rattle.isolation_laws.proofs.Outcome.Outcomes.{Outcome, OfAnsweredBegin, OfHanded, OfWrote, OfVanished, OfFetched, OfReadDropped, OfReadStepped, left_by}
+use Rattle.machine.proofs.Lookups.{client_set}
+use Rattle.machine.specs.Outcome.OutcomesOfWork.{read_turn, read_client}
+use Rattle.machine.specs.Outcome.Outcomes.{Outcome, OfAnsweredBegin, OfHanded, OfWrote, OfVanished, OfFetched, OfReadDropped, OfReadStepped, left_by}
 use Rattle.isolation_laws.proofs.Requests.ClientsOpen.{gone_cases}
 
 -- begins, reads and vanishes change some of what a client keeps

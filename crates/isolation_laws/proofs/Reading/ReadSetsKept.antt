@@ -1,6 +1,6 @@
 -- Every outcome keeps the read sets.
 use Rattle.isolation_laws.proofs.Requests.ClientMoves.{at_work_after, reading_after}
-use Rattle.isolation_laws.proofs.Outcome.Outcomes.{OfOwnPlaced, Outcome, OfGranted, OfRenewed, OfExtended, OfAskedBegin, OfAskedCommit, OfAccepted, OfDrew, OfPlaced, OfAnsweredBegin, OfWrote, OfFetched, OfReadStepped, OfSweepListed, left_by, told_by_outcome}
+use Rattle.machine.specs.Outcome.Outcomes.{OfOwnPlaced, Outcome, OfGranted, OfRenewed, OfExtended, OfAskedBegin, OfAskedCommit, OfAccepted, OfDrew, OfPlaced, OfAnsweredBegin, OfWrote, OfFetched, OfReadStepped, OfSweepListed, left_by, told_by_outcome}
 use Rattle.std.proofs.Common.{◌≡◌, ℕ, ◌+◌, Bool, true, false, if◌then◌else◌, List, ◌++◌, Option, ◌⊎◌, inl, inr, refl, subst, Contains}
 use Rattle.std.proofs.lemmas.Bool.{cases_Bool}
 use Rattle.history_book.specs.Members.{◌∈◌}
@@ -19,7 +19,7 @@ use Rattle.machine.specs.StoreSteps.{told_by}
 use Rattle.machine.specs.Events.Fetch.{marks_every, keeps_read, reads_after}
 use Rattle.isolation_laws.specs.ReadSets.{AreReadSets}
 use Rattle.isolation_laws.specs.Holds.{Holds}
-use Rattle.isolation_laws.proofs.Outcome.OutcomesOfWork.{Fetched, fetched_turn, fetched_client, fetched_state, fetched_items, ReadStepped, read_turn, read_client, read_stepped_state, read_stepped_items}
+use Rattle.machine.specs.Outcome.OutcomesOfWork.{Fetched, fetched_turn, fetched_client, fetched_state, fetched_items, ReadStepped, read_turn, read_client, read_stepped_state, read_stepped_items}
 use Rattle.isolation_laws.proofs.Requests.ClientsOpen.{same_at_work}
 use Rattle.isolation_laws.proofs.Requests.OpenAfter.{at_work_wrote}
 use Rattle.isolation_laws.proofs.Requests.RequestsAfter.{FewerHeld}

@@ -1,6 +1,6 @@
 -- Read sets where a session asks for a start or a commit, and where a begin is answered.
 use Rattle.isolation_laws.proofs.Requests.ClientMoves.{at_work_after, reading_after}
-use Rattle.isolation_laws.proofs.Outcome.Outcomes.{OfAskedBegin, OfAskedCommit}
+use Rattle.machine.specs.Outcome.Outcomes.{OfAskedBegin, OfAskedCommit}
 use Rattle.std.proofs.Common.{◌≡◌, ℕ, false, List, [], ◌∷◌, ◌++◌, inl, inr, refl, sym, ◌∙◌, ap, subst}
 use Rattle.history_book.specs.declared.item.Item.{Item}
 use Rattle.history_book.specs.declared.item.Item.TheVariants.{AskBegin, Begin}
@@ -14,9 +14,9 @@ use Rattle.machine.specs.Clients.{client_begun, unless_gone}
 use Rattle.isolation_laws.specs.Words.{InstanceAt, HeldBy, ClientAt, OpenAt, epoch_or_none}
 use Rattle.isolation_laws.specs.ReadSets.{ReadFirst, KeepsReads, AreReadSets}
 use Rattle.isolation_laws.specs.Holds.{Holds}
-use Rattle.isolation_laws.proofs.Lookups.{client_set, held_by, one_client, one_instance, one_held}
-use Rattle.isolation_laws.proofs.Outcome.OutcomesOfRequests.{AskedBegin, asked_begin_state, AskedCommit, asked_commit_state}
-use Rattle.isolation_laws.proofs.Outcome.OutcomesOfStamps.{AnsweredBegin, answered_begin_state, answered_begin_items}
+use Rattle.machine.proofs.Lookups.{client_set, held_by, one_client, one_instance, one_held}
+use Rattle.machine.specs.Outcome.OutcomesOfRequests.{AskedBegin, asked_begin_state, AskedCommit, asked_commit_state}
+use Rattle.machine.specs.Outcome.OutcomesOfStamps.{AnsweredBegin, answered_begin_state, answered_begin_items}
 use Rattle.isolation_laws.proofs.Requests.ClientsOpen.{gone_cases}
 use Rattle.isolation_laws.proofs.Requests.OpenAfter.{open_answered_begin}
 use Rattle.isolation_laws.proofs.Requests.RequestsAfter.{held_changed, held_over, new_held, none_held, open_waits}

@@ -25,10 +25,10 @@ use Rattle.machine.specs.State.{Reads, Client, State}
 use Rattle.machine.specs.Events.Fetch.{client_read, read_items}
 use Rattle.isolation_laws.specs.Words.{InstanceAt, HeldBy, ClientAt, OpenAt, Begun}
 use Rattle.isolation_laws.specs.Pending.{Stage, Waits, Taken, Has, stage_of}
-use Rattle.isolation_laws.specs.Quiet.{Quiet}
+use Rattle.machine.specs.Quiet.{Quiet}
 use Rattle.isolation_laws.specs.ReadSets.{ReadFirst, KeepsReads, KeepsKey, AreReadSets}
 use Rattle.isolation_laws.specs.Holds.{Holds}
-use Rattle.isolation_laws.proofs.Lookups.{client_set, one_client}
+use Rattle.machine.proofs.Lookups.{client_set, one_client}
 use Rattle.isolation_laws.proofs.OnceEach.{begun_once}
 use Rattle.isolation_laws.proofs.Numbers.NumbersKept.{open_begun}
 use Rattle.isolation_laws.proofs.Requests.ClientsOpen.{read_keeps_entry}

@@ -10,7 +10,7 @@ use Rattle.machine.specs.State.{Reads, Client, State}
 use Rattle.isolation_laws.specs.Words.{InstanceAt, HeldBy, ClientAt, OpenAt}
 use Rattle.isolation_laws.specs.ReadSets.{ReadFirst, KeepsReads, KeepsKey, AreReadSets}
 use Rattle.isolation_laws.specs.Holds.{Holds}
-use Rattle.isolation_laws.proofs.Lookups.{one_client}
+use Rattle.machine.proofs.Lookups.{one_client}
 use Rattle.isolation_laws.proofs.Requests.ClientsOpen.{FewerOpen}
 use Rattle.isolation_laws.proofs.Requests.RequestsAfter.{FewerHeld}
 use Rattle.isolation_laws.proofs.Reading.ClientsReading.{FewerReading}

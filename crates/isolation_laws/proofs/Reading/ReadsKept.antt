@@ -1,6 +1,6 @@
 -- Every outcome keeps the facts on reads, and all answers right.
 use Rattle.isolation_laws.proofs.Requests.ClientMoves.{at_work_after, reading_after}
-use Rattle.isolation_laws.proofs.Outcome.Outcomes.{OfAskedBegin, OfOwnPlaced, Outcome, OfDrew, OfPlaced, OfAnsweredBegin, OfWrote, OfFetched, OfReadStepped, OfSweepListed, IsTimely, left_by, told_by_outcome}
+use Rattle.machine.specs.Outcome.Outcomes.{OfAskedBegin, OfOwnPlaced, Outcome, OfDrew, OfPlaced, OfAnsweredBegin, OfWrote, OfFetched, OfReadStepped, OfSweepListed, IsTimely, left_by, told_by_outcome}
 use Rattle.std.proofs.Common.{ℕ, ◌+◌, List, [], ◌∷◌, ◌++◌, Option, refl}
 use Rattle.history_book.specs.Members.{AtEach}
 use Rattle.history_book.specs.Isolation.{RightRead}

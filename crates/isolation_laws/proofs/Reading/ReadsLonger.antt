@@ -16,7 +16,7 @@ use Rattle.oracle_parts.specs.Instance.{InstanceEntry}
 use Rattle.machine.specs.State.{Reads, Client, State}
 use Rattle.isolation_laws.specs.Words.{ClientAt, epoch_or_none, OpenAt, Begun}
 use Rattle.isolation_laws.specs.Reads.{SeesAll, IsResolvedTo, IsReading, AreReading}
-use Rattle.isolation_laws.proofs.Lookups.{set_found, set_other, client_set, one_client}
+use Rattle.machine.proofs.Lookups.{set_found, set_other, client_set, one_client}
 use Rattle.isolation_laws.proofs.Requests.CommitsInFlight.{GoesOn}
 use Rattle.isolation_laws.proofs.Reading.ReadersRely.{RelyOn, ReadingBy}
 use Rattle.isolation_laws.proofs.Stores.Calm.{Calm, listed_goes_on}

@@ -24,12 +24,13 @@ use Rattle.machine.specs.StoreSteps.{pairs_after, told_by}
 use Rattle.machine.specs.Events.Fetch.{marks_every, found_of, client_read, read_items}
 use Rattle.isolation_laws.specs.Words.{ClientAt, epoch_or_none, OpenAt}
 use Rattle.isolation_laws.specs.Pending.{ComesBelow}
-use Rattle.isolation_laws.specs.Quiet.{Quiet}
+use Rattle.machine.specs.Quiet.{Quiet}
 use Rattle.isolation_laws.specs.Reads.{IsReading, Outlasts, AreLastingReads}
 use Rattle.isolation_laws.specs.Known.{IsTrueCache}
 use Rattle.isolation_laws.specs.Holds.{Holds}
-use Rattle.isolation_laws.proofs.Outcome.OutcomesOfWork.{Fetched, fetched_recall, fetched_turn, fetched_client, fetched_state, fetched_items, ReadStepped, read_recall, read_turn, read_client, read_stepped_state, read_stepped_items}
-use Rattle.isolation_laws.proofs.Pushed.{not_true, in_append, one_quiet}
+use Rattle.machine.specs.Outcome.OutcomesOfWork.{Fetched, fetched_recall, fetched_turn, fetched_client, fetched_state, fetched_items, ReadStepped, read_recall, read_turn, read_client, read_stepped_state, read_stepped_items}
+use Rattle.isolation_laws.proofs.Pushed.{not_true, in_append}
+use Rattle.machine.proofs.Outcome.QuietItems.{one_quiet}
 use Rattle.isolation_laws.proofs.Requests.ClientsOpen.{fewer_set, read_keeps_entry}
 use Rattle.isolation_laws.proofs.Requests.PendingAfter.{FewerPending, fewer_pending}
 use Rattle.isolation_laws.proofs.Requests.PendingFewer.{same_served, fewer_comes}

@@ -23,12 +23,12 @@ use Rattle.machine.specs.State.{Client, State}
 use Rattle.machine.specs.Events.Decide.{draw_item}
 use Rattle.isolation_laws.specs.Words.{epoch_or_none, OpenAt, Begun}
 use Rattle.isolation_laws.specs.Pending.{IsStageBelow, ComesBelow, IsPending}
-use Rattle.isolation_laws.specs.Quiet.{AllQuiet}
+use Rattle.machine.specs.Quiet.{AllQuiet}
 use Rattle.isolation_laws.specs.Reads.{AreReading, AreLastingReads}
 use Rattle.isolation_laws.specs.Holds.{Holds}
-use Rattle.isolation_laws.proofs.Lookups.{one_client}
-use Rattle.isolation_laws.proofs.Outcome.OutcomesOfRequests.{Accepted, AcceptedSteadily, accepted_state}
-use Rattle.isolation_laws.proofs.Outcome.OutcomesOfSessions.{AtOpen, WroteOne, wrote_state, wrote_items, WriteFailed}
+use Rattle.machine.proofs.Lookups.{one_client}
+use Rattle.machine.specs.Outcome.OutcomesOfRequests.{Accepted, AcceptedSteadily, accepted_state}
+use Rattle.machine.specs.Outcome.OutcomesOfSessions.{AtOpen, WroteOne, wrote_state, wrote_items, WriteFailed}
 use Rattle.isolation_laws.proofs.OnceEach.{begun_once}
 use Rattle.isolation_laws.proofs.Owners.{open_unplaced, accepts_now, begun_below_last}
 use Rattle.isolation_laws.proofs.Pushed.{not_true, in_append, quiet_in, last_write-quiet}

@@ -10,7 +10,7 @@ use Rattle.oracle_parts.specs.declared.instance.Request.{Request}
 use Rattle.oracle_parts.specs.declared.instance.Request.TheVariants.{Begin as BeginRequest, Commit}
 use Rattle.machine.specs.Events.Decide.{draw_item}
 use Rattle.machine.specs.Events.Fetch.{read_items}
-use Rattle.isolation_laws.specs.Quiet.{Quiet, AllQuiet}
+use Rattle.machine.specs.Quiet.{Quiet, AllQuiet}
 use Rattle.isolation_laws.proofs.Pushed.{not_true}
 
 -- the items are no asks of the session

@@ -1,6 +1,6 @@
 -- Every outcome keeps the facts on begins in flight and open transactions.
 use Rattle.isolation_laws.proofs.Requests.ClientMoves.{at_work_after}
-use Rattle.isolation_laws.proofs.Outcome.Outcomes.{OfAskedBegin, OfAskedCommit, OfOwnPlaced, Outcome, OfGranted, OfRenewed, OfExtended, OfAccepted, OfDrew, OfPlaced, OfAnsweredBegin, OfWrote, OfFetched, OfReadStepped, OfSweepListed, IsTimely, left_by, told_by_outcome}
+use Rattle.machine.specs.Outcome.Outcomes.{OfAskedBegin, OfAskedCommit, OfOwnPlaced, Outcome, OfGranted, OfRenewed, OfExtended, OfAccepted, OfDrew, OfPlaced, OfAnsweredBegin, OfWrote, OfFetched, OfReadStepped, OfSweepListed, IsTimely, left_by, told_by_outcome}
 use Rattle.std.proofs.Common.{◌≡◌, ℕ, Bool, true, false, List, ◌++◌, Some, inl, inr, refl, sym, subst, ap, arith}
 use Rattle.std.specs.Prelude.{slice_set}
 use Rattle.history_book.specs.declared.item.Item.{Item}
@@ -14,9 +14,9 @@ use Rattle.isolation_laws.specs.Begins.{BeginFacts}
 use Rattle.isolation_laws.specs.Holds.{Holds}
 use Rattle.isolation_laws.proofs.Holding.Framed.{framed}
 use Rattle.isolation_laws.proofs.Holding.Frames.{nodes_stay, nodes_settled, begins_on, begins_framed}
-use Rattle.isolation_laws.proofs.Outcome.OutcomesOfRecord.{Renewed, renewed_nodes}
-use Rattle.isolation_laws.proofs.Outcome.OutcomesOfWork.{fetched_turn, read_turn}
-use Rattle.isolation_laws.proofs.Lookups.{instance_changed}
+use Rattle.machine.specs.Outcome.OutcomesOfRecord.{Renewed, renewed_nodes}
+use Rattle.machine.specs.Outcome.OutcomesOfWork.{fetched_turn, read_turn}
+use Rattle.machine.proofs.Lookups.{instance_changed}
 use Rattle.isolation_laws.proofs.Numbers.NumbersStay.{SameNumbers, numbered_same, numbered_set, numbered}
 use Rattle.isolation_laws.proofs.Requests.ClientsOpen.{FewerOpen, same_at_work}
 use Rattle.isolation_laws.proofs.Requests.OpenAfter.{at_work_wrote, at_work_fetched, at_work_read}

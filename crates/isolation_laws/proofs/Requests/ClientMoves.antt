@@ -20,14 +20,14 @@ use Rattle.machine.specs.Events.Crash.{after_loss, crashed_clients}
 use Rattle.machine.specs.Events.Step.{client_settled, after_asks}
 use Rattle.isolation_laws.specs.Words.{ClientAt, epoch_or_none, OpenAt}
 use Rattle.isolation_laws.specs.Pending.{is_placing}
-use Rattle.isolation_laws.proofs.Lookups.{client_set}
-use Rattle.isolation_laws.proofs.Outcome.OutcomesOfStamps.{answered_client}
+use Rattle.machine.proofs.Lookups.{client_set}
+use Rattle.machine.specs.Outcome.OutcomesOfStamps.{answered_client}
 use Rattle.oracle_parts.specs.declared.instance.Held.{Held}
 use Rattle.machine.specs.StoreSteps.{told_by}
 use Rattle.machine.specs.Events.Write.{client_wrote}
-use Rattle.isolation_laws.proofs.Outcome.OutcomesOfWork.{CompletedOne}
+use Rattle.machine.specs.Outcome.OutcomesOfWork.{CompletedOne}
 use Rattle.isolation_laws.proofs.Requests.ClientsOpen.{FewerAtWork, WorksNoMore, rests_as, free_rests, asking_rests, committing_rests, aborted_rests, gone_cases, outcome_rests, completing_rests, IsAtRest}
-use Rattle.isolation_laws.proofs.Outcome.Outcomes.{Outcome, OfCrashed, OfAskedBegin, OfAskedCommit, OfEnded, OfAnsweredBegin, OfAnsweredCommit, OfHanded, OfOwnPlaced, OfOwnNotPlaced, OfEndedReadOnly, OfWrote, OfWriteFailed, OfAborted, OfVanished, OfHealed, OfFetched, OfReadDropped, OfReadStepped, OfOutcome, OfOutcomeFailed, OfCompleted, left_by}
+use Rattle.machine.specs.Outcome.Outcomes.{Outcome, OfCrashed, OfAskedBegin, OfAskedCommit, OfEnded, OfAnsweredBegin, OfAnsweredCommit, OfHanded, OfOwnPlaced, OfOwnNotPlaced, OfEndedReadOnly, OfWrote, OfWriteFailed, OfAborted, OfVanished, OfHealed, OfFetched, OfReadDropped, OfReadStepped, OfOutcome, OfOutcomeFailed, OfCompleted, left_by}
 use Rattle.isolation_laws.proofs.Requests.ClientsIdle.{FewerReading, ReadsNothing, nothing_reads, settles_nothing, completes_nothing, aborted_reads, committed_reads, idle_reads}
 use Rattle.isolation_laws.proofs.Requests.OpenAfter.{crashed_at}
 

@@ -19,7 +19,7 @@ use Rattle.machine.specs.Events.Step.{client_settled, after_asks}
 use Rattle.isolation_laws.specs.Words.{ClientAt, Begun, keys_with, keys_from, written_keys}
 use Rattle.isolation_laws.specs.Pending.{is_placing}
 use Rattle.isolation_laws.specs.Requests.{HaveBegun, HasAsked, AreKeys}
-use Rattle.isolation_laws.proofs.Lookups.{client_set}
+use Rattle.machine.proofs.Lookups.{client_set}
 use Rattle.isolation_laws.proofs.Pushed.{written_keys-push}
 
 -- ---- transactions of sessions

@@ -13,7 +13,7 @@ use Rattle.machine.specs.Clients.{client_freed, client_aborted, client_committed
 use Rattle.machine.specs.Events.Crash.{after_loss}
 use Rattle.isolation_laws.specs.Pending.{is_placing}
 use Rattle.isolation_laws.specs.Requests.{WaitsFor}
-use Rattle.isolation_laws.proofs.Outcome.OutcomesOfStamps.{answered_client}
+use Rattle.machine.specs.Outcome.OutcomesOfStamps.{answered_client}
 use Rattle.isolation_laws.proofs.Requests.ClientsOpen.{gone_cases}
 use Rattle.isolation_laws.proofs.Requests.ClientsAfter.{KeepsStart, has_by, placing_has, aborted_keeps, committed_keeps, opened_keeps, freed_keeps, KeysClient, keys_aborted, keys_freed, keys_committed, keys_opened, keys_handed}
 

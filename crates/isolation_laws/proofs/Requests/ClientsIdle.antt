@@ -8,7 +8,7 @@ use Rattle.client_parts.specs.KeyRead.{Reading}
 use Rattle.machine.specs.State.{Nothing, Reads, Settles, Completes, Client}
 use Rattle.machine.specs.Clients.{is_reading, is_reading_by, undo_of, finish_of, client_aborted, client_committed, unless_gone}
 use Rattle.isolation_laws.specs.Words.{ClientAt}
-use Rattle.isolation_laws.proofs.Lookups.{client_set}
+use Rattle.machine.proofs.Lookups.{client_set}
 use Rattle.isolation_laws.proofs.Requests.ClientsOpen.{gone_cases}
 
 abbrev pub FewerReading : List Client → List Client → Type 0

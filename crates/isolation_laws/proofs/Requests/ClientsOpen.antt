@@ -13,8 +13,8 @@ use Rattle.machine.specs.Clients.{client_aborted, unless_gone, unless_gone_by}
 use Rattle.machine.specs.Events.Fetch.{client_read}
 use Rattle.isolation_laws.specs.Words.{ClientAt, epoch_or_none, OpenAt}
 use Rattle.isolation_laws.specs.Pending.{InFlight, is_placing, PlacingAt}
-use Rattle.isolation_laws.proofs.Lookups.{client_set}
-use Rattle.isolation_laws.proofs.Outcome.OutcomesOfStamps.{answered_client}
+use Rattle.machine.proofs.Lookups.{client_set}
+use Rattle.machine.specs.Outcome.OutcomesOfStamps.{answered_client}
 
 abbrev pub FewerOpen : List Client → List Client → Type 0
 FewerOpen old new = (s t e : ℕ) → OpenAt new s t e → OpenAt old s t e

@@ -11,10 +11,10 @@ use Rattle.machine.specs.Events.Crash.{after_loss, crashed_clients}
 use Rattle.machine.specs.Events.Write.{client_wrote}
 use Rattle.isolation_laws.specs.Words.{ClientAt, epoch_or_none, OpenAt}
 use Rattle.isolation_laws.specs.Pending.{is_placing, IsOpen}
-use Rattle.isolation_laws.proofs.Lookups.{client_set}
-use Rattle.isolation_laws.proofs.Outcome.OutcomesOfStamps.{AnsweredBegin, answered_begin_state}
-use Rattle.isolation_laws.proofs.Outcome.OutcomesOfSessions.{WroteOne, wrote_state, Vanished, vanished_state}
-use Rattle.isolation_laws.proofs.Outcome.OutcomesOfWork.{Fetched, fetched_turn, fetched_client, fetched_state, ReadDropped, read_dropped_state, read_turn, read_client, ReadStepped, read_stepped_state}
+use Rattle.machine.proofs.Lookups.{client_set}
+use Rattle.machine.specs.Outcome.OutcomesOfStamps.{AnsweredBegin, answered_begin_state}
+use Rattle.machine.specs.Outcome.OutcomesOfSessions.{WroteOne, wrote_state, Vanished, vanished_state}
+use Rattle.machine.specs.Outcome.OutcomesOfWork.{Fetched, fetched_turn, fetched_client, fetched_state, ReadDropped, read_dropped_state, read_turn, read_client, ReadStepped, read_stepped_state}
 use Rattle.isolation_laws.proofs.Requests.ClientsOpen.{FewerOpen, FewerPlacing, FewerAtWork, fewer_open_set, fewer_placing_set, fewer_set, gone_rests, open_not_placing, gone_cases, read_rests}
 
 -- ---- a crash: each client is as it was, or heard of the loss of its request

@@ -11,7 +11,7 @@ use Rattle.machine.specs.State.{Client}
 use Rattle.isolation_laws.specs.Words.{InstanceAt, HeldBy, Begun}
 use Rattle.isolation_laws.specs.Pending.{InFlight, HeldPending, is_placing, PlacingAt, Pending}
 use Rattle.isolation_laws.specs.Requests.{AreRequests, ArePending}
-use Rattle.isolation_laws.proofs.Lookups.{client_set}
+use Rattle.machine.proofs.Lookups.{client_set}
 use Rattle.isolation_laws.proofs.OnceEach.{begun_once}
 use Rattle.isolation_laws.proofs.Requests.ClientsOpen.{FewerPlacing, IsAtRest}
 use Rattle.isolation_laws.proofs.Requests.PendingAfter.{fewer_pending}

@@ -15,8 +15,8 @@ use Rattle.oracle_parts.specs.InstanceSteps.{without_request, moved, just_asked,
 use Rattle.machine.specs.State.{Client}
 use Rattle.isolation_laws.specs.Words.{InstanceAt, HeldBy}
 use Rattle.isolation_laws.specs.Pending.{Stage, InFlight, stage_of, HeldPending, Pending}
-use Rattle.isolation_laws.proofs.Lookups.{instance_changed, instance_ended, heldby_ended, heldby_changed}
-use Rattle.isolation_laws.proofs.Outcome.OutcomesOfRecord.{Alike}
+use Rattle.machine.proofs.Lookups.{instance_changed, instance_ended, heldby_ended, heldby_changed}
+use Rattle.machine.specs.Outcome.OutcomesOfRecord.{Alike}
 use Rattle.isolation_laws.proofs.Requests.ClientsOpen.{FewerPlacing, placing_was}
 
 -- a commit in flight at an instance

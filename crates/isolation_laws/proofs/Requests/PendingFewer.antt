@@ -1,6 +1,6 @@
 -- Outcomes that leave fewer commits in flight, or as many.
 use Rattle.isolation_laws.proofs.Requests.ClientMoves.{at_work_after}
-use Rattle.isolation_laws.proofs.Outcome.Outcomes.{OfAskedBegin}
+use Rattle.machine.specs.Outcome.Outcomes.{OfAskedBegin}
 use Rattle.std.proofs.Common.{◌≡◌, ◌≢◌, ℕ, ◌+◌, Bool, true, false, List, Option, Some, ◌⊎◌, inl, inr, refl, subst}
 use Rattle.oracle_parts.specs.declared.instance.Settled.{Settled}
 use Rattle.std.specs.Prelude.{slice_set}
@@ -13,10 +13,10 @@ use Rattle.store_parts.specs.Record.{granted, renewed_until}
 use Rattle.machine.specs.Events.Take.{rules_of, instance_of}
 use Rattle.isolation_laws.specs.Words.{InstanceAt, HeldBy}
 use Rattle.isolation_laws.specs.Pending.{InFlight, HeldPending, PlacingAt, Pending, ComesBelow, IsPending}
-use Rattle.isolation_laws.proofs.Lookups.{instance_changed}
-use Rattle.isolation_laws.proofs.Outcome.OutcomesOfRecord.{Still, Granted, granted_nodes, granted_state, Renewed, renewed_nodes, renewed_state, Extended, extended_nodes, extended_state}
-use Rattle.isolation_laws.proofs.Outcome.OutcomesOfRequests.{Crashed, crashed_state, AskedBegin, asked_begin_state, Ended, ended_state}
-use Rattle.isolation_laws.proofs.Outcome.OutcomesOfStamps.{AnsweredBegin, answered_begin_state, AnsweredCommit, answered_commit_state, AtDrawn, settled_nodes}
+use Rattle.machine.proofs.Lookups.{instance_changed}
+use Rattle.machine.specs.Outcome.OutcomesOfRecord.{Still, Granted, granted_nodes, granted_state, Renewed, renewed_nodes, renewed_state, Extended, extended_nodes, extended_state}
+use Rattle.machine.specs.Outcome.OutcomesOfRequests.{Crashed, crashed_state, AskedBegin, asked_begin_state, Ended, ended_state}
+use Rattle.machine.specs.Outcome.OutcomesOfStamps.{AnsweredBegin, answered_begin_state, AnsweredCommit, answered_commit_state, AtDrawn, settled_nodes}
 use Rattle.isolation_laws.proofs.Requests.OpenAfter.{placing_answered_begin}
 use Rattle.isolation_laws.proofs.Requests.PendingAfter.{PendingIn, pending_in, pending_at, FewerServed, FewerPending, fewer_pending, fewer_changed, fewer_ended, none_more_alike, none_more_ended, none_more_begun, settled_cases, new_holds_none, none_more_same}
 

@@ -16,7 +16,7 @@ use Rattle.isolation_laws.specs.Words.{InstanceAt, HeldBy, ClientAt}
 use Rattle.isolation_laws.specs.Pending.{is_placing}
 use Rattle.isolation_laws.specs.Requests.{WaitsFor, AreRequests}
 use Rattle.isolation_laws.proofs.Requests.ClientsOpen.{asking_rests, committing_rests, gone_rests}
-use Rattle.isolation_laws.proofs.Lookups.{instance_changed, instance_ended, one_client, held_set, set_found, set_other}
+use Rattle.machine.proofs.Lookups.{instance_changed, instance_ended, one_client, held_set, set_found, set_other}
 
 -- ---- instances with the same requests or fewer
 -- each request that is held was held, by the same node and session

@@ -4,12 +4,12 @@ use Rattle.history_book.specs.declared.item.Item.{Item}
 use Rattle.history_book.specs.declared.item.Actor.TheVariants.{Janitor}
 use Rattle.oracle_parts.specs.Instance.{InstanceEntry}
 use Rattle.machine.specs.State.{Client, State}
-use Rattle.isolation_laws.specs.Quiet.{AllQuiet}
+use Rattle.machine.specs.Quiet.{AllQuiet}
 use Rattle.isolation_laws.specs.Requests.{RequestFacts}
 use Rattle.isolation_laws.specs.Holds.{Holds}
 use Rattle.isolation_laws.proofs.Holding.Framed.{framed}
-use Rattle.isolation_laws.proofs.Outcome.OutcomesOfWork.{fetched_turn, read_turn}
-use Rattle.isolation_laws.proofs.Outcome.Outcomes.{Outcome, OfGranted, OfRenewed, OfExtended, OfAskedBegin, OfAskedCommit, OfAccepted, OfDrew, OfPlaced, OfOwnPlaced, OfAnsweredBegin, OfWrote, OfFetched, OfReadStepped, OfSweepListed, IsTimely, left_by, told_by_outcome}
+use Rattle.machine.specs.Outcome.OutcomesOfWork.{fetched_turn, read_turn}
+use Rattle.machine.specs.Outcome.Outcomes.{Outcome, OfGranted, OfRenewed, OfExtended, OfAskedBegin, OfAskedCommit, OfAccepted, OfDrew, OfPlaced, OfOwnPlaced, OfAnsweredBegin, OfWrote, OfFetched, OfReadStepped, OfSweepListed, IsTimely, left_by, told_by_outcome}
 use Rattle.isolation_laws.proofs.Requests.Silent.{silent_quiet, silent_push, silent_turn, ask_says, listing_says}
 use Rattle.isolation_laws.proofs.Requests.RequestsKept.{Leaves, requests_silent}
 use Rattle.isolation_laws.proofs.Requests.RequestsOfNodes.{leaves_granted, leaves_renewed, leaves_extended, leaves_asked_begin, leaves_alone}

@@ -16,9 +16,9 @@ use Rattle.machine.specs.Clients.{client_begun, unless_gone}
 use Rattle.isolation_laws.specs.Words.{InstanceAt, HeldBy, Begun, DrewStart, HasDrawn, written_keys}
 use Rattle.isolation_laws.specs.Requests.{HasAsked, RequestFacts}
 use Rattle.isolation_laws.specs.Holds.{Holds}
-use Rattle.isolation_laws.proofs.Lookups.{held_by, instance_changed, heldby_ended, begin_own}
+use Rattle.machine.proofs.Lookups.{held_by, instance_changed, heldby_ended, begin_own}
 use Rattle.isolation_laws.proofs.OnceEach.{drawn_once}
-use Rattle.isolation_laws.proofs.Outcome.OutcomesOfStamps.{AnsweredBegin, answered_begin_state, answered_begin_items}
+use Rattle.machine.specs.Outcome.OutcomesOfStamps.{AnsweredBegin, answered_begin_state, answered_begin_items}
 use Rattle.isolation_laws.proofs.Requests.PendingFewer.{pending_answered_begin}
 use Rattle.isolation_laws.proofs.Requests.ClientsOpen.{open_not_placing, gone_cases}
 use Rattle.isolation_laws.proofs.Requests.OpenAfter.{open_answered_begin, placing_answered_begin}

@@ -1,6 +1,6 @@
 -- What outcomes leave of requests and sessions, where one client alone changes.
 use Rattle.isolation_laws.proofs.Requests.ClientMoves.{at_work_after}
-use Rattle.isolation_laws.proofs.Outcome.Outcomes.{OfAborted, OfCompleted, OfEndedReadOnly, OfHealed, OfOutcome, OfOutcomeFailed, OfWriteFailed}
+use Rattle.machine.specs.Outcome.Outcomes.{OfAborted, OfCompleted, OfEndedReadOnly, OfHealed, OfOutcome, OfOutcomeFailed, OfWriteFailed}
 use Rattle.std.proofs.Common.{◌≡◌, ℕ, IsTrue, List, ◌⊎◌, inl, inr, refl, sym, ◌∙◌, ap, subst}
 use Rattle.std.specs.Prelude.{slice_set}
 use Rattle.std.proofs.lemmas.Option.{same_Some}
@@ -22,8 +22,8 @@ use Rattle.machine.specs.Events.Write.{client_wrote}
 use Rattle.isolation_laws.specs.Words.{InstanceAt, HeldBy, ClientAt}
 use Rattle.isolation_laws.specs.Requests.{WaitsFor, AreRequests, HasAsked}
 use Rattle.isolation_laws.specs.Holds.{Holds}
-use Rattle.isolation_laws.proofs.Outcome.OutcomesOfSessions.{EndedReadOnly, read_only_state, WriteFailed, write_failed_state, Aborted, aborted_state, Vanished, vanished_state, Healed, healed_state}
-use Rattle.isolation_laws.proofs.Outcome.OutcomesOfWork.{Fetched, fetched_turn, fetched_client, fetched_state, ReadDropped, read_dropped_state, read_turn, read_client, ReadStepped, read_stepped_state, OutcomeStepped, outcome_state, OutcomeFailed, outcome_failed_state, CompletedOne, completed_state}
+use Rattle.machine.specs.Outcome.OutcomesOfSessions.{EndedReadOnly, read_only_state, WriteFailed, write_failed_state, Aborted, aborted_state, Vanished, vanished_state, Healed, healed_state}
+use Rattle.machine.specs.Outcome.OutcomesOfWork.{Fetched, fetched_turn, fetched_client, fetched_state, ReadDropped, read_dropped_state, read_turn, read_client, ReadStepped, read_stepped_state, OutcomeStepped, outcome_state, OutcomeFailed, outcome_failed_state, CompletedOne, completed_state}
 use Rattle.isolation_laws.proofs.Requests.ClientsOpen.{FewerAtWork, read_keeps_entry}
 use Rattle.isolation_laws.proofs.Requests.OpenAfter.{at_work_vanished, at_work_fetched, at_work_dropped, at_work_read}
 use Rattle.isolation_laws.proofs.Requests.ClientsAfter.{begun_kept, KeepsStart, has_none, has_by, aborted_keeps, freed_keeps, settled_keeps, asks_keep, KeysClient, keys_client, keys_set, keys_closed, gone_closed, keys_aborted, keys_freed, keys_settled, keys_asks}

@@ -19,9 +19,9 @@ use Rattle.isolation_laws.specs.Words.{InstanceAt, HeldBy, OpenAt, Begun, DrewSt
 use Rattle.isolation_laws.specs.Pending.{Stage, Taken, Has, InFlight, stage_of}
 use Rattle.isolation_laws.specs.Requests.{AreStarting, IsDrawnSoFar, ArePending, RequestFacts}
 use Rattle.isolation_laws.specs.Holds.{Holds}
-use Rattle.isolation_laws.proofs.Lookups.{heldby_changed, instance_changed}
+use Rattle.machine.proofs.Lookups.{heldby_changed, instance_changed}
 use Rattle.isolation_laws.proofs.Owners.{open_not_pending, so_far_unplaced}
-use Rattle.isolation_laws.proofs.Outcome.OutcomesOfStamps.{Drew, drew_instance, drew_state, drew_items}
+use Rattle.machine.specs.Outcome.OutcomesOfStamps.{Drew, drew_instance, drew_state, drew_items}
 use Rattle.isolation_laws.proofs.Requests.OtherCommits.{other_commit}
 use Rattle.isolation_laws.proofs.Requests.PendingFewer.{StaysPut, stays_pending}
 use Rattle.isolation_laws.proofs.Requests.PendingMoved.{IsOlder, IsDrawnNow as IsDrawnQ, pending_drew, drawn_stage}

@@ -14,8 +14,8 @@ use Rattle.isolation_laws.specs.Words.{HeldBy}
 use Rattle.isolation_laws.specs.Pending.{Has, InFlight, HeldPending, is_placing, PlacingAt}
 use Rattle.isolation_laws.specs.Requests.{WaitsFor, AreForm}
 use Rattle.isolation_laws.specs.Holds.{Holds}
-use Rattle.isolation_laws.proofs.Lookups.{client_set, held_by, commit_own}
-use Rattle.isolation_laws.proofs.Outcome.OutcomesOfStamps.{HandedOver, handed_over_state}
+use Rattle.machine.proofs.Lookups.{client_set, held_by, commit_own}
+use Rattle.machine.specs.Outcome.OutcomesOfStamps.{HandedOver, handed_over_state}
 use Rattle.isolation_laws.proofs.Requests.PendingAfter.{FewerPending, fewer_changed, none_more_ended}
 use Rattle.isolation_laws.proofs.Requests.ClientsOpen.{OpensNothing, FewerOpen, fewer_open_set, gone_cases, gone_rests}
 use Rattle.isolation_laws.proofs.Requests.ClientsAfter.{begun_kept, keys_client, keys_set}

@@ -1,6 +1,6 @@
 -- Sessions and requests where a commit is asked, a request is accepted, a stamp is drawn, a commit is settled.
 use Rattle.isolation_laws.proofs.Requests.ClientMoves.{at_work_after}
-use Rattle.isolation_laws.proofs.Outcome.Outcomes.{OfAskedCommit}
+use Rattle.machine.specs.Outcome.Outcomes.{OfAskedCommit}
 use Rattle.std.proofs.Common.{◌≡◌, ℕ, ◌<◌, ◌≤◌, nat_le, if◌then◌else◌, Bool, true, false, List, ◌++◌, Some, None, inl, inr, refl, sym, ◌∙◌, ap, subst, arith}
 use Rattle.std.proofs.lemmas.Bool.{leb-false}
 use Rattle.std.proofs.lemmas.Option.{same_Some, none-some}
@@ -20,9 +20,9 @@ use Rattle.isolation_laws.specs.Words.{HeldBy, ClientAt, epoch_or_none, OpenAt, 
 use Rattle.isolation_laws.specs.Pending.{Stage, Waits, InFlight, HeldPending}
 use Rattle.isolation_laws.specs.Requests.{IsDrawnSoFar, AreAccepted, RequestFacts}
 use Rattle.isolation_laws.specs.Holds.{Holds}
-use Rattle.isolation_laws.proofs.Lookups.{held_by, held_set, instance_changed}
+use Rattle.machine.proofs.Lookups.{held_by, held_set, instance_changed}
 use Rattle.isolation_laws.proofs.Owners.{accepts_now, begun_below_last}
-use Rattle.isolation_laws.proofs.Outcome.OutcomesOfRequests.{AskedCommit, asked_commit_state, Accepted, AcceptedSteadily, accepted_state}
+use Rattle.machine.specs.Outcome.OutcomesOfRequests.{AskedCommit, asked_commit_state, Accepted, AcceptedSteadily, accepted_state}
 use Rattle.isolation_laws.proofs.Requests.PendingMoved.{IsAsked, pending_asked_commit, IsTaken, pending_accepted}
 use Rattle.isolation_laws.proofs.Requests.ClientsOpen.{same_at_work}
 use Rattle.isolation_laws.proofs.Numbers.NumbersKept.{open_begun}

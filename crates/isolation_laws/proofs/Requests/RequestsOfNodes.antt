@@ -1,6 +1,6 @@
 -- What outcomes leave of requests and sessions, where nodes change: the record's, a crash, an ask, the end of a request.
 use Rattle.isolation_laws.proofs.Requests.ClientMoves.{at_work_after}
-use Rattle.isolation_laws.proofs.Outcome.Outcomes.{OfAnsweredCommit, OfAskedBegin, OfCrashed, OfEnded}
+use Rattle.machine.specs.Outcome.Outcomes.{OfAnsweredCommit, OfAskedBegin, OfCrashed, OfEnded}
 use Rattle.std.proofs.Common.{Option, ◌≡◌, ℕ, List, Some, ◌⊎◌, inl, inr, refl, sym, ◌∙◌, ap, subst}
 use Rattle.oracle_parts.specs.declared.instance.Progress.{Progress}
 use Rattle.std.specs.Prelude.{slice_set}
@@ -17,10 +17,10 @@ use Rattle.machine.specs.Clients.{client_asked, unless_gone, after_refusal}
 use Rattle.isolation_laws.specs.Words.{InstanceAt, ClientAt}
 use Rattle.isolation_laws.specs.Requests.{HaveBegun, WaitsFor, HasAsked, AreKeys}
 use Rattle.isolation_laws.specs.Holds.{Holds}
-use Rattle.isolation_laws.proofs.Lookups.{held_by, one_client}
-use Rattle.isolation_laws.proofs.Outcome.OutcomesOfRecord.{Still, still_state, Granted, granted_state, Renewed, renewed_state, Extended, extended_state}
-use Rattle.isolation_laws.proofs.Outcome.OutcomesOfRequests.{Crashed, crashed_state, AskedBegin, asked_begin_state, Ended, ended_state}
-use Rattle.isolation_laws.proofs.Outcome.OutcomesOfStamps.{AnsweredCommit, answered_client, answered_commit_state}
+use Rattle.machine.proofs.Lookups.{held_by, one_client}
+use Rattle.machine.specs.Outcome.OutcomesOfRecord.{Still, still_state, Granted, granted_state, Renewed, renewed_state, Extended, extended_state}
+use Rattle.machine.specs.Outcome.OutcomesOfRequests.{Crashed, crashed_state, AskedBegin, asked_begin_state, Ended, ended_state}
+use Rattle.machine.specs.Outcome.OutcomesOfStamps.{AnsweredCommit, answered_client, answered_commit_state}
 use Rattle.isolation_laws.proofs.Requests.PendingAfter.{FewerServed, fewer_pending}
 use Rattle.isolation_laws.proofs.Requests.PendingFewer.{fewer_still, fewer_granted, fewer_renewed, fewer_extended, fewer_crashed, pending_asked_begin, fewer_ended_one, fewer_answered_commit, same_served}
 use Rattle.isolation_laws.proofs.Requests.ClientsOpen.{FewerAtWork, same_at_work}

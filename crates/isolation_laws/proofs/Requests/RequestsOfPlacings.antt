@@ -1,6 +1,6 @@
 -- Sessions and requests where a session places its own commit, or finds that it never will be placed.
 use Rattle.isolation_laws.proofs.Requests.ClientMoves.{at_work_after}
-use Rattle.isolation_laws.proofs.Outcome.Outcomes.{OfOwnNotPlaced, OfOwnPlaced}
+use Rattle.machine.specs.Outcome.Outcomes.{OfOwnNotPlaced, OfOwnPlaced}
 use Rattle.std.proofs.Common.{ℕ, List, ◌++◌, inl, inr, refl, sym, ◌∙◌, subst}
 use Rattle.history_book.specs.declared.item.Item.{Item}
 use Rattle.oracle_parts.specs.declared.instance.Progress.TheVariants as progress
@@ -13,8 +13,8 @@ use Rattle.isolation_laws.specs.Words.{HeldBy}
 use Rattle.isolation_laws.specs.Requests.{AreKeys, RequestFacts}
 use Rattle.isolation_laws.specs.Holds.{Holds}
 use Rattle.isolation_laws.proofs.OnceEach.{begun_once}
-use Rattle.isolation_laws.proofs.Outcome.OutcomesOfStamps.{answered_client}
-use Rattle.isolation_laws.proofs.Outcome.OutcomesOfPlacings.{AtPlacing, OwnPlaced, own_placed_state, own_placed_items, OwnNotPlaced, own_not_placed_state}
+use Rattle.machine.specs.Outcome.OutcomesOfStamps.{answered_client}
+use Rattle.machine.specs.Outcome.OutcomesOfPlacings.{AtPlacing, OwnPlaced, own_placed_state, own_placed_items, OwnNotPlaced, own_not_placed_state}
 use Rattle.isolation_laws.proofs.Numbers.Placings.{is_placing_now, own_in_flight, own_placing}
 use Rattle.isolation_laws.proofs.Requests.ClientsOpen.{answered_rests}
 use Rattle.isolation_laws.proofs.Requests.OtherCommits.{placing_holds_none, none_of_placed}

@@ -8,7 +8,7 @@ use Rattle.machine.specs.State.{State}
 use Rattle.isolation_laws.specs.Requests.{ArePending, IsSettled, AreSettled, RequestFacts}
 use Rattle.isolation_laws.specs.Holds.{Holds}
 use Rattle.isolation_laws.proofs.Owners.{has_drew}
-use Rattle.isolation_laws.proofs.Outcome.OutcomesOfStamps.{AtDrawn, PlacedOne, placed_state, placed_items, NotPlaced, not_placed_state}
+use Rattle.machine.specs.Outcome.OutcomesOfStamps.{AtDrawn, PlacedOne, placed_state, placed_items, NotPlaced, not_placed_state}
 use Rattle.isolation_laws.proofs.Requests.PendingFewer.{stays_pending, pending_settled, fewer_settled}
 use Rattle.isolation_laws.proofs.Requests.ClientsAfter.{have_on}
 use Rattle.isolation_laws.proofs.Requests.RequestsAfter.{requests_fewer}

@@ -15,10 +15,10 @@ use Rattle.isolation_laws.specs.Words.{ClientAt, epoch_or_none, OpenAt, Begun, H
 use Rattle.isolation_laws.specs.Pending.{IsPending}
 use Rattle.isolation_laws.specs.Requests.{AreKeys, HasAsked, RequestFacts}
 use Rattle.isolation_laws.specs.Holds.{Holds}
-use Rattle.isolation_laws.proofs.Lookups.{client_set}
+use Rattle.machine.proofs.Lookups.{client_set}
 use Rattle.isolation_laws.proofs.OnceEach.{begun_once}
 use Rattle.isolation_laws.proofs.Owners.{open_not_pending}
-use Rattle.isolation_laws.proofs.Outcome.OutcomesOfSessions.{WroteOne, wrote_state, wrote_items}
+use Rattle.machine.specs.Outcome.OutcomesOfSessions.{WroteOne, wrote_state, wrote_items}
 use Rattle.isolation_laws.proofs.Requests.OpenAfter.{at_work_wrote}
 use Rattle.isolation_laws.proofs.Requests.PendingAfter.{fewer_pending}
 use Rattle.isolation_laws.proofs.Requests.PendingFewer.{same_served}

@@ -18,9 +18,9 @@ use Rattle.machine.specs.Events.Take.{rules_of, instance_of}
 use Rattle.isolation_laws.specs.Words.{InstanceAt, HeldBy, OpenAt, Begun}
 use Rattle.isolation_laws.specs.Begins.{AreSettledBelow, IsPast}
 use Rattle.isolation_laws.specs.Holds.{Holds}
-use Rattle.isolation_laws.proofs.Lookups.{instance_changed, one_instance, heldby_changed, heldby_ended}
-use Rattle.isolation_laws.proofs.Outcome.OutcomesOfRecord.{Granted, granted_nodes, granted_state, Extended, extended_nodes, extended_state}
-use Rattle.isolation_laws.proofs.Outcome.OutcomesOfStamps.{Drew, drew_instance, drew_state, AnsweredBegin, answered_begin_state}
+use Rattle.machine.proofs.Lookups.{instance_changed, one_instance, heldby_changed, heldby_ended}
+use Rattle.machine.specs.Outcome.OutcomesOfRecord.{Granted, granted_nodes, granted_state, Extended, extended_nodes, extended_state}
+use Rattle.machine.specs.Outcome.OutcomesOfStamps.{Drew, drew_instance, drew_state, AnsweredBegin, answered_begin_state}
 use Rattle.isolation_laws.proofs.Owners.{begun_below_last}
 use Rattle.isolation_laws.proofs.Requests.ClientsOpen.{FewerOpen}
 use Rattle.isolation_laws.proofs.Requests.OpenAfter.{open_answered_begin}
@@ -30,7 +30,7 @@ use Rattle.isolation_laws.proofs.Numbers.NumbersStay.{SameNumbers}
 use Rattle.isolation_laws.proofs.Reading.ReadersRely.{open_now_begun}
 use Rattle.isolation_laws.proofs.Requests.CommitsInFlight.{FewerStanding, IsDrawnNow}
 use Rattle.isolation_laws.proofs.Requests.Standing.{standing_over}
-use Rattle.isolation_laws.proofs.Orders.{three_ways}
+use Rattle.machine.proofs.Orders.{three_ways}
 
 -- each instance was there, draws up to the same, and is no less far
 pub record KeepsRanges (old new : List (Option InstanceEntry)) : Type 0 where

@@ -15,12 +15,12 @@ use Rattle.oracle_parts.specs.InstanceSteps.{moved}
 use Rattle.machine.specs.State.{Client, State}
 use Rattle.isolation_laws.specs.Words.{InstanceAt, HeldBy, Begun, HasDrawn, written_keys}
 use Rattle.isolation_laws.specs.Pending.{InFlight, Pending}
-use Rattle.isolation_laws.specs.Quiet.{AllQuiet}
+use Rattle.machine.specs.Quiet.{AllQuiet}
 use Rattle.isolation_laws.specs.Requests.{ArePending, IsSettled}
 use Rattle.isolation_laws.specs.Holds.{Holds}
-use Rattle.isolation_laws.proofs.Lookups.{held_by, held_set, one_held, instance_changed, one_instance}
+use Rattle.machine.proofs.Lookups.{held_by, held_set, one_held, instance_changed, one_instance}
 use Rattle.isolation_laws.proofs.OnceEach.{begun_once}
-use Rattle.isolation_laws.proofs.Outcome.OutcomesOfStamps.{AtDrawn}
+use Rattle.machine.specs.Outcome.OutcomesOfStamps.{AtDrawn}
 use Rattle.isolation_laws.proofs.Requests.OtherCommits.{other_commit, PendingBut}
 use Rattle.isolation_laws.proofs.Requests.PendingFewer.{StaysPut}
 use Rattle.isolation_laws.proofs.Pushed.{old_begin, old_draw, old_placed, written_keys-quiet}

@@ -13,8 +13,9 @@ use Rattle.history_book.proofs.MemberLemmas.{in_front, in_old}
 use Rattle.client_parts.specs.KeyRead.{ReadTurn, Asks, Answers}
 use Rattle.machine.specs.Events.Fetch.{found_of, read_items}
 use Rattle.isolation_laws.specs.Words.{Begun, HasDrawn, written_keys}
-use Rattle.isolation_laws.specs.Quiet.{Quiet, AllQuiet}
-use Rattle.isolation_laws.proofs.Pushed.{old_begin, old_draw, old_placed, written_keys-quiet, one_quiet}
+use Rattle.machine.specs.Quiet.{Quiet, AllQuiet}
+use Rattle.isolation_laws.proofs.Pushed.{old_begin, old_draw, old_placed, written_keys-quiet}
+use Rattle.machine.proofs.Outcome.QuietItems.{one_quiet}
 use Rattle.isolation_laws.proofs.Requests.ClientsAfter.{written_keys-no_write}
 
 pub record Silent (h g : List Item) : Type 0 where

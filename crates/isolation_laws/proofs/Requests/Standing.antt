@@ -14,11 +14,11 @@ use Rattle.oracle_parts.specs.InstanceSteps.{without_request, drawn_as, just_ask
 use Rattle.machine.specs.State.{State}
 use Rattle.machine.specs.Events.Take.{rules_of, instance_of}
 use Rattle.isolation_laws.specs.Words.{InstanceAt, HeldBy}
-use Rattle.isolation_laws.proofs.Lookups.{instance_changed, instance_ended, held_set}
+use Rattle.machine.proofs.Lookups.{instance_changed, instance_ended, held_set}
 use Rattle.isolation_laws.proofs.Requests.PendingAfter.{new_holds_none, same_requests}
-use Rattle.isolation_laws.proofs.Outcome.OutcomesOfRecord.{AlikeNodes, Granted, granted_nodes, granted_state, Renewed, renewed_nodes, renewed_state, Extended, extended_nodes, extended_state}
-use Rattle.isolation_laws.proofs.Outcome.OutcomesOfRequests.{AskedBegin, asked_begin_state, AskedCommit, asked_commit_state, Accepted, accepted_state}
-use Rattle.isolation_laws.proofs.Outcome.OutcomesOfStamps.{Drew, drew_instance, drew_state, AtDrawn, settled_nodes}
+use Rattle.machine.specs.Outcome.OutcomesOfRecord.{AlikeNodes, Granted, granted_nodes, granted_state, Renewed, renewed_nodes, renewed_state, Extended, extended_nodes, extended_state}
+use Rattle.machine.specs.Outcome.OutcomesOfRequests.{AskedBegin, asked_begin_state, AskedCommit, asked_commit_state, Accepted, accepted_state}
+use Rattle.machine.specs.Outcome.OutcomesOfStamps.{Drew, drew_instance, drew_state, AtDrawn, settled_nodes}
 use Rattle.isolation_laws.proofs.Requests.RequestsAfter.{FewerHeld, held_changed, held_moved}
 use Rattle.isolation_laws.proofs.Requests.CommitsInFlight.{FewerStanding, IsSettledNow, IsAcceptedNow}
 

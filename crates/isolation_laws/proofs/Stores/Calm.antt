@@ -14,8 +14,9 @@ use Rattle.oracle_parts.specs.declared.instance.Request.{Request}
 use Rattle.oracle_parts.specs.declared.instance.Request.TheVariants.{Begin as BeginRequest, Commit}
 use Rattle.machine.specs.Events.Decide.{draw_item}
 use Rattle.machine.specs.Events.Fetch.{found_of, read_items}
-use Rattle.isolation_laws.specs.Quiet.{Quiet, AllQuiet}
-use Rattle.isolation_laws.proofs.Pushed.{old_placed, last_write-quiet, one_quiet}
+use Rattle.machine.specs.Quiet.{Quiet, AllQuiet}
+use Rattle.isolation_laws.proofs.Pushed.{old_placed, last_write-quiet}
+use Rattle.machine.proofs.Outcome.QuietItems.{one_quiet}
 use Rattle.isolation_laws.proofs.Requests.CommitsInFlight.{GoesOn, goes_on}
 
 pub record Calm (h g : List Item) : Type 0 where

@@ -1,6 +1,6 @@
 -- Every outcome keeps the facts on the cells and the commit table.
 use Rattle.isolation_laws.proofs.Requests.ClientMoves.{at_work_after}
-use Rattle.isolation_laws.proofs.Outcome.Outcomes.{OfAskedBegin, OfOwnPlaced, Outcome, OfDrew, OfPlaced, OfAnsweredBegin, OfWrote, OfFetched, OfReadStepped, OfSweepListed, left_by, told_by_outcome}
+use Rattle.machine.specs.Outcome.Outcomes.{OfAskedBegin, OfOwnPlaced, Outcome, OfDrew, OfPlaced, OfAnsweredBegin, OfWrote, OfFetched, OfReadStepped, OfSweepListed, left_by, told_by_outcome}
 use Rattle.std.proofs.Common.{◌∷◌, ◌≡◌, ℕ, ◌+◌, List, ◌++◌, Option, Some, None, inl, inr, refl, ◌∙◌, ap}
 use Rattle.history_book.specs.Isolation.{last_write}
 use Rattle.history_book.specs.declared.item.Item.{Item}
@@ -10,13 +10,13 @@ use Rattle.store_parts.specs.Pairs.{Pairs}
 use Rattle.client_parts.specs.KeyRead.{settling_of}
 use Rattle.oracle_parts.specs.Instance.{InstanceEntry}
 use Rattle.machine.specs.State.{Client, State}
-use Rattle.isolation_laws.specs.Quiet.{AllQuiet}
+use Rattle.machine.specs.Quiet.{AllQuiet}
 use Rattle.isolation_laws.specs.Cells.{CellFacts}
 use Rattle.isolation_laws.specs.Holds.{Holds}
 use Rattle.isolation_laws.proofs.Holding.Framed.{settle_cells}
 use Rattle.isolation_laws.proofs.Numbers.Placings.{PlacedPending, placed_item, placed_pairs, placed_live, by_its_node, by_its_session}
-use Rattle.isolation_laws.proofs.Outcome.OutcomesOfStamps.{Drew, drew_items, AnsweredBegin, answered_begin_state, answered_begin_items}
-use Rattle.isolation_laws.proofs.Outcome.OutcomesOfWork.{read_turn, fetched_turn}
+use Rattle.machine.specs.Outcome.OutcomesOfStamps.{Drew, drew_items, AnsweredBegin, answered_begin_state, answered_begin_items}
+use Rattle.machine.specs.Outcome.OutcomesOfWork.{read_turn, fetched_turn}
 use Rattle.isolation_laws.proofs.Requests.PendingFewer.{pending_asked_begin, fewer_settled}
 use Rattle.isolation_laws.proofs.Requests.OpenAfter.{at_work_fetched, at_work_read}
 use Rattle.isolation_laws.proofs.Requests.RequestsOfBegins.{start_unbegun}

@@ -1,13 +1,13 @@
 -- What may still be placed after each outcome: nothing that could not before, but the transaction of an answered begin.
 use Rattle.std.proofs.Common.{refl, ◌≡◌, ℕ, List, Option, Some, ◌⊎◌, inl, inr, sym, ◌∙◌, ap}
 use Rattle.isolation_laws.proofs.Requests.ClientMoves.{at_work_after}
-use Rattle.isolation_laws.proofs.Outcome.Outcomes.{OfAskedCommit}
+use Rattle.machine.specs.Outcome.Outcomes.{OfAskedCommit}
 use Rattle.oracle_parts.specs.Instance.{InstanceEntry}
 use Rattle.machine.specs.State.{Client, State}
 use Rattle.isolation_laws.specs.Words.{epoch_or_none}
 use Rattle.isolation_laws.specs.Pending.{Waits, Taken, Live}
-use Rattle.isolation_laws.proofs.Outcome.OutcomesOfRequests.{AskedCommit, asked_commit_state, Accepted, accepted_state}
-use Rattle.isolation_laws.proofs.Outcome.OutcomesOfStamps.{Drew, drew_state, AnsweredBegin, answered_begin_state}
+use Rattle.machine.specs.Outcome.OutcomesOfRequests.{AskedCommit, asked_commit_state, Accepted, accepted_state}
+use Rattle.machine.specs.Outcome.OutcomesOfStamps.{Drew, drew_state, AnsweredBegin, answered_begin_state}
 use Rattle.isolation_laws.proofs.Requests.PendingAfter.{FewerPending, fewer_pending}
 use Rattle.isolation_laws.proofs.Requests.PendingFewer.{pending_answered_begin, fewer_is_pending, stays_pending}
 use Rattle.isolation_laws.proofs.Requests.PendingMoved.{pending_asked_commit, pending_accepted, pending_drew}

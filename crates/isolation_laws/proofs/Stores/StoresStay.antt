@@ -27,7 +27,7 @@ use Rattle.machine.specs.StoreSteps.{rows_after, pairs_after}
 use Rattle.isolation_laws.specs.Words.{Marked}
 use Rattle.isolation_laws.specs.UnderWay.{HasShadow, IsSweptAt}
 use Rattle.isolation_laws.specs.Holds.{Holds}
-use Rattle.isolation_laws.proofs.Outcome.OutcomesOfWork.{MayHaveMarked, CompletedOne}
+use Rattle.machine.specs.Outcome.OutcomesOfWork.{MayHaveMarked, CompletedOne}
 use Rattle.isolation_laws.proofs.OnceEach.{one_commit}
 
 -- ---- the table

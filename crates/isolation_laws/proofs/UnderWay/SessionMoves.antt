@@ -17,13 +17,13 @@ use Rattle.isolation_laws.specs.Pending.{Live, IsOpen}
 use Rattle.isolation_laws.specs.Cells.{CellFacts}
 use Rattle.isolation_laws.specs.UnderWay.{UnderWayFacts}
 use Rattle.isolation_laws.specs.Holds.{Holds}
-use Rattle.isolation_laws.proofs.Lookups.{one_client}
+use Rattle.machine.proofs.Lookups.{one_client}
 use Rattle.isolation_laws.proofs.OnceEach.{begun_once}
 use Rattle.isolation_laws.proofs.Owners.{NoneInFlight, not_in_flight, open_unplaced}
 use Rattle.isolation_laws.proofs.Numbers.NumbersKept.{open_begun}
 use Rattle.isolation_laws.proofs.Requests.RequestsOfMoves.{opens}
 use Rattle.isolation_laws.proofs.Requests.ClientsAfter.{has_by}
-use Rattle.isolation_laws.proofs.Outcome.OutcomesOfWork.{MayHaveMarked}
+use Rattle.machine.specs.Outcome.OutcomesOfWork.{MayHaveMarked}
 use Rattle.isolation_laws.proofs.Stores.Calm.{Calm, calm_same}
 use Rattle.isolation_laws.proofs.Stores.CellsStay.{cells_pairs, marking_moves}
 use Rattle.isolation_laws.proofs.UnderWay.Works.{Works, AllWork, all_work, under_way, work_set, KeepsPlaced, work_on, sweeping_on}

@@ -12,7 +12,7 @@ use Rattle.machine.specs.Events.Step.{after_asks}
 use Rattle.isolation_laws.specs.Words.{Marked}
 use Rattle.isolation_laws.specs.UnderWay.{IsUndo, UnderWayFacts}
 use Rattle.isolation_laws.specs.Holds.{Holds}
-use Rattle.isolation_laws.proofs.Outcome.OutcomesOfWork.{CompletedOne, completed_state}
+use Rattle.machine.specs.Outcome.OutcomesOfWork.{CompletedOne, completed_state}
 use Rattle.isolation_laws.proofs.Stores.Calm.{calm_same, calm_quiet}
 use Rattle.isolation_laws.proofs.UnderWay.Works.{Works, Finishes, KeepsPlaced}
 use Rattle.isolation_laws.proofs.UnderWay.ClientWorks.{works_freed, asks_same}

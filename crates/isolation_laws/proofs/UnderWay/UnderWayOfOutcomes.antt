@@ -15,7 +15,7 @@ use Rattle.machine.specs.Events.Step.{client_settled, own_resolve}
 use Rattle.isolation_laws.specs.Words.{written_keys}
 use Rattle.isolation_laws.specs.UnderWay.{IsShownAt, IsOwnResolve, UnderWayFacts}
 use Rattle.isolation_laws.specs.Holds.{Holds}
-use Rattle.isolation_laws.proofs.Outcome.OutcomesOfWork.{OutcomeStepped, outcome_state, OutcomeFailed, outcome_failed_state}
+use Rattle.machine.specs.Outcome.OutcomesOfWork.{OutcomeStepped, outcome_state, OutcomeFailed, outcome_failed_state}
 use Rattle.isolation_laws.proofs.Stores.Calm.{calm_quiet}
 use Rattle.isolation_laws.proofs.Requests.WrittenKeys.{key_was_written, first_key_in}
 use Rattle.isolation_laws.proofs.UnderWay.Works.{Works, no_settling}

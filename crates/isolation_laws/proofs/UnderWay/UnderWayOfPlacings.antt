@@ -7,8 +7,8 @@ use Rattle.machine.specs.State.{State}
 use Rattle.isolation_laws.specs.UnderWay.{UnderWayFacts}
 use Rattle.isolation_laws.specs.Holds.{Holds}
 use Rattle.isolation_laws.proofs.Owners.{pending_unplaced}
-use Rattle.isolation_laws.proofs.Outcome.OutcomesOfStamps.{answered_client}
-use Rattle.isolation_laws.proofs.Outcome.OutcomesOfPlacings.{AtPlacing, OwnPlaced, own_placed_state, own_placed_items, OwnNotPlaced, own_not_placed_state}
+use Rattle.machine.specs.Outcome.OutcomesOfStamps.{answered_client}
+use Rattle.machine.specs.Outcome.OutcomesOfPlacings.{AtPlacing, OwnPlaced, own_placed_state, own_placed_items, OwnNotPlaced, own_not_placed_state}
 use Rattle.isolation_laws.proofs.Numbers.Placings.{is_placing_now, own_in_flight, own_placing, by_its_session}
 use Rattle.isolation_laws.proofs.Requests.SettledNow.{Places, places}
 use Rattle.isolation_laws.proofs.Stores.Calm.{calm_quiet}

@@ -21,8 +21,8 @@ use Rattle.machine.specs.StoreSteps.{told_by}
 use Rattle.machine.specs.Events.Fetch.{marks_every, client_read}
 use Rattle.isolation_laws.specs.UnderWay.{UnderWayFacts}
 use Rattle.isolation_laws.specs.Holds.{Holds}
-use Rattle.isolation_laws.proofs.Outcome.OutcomesOfSessions.{EndedReadOnly, read_only_state, Aborted, aborted_state, Vanished, vanished_state, Healed, healed_state}
-use Rattle.isolation_laws.proofs.Outcome.OutcomesOfWork.{Fetched, fetched_turn, fetched_client, fetched_state, fetched_items, ReadDropped, read_dropped_state, ReadStepped, read_turn, read_client, read_stepped_state, read_stepped_items}
+use Rattle.machine.specs.Outcome.OutcomesOfSessions.{EndedReadOnly, read_only_state, Aborted, aborted_state, Vanished, vanished_state, Healed, healed_state}
+use Rattle.machine.specs.Outcome.OutcomesOfWork.{Fetched, fetched_turn, fetched_client, fetched_state, fetched_items, ReadDropped, read_dropped_state, ReadStepped, read_turn, read_client, read_stepped_state, read_stepped_items}
 use Rattle.isolation_laws.proofs.Stores.Calm.{calm_same, calm_quiet, calm_turn}
 use Rattle.isolation_laws.proofs.UnderWay.Works.{Works, KeepsPlaced, no_settling}
 use Rattle.isolation_laws.proofs.UnderWay.ClientWorks.{IsPlain, works_freed, works_vanished, works_aborted, plain_open, works_plain, plain_reading, TurnHeals, read_over_heals, works_read}

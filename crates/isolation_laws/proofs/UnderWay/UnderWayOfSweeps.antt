@@ -25,7 +25,7 @@ use Rattle.machine.specs.StoreSteps.{rows_after, pairs_after, told_entry, told_m
 use Rattle.machine.specs.Events.SweepStep.{still_open, sweep_left}
 use Rattle.isolation_laws.specs.UnderWay.{IsSweptAt, IsSweeping, UnderWayFacts}
 use Rattle.isolation_laws.specs.Holds.{Holds}
-use Rattle.isolation_laws.proofs.Outcome.OutcomesOfSweeps.{SweepOpened, sweep_opened_state, SweptOne, swept_state, SweepListed, sweep_listed_state, sweep_listed_items, SweepFailed, sweep_failed_state}
+use Rattle.machine.specs.Outcome.OutcomesOfSweeps.{SweepOpened, sweep_opened_state, SweptOne, swept_state, SweepListed, sweep_listed_state, sweep_listed_items, SweepFailed, sweep_failed_state}
 use Rattle.isolation_laws.proofs.Stores.Calm.{Calm, calm_same, calm_quiet, calm_push}
 use Rattle.isolation_laws.proofs.UnderWay.Works.{AllWork, all_work, under_way, KeepsPlaced, swept_at_on, sweeping_none, work_on}
 use Rattle.isolation_laws.proofs.Stores.StoreMoves.{AskFits, keeps_same, keeps_stepped, marks_stepped}

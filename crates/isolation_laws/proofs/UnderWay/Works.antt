@@ -17,7 +17,7 @@ use Rattle.client_parts.specs.Sweep.{SweepPoint, Table, Marking, Listing, Left, 
 use Rattle.machine.specs.State.{Nothing, Settles, Completes, Client}
 use Rattle.isolation_laws.specs.Words.{ClientAt, Marked}
 use Rattle.isolation_laws.specs.UnderWay.{HasShadow, IsFinish, IsUndo, IsShownAt, IsOwnResolve, IsSweptAt, IsSweeping, UnderWayFacts}
-use Rattle.isolation_laws.proofs.Lookups.{client_set}
+use Rattle.machine.proofs.Lookups.{client_set}
 use Rattle.isolation_laws.proofs.Requests.CommitsInFlight.{GoesOn}
 use Rattle.isolation_laws.proofs.Stores.Calm.{listed_goes_on}
 

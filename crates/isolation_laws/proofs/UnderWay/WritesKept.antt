@@ -1,6 +1,6 @@
 -- The cells, the commit table and what is under way where a session writes, and where its write fails.
 use Rattle.isolation_laws.proofs.Requests.ClientMoves.{at_work_after}
-use Rattle.isolation_laws.proofs.Outcome.Outcomes.{OfWriteFailed}
+use Rattle.machine.specs.Outcome.Outcomes.{OfWriteFailed}
 use Rattle.std.proofs.Common.{◌≡◌, ℕ, List, ◌++◌, Option, Some, None, ◌⊎◌, inl, inr, refl, sym, ◌∙◌, ap, subst}
 use Rattle.std.proofs.lemmas.Option.{same_Some, none-some}
 use Rattle.history_book.specs.Isolation.{Committed, last_write}
@@ -15,14 +15,14 @@ use Rattle.isolation_laws.specs.Pending.{Live}
 use Rattle.isolation_laws.specs.Cells.{CellFacts}
 use Rattle.isolation_laws.specs.UnderWay.{UnderWayFacts}
 use Rattle.isolation_laws.specs.Holds.{Holds}
-use Rattle.isolation_laws.proofs.Lookups.{client_set}
+use Rattle.machine.proofs.Lookups.{client_set}
 use Rattle.isolation_laws.proofs.OnceEach.{begun_once}
 use Rattle.isolation_laws.proofs.Owners.{open_not_pending}
 use Rattle.isolation_laws.proofs.Requests.PendingAfter.{fewer_pending}
 use Rattle.isolation_laws.proofs.Requests.PendingFewer.{same_served, fewer_is_pending}
 use Rattle.isolation_laws.proofs.Requests.ClientsOpen.{aborted_rests}
 use Rattle.isolation_laws.proofs.Requests.OpenAfter.{at_work_wrote}
-use Rattle.isolation_laws.proofs.Outcome.OutcomesOfSessions.{AtOpen, WroteOne, wrote_state, wrote_items, WriteFailed, write_failed_state}
+use Rattle.machine.specs.Outcome.OutcomesOfSessions.{AtOpen, WroteOne, wrote_state, wrote_items, WriteFailed, write_failed_state}
 use Rattle.isolation_laws.proofs.Requests.RequestsOfMoves.{opens}
 use Rattle.isolation_laws.proofs.Requests.CommitsInFlight.{goes_on}
 use Rattle.isolation_laws.proofs.Stores.LiveAfter.{live_by_clients}

@@ -1,0 +1,4 @@
+-- Of items that are quiet, plain or mild, and of the readings of outcomes.
+pub mod QuietItems
+pub mod PlainItems
+pub mod Readings
