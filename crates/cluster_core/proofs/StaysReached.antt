@@ -17,7 +17,7 @@ use Rattle.cause_laws.proofs.AlwaysExplained.{tells_stay, tells_at_first}
 use Rattle.client_parts.specs.Sweep.{Sweeping, sweep_ask}
 use Rattle.machine.specs.Calls.{KeepsShadowNext}
 use Rattle.call_laws.specs.Bounds.{ExtensionMayBeMade}
-use Rattle.call_laws.specs.Stores.{CanStep, SweepMayStep}
+use Rattle.call_laws.specs.Stores.{SweepMayStep}
 use Rattle.call_laws.proofs.BoundsKept.{bounded_first, bounds_stay}
 use Rattle.call_laws.proofs.RecordCalls.{extensions_fit}
 use Rattle.call_laws.proofs.RequestCalls.{begins_ask, commits_ask, requests_wait}

@@ -1,6 +1,6 @@
 -- What an event requires of the parts that it touches, so that its calls on them may be made. It speaks of no other part.
 use Rattle.std.specs.Prelude.{◌≡◌, ◌≤◌, ◌^◌, ℕ, Option, None, IfSome}
-use Rattle.store_parts.specs.Rows.{Row, IsBare, HasOnly}
+use Rattle.store_parts.specs.Rows.{IsBare, HasOnly}
 use Rattle.store_parts.specs.Record.{MasterRecord}
 use Rattle.client_parts.specs.SessionSteps.{begin_refusal, work_refusal, handed_commit}
 use Rattle.client_parts.specs.Sweep.{sweep_ask}

@@ -136,9 +136,6 @@ ends_at cache None (NextRecall txn) shows none = absurd shows
 ends_at cache None (NextAsk asked) shows none = absurd shows
 ends_at cache None (NextDone answer) shows none = (refl, refl, refl)
 
-recalls_end : (now : Cache) (reading : Option Reading) (next : Next) (x : Remembering) → Shows reading next → is_recall next ≡ false → remembers now reading next ≡ x → (reading ≡ reading_left x.0) × (next ≡ next_of x.0) × (now ≡ x.1)
-recalls_end now reading next x shows none is = rw (← is) (ends_at now reading next shows none)
-
 -- ---- a read that was begun
 pub start_comes : (every : Bool) (cache : Cache) (key start epoch : ℕ) (cells : List Cell) (run : Run) (next : Next) → run ≡ run_reached None (read_over every key start epoch cells) → next ≡ next_reached (read_over every key start epoch cells) → (remembers cache run.reading next ≡ recalled_over every key start epoch cells cache) × Shows run.reading next
 start_comes every cache key start epoch cells run next is shown = over_comes every key start epoch cells cache run.reading next (ap (λ (r : Run). r.reading) is) shown

@@ -1,6 +1,6 @@
 // Short scripts with turns of them: once all premises hold and what is asked for is granted, and once one of them is lacking and
 // it is refused. Other turns come in between.
-ghost use Rattle.std.specs.Prelude.{◌≡◌, ◌++◌, ◌∷◌, []};
+ghost use Rattle.std.specs.Prelude.{◌≡◌, ◌∷◌, []};
 ghost use Rattle.stamp_base.specs.declared.stores.Store.TheVariants.{Cells, Table};
 ghost use Rattle.history_book.specs.Members.{◌∈◌};
 ghost use Rattle.history_book.specs.declared.item.Actor.TheVariants.{Session};

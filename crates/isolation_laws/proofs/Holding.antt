@@ -1,3 +1,4 @@
+-- For cluster_core and served_lines too.
 -- What outcomes leave alone, what histories have, and what follows.
 pub mod Frames
 pub mod Framed

@@ -1,3 +1,4 @@
+-- For cause_laws too.
 -- The conflict memory.
 pub mod RecordedCommits
 pub mod MemoryStays

@@ -1,3 +1,4 @@
+-- For cause_laws, call_laws and served_lines too.
 -- Stamps, terms and leases.
 pub mod NumbersStay
 pub mod NumbersMoved

@@ -1,3 +1,4 @@
+-- For cause_laws and served_lines too.
 -- Sessions, their requests and transactions, and the begins in flight.
 pub mod PendingAfter
 pub mod PendingFewer

@@ -1,3 +1,4 @@
+-- For call_laws too.
 -- The cells and the commit table.
 pub mod LiveAfter
 pub mod Calm

@@ -4,7 +4,7 @@ use Rattle.std.specs.Prelude.{slice_get, slice_set, if◌then◌else◌}
 use Rattle.client_parts.specs.declared.session.State.{State as SessionState}
 use Rattle.client_parts.specs.declared.session.State.TheVariants as phase
 use Rattle.client_parts.specs.Completion.{finish_asks, undo_asks}
-use Rattle.client_parts.specs.SessionSteps.{has_key, key_added, aborted_by, handed_commit, SessionEntry}
+use Rattle.client_parts.specs.SessionSteps.{has_key, key_added, handed_commit}
 use Rattle.oracle_parts.specs.declared.instance.Request.{Request}
 use Rattle.oracle_parts.specs.declared.instance.Request.TheVariants.{Begin, Commit}
 use Rattle.machine.specs.State.{Client, State}
@@ -68,11 +68,6 @@ settles_within (Some c) = settles_most c
 
 pub handed_left : (c : Client) (commit : ℕ) → client_settles (client_handed c commit) ≤ keys_of c + 2
 handed_left c commit = omega (arith, due_most (keys_of c) (handed_commit (client_handed c commit).entry) 0)
-
--- a client that has aborted has nothing to place
-pub aborted_unhanded : (e : SessionEntry) (keys : List ℕ) → handed_commit (aborted_by e keys) ≡ None
-aborted_unhanded e [] = refl
-aborted_unhanded e (k ∷ ks) = refl
 
 -- a session that has vanished hears nothing
 gone_left : (state : SessionState) (c now : Client) → client_completes now ≤ keys_of c + 1 → client_completes (unless_gone_by state c now) ≤ client_ends c

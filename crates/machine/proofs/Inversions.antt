@@ -1,3 +1,4 @@
+-- For isolation_laws, cause_laws, call_laws, planned_laws and grant_laws too.
 -- Each event comes to one outcome.
 pub mod InversionParts
 pub mod InversionOfSessions

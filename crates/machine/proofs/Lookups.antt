@@ -1,4 +1,4 @@
--- For cause_laws, call_laws, served_lines and others above too.
+-- For isolation_laws, cause_laws, call_laws, served_lines and others above too.
 -- What is found in a list after one place was set: at that place what was put there, elsewhere what was there.
 use Rattle.std.proofs.Common.{◌≡◌, ◌≢◌, ℕ, zero, suc, List, [], ◌∷◌, Option, Some, None, ◌⊎◌, inl, inr, refl, sym, ◌∙◌, ap, arith}
 use Rattle.std.specs.Prelude.{slice_get, slice_set, slice_index_or}

@@ -1,3 +1,4 @@
+-- For isolation_laws too.
 -- Numbers in order, and the greater of two.
 use Rattle.std.proofs.Common.{ℕ, ◌<◌, ◌≤◌, ◌≡◌, ◌⊎◌, max, arith}
 

@@ -5,7 +5,6 @@ ghost use Rattle.oracle_parts.specs.Instance.{held_of};
 ghost use Rattle.oracle_parts.specs.InstanceSteps.{instance_settle};
 ghost use Rattle.machine.specs.Events.Put.{put_on, put_commit, put_asks, commit_asks, to_place as to_place_of};
 ghost use Rattle.event_parts.specs.Made.{Makes, Asks};
-ghost use Rattle.event_parts.specs.Kept.{made_items, placed_kept};
 ghost use Rattle.event_parts.specs.Served.{held_at, is_to_put, HasRoomIf, HasPlaceFor, SpendsIf, NeverLacks, NeverLacksIf, places_after};
 
 use commit_table::{Put, StoreFault, Table};

@@ -10,7 +10,7 @@ ghost use Rattle.line_steps.specs.Planned.{Planned};
 ghost use Rattle.seat_lines.specs.Served.{Served};
 ghost use Rattle.split_driver.specs.Splits.{MaySplit, SplitsTo, SplitStops};
 ghost use Rattle.omid_top.specs.Commands.{RunsSplit};
-ghost use Rattle.omid_top.specs.Promise.{GainsFront, KeepsSplit, WritesSplit, WritesTorn, WritesFront, IsCutSplit};
+ghost use Rattle.omid_top.specs.Promise.{GainsFront, WritesSplit, WritesTorn, WritesFront, IsCutSplit};
 ghost use Rattle.omid_top.specs.Texts.{bad_line_text, spent_text};
 
 use crate::bad_line::named;

@@ -21,7 +21,7 @@ use Rattle.cause_laws.proofs.SinceWords.{last_told-push, since-push}
 use Rattle.cause_laws.specs.Shows.{Tells}
 use Rattle.isolation_laws.specs.Words.{ClientAt, written_keys}
 use Rattle.machine.proofs.Lookups.{one_client}
-use Rattle.line_steps.proofs.AlwaysFit.{Fit, fit_stays, found}
+use Rattle.line_steps.proofs.AlwaysFit.{Fit, found}
 use Rattle.line_steps.proofs.Walks.{AllNot}
 use Rattle.served_lines.specs.Ends.{Ends}
 use Rattle.served_lines.specs.Silences.{WasTold}
@@ -50,9 +50,6 @@ pub record Known (w : State) (h : List Item) : Type 0 where
 -- the same behind a move
 abbrev pub KnownBehind : Move → Type 0
 KnownBehind v = Known (state_after v) (history_after v)
-
-pub known_later : MachineLaws → (v : Move) → Known v.state v.history → Tells (state_after v) (history_after v) → KnownBehind v
-known_later laws v k now = record { tells = now; ends = laws.keeps v.state v.history v.event v.fate k.tells k.ends; fit = fit_stays v.state v.event v.fate k.fit }
 
 pub client_there : (w : State) (h : List Item) (s : ℕ) → Known w h → s < 16 → (c : Client) × ClientAt w.clients s c
 client_there w h s k less = found w.clients s (let many : length w.clients ≡ 16 = k.fit.clients in omega (arith, many, less))

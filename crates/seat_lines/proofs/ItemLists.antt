@@ -56,10 +56,6 @@ in_middle before behind x = in_back x before (x ∷ behind) (inl refl)
 pub in_split : (xs before behind : List Item) (x : Item) → xs ≡ before ++ x ∷ behind → x ∈ xs
 in_split xs before behind x is = subst (λ (zs : List Item). x ∈ zs) (sym is) (in_middle before behind x)
 
-pub in_behind : (xs before behind : List Item) (x y : Item) → xs ≡ before ++ y ∷ behind → x ∈ behind → x ∈ xs
-unfolding ◌∈◌
-in_behind xs before behind x y is m = subst (λ (zs : List Item). x ∈ zs) (sym is) (in_back x before (y ∷ behind) (inr m))
-
 -- what none of two lists has
 pub none_append : (P : Item → Type 0) (xs ys : List Item) → ((x : Item) → x ∈ xs → P x → ⊥) → ((x : Item) → x ∈ ys → P x → ⊥) → (x : Item) → x ∈ (xs ++ ys) → P x → ⊥
 none_append P xs ys first rest x m is = elim (in_append x xs ys m) [ inl here ↦ first x here is | inr there ↦ rest x there is ]

@@ -73,10 +73,6 @@ each_in P [] x each m = absurd m
 each_in P (y ∷ ys) x each (inl same) = subst P (sym same) each.0
 each_in P (y ∷ ys) x each (inr m) = each_in P ys x each.1 m
 
-none_each : (P : Item → Type 0) → Each P []
-unfolding Each
-none_each P = tt
-
 one_each : (P : Item → Type 0) (x : Item) → P x → Each P (x ∷ [])
 unfolding Each
 one_each P x is = (is, tt)

@@ -1,8 +1,8 @@
 // The actors of a script, each on a thread of its own.
-ghost use Rattle.std.specs.Prelude.{◌≡◌, ◌≤◌, All, IfOk, true, length, vec_len};
+ghost use Rattle.std.specs.Prelude.{◌≡◌, ◌≤◌, All, IfOk, length, vec_len};
 ghost use Rattle.std.specs.List.{AllZip};
 ghost use Rattle.stamp_base.specs.declared.limits.TheConstants.{LINE_LIMIT};
-ghost use Rattle.split_stores.specs.Logs.{IsNew, ticks_of, rises_above};
+ghost use Rattle.split_stores.specs.Logs.{IsNew};
 ghost use Rattle.seat_lines.specs.Laws.{NameNoMaster};
 ghost use Rattle.split_runs.specs.Runs.{RiseInBounds};
 ghost use Rattle.split_driver.specs.Actors.{IsJobOf, IsPlayedBy};

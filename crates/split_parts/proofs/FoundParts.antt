@@ -66,13 +66,6 @@ of_post l node post R P has at iff =
     let there = post_there l node has ∙ at in
     (λ r p found. subst P (same_Some post p (sym there ∙ found)) (iff.0 r), λ all. iff.1 (all post there))
 
--- where the setup has no such node, there is nothing to hold
-pub no_post : (l : Parts) (node : ℕ) (P : Option InstanceEntry → Type 0) → HasNode l node → post_by l.node ≡ None → IsTrue true ↔ ((p : Option InstanceEntry) → PostAt (filled l) node p → P p)
-no_post l node P has none = (λ r p found. absurd (nothing_there (post_there l node has ∙ none) found), λ all. refl)
-  where
-    nothing_there : {T : Type 0} {a : Option T} {x : T} → a ≡ None → a ≡ Some x → ⊥
-    nothing_there none some = absurd (cc)
-
 -- of both
 pub of_both : (l : Parts) (node session : ℕ) (post : Option InstanceEntry) (c : Client) (R : Type 0) (P : Option InstanceEntry → Client → Type 0) → session < 16 → HasNode l node → slice_index_or l.sessions session None ≡ Some c → post_by l.node ≡ Some post → (R ↔ P post c) → R ↔ ((p : Option InstanceEntry) (d : Client) → PostAt (filled l) node p → ClientAt (filled l).clients session d → P p d)
 of_both l node session post c R P within has at there iff =
@@ -90,11 +83,6 @@ no_both l node session P has none = (λ r p d found met. absurd (nothing_there (
 pub of_turned : (l : Parts) (node session : ℕ) (post : Option InstanceEntry) (c : Client) (R : Type 0) (P : Client → Option InstanceEntry → Type 0) → session < 16 → HasNode l node → slice_index_or l.sessions session None ≡ Some c → post_by l.node ≡ Some post → (R ↔ P c post) → R ↔ ((d : Client) (p : Option InstanceEntry) → ClientAt (filled l).clients session d → PostAt (filled l) node p → P d p)
 of_turned l node session post c R P within has at there iff =
     let both = of_both l node session post c R (λ p d. P d p) within has at there iff in
-    (λ r d p met found. both.0 r p d found met, λ all. both.1 (λ p d found met. all d p met found))
-
-pub no_turned : (l : Parts) (node session : ℕ) (P : Client → Option InstanceEntry → Type 0) → HasNode l node → post_by l.node ≡ None → IsTrue true ↔ ((d : Client) (p : Option InstanceEntry) → ClientAt (filled l).clients session d → PostAt (filled l) node p → P d p)
-no_turned l node session P has none =
-    let both = no_both l node session (λ p d. P d p) has none in
     (λ r d p met found. both.0 r p d found met, λ all. both.1 (λ p d found met. all d p met found))
 
 -- ---- no cell has a shadow where there are no cells

@@ -7,7 +7,7 @@ ghost use Rattle.cluster_core.specs.Served.{held_in};
 ghost use Rattle.split_parts.specs.Acts.{asked_of, timed_by};
 ghost use Rattle.split_parts.specs.Agrees.{Agrees, CallsFit, ClockFits, Fits, HasNode, HasParts, HasSession, HoldsNoneIn, IsAsked, NotPlaced, store_by, WritesBare};
 ghost use Rattle.split_parts.specs.Lookups.{post_by};
-ghost use Rattle.split_parts.specs.Parts.{behind, calls_of, filled, seen, session_of, sessions_seen};
+ghost use Rattle.split_parts.specs.Parts.{behind, filled, seen, session_of, sessions_seen};
 
 use crate::calls::PlannedCalls;
 use crate::parts::SessionPart;

@@ -1,7 +1,6 @@
 // The parts that are lent to one event.
 ghost use Rattle.std.specs.Prelude.{◌≡◌, ◌<◌, slice_index_or, slice_set, None};
-ghost use Rattle.machine.specs.State.{Client};
-ghost use Rattle.split_parts.specs.Parts.{behind, given, session_of, sessions_seen, seen, rest_of};
+ghost use Rattle.split_parts.specs.Parts.{behind, given, session_of, sessions_seen, rest_of};
 ghost use Rattle.split_parts.specs.Swaps.{client_at, client_in};
 
 use crate::parts::{

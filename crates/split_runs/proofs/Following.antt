@@ -2,7 +2,7 @@
 -- How the log of an actor goes on along its lines.
 use Rattle.std.proofs.Common.{◌≡◌, ℕ, ◌+◌, ◌-◌, ◌*◌, ◌≤◌, ◌<◌, ◌^◌, Bool, true, false, cond, ◌&&◌, List, [], ◌∷◌, ◌++◌, length, append_assoc, get_or, drop, None, Some, inl, inr, refl, sym, subst, ap, ◌∙◌, arith}
 use Rattle.std.specs.Prelude.{filter}
-use Rattle.std.proofs.lemmas.List.{append-nil, at_drop_more, get_or_push, length_push}
+use Rattle.std.proofs.lemmas.List.{append-nil, get_or_push, length_push}
 use Rattle.std.proofs.Math.ListN.{drop_of_length-le}
 use Rattle.std.proofs.lemmas.List.Sums.{sum_by_push}
 use Rattle.history_book.specs.declared.item.Actor.{Actor}
@@ -20,7 +20,7 @@ use Rattle.split_stores.specs.Makes.{AddsOne}
 use Rattle.split_stores.specs.Logs.{Logged, CanRise, risen_by, rise_of}
 use Rattle.seat_lines.specs.Owed.{Standing, first_standing, gone_on, opened, is_paid}
 use Rattle.seat_lines.specs.Follows.{opener, first_event, Follows, FollowsLines}
-use Rattle.split_runs.specs.Runs.{CanOpen, RisesInBounds, Stand, stand, IsFollowedTo, IsNewest, GoesOn, OpensLine, PlaysLine}
+use Rattle.split_runs.specs.Runs.{RisesInBounds, Stand, stand, IsFollowedTo, IsNewest, GoesOn, OpensLine, PlaysLine}
 
 -- ---- one entry more
 -- an entry that opens no line
@@ -113,20 +113,9 @@ line_form actor line form own opens = ap (λ (b : Bool). b && has_opening line.a
 pub own_line : (actor : Actor) (line : Line) → same_actor line.actor actor ≡ true → has_opening actor line.verb ≡ true → is_of actor line ≡ true
 own_line actor line own opens = line_form actor line true own opens
 
-pub formless_line : (actor : Actor) (line : Line) → same_actor line.actor actor ≡ true → has_opening actor line.verb ≡ false → is_of actor line ≡ false
-formless_line actor line own opens = line_form actor line false own opens
-
 pub ticks_within : (v : Verb) → RisesInBounds v → TicksWithin (2 ^ 62) v
 ticks_within (verb.Tick by) h = (let low : by ≤ 4611686018427387904 = omega (arith, h.1) in low)
 ticks_within _ h = tt
-
--- a line that is not the actor's, or of a form that opens nothing, is passed over
-pub plays_past : (actor : Actor) (line : Line) (old new : Stand) → is_of actor line ≡ false → GoesOn actor old new → is_paid new.standing ≡ true → PlaysLine actor line old new
-plays_past actor line old new not on paid = record {
-  followed = (λ all left so. on.followed all (filter (is_of actor) left) (subst (λ (own : Bool). IsFollowedTo actor all old (cond own (line ∷ filter (is_of actor) left) (filter (is_of actor) left))) not so));
-  paid = paid;
-  risen = omega (arith, on.risen);
-}
 
 pub plays_opening : (actor : Actor) (line : Line) (old mid new : Stand) → is_of actor line ≡ true → OpensLine actor line.verb old mid → GoesOn actor mid new → is_paid new.standing ≡ true → PlaysLine actor line old new
 plays_opening actor line old mid new own opens on paid = record {
@@ -161,14 +150,3 @@ stands_all actor lines i at none stands = followed_all actor (filter (is_of acto
 
 pub nothing_left : (lines : List Line) (i : ℕ) → length lines ≤ i → drop i lines ≡ []
 nothing_left lines i past = drop_of_length-le lines past
-
-pub line_at : (lines : List Line) (i : ℕ) (line : Line) → i < length lines → line ≡ get_or lines i line → drop i lines ≡ line ∷ drop (i + 1) lines
-line_at lines i line within is = at_drop_more (λ (xs : List Line). xs) lines i line within ∙ ap (λ (x : Line). x ∷ drop (i + 1) lines) (sym is)
-
-pub tick_bound : (v : Verb) → RisesInBounds v → tick_of v ≤ 1000000
-tick_bound (verb.Tick by) h = h.1
-tick_bound _ h = omega arith
-
-pub can_open : (v : Verb) (entries : List Entry) (i : ℕ) → RisesInBounds v → risen_by entries ≤ 1000000 * i → i < 131072 → CanOpen v entries
-can_open (verb.Tick by) entries i h risen few = (h.0, h.1, (let below : risen_by entries + by < 1099511627776 = omega (arith, risen, few, h.1) in below))
-can_open _ entries i h risen few = tt

@@ -1,9 +1,8 @@
 // One actor that carries out its lines.
-ghost use Rattle.std.specs.Prelude.{◌≡◌, ◌≤◌, ◌<◌, ◌+◌, ◌*◌, ◌-◌, ◌^◌, [], List, IfErr, IfOk, OnOk, Some, None, true, false, length, slice_index_or};
+ghost use Rattle.std.specs.Prelude.{◌≡◌, ◌≤◌, ◌<◌, ◌-◌, [], IfErr, IfOk, OnOk, Some, None, true, false, length, slice_index_or};
 ghost use Rattle.stamp_base.specs.declared.limits.TheConstants.{LINE_LIMIT};
 ghost use Rattle.script_data.specs.Ticks.{tick_of};
 ghost use Rattle.line_steps.specs.Answers.{is_of};
-ghost use Rattle.line_steps.specs.Clocks.{TicksWithin};
 ghost use Rattle.split_stores.specs.declared.seat.Entry.{Entry};
 ghost use Rattle.split_parts.specs.declared.event.Event.{Event};
 ghost use Rattle.split_stores.specs.Logs.{CanRise, Logged, rise_of};

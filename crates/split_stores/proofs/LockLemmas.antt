@@ -13,8 +13,8 @@ use Rattle.split_parts.specs.declared.event.Event.{Event}
 use Rattle.split_parts.specs.declared.event.Event.TheVariants as event
 use Rattle.split_parts.specs.Acts.{asked_of}
 use Rattle.split_parts.specs.Agrees.{HasNode, HasParts, HasStore}
-use Rattle.split_parts.specs.Lending.{HasSessionsBelow, no_parts}
-use Rattle.split_stores.specs.Locks.{IsNode, Suffices}
+use Rattle.split_parts.specs.Lending.{no_parts}
+use Rattle.split_stores.specs.Locks.{IsNode}
 use Rattle.split_parts.specs.Parts.{Node, Parts, or_else}
 use Rattle.split_parts.proofs.FoundParts.{client_there}
 
@@ -43,11 +43,3 @@ pub sweep_holds : (l : Parts) (sweep : Option Sweeping) → l.janitor ≡ Some s
 sweep_holds l sweep at has = (subst IsSome (sym at) refl, subst (HasStore l) (sym (ap (λ o. sweep_step_asks (or_else o None)) at)) has)
 
 -- ---- each event
-pub tick_suffices : (by : ℕ) → Suffices (λ l. IsSome l.clock) (event.Tick by)
-tick_suffices by l has at = has
-
-pub take_suffices : (node : ℕ) → Suffices (λ l. IsSome l.clock × IsSome l.node × IsSome l.master) (event.Take node)
-take_suffices node l has at = (has.0, has_node l node has.1 at, has.2)
-
-pub crash_suffices : (node : ℕ) → Suffices (λ l. HasSessionsBelow 16 l × IsSome l.node) (event.Crash node)
-crash_suffices node l has at = (has.0.each, has_node l node has.1 at)

@@ -19,12 +19,6 @@ makes_from e (made.Stopped why) old mid new same h = added_from e old mid new sa
 makes_from e (made.Spent drawn) old mid new same h = (record { word = h.0.word ∙ same.word; entries = h.0.entries ∙ same.entries }, h.1 ∙ ap length same.entries, h.2)
 makes_from e made.NoMemory old mid new same h = record { word = h.word ∙ same.word; entries = h.entries ∙ same.entries }
 
-pub makes_word : (e : Event) (m : Made) (old new : Logged) → Makes e m old new → new.word ≡ old.word
-makes_word e made.Did old new h = h.word
-makes_word e (made.Stopped why) old new h = h.word
-makes_word e (made.Spent drawn) old new h = h.0.word
-makes_word e made.NoMemory old new h = h.word
-
 -- ---- what was logged and answered is what was done
 inside_by : (e : Event) (old now : Parts) (before after : Logged) (stopped : Option Stopped) (answer : Made) → answer ≡ made_of stopped → LogsWhatIsDone e old now before after answer → Inside e old now before after answer
 inside_by e old now before after None answer is done = subst (Inside e old now before after) (sym is) (subst (LogsWhatIsDone e old now before after) is done)

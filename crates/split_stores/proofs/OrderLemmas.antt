@@ -138,10 +138,6 @@ ordered_by items logs entries last p drawn (Err none) moved order = tt
 pub risen-append : (xs ys : List Entry) → risen_by (xs ++ ys) ≡ risen_by xs + risen_by ys
 risen-append xs ys = sum_by-append (λ (e : Entry). rise_of e.event) xs ys
 
--- by as much in any order
-pub risen_in_order : (logs merged : List Entry) → InTickOrder logs merged → risen_by merged ≡ risen_by logs
-risen_in_order logs merged order = sum_by-IsPermutation (λ (e : Entry). rise_of e.event) logs merged order.all
-
 -- the same as an answer
 pub risen_by_most : {V : Type 0} (items : V → List Entry) (entries : List Entry) (most : ℕ) → risen_by entries ≤ most → (r : Result V NoMemory) → IfOk r (λ m. IsPermutation entries (items m)) → IfOk r (λ m. risen_by (items m) ≤ most)
 risen_by_most items entries most few (Ok m) moved = subst (λ (n : ℕ). n ≤ most) (sym (sum_by-IsPermutation (λ (e : Entry). rise_of e.event) entries (items m) moved)) few

@@ -8,7 +8,7 @@ ghost use Rattle.planned_cluster.specs.Standing.{OpensFor, StandsAt};
 ghost use Rattle.split_stores.specs.Logs.{risen_by, rise_of};
 ghost use Rattle.split_stores.specs.Merging.{logs_of};
 ghost use Rattle.split_stores.specs.Plans.{plan_data};
-ghost use Rattle.split_stores.specs.Merged.{timed_at, played_with, IsReplayed, AllReplayed, IsSettledAt, Settled, Differ, TurnStops, ReplayStops, SettleStops};
+ghost use Rattle.split_stores.specs.Merged.{timed_at, played_with, IsReplayed, IsSettledAt, Settled, Differ, TurnStops, ReplayStops, SettleStops};
 
 use crate::merging::merge;
 use crate::plan::Plan;

@@ -39,9 +39,6 @@ is_placing e start commit is = placing_by e.state e.start e.commit (start, commi
 abbrev failing : ℕ → ℕ → List Item
 failing session start = item.Fault (Session session) Table ∷ item.Refused (Session session) (cause.Open start) ∷ []
 
-pub told_twice : (before made between after : List Item) (fault refusal : Item) → between ≡ before ++ made ++ fault ∷ [] → after ≡ between ++ refusal ∷ [] → after ≡ before ++ made ++ fault ∷ refusal ∷ []
-told_twice before made between after fault refusal first second = rw (second, first) (append_assoc (before ++ made) (fault ∷ []) (refusal ∷ []))
-
 shown : (before after made kept rest : List Item) → made ≡ kept → after ≡ before ++ made ++ rest → after ≡ before ++ (kept ++ rest)
 shown before after made kept rest same items = subst (λ (effects : List Item). after ≡ before ++ (effects ++ rest)) same (items ∙ append_assoc before made rest)
 

@@ -1,9 +1,8 @@
 // The store that a next step asks, told before the step is made.
 ghost use Rattle.std.specs.Prelude.{◌≡◌};
-ghost use Rattle.machine.specs.Events.Step.{step_asks, next_of, store_asked, work_of};
+ghost use Rattle.machine.specs.Events.Step.{step_asks, store_asked};
 ghost use Rattle.machine.specs.Events.Heal.{heal_asks};
 ghost use Rattle.machine.specs.Events.SweepStep.{sweep_step_asks};
-ghost use Rattle.client_parts.specs.Sweep.{sweep_ask};
 
 use crate::asks;
 use client_parts::Ask;

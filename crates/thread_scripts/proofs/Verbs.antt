@@ -1,7 +1,6 @@
 -- A line that is read for threads has a verb for threads.
 use Rattle.std.proofs.Common.{◌≡◌, ℕ, ◌==◌, nat_lt, Bool, true, false, not, if◌then◌else◌, Option, Some, None, Result, Ok, Err, IfOk, refl}
 use Rattle.history_book.specs.declared.item.Actor.{Actor}
-use Rattle.script_data.specs.declared.line.Line.{Line}
 use Rattle.script_lines.specs.declared.cause.ScriptCause.{ScriptCause}
 use Rattle.script_lines.specs.declared.cause.ScriptCause.TheVariants.{WrongNumberOfWords, ReplayOnly}
 use Rattle.script_lines.specs.declared.form.VerbForm.{VerbForm}

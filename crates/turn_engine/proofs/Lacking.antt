@@ -15,13 +15,6 @@ noted lacking node session (Some halt.Refused) is = absurd (true≢false (sym is
 noted lacking node session (Some halt.Faulted) is = absurd (true≢false (sym is))
 noted lacking node session None is = absurd (true≢false (sym is))
 
-pub not_noted : (lacking : List Bool) (node session : ℕ) (stop : Option Halt) → finds_no_stamp stop ≡ false → lacking_after lacking (turn.Decide node session) stop ≡ lacking
-not_noted lacking node session (Some halt.NoStamp) is = absurd (true≢false is)
-not_noted lacking node session (Some halt.NotYet) is = refl
-not_noted lacking node session (Some halt.Refused) is = refl
-not_noted lacking node session (Some halt.Faulted) is = refl
-not_noted lacking node session None is = refl
-
 -- what is noted then
 pub noted_at : (lacking : List Bool) (node m : ℕ) → slice_index_or (slice_set lacking node true) m false ≡ true → (m ≡ node) ⊎ (slice_index_or lacking m false ≡ true)
 noted_at [] node m is = inr is

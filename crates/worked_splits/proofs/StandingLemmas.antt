@@ -1,3 +1,4 @@
+-- For this crate's tests alone.
 -- An event leaves the parts lent, and node and rules as they are.
 use Rattle.std.proofs.Common.{◌≡◌, ℕ, zero, suc, List, [], ◌∷◌, Option, Some, None, refl, sym, subst, rules}
 use Rattle.std.specs.Prelude.{slice_index_or, IfSome, IsSome, IsSomeAnd}
@@ -12,7 +13,7 @@ use Rattle.machine.specs.declared.event.Event.TheVariants as timed
 use Rattle.machine.specs.Events.Take.{rules_of}
 use Rattle.machine.specs.State.{Client, State}
 use Rattle.split_parts.specs.declared.acting.Acted.{Acted}
-use Rattle.split_parts.specs.Acts.{Acts, asked_of, names_noted, noted, parts_after, step_of}
+use Rattle.split_parts.specs.Acts.{Acts, asked_of, noted, step_of}
 use Rattle.split_parts.specs.Parts.{CellRows, Node, Parts, Record, called, cells_called, given, given_from, given_master, given_node, given_rows, given_sessions, master_called, setup_by}
 use Rattle.worked_splits.specs.Standing.{Stands}
 

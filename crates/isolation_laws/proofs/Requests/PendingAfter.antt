@@ -92,9 +92,6 @@ none_more_ended i s q p = record {
   stage_is = p.stage_is;
 }
 
-pub other_than_ended : (i : InstanceEntry) (s : ℕ) (q : InFlight) → PendingIn (without_request i s) q → q.session ≢ s
-other_than_ended i s q p = (heldby_ended i s q.session (Commit q.session q.start q.keys) p.progress_of p.held).0
-
 pub begin_is_no_commit : (r s t : ℕ) (keys : List ℕ) → Begin r ≡ Commit s t keys → ⊥
 begin_is_no_commit r s t keys same = cc
 

@@ -1,3 +1,4 @@
+-- For isolation_laws too.
 -- Each event of the machine comes to one outcome.
 use Rattle.std.proofs.Common.{◌≡◌, ℕ, ◌≤◌, max, [], Option, Some, refl}
 use Rattle.std.specs.Prelude.{slice_get}

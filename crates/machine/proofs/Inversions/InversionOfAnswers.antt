@@ -1,4 +1,4 @@
--- For cause_laws too.
+-- For isolation_laws and cause_laws too.
 -- What a node's put of a commit and its answer to a request come to.
 use Rattle.std.proofs.Common.{subst, ◌≡◌, ℕ, true, List, [], ◌∷◌, ◌++◌, if◌then◌else◌, Option, Some, None, ◌⊎◌, inl, inr, refl, sym, ◌∙◌, ap, arith}
 use Rattle.machine.specs.Due.{AreDue}

@@ -1,3 +1,4 @@
+-- For isolation_laws and planned_laws too.
 -- What a crash and the asks of a session come to.
 use Rattle.machine.specs.Fits.{AreOwnRequests}
 use Rattle.machine.proofs.Dues.DueItems.{plain_due}

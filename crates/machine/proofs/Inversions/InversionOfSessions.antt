@@ -1,4 +1,4 @@
--- For call_laws too.
+-- For isolation_laws and call_laws too.
 -- What the events of a session alone come to, but for a fetch: an abort, a vanish, a write, a heal.
 use Rattle.machine.proofs.Dues.DueItems.{plain_due, all_due, two_free}
 use Rattle.machine.proofs.Dues.OwnRefusals.{work_own, vanish_own, write_own, heal_own}

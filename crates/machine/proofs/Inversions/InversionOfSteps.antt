@@ -1,3 +1,4 @@
+-- For isolation_laws too.
 -- What the next step of a session comes to: of a read, of the resolve of its own commit, of a completion.
 use Rattle.machine.specs.Due.{AreDue}
 use Rattle.machine.proofs.Dues.DueItems.{DueAnyway, all_due}
