@@ -13,8 +13,8 @@ p = 112 ∷ []
 abbrev pub q : List ℕ
 q = 113 ∷ []
 
-abbrev pub row : ℕ → ℕ → List ℕ → Option ℕ → Row
-row k t value shadow = record { key = k; version = t; value = value; shadow = shadow }
+abbrev pub row_of : ℕ → ℕ → List ℕ → Option ℕ → Row
+row_of k t value shadow = record { key = k; version = t; value = value; shadow = shadow }
 
 abbrev pub no_pairs : Pairs
 no_pairs = map.empty
@@ -28,4 +28,4 @@ record_of_first = put_pair no_pairs 1 (mark.Committed 2)
 
 -- the key 0 has a row with each commit of 2, 4 and 6, and the key 1 a row that is not committed
 abbrev pub four_rows : List Row
-four_rows = row 0 1 p (Some 2) ∷ row 0 3 q (Some 4) ∷ row 0 5 p (Some 6) ∷ row 1 7 q None ∷ []
+four_rows = row_of 0 1 p (Some 2) ∷ row_of 0 3 q (Some 4) ∷ row_of 0 5 p (Some 6) ∷ row_of 1 7 q None ∷ []
