@@ -1,5 +1,5 @@
--- Each refusal is shown by what stands before it. What the state of a session alone refuses, has no row: Busy, Idle,
--- NoTransaction, NoRequest, TooManyKeys and Undecided.
+-- Each refusal is shown by what stands before it. Six causes have no row: what the state of a session alone refuses (Busy, Idle,
+-- NoTransaction, TooManyKeys), that a node holds no such request (NoRequest), and that a sweep cannot tell (Undecided).
 use Rattle.std.specs.Prelude.{◌≡◌, ℕ, List}
 use Rattle.stamp_base.specs.SetupNumbers.{SetupNumbers}
 use Rattle.history_book.specs.Members.{AtEach}

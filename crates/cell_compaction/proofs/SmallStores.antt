@@ -12,17 +12,14 @@ use Rattle.history_book.specs.Isolation.{Committed, Wrote, last_write}
 use Rattle.history_book.specs.declared.item.Item.{Item}
 use Rattle.history_book.specs.declared.item.Item.TheVariants.{Write, Placed}
 use Rattle.store_parts.specs.declared.rows.Cell.{Cell}
-use Rattle.store_parts.specs.Rows.{Row, looked, is_row, cell_of, AreOrdered, IsBelowAll}
-use Rattle.store_parts.specs.Pairs.{Pairs, mark_of, put_pair}
+use Rattle.store_parts.specs.Rows.{Row, looked, AreOrdered, IsBelowAll}
+use Rattle.store_parts.specs.Pairs.{Pairs, mark_of}
 use Rattle.store_parts.proofs.PairLaws.{mark_of-empty, mark_of-put_pair, mark_of-put_pair_other}
 use Rattle.cell_compaction.specs.Rest.{StandsAtRest, IsWritten, with_commits, latest_in, kept_of, compacted, snapshot, read_from}
 use Rattle.cell_compaction.proofs.MemberRows.{looked_member}
 use Rattle.cell_compaction.specs.Worked.{p, q, row_of, no_pairs, one_commit, record_of_first, four_rows}
 
 -- ---- what is found where each bare row has no record
-with_none : (t : ℕ) (k : ℕ) (value : List ℕ) → with_commits no_pairs (row_of k t value None ∷ []) ≡ row_of k t value None ∷ []
-with_none t k value = rw (mark_of-empty t) refl
-
 four_filled : with_commits no_pairs four_rows ≡ four_rows
 four_filled = rw (mark_of-empty 7) refl
 
