@@ -1,9 +1,9 @@
 // Scripts whose lines wait for each other by names, so that threads have one order to carry them out in: that of the file.
-use worked_pieces::Replay;
 use worked_pieces::answers::{
     DRAWN, S0_BEGINS, S0_COMPLETES_2, S0_IS_DEAD, S0_IS_HANDED_2, S0_IS_INVALID, S0_PLACES_2,
     S1_BEGINS_2, S1_BEGINS_3, S1_BEGINS_AT_B, S1_BEGINS_WITH_AN_EXTENSION, S1_MARKS,
 };
+use worked_pieces::{READ_BEHIND, Replay};
 
 /// A node with several workers, whose batches have one entry.
 const WORKERS: &str = "\
@@ -124,19 +124,7 @@ const HELD_CRASH_HISTORY: &[&str] = &[
 ];
 
 /// A range of two stamps is used up, and the request stage extends it.
-const EXTENDED: &str = "\
-range 2
-a take
-a post p1
-s0 await p1
-s0 begin a
-s0 write k0 v
-s0 commit a
-s0 post p2
-s1 await p2
-s1 begin a
-s1 read k0
-";
+const RANGE_OF_TWO: &str = "range 2\n";
 
 const EXTENDED_HISTORY: &[&str] = &[
     "take a reading=0 term=1 epoch=0 until=10 ceiling=2\n",
@@ -296,7 +284,7 @@ static REPLAYS: [Replay; 7] = [
     },
     Replay {
         name: "threads, an extension",
-        script: &[EXTENDED],
+        script: &[RANGE_OF_TWO, READ_BEHIND],
         history: EXTENDED_HISTORY,
     },
     Replay {

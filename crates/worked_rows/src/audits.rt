@@ -1,17 +1,10 @@
 // What the program says of histories that it audits, byte for byte.
-use crate::calls::answers;
 use std::alloc::{AllocError, Global};
 use std::sync::Wait;
 use std::test::Fail;
 use std::thread::Threads;
+use worked_calls::{Told, answers, first_unlike};
 use worked_commits::commits::PLAIN_HISTORY;
-
-/// A history, what an audit of it must write, and its status.
-struct Audit {
-    history: &'static str,
-    report: &'static str,
-    status: u8,
-}
 
 /// One item of each kind.
 const EACH_KIND: &str =
@@ -31,169 +24,111 @@ const SKEW_JSON: &str = r#"{"kind":"begin","session":"s0","start":1}
 {"commit":4,"kind":"placed","start":2}
 "#;
 
-static AUDITS: [Audit; 19] = [
+/// Histories, and what an audit says of each.
+static AUDITS: [Told; 19] = [
     // nothing: no bytes, and lines that say nothing
-    Audit {
-        history: "",
-        report: "isolated items=0\n",
-        status: 0,
-    },
-    Audit {
-        history: "\n\n",
-        report: "isolated items=0\n",
-        status: 0,
-    },
+    ("", "isolated items=0\n", 0),
+    ("\n\n", "isolated items=0\n", 0),
     // plain_path; below, the last line feed is missing
-    Audit {
-        history: PLAIN_HISTORY,
-        report: "isolated items=20\n",
-        status: 0,
-    },
-    Audit {
-        history: EACH_KIND,
-        report: "isolated items=21\n",
-        status: 0,
-    },
-    Audit {
-        history: "begin s0 start=1\n\nwrite s0 start=1 k0 v\n\n\nplaced start=1 commit=2",
-        report: "isolated items=3\n",
-        status: 0,
-    },
+    (PLAIN_HISTORY, "isolated items=20\n", 0),
+    (EACH_KIND, "isolated items=21\n", 0),
+    (
+        "begin s0 start=1\n\nwrite s0 start=1 k0 v\n\n\nplaced start=1 commit=2",
+        "isolated items=3\n",
+        0,
+    ),
     // Two writers of one key, both committed.
-    Audit {
-        history: "ask-begin s0 a\nbegin s0 start=1\nask-begin s1 a\nbegin s1 start=2\nwrite s0 start=1 k0 p\nwrite s1 start=2 k0 q\nplaced start=1 commit=3\nplaced start=2 commit=4\n",
-        report: "not isolated: apart 7 8\n",
-        status: 7,
-    },
+    (
+        "ask-begin s0 a\nbegin s0 start=1\nask-begin s1 a\nbegin s1 start=2\nwrite s0 start=1 k0 p\nwrite s1 start=2 k0 q\nplaced start=1 commit=3\nplaced start=2 commit=4\n",
+        "not isolated: apart 7 8\n",
+        7,
+    ),
     // late_put: a commit that is placed after a read counts, and items are numbered without empty lines
-    Audit {
-        history: "begin s0 start=1\nwrite s0 start=1 k0 v\nbegin s1 start=101\nread s1 start=101 k0 none\nplaced start=1 commit=2\n",
-        report: "not isolated: read 4 2\n",
-        status: 7,
-    },
-    Audit {
-        history: "\n\nbegin s0 start=1\nwrite s0 start=1 k0 v\n\nbegin s1 start=101\nread s1 start=101 k0 none\nplaced start=1 commit=2\n",
-        report: "not isolated: read 4 2\n",
-        status: 7,
-    },
+    (
+        "begin s0 start=1\nwrite s0 start=1 k0 v\nbegin s1 start=101\nread s1 start=101 k0 none\nplaced start=1 commit=2\n",
+        "not isolated: read 4 2\n",
+        7,
+    ),
+    (
+        "\n\nbegin s0 start=1\nwrite s0 start=1 k0 v\n\nbegin s1 start=101\nread s1 start=101 k0 none\nplaced start=1 commit=2\n",
+        "not isolated: read 4 2\n",
+        7,
+    ),
     // The same cut short; lines are numbered with the empty ones.
-    Audit {
-        history: "begin s0 start=1\nwrite s0 start=1 k0 v\nbegin s1 start=101\nread s1 start=101 k0 none\nplaced start=1 com",
-        report: "history line 5: not an item\n",
-        status: 3,
-    },
-    Audit {
-        history: "\n\nbegin s0 start=1\n\nbegin s0\nbegin s1\n",
-        report: "history line 5: not an item\n",
-        status: 3,
-    },
+    (
+        "begin s0 start=1\nwrite s0 start=1 k0 v\nbegin s1 start=101\nread s1 start=101 k0 none\nplaced start=1 com",
+        "history line 5: not an item\n",
+        3,
+    ),
+    (
+        "\n\nbegin s0 start=1\n\nbegin s0\nbegin s1\n",
+        "history line 5: not an item\n",
+        3,
+    ),
     // The rule on stamps is tried first.
-    Audit {
-        history: "placed start=2 commit=1\nread s0 start=5 k0 none\n",
-        report: "not isolated: stamped 1 1\n",
-        status: 7,
-    },
-    Audit {
-        history: "placed start=1 commit=9\nbegin s0 start=9\n",
-        report: "not isolated: stamped 1 2\n",
-        status: 7,
-    },
+    (
+        "placed start=2 commit=1\nread s0 start=5 k0 none\n",
+        "not isolated: stamped 1 1\n",
+        7,
+    ),
+    (
+        "placed start=1 commit=9\nbegin s0 start=9\n",
+        "not isolated: stamped 1 2\n",
+        7,
+    ),
     // A commit that was placed before a begin was asked for, and one that was not.
-    Audit {
-        history: "placed start=1 commit=9\nask-begin s0 a\nbegin s0 start=5\n",
-        report: "not isolated: fresh 1 3\n",
-        status: 7,
-    },
-    Audit {
-        history: "ask-begin s0 a\nplaced start=1 commit=9\nbegin s0 start=5\n",
-        report: "isolated items=3\n",
-        status: 0,
-    },
+    (
+        "placed start=1 commit=9\nask-begin s0 a\nbegin s0 start=5\n",
+        "not isolated: fresh 1 3\n",
+        7,
+    ),
+    (
+        "ask-begin s0 a\nplaced start=1 commit=9\nbegin s0 start=5\n",
+        "isolated items=3\n",
+        0,
+    ),
     // A read of what nobody wrote.
-    Audit {
-        history: "read s0 start=5 k0 from=1 v\n",
-        report: "not isolated: read 1 1\n",
-        status: 7,
-    },
+    (
+        "read s0 start=5 k0 from=1 v\n",
+        "not isolated: read 1 1\n",
+        7,
+    ),
     // No carriage return is dropped, and blanks are no empty line.
-    Audit {
-        history: "tick 1\r\n",
-        report: "history line 1: not an item\n",
-        status: 3,
-    },
-    Audit {
-        history: "tick 1\n \n",
-        report: "history line 2: not an item\n",
-        status: 3,
-    },
+    ("tick 1\r\n", "history line 1: not an item\n", 3),
+    ("tick 1\n \n", "history line 2: not an item\n", 3),
     // A script is no history.
-    Audit {
-        history: "a take\n",
-        report: "history line 1: not an item\n",
-        status: 3,
-    },
-    Audit {
-        history: SKEW,
-        report: "isolated items=8\n",
-        status: 0,
-    },
+    ("a take\n", "history line 1: not an item\n", 3),
+    (SKEW, "isolated items=8\n", 0),
 ];
 
 /// The same of audits that ask for a serial history too.
-static STRICT: [Audit; 6] = [
-    Audit {
-        history: SKEW,
-        report: "not isolated: serial 5 7\n",
-        status: 7,
-    },
-    Audit {
-        history: SKEW_JSON,
-        report: "not isolated: serial 5 7\n",
-        status: 7,
-    },
-    Audit {
-        history: PLAIN_HISTORY,
-        report: "isolated items=20\n",
-        status: 0,
-    },
+static STRICT: [Told; 6] = [
+    (SKEW, "not isolated: serial 5 7\n", 7),
+    (SKEW_JSON, "not isolated: serial 5 7\n", 7),
+    (PLAIN_HISTORY, "isolated items=20\n", 0),
     // The second of the two does not commit.
-    Audit {
-        history: "begin s0 start=1\nbegin s1 start=2\nread s0 start=1 k0 none\nwrite s0 start=1 k1 p\nread s1 start=2 k1 none\nwrite s1 start=2 k0 q\nplaced start=1 commit=3\n",
-        report: "isolated items=7\n",
-        status: 0,
-    },
+    (
+        "begin s0 start=1\nbegin s1 start=2\nread s0 start=1 k0 none\nwrite s0 start=1 k1 p\nread s1 start=2 k1 none\nwrite s1 start=2 k0 q\nplaced start=1 commit=3\n",
+        "isolated items=7\n",
+        0,
+    ),
     // Neither apart nor serial: isolation is judged first.
-    Audit {
-        history: "begin s0 start=1\nbegin s1 start=2\nread s1 start=2 k0 none\nwrite s0 start=1 k0 p\nwrite s1 start=2 k0 q\nplaced start=1 commit=3\nplaced start=2 commit=4\n",
-        report: "not isolated: apart 6 7\n",
-        status: 7,
-    },
-    Audit {
-        history: "a take\n",
-        report: "history line 1: not an item\n",
-        status: 3,
-    },
+    (
+        "begin s0 start=1\nbegin s1 start=2\nread s1 start=2 k0 none\nwrite s0 start=1 k0 p\nwrite s1 start=2 k0 q\nplaced start=1 commit=3\nplaced start=2 commit=4\n",
+        "not isolated: apart 6 7\n",
+        7,
+    ),
+    ("a take\n", "history line 1: not an item\n", 3),
 ];
 
 // Behind functions, a proof that goes over the rows does not look into their texts.
 
-fn audits() -> &'static [Audit] {
+fn audits() -> &'static [Told] {
     &AUDITS
 }
 
-fn strict() -> &'static [Audit] {
+fn strict() -> &'static [Told] {
     &STRICT
-}
-
-/// Whether these words write the report of the history, with its status.
-fn is_reported<R: Threads + Wait + Sync>(
-    rt: &R,
-    alloc: Global,
-    words: &[&str],
-    audit: &Audit,
-) -> Result<bool, AllocError> {
-    let (history, report) = (audit.history.as_bytes(), audit.report.as_bytes());
-    answers(rt, alloc, words, history, report, audit.status)
 }
 
 /// A history of 9,000 items, whose transactions come one after the other. The last two end with the items 8997 and 9000, at the
@@ -213,7 +148,7 @@ fn long_history(alloc: Global) -> Result<Vec<u8>, AllocError> {
 }
 
 /// What may stand behind that history, and what an audit says then.
-static LONG: [(&str, &str, u8); 5] = [
+static LONG: [Told; 5] = [
     ("", "isolated items=9000\n", 0),
     (
         "begin s0 start=29985\n",
@@ -237,7 +172,7 @@ static LONG: [(&str, &str, u8); 5] = [
     ),
 ];
 
-fn long() -> &'static [(&'static str, &'static str, u8)] {
+fn long() -> &'static [Told] {
     &LONG
 }
 
@@ -257,26 +192,14 @@ fn is_judged_behind<R: Threads + Wait + Sync>(
 
 #[test]
 fn histories_are_judged(rt: HostRuntime) -> Result<(), Fail> {
-    for audit in audits() {
-        assert!(rt;
-            is_reported(&rt, rt.alloc(), &["audit"], audit)?,
-            "{}",
-            audit.history
-        );
-    }
+    assert_eq!(rt; first_unlike(&rt, rt.alloc(), &["audit"], audits())?, None);
     Ok(())
 }
 
 #[test]
 fn histories_are_judged_strictly(rt: HostRuntime) -> Result<(), Fail> {
     let words = ["audit", "strict"];
-    for audit in strict() {
-        assert!(rt;
-            is_reported(&rt, rt.alloc(), &words, audit)?,
-            "{}",
-            audit.history
-        );
-    }
+    assert_eq!(rt; first_unlike(&rt, rt.alloc(), &words, strict())?, None);
     Ok(())
 }
 

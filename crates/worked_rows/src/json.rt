@@ -1,16 +1,16 @@
 // Histories as JSON: what a replay writes, and what an audit says of it.
-use crate::calls::{answer_of, answers, joined};
 use crate::rows::{TOPICS, topic};
 use std::alloc::{AllocError, Global};
 use std::sync::Wait;
 use std::test::Fail;
 use std::thread::Threads;
+use worked_calls::{Told, answer_of, answers, first_unlike, joined};
 use worked_commits::commits::PLAIN_PATH;
 use worked_commits::json::{EACH_KIND, EACH_KIND_JSON, PLAIN_JSON};
 use worked_pieces::Replay;
 
 /// A history, what an audit of it must write, and its status.
-static AUDITS: [(&str, &str, u8); 15] = [
+static AUDITS: [Told; 15] = [
     (PLAIN_JSON, "isolated items=20\n", 0),
     (EACH_KIND_JSON, "isolated items=53\n", 0),
     // late_put: a commit that is placed after a read counts.
@@ -95,19 +95,20 @@ static AUDITS: [(&str, &str, u8); 15] = [
     ),
 ];
 
-/// Behind a function, a proof that goes over the rows does not look into their texts.
-fn audits() -> &'static [(&'static str, &'static str, u8)] {
+/// A script, its history as JSON, and the status.
+static REPLAYS: [Told; 3] = [
+    (PLAIN_PATH, PLAIN_JSON, 0),
+    (EACH_KIND, EACH_KIND_JSON, 0),
+    ("", "", 0),
+];
+
+// Behind functions, a proof that goes over the rows does not look into their texts.
+
+fn audits() -> &'static [Told] {
     &AUDITS
 }
 
-/// A script, and its history as JSON.
-static REPLAYS: [(&str, &str); 3] = [
-    (PLAIN_PATH, PLAIN_JSON),
-    (EACH_KIND, EACH_KIND_JSON),
-    ("", ""),
-];
-
-fn replays() -> &'static [(&'static str, &'static str)] {
+fn replays() -> &'static [Told] {
     &REPLAYS
 }
 
@@ -127,37 +128,13 @@ fn has_one_report<R: Threads + Wait + Sync>(
 #[test]
 fn histories_are_written_as_json(rt: HostRuntime) -> Result<(), Fail> {
     let words = ["replay", "json"];
-    for (script, history) in replays() {
-        assert!(rt;
-            answers(
-                &rt,
-                rt.alloc(),
-                &words,
-                script.as_bytes(),
-                history.as_bytes(),
-                0
-            )?,
-            "{script}"
-        );
-    }
+    assert_eq!(rt; first_unlike(&rt, rt.alloc(), &words, replays())?, None);
     Ok(())
 }
 
 #[test]
 fn histories_in_json_are_judged(rt: HostRuntime) -> Result<(), Fail> {
-    for (history, report, ended) in audits() {
-        assert!(rt;
-            answers(
-                &rt,
-                rt.alloc(),
-                &["audit"],
-                history.as_bytes(),
-                report.as_bytes(),
-                *ended
-            )?,
-            "{history}"
-        );
-    }
+    assert_eq!(rt; first_unlike(&rt, rt.alloc(), &["audit"], audits())?, None);
     Ok(())
 }
 

@@ -1,4 +1,4 @@
-//! The worked examples of the whole program, as tables: words, input, output and status. It holds tests alone.
+//! The worked examples of the whole program, but for those on threads, as tables: words, input, output and status. It holds tests alone.
 #![tactic(auto)]
 
 #[cfg(test)]
@@ -6,11 +6,7 @@ mod audits;
 #[cfg(test)]
 mod bad_scripts;
 #[cfg(test)]
-mod calls;
-#[cfg(test)]
 mod compactions;
-#[cfg(test)]
-mod crowd;
 #[cfg(test)]
 mod drips;
 #[cfg(test)]
@@ -20,16 +16,10 @@ mod hostile;
 #[cfg(test)]
 mod json;
 #[cfg(test)]
-mod laws;
-#[cfg(test)]
 mod progress;
 #[cfg(test)]
 mod rows;
 #[cfg(test)]
 mod storms;
-#[cfg(test)]
-mod stuck;
-#[cfg(test)]
-mod threads;
 #[cfg(test)]
 mod words;

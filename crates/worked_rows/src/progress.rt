@@ -1,11 +1,10 @@
 // Progress: a gate that wants to know how far a replay is hears of each line once.
-use omid_top::{Gate, GatePlace, omid};
-use port_io::{MemSink, MemSource};
 use std::alloc::{AllocError, Global};
 use std::sync::Wait;
 use std::sync::atomic::{AtomicUsize, Ordering};
 use std::test::Fail;
 use std::thread::Threads;
+use worked_calls::{Gate, GatePlace, call, open_sink, open_source};
 
 /// The commands, their input, and how many lines are carried out for them.
 static COUNTS: [(&[&str], &str, usize); 6] = [
@@ -70,17 +69,10 @@ fn told_for<R: Threads + Wait + Sync>(
     names: &[&str],
     input: &str,
 ) -> Result<[usize; 3], AllocError> {
-    let mut words = Vec::new(alloc);
-    for name in names {
-        words.push(name.to_string(alloc)?)?;
-    }
-    let mut source = MemSource::new(input.as_bytes().to_vec(alloc)?, Vec::new(alloc));
-    let mut sink = match MemSink::open(alloc, 65_536, Vec::new(alloc)) {
-        Ok(sink) => sink,
-        Err(_) => return Err(AllocError),
-    };
+    let mut source = open_source(alloc, input.as_bytes(), &[])?;
+    let mut sink = open_sink(alloc, 65_536, &[])?;
     let gate = CountingGate::new();
-    omid(rt, alloc, &words, &mut source, &mut sink, &gate);
+    call(rt, alloc, names, &mut source, &mut sink, &gate)?;
     Ok(gate.told())
 }
 

@@ -1,9 +1,9 @@
 // What a replay writes for a script, byte for byte, and that it is isolated, and serial where reads are strict.
-use crate::calls::{answer_of, is_isolated, is_serial, joined, tells};
 use std::alloc::{AllocError, Global};
 use std::sync::Wait;
 use std::test::Fail;
 use std::thread::Threads;
+use worked_calls::{first_untold, is_carried_out};
 use worked_commits::{commits, conflicts, direct, many_keys, remembered, strict};
 use worked_examples::{examples, threads};
 use worked_faults::{direct as direct_faults, leases, masters, outcomes, refusals, takeovers};
@@ -35,50 +35,7 @@ pub fn topic(number: usize) -> &'static [Replay] {
     }
 }
 
-/// Whether the example is replayed as it must be, and its history is isolated.
-fn is_replayed<R: Threads + Wait + Sync>(
-    rt: &R,
-    alloc: Global,
-    replay: &Replay,
-) -> Result<bool, AllocError> {
-    let history = joined(alloc, replay.history)?;
-    Ok(tells(rt, alloc, &["replay"], replay)? && is_isolated(rt, alloc, &history)?)
-}
-
-#[test]
-fn each_script_is_replayed(rt: HostRuntime) -> Result<(), Fail> {
-    for number in 0..TOPICS {
-        assert_eq!(rt; topic(number).len(), COUNTS[number]);
-        for replay in topic(number) {
-            assert!(rt; is_replayed(&rt, rt.alloc(), replay)?, "{}", replay.name);
-        }
-    }
-    Ok(())
-}
-
-#[test]
-fn strict_histories_are_serial(rt: HostRuntime) -> Result<(), Fail> {
-    for replay in strict::replays() {
-        let history = joined(rt.alloc(), replay.history)?;
-        assert!(rt; is_serial(&rt, rt.alloc(), &history)?, "{}", replay.name);
-    }
-    Ok(())
-}
-
-/// Whether the example's script, behind more setup lines, is replayed to a history that passes the audit of these words.
-fn passes_behind<R: Threads + Wait + Sync>(
-    rt: &R,
-    alloc: Global,
-    audit: &[&str],
-    setup: &str,
-    replay: &Replay,
-) -> Result<bool, AllocError> {
-    let mut script = joined(alloc, &[setup])?;
-    script.extend_from_slice(&joined(alloc, replay.script)?)?;
-    let (history, status) = answer_of(rt, alloc, &["replay"], &script)?;
-    let (_, verdict) = answer_of(rt, alloc, audit, &history)?;
-    Ok(status == 0 && verdict == 0)
-}
+const REPLAY: &[&str] = &["replay"];
 
 const AUDIT: &[&str] = &["audit"];
 
@@ -110,17 +67,52 @@ fn forms_of_direct() -> &'static [(&'static str, &'static [&'static str])] {
     &FORMS_OF_DIRECT
 }
 
+/// The name of the first example whose script, behind this setup, is not replayed to a history that passes the audit. None where
+/// each is.
+fn first_failing<R: Threads + Wait + Sync>(
+    rt: &R,
+    alloc: Global,
+    setup: &str,
+    replays: &[Replay],
+    audit: &[&str],
+) -> Result<Option<&'static str>, AllocError> {
+    for replay in replays {
+        if !is_carried_out(rt, alloc, REPLAY, setup, replay.script, audit)? {
+            return Ok(Some(replay.name));
+        }
+    }
+    Ok(None)
+}
+
+#[test]
+fn each_script_is_replayed(rt: HostRuntime) -> Result<(), Fail> {
+    for number in 0..TOPICS {
+        let replays = topic(number);
+        assert_eq!(rt; replays.len(), COUNTS[number]);
+        assert_eq!(rt; first_untold(&rt, rt.alloc(), REPLAY, replays)?, None);
+        assert_eq!(rt; first_failing(&rt, rt.alloc(), "", replays, AUDIT)?, None);
+    }
+    Ok(())
+}
+
+#[test]
+fn strict_histories_are_serial(rt: HostRuntime) -> Result<(), Fail> {
+    let replays = strict::replays();
+    assert_eq!(rt;
+        first_failing(&rt, rt.alloc(), "", replays, STRICT_AUDIT)?,
+        None
+    );
+    Ok(())
+}
+
 #[test]
 fn takeovers_pass_in_each_form(rt: HostRuntime) -> Result<(), Fail> {
     for (setup, audit) in forms() {
         for replays in [takeovers::replays(), leases::replays()] {
-            for replay in replays {
-                assert!(rt;
-                    passes_behind(&rt, rt.alloc(), audit, setup, replay)?,
-                    "{}",
-                    replay.name
-                );
-            }
+            assert_eq!(rt;
+                first_failing(&rt, rt.alloc(), setup, replays, audit)?,
+                None
+            );
         }
     }
     Ok(())
@@ -130,13 +122,10 @@ fn takeovers_pass_in_each_form(rt: HostRuntime) -> Result<(), Fail> {
 fn direct_commits_pass_in_each_form(rt: HostRuntime) -> Result<(), Fail> {
     for (setup, audit) in forms_of_direct() {
         for replays in [direct::replays(), direct_faults::replays()] {
-            for replay in replays {
-                assert!(rt;
-                    passes_behind(&rt, rt.alloc(), audit, setup, replay)?,
-                    "{}",
-                    replay.name
-                );
-            }
+            assert_eq!(rt;
+                first_failing(&rt, rt.alloc(), setup, replays, audit)?,
+                None
+            );
         }
     }
     Ok(())

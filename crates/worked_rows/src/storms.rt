@@ -1,8 +1,8 @@
 // Storms, and the summaries of histories.
-use crate::calls::answers;
-use crate::faults::{call, open_sink, open_source};
 use std::test::Fail;
+use worked_calls::{OpenGate, answers, call, joined, open_sink, open_source};
 use worked_commits::commits::PLAIN_PATH;
+use worked_faults::takeovers::{LATE_PUT, TAKEN_OVER};
 
 /// How many transactions, and the summary of their history.
 static STORMS: [(&str, &str); 6] = [
@@ -32,31 +32,18 @@ static STORMS: [(&str, &str); 6] = [
     ),
 ];
 
-/// The oracle of the first node has drawn a commit when the second takes over, and it places the commit too late.
-const LATE_PUT: &str = "\
-a take
-s0 begin a
-s0 write k0 v
-s0 submit a
-clock tick 12
-b take
-s1 begin b
-s1 read k0
-s0 collect
-";
-
-/// A script, and the summary of its history.
-static SUMMARIES: [(&str, &str); 3] = [
+/// A script in pieces, and the summary of its history.
+static SUMMARIES: [(&[&str], &str); 3] = [
     (
-        PLAIN_PATH,
+        &[PLAIN_PATH],
         "transactions=2 committed=1 conflict=0 hidden=0 other=0 items=20\n",
     ),
     (
-        LATE_PUT,
+        &[TAKEN_OVER, LATE_PUT],
         "transactions=2 committed=0 conflict=0 hidden=0 other=1 items=23\n",
     ),
     (
-        "",
+        &[],
         "transactions=0 committed=0 conflict=0 hidden=0 other=0 items=0\n",
     ),
 ];
@@ -67,7 +54,7 @@ fn storms() -> &'static [(&'static str, &'static str)] {
     &STORMS
 }
 
-fn summaries() -> &'static [(&'static str, &'static str)] {
+fn summaries() -> &'static [(&'static [&'static str], &'static str)] {
     &SUMMARIES
 }
 
@@ -87,16 +74,10 @@ fn each_storm_is_summed_up(rt: HostRuntime) -> Result<(), Fail> {
 fn each_history_is_summed_up(rt: HostRuntime) -> Result<(), Fail> {
     let words = ["replay", "summary"];
     for (script, summary) in summaries() {
+        let script = joined(rt.alloc(), script)?;
         assert!(rt;
-            answers(
-                &rt,
-                rt.alloc(),
-                &words,
-                script.as_bytes(),
-                summary.as_bytes(),
-                0
-            )?,
-            "{script}"
+            answers(&rt, rt.alloc(), &words, &script, summary.as_bytes(), 0)?,
+            "{summary}"
         );
     }
     Ok(())
@@ -106,9 +87,16 @@ fn each_history_is_summed_up(rt: HostRuntime) -> Result<(), Fail> {
 #[test]
 fn a_storm_reads_nothing(rt: HostRuntime) -> Result<(), Fail> {
     for (failing, ended) in [(2, 0), (1, 5)] {
-        let mut source = open_source(rt.alloc(), "", &[1])?;
+        let mut source = open_source(rt.alloc(), b"", &[1])?;
         let mut sink = open_sink(rt.alloc(), 1024, &[failing])?;
-        let status = call(&rt, rt.alloc(), &["storm", "1"], &mut source, &mut sink)?;
+        let status = call(
+            &rt,
+            rt.alloc(),
+            &["storm", "1"],
+            &mut source,
+            &mut sink,
+            &OpenGate,
+        )?;
         assert_eq!(rt; status, ended);
     }
     Ok(())

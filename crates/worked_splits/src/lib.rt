@@ -4,8 +4,6 @@
 #[cfg(test)]
 mod agreeing;
 #[cfg(test)]
-mod calls;
-#[cfg(test)]
 mod logs;
 #[cfg(test)]
 mod making;
@@ -14,4 +12,4 @@ mod meeting;
 #[cfg(test)]
 mod orders;
 #[cfg(test)]
-mod scripts;
+mod reading;

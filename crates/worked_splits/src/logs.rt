@@ -2,7 +2,6 @@
 ghost use Rattle.std.specs.Prelude.{◌≡◌, ◌≤◌, false, All, IfOk, IsTrue};
 
 use crate::making::read_behind;
-use crate::scripts::READ_BEHIND;
 use cluster_core::Cluster;
 use history_book::Item;
 use session_script::{Mode, Script, read_script};
@@ -11,6 +10,7 @@ use stamp_base::{NoMemory, Setup};
 use std::alloc::Global;
 use std::sync::Wait;
 use std::test::Fail;
+use worked_pieces::READ_BEHIND;
 
 /// Whether the setup turns on nothing that split stores have not.
 fn is_plain(setup: &Setup) -> bool

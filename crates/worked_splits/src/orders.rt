@@ -1,5 +1,5 @@
 // Events that have two parts in common lock them in one order.
-use crate::calls::read;
+use crate::reading::read;
 use split_driver::run_split;
 use split_stores::{Event, PartGate};
 use std::alloc::{AllocError, Global};

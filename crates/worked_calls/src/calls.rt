@@ -1,10 +1,9 @@
-// Calls of the program over bytes in memory.
+// What the program writes for words and bytes.
+use crate::ports::{open_sink, open_source, words_of};
 use omid_top::{OpenGate, omid};
-use port_io::{MemSink, MemSource};
 use std::alloc::{AllocError, Global};
 use std::sync::Wait;
 use std::thread::Threads;
-use worked_pieces::Replay;
 
 /// More bytes than any of the texts has.
 const ROOM: usize = 262_144;
@@ -25,10 +24,7 @@ pub fn answer_of<R: Threads + Wait + Sync>(
     names: &[&str],
     input: &[u8],
 ) -> Result<(Vec<u8>, u8), AllocError> {
-    let mut words = Vec::new(alloc);
-    for name in names {
-        words.push(name.to_string(alloc)?)?;
-    }
+    let words = words_of(alloc, names)?;
     written_for(rt, alloc, &words, input)
 }
 
@@ -39,12 +35,8 @@ pub fn written_for<R: Threads + Wait + Sync>(
     words: &[String],
     input: &[u8],
 ) -> Result<(Vec<u8>, u8), AllocError> {
-    let bytes = input.to_vec(alloc)?;
-    let mut source = MemSource::new(bytes, Vec::new(alloc));
-    let mut sink = match MemSink::open(alloc, ROOM, Vec::new(alloc)) {
-        Ok(sink) => sink,
-        Err(_) => return Err(AllocError),
-    };
+    let mut source = open_source(alloc, input, &[])?;
+    let mut sink = open_sink(alloc, ROOM, &[])?;
     let status = omid(rt, alloc, words, &mut source, &mut sink, &OpenGate);
     let written = sink.bytes().to_vec(alloc)?;
     Ok((written, status.code))
@@ -73,24 +65,18 @@ pub fn is_isolated<R: Threads + Wait + Sync>(
     Ok(status == 0)
 }
 
-/// Whether a strict audit finds the history isolated and serial.
-pub fn is_serial<R: Threads + Wait + Sync>(
-    rt: &R,
-    alloc: Global,
-    history: &[u8],
-) -> Result<bool, AllocError> {
-    let (_, status) = answer_of(rt, alloc, &["audit", "strict"], history)?;
-    Ok(status == 0)
-}
-
-/// Whether the program writes the history of the example for its script and these words.
-pub fn tells<R: Threads + Wait + Sync>(
+/// Whether the program, called with these words, carries out the script behind the setup, and its history passes the audit.
+pub fn is_carried_out<R: Threads + Wait + Sync>(
     rt: &R,
     alloc: Global,
     names: &[&str],
-    replay: &Replay,
+    setup: &str,
+    script: &[&str],
+    audit: &[&str],
 ) -> Result<bool, AllocError> {
-    let script = joined(alloc, replay.script)?;
-    let history = joined(alloc, replay.history)?;
-    answers(rt, alloc, names, &script, &history, 0)
+    let mut whole = joined(alloc, &[setup])?;
+    whole.extend_from_slice(&joined(alloc, script)?)?;
+    let (history, status) = answer_of(rt, alloc, names, &whole)?;
+    let (_, verdict) = answer_of(rt, alloc, audit, &history)?;
+    Ok(status == 0 && verdict == 0)
 }

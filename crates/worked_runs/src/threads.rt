@@ -1,31 +1,32 @@
 // Scripts carried out on threads: those with one order are carried out in that of the file, and whatever comes of the others is
 // isolated.
-use crate::calls::{answer_of, is_isolated, joined, tells};
-use crate::crowd::CROWD;
-use crate::faults::{keeps_lines, open_sink, open_source, reads_nothing};
-use crate::stuck::{DRAWN_IN_A_CROWD, LEFT_BY_A_CRASH, SUBMITTED, stuck};
-use omid_top::{Gate, GatePlace, omid};
+use crate::stuck::stuck;
 use stamp_base::{NodeNo, Stage};
 use std::alloc::{AllocError, Global};
 use std::sync::Wait;
-use std::sync::atomic::{AtomicBool, Ordering};
 use std::test::Fail;
-use std::thread::{self, Threads};
+use std::thread::Threads;
+use worked_calls::{
+    Gate, GatePlace, call, first_untold, is_carried_out, is_isolated, keeps_lines, open_sink,
+    open_source, reads_nothing,
+};
 use worked_commits::commits::PLAIN_PATH;
 use worked_examples::threads;
+use worked_pieces::Meeting;
 
 const RUN: &[&str] = &["run"];
 
 #[test]
 fn scripts_with_one_order_are_run_in_it(rt: HostRuntime) -> Result<(), Fail> {
-    for replay in threads::replays() {
-        assert!(rt; tells(&rt, rt.alloc(), RUN, replay)?, "{}", replay.name);
-    }
+    assert_eq!(rt;
+        first_untold(&rt, rt.alloc(), RUN, threads::replays())?,
+        None
+    );
     Ok(())
 }
 
 /// Scripts that threads carry out in many orders.
-static FREE: [&str; 12] = [
+static FREE: [&str; 8] = [
     PLAIN_PATH,
     "\
 a take
@@ -139,10 +140,6 @@ s1 begin a
 a await done
 a free request
 ",
-    LEFT_BY_A_CRASH,
-    SUBMITTED,
-    DRAWN_IN_A_CROWD,
-    CROWD,
     "\
 nodes 3
 a take
@@ -170,6 +167,15 @@ fn free() -> &'static [&'static str] {
     &FREE
 }
 
+/// All of these, and those that once stuck.
+fn scripts(alloc: Global) -> Result<Vec<String>, AllocError> {
+    let mut scripts = stuck(alloc)?;
+    for script in free() {
+        scripts.push(script.to_string(alloc)?)?;
+    }
+    Ok(scripts)
+}
+
 /// Whether the script behind this setup is carried out on threads, and what they made is isolated.
 fn is_run<R: Threads + Wait + Sync>(
     rt: &R,
@@ -177,14 +183,12 @@ fn is_run<R: Threads + Wait + Sync>(
     setup: &str,
     script: &str,
 ) -> Result<bool, AllocError> {
-    let whole = joined(alloc, &[setup, script])?;
-    let (history, status) = answer_of(rt, alloc, RUN, &whole)?;
-    Ok(status == 0 && is_isolated(rt, alloc, &history)?)
+    is_carried_out(rt, alloc, RUN, setup, &[script], &["audit"])
 }
 
 #[test]
 fn whatever_threads_make_is_isolated(rt: HostRuntime) -> Result<(), Fail> {
-    for script in free() {
+    for script in &scripts(rt.alloc())? {
         assert!(rt; is_run(&rt, rt.alloc(), "", script)?, "{script}");
     }
     Ok(())
@@ -192,11 +196,9 @@ fn whatever_threads_make_is_isolated(rt: HostRuntime) -> Result<(), Fail> {
 
 #[test]
 fn whatever_threads_make_of_direct_commits_is_isolated(rt: HostRuntime) -> Result<(), Fail> {
-    for script in free() {
-        assert!(rt;
-            is_run(&rt, rt.alloc(), "commits direct\n", script)?,
-            "{script}"
-        );
+    let setup = "commits direct\n";
+    for script in &scripts(rt.alloc())? {
+        assert!(rt; is_run(&rt, rt.alloc(), setup, script)?, "{script}");
     }
     Ok(())
 }
@@ -204,7 +206,7 @@ fn whatever_threads_make_of_direct_commits_is_isolated(rt: HostRuntime) -> Resul
 /// What once waited for ever ends now, however often it is run.
 #[test]
 fn what_once_stuck_ends_a_hundred_times(rt: HostRuntime) -> Result<(), Fail> {
-    for script in stuck() {
+    for script in &stuck(rt.alloc())? {
         for _again in 0..100 {
             assert!(rt; is_run(&rt, rt.alloc(), "", script)?, "{script}");
         }
@@ -231,52 +233,18 @@ fn a_sink_that_fails_ends_a_run(rt: HostRuntime) -> Result<(), Fail> {
     Ok(())
 }
 
-/// The most turns that a stage waits at the gate for the other.
-const TURNS: usize = 10_000_000;
-
-/// A gate at which the persist stage of one node and the reply stage of another meet: each passes once the other has come.
+/// A gate at which the persist stage of one node and the reply stage of another meet.
 #[derive(Drop)]
 struct MeetingGate {
-    persist: AtomicBool,
-    reply: AtomicBool,
-    // Whether each has seen the other.
-    persist_met: AtomicBool,
-    reply_met: AtomicBool,
-}
-
-impl MeetingGate {
-    fn new() -> MeetingGate {
-        MeetingGate {
-            persist: AtomicBool::new(false),
-            reply: AtomicBool::new(false),
-            persist_met: AtomicBool::new(false),
-            reply_met: AtomicBool::new(false),
-        }
-    }
-
-    fn have_met(&self) -> bool {
-        self.persist_met.load(Ordering::SeqCst) && self.reply_met.load(Ordering::SeqCst)
-    }
-}
-
-/// Comes to the gate, and waits for the other.
-fn meet(mine: &AtomicBool, other: &AtomicBool, met: &AtomicBool) {
-    mine.store(true, Ordering::SeqCst);
-    for _ in 0..TURNS {
-        if other.load(Ordering::SeqCst) {
-            met.store(true, Ordering::SeqCst);
-            return;
-        }
-        thread::yield_now();
-    }
+    meeting: Meeting,
 }
 
 impl Gate for MeetingGate {
     fn pass<R: Wait>(&self, _rt: &R, place: GatePlace) {
         if place.node == NodeNo::FIRST && place.stage == Stage::Persist {
-            meet(&self.persist, &self.reply, &self.persist_met);
+            self.meeting.meet_from_left();
         } else if place.node != NodeNo::FIRST && place.stage == Stage::Reply {
-            meet(&self.reply, &self.persist, &self.reply_met);
+            self.meeting.meet_from_right();
         }
     }
 }
@@ -309,13 +277,14 @@ s1 read k0
 /// No single thread passes this gate: a stage of each node is at work at the same time.
 #[test]
 fn two_stages_meet(rt: HostRuntime) -> Result<(), Fail> {
-    let words = vec![in rt.alloc(); "run".to_string(rt.alloc())?]?;
-    let mut source = open_source(rt.alloc(), MEETING, &[])?;
+    let mut source = open_source(rt.alloc(), MEETING.as_bytes(), &[])?;
     let mut sink = open_sink(rt.alloc(), 4096, &[])?;
-    let gate = MeetingGate::new();
-    let status = omid(&rt, rt.alloc(), &words, &mut source, &mut sink, &gate);
-    assert_eq!(rt; status.code, 0);
-    assert!(rt; gate.have_met());
+    let gate = MeetingGate {
+        meeting: Meeting::new(),
+    };
+    let status = call(&rt, rt.alloc(), RUN, &mut source, &mut sink, &gate)?;
+    assert_eq!(rt; status, 0);
+    assert!(rt; gate.meeting.have_met());
     assert!(rt; is_isolated(&rt, rt.alloc(), sink.bytes())?);
     Ok(())
 }

@@ -1,23 +1,13 @@
-// Scripts whose lines wait for each other by names, so that threads have one order to carry them out in: that of the file.
-use crate::calls::answer_of;
+// Scripts over split stores whose lines wait for each other by names, so that threads have one order to carry them out in: that of the
+// file.
 use std::alloc::{AllocError, Global};
 use std::sync::Wait;
 use std::test::Fail;
 use std::thread::Threads;
+use worked_calls::{answer_of, answers};
+use worked_pieces::READ_BEHIND;
 
-/// A commit, and a reader that waits for it.
-pub const READ_BEHIND: &str = "\
-a take
-a post p1
-s0 await p1
-s0 begin a
-s0 write k0 v
-s0 commit a
-s0 post p2
-s1 await p2
-s1 begin a
-s1 read k0
-";
+const RUN_SPLIT: &[&str] = &["run", "split"];
 
 /// A commit that is collected, and nothing left to finish.
 const COLLECTED: &str = "\
@@ -37,9 +27,8 @@ fn is_one<R: Threads + Wait + Sync>(
     alloc: Global,
     script: &str,
 ) -> Result<bool, AllocError> {
-    let (split, status) = answer_of(rt, alloc, &["run", "split"], script)?;
-    let (replayed, _) = answer_of(rt, alloc, &["replay"], script)?;
-    Ok(status == 0 && split.as_slice() == replayed.as_slice())
+    let (replayed, _) = answer_of(rt, alloc, &["replay"], script.as_bytes())?;
+    answers(rt, alloc, RUN_SPLIT, script.as_bytes(), &replayed, 0)
 }
 
 #[test]
@@ -51,15 +40,14 @@ fn a_commit_is_read_over_split_stores(rt: HostRuntime) -> Result<(), Fail> {
 #[test]
 fn a_commit_is_collected_over_split_stores(rt: HostRuntime) -> Result<(), Fail> {
     assert!(rt; is_one(&rt, rt.alloc(), COLLECTED)?);
-    let (written, _) = answer_of(&rt, rt.alloc(), &["run", "split"], COLLECTED)?;
+    let (written, _) = answer_of(&rt, rt.alloc(), RUN_SPLIT, COLLECTED.as_bytes())?;
     assert!(rt; written.as_slice().ends_with("refused s0 idle\n".as_bytes()));
     Ok(())
 }
 
 #[test]
 fn direct_commits_are_left_to_a_replay(rt: HostRuntime) -> Result<(), Fail> {
-    let (written, status) = answer_of(&rt, rt.alloc(), &["run", "split"], "commits direct\n")?;
-    assert_eq!(rt; status, 3);
-    assert!(rt; written.as_slice() == "script line 1: replay only\n".as_bytes());
+    let (script, report) = (b"commits direct\n", b"script line 1: replay only\n");
+    assert!(rt; answers(&rt, rt.alloc(), RUN_SPLIT, script, report, 3)?);
     Ok(())
 }
