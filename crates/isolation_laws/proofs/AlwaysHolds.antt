@@ -26,7 +26,8 @@ use Rattle.isolation_laws.proofs.Reading.ReadsKept.{reads_kept, right_reads_kept
 use Rattle.isolation_laws.proofs.Known.KnownKept.{known_kept}
 use Rattle.isolation_laws.proofs.Bare.BareKept.{owned_kept}
 use Rattle.machine.specs.Outcome.Inverted.{ComesAt}
-use Rattle.isolation_laws.proofs.Inversions.Inversion.{comes_to}
+use Rattle.machine.proofs.Inversions.EachOutcome.{each_outcome as each_of_event}
+use Rattle.isolation_laws.proofs.Inversions.Inversion.{parts_fit, comes_to}
 use Rattle.isolation_laws.proofs.Inversions.InversionSound.{sound_kept, opening_sound}
 use Rattle.isolation_laws.proofs.Holding.IsolatedStamps.{stamped_kept, fresh_kept, apart_kept}
 use Rattle.isolation_laws.proofs.Holding.SerialCommits.{serial_if_strict}
@@ -64,9 +65,7 @@ comes_by w h e fate both = comes_to w h e fate both.holds both.sound
 
 -- what each outcome of an event makes so, the event makes so
 pub each_outcome : (P : State → List Item → Type 0) (w : State) (h : List Item) (e : Event) (fate : Fate) → Stands w h → ((o : Outcome w) → P (left_by w o) (told_by_outcome w o)) → P (stepped w e fate).state (stepped w e fate).items
-each_outcome P w h e fate both each =
-    let (o, state, items, at, due) = comes_by w h e fate both in
-    subst (λ (v : State). P v (stepped w e fate).items) (sym state) (subst (λ (items : List Item). P (left_by w o) items) (sym items) (each o))
+each_outcome P w h e fate both each = each_of_event P w e fate (parts_fit w h both.holds both.sound) each
 
 -- each refusal that an event tells says what is the case
 pub dues : (w : State) (h : List Item) (e : Event) (fate : Fate) → Stands w h → AreDue w (stepped w e fate).items

@@ -15,3 +15,4 @@ pub mod InversionOfSteps
 pub mod InversionOfPlacings
 pub mod InversionOfWork
 pub mod Inversion
+pub mod EachOutcome

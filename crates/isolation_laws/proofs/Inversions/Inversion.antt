@@ -12,7 +12,7 @@ use Rattle.isolation_laws.specs.Holds.{Holds}
 use Rattle.isolation_laws.specs.Sound.{Sound}
 use Rattle.isolation_laws.proofs.Inversions.StepsFitting.{steps_fit}
 
-parts_fit : (w : State) (h : List Item) → Holds w h → Sound w → Fits w
+pub parts_fit : (w : State) (h : List Item) → Holds w h → Sound w → Fits w
 parts_fit w h holds sound = record {
   stops = sound.stops;
   own = record { own = holds.requests.requests.own };
