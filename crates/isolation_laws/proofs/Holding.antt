@@ -2,6 +2,8 @@
 -- What outcomes leave alone, what histories have, and what follows.
 pub mod Frames
 pub mod Framed
+pub mod Alone
+pub mod LeftAlone
 pub mod Calmed
 pub mod IsolatedItems
 pub mod IsolatedStamps

@@ -26,7 +26,7 @@ use Rattle.isolation_laws.proofs.Stores.CellsStay.{cells_shadow}
 use Rattle.isolation_laws.proofs.Stores.StoreMoves.{AskFits, never_live, cells_stepped}
 use Rattle.isolation_laws.proofs.Stores.CompletionSteps.{sweep_fits}
 use Rattle.isolation_laws.proofs.UnderWay.SessionMoves.{cells_may_mark, under_way_same}
-use Rattle.isolation_laws.proofs.Stores.StoresStay.{marks_same, marks_after, marks_may, marks_if, shadows_same, shadows_if, shadows_set, FillsPlaced, shadows_after, completed_fills, swept_fills}
+use Rattle.isolation_laws.proofs.Stores.StoresStay.{shadows_same, shadows_if, shadows_set, FillsPlaced, shadows_after, completed_fills, swept_fills}
 use Rattle.isolation_laws.proofs.Reading.ReadsStay.{shadows_failed}
 use Rattle.isolation_laws.proofs.Requests.Silent.{silent_quiet}
 use Rattle.isolation_laws.proofs.Requests.RequestsKept.{Leaves, requests_silent}
@@ -47,7 +47,7 @@ use Rattle.isolation_laws.proofs.Holding.Frames.{NodesFrame, nodes_stay, nodes_a
 -- ---- stores
 -- the table may have got a mark
 stores_marked : (w : State) (h : List Item) (pairs : Pairs) → MayHaveMarked w.pairs pairs → Holds w h → StoresFrame w h w.rows pairs
-stores_marked w h pairs marked holds = record { cells = cells_may_mark w h pairs holds marked; shadows = shadows_same h w.rows; marks = marks_may w.pairs pairs marked }
+stores_marked w h pairs marked holds = record { cells = cells_may_mark w h pairs holds marked; shadows = shadows_same h w.rows }
 
 -- a step on the stores may have been made
 cells_if : (w : State) (h : List Item) (asked : Ask) (applied : Bool) → Holds w h → AskFits w h asked → CellFacts w.clients w.nodes (if applied then rows_after asked w.rows else w.rows) (if applied then pairs_after asked w.pairs else w.pairs) h
@@ -58,7 +58,6 @@ stores_if : (w : State) (h : List Item) (asked : Ask) (applied : Bool) → Holds
 stores_if w h asked applied holds fits fills = record {
   cells = cells_if w h asked applied holds fits;
   shadows = shadows_if h w.rows (rows_after asked w.rows) applied (shadows_after h w.rows asked holds.isolated.stamped fills);
-  marks = marks_if w.pairs (pairs_after asked w.pairs) applied (marks_after asked w.pairs);
 }
 
 -- the ask of a resolve changes no cell
@@ -78,7 +77,7 @@ pub settle_cells : (w : State) (h : List Item) (x : Settling) → Holds w h → 
 settle_cells w h x holds = subst (λ (rows : List Row). CellFacts w.clients w.nodes rows (pairs_after (settle_ask x) w.pairs) h) (ask_rows w.rows x.key x.txn x.point) (cells_stepped w h (settle_ask x) holds (ask_fits w h x.key x.txn x.point))
 
 stores_settled : (w : State) (h : List Item) (x : Settling) → Holds w h → StoresFrame w h w.rows (pairs_after (settle_ask x) w.pairs)
-stores_settled w h x holds = record { cells = settle_cells w h x holds; shadows = shadows_same h w.rows; marks = marks_after (settle_ask x) w.pairs }
+stores_settled w h x holds = record { cells = settle_cells w h x holds; shadows = shadows_same h w.rows }
 
 -- an offered shadow may have been set
 healed_cells : (w : State) (h : List Item) (k : Healed w) (applied : Bool) → Holds w h → CellFacts w.clients w.nodes (if applied then with_shadow w.rows k.key k.version k.commit else w.rows) w.pairs h
@@ -89,7 +88,6 @@ stores_healed : (w : State) (h : List Item) (k : Healed w) → Holds w h → Sto
 stores_healed w h k holds = record {
   cells = healed_cells w h k k.applied holds;
   shadows = shadows_if h w.rows (with_shadow w.rows k.key k.version k.commit) k.applied (shadows_set h w.rows k.key k.version k.commit holds.isolated.stamped (heal_placed w h k holds));
-  marks = marks_same w.pairs;
 }
 
 -- ---- which outcomes have a frame
@@ -143,7 +141,6 @@ framed w h (OfWriteFailed k) holds is = record {
   pending = (leaves_write_failed w h k holds).pending;
   clients = record { opened = (leaves_write_failed w h k holds).opened; reading = reading_after w (OfWriteFailed k) refl };
   shadows = shadows_failed w h k holds;
-  marks = marks_same w.pairs;
   cells = cells_write_failed w h k holds;
   requests = requests_silent w h (h ++ k.items) _ _ (silent_quiet h k.items k.quiet) (leaves_write_failed w h k holds) holds;
   under_way = under_way_write_failed w h k holds;

@@ -13,16 +13,14 @@ use Rattle.isolation_laws.specs.Words.{InstanceAt}
 use Rattle.machine.specs.Quiet.{AllQuiet}
 use Rattle.isolation_laws.specs.Numbers.{NumberFacts}
 use Rattle.isolation_laws.specs.Requests.{RequestFacts}
-use Rattle.isolation_laws.specs.Memory.{MemoryFacts}
 use Rattle.isolation_laws.specs.Cells.{CellFacts}
 use Rattle.isolation_laws.specs.UnderWay.{UnderWayFacts}
-use Rattle.isolation_laws.specs.Begins.{BeginFacts}
 use Rattle.isolation_laws.specs.Holds.{Holds}
 use Rattle.machine.specs.Outcome.OutcomesOfRecord.{AlikeNodes}
 use Rattle.machine.specs.Outcome.OutcomesOfStamps.{AtDrawn, settled_nodes}
 use Rattle.isolation_laws.proofs.Numbers.NumbersStay.{SameNumbers, numbered_same, numbered_alike, numbered_ended, numbered_set, numbered}
 use Rattle.isolation_laws.proofs.Numbers.NumbersKept.{quiet_one}
-use Rattle.isolation_laws.proofs.Memory.MemoryStays.{SameMemory, remembered_same, remembered_alike, remembered_ended, remembered_set, nothing_quiet, memory_same}
+use Rattle.isolation_laws.proofs.Memory.MemoryStays.{SameMemory, remembered_same, remembered_alike, remembered_ended, remembered_set}
 use Rattle.isolation_laws.proofs.Requests.PendingAfter.{FewerPending}
 use Rattle.isolation_laws.proofs.Requests.RequestsAfter.{FewerHeld, held_ended_at, held_changed, held_over}
 use Rattle.isolation_laws.proofs.Requests.CommitsInFlight.{FewerStanding, IsAcceptedNow, IsDrawnNow}
@@ -32,10 +30,7 @@ use Rattle.isolation_laws.proofs.Reading.ClientsReading.{FewerReading, same_read
 use Rattle.isolation_laws.proofs.Stores.LiveAfter.{FewerLive, fewer_live}
 use Rattle.isolation_laws.proofs.Stores.Calm.{calm_quiet}
 use Rattle.isolation_laws.proofs.Stores.CellsStay.{cells_calm}
-use Rattle.isolation_laws.proofs.Requests.AsksBefore.{AsksNothing, quiet_no_ask}
-use Rattle.isolation_laws.proofs.Requests.FreshBegins.{begins_of, fresh_fewer}
-use Rattle.isolation_laws.proofs.Requests.SettledBelow.{numbers_keep, below_fewer}
-use Rattle.isolation_laws.proofs.Stores.StoresStay.{ShadowsStay, shadows_same, MarksStay, marks_same}
+use Rattle.isolation_laws.proofs.Stores.StoresStay.{ShadowsStay, shadows_same}
 
 -- ---- nodes: no instance is new or has other numbers, and no request is new or has gone on to a stamp
 pub record NodesFrame (old new : List (Option InstanceEntry)) : Type 0 where
@@ -101,14 +96,13 @@ pub record ClientsFrame (old new : List Client) : Type 0 where
 pub clients_stay : (clients : List Client) → ClientsFrame clients clients
 clients_stay clients = record { opened = (same_at_work clients).opened; reading = same_reading clients }
 
--- ---- stores: shadows and marks stay, and the cells fit what was there before
+-- ---- stores: shadows stay, and the cells fit what was there before
 pub record StoresFrame (w : State) (h : List Item) (rows : List Row) (pairs : Pairs) : Type 0 where
   pub cells : CellFacts w.clients w.nodes rows pairs h
   pub shadows : ShadowsStay h w.rows rows
-  pub marks : MarksStay w.pairs pairs
 
 pub stores_stay : (w : State) (h : List Item) → Holds w h → StoresFrame w h w.rows w.pairs
-stores_stay w h holds = record { cells = holds.cells; shadows = shadows_same h w.rows; marks = marks_same w.pairs }
+stores_stay w h holds = record { cells = holds.cells; shadows = shadows_same h w.rows }
 
 -- ---- all of them, with items that no fact reads
 pub record Frame (w : State) (h : List Item) (left : State) (items : List Item) : Type 0 where
@@ -118,7 +112,6 @@ pub record Frame (w : State) (h : List Item) (left : State) (items : List Item) 
   pub pending : FewerPending w.clients w.nodes left.clients left.nodes
   pub clients : ClientsFrame w.clients left.clients
   pub shadows : ShadowsStay h w.rows left.rows
-  pub marks : MarksStay w.pairs left.pairs
   pub cells : CellFacts left.clients left.nodes left.rows left.pairs (h ++ items)
   pub requests : RequestFacts w.setup left.nodes left.clients (h ++ items)
   pub under_way : UnderWayFacts left.clients left.sweep left.rows left.pairs (h ++ items)
@@ -131,7 +124,6 @@ frame w h left items quiet up nodes pending clients stores requests under_way = 
   pending = pending;
   clients = clients;
   shadows = stores.shadows;
-  marks = stores.marks;
   cells = cells_calm w.clients left.clients w.nodes left.nodes left.rows left.pairs h (h ++ items) (λ t live. inl (fewer_live w.clients left.clients w.nodes left.nodes clients.opened pending t live)) (calm_quiet h items quiet) stores.cells;
   requests = requests;
   under_way = under_way;
@@ -140,19 +132,6 @@ frame w h left items quiet up nodes pending clients stores requests under_way = 
 -- ---- each group of facts is kept by a frame
 pub numbers_framed : (w : State) (h : List Item) (left : State) (items : List Item) → Frame w h left items → Holds w h → NumberFacts w.setup left.seen left.nodes w.master (h ++ items)
 numbers_framed w h left items f holds = quiet_one w h left.nodes left.seen items f.nodes.numbers f.up f.quiet holds
-
-pub memory_framed : (w : State) (h : List Item) (left : State) (items : List Item) → Frame w h left items → Holds w h → MemoryFacts w.setup left.nodes (h ++ items)
-memory_framed w h left items f holds = memory_same w.setup w.nodes left.nodes h (h ++ items) f.nodes.memory (nothing_quiet h items f.quiet) holds.memory
-
--- also behind items that are no asks for a start
-pub begins_on : (w : State) (h items : List Item) (nodes : List (Option InstanceEntry)) (clients : List Client) → NodesFrame w.nodes nodes → FewerOpen w.clients clients → ((s : ℕ) → AsksNothing s items) → Holds w h → BeginFacts w.setup clients nodes (h ++ items)
-begins_on w h items nodes clients kept opens none holds = record {
-  fresh = fresh_fewer w.nodes nodes h items (begins_of w.nodes nodes kept.held) kept.accepted kept.drawn none holds.begins.fresh;
-  below = λ flag. below_fewer w.clients clients w.nodes nodes opens (numbers_keep w.nodes nodes kept.numbers) kept.drawn (holds.begins.below flag);
-}
-
-pub begins_framed : (w : State) (h : List Item) (left : State) (items : List Item) → Frame w h left items → Holds w h → BeginFacts w.setup left.clients left.nodes (h ++ items)
-begins_framed w h left items f holds = begins_on w h items left.nodes left.clients f.nodes f.clients.opened (λ s. quiet_no_ask s items f.quiet) holds
 
 pub live_framed : (w : State) (h : List Item) (left : State) (items : List Item) → Frame w h left items → FewerLive w.clients w.nodes left.clients left.nodes
 live_framed w h left items f = fewer_live w.clients left.clients w.nodes left.nodes f.clients.opened f.pending

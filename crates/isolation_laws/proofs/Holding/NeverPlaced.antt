@@ -1,6 +1,5 @@
 -- An outcome places nothing that is marked before it is placed, and nothing that is neither open nor in flight.
-use Rattle.isolation_laws.proofs.Requests.ClientMoves.{at_work_after}
-use Rattle.machine.specs.Outcome.Outcomes.{OfAskedBegin, OfOwnPlaced, Outcome, OfDrew, OfPlaced, OfAnsweredBegin, OfWrote, OfFetched, OfReadDropped, OfReadStepped, OfOutcome, OfOutcomeFailed, OfCompleted, OfSwept, OfSweepListed, OfSweepFailed, left_by, told_by_outcome}
+use Rattle.machine.specs.Outcome.Outcomes.{Outcome, OfPlaced, OfOwnPlaced, OfAnsweredBegin, OfReadDropped, OfReadStepped, OfOutcome, OfOutcomeFailed, OfCompleted, OfSwept, OfSweepFailed, left_by, told_by_outcome}
 use Rattle.std.proofs.Common.{◌≡◌, ℕ, List, [], ◌∷◌, ◌++◌, append_assoc, ◌⊎◌, inl, inr, refl, sym, ◌∙◌, ap, subst}
 use Rattle.std.proofs.lemmas.Option.{none-some}
 use Rattle.stamp_base.specs.declared.stores.Mark.TheVariants.{Invalid as InvalidMark}
@@ -20,13 +19,11 @@ use Rattle.isolation_laws.specs.Laws.{IsMarkedFirst, IsLost}
 use Rattle.isolation_laws.proofs.Pushed.{old_placed}
 use Rattle.isolation_laws.proofs.Holding.IsolatedItems.{Stamping, StampsNone, StampsPlaced, StampsBegin, stamping, placed_old}
 use Rattle.isolation_laws.proofs.Stores.StoresStay.{MarksStay, marks_put, marks_after, marks_may, marks_if}
-use Rattle.isolation_laws.proofs.Requests.PendingFewer.{pending_asked_begin, fewer_settled}
-use Rattle.isolation_laws.proofs.Requests.OpenAfter.{at_work_wrote, at_work_fetched, at_work_read}
-use Rattle.isolation_laws.proofs.Stores.LiveAfter.{fewer_live, live_by_clients, live_by_nodes, live_drew, live_answered_begin}
+use Rattle.isolation_laws.proofs.Stores.LiveAfter.{live_answered_begin}
 use Rattle.isolation_laws.proofs.Numbers.Placings.{PlacedPending, placed_item, placed_live}
 use Rattle.machine.specs.Quiet.{AllQuiet}
 use Rattle.isolation_laws.proofs.Requests.RequestsOfBegins.{start_unbegun}
-use Rattle.isolation_laws.proofs.Holding.Calmed.{calmed}
+use Rattle.isolation_laws.proofs.Holding.LeftAlone.{alone}
 
 -- ---- what an outcome places
 placed_same : (t c u d : ℕ) → Placed t c ≡ Placed u d → t ≡ u
@@ -56,7 +53,7 @@ placed_by w h items t c (StampsPlaced p rest quiet is) m = elim (placed_first w 
 placed_by w h items t c (StampsBegin k is) m = inl (begin_places h k.session k.start t c (subst (λ (xs : List Item). Committed (h ++ xs) t c) is m))
 
 -- ---- marks stay
-marks_kept : (w : State) (o : Outcome w) → MarksStay w.pairs (left_by w o).pairs
+pub marks_kept : (w : State) (o : Outcome w) → MarksStay w.pairs (left_by w o).pairs
 marks_kept w (OfPlaced k) = marks_put w.pairs k.it.start _
 marks_kept w (OfOwnPlaced k) = marks_put w.pairs k.it.start _
 marks_kept w (OfReadDropped k) = marks_may w.pairs k.pairs k.pairs_are
@@ -70,19 +67,11 @@ marks_kept w _ = λ u marked. marked
 
 -- ---- nothing becomes live again
 live_kept : (w : State) (h : List Item) (o : Outcome w) (s t : ℕ) → Holds w h → Begun h s t → Live (left_by w o).clients (left_by w o).nodes t → Live w.clients w.nodes t
-live_kept w h (OfAskedBegin k) s t holds begun live = fewer_live w.clients _ w.nodes _ (at_work_after w (OfAskedBegin k) refl).opened (pending_asked_begin w k) t live
-live_kept w h (OfDrew k) s t holds begun live = live_drew w k t live
-live_kept w h (OfPlaced k) s t holds begun live = live_by_nodes w.clients w.nodes _ (fewer_settled w k.it k.by) t live
-live_kept w h (OfOwnPlaced k) s t holds begun live = live_by_clients w.clients _ w.nodes (at_work_after w (OfOwnPlaced k) refl) t live
 live_kept w h (OfAnsweredBegin k) s t holds begun live = elim (live_answered_begin w k t live) [
   | inl old ↦ old
   | inr now ↦ absurd (start_unbegun w h k s holds (subst (Begun h s) now begun))
 ]
-live_kept w h (OfWrote k) s t holds begun live = live_by_clients w.clients _ w.nodes (at_work_wrote w k) t live
-live_kept w h (OfFetched k) s t holds begun live = live_by_clients w.clients _ w.nodes (at_work_fetched w k) t live
-live_kept w h (OfReadStepped k) s t holds begun live = live_by_clients w.clients _ w.nodes (at_work_read w k) t live
-live_kept w h (OfSweepListed k) s t holds begun live = live
-live_kept w h o s t holds begun live = (calmed w h o holds refl).live t live
+live_kept w h o s t holds begun live = (alone w h o holds).live refl t live
 
 -- ---- one outcome
 no_mark : (w : State) (p : PlacedPending w) (t : ℕ) → Marked w.pairs t → t ≡ p.coming.start → ⊥

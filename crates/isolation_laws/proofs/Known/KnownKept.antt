@@ -1,6 +1,5 @@
 -- Every outcome keeps it so that what clients remember is true, and that the cells of their reads were written.
-use Rattle.isolation_laws.proofs.Requests.ClientMoves.{reading_after}
-use Rattle.machine.specs.Outcome.Outcomes.{OfAskedBegin, OfOwnPlaced, Outcome, OfDrew, OfPlaced, OfAnsweredBegin, OfWrote, OfVanished, OfFetched, OfReadDropped, OfReadStepped, OfSweepListed, left_by, told_by_outcome}
+use Rattle.machine.specs.Outcome.Outcomes.{Outcome, OfVanished, OfFetched, OfReadDropped, OfReadStepped, left_by, told_by_outcome}
 use Rattle.std.proofs.Common.{◌≡◌, ℕ, All, List, ◌∷◌, ◌++◌, inl, inr, refl, sym, ◌∙◌, ap, subst}
 use Rattle.std.specs.Prelude.{slice_set}
 use Rattle.std.proofs.lemmas.List.Elements.{All-weaker}
@@ -23,14 +22,14 @@ use Rattle.isolation_laws.specs.Known.{IsTrueOf, IsTrueCache, AreKnown, IsWritte
 use Rattle.isolation_laws.specs.Holds.{Holds}
 use Rattle.machine.proofs.Lookups.{client_set}
 use Rattle.machine.specs.Outcome.OutcomesOfWork.{fetched_recall, fetched_turn, fetched_client, fetched_items, read_recall, read_turn, read_client, read_stepped_items}
-use Rattle.isolation_laws.proofs.Reading.ClientsReading.{FewerReading, nothing_reads, same_reading, reading_answered_begin, reading_wrote}
+use Rattle.isolation_laws.proofs.Reading.ClientsReading.{FewerReading, nothing_reads}
 use Rattle.isolation_laws.proofs.Reading.FirstReads.{wrote_on}
 use Rattle.isolation_laws.proofs.Reading.KeptReads.{SameCaches, read_remembers, caches_keep}
 use Rattle.isolation_laws.proofs.Reading.ReadsLonger.{reads_same}
 use Rattle.isolation_laws.proofs.Reading.ReadsOfReads.{stepped_right, fetched_good}
 use Rattle.isolation_laws.proofs.Reading.ReadSetsOfTurns.{IsTurnOf, fetched_recall_of, told_recall_of}
 use Rattle.isolation_laws.proofs.Stores.Calm.{calm_turn}
-use Rattle.isolation_laws.proofs.Holding.Calmed.{calmed}
+use Rattle.isolation_laws.proofs.Holding.LeftAlone.{alone}
 use Rattle.isolation_laws.proofs.Holding.NeverPlaced.{marked_outcome, lost_outcome}
 use Rattle.isolation_laws.proofs.Known.TrueCaches.{true_new, true_put, true_on, true_longer}
 use Rattle.isolation_laws.proofs.Known.WrittenCells.{AsksAmong, fetched_among, told_among, front_written}
@@ -106,13 +105,6 @@ written_turn w h o s b j c turn holds is of among = record {
 }
 
 written_after : (w : State) (h : List Item) (o : Outcome w) → Holds w h → AreWrittenCells (left_by w o).clients (left_by w o).nodes (h ++ told_by_outcome w o)
-written_after w h (OfAskedBegin k) holds = written_fewer w h (OfAskedBegin k) (reading_after w (OfAskedBegin k) refl) holds
-written_after w h (OfDrew k) holds = written_fewer w h (OfDrew k) (same_reading w.clients) holds
-written_after w h (OfPlaced k) holds = written_fewer w h (OfPlaced k) (same_reading w.clients) holds
-written_after w h (OfOwnPlaced k) holds = written_fewer w h (OfOwnPlaced k) (reading_after w (OfOwnPlaced k) refl) holds
-written_after w h (OfAnsweredBegin k) holds = written_fewer w h (OfAnsweredBegin k) (reading_answered_begin w k) holds
-written_after w h (OfWrote k) holds = written_fewer w h (OfWrote k) (reading_wrote w k) holds
-written_after w h (OfSweepListed k) holds = written_fewer w h (OfSweepListed k) (same_reading w.clients) holds
 written_after w h (OfFetched k) holds =
     let cells : List Cell = front_of k.start (fetched w.rows k.key k.start) in
     written_turn w h (OfFetched k) k.it.session k.start k.key (fetched_client w k) (fetched_turn w k) holds refl
@@ -124,7 +116,7 @@ written_after w h (OfReadStepped k) holds =
     written_turn w h (OfReadStepped k) k.session k.r.start k.r.key (read_client w k) (read_turn w k) holds refl
     (told_recall_of cache k.r told)
     (told_among (IsWrittenCell w.clients w.nodes h k.r.key) cache k.r told (holds.known.written.written k.session k.c k.r k.client_at k.under_way))
-written_after w h o holds = written_fewer w h o (calmed w h o holds refl).reading holds
+written_after w h o holds = written_fewer w h o ((alone w h o holds).clients.reading refl) holds
 
 -- ---- both
 pub known_kept : (w : State) (h : List Item) (o : Outcome w) → Holds w h → KnownFacts (left_by w o).clients (left_by w o).nodes (left_by w o).pairs (h ++ told_by_outcome w o)

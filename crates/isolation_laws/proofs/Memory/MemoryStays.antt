@@ -4,6 +4,7 @@ use Rattle.std.specs.Prelude.{slice_set}
 use Rattle.std.specs.Option.{option_or}
 use Rattle.std.proofs.lemmas.Bool.{cases_Bool, eqb-true}
 use Rattle.std.proofs.lemmas.List.{append-nil}
+use Rattle.std.proofs.lemmas.List.Elements.{All-nil}
 use Rattle.history_book.specs.Isolation.{Wrote, last_write, written_by}
 use Rattle.history_book.specs.declared.item.Found.{Found}
 use Rattle.history_book.specs.declared.item.Item.{Item}
@@ -11,15 +12,18 @@ use Rattle.history_book.specs.declared.item.Item.TheVariants.{Draw, Write, Read}
 use Rattle.history_book.proofs.HistoryLemmas.{last_write-push}
 use Rattle.history_book.proofs.MemberLemmas.{in_old}
 use Rattle.stamp_base.specs.SetupNumbers.{SetupNumbers}
+use Rattle.client_parts.specs.KeyRead.{ReadTurn, Asks, Answers}
 use Rattle.oracle_parts.specs.Buckets.{contents}
 use Rattle.oracle_parts.specs.Instance.{InstanceEntry}
 use Rattle.isolation_laws.specs.Words.{InstanceAt, DrewCommit, HasDrawn, keys_with, written_keys, recorded_by, recorded}
-use Rattle.machine.specs.Quiet.{AllQuiet}
+use Rattle.machine.specs.Events.Fetch.{read_items, found_of}
+use Rattle.machine.specs.Quiet.{Quiet, AllQuiet}
 use Rattle.isolation_laws.specs.ReadSets.{ReadFirst}
 use Rattle.isolation_laws.specs.Memory.{AreRecorded, DrawnSerial, MemoryFacts}
 use Rattle.machine.proofs.Lookups.{instance_changed, instance_ended}
+use Rattle.machine.proofs.Outcome.QuietItems.{one_quiet}
 use Rattle.machine.specs.Outcome.OutcomesOfRecord.{AlikeNodes}
-use Rattle.isolation_laws.proofs.Numbers.NumbersOfItems.{NoDraw}
+use Rattle.isolation_laws.proofs.Numbers.NumbersOfItems.{NoDraw, write_is_no_draw, read_is_no_draw}
 use Rattle.isolation_laws.proofs.Reading.ReadsStay.{quiet_no_reads}
 use Rattle.isolation_laws.proofs.Reading.FirstReads.{first_push, first_no_reads}
 use Rattle.isolation_laws.proofs.Pushed.{old_draw, drawn_on, last_write-quiet, written_keys-push, recorded-quiet, recorded-push}
@@ -124,6 +128,31 @@ nothing_push h x other undrawn unread = record {
 pub nothing_more : (h : List Item) (x : Item) (items : List Item) → NoDraw x → WritesUndrawn h x → ReadsUndrawn h x → AllQuiet items → RecordsNothing h (h ++ x ∷ items)
 nothing_more h x items other undrawn unread quiet =
     subst (λ all. RecordsNothing h all) (append_assoc h (x ∷ []) items) (nothing_twice h (h ++ x ∷ []) ((h ++ x ∷ []) ++ items) (nothing_push h x other undrawn unread) (nothing_quiet (h ++ x ∷ []) items quiet))
+
+-- what a read has come to, of a transaction that has drawn no commit
+read_start : (s b k r t key : ℕ) (answer other : Option Found) → Read s b k answer ≡ Read r t key other → b ≡ t
+read_start s b k r t key answer other same = cc
+
+nothing_read : (h : List Item) (s b k : ℕ) (turn : ReadTurn) → (HasDrawn h b → ⊥) → RecordsNothing h (h ++ read_items s b k turn)
+nothing_read h s b k (Asks x) undrawn = nothing_quiet h [] (All-nil Quiet)
+nothing_read h s b k (Answers a) undrawn =
+    nothing_push h (Read s b k (found_of a.found)) (read_is_no_draw s b k (found_of a.found)) (λ r t key value is. absurd (cc))
+    (λ r t key answer is drew. undrawn (subst (HasDrawn h) (sym (read_start s b k r t key (found_of a.found) answer is)) drew))
+
+pub nothing_turn : (h : List Item) (x : Item) (s b k : ℕ) (turn : ReadTurn) → Quiet x → (HasDrawn h b → ⊥) → RecordsNothing h (h ++ x ∷ read_items s b k turn)
+nothing_turn h x s b k turn quiet undrawn =
+    let one : RecordsNothing h (h ++ x ∷ []) = nothing_quiet h (x ∷ []) (one_quiet x quiet) in
+    subst (λ all. RecordsNothing h all) (append_assoc h (x ∷ []) (read_items s b k turn))
+    (nothing_twice h (h ++ x ∷ []) ((h ++ x ∷ []) ++ read_items s b k turn) one (nothing_read (h ++ x ∷ []) s b k turn (λ drew. undrawn (drew.0, drew.1, drew.2, drew.3, one.drew drew.0 drew.1 drew.2 b drew.3 drew.4))))
+
+-- and what it writes
+write_start : (s t k r u key : ℕ) (v x : List ℕ) → Write s t k v ≡ Write r u key x → t ≡ u
+write_start s t k r u key v x same = cc
+
+pub nothing_write : (h : List Item) (s t k : ℕ) (value : List ℕ) → (HasDrawn h t → ⊥) → RecordsNothing h (h ++ Write s t k value ∷ [])
+nothing_write h s t k value undrawn =
+    nothing_push h (Write s t k value) (write_is_no_draw s t k value) (λ r u key x is drew. undrawn (subst (HasDrawn h) (sym (write_start s t k r u key value x is)) drew))
+    (λ r u key answer is. absurd (cc))
 
 -- ---- the facts
 has_drawn : (h : List Item) (s n term t c : ℕ) → DrewCommit h s n term t c → HasDrawn h t

@@ -32,9 +32,6 @@ module _ {X : Type 0} (part : List ℕ → Cache → X) where
   abbrev pub SameParts : List Client → List Client → Type 0
   SameParts old new = (s : ℕ) (c : Client) → ClientAt new s c → (d : Client) × ClientAt old s d × SamePart c d
 
-  same_parts : (clients : List Client) → SameParts clients clients
-  same_parts clients s c at = (c, at, refl)
-
   same_set : (clients : List Client) (s : ℕ) (old new : Client) → ClientAt clients s old → SamePart new old → SameParts clients (slice_set clients s new)
   same_set clients s old new at same r c there = elim (client_set clients s r new c there) [
     | inl here ↦ (old, subst (λ q. ClientAt clients q old) (sym here.0) at, ap (λ (x : Client). part x.reads x.cache) here.1 ∙ same)
@@ -71,9 +68,6 @@ the_reads reads cache = reads
 
 abbrev pub SameReads : List Client → List Client → Type 0
 SameReads old new = SameParts the_reads old new
-
-pub same_reads : (clients : List Client) → SameReads clients clients
-same_reads clients = same_parts the_reads clients
 
 pub read_keeps : (c : Client) (turn : ReadTurn) → (client_read c turn).reads ≡ c.reads
 read_keeps c turn = turn_keeps the_reads c turn

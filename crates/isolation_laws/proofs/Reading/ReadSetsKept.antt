@@ -1,18 +1,13 @@
 -- Every outcome keeps the read sets.
-use Rattle.isolation_laws.proofs.Requests.ClientMoves.{at_work_after, reading_after}
-use Rattle.machine.specs.Outcome.Outcomes.{OfOwnPlaced, Outcome, OfGranted, OfRenewed, OfExtended, OfAskedBegin, OfAskedCommit, OfAccepted, OfDrew, OfPlaced, OfAnsweredBegin, OfWrote, OfFetched, OfReadStepped, OfSweepListed, left_by, told_by_outcome}
-use Rattle.std.proofs.Common.{◌≡◌, ℕ, ◌+◌, Bool, true, false, if◌then◌else◌, List, ◌++◌, Option, ◌⊎◌, inl, inr, refl, subst, Contains}
+use Rattle.machine.specs.Outcome.Outcomes.{Outcome, OfAskedBegin, OfAskedCommit, OfAnsweredBegin, OfFetched, OfReadStepped, left_by, told_by_outcome}
+use Rattle.std.proofs.Common.{◌≡◌, ℕ, ◌+◌, Bool, true, false, if◌then◌else◌, List, ◌++◌, ◌⊎◌, inl, inr, refl, subst, Contains}
 use Rattle.std.proofs.lemmas.Bool.{cases_Bool}
 use Rattle.history_book.specs.Members.{◌∈◌}
-use Rattle.history_book.specs.declared.item.Actor.TheVariants.{Janitor}
-use Rattle.history_book.specs.declared.item.StoreStep.TheVariants.{Keys as KeysStep}
 use Rattle.history_book.specs.declared.item.Item.{Item}
-use Rattle.history_book.specs.declared.item.Item.TheVariants.{Write, Placed, Step}
 use Rattle.stamp_base.specs.SetupNumbers.{SetupNumbers}
 use Rattle.client_parts.specs.SessionSteps.{has_key, key_added}
 use Rattle.client_parts.specs.KeyRead.{read_ask}
 use Rattle.client_parts.specs.Cache.{put_fresh}
-use Rattle.oracle_parts.specs.Instance.{InstanceEntry}
 use Rattle.store_parts.specs.Rows.{fetched, front_of}
 use Rattle.machine.specs.State.{Client, State}
 use Rattle.machine.specs.StoreSteps.{told_by}
@@ -20,21 +15,14 @@ use Rattle.machine.specs.Events.Fetch.{marks_every, keeps_read, reads_after}
 use Rattle.isolation_laws.specs.ReadSets.{AreReadSets}
 use Rattle.isolation_laws.specs.Holds.{Holds}
 use Rattle.machine.specs.Outcome.OutcomesOfWork.{Fetched, fetched_turn, fetched_client, fetched_state, fetched_items, ReadStepped, read_turn, read_client, read_stepped_state, read_stepped_items}
-use Rattle.isolation_laws.proofs.Requests.ClientsOpen.{same_at_work}
-use Rattle.isolation_laws.proofs.Requests.OpenAfter.{at_work_wrote}
-use Rattle.isolation_laws.proofs.Requests.RequestsAfter.{FewerHeld}
-use Rattle.isolation_laws.proofs.Requests.Standing.{held_same, held_granted, held_renewed, held_extended, held_accepted, held_drew, held_settled}
 use Rattle.isolation_laws.proofs.Requests.WrittenKeys.{has_key_in, key_was_written}
 use Rattle.isolation_laws.proofs.Memory.RecordedCommits.{added_there, added_keeps}
-use Rattle.isolation_laws.proofs.Reading.ClientsReading.{same_reading, reading_wrote}
-use Rattle.isolation_laws.proofs.Reading.ReadsStay.{NoReads, quiet_no_reads, then_no_reads, one_no_reads, draw_no_reads}
 use Rattle.isolation_laws.proofs.Reading.ReadsOfReads.{fetched_open, stepped_open}
-use Rattle.isolation_laws.proofs.Reading.KeptReads.{SameReads, same_reads, reads_keep}
-use Rattle.isolation_laws.proofs.Reading.ReadSetsStay.{fewer_commits, read_sets_stay}
-use Rattle.isolation_laws.proofs.Reading.ReadSetsOfRequests.{none_more, sets_asked_begin, sets_asked_commit, sets_answered_begin}
+use Rattle.isolation_laws.proofs.Reading.KeptReads.{reads_keep}
+use Rattle.isolation_laws.proofs.Reading.ReadSetsOfRequests.{sets_asked_begin, sets_asked_commit, sets_answered_begin}
 use Rattle.isolation_laws.proofs.Reading.ReadSetsOfTurns.{KeepsMore, fetched_recall_of, told_recall_of, read_sets_turn}
-use Rattle.isolation_laws.proofs.Holding.Frames.{Frame}
-use Rattle.isolation_laws.proofs.Holding.Framed.{framed}
+use Rattle.isolation_laws.proofs.Holding.Alone.{read_sets_alone}
+use Rattle.isolation_laws.proofs.Holding.LeftAlone.{alone}
 
 -- ---- a fetch
 contains_if : (chosen : Bool) (keys : List ℕ) (key other : ℕ) → Contains keys other → Contains (if chosen then key_added keys key else keys) other
@@ -81,29 +69,11 @@ sets_stepped w h k holds =
     read_sets_turn w h k.first k.session k.r.start k.r.epoch k.r.key k.c (read_client w k) (read_turn w k) k.quiet k.client_at (stepped_open w h k holds) (stepped_more w h k holds)
     (told_recall_of _ k.r (told_by (read_ask k.r) w.rows w.pairs)) holds
 
--- ---- the clients stay
-by_nodes : (w : State) (h items : List Item) (nodes : List (Option InstanceEntry)) → NoReads items → FewerHeld w.nodes nodes → Holds w h → AreReadSets w.setup w.clients nodes (h ++ items)
-by_nodes w h items nodes none held holds = read_sets_stay w h items w.clients nodes (same_reads w.clients) (same_at_work w.clients).opened (same_reading w.clients) (fewer_commits w.nodes nodes held) (none_more h items none) holds
-
-by_frame : (w : State) (h : List Item) (left : State) (items : List Item) → Frame w h left items → SameReads w.clients left.clients → Holds w h → AreReadSets w.setup left.clients left.nodes (h ++ items)
-by_frame w h left items f same holds = read_sets_stay w h items left.clients left.nodes same f.clients.opened f.clients.reading (fewer_commits w.nodes left.nodes f.nodes.held) (none_more h items (quiet_no_reads items f.quiet)) holds
-
 -- ---- every outcome
 pub read_sets_kept : (w : State) (h : List Item) (o : Outcome w) → Holds w h → AreReadSets (left_by w o).setup (left_by w o).clients (left_by w o).nodes (h ++ told_by_outcome w o)
-read_sets_kept w h (OfGranted k) holds = by_nodes w h k.items _ (quiet_no_reads k.items k.quiet) (held_granted w k) holds
-read_sets_kept w h (OfRenewed k) holds = by_nodes w h k.items _ (quiet_no_reads k.items k.quiet) (held_renewed w k) holds
-read_sets_kept w h (OfExtended k) holds = by_nodes w h k.items _ (quiet_no_reads k.items k.quiet) (held_extended w k) holds
 read_sets_kept w h (OfAskedBegin k) holds = sets_asked_begin w h k holds
 read_sets_kept w h (OfAskedCommit k) holds = sets_asked_commit w h k holds
-read_sets_kept w h (OfAccepted k) holds = by_nodes w h k.items _ (quiet_no_reads k.items k.quiet) (held_accepted w k) holds
-read_sets_kept w h (OfDrew k) holds = by_nodes w h _ _ (draw_no_reads k.node k.i.term k.held.request (k.i.last + 1)) (held_drew w k) holds
-read_sets_kept w h (OfPlaced k) holds = by_nodes w h _ _ (then_no_reads (Placed k.it.start k.it.commit) k.items (λ s b key answer is. cc) (quiet_no_reads k.items k.quiet)) (held_settled w k.it k.by) holds
-read_sets_kept w h (OfOwnPlaced k) holds = read_sets_stay w h _ _ w.nodes (reads_keep w (OfOwnPlaced k) refl) (at_work_after w (OfOwnPlaced k) refl).opened (reading_after w (OfOwnPlaced k) refl) (fewer_commits w.nodes w.nodes (held_same w.nodes))
-    (none_more h _ (then_no_reads (Placed k.it.start k.it.commit) k.items (λ s b key answer is. cc) (quiet_no_reads k.items k.quiet))) holds
 read_sets_kept w h (OfAnsweredBegin k) holds = sets_answered_begin w h k holds
-read_sets_kept w h (OfWrote k) holds = read_sets_stay w h _ _ w.nodes (reads_keep w (OfWrote k) refl) (at_work_wrote w k).opened (reading_wrote w k) (fewer_commits w.nodes w.nodes (held_same w.nodes))
-    (none_more h _ (one_no_reads (Write k.it.session k.start k.key k.value) (λ s b key answer is. cc))) holds
 read_sets_kept w h (OfFetched k) holds = sets_fetched w h k holds
 read_sets_kept w h (OfReadStepped k) holds = sets_stepped w h k holds
-read_sets_kept w h (OfSweepListed k) holds = by_nodes w h _ w.nodes (one_no_reads (Step Janitor (KeysStep k.txn k.count)) (λ s b key answer is. cc)) (held_same w.nodes) holds
-read_sets_kept w h o holds = by_frame w h (left_by w o) (told_by_outcome w o) (framed w h o holds refl) (reads_keep w o refl) holds
+read_sets_kept w h o holds = read_sets_alone w h o (alone w h o holds) refl refl refl (reads_keep w o refl) holds

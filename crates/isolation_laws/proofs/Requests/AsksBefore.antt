@@ -4,7 +4,7 @@ use Rattle.std.proofs.lemmas.Bool.{cases_Bool, ne_eqb, eq-eqb}
 use Rattle.std.proofs.lemmas.List.Elements.{All-head, All-tail}
 use Rattle.history_book.specs.Isolation.{before_ask, has_ask, asks}
 use Rattle.history_book.specs.declared.item.Item.{Item}
-use Rattle.history_book.specs.declared.item.Item.TheVariants.{AskBegin, Placed}
+use Rattle.history_book.specs.declared.item.Item.TheVariants.{AskBegin}
 use Rattle.client_parts.specs.KeyRead.{ReadTurn, Asks, Answers}
 use Rattle.oracle_parts.specs.declared.instance.Request.{Request}
 use Rattle.oracle_parts.specs.declared.instance.Request.TheVariants.{Begin as BeginRequest, Commit}
@@ -26,9 +26,9 @@ unfolding has_ask
 quiet_no_ask s [] quiet = refl
 quiet_no_ask s (x ∷ items) quiet = rw (quiet_asks s x (All-head Quiet x items quiet), quiet_no_ask s items (All-tail Quiet x items quiet)) refl
 
-pub placed_no_ask : (s t c : ℕ) (items : List Item) → AllQuiet items → AsksNothing s (Placed t c ∷ items)
+pub then_no_ask : (s : ℕ) (x : Item) (items : List Item) → asks s x ≡ false → AllQuiet items → AsksNothing s (x ∷ items)
 unfolding has_ask
-placed_no_ask s t c items quiet = quiet_no_ask s items quiet
+then_no_ask s x items none quiet = rw (none, quiet_no_ask s items quiet) refl
 
 pub one_no_ask : (s : ℕ) (x : Item) → asks s x ≡ false → AsksNothing s (x ∷ [])
 unfolding has_ask

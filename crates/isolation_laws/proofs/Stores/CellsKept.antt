@@ -1,42 +1,25 @@
 -- Every outcome keeps the facts on the cells and the commit table.
-use Rattle.isolation_laws.proofs.Requests.ClientMoves.{at_work_after}
-use Rattle.machine.specs.Outcome.Outcomes.{OfAskedBegin, OfOwnPlaced, Outcome, OfDrew, OfPlaced, OfAnsweredBegin, OfWrote, OfFetched, OfReadStepped, OfSweepListed, left_by, told_by_outcome}
+use Rattle.machine.specs.Outcome.Outcomes.{OfOwnPlaced, Outcome, OfPlaced, OfAnsweredBegin, OfWrote, left_by, told_by_outcome}
 use Rattle.std.proofs.Common.{◌∷◌, ◌≡◌, ℕ, ◌+◌, List, ◌++◌, Option, Some, None, inl, inr, refl, ◌∙◌, ap}
 use Rattle.history_book.specs.Isolation.{last_write}
 use Rattle.history_book.specs.declared.item.Item.{Item}
 use Rattle.store_parts.specs.declared.rows.Cell.{Cell}
-use Rattle.store_parts.specs.Rows.{Row, looked}
-use Rattle.store_parts.specs.Pairs.{Pairs}
-use Rattle.client_parts.specs.KeyRead.{settling_of}
+use Rattle.store_parts.specs.Rows.{looked}
 use Rattle.oracle_parts.specs.Instance.{InstanceEntry}
 use Rattle.machine.specs.State.{Client, State}
 use Rattle.machine.specs.Quiet.{AllQuiet}
 use Rattle.isolation_laws.specs.Cells.{CellFacts}
 use Rattle.isolation_laws.specs.Holds.{Holds}
-use Rattle.isolation_laws.proofs.Holding.Framed.{settle_cells}
 use Rattle.isolation_laws.proofs.Numbers.Placings.{PlacedPending, placed_item, placed_pairs, placed_live, by_its_node, by_its_session}
-use Rattle.machine.specs.Outcome.OutcomesOfStamps.{Drew, drew_items, AnsweredBegin, answered_begin_state, answered_begin_items}
-use Rattle.machine.specs.Outcome.OutcomesOfWork.{read_turn, fetched_turn}
-use Rattle.isolation_laws.proofs.Requests.PendingFewer.{pending_asked_begin, fewer_settled}
-use Rattle.isolation_laws.proofs.Requests.OpenAfter.{at_work_fetched, at_work_read}
+use Rattle.machine.specs.Outcome.OutcomesOfStamps.{AnsweredBegin, answered_begin_state, answered_begin_items}
 use Rattle.isolation_laws.proofs.Requests.RequestsOfBegins.{start_unbegun}
-use Rattle.isolation_laws.proofs.Stores.LiveAfter.{FewerLive, fewer_live, same_live, live_by_clients, live_by_nodes, live_drew, live_answered_begin}
-use Rattle.isolation_laws.proofs.Stores.Calm.{Calm, calm_turn, calm_draw}
+use Rattle.isolation_laws.proofs.Stores.LiveAfter.{FewerLive, live_answered_begin}
 use Rattle.isolation_laws.proofs.Requests.WrittenKeys.{last_write-none}
 use Rattle.isolation_laws.proofs.Stores.CellsStay.{cells_calm}
 use Rattle.isolation_laws.proofs.Stores.CellsMove.{cells_placed}
-use Rattle.isolation_laws.proofs.UnderWay.UnderWayOfRequests.{calm_ask, calm_begin, is_placing}
-use Rattle.isolation_laws.proofs.UnderWay.UnderWayOfSweeps.{calm_listing}
+use Rattle.isolation_laws.proofs.UnderWay.UnderWayOfRequests.{calm_begin, is_placing}
 use Rattle.isolation_laws.proofs.UnderWay.WritesKept.{cells_wrote}
-use Rattle.isolation_laws.proofs.Holding.Calmed.{calmed}
-
--- ---- no more is live, and the history goes on
-goes : (w : State) (h g : List Item) (clients : List Client) (nodes : List (Option InstanceEntry)) (rows : List Row) (pairs : Pairs) → FewerLive w.clients w.nodes clients nodes → Calm h g → CellFacts w.clients w.nodes rows pairs h → CellFacts clients nodes rows pairs g
-goes w h g clients nodes rows pairs fewer calm facts = cells_calm w.clients clients w.nodes nodes rows pairs h g (λ t live. inl (fewer t live)) calm facts
-
--- ---- a stamp is drawn
-pub calm_drew : (w : State) (h : List Item) (k : Drew w) → Calm h (h ++ drew_items w k)
-calm_drew w h k = calm_draw h k.node k.i.term k.held.request (k.i.last + 1)
+use Rattle.isolation_laws.proofs.Holding.LeftAlone.{alone}
 
 -- ---- a begin is answered: its transaction has neither rows nor writes
 start_no_row : (w : State) (h : List Item) (k : AnsweredBegin w) (j : ℕ) → Holds w h → looked w.rows j k.start ≡ None
@@ -63,13 +46,8 @@ cells_placed_one w h p clients nodes items quiet fewer holds =
 
 -- ---- every outcome
 pub cells_kept : (w : State) (h : List Item) (o : Outcome w) → Holds w h → CellFacts (left_by w o).clients (left_by w o).nodes (left_by w o).rows (left_by w o).pairs (h ++ told_by_outcome w o)
-cells_kept w h (OfAskedBegin k) holds = goes w h _ _ _ w.rows w.pairs (fewer_live w.clients _ w.nodes _ (at_work_after w (OfAskedBegin k) refl).opened (pending_asked_begin w k)) (calm_ask h k.session k.node) holds.cells
-cells_kept w h (OfDrew k) holds = goes w h _ _ _ w.rows w.pairs (live_drew w k) (calm_drew w h k) holds.cells
-cells_kept w h (OfPlaced k) holds = cells_placed_one w h (by_its_node w h k holds) w.clients _ k.items k.quiet (live_by_nodes w.clients w.nodes _ (fewer_settled w k.it k.by)) holds
-cells_kept w h (OfOwnPlaced k) holds = cells_placed_one w h (by_its_session w k) _ w.nodes k.items k.quiet (live_by_clients w.clients _ w.nodes (at_work_after w (OfOwnPlaced k) refl)) holds
+cells_kept w h (OfPlaced k) holds = cells_placed_one w h (by_its_node w h k holds) w.clients _ k.items k.quiet ((alone w h (OfPlaced k) holds).live refl) holds
+cells_kept w h (OfOwnPlaced k) holds = cells_placed_one w h (by_its_session w k) _ w.nodes k.items k.quiet ((alone w h (OfOwnPlaced k) holds).live refl) holds
 cells_kept w h (OfAnsweredBegin k) holds = cells_answered_begin w h k holds
 cells_kept w h (OfWrote k) holds = cells_wrote w h k holds
-cells_kept w h (OfFetched k) holds = goes w h _ _ _ w.rows w.pairs (live_by_clients w.clients _ w.nodes (at_work_fetched w k)) (calm_turn h k.first k.it.session k.start k.key (fetched_turn w k) k.quiet) holds.cells
-cells_kept w h (OfReadStepped k) holds = goes w h _ _ _ w.rows _ (live_by_clients w.clients _ w.nodes (at_work_read w k)) (calm_turn h k.first k.session k.r.start k.r.key (read_turn w k) k.quiet) (settle_cells w h (settling_of k.r) holds)
-cells_kept w h (OfSweepListed k) holds = goes w h _ _ _ w.rows w.pairs (same_live w.clients w.nodes) (calm_listing h k.txn k.count) holds.cells
-cells_kept w h o holds = (calmed w h o holds refl).cells
+cells_kept w h o holds = (alone w h o holds).stores.cells refl refl

@@ -22,9 +22,6 @@ pub fewer_live : (clients new_clients : List Client) (nodes new_nodes : List (Op
 fewer_live clients new_clients nodes new_nodes opened pending t (inl o) = inl (fewer_is_open clients new_clients t opened o)
 fewer_live clients new_clients nodes new_nodes opened pending t (inr p) = inr (fewer_is_pending clients new_clients nodes new_nodes t pending p)
 
-pub same_live : (clients : List Client) (nodes : List (Option InstanceEntry)) → FewerLive clients nodes clients nodes
-same_live clients nodes t live = live
-
 -- the same commits in flight
 pub live_by_clients : (clients new_clients : List Client) (nodes : List (Option InstanceEntry)) → FewerAtWork clients new_clients → FewerLive clients nodes new_clients nodes
 live_by_clients clients new_clients nodes work = fewer_live clients new_clients nodes nodes work.opened (fewer_pending clients new_clients nodes nodes work.placing (λ q p. p))

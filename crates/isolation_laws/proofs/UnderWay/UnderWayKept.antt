@@ -6,7 +6,7 @@ use Rattle.isolation_laws.specs.UnderWay.{UnderWayFacts}
 use Rattle.isolation_laws.specs.Holds.{Holds}
 use Rattle.machine.specs.Outcome.Outcomes.{Outcome, OfAskedBegin, OfDrew, OfPlaced, OfOwnPlaced, OfAnsweredBegin, OfWrote, OfFetched, OfReadStepped, OfSweepListed, left_by, told_by_outcome}
 use Rattle.isolation_laws.proofs.UnderWay.SessionMoves.{under_way_same}
-use Rattle.isolation_laws.proofs.Stores.CellsKept.{calm_drew}
+use Rattle.isolation_laws.proofs.Holding.LeftAlone.{alone}
 use Rattle.isolation_laws.proofs.UnderWay.UnderWayOfRequests.{under_way_asked_begin, under_way_placed, under_way_answered_begin}
 use Rattle.isolation_laws.proofs.UnderWay.UnderWayOfPlacings.{under_way_own_placed}
 use Rattle.isolation_laws.proofs.UnderWay.UnderWayOfSessions.{under_way_fetched, under_way_read}
@@ -17,7 +17,7 @@ use Rattle.isolation_laws.proofs.Holding.Calmed.{calmed}
 
 pub under_way_kept : (w : State) (h : List Item) (o : Outcome w) → Holds w h → UnderWayFacts (left_by w o).clients (left_by w o).sweep (left_by w o).rows (left_by w o).pairs (h ++ told_by_outcome w o)
 under_way_kept w h (OfAskedBegin k) holds = under_way_asked_begin w h k holds
-under_way_kept w h (OfDrew k) holds = under_way_same w h _ holds (calm_drew w h k)
+under_way_kept w h (OfDrew k) holds = under_way_same w h _ holds ((alone w h (OfDrew k) holds).stores.calm refl)
 under_way_kept w h (OfPlaced k) holds = under_way_placed w h (by_its_node w h k holds) k.items k.quiet holds
 under_way_kept w h (OfOwnPlaced k) holds = under_way_own_placed w h k holds
 under_way_kept w h (OfAnsweredBegin k) holds = under_way_answered_begin w h k holds
