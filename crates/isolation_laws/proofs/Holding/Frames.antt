@@ -1,5 +1,5 @@
--- What an outcome leaves alone: one record says it, and each group of facts is kept by it. For the tables over all outcomes,
--- which name only those that have no frame.
+-- The frame of an outcome that draws, places, opens and writes nothing: one record of what it leaves alone. For the one of all outcomes,
+-- `Alone`, and for the table of numbers.
 use Rattle.std.proofs.Common.{ℕ, ◌≤◌, List, ◌++◌, Option, Some, None, inl, refl}
 use Rattle.std.specs.Prelude.{slice_set}
 use Rattle.history_book.specs.declared.item.Item.{Item}
@@ -129,7 +129,7 @@ frame w h left items quiet up nodes pending clients stores requests under_way = 
   under_way = under_way;
 }
 
--- ---- each group of facts is kept by a frame
+-- ---- what is kept by a frame
 pub numbers_framed : (w : State) (h : List Item) (left : State) (items : List Item) → Frame w h left items → Holds w h → NumberFacts w.setup left.seen left.nodes w.master (h ++ items)
 numbers_framed w h left items f holds = quiet_one w h left.nodes left.seen items f.nodes.numbers f.up f.quiet holds
 

@@ -1,6 +1,6 @@
 -- Every outcome keeps the read sets.
 use Rattle.machine.specs.Outcome.Outcomes.{Outcome, OfAskedBegin, OfAskedCommit, OfAnsweredBegin, OfFetched, OfReadStepped, left_by, told_by_outcome}
-use Rattle.std.proofs.Common.{◌≡◌, ℕ, ◌+◌, Bool, true, false, if◌then◌else◌, List, ◌++◌, ◌⊎◌, inl, inr, refl, subst, Contains}
+use Rattle.std.proofs.Common.{◌≡◌, ℕ, Bool, true, false, if◌then◌else◌, List, ◌++◌, ◌⊎◌, inl, inr, refl, subst, Contains}
 use Rattle.std.proofs.lemmas.Bool.{cases_Bool}
 use Rattle.history_book.specs.Members.{◌∈◌}
 use Rattle.history_book.specs.declared.item.Item.{Item}

@@ -1,6 +1,6 @@
 -- Every outcome keeps the facts on reads, and all answers right.
 use Rattle.machine.specs.Outcome.Outcomes.{OfAskedCommit, OfAccepted, OfOwnPlaced, Outcome, OfDrew, OfPlaced, OfWrote, OfFetched, OfReadStepped, IsTimely, left_by, told_by_outcome}
-use Rattle.std.proofs.Common.{◌≡◌, ◌+◌, false, List, ◌++◌, refl}
+use Rattle.std.proofs.Common.{◌≡◌, false, List, ◌++◌, refl}
 use Rattle.history_book.specs.Members.{AtEach}
 use Rattle.history_book.specs.Isolation.{RightRead}
 use Rattle.history_book.specs.declared.item.Item.{Item}

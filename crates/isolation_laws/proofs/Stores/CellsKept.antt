@@ -1,6 +1,6 @@
 -- Every outcome keeps the facts on the cells and the commit table.
 use Rattle.machine.specs.Outcome.Outcomes.{OfOwnPlaced, Outcome, OfPlaced, OfAnsweredBegin, OfWrote, left_by, told_by_outcome}
-use Rattle.std.proofs.Common.{◌∷◌, ◌≡◌, ℕ, ◌+◌, List, ◌++◌, Option, Some, None, inl, inr, refl, ◌∙◌, ap}
+use Rattle.std.proofs.Common.{◌∷◌, ◌≡◌, ℕ, List, ◌++◌, Option, Some, None, inl, inr, refl, ◌∙◌, ap}
 use Rattle.history_book.specs.Isolation.{last_write}
 use Rattle.history_book.specs.declared.item.Item.{Item}
 use Rattle.store_parts.specs.declared.rows.Cell.{Cell}
