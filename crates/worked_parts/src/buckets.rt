@@ -1,38 +1,49 @@
 // The bounded conflict memory.
+use crate::numbers::{key, keys, stamp};
 use conflict_buckets::{Buckets, Verdict};
-use stamp_base::{KeyList, KeyNo, Stamp};
+use stamp_base::NoMemory;
+use std::alloc::Global;
 use std::test::Fail;
 
-fn keys(numbers: &[u64]) -> Option<KeyList> {
-    let mut keys = KeyList::empty();
-    for number in numbers {
-        keys.push(KeyNo::new(*number)?).ok()?;
+/// Three commits of keys that share a bucket of two.
+fn filled(alloc: Global) -> Result<Buckets, NoMemory> {
+    let mut buckets = Buckets::open(alloc, 4, 2)?;
+    buckets.keep(&keys(&[0]), stamp(3));
+    buckets.keep(&keys(&[4]), stamp(5));
+    buckets.keep(&keys(&[8]), stamp(7));
+    Ok(buckets)
+}
+
+fn checked(buckets: &Buckets, start: u64, numbers: &[u64]) -> Verdict {
+    buckets.check(stamp(start), &keys(numbers))
+}
+
+fn hidden_by(number: u64) -> Verdict {
+    Verdict::Hidden {
+        key: key(number),
+        water: 3,
     }
-    Some(keys)
+}
+
+fn conflict_by(number: u64, by: u64) -> Verdict {
+    Verdict::Conflict {
+        key: key(number),
+        by: stamp(by),
+    }
 }
 
 #[test]
 fn hidden(rt: HostRuntime) -> Result<(), Fail> {
-    let mut buckets = Buckets::open(rt.alloc(), 4, 2)?;
-    for (key, commit) in [(0, 3), (4, 5), (8, 7)] {
-        buckets.keep(
-            &keys(&[key]).ok_or("a key")?,
-            Stamp::new(commit).ok_or("a stamp")?,
-        );
-    }
-    let start = Stamp::new(1).ok_or("a stamp")?;
-    for number in [0, 12] {
-        let key = KeyNo::new(number).ok_or("a key")?;
-        let told = buckets.check(start, &keys(&[number]).ok_or("a key")?);
-        assert_eq!(rt; told, Verdict::Hidden { key, water: 3 }, "of key {number}");
-    }
-    let (key, by) = (
-        KeyNo::new(4).ok_or("a key")?,
-        Stamp::new(5).ok_or("a stamp")?,
-    );
-    let told = buckets.check(start, &keys(&[1, 4, 0]).ok_or("keys")?);
-    assert_eq!(rt; told, Verdict::Conflict { key, by });
-    let told = buckets.check(by, &keys(&[4, 0, 12, 5]).ok_or("keys")?);
-    assert_eq!(rt; told, Verdict::Free);
+    let buckets = filled(rt.alloc())?;
+    assert_eq!(rt; checked(&buckets, 1, &[0]), hidden_by(0));
+    assert_eq!(rt; checked(&buckets, 1, &[12]), hidden_by(12));
+    Ok(())
+}
+
+#[test]
+fn conflict(rt: HostRuntime) -> Result<(), Fail> {
+    let buckets = filled(rt.alloc())?;
+    assert_eq!(rt; checked(&buckets, 1, &[1, 4, 0]), conflict_by(4, 5));
+    assert_eq!(rt; checked(&buckets, 5, &[4, 0, 12, 5]), Verdict::Free);
     Ok(())
 }

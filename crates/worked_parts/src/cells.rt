@@ -5,7 +5,7 @@ ghost use Rattle.cell_store.specs.Calls.{looked};
 use crate::numbers::{stamp, value};
 use cell_store::{Cell, Cells, StoreError, StoreFault};
 use port_io::{CalmWeather, Fate, OneFate};
-use stamp_base::{KeyNo, Stamp, Value};
+use stamp_base::{KeyNo, Stamp};
 use std::alloc::Global;
 use std::test::Fail;
 
@@ -19,14 +19,14 @@ fn cell_at(cells: &Cells, key: KeyNo, version: Stamp) -> Option<Cell>
     }
 }
 
-/// A put, unless the row has a shadow.
+/// A put of an x, unless the row has a shadow.
 fn put(
     cells: &mut Cells,
     fate: Fate,
     key: KeyNo,
     version: Stamp,
-    value: Value,
 ) -> Option<Result<(), StoreError>> {
+    let x = value(b"x")?;
     match cell_at(cells, key, version) {
         Some(
             Cell {
@@ -34,7 +34,7 @@ fn put(
                 ..
             },
         ) => None,
-        _ => Some(cells.put(&mut OneFate::new(fate), key, version, value)),
+        _ => Some(cells.put(&mut OneFate::new(fate), key, version, x)),
     }
 }
 
@@ -57,75 +57,91 @@ fn set_shadow(
     }
 }
 
+/// A row is put, and has a shadow 5 later if 10 divides its version.
+fn add(cells: &mut Cells, key: KeyNo, version: u64) -> Option<()> {
+    let row = stamp(version);
+    put(cells, Fate::Works, key, row)?.ok()?;
+    if version % 10 == 0 {
+        let commit = stamp(version.saturating_add(5));
+        return set_shadow(cells, Fate::Works, key, row, commit)?.ok();
+    }
+    Some(())
+}
+
 /// Versions 1 to 60 of the key, of which those that 10 divides are committed 5 later.
-fn committed_by_tens(alloc: Global, key: KeyNo) -> Result<Cells, Fail> {
+fn committed_by_tens(alloc: Global, key: KeyNo) -> Option<Cells> {
     let mut cells = Cells::new(alloc);
     for number in 1..61u64 {
-        let version = stamp(number)?;
-        put(&mut cells, Fate::Works, key, version, value(b"x")?).ok_or("a shadow")??;
-        if number % 10 == 0 {
-            let commit = stamp(number + 5)?;
-            set_shadow(&mut cells, Fate::Works, key, version, commit).ok_or("a shadow")??;
-        }
+        add(&mut cells, key, number)?;
     }
-    Ok(cells)
+    Some(cells)
 }
 
 /// One bare row.
-fn one_row(alloc: Global, key: KeyNo, version: Stamp) -> Result<Cells, Fail> {
+fn one_row(alloc: Global, key: KeyNo, version: Stamp) -> Option<Cells> {
     let mut cells = Cells::new(alloc);
-    put(&mut cells, Fate::Works, key, version, value(b"x")?).ok_or("a shadow")??;
-    Ok(cells)
+    put(&mut cells, Fate::Works, key, version)?.ok()?;
+    Some(cells)
+}
+
+fn shadow_at(cells: &Cells, key: KeyNo, version: Stamp) -> Option<Stamp> {
+    cell_at(cells, key, version)?.shadow
 }
 
 #[test]
 fn a_row_is_shadowed(rt: HostRuntime) -> Result<(), Fail> {
     let (key, version) = (KeyNo::LAST, Stamp::FIRST);
-    let mut cells = one_row(rt.alloc(), key, version)?;
-    set_shadow(&mut cells, Fate::Works, key, version, Stamp::LAST).ok_or("a shadow")??;
-    let shadow = cell_at(&cells, key, version).and_then(|cell| cell.shadow);
-    assert_eq!(rt; shadow, Some(Stamp::LAST));
+    let mut cells = one_row(rt.alloc(), key, version).ok_or("a row")?;
+    let set = set_shadow(&mut cells, Fate::Works, key, version, Stamp::LAST);
+    assert_eq!(rt; set, Some(Ok(())));
+    assert_eq!(rt; shadow_at(&cells, key, version), Some(Stamp::LAST));
     Ok(())
 }
 
 #[test]
 fn a_row_is_removed(rt: HostRuntime) -> Result<(), Fail> {
     let (key, version) = (KeyNo::FIRST, Stamp::LAST);
-    let mut cells = one_row(rt.alloc(), key, version)?;
-    cells.remove_bare(&mut CalmWeather::new(), key, version)?;
+    let mut cells = one_row(rt.alloc(), key, version).ok_or("a row")?;
+    let removed = cells.remove_bare(&mut CalmWeather::new(), key, version);
+    assert_eq!(rt; removed, Ok(()));
     assert_eq!(rt; cell_at(&cells, key, version), None);
     Ok(())
+}
+
+fn fetched_len(cells: &Cells, key: KeyNo, version: Stamp) -> Option<usize> {
+    let fetched = cells.fetch(&mut CalmWeather::new(), key, version).ok()?;
+    Some(fetched.len())
 }
 
 #[test]
 fn rows_are_listed(rt: HostRuntime) -> Result<(), Fail> {
     let (key, version) = (KeyNo::FIRST, Stamp::FIRST);
-    let cells = one_row(rt.alloc(), key, version)?;
-    let fetched = cells.fetch(&mut CalmWeather::new(), key, version)?;
-    assert_eq!(rt; fetched.len(), 1);
+    let cells = one_row(rt.alloc(), key, version).ok_or("a row")?;
+    assert_eq!(rt; fetched_len(&cells, key, version), Some(1));
     let keys = cells.keys_of(&mut CalmWeather::new(), version)?;
     assert_eq!(rt; keys.as_slice(), [key].as_slice());
     Ok(())
 }
 
 #[test]
-fn a_fault_hides_what_was_done(rt: HostRuntime) -> Result<(), Fail> {
+fn a_fault_hides_what_was_done(rt: HostRuntime) {
     let (key, version) = (KeyNo::FIRST, Stamp::FIRST);
     let mut cells = Cells::new(rt.alloc());
-    let told = put(&mut cells, Fate::FailsApplied, key, version, value(b"x")?);
+    let told = put(&mut cells, Fate::FailsApplied, key, version);
     assert_eq!(rt; told, Some(Err(StoreError::StoreFault)));
     assert!(rt; cell_at(&cells, key, version).is_some());
-    Ok(())
+}
+
+/// How many versions there are up to a start, and the last cell of the front.
+fn front(alloc: Global, key: KeyNo, start: u64) -> Option<(u64, u64)> {
+    let front = committed_by_tens(alloc, key)?
+        .front(key, stamp(start))
+        .ok()?;
+    Some((front.versions, front.cells.last()?.version.value()))
 }
 
 // Up to 43, the first with a shadow below 43 is 30, since 40 was committed at 45.
 #[test]
-fn a_front_of_one_key(rt: HostRuntime) -> Result<(), Fail> {
-    let key = KeyNo::FIRST;
-    let cells = committed_by_tens(rt.alloc(), key)?;
-    let front = cells.front(key, stamp(43)?)?;
-    assert_eq!(rt; front.versions, 43);
-    let last = front.cells.last().map(|cell| cell.version.value());
-    assert_eq!(rt; last, Some(30));
-    Ok(())
+fn a_front_of_one_key(rt: HostRuntime) {
+    assert_eq!(rt; front(rt.alloc(), KeyNo::FIRST, 43), Some((43, 30)));
 }

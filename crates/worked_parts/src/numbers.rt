@@ -1,14 +1,33 @@
 // Stamps, keys and values of the other files' tests.
-use stamp_base::{KeyNo, Stamp, Value};
+use stamp_base::{KeyList, KeyNo, Stamp, Value};
 
-pub fn stamp(number: u64) -> Result<Stamp, &'static str> {
-    Stamp::new(number).ok_or("a stamp")
+/// A stamp, which is the last where the number is none.
+pub fn stamp(number: u64) -> Stamp {
+    Stamp::new(number).unwrap_or(Stamp::LAST)
 }
 
-pub fn key(number: u64) -> Result<KeyNo, &'static str> {
-    KeyNo::new(number).ok_or("a key")
+/// A key, which is the last where the number is none.
+pub fn key(number: u64) -> KeyNo {
+    KeyNo::new(number).unwrap_or(KeyNo::LAST)
 }
 
-pub fn value(bytes: &[u8]) -> Result<Value, &'static str> {
-    Value::new(bytes).ok_or("a value")
+/// The keys of these numbers.
+pub fn keys(numbers: &[u64]) -> KeyList {
+    let mut keys = KeyList::empty();
+    for number in numbers {
+        let _ = keys.push(key(*number));
+    }
+    keys
+}
+
+pub fn value(bytes: &[u8]) -> Option<Value> {
+    Value::new(bytes)
+}
+
+// Each number that the tests use is one.
+#[test]
+fn numbers_are_kept(rt: HostRuntime) {
+    assert_eq!(rt; stamp(14_995).value(), 14_995);
+    assert_eq!(rt; key(64).value(), 64);
+    assert_eq!(rt; keys(&[4, 0, 12, 5]).as_slice().len(), 4);
 }

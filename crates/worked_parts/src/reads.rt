@@ -1,18 +1,18 @@
 // The steps of a read, from its fetch to its answer.
-ghost use Rattle.std.specs.Prelude.{◌≡◌, IfOk};
+ghost use Rattle.std.specs.Prelude.{◌≡◌, IfSome};
 ghost use Rattle.client_parts.specs.Asks.{Fits};
 ghost use Rattle.client_parts.specs.KeyRead.{AreFetched, is_recall};
 
 use crate::numbers::{key, stamp, value};
 use client_parts::{Answer, Ask, Known, Next, Told};
 use reader_resolve::{Cell, ReadRun};
-use stamp_base::Stamp;
+use stamp_base::{KeyNo, Stamp};
 use std::alloc::Global;
 use std::test::Fail;
 
-fn bare(version: u64, text: &[u8]) -> Result<Cell, &'static str> {
-    Ok(Cell {
-        version: stamp(version)?,
+fn bare(version: u64, text: &[u8]) -> Option<Cell> {
+    Some(Cell {
+        version: stamp(version),
         value: value(text)?,
         shadow: None,
     })
@@ -20,126 +20,133 @@ fn bare(version: u64, text: &[u8]) -> Result<Cell, &'static str> {
 
 /// What a fetch up to the start gives, where one version is there.
 #[tactic(auto, using(crate::proofs::Fetched::fetched_one))]
-fn one(alloc: Global, start: Stamp, cell: Cell) -> Result<Vec<Cell>, Fail>
-    ensures { IfOk result (λ cells. AreFetched start cells.items) }
+fn one(alloc: Global, start: Stamp, cell: Cell) -> Option<Vec<Cell>>
+    ensures { IfSome result (λ cells. AreFetched start cells.items) }
 {
     if cell.version.value() > start.value() {
-        return Err("above the start".into());
+        return None;
     }
-    Ok(vec![in alloc; cell]?)
+    Some(vec![in alloc; cell].ok()?)
 }
 
 /// What a fetch up to the start gives, where two versions are there.
 #[tactic(auto, using(crate::proofs::Fetched::fetched_two))]
-fn two(alloc: Global, start: Stamp, newer: Cell, older: Cell) -> Result<Vec<Cell>, Fail>
-    ensures { IfOk result (λ cells. AreFetched start cells.items) }
+fn two(alloc: Global, start: Stamp, newer: Cell, older: Cell) -> Option<Vec<Cell>>
+    ensures { IfSome result (λ cells. AreFetched start cells.items) }
 {
     let (first, second) = (newer.version.value(), older.version.value());
     if second >= first || first > start.value() {
-        return Err("not as a fetch gives them".into());
+        return None;
     }
-    Ok(vec![in alloc; newer, older]?)
+    Some(vec![in alloc; newer, older].ok()?)
+}
+
+/// A read of one bare version, which is 1.
+fn over_one(alloc: Global, start: u64, epoch: u64, every: bool) -> Option<(ReadRun, Next)> {
+    let start = stamp(start);
+    let cells = one(alloc, start, bare(1, b"v")?)?;
+    Some(ReadRun::start(key(0), start, epoch, every, cells))
+}
+
+/// A read of two bare versions, which are 3 and 1.
+fn over_two(alloc: Global) -> Option<(ReadRun, Next)>
+    ensures { IfSome result (λ r. r.0.recalls ≡ is_recall r.1) }
+{
+    let start = stamp(101);
+    let cells = two(alloc, start, bare(3, b"w")?, bare(1, b"v")?)?;
+    Some(ReadRun::start(key(0), start, 100, false, cells))
+}
+
+/// A read of a bare version above one with a shadow.
+fn over_a_shadow(alloc: Global) -> Option<(ReadRun, Next)> {
+    let start = stamp(4);
+    let committed = Cell {
+        shadow: Some(stamp(2)),
+        ..bare(1, b"100")?
+    };
+    let cells = two(alloc, start, bare(3, b"90")?, committed)?;
+    Some(ReadRun::start(key(1), start, 0, false, cells))
 }
 
 /// Tells an answer, whose ask must be next.
-fn tell(run: &mut ReadRun, ask: Ask, told: Told) -> Result<Next, &'static str>
+fn tell(run: &mut ReadRun, ask: Ask, told: Told) -> Option<Next>
     requires { Fits ask told }
 {
     let answer = told;
-    let next = run.next().ok_or("the end")?;
-    if next != ask {
-        return Err("another ask");
+    if run.next()? != ask {
+        return None;
     }
-    Ok(run.step(answer))
+    Some(run.step(answer))
 }
 
 /// Recalls, where a recall is next.
-fn recall(run: &mut ReadRun, next: Next, known: Known) -> Result<Next, &'static str>
+fn recall(run: &mut ReadRun, next: Next, known: Known) -> Option<Next>
     requires { run.old.recalls ≡ is_recall next }
-    ensures { IfOk result (λ then. run.new.recalls ≡ is_recall then) }
+    ensures { IfSome result (λ then. run.new.recalls ≡ is_recall then) }
 {
     match next {
-        Next::Recall(_) => Ok(run.recalled(Some(known))),
-        _ => Err("no recall"),
+        Next::Recall(_) => Some(run.recalled(Some(known))),
+        _ => None,
     }
+}
+
+/// The end of a read that finds a version.
+fn found(version: u64, text: &[u8], heal: Option<(KeyNo, Stamp, Stamp)>) -> Option<Next> {
+    let found = Some((stamp(version), value(text)?));
+    Some(Next::Done(Answer { found, heal }))
 }
 
 #[test]
 fn late_put(rt: HostRuntime) -> Result<(), Fail> {
-    let (k0, writer, start) = (key(0)?, stamp(1)?, stamp(101)?);
-    let cells = one(rt.alloc(), start, bare(1, b"v")?)?;
-    let (mut run, _) = ReadRun::start(k0, start, 100, false, cells);
-    tell(&mut run, Ask::Get(writer), Told::Absent)?;
-    tell(&mut run, Ask::Mark(writer), Told::Marked)?;
-    let last = tell(&mut run, Ask::Look(k0, writer), Told::Bare)?;
-    assert_eq!(rt; run.learnt(), Some((writer, Known::Dead)));
+    let (mut run, _) = over_one(rt.alloc(), 101, 100, false).ok_or("no run")?;
+    tell(&mut run, Ask::Get(stamp(1)), Told::Absent).ok_or("another ask")?;
+    tell(&mut run, Ask::Mark(stamp(1)), Told::Marked).ok_or("another ask")?;
+    let last = tell(&mut run, Ask::Look(key(0), stamp(1)), Told::Bare);
+    assert_eq!(rt; run.learnt(), Some((stamp(1), Known::Dead)));
     let none = Answer {
         found: None,
         heal: None,
     };
-    assert_eq!(rt; last, Next::Done(none));
+    assert_eq!(rt; last, Some(Next::Done(none)));
     Ok(())
 }
 
 // A version above the epoch is marked all the same, where each may be.
 #[test]
 fn newer_cell_is_marked(rt: HostRuntime) -> Result<(), Fail> {
-    let (k0, writer, start) = (key(0)?, stamp(1)?, stamp(3)?);
-    let cells = one(rt.alloc(), start, bare(1, b"v")?)?;
-    let (mut run, _) = ReadRun::start(k0, start, 0, true, cells);
-    let next = tell(&mut run, Ask::Get(writer), Told::Absent)?;
-    assert_eq!(rt; next, Next::Ask(Ask::Mark(writer)));
+    let (mut run, _) = over_one(rt.alloc(), 3, 0, true).ok_or("no run")?;
+    let next = tell(&mut run, Ask::Get(stamp(1)), Told::Absent);
+    assert_eq!(rt; next, Some(Next::Ask(Ask::Mark(stamp(1)))));
     Ok(())
 }
 
 #[test]
 fn put_before_read(rt: HostRuntime) -> Result<(), Fail> {
-    let (k0, writer, start, commit) = (key(0)?, stamp(1)?, stamp(101)?, stamp(2)?);
-    let cells = one(rt.alloc(), start, bare(1, b"v")?)?;
-    let (mut run, first) = ReadRun::start(k0, start, 100, false, cells);
-    assert_eq!(rt; first, Next::Recall(writer));
-    assert_eq!(rt; run.key(), k0);
-    let last = tell(&mut run, Ask::Get(writer), Told::Committed(commit))?;
-    let answer = Answer {
-        found: Some((writer, value(b"v")?)),
-        heal: Some((k0, writer, commit)),
-    };
-    assert_eq!(rt; last, Next::Done(answer));
+    let (mut run, first) = over_one(rt.alloc(), 101, 100, false).ok_or("no run")?;
+    assert_eq!(rt; first, Next::Recall(stamp(1)));
+    assert_eq!(rt; run.key(), key(0));
+    let last = tell(&mut run, Ask::Get(stamp(1)), Told::Committed(stamp(2)));
+    let heal = Some((key(0), stamp(1), stamp(2)));
+    assert_eq!(rt; last, found(1, b"v", heal));
     Ok(())
 }
 
 #[test]
 fn recalled_twice(rt: HostRuntime) -> Result<(), Fail> {
-    let (k0, older, newer, start) = (key(0)?, stamp(1)?, stamp(3)?, stamp(101)?);
-    let cells = two(rt.alloc(), start, bare(3, b"w")?, bare(1, b"v")?)?;
-    let (mut run, first) = ReadRun::start(k0, start, 100, false, cells);
-    assert_eq!(rt; first, Next::Recall(newer));
-    let next = recall(&mut run, first, Known::Dead)?;
-    assert_eq!(rt; next, Next::Recall(older));
-    let last = recall(&mut run, next, Known::Committed(stamp(2)?))?;
-    let answer = Answer {
-        found: Some((older, value(b"v")?)),
-        heal: None,
-    };
-    assert_eq!(rt; last, Next::Done(answer));
+    let (mut run, first) = over_two(rt.alloc()).ok_or("no run")?;
+    assert_eq!(rt; first, Next::Recall(stamp(3)));
+    let next = recall(&mut run, first, Known::Dead).ok_or("no recall")?;
+    assert_eq!(rt; next, Next::Recall(stamp(1)));
+    let last = recall(&mut run, next, Known::Committed(stamp(2)));
+    assert_eq!(rt; last, found(1, b"v", None));
     Ok(())
 }
 
 #[test]
 fn ordinary_use(rt: HostRuntime) -> Result<(), Fail> {
-    let (k1, older, newer, start) = (key(1)?, stamp(1)?, stamp(3)?, stamp(4)?);
-    let committed = Cell {
-        shadow: Some(stamp(2)?),
-        ..bare(1, b"100")?
-    };
-    let cells = two(rt.alloc(), start, bare(3, b"90")?, committed)?;
-    let (mut run, _) = ReadRun::start(k1, start, 0, false, cells);
-    tell(&mut run, Ask::Get(newer), Told::Absent)?;
-    let last = tell(&mut run, Ask::Look(k1, newer), Told::Bare)?;
-    let answer = Answer {
-        found: Some((older, value(b"100")?)),
-        heal: None,
-    };
-    assert_eq!(rt; last, Next::Done(answer));
+    let (mut run, _) = over_a_shadow(rt.alloc()).ok_or("no run")?;
+    tell(&mut run, Ask::Get(stamp(3)), Told::Absent).ok_or("another ask")?;
+    let last = tell(&mut run, Ask::Look(key(1), stamp(3)), Told::Bare);
+    assert_eq!(rt; last, found(1, b"100", None));
     Ok(())
 }

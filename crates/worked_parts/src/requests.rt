@@ -2,10 +2,11 @@
 ghost use Rattle.std.specs.Prelude.{◌≡◌};
 ghost use Rattle.oracle_parts.specs.Instance as entry;
 
+use crate::numbers::keys;
 use history_book::Cause;
 use oracle_core::{Decided, Instance, Place, Reply, Request, Settled};
 use oracle_parts::Verdict;
-use stamp_base::{KeyList, KeyNo, NodeNo, SessionNo, Setup, SetupFlag, Stamp, Term};
+use stamp_base::{NodeNo, SessionNo, Setup, SetupFlag, Stamp, Term};
 use std::alloc::Global;
 use std::test::Fail;
 use store_parts::Grant;
@@ -44,12 +45,10 @@ fn begin() -> Request {
 
 /// A commit of the last session, of one key.
 fn commit() -> Request {
-    let mut keys = KeyList::empty();
-    let _ = keys.push(KeyNo::FIRST);
     Request::Commit {
         session: SessionNo::LAST,
         start: Stamp::FIRST,
-        keys,
+        keys: keys(&[0]),
     }
 }
 
@@ -80,17 +79,23 @@ fn decided(instance: &mut Instance, request: Request) -> Result<Decided, Cause> 
     instance.decide(session)
 }
 
+/// What is begun.
+fn begun(start: Stamp, epoch: u64) -> Result<Reply, Cause> {
+    Ok(Reply::Begun { start, epoch })
+}
+
+/// What a session without a request is told.
+fn no_request(session: SessionNo) -> Result<(), Cause> {
+    Err(Cause::NoRequest { session })
+}
+
 #[test]
 fn a_begin_comes_and_goes(rt: HostRuntime) -> Result<(), Fail> {
     let mut instance = opened(rt.alloc(), 0, 100)?;
     let started = decided(&mut instance, begin());
     assert_eq!(rt; started, Ok(Decided::Started(Stamp::FIRST)));
-    let epoch = instance.epoch();
-    let begun = Reply::Begun {
-        start: Stamp::FIRST,
-        epoch,
-    };
-    assert_eq!(rt; instance.answer(SessionNo::FIRST), Ok(begun));
+    let begun = begun(Stamp::FIRST, instance.epoch());
+    assert_eq!(rt; instance.answer(SessionNo::FIRST), begun);
     Ok(())
 }
 
@@ -104,22 +109,35 @@ fn a_commit_comes_and_goes(rt: HostRuntime) -> Result<(), Fail> {
     Ok(())
 }
 
-// It is handed over once, without a put.
+// No put settles it.
+#[test]
+fn a_direct_commit_is_settled(rt: HostRuntime) -> Result<(), Fail> {
+    let mut instance = opened_direct(rt.alloc())?;
+    let drawn = decided(&mut instance, commit());
+    assert_eq!(rt; drawn, Ok(Decided::Drawn(Stamp::FIRST)));
+    assert_eq!(rt; instance.place(SessionNo::LAST), Some(Place::Settled));
+    let settled = instance.settle(SessionNo::LAST, Settled::Placed);
+    assert_eq!(rt; settled, no_request(SessionNo::LAST));
+    Ok(())
+}
+
+/// A direct commit is drawn, and no put settles it.
+fn drawn_direct(instance: &mut Instance) -> Option<()> {
+    decided(instance, commit()).ok()?;
+    instance.settle(SessionNo::LAST, Settled::Placed).err()?;
+    Some(())
+}
+
+// It is handed over once.
 #[test]
 fn a_direct_commit_is_handed_over(rt: HostRuntime) -> Result<(), Fail> {
     let mut instance = opened_direct(rt.alloc())?;
-    let session = SessionNo::LAST;
-    let drawn = decided(&mut instance, commit());
-    assert_eq!(rt; drawn, Ok(Decided::Drawn(Stamp::FIRST)));
-    let place = instance.place(session);
-    assert_eq!(rt; place, Some(Place::Settled));
-    let none = Err(Cause::NoRequest { session });
-    assert_eq!(rt; instance.settle(session, Settled::Placed), none);
+    assert_eq!(rt; drawn_direct(&mut instance), Some(()));
     let handed = Reply::Handed {
         commit: Stamp::FIRST,
     };
-    assert_eq!(rt; instance.answer(session), Ok(handed));
-    assert_eq!(rt; instance.place(session), None);
+    assert_eq!(rt; instance.answer(SessionNo::LAST), Ok(handed));
+    assert_eq!(rt; instance.place(SessionNo::LAST), None);
     Ok(())
 }
 
@@ -132,33 +150,53 @@ fn a_begin_waits_for_no_direct_commit(rt: HostRuntime) -> Result<(), Fail> {
     Ok(())
 }
 
-// What is accepted can be refused, once, and nothing was recorded for it.
+#[test]
+fn what_is_not_asked_is_not_refused(rt: HostRuntime) -> Result<(), Fail> {
+    let mut instance = opened(rt.alloc(), 0, 100)?;
+    let session = SessionNo::LAST;
+    assert_eq!(rt; instance.refuse(session), no_request(session));
+    assert!(rt; !instance.may_accept(session, 9));
+    Ok(())
+}
+
+// What is accepted can be refused, once.
 #[test]
 fn a_commit_is_refused(rt: HostRuntime) -> Result<(), Fail> {
     let mut instance = opened(rt.alloc(), 0, 100)?;
     let session = SessionNo::LAST;
-    let none = Err(Cause::NoRequest { session });
-    assert_eq!(rt; instance.refuse(session), none);
-    assert!(rt; !instance.may_accept(session, 9));
     assert_eq!(rt; accepted(&mut instance, commit()), Ok(()));
     assert_eq!(rt; instance.refuse(session), Ok(()));
-    assert_eq!(rt; instance.refuse(session), none);
-    assert_eq!(rt; instance.place(session), None);
-    let mut keys = KeyList::empty();
-    let _ = keys.push(KeyNo::FIRST);
-    let told = instance.buckets().check(Stamp::FIRST, &keys);
+    assert_eq!(rt; instance.refuse(session), no_request(session));
+    Ok(())
+}
+
+/// A commit is accepted, and then refused.
+fn refused(instance: &mut Instance) -> Result<(), Cause> {
+    accepted(instance, commit())?;
+    instance.refuse(SessionNo::LAST)
+}
+
+// Nothing was recorded for what is refused.
+#[test]
+fn a_refused_commit_leaves_nothing(rt: HostRuntime) -> Result<(), Fail> {
+    let mut instance = opened(rt.alloc(), 0, 100)?;
+    assert_eq!(rt; refused(&mut instance), Ok(()));
+    assert_eq!(rt; instance.place(SessionNo::LAST), None);
+    let told = instance.buckets().check(Stamp::FIRST, &keys(&[0]));
     assert_eq!(rt; told, Verdict::Free);
     Ok(())
+}
+
+/// What a begin is told where the last stamp is drawn.
+fn no_stamp(last: u64) -> Result<Decided, Cause> {
+    Err(Cause::NoStamp { last })
 }
 
 #[test]
 fn a_range_is_widened(rt: HostRuntime) -> Result<(), Fail> {
     let mut instance = opened(rt.alloc(), 0, 0)?;
     instance.renewed(20);
-    assert_eq!(rt;
-        decided(&mut instance, begin()),
-        Err(Cause::NoStamp { last: 0 })
-    );
+    assert_eq!(rt; decided(&mut instance, begin()), no_stamp(0));
     if instance.range_end() <= 100 {
         instance.widened(100);
     }
@@ -170,8 +208,7 @@ fn a_range_is_widened(rt: HostRuntime) -> Result<(), Fail> {
 fn the_stamps_end(rt: HostRuntime) -> Result<(), Fail> {
     let ceiling = Stamp::GREATEST;
     let mut instance = opened(rt.alloc(), ceiling, ceiling)?;
-    let none = decided(&mut instance, begin());
-    assert_eq!(rt; none, Err(Cause::NoStamp { last: ceiling }));
+    assert_eq!(rt; decided(&mut instance, begin()), no_stamp(ceiling));
     instance.stopped(Cause::Spent { ceiling });
     let ended = instance.decide(SessionNo::FIRST);
     assert_eq!(rt; ended, Err(Cause::Spent { ceiling }));

@@ -6,50 +6,45 @@ use crate::numbers::{key, stamp};
 use client_txn::{Known, Session, State};
 use history_book::Cause;
 use stamp_base::{KEY_LIMIT, NoMemory, Stamp};
+use std::alloc::Global;
 use std::process::Abort;
 use std::test::Fail;
 
 /// A session that begins at 1.
-fn opened() -> Result<Session, &'static str>
-    ensures { IfOk result (λ session. (session.entry.state ≡ State.Open) × (session.entry.keys ≡ [])) }
+fn opened() -> Session
+    ensures open { result.entry.state ≡ State.Open }
+    ensures bare { result.entry.keys ≡ [] }
 {
-    let start = stamp(1)?;
     let mut session = Session::new();
     session.asked();
-    session.begun(start, 0);
-    Ok(session)
+    session.begun(stamp(1), 0);
+    session
 }
 
-/// Writes each of the first 64 keys.
-fn fill(session: &mut Session) -> Result<(), &'static str> {
+/// Writes each of the first 64 keys, unless one is refused.
+fn fill(session: &mut Session) -> Option<()> {
     for n in 0..64 {
-        let written = session.wrote(key(n)?);
-        if written.is_err() {
-            return Err("a write was refused");
-        }
+        session.wrote(key(n)).ok()?;
     }
-    Ok(())
+    Some(())
 }
 
 #[test]
-fn own_writes(rt: HostRuntime) -> Result<(), Fail> {
-    let mut session = opened()?;
-    fill(&mut session)?;
-    let (first, more) = (key(0)?, key(64)?);
-    assert_eq!(rt; session.check_write(first), Ok(()));
-    assert_eq!(rt; session.check_write(more), Err(Cause::TooManyKeys));
+fn own_writes(rt: HostRuntime) {
+    let mut session = opened();
+    assert_eq!(rt; fill(&mut session), Some(()));
+    assert_eq!(rt; session.check_write(key(0)), Ok(()));
+    assert_eq!(rt; session.check_write(key(64)), Err(Cause::TooManyKeys));
     assert_eq!(rt; session.keys().as_slice().len(), KEY_LIMIT);
-    Ok(())
 }
 
 #[test]
-fn plain_path(rt: HostRuntime) -> Result<(), Fail> {
-    let mut session = opened()?;
-    assert_eq!(rt; session.wrote(key(0)?), Ok(()));
+fn plain_path(rt: HostRuntime) {
+    let mut session = opened();
+    assert_eq!(rt; session.wrote(key(0)), Ok(()));
     if !session.keys().as_slice().is_empty() {
-        commits(&rt, session, stamp(2)?);
+        commits(&rt, session, stamp(2));
     }
-    Ok(())
 }
 
 /// Takes an open transaction with a write through its commit.
@@ -68,13 +63,12 @@ fn commits(rt: &impl Abort, mut session: Session, commit: Stamp)
 }
 
 #[test]
-fn handed_commits(rt: HostRuntime) -> Result<(), Fail> {
-    let mut session = opened()?;
-    assert_eq!(rt; session.wrote(key(0)?), Ok(()));
+fn handed_commits(rt: HostRuntime) {
+    let mut session = opened();
+    assert_eq!(rt; session.wrote(key(0)), Ok(()));
     if !session.keys().as_slice().is_empty() {
-        places(&rt, session, stamp(2)?);
+        places(&rt, session, stamp(2));
     }
-    Ok(())
 }
 
 /// Takes an open transaction with a write to a commit that the session is to place, and that is not placed.
@@ -93,38 +87,57 @@ fn places(rt: &impl Abort, mut session: Session, commit: Stamp)
 }
 
 #[test]
-fn refusals_of_order(rt: HostRuntime) -> Result<(), Fail> {
-    let mut session = opened()?;
+fn refusals_of_order(rt: HostRuntime) {
+    let session = opened();
     assert_eq!(rt; session.check_begin(), Err(Cause::Busy));
     assert_eq!(rt; session.check_work(true), Err(Cause::Busy));
     assert_eq!(rt; session.check_step(false), Err(Cause::Idle));
+}
+
+#[test]
+fn a_session_vanishes_once(rt: HostRuntime) {
+    let mut session = opened();
     session.aborted();
     assert_eq!(rt; session.check_vanish(), Ok(()));
     session.vanished();
     assert_eq!(rt; session.check_vanish(), Err(Cause::Gone));
+}
+
+#[test]
+fn a_fresh_decision_is_not_yet_known(rt: HostRuntime) -> Result<(), Fail> {
+    let mut session = Session::with_cache(rt.alloc(), 2)?;
+    session.learnt(stamp(1), Known::Committed(stamp(2)));
+    assert_eq!(rt; session.known(stamp(1)), None);
     Ok(())
+}
+
+/// A session that keeps two decisions, and has kept one.
+fn with_one(alloc: Global) -> Result<Session, NoMemory>
+    ensures { IfOk result (λ session. session.cache.fresh ≡ None) }
+{
+    let mut session = Session::with_cache(alloc, 2)?;
+    session.learnt(stamp(1), Known::Committed(stamp(2)));
+    session.keep_fresh()?;
+    Ok(session)
+}
+
+/// A transaction is dead, and is kept so.
+fn keeps(session: &mut Session, txn: u64) -> Result<(), NoMemory>
+    requires { session.old.cache.fresh ≡ None }
+    ensures { OnOk result (session.new.cache.fresh ≡ None) }
+{
+    session.learnt(stamp(txn), Known::Dead);
+    session.keep_fresh()
 }
 
 #[test]
 fn decisions_come_and_go(rt: HostRuntime) -> Result<(), Fail> {
-    let mut session = Session::with_cache(rt.alloc(), 2)?;
-    let (one, two, three) = (stamp(1)?, stamp(3)?, stamp(5)?);
-    session.learnt(one, Known::Committed(stamp(2)?));
-    assert_eq!(rt; session.known(one), None);
-    session.keep_fresh()?;
-    keeps(&mut session, two)?;
-    assert_eq!(rt; session.known(one), Some(Known::Committed(stamp(2)?)));
-    keeps(&mut session, three)?;
-    assert_eq!(rt; session.known(two), None);
-    assert!(rt; session.known(one).is_some());
+    let mut session = with_one(rt.alloc())?;
+    keeps(&mut session, 3)?;
+    let committed = Known::Committed(stamp(2));
+    assert_eq!(rt; session.known(stamp(1)), Some(committed));
+    keeps(&mut session, 5)?;
+    assert_eq!(rt; session.known(stamp(3)), None);
+    assert!(rt; session.known(stamp(1)).is_some());
     Ok(())
-}
-
-/// A transaction is dead, and is kept so.
-fn keeps(session: &mut Session, txn: Stamp) -> Result<(), NoMemory>
-    requires { session.old.cache.fresh ≡ None }
-    ensures { OnOk result (session.new.cache.fresh ≡ None) }
-{
-    session.learnt(txn, Known::Dead);
-    session.keep_fresh()
 }
