@@ -167,10 +167,6 @@ other_by : (P : Row → Type 0) (k : ℕ) → ((r : Row) → P r → r.key ≡ k
 other_by P k f [] h = tt
 other_by P k f (r ∷ rs) h = (f r h.0, other_by P k f rs h.1)
 
-pub fetched-nothing : (k upto : ℕ) → fetched [] k upto ≡ []
-unfolding fetched
-fetched-nothing k upto = refl
-
 pub fetch_is_asked : (k upto : ℕ) → IsAskedOf k (λ rs. fetched rs k upto)
 fetch_is_asked k upto = record {
   past = λ xs ys h. fetched-append xs ys k upto ∙ ap (λ (cs : List Cell). fetched ys k upto ++ cs) (fetched-other k upto xs (other_by (λ (r : Row). r.key < k) k (λ r below same. absurd (omega arith)) xs h)) ∙ append-nil (fetched ys k upto);

@@ -1,11 +1,11 @@
 -- How lists of cells, one for each key, hold rows.
-use Rattle.std.specs.Prelude.{◌≡◌, ℕ, ◌<◌, List, [], ◌∷◌, ◌++◌, map, take, length}
+use Rattle.std.specs.Prelude.{◌≡◌, ℕ, ◌<◌, List, [], ◌∷◌, ◌++◌, Option, None, Some, map, take, length}
 use Rattle.std.specs.List.{All, AllPairs, HoldsAt}
 use Rattle.std.specs.Ordering.{nat_cmp}
 use Rattle.std.specs.BTreeMap as tree
 use Rattle.std.specs.declared.vec.Vec.{Vec}
 use Rattle.store_parts.specs.declared.rows.Cell.{Cell}
-use Rattle.store_parts.specs.Rows.{Row, AreOrdered}
+use Rattle.store_parts.specs.Rows.{Row, front_of, AreOrdered}
 use Rattle.cell_store.specs.declared.rows.Rows.TheInside.{Inside}
 
 -- the row that a cell of the key stands for
@@ -14,6 +14,11 @@ row_at k c = record { key = k; version = c.version; value = c.value; shadow = c.
 
 abbrev pub rows_at : ℕ → List Cell → List Row
 rows_at k cells = map (row_at k) cells
+
+-- what a reader with this start needs of the cells that a fetch gives; one without a start, all of them
+abbrev pub needed_by : Option ℕ → List Cell → List Cell
+needed_by None cells = cells
+needed_by (Some start) cells = front_of start cells
 
 -- the versions of a key's cells ascend
 abbrev pub AreRising : List Cell → Type 0

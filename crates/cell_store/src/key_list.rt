@@ -1,7 +1,7 @@
 // The cells of one key, in a list that ascends by version.
 ghost use Rattle.std.specs.Prelude.{◌≡◌, ℕ, ◌≤◌, [], ◌∷◌, drop, length, reverse, IfOk, IfSome, IsSome, None, OnErr, OnOk};
 ghost use Rattle.std.specs.List.{All};
-ghost use Rattle.cell_store.specs.KeyLists.{rows_at, AreRising, AreLowerBefore, IsPlace};
+ghost use Rattle.cell_store.specs.KeyLists.{needed_by, rows_at, AreRising, AreLowerBefore, IsPlace};
 ghost use Rattle.cell_store.specs.Calls.{put_row, fetched, front_of, looked, with_shadow, without_bare};
 ghost use Rattle.store_parts.specs.Rows as rows;
 
@@ -37,8 +37,18 @@ pub fn turned(alloc: Global, cells: &[Cell]) -> Result<Vec<Cell>, AllocError>
     Ok(turned)
 }
 
+/// What a reader with this start needs of the cells; one without a start, all of them.
+pub fn needed_by(reader: Option<Stamp>, cells: &[Cell]) -> &[Cell]
+    ensures { reverse result.now ≡ needed_by reader (reverse cells.now) }
+{
+    match reader {
+        None => cells,
+        Some(start) => front(cells, start),
+    }
+}
+
 /// The last cells, from the last one whose shadow is below the start on; all of them where there is none.
-pub fn front(cells: &[Cell], start: Stamp) -> &[Cell]
+fn front(cells: &[Cell], start: Stamp) -> &[Cell]
     ensures { reverse result.now ≡ front_of start (reverse cells.now) }
 {
     for first in (0..cells.len()).rev() {

@@ -106,8 +106,8 @@ impl Cells {
         ensures memory { OnNoMemory result (weather.new ≡ weather.old) }
         ensures ordered { AreOrdered self.now.rows }
     {
-        let cells = self.rows.fetch(key, upto)?;
-        Ok(answered_under(weather.next(Store::Cells), cells)?)
+        let all = self.rows.front(key, upto, None)?;
+        Ok(answered_under(weather.next(Store::Cells), all.cells)?)
     }
 
     /// What a reader with this start needs of the key, without a store call: a fetch gathers it before its call. It costs a
@@ -119,7 +119,7 @@ impl Cells {
         ensures upto { IfOk result (λ front. AreUpto start front.cells.items) }
         ensures ordered { AreOrdered self.now.rows }
     {
-        let front = self.rows.front(key, start)?;
+        let front = self.rows.front(key, start, Some(start))?;
         Ok(front)
     }
 

@@ -1,8 +1,8 @@
 // The rows, in lists of cells by key.
 ghost use Rattle.std.specs.Prelude.{◌≡◌, ℕ, [], length, map, reverse, slice_get, IfOk, IsSome, None, OnErr, OnOk};
-ghost use Rattle.cell_store.specs.KeyLists.{rows_at, AreRising};
+ghost use Rattle.cell_store.specs.KeyLists.{needed_by, rows_at, AreRising};
 ghost use Rattle.cell_store.specs.AtRest.{row_of};
-ghost use Rattle.cell_store.specs.Calls.{put_row, fetched, front_of, looked, with_shadow, without_bare, AreOrdered};
+ghost use Rattle.cell_store.specs.Calls.{put_row, fetched, looked, with_shadow, without_bare, AreOrdered};
 
 use crate::at_rest::{Row, rows_in};
 use crate::{Cell, Front, key_list};
@@ -79,24 +79,23 @@ impl Rows {
         key_list::cell_of(self.cells_of(key), version)
     }
 
-    /// The key's cells of version at most `upto`, the greatest version first.
-    pub fn fetch(&self, key: KeyNo, upto: Stamp) -> Result<Vec<Cell>, NoMemory>
-        ensures value { IfOk result (λ cells. cells.items ≡ fetched self.now key upto) }
+    /// Of the key's cells of version at most `upto`, how many there are, and those that the reader needs, the greatest version
+    /// first.
+    pub fn front(
+        &self,
+        key: KeyNo,
+        upto: Stamp,
+        reader: Option<Stamp>,
+    ) -> Result<Front, NoMemory>
+        ensures versions { IfOk result (λ front. front.versions ≡ length (fetched self.now key upto)) }
+        ensures cells { IfOk result (λ front. front.cells.items ≡ needed_by reader (fetched self.now key upto)) }
         ensures ordered { AreOrdered self.now }
     {
-        Ok(key_list::turned(self.alloc, self.cells_upto(key, upto))?)
-    }
-
-    /// Of the same cells, how many there are, and those down to the first with a shadow below the start.
-    pub fn front(&self, key: KeyNo, start: Stamp) -> Result<Front, NoMemory>
-        ensures versions { IfOk result (λ front. front.versions ≡ length (fetched self.now key start)) }
-        ensures cells { IfOk result (λ front. front.cells.items ≡ front_of start (fetched self.now key start)) }
-        ensures ordered { AreOrdered self.now }
-    {
-        let cells = self.cells_upto(key, start);
+        let cells = self.cells_upto(key, upto);
+        let needed = key_list::needed_by(reader, cells);
         Ok(Front {
             versions: cells.len() as u64,
-            cells: key_list::turned(self.alloc, key_list::front(cells, start))?,
+            cells: key_list::turned(self.alloc, needed)?,
         })
     }
 

@@ -4,7 +4,7 @@ pub mod Frames
 pub mod Framed
 pub mod Alone
 pub mod LeftAlone
-pub mod Calmed
+pub mod NoStamps
 pub mod IsolatedItems
 pub mod IsolatedStamps
 pub mod SerialCommits

@@ -47,9 +47,6 @@ own_commits placed t = keys_between pair_cmp (Included (t, 0)) (Excluded (t + 1,
 pub record IsEnteredBut (part left : List (ℕ × ℕ)) (k t : ℕ) (commits : Triples) : Type 0 where
   pub at : (q : ℕ × ℕ) → q ∈ part → (q ∈ left) ⊎ HasTriple commits k q.1 t
 
-pub none_entered : (part left : List (ℕ × ℕ)) (k t : ℕ) (commits : Triples) → left ≡ part → IsEnteredBut part left k t commits
-none_entered part left k t commits same = record { at = λ q m. inl (subst (λ (qs : List (ℕ × ℕ)). q ∈ qs) (sym same) m) }
-
 pub one_entered : (part left rest : List (ℕ × ℕ)) (x : ℕ × ℕ) (k t : ℕ) (old new : Triples) → IsEnteredBut part left k t old → left ≡ x ∷ rest → Updates triple_cmp old new (k, x.1, t) true → IsEnteredBut part rest k t new
 one_entered part left rest x k t old new but first put = record {
   at = λ q m. elim (but.at q m) [

@@ -77,9 +77,6 @@ found test h from q x = found_by test h from q x (last_place test h from) refl (
 pub last_is : (test : Item → Bool) (h : List Item) (from place : ℕ) → last_place test h from ≡ Some place → IsLast test h from place
 last_is test h from place is = subst (λ (o : Option ℕ). Known test h from o) is (known test h from)
 
-pub none_is : (test : Item → Bool) (h : List Item) (from : ℕ) → last_place test h from ≡ None → NoneFrom test h from
-none_is test h from is = subst (λ (o : Option ℕ). Known test h from o) is (known test h from)
-
 -- ---- a turn of the loop, at a place whose item fails
 pub fails_at : (test : Item → Bool) (h : List Item) (from rest : ℕ) (x : Item) → from < rest → rest ≤ length h → x ≡ get_or h (rest - 1) x → test x ≡ false → last_in test h from (rest - 1 - from) ≡ last_in test h from (rest - from)
 fails_at test h from rest x ahead within is fails =

@@ -136,10 +136,3 @@ pub took_one : {E : Type 0} (node : ℕ) (p q r : StageAccount) (item : Numbered
     → MatchResult result (λ _. Carries node (item ∷ []) [] q r) (λ _. r.nodes ≡ q.nodes) → MatchResult result (λ _. Carries node [] [] p r) (λ _. PutsAllButOne node p r)
 took_one node p q r item (Ok x) taken put = carries_on node [] (item ∷ []) [] p q r taken put
 took_one node p q r item (Err end) taken same = record { given = item ∷ []; one = omega arith; puts = carries_on node [] (item ∷ []) (item ∷ []) p q r taken (carries_same node (item ∷ []) q r same) }
-
-pub took_none : {E : Type 0} (node : ℕ) (p q : StageAccount) (result : Result (Unit {0}) E) → q.nodes ≡ p.nodes → MatchResult result (λ _. Carries node [] [] p q) (λ _. PutsAllButOne node p q)
-took_none node p q (Ok x) same = carries_same node [] p q same
-took_none node p q (Err end) same = record { given = []; one = omega arith; puts = carries_same node [] p q same }
-
-pub ends_behind : (node : ℕ) (p q r : StageAccount) → Carries node [] [] p q → PutsAllButOne node q r → PutsAllButOne node p r
-ends_behind node p q r first end = record { given = end.given; one = end.one; puts = carries_on node [] [] end.given p q r first end.puts }

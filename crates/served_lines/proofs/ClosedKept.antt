@@ -16,18 +16,17 @@ use Rattle.isolation_laws.specs.Holds.{Holds}
 use Rattle.isolation_laws.specs.Pending.{IsOpen}
 use Rattle.machine.specs.Quiet.{AllQuiet}
 use Rattle.isolation_laws.specs.Words.{ClientAt, epoch_or_none, OpenAt, Begun}
-use Rattle.isolation_laws.proofs.Holding.Calmed.{calmed}
-use Rattle.isolation_laws.proofs.Holding.Framed.{framed}
+use Rattle.isolation_laws.proofs.Holding.LeftAlone as left
 use Rattle.machine.proofs.Lookups.{client_set}
 use Rattle.isolation_laws.proofs.Numbers.NumbersKept.{open_begun}
 use Rattle.isolation_laws.proofs.OnceEach.{begun_once}
 use Rattle.machine.specs.Outcome.OutcomesOfRequests.{AskedCommit, asked_commit_state}
 use Rattle.machine.specs.Outcome.OutcomesOfWork.{fetched_turn, read_turn}
-use Rattle.machine.specs.Outcome.Outcomes.{Outcome, OfAskedBegin, OfAskedCommit, OfDrew, OfPlaced, OfAnsweredBegin, OfHanded, OfOwnPlaced, OfWrote, OfVanished, OfFetched, OfReadDropped, OfReadStepped, OfSweepListed, left_by, told_by_outcome}
+use Rattle.machine.specs.Outcome.Outcomes.{Outcome, OfAskedBegin, OfAskedCommit, OfDrew, OfPlaced, OfAnsweredBegin, OfOwnPlaced, OfWrote, OfFetched, OfReadStepped, OfSweepListed, left_by, told_by_outcome}
 use Rattle.isolation_laws.proofs.Pushed.{in_append, written_keys-push, written_keys-quiet}
 use Rattle.isolation_laws.proofs.Requests.ClientMoves.{at_work_after}
 use Rattle.isolation_laws.proofs.Requests.ClientsAfter.{written_keys-other}
-use Rattle.isolation_laws.proofs.Requests.OpenAfter.{at_work_wrote, at_work_vanished, at_work_fetched, at_work_dropped, at_work_read, open_answered_begin, fewer_is_open}
+use Rattle.isolation_laws.proofs.Requests.OpenAfter.{open_answered_begin, fewer_is_open}
 use Rattle.isolation_laws.proofs.Requests.RequestsOfBegins.{start_unbegun}
 use Rattle.isolation_laws.proofs.Requests.RequestsOfDraws.{drew_keys}
 use Rattle.isolation_laws.proofs.Requests.RequestsOfWrites.{wrote_open}
@@ -45,13 +44,7 @@ open_kept w h (OfAnsweredBegin k) s t holds begun now = elim (open_answered_begi
   | inl old ↦ record { session = now.session; epoch = now.epoch; open_at = old }
   | inr here ↦ absurd (start_unbegun w h k s holds (subst (Begun h s) here.1 begun))
 ]
-open_kept w h (OfHanded k) s t holds begun now = fewer_is_open w.clients _ t (framed w h (OfHanded k) holds refl).clients.opened now
-open_kept w h (OfWrote k) s t holds begun now = fewer_is_open w.clients _ t (at_work_wrote w k).opened now
-open_kept w h (OfVanished k) s t holds begun now = fewer_is_open w.clients _ t (at_work_vanished w k).opened now
-open_kept w h (OfFetched k) s t holds begun now = fewer_is_open w.clients _ t (at_work_fetched w k).opened now
-open_kept w h (OfReadDropped k) s t holds begun now = fewer_is_open w.clients _ t (at_work_dropped w k).opened now
-open_kept w h (OfReadStepped k) s t holds begun now = fewer_is_open w.clients _ t (at_work_read w k).opened now
-open_kept w h o s t holds begun now = fewer_is_open w.clients _ t (at_work_after w o refl).opened now
+open_kept w h o s t holds begun now = fewer_is_open w.clients _ t ((left.alone w h o holds).clients.opened refl) now
 
 -- ---- one that is not open writes nothing
 first_quiet : (h : List Item) (x : Item) (rest : List Item) (t : ℕ) → keys_with (written_keys h t) t x ≡ written_keys h t → AllQuiet rest → written_keys (h ++ x ∷ rest) t ≡ written_keys h t
@@ -72,7 +65,7 @@ written_stays w h (OfWrote k) t holds none = written_keys-other h k.it.session k
 written_stays w h (OfFetched k) t holds none = (silent_turn h k.first k.it.session k.start k.key (fetched_turn w k) k.quiet).keys t
 written_stays w h (OfReadStepped k) t holds none = (silent_turn h k.first k.session k.r.start k.r.key (read_turn w k) k.quiet).keys t
 written_stays w h (OfSweepListed k) t holds none = written_keys-push h (item.Step Janitor (Keys k.txn k.count)) t
-written_stays w h o t holds none = written_keys-quiet h (told_by_outcome w o) t (calmed w h o holds refl).quiet
+written_stays w h o t holds none = written_keys-quiet h (told_by_outcome w o) t ((left.alone w h o holds).items.quiet refl)
 
 -- ---- a commit is asked for
 -- the session's transaction was open, and the ask is told alone

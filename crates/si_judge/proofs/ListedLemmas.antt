@@ -9,7 +9,7 @@ use Rattle.history_book.specs.declared.item.Item.{Item}
 use Rattle.isolation_rules.specs.Best.{lists}
 use Rattle.si_judge.specs.Indexed.{HasListed, Txns}
 
-pub or_false : (a : Bool) → (a || false) ≡ a
+or_false : (a : Bool) → (a || false) ≡ a
 or_false true = refl
 or_false false = refl
 

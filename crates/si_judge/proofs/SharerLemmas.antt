@@ -9,7 +9,7 @@ use Rattle.isolation_rules.specs.ApartPairs.{ShareKey, writes, writes_shared}
 use Rattle.isolation_rules.proofs.KeyLemmas.{shared_any, any_is_shared}
 use Rattle.si_judge.specs.Sharers.{HasKeys, HasSharers}
 use Rattle.si_judge.specs.StampSets.{StampSet}
-use Rattle.si_judge.proofs.ListedLemmas.{any_more, at_number, chosen, or_false}
+use Rattle.si_judge.proofs.ListedLemmas.{any_more, at_number, chosen}
 
 -- of no items
 pub no_keys : (t : ℕ) → HasKeys [] t (replicate 4096 false)
@@ -30,11 +30,6 @@ pub sharer_entered : (h part : List Item) (x : Item) (t writer : ℕ) (old new :
 sharer_entered h part x t writer old new one put held = λ u.
     put.0 u ∙ ap (λ b. cond b true (contains nat_eq old u)) (at_number writer u) ∙ chosen (contains nat_eq old u) (u == writer)
     ∙ ap (λ b. b || (u == writer)) (held u) ∙ ap (λ b. list_any (λ y. writes_shared h u t y) part || b) (sym (one u)) ∙ sym (any_more (λ y. writes_shared h u t y) part x)
-
--- an item that writes none of the keys enters nobody
-pub sharer_left : (h part : List Item) (x : Item) (t : ℕ) (starts : StampSet) → ((u : ℕ) → writes_shared h u t x ≡ false) → HasSharers h t part starts → HasSharers h t (part ++ x ∷ []) starts
-sharer_left h part x t starts none held = λ u.
-    held u ∙ (sym (or_false (list_any (λ y. writes_shared h u t y) part)) ∙ (ap (λ b. list_any (λ y. writes_shared h u t y) part || b) (sym (none u)) ∙ sym (any_more (λ y. writes_shared h u t y) part x)))
 
 -- two transactions share a key in either order
 turned : (h : List Item) (t u : ℕ) → ShareKey h t u → ShareKey h u t

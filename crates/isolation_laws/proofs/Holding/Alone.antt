@@ -7,12 +7,14 @@ use Rattle.history_book.specs.declared.item.Item.TheVariants.{Draw, Write, Read}
 use Rattle.oracle_parts.specs.Instance.{InstanceEntry}
 use Rattle.machine.specs.State.{Client, State}
 use Rattle.machine.specs.Quiet.{AllQuiet}
-use Rattle.machine.specs.Outcome.Outcomes.{Outcome, OfGranted, OfExtended, OfAskedBegin, OfAskedCommit, OfAccepted, OfDrew, OfPlaced, OfOwnPlaced, OfAnsweredBegin, OfWrote, OfFetched, OfReadStepped, left_by, told_by_outcome}
+use Rattle.machine.specs.Outcome.Outcomes.{Outcome, OfGranted, OfRenewed, OfExtended, OfAskedBegin, OfAskedCommit, OfAccepted, OfDrew, OfPlaced, OfOwnPlaced, OfAnsweredBegin, OfWrote, OfFetched, OfReadStepped, OfSweepListed, left_by, told_by_outcome}
+use Rattle.isolation_laws.specs.Numbers.{NumberFacts}
 use Rattle.isolation_laws.specs.Requests.{RequestFacts}
 use Rattle.isolation_laws.specs.Memory.{MemoryFacts}
 use Rattle.isolation_laws.specs.Cells.{CellFacts}
 use Rattle.isolation_laws.specs.Begins.{AreFreshBegins, AreSettledBelow}
 use Rattle.isolation_laws.specs.ReadSets.{AreReadSets}
+use Rattle.isolation_laws.specs.UnderWay.{UnderWayFacts}
 use Rattle.isolation_laws.specs.Holds.{Holds}
 use Rattle.isolation_laws.proofs.Memory.MemoryStays.{SameMemory, RecordsNothing, nothing_quiet, nothing_more, memory_same}
 use Rattle.isolation_laws.proofs.Requests.PendingAfter.{FewerPending}
@@ -30,7 +32,8 @@ use Rattle.isolation_laws.proofs.Reading.ReadSetsOfRequests.{none_more}
 use Rattle.isolation_laws.proofs.Stores.LiveAfter.{FewerLive}
 use Rattle.isolation_laws.proofs.Stores.Calm.{Calm, calm_quiet}
 use Rattle.isolation_laws.proofs.Stores.StoresStay.{ShadowsStay}
-use Rattle.isolation_laws.proofs.Holding.Frames.{NodesFrame, ClientsFrame, Frame, live_framed}
+use Rattle.isolation_laws.proofs.Holding.Frames.{NodesFrame, ClientsFrame, Frame, live_framed, numbers_framed}
+use Rattle.isolation_laws.proofs.Holding.NoStamps.{NoStamp, NoStamps, quiet_no_stamps, then_no_stamps}
 
 -- ---- what an outcome may change
 pub record Changes : Type 0 where
@@ -51,24 +54,33 @@ pub record Changes : Type 0 where
   pub stores : Bool
   -- what else the facts on sessions and requests read
   pub requests : Bool
+  -- what the facts on stamps, terms and leases read
+  pub numbers : Bool
+  -- what sessions and the janitor have under way
+  pub under_way : Bool
+  -- whether it tells an item that some fact reads, and whether a begin or a placed commit
+  pub told : Bool
+  pub stamps : Bool
 
 abbrev nothing : Changes
-nothing = record { memory = false; ranges = false; held = false; accepted = false; drawn = false; pending = false; opened = false; reading = false; stores = false; requests = false }
+nothing = record { memory = false; ranges = false; held = false; accepted = false; drawn = false; pending = false; opened = false; reading = false; stores = false; requests = false; numbers = false; under_way = false; told = false; stamps = false }
 
 -- one with a frame changes none of it
 abbrev pub changes : {w : State} → Outcome w → Changes
-changes (OfGranted k) = record nothing { memory = true; ranges = true }
-changes (OfExtended k) = record nothing { ranges = true }
-changes (OfAskedBegin k) = record nothing { held = true }
-changes (OfAskedCommit k) = record nothing { held = true; pending = true; requests = true }
+changes (OfGranted k) = record nothing { memory = true; ranges = true; numbers = true }
+changes (OfRenewed k) = record nothing { numbers = true }
+changes (OfExtended k) = record nothing { ranges = true; numbers = true }
+changes (OfAskedBegin k) = record nothing { held = true; under_way = true; told = true }
+changes (OfAskedCommit k) = record nothing { held = true; pending = true; requests = true; under_way = true }
 changes (OfAccepted k) = record nothing { accepted = true; pending = true; requests = true }
-changes (OfDrew k) = record nothing { memory = true; ranges = true; drawn = true; pending = true; requests = true }
-changes (OfPlaced k) = record nothing { stores = true; requests = true }
-changes (OfOwnPlaced k) = record nothing { stores = true; requests = true }
-changes (OfAnsweredBegin k) = record nothing { opened = true; requests = true }
-changes (OfWrote k) = record nothing { stores = true; requests = true }
-changes (OfFetched k) = record nothing { reading = true }
-changes (OfReadStepped k) = record nothing { reading = true }
+changes (OfDrew k) = record nothing { memory = true; ranges = true; drawn = true; pending = true; requests = true; numbers = true; told = true }
+changes (OfPlaced k) = record nothing { stores = true; requests = true; numbers = true; under_way = true; told = true; stamps = true }
+changes (OfOwnPlaced k) = record nothing { stores = true; requests = true; numbers = true; under_way = true; told = true; stamps = true }
+changes (OfAnsweredBegin k) = record nothing { opened = true; requests = true; numbers = true; under_way = true; told = true; stamps = true }
+changes (OfWrote k) = record nothing { stores = true; requests = true; numbers = true; under_way = true; told = true }
+changes (OfFetched k) = record nothing { reading = true; numbers = true; under_way = true; told = true }
+changes (OfReadStepped k) = record nothing { reading = true; numbers = true; under_way = true; told = true }
+changes (OfSweepListed k) = record nothing { under_way = true; told = true }
 changes _ = nothing
 
 -- ---- what it leaves alone
@@ -84,6 +96,8 @@ pub record ClientsAlone (c : Changes) (old new : List Client) : Type 0 where
   pub reading : c.reading ≡ false → FewerReading old new
 
 pub record ItemsAlone (c : Changes) (h items : List Item) : Type 0 where
+  pub quiet : c.told ≡ false → AllQuiet items
+  pub stamps : c.stamps ≡ false → NoStamps items
   pub records : c.memory ≡ false → RecordsNothing h (h ++ items)
   pub reads : c.reading ≡ false → NoReads items
   pub asks : c.held ≡ false → (s : ℕ) → AsksNothing s items
@@ -101,6 +115,8 @@ pub record Alone (w : State) (h : List Item) (o : Outcome w) : Type 0 where
   pub pending : (changes o).pending ≡ false → FewerPending w.clients w.nodes (left_by w o).clients (left_by w o).nodes
   pub live : (changes o).opened ≡ false → FewerLive w.clients w.nodes (left_by w o).clients (left_by w o).nodes
   pub requests : (changes o).requests ≡ false → RequestFacts w.setup (left_by w o).nodes (left_by w o).clients (h ++ told_by_outcome w o)
+  pub numbers : (changes o).numbers ≡ false → NumberFacts w.setup (left_by w o).seen (left_by w o).nodes w.master (h ++ told_by_outcome w o)
+  pub under_way : (changes o).under_way ≡ false → UnderWayFacts (left_by w o).clients (left_by w o).sweep (left_by w o).rows (left_by w o).pairs (h ++ told_by_outcome w o)
 
 -- ---- all of a part
 pub nodes_all : (c : Changes) (old new : List (Option InstanceEntry)) → NodesFrame old new → NodesAlone c old new
@@ -117,6 +133,8 @@ clients_all c old new f = record { opened = λ is. f.opened; reading = λ is. f.
 
 pub items_quiet : (c : Changes) (h items : List Item) → AllQuiet items → ItemsAlone c h items
 items_quiet c h items quiet = record {
+  quiet = λ is. quiet;
+  stamps = λ is. quiet_no_stamps items quiet;
   records = λ is. nothing_quiet h items quiet;
   reads = λ is. quiet_no_reads items quiet;
   asks = λ is s. quiet_no_ask s items quiet;
@@ -134,8 +152,10 @@ plain_other x y plain other same =
     let no : false ≡ true = sym other ∙ (ap (λ z. is_plain z) same ∙ plain) in
     absurd (cc)
 
-pub items_more : (c : Changes) (h : List Item) (x : Item) (items : List Item) → is_plain x ≡ true → (c.held ≡ false → (s : ℕ) → asks s x ≡ false) → AllQuiet items → ItemsAlone c h (x ∷ items)
-items_more c h x items plain unasked quiet = record {
+pub items_more : (c : Changes) (h : List Item) (x : Item) (items : List Item) → c.told ≡ true → is_plain x ≡ true → (c.stamps ≡ false → NoStamp x) → (c.held ≡ false → (s : ℕ) → asks s x ≡ false) → AllQuiet items → ItemsAlone c h (x ∷ items)
+items_more c h x items told plain unstamped unasked quiet = record {
+  quiet = λ is. absurd (cc);
+  stamps = λ is. then_no_stamps x items (unstamped is) (quiet_no_stamps items quiet);
   records = λ is. nothing_more h x items (λ s n term t commit same. plain_other x (Draw s n term t commit) plain refl same)
       (λ s t k value same drew. plain_other x (Write s t k value) plain refl (sym same)) (λ s t k answer same drew. plain_other x (Read s t k answer) plain refl (sym same)) quiet;
   reads = λ is. then_no_reads x items (λ s b k answer same. plain_other x (Read s b k answer) plain refl same) (quiet_no_reads items quiet);
@@ -143,8 +163,8 @@ items_more c h x items plain unasked quiet = record {
 }
 
 -- by a frame
-pub alone_frame : (w : State) (h : List Item) (o : Outcome w) → Frame w h (left_by w o) (told_by_outcome w o) → Alone w h o
-alone_frame w h o f = record {
+pub alone_frame : (w : State) (h : List Item) (o : Outcome w) → Frame w h (left_by w o) (told_by_outcome w o) → Holds w h → Alone w h o
+alone_frame w h o f holds = record {
   nodes = nodes_all (changes o) w.nodes (left_by w o).nodes f.nodes;
   clients = clients_all (changes o) w.clients (left_by w o).clients f.clients;
   items = items_quiet (changes o) h (told_by_outcome w o) f.quiet;
@@ -152,6 +172,8 @@ alone_frame w h o f = record {
   pending = λ is. f.pending;
   live = λ is. live_framed w h (left_by w o) (told_by_outcome w o) f;
   requests = λ is. f.requests;
+  numbers = λ is. numbers_framed w h (left_by w o) (told_by_outcome w o) f holds;
+  under_way = λ is. f.under_way;
 }
 
 -- ---- each group of facts is kept where nothing that it reads changes

@@ -16,7 +16,8 @@ use Rattle.isolation_laws.proofs.Numbers.NumbersKept.{drew_start}
 use Rattle.isolation_laws.proofs.Numbers.NumbersOfAll.{numbers_kept}
 use Rattle.isolation_laws.proofs.Memory.MemoryKept.{memory_kept}
 use Rattle.isolation_laws.proofs.Requests.RequestsOfBegins.{begin_held}
-use Rattle.isolation_laws.proofs.Holding.IsolatedItems.{NoStamp, NoStamps, quiet_no_stamps, Stamping, StampsNone, StampsPlaced, StampsBegin, stamping, each_on, begin_old, placed_old}
+use Rattle.isolation_laws.proofs.Holding.NoStamps.{NoStamp, NoStamps, quiet_no_stamps}
+use Rattle.isolation_laws.proofs.Holding.IsolatedItems.{Stamping, StampsNone, StampsPlaced, StampsBegin, stamping, each_on, begin_old, placed_old}
 use Rattle.isolation_laws.proofs.Numbers.Placings.{PlacedPending, placed_drew}
 
 -- ---- items without a stamp

@@ -1,12 +1,12 @@
 -- For cause_laws, call_laws and served_lines too.
 -- What keeps the facts on stamps, terms and leases: one item that is not quiet, requests as they stand, reads, quiet items.
-use Rattle.std.proofs.Common.{[], ◌≡◌, ℕ, ◌≤◌, IsTrue, List, ◌∷◌, ◌++◌, append_assoc, Option, Some, refl, sym, ◌∙◌, subst, arith}
+use Rattle.std.proofs.Common.{[], ◌≡◌, ℕ, ◌≤◌, Bool, true, false, IsTrue, List, ◌∷◌, ◌++◌, append_assoc, Option, Some, refl, sym, ◌∙◌, ap, subst, arith}
 use Rattle.std.specs.Prelude.{slice_set}
 use Rattle.std.proofs.lemmas.List.{append-nil}
 use Rattle.std.proofs.lemmas.List.Elements.{All-nil}
 use Rattle.std.proofs.lemmas.Option.{same_Some}
 use Rattle.history_book.specs.declared.item.Item.{Item}
-use Rattle.history_book.specs.declared.item.Item.TheVariants.{Begin, Read, Placed}
+use Rattle.history_book.specs.declared.item.Item.TheVariants.{Begin, Draw, Read, Write, Placed}
 use Rattle.history_book.proofs.MemberLemmas.{in_front}
 use Rattle.stamp_base.specs.SetupNumbers.{SetupNumbers}
 use Rattle.store_parts.specs.Record.{MasterRecord}
@@ -102,6 +102,28 @@ quiet_one w h nodes seen items same up quiet holds = numbers_quiet w.setup w.see
 
 pub here : (w : State) (h items : List Item) → AllQuiet items → Holds w h → NumberFacts w.setup w.seen w.nodes w.master (h ++ items)
 here w h items quiet holds = quiet_one w h w.nodes w.seen items (numbered_same w.nodes) (omega arith) quiet holds
+
+-- an item that no number is read from
+abbrev is_numberless : Item → Bool
+is_numberless (Draw session node term start commit) = false
+is_numberless (Begin session start) = false
+is_numberless (Write session start key value) = false
+is_numberless (Read session start key answer) = false
+is_numberless (Placed start commit) = false
+is_numberless _ = true
+
+numberless_other : (x y : Item) → is_numberless x ≡ true → is_numberless y ≡ false → y ≡ x → ⊥
+numberless_other x y plain other same =
+    let no : false ≡ true = sym other ∙ (ap (λ z. is_numberless z) same ∙ plain) in
+    absurd (cc)
+
+pub plain_one : (w : State) (h : List Item) (nodes : List (Option InstanceEntry)) (x : Item) → is_numberless x ≡ true → SameNumbers w.nodes nodes → Holds w h → NumberFacts w.setup w.seen nodes w.master (h ++ x ∷ [])
+plain_one w h nodes x plain same holds =
+    loud_numbers w.setup w.seen w.nodes nodes w.master h x [] same (λ s m term t commit is. numberless_other x (Draw s m term t commit) plain refl is) (record {
+      drawn = λ s t is. absurd (numberless_other x (Begin s t) plain refl is);
+      writes = λ s t key value is. absurd (numberless_other x (Write s t key value) plain refl is);
+      reads = λ s t key answer is. absurd (numberless_other x (Read s t key answer) plain refl is);
+    }) (λ t c is. absurd (numberless_other x (Placed t c) plain refl is)) (All-nil Quiet) holds.numbers
 
 pub at_node : (w : State) (n : ℕ) (i j : InstanceEntry) → InstanceAt w.nodes n i → IsNumberedAs i j → SameNumbers w.nodes (slice_set w.nodes n (Some j))
 at_node w n i j at same = numbered_set w.nodes n i j at same

@@ -1,43 +1,29 @@
 -- Every outcome keeps the facts on stamps, terms and leases.
-use Rattle.std.proofs.Common.{◌∷◌, Option, [], max, List, ◌++◌, refl, sym, subst, arith}
+use Rattle.std.proofs.Common.{◌∷◌, Option, [], List, ◌++◌, refl, sym, subst}
 use Rattle.std.proofs.lemmas.List.Elements.{All-nil}
 use Rattle.history_book.specs.declared.item.Item.{Item}
-use Rattle.history_book.specs.declared.item.Actor.TheVariants.{Janitor}
-use Rattle.history_book.specs.declared.item.StoreStep.TheVariants.{Keys}
-use Rattle.history_book.specs.declared.item.Item.TheVariants.{AskBegin, Begin, Write, Step}
+use Rattle.history_book.specs.declared.item.Item.TheVariants.{Begin, Write}
 use Rattle.oracle_parts.specs.Instance.{InstanceEntry}
 use Rattle.machine.specs.State.{State}
 use Rattle.isolation_laws.specs.Words.{Begun}
 use Rattle.machine.specs.Quiet.{AllQuiet, Quiet}
 use Rattle.isolation_laws.specs.Numbers.{NumberFacts}
 use Rattle.isolation_laws.specs.Holds.{Holds}
-use Rattle.isolation_laws.proofs.Holding.Framed.{framed}
-use Rattle.isolation_laws.proofs.Holding.Frames.{numbers_framed}
-use Rattle.machine.specs.Outcome.OutcomesOfRequests.{AskedBegin, asked_begin_items, asked_begin_state}
+use Rattle.isolation_laws.proofs.Holding.LeftAlone.{alone}
 use Rattle.machine.specs.Outcome.OutcomesOfStamps.{AnsweredBegin, answered_begin_items, answered_begin_state}
 use Rattle.machine.specs.Outcome.OutcomesOfSessions.{WroteOne, wrote_items}
 use Rattle.machine.specs.Outcome.OutcomesOfWork.{Fetched, ReadStepped, fetched_turn, read_turn, fetched_items, read_stepped_items}
-use Rattle.machine.specs.Outcome.OutcomesOfSweeps.{SweepListed, sweep_listed_items}
-use Rattle.machine.specs.Outcome.Outcomes.{Outcome, OfGranted, OfRenewed, OfExtended, OfAskedBegin, OfAskedCommit, OfAccepted, OfDrew, OfPlaced, OfOwnPlaced, OfAnsweredBegin, OfWrote, OfFetched, OfReadStepped, OfSweepListed, left_by, told_by_outcome}
+use Rattle.machine.specs.Outcome.Outcomes.{Outcome, OfGranted, OfRenewed, OfExtended, OfDrew, OfPlaced, OfOwnPlaced, OfAnsweredBegin, OfWrote, OfFetched, OfReadStepped, left_by, told_by_outcome}
 use Rattle.isolation_laws.proofs.Numbers.NumbersStay.{SameNumbers, numbered_same, numbered}
 use Rattle.isolation_laws.proofs.Numbers.NumbersOfTakes.{numbers_granted}
 use Rattle.isolation_laws.proofs.Numbers.NumbersOfRenewals.{numbers_renewed}
 use Rattle.isolation_laws.proofs.Numbers.NumbersOfRanges.{numbers_extended}
 use Rattle.isolation_laws.proofs.Numbers.NewDraws.{numbers_drew}
 use Rattle.isolation_laws.proofs.Numbers.NumbersOfItems.{begin_is_no_draw, write_is_no_draw, placed_is_no_draw, fits_begin, fits_write, fits_placed, placed_fits}
-use Rattle.isolation_laws.proofs.Numbers.NumbersKept.{loud_numbers, open_begun, drew_start, first_then, quiet_one, at_node}
-use Rattle.machine.proofs.Orders.{max_left}
+use Rattle.isolation_laws.proofs.Numbers.NumbersKept.{loud_numbers, open_begun, drew_start, first_then, at_node}
 use Rattle.isolation_laws.proofs.Numbers.Placings.{PlacedPending, placed_item, placed_drew, by_its_node, by_its_session}
 
 -- ---- every outcome
-numbers_asked_begin : (w : State) (h : List Item) (k : AskedBegin w) → Holds w h → NumberFacts w.setup w.seen (asked_begin_state w k).nodes w.master (h ++ asked_begin_items w k)
-numbers_asked_begin w h k holds =
-    loud_numbers w.setup w.seen w.nodes (asked_begin_state w k).nodes w.master h (AskBegin k.session k.node) [] (at_node w k.node k.i _ k.at (numbered k.i _ refl refl refl refl refl)) (λ s m term u d same. cc) (record {
-      drawn = λ s t is. absurd (cc);
-      writes = λ s t key value is. absurd (cc);
-      reads = λ s t key answer is. absurd (cc);
-    }) (λ t c is. absurd (cc)) (All-nil Quiet) holds.numbers
-
 numbers_placed : (w : State) (h : List Item) (p : PlacedPending w) (nodes : List (Option InstanceEntry)) (items : List Item) → AllQuiet items → SameNumbers w.nodes nodes → Holds w h → NumberFacts w.setup w.seen nodes w.master (h ++ placed_item w p ∷ items)
 numbers_placed w h p nodes items quiet same holds =
     let q = p.coming in
@@ -68,21 +54,10 @@ read_begun w h k holds =
 numbers_read : (w : State) (h : List Item) (k : ReadStepped w) → Holds w h → NumberFacts w.setup w.seen w.nodes w.master (h ++ read_stepped_items w k)
 numbers_read w h k holds = first_then w.setup w.seen w.nodes w.master h k.first k.session k.r.start k.r.key k.session (read_turn w k) k.quiet (read_begun w h k holds) holds.numbers
 
-numbers_listed : (w : State) (h : List Item) (k : SweepListed w) → Holds w h → NumberFacts w.setup w.seen w.nodes w.master (h ++ sweep_listed_items w k)
-numbers_listed w h k holds =
-    loud_numbers w.setup w.seen w.nodes w.nodes w.master h (Step Janitor (Keys k.txn k.count)) [] (numbered_same w.nodes) (λ s m term u d same. cc) (record {
-      drawn = λ s t is. absurd (cc);
-      writes = λ s t key value is. absurd (cc);
-      reads = λ s t key answer is. absurd (cc);
-    }) (λ t c is. absurd (cc)) (All-nil Quiet) holds.numbers
-
 pub numbers_kept : (w : State) (h : List Item) (o : Outcome w) → Holds w h → NumberFacts (left_by w o).setup (left_by w o).seen (left_by w o).nodes (left_by w o).master (h ++ told_by_outcome w o)
 numbers_kept w h (OfGranted k) holds = numbers_granted w h k holds
 numbers_kept w h (OfRenewed k) holds = numbers_renewed w h k holds
 numbers_kept w h (OfExtended k) holds = numbers_extended w h k holds
-numbers_kept w h (OfAskedBegin k) holds = numbers_asked_begin w h k holds
-numbers_kept w h (OfAskedCommit k) holds = quiet_one w h _ w.seen k.items (at_node w k.node k.i _ k.at (numbered k.i _ refl refl refl refl refl)) (omega arith) k.quiet holds
-numbers_kept w h (OfAccepted k) holds = quiet_one w h _ (max w.seen k.reading) k.items (at_node w k.node k.i _ k.at (numbered k.i _ refl refl refl refl refl)) (max_left w.seen k.reading) k.quiet holds
 numbers_kept w h (OfDrew k) holds = numbers_drew w h k holds
 numbers_kept w h (OfPlaced k) holds = numbers_placed w h (by_its_node w h k holds) _ k.items k.quiet (at_node w k.it.node k.it.i _ k.it.at (numbered k.it.i _ refl refl refl refl refl)) holds
 numbers_kept w h (OfOwnPlaced k) holds = numbers_placed w h (by_its_session w k) w.nodes k.items k.quiet (numbered_same w.nodes) holds
@@ -90,5 +65,4 @@ numbers_kept w h (OfAnsweredBegin k) holds = numbers_answered_begin w h k holds
 numbers_kept w h (OfWrote k) holds = numbers_wrote w h k holds
 numbers_kept w h (OfFetched k) holds = numbers_fetched w h k holds
 numbers_kept w h (OfReadStepped k) holds = numbers_read w h k holds
-numbers_kept w h (OfSweepListed k) holds = numbers_listed w h k holds
-numbers_kept w h o holds = numbers_framed w h (left_by w o) (told_by_outcome w o) (framed w h o holds refl) holds
+numbers_kept w h o holds = (alone w h o holds).numbers refl
