@@ -1,4 +1,4 @@
--- For cause_laws, call_laws, served_lines and seat_lines too.
+-- For cause_laws, served_lines and seat_lines too.
 -- What a history has after more items: what it had, and what they bring. Quiet items bring nothing that a fact reads.
 use Rattle.std.proofs.Common.{◌≡◌, ℕ, ◌==◌, true, false, if◌then◌else◌, List, [], ◌∷◌, ◌++◌, append_assoc, Option, Some, None, ◌⊎◌, inl, inr, refl, sym, ◌∙◌, ap, subst}
 use Rattle.std.specs.Option.{option_or}

@@ -1,9 +1,7 @@
 -- Every outcome keeps that a transaction whose commit was asked for is open nowhere, and writes no further key.
-use Rattle.std.proofs.Common.{◌≡◌, ℕ, List, [], ◌∷◌, ◌++◌, append_assoc, Some, inl, inr, refl, sym, ◌∙◌, ap, subst}
+use Rattle.std.proofs.Common.{◌≡◌, ℕ, List, [], ◌∷◌, ◌++◌, Some, inl, inr, refl, sym, ◌∙◌, ap, subst}
 use Rattle.std.proofs.lemmas.List.{append-nil}
 use Rattle.history_book.specs.Members.{◌∈◌}
-use Rattle.history_book.specs.declared.item.Actor.TheVariants.{Janitor}
-use Rattle.history_book.specs.declared.item.StoreStep.TheVariants.{Keys}
 use Rattle.history_book.specs.declared.item.Item.{Item}
 use Rattle.history_book.specs.declared.item.Item.TheVariants as item
 use Rattle.history_book.proofs.MemberLemmas.{in_front}
@@ -11,26 +9,22 @@ use Rattle.client_parts.specs.declared.session.State.TheVariants as phase
 use Rattle.client_parts.specs.SessionSteps.{asked_state}
 use Rattle.machine.specs.State.{Client, State}
 use Rattle.machine.specs.Clients.{client_asked}
-use Rattle.cause_rules.specs.Written.{keys_with, written_keys}
+use Rattle.cause_rules.specs.Written.{written_keys}
 use Rattle.isolation_laws.specs.Holds.{Holds}
 use Rattle.isolation_laws.specs.Pending.{IsOpen}
-use Rattle.machine.specs.Quiet.{AllQuiet}
 use Rattle.isolation_laws.specs.Words.{ClientAt, epoch_or_none, OpenAt, Begun}
 use Rattle.isolation_laws.proofs.Holding.LeftAlone as left
 use Rattle.machine.proofs.Lookups.{client_set}
 use Rattle.isolation_laws.proofs.Numbers.NumbersKept.{open_begun}
 use Rattle.isolation_laws.proofs.OnceEach.{begun_once}
 use Rattle.machine.specs.Outcome.OutcomesOfRequests.{AskedCommit, asked_commit_state}
-use Rattle.machine.specs.Outcome.OutcomesOfWork.{fetched_turn, read_turn}
-use Rattle.machine.specs.Outcome.Outcomes.{Outcome, OfAskedBegin, OfAskedCommit, OfDrew, OfPlaced, OfAnsweredBegin, OfOwnPlaced, OfWrote, OfFetched, OfReadStepped, OfSweepListed, left_by, told_by_outcome}
-use Rattle.isolation_laws.proofs.Pushed.{in_append, written_keys-push, written_keys-quiet}
+use Rattle.machine.specs.Outcome.Outcomes.{Outcome, OfAskedBegin, OfAskedCommit, OfAnsweredBegin, OfWrote, left_by, told_by_outcome}
+use Rattle.isolation_laws.proofs.Pushed.{in_append, written_keys-push}
 use Rattle.isolation_laws.proofs.Requests.ClientMoves.{at_work_after}
 use Rattle.isolation_laws.proofs.Requests.ClientsAfter.{written_keys-other}
 use Rattle.isolation_laws.proofs.Requests.OpenAfter.{open_answered_begin, fewer_is_open}
 use Rattle.isolation_laws.proofs.Requests.RequestsOfBegins.{start_unbegun}
-use Rattle.isolation_laws.proofs.Requests.RequestsOfDraws.{drew_keys}
 use Rattle.isolation_laws.proofs.Requests.RequestsOfWrites.{wrote_open}
-use Rattle.isolation_laws.proofs.Requests.Silent.{silent_turn}
 use Rattle.served_lines.specs.Ends.{AreClosed}
 use Rattle.served_lines.proofs.OwingItems.{only_is}
 use Rattle.served_lines.proofs.OwingOutcomes.{among}
@@ -47,25 +41,13 @@ open_kept w h (OfAnsweredBegin k) s t holds begun now = elim (open_answered_begi
 open_kept w h o s t holds begun now = fewer_is_open w.clients _ t ((left.alone w h o holds).clients.opened refl) now
 
 -- ---- one that is not open writes nothing
-first_quiet : (h : List Item) (x : Item) (rest : List Item) (t : ℕ) → keys_with (written_keys h t) t x ≡ written_keys h t → AllQuiet rest → written_keys (h ++ x ∷ rest) t ≡ written_keys h t
-first_quiet h x rest t same quiet =
-    ap (λ (xs : List Item). written_keys xs t) (sym (append_assoc h (x ∷ []) rest)) ∙ (written_keys-quiet (h ++ x ∷ []) rest t quiet ∙ (written_keys-push h x t ∙ same))
-
 pub written_stays : (w : State) (h : List Item) (o : Outcome w) (t : ℕ) → Holds w h → (IsOpen w.clients t → ⊥) → written_keys (h ++ told_by_outcome w o) t ≡ written_keys h t
-written_stays w h (OfAskedBegin k) t holds none = written_keys-push h (item.AskBegin k.session k.node) t
-written_stays w h (OfDrew k) t holds none = drew_keys w k h t
-written_stays w h (OfPlaced k) t holds none = first_quiet h (item.Placed k.it.start k.it.commit) k.items t refl k.quiet
-written_stays w h (OfOwnPlaced k) t holds none = first_quiet h (item.Placed k.it.start k.it.commit) k.items t refl k.quiet
-written_stays w h (OfAnsweredBegin k) t holds none = written_keys-push h (item.Begin k.session k.start) t
 written_stays w h (OfWrote k) t holds none = written_keys-other h k.it.session k.start t k.key k.value (λ same. none (record {
   session = k.it.session;
   epoch = epoch_or_none k.it.c.entry.epoch;
   open_at = subst (λ (u : ℕ). OpenAt w.clients k.it.session u (epoch_or_none k.it.c.entry.epoch)) same (wrote_open w k);
 }))
-written_stays w h (OfFetched k) t holds none = (silent_turn h k.first k.it.session k.start k.key (fetched_turn w k) k.quiet).keys t
-written_stays w h (OfReadStepped k) t holds none = (silent_turn h k.first k.session k.r.start k.r.key (read_turn w k) k.quiet).keys t
-written_stays w h (OfSweepListed k) t holds none = written_keys-push h (item.Step Janitor (Keys k.txn k.count)) t
-written_stays w h o t holds none = written_keys-quiet h (told_by_outcome w o) t ((left.alone w h o holds).items.quiet refl)
+written_stays w h o t holds none = (left.alone w h o holds).items.writes refl t
 
 -- ---- a commit is asked for
 -- the session's transaction was open, and the ask is told alone

@@ -1,6 +1,6 @@
 -- What each outcome leaves alone, with a frame or without: one record says it, and each group of facts is kept by it. For the tables over
 -- all outcomes, which name only those that change what their facts read.
-use Rattle.std.proofs.Common.{◌≡◌, ℕ, Bool, true, false, List, ◌∷◌, ◌++◌, Option, refl, sym, ◌∙◌, ap}
+use Rattle.std.proofs.Common.{◌≡◌, ℕ, Bool, true, false, List, [], ◌∷◌, ◌++◌, append_assoc, Option, refl, sym, ◌∙◌, ap}
 use Rattle.history_book.specs.Isolation.{asks}
 use Rattle.history_book.specs.declared.item.Item.{Item}
 use Rattle.history_book.specs.declared.item.Item.TheVariants.{Draw, Write, Read}
@@ -8,6 +8,7 @@ use Rattle.oracle_parts.specs.Instance.{InstanceEntry}
 use Rattle.machine.specs.State.{Client, State}
 use Rattle.machine.specs.Quiet.{AllQuiet}
 use Rattle.machine.specs.Outcome.Outcomes.{Outcome, OfGranted, OfRenewed, OfExtended, OfAskedBegin, OfAskedCommit, OfAccepted, OfDrew, OfPlaced, OfOwnPlaced, OfAnsweredBegin, OfWrote, OfFetched, OfReadStepped, OfSweepListed, left_by, told_by_outcome}
+use Rattle.isolation_laws.specs.Words.{written_keys}
 use Rattle.isolation_laws.specs.Numbers.{NumberFacts}
 use Rattle.isolation_laws.specs.Requests.{RequestFacts}
 use Rattle.isolation_laws.specs.Memory.{MemoryFacts}
@@ -16,10 +17,12 @@ use Rattle.isolation_laws.specs.Begins.{AreFreshBegins, AreSettledBelow}
 use Rattle.isolation_laws.specs.ReadSets.{AreReadSets}
 use Rattle.isolation_laws.specs.UnderWay.{UnderWayFacts}
 use Rattle.isolation_laws.specs.Holds.{Holds}
+use Rattle.isolation_laws.proofs.Pushed.{written_keys-quiet}
 use Rattle.isolation_laws.proofs.Memory.MemoryStays.{SameMemory, RecordsNothing, nothing_quiet, nothing_more, memory_same}
 use Rattle.isolation_laws.proofs.Requests.PendingAfter.{FewerPending}
 use Rattle.isolation_laws.proofs.Requests.RequestsAfter.{FewerHeld}
 use Rattle.isolation_laws.proofs.Requests.CommitsInFlight.{FewerStanding, IsAcceptedNow, IsDrawnNow}
+use Rattle.isolation_laws.proofs.Requests.ClientsAfter.{written_keys-no_write}
 use Rattle.isolation_laws.proofs.Requests.ClientsOpen.{FewerOpen}
 use Rattle.isolation_laws.proofs.Requests.AsksBefore.{AsksNothing, quiet_no_ask, then_no_ask}
 use Rattle.isolation_laws.proofs.Requests.FreshBegins.{begins_of, fresh_fewer}
@@ -58,12 +61,13 @@ pub record Changes : Type 0 where
   pub numbers : Bool
   -- what sessions and the janitor have under way
   pub under_way : Bool
-  -- whether it tells an item that some fact reads, and whether a begin or a placed commit
+  -- whether it tells an item that some fact reads, and of these a begin or a placed commit, or a write
   pub told : Bool
   pub stamps : Bool
+  pub writes : Bool
 
 abbrev nothing : Changes
-nothing = record { memory = false; ranges = false; held = false; accepted = false; drawn = false; pending = false; opened = false; reading = false; stores = false; requests = false; numbers = false; under_way = false; told = false; stamps = false }
+nothing = record { memory = false; ranges = false; held = false; accepted = false; drawn = false; pending = false; opened = false; reading = false; stores = false; requests = false; numbers = false; under_way = false; told = false; stamps = false; writes = false }
 
 -- one with a frame changes none of it
 abbrev pub changes : {w : State} → Outcome w → Changes
@@ -77,7 +81,7 @@ changes (OfDrew k) = record nothing { memory = true; ranges = true; drawn = true
 changes (OfPlaced k) = record nothing { stores = true; requests = true; numbers = true; under_way = true; told = true; stamps = true }
 changes (OfOwnPlaced k) = record nothing { stores = true; requests = true; numbers = true; under_way = true; told = true; stamps = true }
 changes (OfAnsweredBegin k) = record nothing { opened = true; requests = true; numbers = true; under_way = true; told = true; stamps = true }
-changes (OfWrote k) = record nothing { stores = true; requests = true; numbers = true; under_way = true; told = true }
+changes (OfWrote k) = record nothing { stores = true; requests = true; numbers = true; under_way = true; told = true; writes = true }
 changes (OfFetched k) = record nothing { reading = true; numbers = true; under_way = true; told = true }
 changes (OfReadStepped k) = record nothing { reading = true; numbers = true; under_way = true; told = true }
 changes (OfSweepListed k) = record nothing { under_way = true; told = true }
@@ -98,6 +102,7 @@ pub record ClientsAlone (c : Changes) (old new : List Client) : Type 0 where
 pub record ItemsAlone (c : Changes) (h items : List Item) : Type 0 where
   pub quiet : c.told ≡ false → AllQuiet items
   pub stamps : c.stamps ≡ false → NoStamps items
+  pub writes : c.writes ≡ false → (t : ℕ) → written_keys (h ++ items) t ≡ written_keys h t
   pub records : c.memory ≡ false → RecordsNothing h (h ++ items)
   pub reads : c.reading ≡ false → NoReads items
   pub asks : c.held ≡ false → (s : ℕ) → AsksNothing s items
@@ -135,6 +140,7 @@ pub items_quiet : (c : Changes) (h items : List Item) → AllQuiet items → Ite
 items_quiet c h items quiet = record {
   quiet = λ is. quiet;
   stamps = λ is. quiet_no_stamps items quiet;
+  writes = λ is t. written_keys-quiet h items t quiet;
   records = λ is. nothing_quiet h items quiet;
   reads = λ is. quiet_no_reads items quiet;
   asks = λ is s. quiet_no_ask s items quiet;
@@ -152,10 +158,15 @@ plain_other x y plain other same =
     let no : false ≡ true = sym other ∙ (ap (λ z. is_plain z) same ∙ plain) in
     absurd (cc)
 
+keys_same : (h : List Item) (x : Item) (items : List Item) (t : ℕ) → ((s u k : ℕ) (value : List ℕ) → x ≡ Write s u k value → ⊥) → AllQuiet items → written_keys (h ++ x ∷ items) t ≡ written_keys h t
+keys_same h x items t none quiet =
+    ap (λ (all : List Item). written_keys all t) (sym (append_assoc h (x ∷ []) items)) ∙ (written_keys-quiet (h ++ x ∷ []) items t quiet ∙ written_keys-no_write h x t none)
+
 pub items_more : (c : Changes) (h : List Item) (x : Item) (items : List Item) → c.told ≡ true → is_plain x ≡ true → (c.stamps ≡ false → NoStamp x) → (c.held ≡ false → (s : ℕ) → asks s x ≡ false) → AllQuiet items → ItemsAlone c h (x ∷ items)
 items_more c h x items told plain unstamped unasked quiet = record {
   quiet = λ is. absurd (cc);
   stamps = λ is. then_no_stamps x items (unstamped is) (quiet_no_stamps items quiet);
+  writes = λ is t. keys_same h x items t (λ s u k value same. plain_other x (Write s u k value) plain refl (sym same)) quiet;
   records = λ is. nothing_more h x items (λ s n term t commit same. plain_other x (Draw s n term t commit) plain refl same)
       (λ s t k value same drew. plain_other x (Write s t k value) plain refl (sym same)) (λ s t k answer same drew. plain_other x (Read s t k answer) plain refl (sym same)) quiet;
   reads = λ is. then_no_reads x items (λ s b k answer same. plain_other x (Read s b k answer) plain refl same) (quiet_no_reads items quiet);

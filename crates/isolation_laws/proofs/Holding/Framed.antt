@@ -1,4 +1,3 @@
--- For served_lines too.
 -- Which outcomes have a frame, and what it is of each.
 use Rattle.isolation_laws.proofs.Requests.ClientMoves.{reading_after}
 use Rattle.machine.specs.Outcome.Outcomes.{OfAborted, OfAnsweredCommit, OfCompleted, OfCrashed, OfEnded, OfEndedReadOnly, OfHealed, OfOutcome, OfOutcomeFailed, OfOwnNotPlaced, OfWriteFailed, Outcome, OfStill, OfGranted, OfRenewed, OfExtended, OfAskedBegin, OfAskedCommit, OfAccepted, OfDrew, OfPlaced, OfNotPlaced, OfAnsweredBegin, OfHanded, OfOwnPlaced, OfWrote, OfVanished, OfFetched, OfReadDropped, OfReadStepped, OfSweepOpened, OfSwept, OfSweepListed, OfSweepFailed, left_by, told_by_outcome}

@@ -44,6 +44,7 @@ use Rattle.isolation_laws.proofs.Requests.Silent.{Silent, silent_quiet, silent_p
 use Rattle.isolation_laws.proofs.Requests.RequestsKept.{Leaves, requests_silent}
 use Rattle.isolation_laws.proofs.Requests.RequestsOfNodes.{leaves_granted, leaves_renewed, leaves_extended, leaves_asked_begin, leaves_alone}
 use Rattle.isolation_laws.proofs.Requests.RequestsOfClients.{leaves_fetched, leaves_read}
+use Rattle.isolation_laws.proofs.Requests.RequestsOfDraws.{drew_keys}
 use Rattle.isolation_laws.proofs.Requests.RequestsOfWrites.{wrote_open}
 use Rattle.isolation_laws.proofs.Reading.ClientsReading.{FewerReading, same_reading, reading_answered_begin, reading_wrote}
 use Rattle.isolation_laws.proofs.Reading.ReadsStay.{one_no_reads, draw_no_reads}
@@ -93,6 +94,7 @@ items_turn : (c : Changes) (h : List Item) (x : Item) (s b k : ℕ) (turn : Read
 items_turn c h x s b k turn reads told quiet undrawn = record {
   quiet = λ is. absurd (cc);
   stamps = λ is. first_no_stamps x (read_items s b k turn) quiet (turn_no_stamps s b k turn);
+  writes = λ is. (silent_turn h x s b k turn quiet).keys;
   records = λ is. nothing_turn h x s b k turn quiet undrawn;
   reads = λ is. absurd (cc);
   asks = λ is r. turn_no_ask r x s b k turn quiet;
@@ -170,7 +172,7 @@ alone w h (OfAccepted k) holds =
 alone w h (OfDrew k) holds =
     loudly w h (OfDrew k) refl (record { memory = λ is. absurd (cc); ranges = λ is. absurd (cc); held = λ is. held_drew w k; accepted = λ is. standing_drew IsAcceptedNow w k (drawn_not_accepted k.i.direct k.held.request (k.i.last + 1)); drawn = λ is. absurd (cc) })
     (clients_all _ w.clients w.clients (clients_stay w.clients))
-    (record { quiet = λ is. absurd (cc); stamps = λ is. one_no_stamp (draw_item k.node k.i.term k.held.request (k.i.last + 1)) (draw_no_stamp k.node k.i.term (k.i.last + 1) k.held.request); records = λ is. absurd (cc); reads = λ is. draw_no_reads k.node k.i.term k.held.request (k.i.last + 1); asks = λ is s. draw_no_ask s k.node k.i.term (k.i.last + 1) k.held.request }) (stores_same w h (OfDrew k) (calm_draw h k.node k.i.term k.held.request (k.i.last + 1)) holds) (λ is. absurd (cc)) (λ is. live_drew w k) (λ is. absurd (cc)) (λ is. under_way_same w h _ holds (calm_draw h k.node k.i.term k.held.request (k.i.last + 1)))
+    (record { quiet = λ is. absurd (cc); stamps = λ is. one_no_stamp (draw_item k.node k.i.term k.held.request (k.i.last + 1)) (draw_no_stamp k.node k.i.term (k.i.last + 1) k.held.request); writes = λ is. drew_keys w k h; records = λ is. absurd (cc); reads = λ is. draw_no_reads k.node k.i.term k.held.request (k.i.last + 1); asks = λ is s. draw_no_ask s k.node k.i.term (k.i.last + 1) k.held.request }) (stores_same w h (OfDrew k) (calm_draw h k.node k.i.term k.held.request (k.i.last + 1)) holds) (λ is. absurd (cc)) (λ is. live_drew w k) (λ is. absurd (cc)) (λ is. under_way_same w h _ holds (calm_draw h k.node k.i.term k.held.request (k.i.last + 1)))
 alone w h (OfPlaced k) holds =
     loudly w h (OfPlaced k) refl (nodes_all _ w.nodes _ (nodes_settled w k.it k.by)) (clients_all _ w.clients w.clients (clients_stay w.clients))
     (items_more _ h (Placed k.it.start k.it.commit) k.items refl refl (λ is. absurd (cc)) (λ is s. refl) k.quiet) (stores_change w h (OfPlaced k) refl) (λ is. fewer_settled w k.it k.by) (λ is. live_by_nodes w.clients w.nodes _ (fewer_settled w k.it k.by)) (λ is. absurd (cc)) (λ is. absurd (cc))
@@ -182,7 +184,7 @@ alone w h (OfAnsweredBegin k) holds =
     (items_more _ h (Begin k.session k.start) [] refl refl (λ is. absurd (cc)) (λ is s. refl) (All-nil Quiet)) (stores_same w h (OfAnsweredBegin k) (calm_begin h k.session k.start) holds) (λ is. pending_answered_begin w k) (λ is. absurd (cc)) (λ is. absurd (cc)) (λ is. absurd (cc))
 alone w h (OfWrote k) holds =
     loudly w h (OfWrote k) refl (nodes_all _ w.nodes w.nodes (nodes_stay w.nodes)) (record { opened = λ is. (at_work_wrote w k).opened; reading = λ is. reading_wrote w k })
-    (record { quiet = λ is. absurd (cc); stamps = λ is. one_no_stamp (Write k.it.session k.start k.key k.value) refl; records = λ is. wrote_nothing w h k holds; reads = λ is. one_no_reads (Write k.it.session k.start k.key k.value) (λ s b key answer is. cc); asks = λ is s. one_no_ask s _ refl }) (stores_change w h (OfWrote k) refl) (λ is. fewer_pending w.clients _ w.nodes w.nodes (at_work_wrote w k).placing (same_served w.nodes)) (λ is. live_by_clients w.clients _ w.nodes (at_work_wrote w k)) (λ is. absurd (cc)) (λ is. absurd (cc))
+    (record { quiet = λ is. absurd (cc); stamps = λ is. one_no_stamp (Write k.it.session k.start k.key k.value) refl; writes = λ is. absurd (cc); records = λ is. wrote_nothing w h k holds; reads = λ is. one_no_reads (Write k.it.session k.start k.key k.value) (λ s b key answer is. cc); asks = λ is s. one_no_ask s _ refl }) (stores_change w h (OfWrote k) refl) (λ is. fewer_pending w.clients _ w.nodes w.nodes (at_work_wrote w k).placing (same_served w.nodes)) (λ is. live_by_clients w.clients _ w.nodes (at_work_wrote w k)) (λ is. absurd (cc)) (λ is. absurd (cc))
 alone w h (OfFetched k) holds =
     silently w h (OfFetched k) (nodes_all _ w.nodes w.nodes (nodes_stay w.nodes)) (λ is. absurd (cc))
     (items_turn _ h k.first k.it.session k.start k.key (fetched_turn w k) refl refl k.quiet (holds.requests.opened.undrawn k.it.session k.start k.epoch (fetched_open w k)))

@@ -1,4 +1,3 @@
--- For served_lines too.
 -- A longer history that has no further begin, draw, write or placed commit.
 use Rattle.std.proofs.Common.{◌≡◌, ℕ, List, [], ◌∷◌, ◌++◌, append_assoc, Option, Some, refl, sym, ◌∙◌, subst}
 use Rattle.std.proofs.lemmas.List.{append-nil}
