@@ -81,12 +81,7 @@ impl Rows {
 
     /// Of the key's cells of version at most `upto`, how many there are, and those that the reader needs, the greatest version
     /// first.
-    pub fn front(
-        &self,
-        key: KeyNo,
-        upto: Stamp,
-        reader: Option<Stamp>,
-    ) -> Result<Front, NoMemory>
+    pub fn front(&self, key: KeyNo, upto: Stamp, reader: Option<Stamp>) -> Result<Front, NoMemory>
         ensures versions { IfOk result (λ front. front.versions ≡ length (fetched self.now key upto)) }
         ensures cells { IfOk result (λ front. front.cells.items ≡ needed_by reader (fetched self.now key upto)) }
         ensures ordered { AreOrdered self.now }
