@@ -1,4 +1,4 @@
--- For isolation_laws and turn_rules too.
+-- For turn_rules too.
 -- A refusal that leaves all: what an effect has to leave of its parts, and what it is of the whole once they are put back.
 use Rattle.std.proofs.Common.{◌≡◌, ℕ, zero, suc, IsTrue, List, [], ◌∷◌, Option, Some, None, refl, sym, ◌∙◌, ap, subst}
 use Rattle.std.specs.Prelude.{slice_get, slice_set}

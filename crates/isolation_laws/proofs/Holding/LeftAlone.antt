@@ -31,7 +31,7 @@ use Rattle.isolation_laws.specs.UnderWay.{UnderWayFacts}
 use Rattle.isolation_laws.specs.Holds.{Holds}
 use Rattle.isolation_laws.proofs.Memory.MemoryStays.{SameMemory, RecordsNothing, remembered_same, remembered_set, nothing_turn, nothing_write}
 use Rattle.isolation_laws.proofs.Numbers.NumbersStay.{SameNumbers, numbered_same, numbered_set, numbered}
-use Rattle.isolation_laws.proofs.Numbers.NumbersKept.{plain_one, quiet_one, at_node}
+use Rattle.isolation_laws.proofs.Numbers.NumbersKept.{plain_one, quiet_one}
 use Rattle.isolation_laws.proofs.Requests.ClientMoves.{at_work_after, reading_after}
 use Rattle.isolation_laws.proofs.Requests.OpenAfter.{at_work_wrote}
 use Rattle.isolation_laws.proofs.Requests.PendingFewer.{same_served, fewer_settled, pending_answered_begin}
@@ -83,11 +83,11 @@ extended_memory w k false = remembered_set w.nodes k.node k.i _ k.at (record { t
 requests_memory : (nodes : List (Option InstanceEntry)) (n s : ℕ) (i : InstanceEntry) (now : Option Held) → InstanceAt nodes n i → SameMemory nodes (slice_set nodes n (Some (with_request i s now)))
 requests_memory nodes n s i now at = remembered_set nodes n i (with_request i s now) at (record { term = refl; buckets = refl; direct = refl })
 
-requests_ranges : (nodes : List (Option InstanceEntry)) (n s : ℕ) (i : InstanceEntry) (now : Option Held) → InstanceAt nodes n i → KeepsRanges nodes (slice_set nodes n (Some (with_request i s now)))
-requests_ranges nodes n s i now at = numbers_keep nodes _ (numbered_set nodes n i (with_request i s now) at (numbered i _ refl refl refl refl refl))
+requests_numbers : (nodes : List (Option InstanceEntry)) (n s : ℕ) (i : InstanceEntry) (now : Option Held) → InstanceAt nodes n i → SameNumbers nodes (slice_set nodes n (Some (with_request i s now)))
+requests_numbers nodes n s i now at = numbered_set nodes n i (with_request i s now) at (numbered i _ refl refl refl refl refl)
 
-requests_numbers : (w : State) (n s : ℕ) (i : InstanceEntry) (now : Option Held) → InstanceAt w.nodes n i → SameNumbers w.nodes (slice_set w.nodes n (Some (with_request i s now)))
-requests_numbers w n s i now at = at_node w n i (with_request i s now) at (numbered i _ refl refl refl refl refl)
+requests_ranges : (nodes : List (Option InstanceEntry)) (n s : ℕ) (i : InstanceEntry) (now : Option Held) → InstanceAt nodes n i → KeepsRanges nodes (slice_set nodes n (Some (with_request i s now)))
+requests_ranges nodes n s i now at = numbers_keep nodes _ (requests_numbers nodes n s i now at)
 
 -- ---- items: what a read has come to, and a write
 items_turn : (c : Changes) (h : List Item) (x : Item) (s b k : ℕ) (turn : ReadTurn) → c.reading ≡ true → c.told ≡ true → Quiet x → (HasDrawn h b → ⊥) → ItemsAlone c h (x ∷ read_items s b k turn)
@@ -160,15 +160,15 @@ alone w h (OfExtended k) holds =
     (λ is. same_reading w.clients) (items_quiet _ h k.items k.quiet) (stores_same w h (OfExtended k) (calm_quiet h k.items k.quiet) holds) (silent_quiet h k.items k.quiet) (leaves_extended w h k holds) (λ is. absurd (cc)) (λ is. under_way_same w h _ holds (calm_quiet h k.items k.quiet)) holds
 alone w h (OfAskedBegin k) holds =
     silently w h (OfAskedBegin k) (record { memory = λ is. requests_memory w.nodes k.node k.session k.i _ k.at; ranges = λ is. requests_ranges w.nodes k.node k.session k.i _ k.at; held = λ is. absurd (cc); accepted = λ is. standing_asked_begin IsAcceptedNow w k (λ is. is); drawn = λ is. standing_asked_begin IsDrawnNow w k (λ is. is) })
-    (λ is. reading_after w (OfAskedBegin k) refl) (items_more _ h (AskBegin k.session k.node) [] refl refl (λ is. refl) (λ is. absurd (cc)) (All-nil Quiet)) (stores_same w h (OfAskedBegin k) (calm_ask h k.session k.node) holds) (silent_push h _ (ask_says k.session k.node)) (leaves_asked_begin w h k holds) (λ is. plain_one w h _ (AskBegin k.session k.node) refl (requests_numbers w k.node k.session k.i _ k.at) holds) (λ is. absurd (cc)) holds
+    (λ is. reading_after w (OfAskedBegin k) refl) (items_more _ h (AskBegin k.session k.node) [] refl refl (λ is. refl) (λ is. absurd (cc)) (All-nil Quiet)) (stores_same w h (OfAskedBegin k) (calm_ask h k.session k.node) holds) (silent_push h _ (ask_says k.session k.node)) (leaves_asked_begin w h k holds) (λ is. plain_one w h _ (AskBegin k.session k.node) refl (requests_numbers w.nodes k.node k.session k.i _ k.at) holds) (λ is. absurd (cc)) holds
 alone w h (OfAskedCommit k) holds =
     loudly w h (OfAskedCommit k) refl (record { memory = λ is. requests_memory w.nodes k.node k.session k.i _ k.at; ranges = λ is. requests_ranges w.nodes k.node k.session k.i _ k.at; held = λ is. absurd (cc); accepted = λ is. standing_asked_commit IsAcceptedNow w k (λ is. is); drawn = λ is. standing_asked_commit IsDrawnNow w k (λ is. is) })
     (record { opened = λ is. (at_work_after w (OfAskedCommit k) refl).opened; reading = λ is. reading_after w (OfAskedCommit k) refl }) (items_quiet _ h k.items k.quiet) (stores_same w h (OfAskedCommit k) (calm_quiet h k.items k.quiet) holds) (λ is. absurd (cc)) (λ is. live_asked_commit w k)
-    (λ is. quiet_one w h _ w.seen k.items (requests_numbers w k.node k.session k.i _ k.at) (omega arith) k.quiet holds) (λ is. absurd (cc))
+    (λ is. quiet_one w h _ w.seen k.items (requests_numbers w.nodes k.node k.session k.i _ k.at) (omega arith) k.quiet holds) (λ is. absurd (cc))
 alone w h (OfAccepted k) holds =
     loudly w h (OfAccepted k) refl (record { memory = λ is. requests_memory w.nodes k.node k.session k.i _ k.at; ranges = λ is. requests_ranges w.nodes k.node k.session k.i _ k.at; held = λ is. held_accepted w k; accepted = λ is. absurd (cc); drawn = λ is. standing_accepted IsDrawnNow w k (λ is. is) })
     (clients_all _ w.clients w.clients (clients_stay w.clients)) (items_quiet _ h k.items k.quiet) (stores_same w h (OfAccepted k) (calm_quiet h k.items k.quiet) holds) (λ is. absurd (cc)) (λ is. live_accepted w k)
-    (λ is. quiet_one w h _ (max w.seen k.reading) k.items (requests_numbers w k.node k.session k.i _ k.at) (max_left w.seen k.reading) k.quiet holds) (λ is. under_way_same w h _ holds (calm_quiet h k.items k.quiet))
+    (λ is. quiet_one w h _ (max w.seen k.reading) k.items (requests_numbers w.nodes k.node k.session k.i _ k.at) (max_left w.seen k.reading) k.quiet holds) (λ is. under_way_same w h _ holds (calm_quiet h k.items k.quiet))
 alone w h (OfDrew k) holds =
     loudly w h (OfDrew k) refl (record { memory = λ is. absurd (cc); ranges = λ is. absurd (cc); held = λ is. held_drew w k; accepted = λ is. standing_drew IsAcceptedNow w k (drawn_not_accepted k.i.direct k.held.request (k.i.last + 1)); drawn = λ is. absurd (cc) })
     (clients_all _ w.clients w.clients (clients_stay w.clients))
