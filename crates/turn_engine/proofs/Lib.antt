@@ -19,3 +19,8 @@ mod Here
 mod Lacking
 mod AllEnded
 mod TurnRoom
+mod SessionEvents
+mod OtherViews
+mod PassedOnce
+mod OneActor
+mod OthersSit

@@ -1,11 +1,15 @@
 -- What every step keeps, and what stands at the end.
-use Rattle.std.specs.Prelude.{◌≡◌, ℕ, ◌≤◌}
+use Rattle.std.specs.Prelude.{◌≡◌, ◌≢◌, ℕ, ◌≤◌, List, [], ◌∷◌, ◌++◌, Some}
 use Rattle.stamp_base.specs.declared.stage.Stage.{Stage}
 use Rattle.history_book.specs.declared.item.Actor.{Actor}
-use Rattle.turn_rules.specs.Carried.{AreWhole}
+use Rattle.history_book.specs.declared.item.Actor.TheVariants.{Session}
+use Rattle.script_data.specs.Data.{ScriptData}
+use Rattle.turn_rules.specs.declared.turn.Turn.{Turn}
+use Rattle.turn_rules.specs.Carried.{seat_of, carried, AreWhole}
 use Rattle.thread_steps.specs.declared.stages.StageStep.{StageStep}
 use Rattle.turn_engine.specs.declared.answers.Advance.{Advance}
 use Rattle.turn_engine.specs.Run.{Ran}
+use Rattle.turn_engine.specs.Seating.{touched}
 use Rattle.turn_engine.specs.Steps.{place_of, HasEnded, Advances, Serves}
 
 -- it is the same script, and no actor's place has fallen
@@ -24,3 +28,7 @@ StageStepsGoFurther = (old new : Ran) (node term : ℕ) (stage : Stage) (session
 -- where every actor has ended, the turns are whole
 abbrev pub EndedRunsAreWhole : Type 0
 EndedRunsAreWhole = (r : Ran) → ((actor : Actor) → HasEnded r actor) → AreWhole r.script r.turns
+
+-- a turn of a session, or one that serves its request, lets no other actor pass a line: every other seat is as before
+abbrev pub OthersStaySeated : Type 0
+OthersStaySeated = (script : ScriptData) (turns : List Turn) (turn : Turn) (session : ℕ) (actor : Actor) → touched turn ≡ Some session → actor ≢ Session session → seat_of (carried script (turns ++ turn ∷ [])).seats actor ≡ seat_of (carried script turns).seats actor

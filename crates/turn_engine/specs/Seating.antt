@@ -44,6 +44,24 @@ pub record CanPass (base : ℕ) (leads : List ℕ) (s : Seated) : Type 0 where
 abbrev pub after_passing : Clocks → State → Seated → Seated
 after_passing clocks w s = record s { seat = passed clocks (view_of w s.seat.actor) (drop s.seat.place s.lines.items) s.seat }
 
+-- the session of which a turn is: its own, or one by which a stage serves its request
+abbrev pub touched : Turn → Option ℕ
+touched (turn.Own (Session session) aim) = Some session
+touched (turn.Own actor aim) = None
+touched (turn.Accept node session) = Some session
+touched (turn.Decide node session) = Some session
+touched (turn.Put node session) = Some session
+touched (turn.Answer node session) = Some session
+touched (turn.Extend node) = None
+
+-- a session passes its lines, or every actor does
+abbrev pub passing_of : ℕ → Clocks → State → Seated → Seated
+passing_of session clocks w s = if same_actor s.seat.actor (Session session) then after_passing clocks w s else s
+
+abbrev pub after_passes : Option ℕ → Clocks → State → List Seated → List Seated
+after_passes None clocks w seated = map (after_passing clocks w) seated
+after_passes (Some session) clocks w seated = map (passing_of session clocks w) seated
+
 -- ---- the first seats
 -- these actors sit, each with its own lines, of which none is passed
 pub record AreSeated (lines : List Line) (sitting : List Seat) (all : List Seated) : Type 0 where

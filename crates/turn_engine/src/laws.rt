@@ -1,5 +1,5 @@
 // What every step keeps, and what stands at the end.
-ghost use Rattle.turn_engine.specs.Further.{AdvancesGoFurther, StageStepsGoFurther, EndedRunsAreWhole};
+ghost use Rattle.turn_engine.specs.Further.{AdvancesGoFurther, StageStepsGoFurther, EndedRunsAreWhole, OthersStaySeated};
 
 /// Whichever actor advances, the script stays, and no actor's place falls.
 pub fn advances_go_further()
@@ -14,4 +14,9 @@ pub fn stage_steps_go_further()
 /// Where every actor has ended, the turns are whole.
 pub fn ended_runs_are_whole()
     ensures { EndedRunsAreWhole }
+{}
+
+/// After a turn of a session, every other actor sits where it sat.
+pub fn others_stay_seated()
+    ensures { OthersStaySeated }
 {}

@@ -12,7 +12,9 @@ mod seated;
 mod steps;
 
 pub use answers::Advance;
-pub use laws::{advances_go_further, ended_runs_are_whole, stage_steps_go_further};
+pub use laws::{
+    advances_go_further, ended_runs_are_whole, others_stay_seated, stage_steps_go_further,
+};
 pub use run::ScriptRun;
 pub use thread_steps::StageStep;
 pub use turn_rules::{Turn, Why};

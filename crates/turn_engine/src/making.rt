@@ -10,7 +10,7 @@ ghost use Rattle.turn_engine.specs.Making.{Makes, halted, is_told, finds_no_stam
 
 use crate::ScriptRun;
 use crate::marks::note_stage;
-use crate::seated::{go_on, pass_all};
+use crate::seated::{go_on, pass_touched};
 use history_book::Item;
 use line_steps::{Halt, refused};
 use machine::Event;
@@ -52,10 +52,11 @@ impl ScriptRun {
         self.names.add(name);
         note_stage(&mut self.held, event);
         go_on(&mut self.seated, &turn, halt, asked);
-        pass_all(
+        pass_touched(
             &self.planned,
             self.script.leads.as_slice(),
             &mut self.seated,
+            &turn,
         );
         clear_lacks(&mut self.lacking);
         self.turns.push_reserved(turn);

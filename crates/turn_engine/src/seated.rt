@@ -3,7 +3,7 @@ ghost use Rattle.std.specs.Prelude.{◌≡◌, ◌<◌, ◌≤◌, All, map, IfO
 ghost use Rattle.history_book.specs.declared.item.Actor.TheVariants.{Node, Session};
 ghost use Rattle.planned_cluster.specs.Fitting.{SessionIsThere};
 ghost use Rattle.planned_cluster.specs.Standing.{clocks_at};
-ghost use Rattle.turn_engine.specs.Seating.{own_lines, line_of, seated_of, after_turn, after_passing, CanPass, AreSeatedFirst, SitsDown};
+ghost use Rattle.turn_engine.specs.Seating.{own_lines, line_of, seated_of, after_turn, after_passing, after_passes, passing_of, touched, CanPass, AreSeatedFirst, SitsDown};
 
 use history_book::Actor;
 use line_steps::Halt;
@@ -55,6 +55,15 @@ impl Seated {
             self.lines.as_slice(),
             &mut self.seat,
         );
+    }
+
+    fn pass_if(&mut self, planned: &PlannedCluster, leads: &[u64], session: SessionNo)
+        requires { CanPass planned.now.clock leads.now self.old }
+        ensures { self.new ≡ passing_of session (clocks_at planned.now.cluster planned.now.clock leads.now) planned.now.cluster.state self.old }
+    {
+        if self.seat.actor == Actor::Session(session) {
+            self.pass(planned, leads);
+        }
     }
 }
 
@@ -155,6 +164,45 @@ pub fn go_on(seated: &mut Vec<Seated>, turn: &Turn, halt: Option<Halt>, asked: b
 {
     for number in 0..seated.len() {
         seated[number].go_on(turn, halt, asked);
+    }
+}
+
+/// The session of which the turn is, where it is one of a session or one that serves its request.
+fn touched(turn: &Turn) -> Option<SessionNo>
+    ensures { result ≡ touched turn.now }
+{
+    match turn {
+        Turn::Own {
+            actor: Actor::Session(session),
+            ..
+        } => Some(*session),
+        Turn::Own { .. } => None,
+        Turn::Accept { session, .. } => Some(*session),
+        Turn::Decide { session, .. } => Some(*session),
+        Turn::Put { session, .. } => Some(*session),
+        Turn::Answer { session, .. } => Some(*session),
+        Turn::Extend { .. } => None,
+    }
+}
+
+/// The session of the turn passes its lines with nothing left to do, or each actor does where the turn is of no session.
+pub fn pass_touched(planned: &PlannedCluster, leads: &[u64], seated: &mut Vec<Seated>, turn: &Turn)
+    requires { All (CanPass planned.now.clock leads.now) seated.old.items }
+    ensures { seated.new.items ≡ after_passes (touched turn.now) (clocks_at planned.now.cluster planned.now.clock leads.now) planned.now.cluster.state seated.old.items }
+{
+    match touched(turn) {
+        Some(session) => pass_one(planned, leads, seated, session),
+        None => pass_all(planned, leads, seated),
+    }
+}
+
+/// The session passes its lines with nothing left to do.
+fn pass_one(planned: &PlannedCluster, leads: &[u64], seated: &mut Vec<Seated>, session: SessionNo)
+    requires { All (CanPass planned.now.clock leads.now) seated.old.items }
+    ensures { seated.new.items ≡ map (passing_of session (clocks_at planned.now.cluster planned.now.clock leads.now) planned.now.cluster.state) seated.old.items }
+{
+    for number in 0..seated.len() {
+        seated[number].pass_if(planned, leads, session);
     }
 }
 

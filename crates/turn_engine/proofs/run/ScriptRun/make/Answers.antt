@@ -17,7 +17,8 @@ use Rattle.turn_rules.specs.Lawful.{IsFree, IsInPlace, stage_of}
 use Rattle.turn_engine.specs.declared.run.ScriptRun.TheInside.{Inside}
 use Rattle.turn_engine.specs.declared.seated.Seated.{Seated}
 use Rattle.turn_engine.specs.Making.{is_told, lacking_after, cleared, serves}
-use Rattle.turn_engine.specs.Seating.{after_turn, after_passing}
+use Rattle.turn_engine.specs.Seating.{after_turn, after_passes, touched}
+use Rattle.turn_engine.proofs.OneActor.{one_passes}
 use Rattle.posted_names.specs.Names.{with_name}
 use Rattle.turn_engine.specs.Run.{Ran, reached_by, with_turn, SitsAt, IsCarriedOut}
 use Rattle.turn_engine.proofs.Called.{can_turn, is_steady, has_gone, same_made, may_pass, makes_turn, leaves_out}
@@ -151,8 +152,8 @@ returns-then-not-is_told-clause-made c =
     let quiet = told_so call _ _ _ is c.is_told.ensures c.if-not-is_told.true in
     leaves_out (ran s) c.args.self.now (ran_with s c.make_room.new.turns.items) call c.self.view_is gone quiet (λ k. ran_with s (c.make_room.ensures.turns k))
 
-pub pass_all-requires : goal.pass_all-requires
-pass_all-requires c =
+pub pass_touched-requires : goal.pass_touched-requires
+pass_touched-requires c =
     let s = c.self.inside in
     let h = stands s c.args.self.now c.args.turn c.args.event.now c.self.invariant c.self.view_is c.requires.event c.requires.free c.requires.in_place in
     let call = call_of c.args.turn c.args.event.now c.make-answer.result c.in-Some.halt c.history-before.result.now c.make-answer.new.self in
@@ -185,9 +186,9 @@ invariant_of-self-2 c =
     let turns_are : c.push_reserved.new.self.items ≡ s.turns.items ++ c.args.turn ∷ [] = c.push_reserved.ensures.items ∙ ap (λ (ts : List Turn). ts ++ c.args.turn ∷ []) c.make_room.ensures.turns in
     let names_are : c.add.new.self.names ≡ names_after s.names.names c.args.event.now = c.add.ensures ∙ ap (λ (ns : List (List ℕ)). with_name ns (option_map (λ n. n.items) c.in-Ok.name)) c.make_room.ensures.names ∙ c.in-Ok.ensures.name in
     let moved = moved_on s call _ _ _ c.go_on.ensures c.was_asked-asked.ensures is in
-    let seated_are : c.pass_all.new.seated.items ≡ (kept_after (data_of s.script).leads (kept_of s) call).seated = c.pass_all.ensures ∙ (λ k. map (after_passing (clocks_at call.now call.after (c.as_slice.ensures.value k)) call.now.state) (moved k)) in
+    let seated_are : c.pass_touched.new.seated.items ≡ (kept_after (data_of s.script).leads (kept_of s) call).seated = c.pass_touched.ensures ∙ (λ k. after_passes (touched c.args.turn) (clocks_at call.now call.after (c.as_slice.ensures.value k)) call.now.state (moved k)) ∙ one_passes (ran s) (kept_of s) call h.made h.can gone in
     let lacking_are : c.note_lack-2.new.lacking.items ≡ lacking_after (cleared s.lacking.items) c.args.turn c.in-Some.halt = c.note_lack-2.ensures ∙ ap (λ (flags : List Bool). lacking_after flags c.args.turn c.in-Some.halt) c.clear_lacks.ensures in
-    let on : Kept = record (kept_at s c.make-answer.new.self) { names = c.add.new.self.names; held = c.note_stage.new.held.items; seated = c.pass_all.new.seated.items; lacking = c.note_lack-2.new.lacking.items } in
+    let on : Kept = record (kept_at s c.make-answer.new.self) { names = c.add.new.self.names; held = c.note_stage.new.held.items; seated = c.pass_touched.new.seated.items; lacking = c.note_lack-2.new.lacking.items } in
     let kept = same_made (with_turn (ran s) c.args.turn) (ran_with s c.push_reserved.new.self.items) (kept_after (data_of s.script).leads (kept_of s) call) on made (λ k. ran_with s (turns_are k)) (λ k. record on { names = names_are k; held = c.note_stage.ensures k; seated = seated_are k; lacking = lacking_are k }) in
     let room = has_room c.args.turn c.args.event.now s.planned.cluster.spare c.spare-spare.result (vec_len c.make_room.new.turns) (vec_capacity c.make_room.new.turns) c.spare-spare.ensures c.make_room.ensures.kept c.in-Ok.ensures.room in
     let moves = room_moved (ran s) (kept_of s) c.args.turn c.args.event.now c.make-answer.new.self.cluster c.make-answer.result h.made h.can (omega (arith, gone.least, ap (λ (h : List Item). length h) c.history-before.ensures.value)) c.make-answer.ensures.room in
