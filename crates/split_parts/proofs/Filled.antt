@@ -188,3 +188,10 @@ acts_by x end final result acted r made back ends is noting told = acts_then x e
 pub on_err : {T E : Type 0} → (r : Result T E) (P : Type 0) → P → OnErr r P
 on_err (Ok x) P holds = tt
 on_err (Err e) P holds = holds
+
+-- ---- for events of the lent parts themselves
+pub not_err : {E : Type 0} → (r : Result (Option Stopped) E) (x : Option Stopped) → r ≡ Ok x → IsErr r → ⊥
+not_err r x is err = err_is_not r x is err
+
+pub came_stop : {E : Type 0} → (a b : Option Stopped) (r : Result (Option Stopped) E) → r ≡ Ok a → r ≡ Ok b → a ≡ b
+came_stop a b r is was = same_ok a b r is was

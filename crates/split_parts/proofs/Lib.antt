@@ -4,5 +4,6 @@ mod Agreement
 mod PlanLemmas
 mod OneMore
 mod Filled
+mod Directly
 pub mod FoundParts
 pub mod LentSessions

@@ -6,3 +6,4 @@ pub mod Acts
 pub mod Agrees
 pub mod Lending
 pub mod Making
+pub mod Direct

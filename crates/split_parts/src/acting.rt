@@ -9,6 +9,7 @@ ghost use Rattle.split_parts.specs.Agrees.{Agrees, CallsFit};
 ghost use Rattle.split_parts.specs.Making.{Ends};
 ghost use Rattle.split_parts.specs.Parts.{LeasesBySetup, filled, seen, setup_of};
 
+use crate::direct::act_direct;
 use crate::{Event, Lent};
 use cluster_core::Engine;
 use event_parts::Stopped;
@@ -58,6 +59,9 @@ fn act_timed(
     ensures acted { IfOk result (λ acted. Acts (seen lent.old) (seen lent.new) event.now acted) }
     ensures refused { OnErr result (seen lent.new ≡ seen lent.old) }
 {
+    if lent.has_all(event) {
+        return act_direct(alloc, lent, event);
+    }
     let name = lent.new_name(event)?;
     let mut engine = Engine::open(alloc, setup)?;
     lent.swap(&mut engine);
@@ -72,7 +76,7 @@ fn act_timed(
 }
 
 /// How the event stopped, if it did.
-fn ended(made: Result<(), Stopped>) -> Result<Option<Stopped>, NoMemory>
+pub(crate) fn ended(made: Result<(), Stopped>) -> Result<Option<Stopped>, NoMemory>
     ensures { Ends made result }
 {
     match made {

@@ -125,7 +125,7 @@ impl Lent<'_> {
 
 impl Lent<'_> {
     /// The lent client of the session.
-    fn client(&self, session: SessionNo) -> Option<&Client>
+    pub(crate) fn client(&self, session: SessionNo) -> Option<&Client>
         ensures { option_map (λ c. c.now) result ≡ slice_index_or (sessions_seen self.now) session None }
     {
         match session.index() {
@@ -150,7 +150,7 @@ impl Lent<'_> {
     }
 
     /// What stands at the lent node, where the setup has such a node.
-    fn post(&self) -> Option<&Post>
+    pub(crate) fn post(&self) -> Option<&Post>
         ensures { option_map (λ p. p.now) result ≡ post_by (seen self.now).node }
     {
         match &self.node {

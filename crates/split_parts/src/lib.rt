@@ -6,6 +6,7 @@ mod acting;
 mod agreeing;
 mod calls;
 mod deciding;
+mod direct;
 mod event;
 mod lending;
 mod lent;

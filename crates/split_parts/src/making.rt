@@ -118,7 +118,7 @@ impl Lent<'_> {
     }
 
     /// The planned fate of the next call on the store.
-    fn fate(&self, store: Option<Store>) -> Fate
+    pub(crate) fn fate(&self, store: Option<Store>) -> Fate
         requires { CallsFit (seen self.now) store }
         ensures { result ≡ fate_of (seen self.now) store }
     {
@@ -140,7 +140,7 @@ impl Lent<'_> {
     }
 
     /// A call on the store was made.
-    fn count(&mut self, store: Option<Store>)
+    pub(crate) fn count(&mut self, store: Option<Store>)
         requires { CallsFit (seen self.old) store }
         ensures parts { seen self.new ≡ called store (seen self.old) }
         ensures names { behind posted_of self.new.names ≡ behind posted_of self.old.names }
