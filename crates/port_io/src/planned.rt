@@ -1,5 +1,5 @@
 // The weather of a plan.
-ghost use Rattle.std.specs.Prelude.{◌≡◌, ◌≢◌, ℕ, ◌+◌, ◌-◌, ◌^◌, ◌<◌, ◌≤◌, All, Contains};
+ghost use Rattle.std.specs.Prelude.{◌≡◌, ◌≢◌, ℕ, ◌+◌, ◌^◌, ◌≤◌, All, Contains};
 ghost use Rattle.port_io.specs.Memory.{one_more};
 ghost use Rattle.port_io.specs.Planned.{PlannedFault, OneEach, planned_fate, made_on, one_counted};
 
@@ -87,14 +87,15 @@ fn count_one(count: &mut u64) -> u64
     before
 }
 
-/// The fate of the call on the store that comes after so many.
+/// The fate of the call on the store that comes after so many. Where so many is the last number there is, the walk over
+/// the plan shows that none of its faults is of a later call.
 #[tactic(auto, unfolding(crate::specs::Planned::planned_fate))]
 fn fate_after(plan: &[(Store, u64, Fate)], store: Store, made: u64) -> Fate
     ensures fate { result ≡ planned_fate plan.now store (made + 1) }
     ensures past { 2 ^ 64 ≤ made + 1 → (number : ℕ) → 2 ^ 64 ≤ number → planned_fate plan.now store number ≡ Fate.Works }
 {
     for fault in plan {
-        // The number first: it tells more than the store.
+        // The number first, since it tells more than the store.
         if made < fault.1 && fault.1 - made == 1 && fault.0 == store {
             return fault.2;
         }
