@@ -29,9 +29,9 @@ use Rattle.machine.specs.Events.Fetch.{client_read, keeps_read}
 use Rattle.machine.specs.Outcome.OutcomesOfStamps.{AnsweredBegin, answered_begin_state, answered_begin_items}
 use Rattle.machine.specs.Outcome.OutcomesOfWork.{Fetched, fetched_turn, fetched_client, fetched_items, read_turn, read_client}
 use Rattle.machine.specs.Outcome.Outcomes.{Outcome, OfPlaced, OfOwnPlaced, OfAnsweredBegin, OfHanded, OfWrote, OfVanished, OfFetched, OfReadDropped, OfReadStepped, left_by, told_by_outcome}
-use Rattle.machine.proofs.Lookups.{client_set, one_client, held_by}
+use Rattle.machine.proofs.Lookups.{client_set, one_client}
 use Rattle.cause_rules.specs.Asks.{Ask, ask_by, its_ask}
-use Rattle.cause_rules.specs.OwnKeys.{begin_by, begins_for, last_begun, since_begin, FetchedSince}
+use Rattle.cause_rules.specs.OwnKeys.{begin_by, begins_for, last_begun, since_begin}
 use Rattle.isolation_laws.specs.Words.{ClientAt, HeldBy}
 use Rattle.isolation_laws.specs.Holds.{Holds}
 use Rattle.isolation_laws.specs.Sound.{Stands}
@@ -45,7 +45,7 @@ use Rattle.cause_laws.specs.Requests.{ask_for}
 use Rattle.cause_laws.specs.Reads.{AreFetched, AreReadsShown}
 use Rattle.cause_laws.specs.Shows.{Shows}
 use Rattle.cause_laws.proofs.SinceWords.{last_told-push, last_told-same, since-more}
-use Rattle.cause_laws.proofs.AskWords.{AllMute, its_ask-mute, its_ask-push, silent_mute, other_ask, none_unless}
+use Rattle.cause_laws.proofs.AskWords.{its_ask-mute, its_ask-push, silent_mute, other_ask, none_unless}
 use Rattle.cause_laws.proofs.DeedsMute.{one_mute, always_mute, took_mute, crashed_mute, settled_mute, ended_mute, learned_mute}
 use Rattle.cause_laws.proofs.RequestsTold.{own_item}
 use Rattle.cause_laws.proofs.Deeds.{Asked, AsksFor, Deed, OfRested, OfTook, OfRenewed, OfWidened, OfStopped, OfCrashed, OfAsked, OfAccepted, OfDrew, OfSettled, OfTold, OfEnded, OfLearned, DeedOf, ask_item, items_by}

@@ -1,6 +1,6 @@
 -- For planned_laws too.
 -- What is due of a request is shown: by its ask, its term and its draw, and by the facts of isolation.
-use Rattle.std.proofs.Common.{◌≡◌, ◌≢◌, ℕ, true, false, List, [], Option, None, Some, ◌⊎◌, inl, inr, refl, sym, ◌∙◌, ap, subst, Contains}
+use Rattle.std.proofs.Common.{◌≡◌, ◌≢◌, ℕ, true, List, [], Option, None, Some, ◌⊎◌, inl, inr, refl, sym, ◌∙◌, ap, subst, Contains}
 use Rattle.std.specs.Option.{option_or}
 use Rattle.std.proofs.lemmas.Bool.{cases_Bool}
 use Rattle.history_book.specs.declared.item.Item.{Item}
