@@ -63,7 +63,7 @@ impl Cells {
         }
     }
 
-    /// Adds a bare row, or replaces the value of the row that is there. After NoMemory the store is as before and the
+    /// Writes a value into the row that is there, or as a new bare one. After NoMemory the store is as before and the
     /// weather was not asked; after a StoreFault the row was put exactly where the fate is FailsApplied.
     #[tactic(auto, using(crate::proofs::Entries::kept_entry))]
     pub fn put<W: Weather>(
@@ -139,7 +139,7 @@ impl Cells {
         answered_under(weather.next(Store::Cells), found)
     }
 
-    /// The shadow of the row of the key and the version, without a store call. None exactly where that row is bare or not there.
+    /// The shadow of the row of the key and the version, without a store call. None exactly of a bare row, and where there is none.
     pub fn shadow_of(&self, key: KeyNo, version: Stamp) -> Option<Stamp>
         ensures { result ≡ shadow_at self.now.rows key version }
     {
@@ -165,7 +165,7 @@ impl Cells {
         answered_under(fate, ())
     }
 
-    /// Removes the row only where it has no shadow.
+    /// Removes a bare row. One with a shadow stays.
     pub fn remove_bare<W: Weather>(
         &mut self,
         weather: &mut W,

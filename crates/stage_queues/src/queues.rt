@@ -82,7 +82,7 @@ impl Queues {
         &self.nodes[node.index()].settled
     }
 
-    /// An empty batch of the node's pool. None only where all its buffers were out at that step.
+    /// An empty batch of the node's pool. None only where every buffer was out just then.
     pub fn take_batch<R: Wait>(&self, rt: &R, node: NodeNo, pass: &mut StagePass) -> Option<Batch>
         requires node { node < length self.now.nodes }
         requires held { pass.old.held < 2 ^ 32 }
