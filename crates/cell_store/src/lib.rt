@@ -20,6 +20,7 @@ use std::alloc::Global;
 use std::cmp::Reverse;
 use std::collections::BTreeSet;
 use std::marker::Model;
+use store_parts::answered_under;
 pub use store_parts::{Cell, StoreError, StoreFault};
 
 /// The cells of a store, seen as their rows in ascending order of key and version.
@@ -276,17 +277,5 @@ impl Cells {
             self.rows.remove_bare(key, version);
             self.index.remove(&(Reverse(version), key));
         }
-    }
-}
-
-/// The answer where the call works, and otherwise a fault.
-fn answered_under<T: Drop>(fate: Fate, answer: T) -> Result<T, StoreFault>
-    ensures answer { IsOk result ↔ (fate ≡ Fate.Works) }
-    ensures value { IfOk result (λ given. given ≡ answer) }
-{
-    if fate.works() {
-        Ok(answer)
-    } else {
-        Err(StoreFault)
     }
 }
